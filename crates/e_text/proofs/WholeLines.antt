@@ -19,7 +19,7 @@ use Rattle.e_text.proofs.FirstLine.{then_lines, split_more, parts_of}
 before_lf : (text : List ℕ) (i : ℕ) → i < position_or_len is_lf text → is_lf (get_or text i 0) ≡ false
 before_lf text i lt = not-true (is_lf (get_or text i 0)) (prefix_len_passes (λ x. not (is_lf x)) text i 0 lt)
 
-at_lf : (text : List ℕ) → position_or_len is_lf text < length text → is_lf (get_or text (position_or_len is_lf text) 0) ≡ true
+pub at_lf : (text : List ℕ) → position_or_len is_lf text < length text → is_lf (get_or text (position_or_len is_lf text) 0) ≡ true
 at_lf text lt = not-false (is_lf (get_or text (position_or_len is_lf text) 0)) (prefix_len_stops (λ x. not (is_lf x)) text 0 lt)
 
 -- where the line that begins behind a part of so many bytes stands
