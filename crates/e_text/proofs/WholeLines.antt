@@ -1,18 +1,16 @@
 -- The lines of a text, one line at a time: how many they are, and those of a text that is cut.
-use Rattle.std.proofs.Common.{◌≡◌, ℕ, zero, suc, ◌+◌, ◌-◌, ◌<◌, ◌≤◌, Bool, true, false, cond, ltb, eqb, List, [], ◌∷◌, ◌++◌, length, take, drop, get_or, not, All, inl, inr, Result, Ok, Err, refl, sym, ap, subst, ◌∙◌, arith, length-drop, length-take-le}
-use Rattle.std.specs.Prelude.{is_ok}
+use Rattle.std.proofs.Common.{◌≡◌, ℕ, zero, suc, ◌+◌, ◌-◌, ◌<◌, ◌≤◌, true, false, ltb, eqb, List, [], ◌∷◌, length, take, drop, get_or, not, inl, inr, Result, Ok, Err, refl, sym, ap, ◌∙◌, arith, length-drop, length-take-le}
 use Rattle.std.specs.List.{slice_split, position_or_len}
-use Rattle.std.proofs.lemmas.Bool.{lt-ltb, le-ltb, not-true, not-false, cases_lt, ne_eqb}
-use Rattle.std.proofs.lemmas.List.{take_all, get_or-take, drop-take, nil_from_length}
+use Rattle.std.proofs.lemmas.Bool.{lt-ltb, not-true, not-false, cases_lt, ne_eqb}
+use Rattle.std.proofs.lemmas.List.{take_all, get_or-take, drop-take}
 use Rattle.std.proofs.lemmas.List.Elements.{All-from_get_or}
 use Rattle.std.proofs.lemmas.List.Splits.{slice_split_first, slice_split_none}
 use Rattle.std.proofs.lemmas.Grind.{common_steps}
-use Rattle.std.proofs.lemmas.List.Sums.{prefix_len_passes, prefix_len_stops, prefix_len-le-length, position_or_len_is}
-use Rattle.e_text.specs.declared.line.LineEnd.{LineEnd}
+use Rattle.std.proofs.lemmas.List.Sums.{prefix_len_passes, prefix_len_stops, position_or_len_is}
 use Rattle.e_text.specs.declared.line.LineEnd.TheVariants.{TextEnd}
 use Rattle.e_text.specs.declared.line.LineFault.{LineFault}
 use Rattle.e_text.specs.declared.line.LineFault.TheVariants.{Bytes}
-use Rattle.e_text.specs.Lines.{is_lf, Bounds, Spot, Seen, checked, closed, ended, lines_of, lines_of_parts}
+use Rattle.e_text.specs.Lines.{is_lf, Bounds, Spot, Seen, checked, closed, lines_of, lines_of_parts}
 use Rattle.e_text.proofs.FirstLine.{then_lines, split_more, parts_of}
 
 -- no line feed stands before the first

@@ -1,5 +1,5 @@
 -- Lines put together are the text, and lines that are written are read.
-use Rattle.std.proofs.Common.{◌≡◌, ℕ, zero, suc, ◌+◌, ◌-◌, ◌<◌, ◌≤◌, Bool, true, false, cond, ltb, eqb, not, ◌&&◌, ◌||◌, List, [], ◌∷◌, ◌++◌, length, take, drop, get_or, All, inl, inr, Result, Ok, Err, refl, sym, ap, subst, ◌∙◌, arith, rules, tests, append_assoc, length-append, length-drop}
+use Rattle.std.proofs.Common.{◌≡◌, ℕ, zero, suc, ◌+◌, ◌-◌, ◌≤◌, Bool, true, false, ltb, eqb, ◌&&◌, List, [], ◌∷◌, ◌++◌, length, take, drop, get_or, inl, inr, Result, Ok, Err, refl, sym, ap, subst, ◌∙◌, arith, append_assoc, length-append, length-drop}
 use Rattle.std.specs.List.{slice_split, position_or_len, list_all, AllByRecursion}
 use Rattle.std.proofs.lemmas.Bool.{le-ltb, cases_lt, eqb-true}
 use Rattle.std.proofs.lemmas.List.{append-nil, take_all}
@@ -7,8 +7,7 @@ use Rattle.std.proofs.Math.Seq.{take-suc}
 use Rattle.std.proofs.lemmas.List.Elements.{All-from_recursion}
 use Rattle.std.proofs.lemmas.List.Splits.{slice_split_at}
 use Rattle.std.proofs.lemmas.List.Sums.{split_at_first}
-use Rattle.e_text.specs.declared.line.LineEnd.{LineEnd}
-use Rattle.e_text.specs.declared.line.LineEnd.TheVariants.{Lf, CrLf, TextEnd}
+use Rattle.e_text.specs.declared.line.LineEnd.TheVariants.{Lf, TextEnd}
 use Rattle.e_text.specs.declared.line.LineFault.{LineFault}
 use Rattle.e_text.specs.Lines.{is_lf, is_allowed, ends_in_cr, Bounds, Spot, Seen, checked, closed, ended, lines_of, lines_of_parts, end_bytes, AreGood, AreShort, text_of_lines, lf_text, numbered}
 use Rattle.e_text.proofs.FirstLine.{then_lines, split_more, parts_of, seen-checked}

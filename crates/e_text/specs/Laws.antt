@@ -1,8 +1,7 @@
 -- What holds of lines, tokens, names and numerals, whatever the code does.
-use Rattle.std.specs.Prelude.{◌≡◌, ℕ, ◌+◌, ◌-◌, ◌^◌, ◌<◌, ◌≤◌, true, List, length, take, Some, decimal}
+use Rattle.std.specs.Prelude.{◌≡◌, ℕ, ◌+◌, ◌-◌, ◌^◌, ◌<◌, ◌≤◌, List, length, take, Some, decimal}
 use Rattle.e_text.specs.Lines.{Bounds, Spot, AreGood, AreShort, lines_of, text_of_lines, lf_text, numbered}
 use Rattle.e_text.specs.Tokens.{AreTokens, tokens_of, joined}
-use Rattle.e_text.specs.Names.{is_name, name_of, is_title, title_of}
 use Rattle.e_text.specs.Numerals.{number_of}
 
 -- where no line has a fault, the lines with their ends, put together, are the text
