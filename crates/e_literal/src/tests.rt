@@ -7,6 +7,20 @@ use crate::{
 use std::alloc::Global;
 use std::test::Fail;
 
+type Sum = &'static [(u32, Term)];
+
+type Sides = (Sum, Sum);
+
+const AB: Term = Term::Seg(0, 1);
+
+const BA: Term = Term::Seg(1, 0);
+
+const CD: Term = Term::Seg(2, 3);
+
+const ABC: Term = Term::Ang(0, 1, 2);
+
+const AREA: Term = Term::Area(0, 1, 2);
+
 fn form(alloc: Global, monos: &[(u32, Term)]) -> Result<Form, Fail> {
     let mut items = Vec::new(alloc);
     for (coeff, term) in monos {
@@ -18,137 +32,67 @@ fn form(alloc: Global, monos: &[(u32, Term)]) -> Result<Form, Fail> {
     Ok(Form::new(items))
 }
 
-fn equal(alloc: Global, left: &[(u32, Term)], right: &[(u32, Term)]) -> Result<Lit, Fail> {
-    let left = form(alloc, left)?;
-    let right = form(alloc, right)?;
+fn equal(alloc: Global, sides: Sides) -> Result<Lit, Fail> {
+    let left = form(alloc, sides.0)?;
+    let right = form(alloc, sides.1)?;
     Ok(Lit {
         neg: false,
         atom: Atom::MagEq(left, right),
     })
 }
 
-fn less(alloc: Global, left: &[(u32, Term)], right: &[(u32, Term)]) -> Result<Lit, Fail> {
-    let left = form(alloc, left)?;
-    let right = form(alloc, right)?;
+fn less(alloc: Global, sides: Sides) -> Result<Lit, Fail> {
+    let left = form(alloc, sides.0)?;
+    let right = form(alloc, sides.1)?;
     Ok(Lit {
         neg: false,
         atom: Atom::MagLt(left, right),
     })
 }
 
+// Whether `same` answers what is wanted, in both directions.
+fn agrees(a: &Lit, b: &Lit, want: bool) -> bool {
+    same(a, b) == want && same(b, a) == want
+}
+
+// Two pairs of sums, and whether their equations and their inequalities are the same.
+#[rattlefmt::skip]
+const PAIRS: [(Sides, Sides, bool, bool); 16] = [
+    // The orders of a segment's, an angle's and an area's points.
+    ((&[(1, AB)], &[(1, CD)]), (&[(1, BA)], &[(1, CD)]), true, true),
+    ((&[(1, ABC)], &[]), (&[(1, Term::Ang(2, 1, 0))], &[]), true, true),
+    ((&[(1, ABC)], &[]), (&[(1, Term::Ang(1, 0, 2))], &[]), false, false),
+    ((&[(1, AREA)], &[]), (&[(1, Term::Area(0, 2, 1))], &[]), true, true),
+    ((&[(1, AREA)], &[]), (&[(1, Term::Area(1, 0, 2))], &[]), true, true),
+    ((&[(1, AREA)], &[]), (&[(1, Term::Area(1, 2, 0))], &[]), true, true),
+    ((&[(1, AREA)], &[]), (&[(1, Term::Area(2, 0, 1))], &[]), true, true),
+    ((&[(1, AREA)], &[]), (&[(1, Term::Area(2, 1, 0))], &[]), true, true),
+    ((&[(1, AREA)], &[]), (&[(1, Term::Area(0, 1, 3))], &[]), false, false),
+    // The order of the sides, and one side or both.
+    ((&[(1, AB)], &[(1, CD)]), (&[(1, CD)], &[(1, AB)]), true, false),
+    ((&[(1, AB)], &[]), (&[], &[(1, AB)]), true, false),
+    // Terms that are joined, terms that cancel, and factors.
+    ((&[(2, AB)], &[(1, CD)]), (&[(1, AB), (1, BA)], &[(1, CD)]), true, true),
+    ((&[(1, AB), (1, CD)], &[(1, CD)]), (&[(1, AB)], &[]), true, true),
+    ((&[(2, AB)], &[(2, CD)]), (&[(1, AB)], &[(1, CD)]), false, false),
+    // Forms that are empty, of two kinds; and a right angle.
+    ((&[(1, AB)], &[(1, BA)]), (&[(1, ABC)], &[(1, ABC)]), true, true),
+    ((&[(1, Term::Right)], &[(1, ABC)]), (&[(1, ABC)], &[(1, Term::Right)]), true, false),
+];
+
 #[test]
 fn literals_that_are_the_same_and_that_are_not(rt: HostRuntime) -> Result<(), Fail> {
     let alloc = rt.alloc();
-    let ab = Term::Seg(0, 1);
-    let ba = Term::Seg(1, 0);
-    let cd = Term::Seg(2, 3);
-    let abc = Term::Ang(0, 1, 2);
-    let area = Term::Area(0, 1, 2);
-    let table = [
-        // Symmetries of the terms, and the order of the sides.
-        (
-            equal(alloc, &[(1, ab)], &[(1, cd)])?,
-            equal(alloc, &[(1, Term::Seg(3, 2))], &[(1, ba)])?,
-            true,
-        ),
-        (
-            equal(alloc, &[(1, abc)], &[])?,
-            equal(alloc, &[(1, Term::Ang(2, 1, 0))], &[])?,
-            true,
-        ),
-        (
-            equal(alloc, &[(1, abc)], &[])?,
-            equal(alloc, &[(1, Term::Ang(1, 0, 2))], &[])?,
-            false,
-        ),
-        (
-            equal(alloc, &[(1, area)], &[])?,
-            equal(alloc, &[(1, Term::Area(0, 2, 1))], &[])?,
-            true,
-        ),
-        (
-            equal(alloc, &[(1, area)], &[])?,
-            equal(alloc, &[(1, Term::Area(1, 0, 2))], &[])?,
-            true,
-        ),
-        (
-            equal(alloc, &[(1, area)], &[])?,
-            equal(alloc, &[(1, Term::Area(1, 2, 0))], &[])?,
-            true,
-        ),
-        (
-            equal(alloc, &[(1, area)], &[])?,
-            equal(alloc, &[(1, Term::Area(2, 0, 1))], &[])?,
-            true,
-        ),
-        (
-            equal(alloc, &[(1, area)], &[])?,
-            equal(alloc, &[(1, Term::Area(2, 1, 0))], &[])?,
-            true,
-        ),
-        (
-            equal(alloc, &[(1, area)], &[])?,
-            equal(alloc, &[(1, Term::Area(0, 1, 3))], &[])?,
-            false,
-        ),
-        // An inequality has a direction.
-        (
-            less(alloc, &[(1, ab)], &[(1, cd)])?,
-            less(alloc, &[(1, ba)], &[(1, cd)])?,
-            true,
-        ),
-        (
-            less(alloc, &[(1, ab)], &[(1, cd)])?,
-            less(alloc, &[(1, cd)], &[(1, ab)])?,
-            false,
-        ),
-        (
-            less(alloc, &[(1, ab)], &[(1, cd)])?,
-            equal(alloc, &[(1, ab)], &[(1, cd)])?,
-            false,
-        ),
-        (
-            less(alloc, &[(1, ab)], &[])?,
-            negate(less(alloc, &[], &[(1, ab)])?),
-            false,
-        ),
-        // Joined terms, terms that cancel, and factors.
-        (
-            equal(alloc, &[(2, ab)], &[(1, cd)])?,
-            equal(alloc, &[(1, ab), (1, ba)], &[(1, cd)])?,
-            true,
-        ),
-        (
-            less(alloc, &[(1, ab), (1, cd)], &[(1, cd)])?,
-            less(alloc, &[(1, ab)], &[])?,
-            true,
-        ),
-        (
-            equal(alloc, &[(2, ab)], &[(2, cd)])?,
-            equal(alloc, &[(1, ab)], &[(1, cd)])?,
-            false,
-        ),
-        // Forms that are empty, of whatever kind.
-        (
-            equal(alloc, &[(1, ab)], &[(1, ba)])?,
-            equal(alloc, &[(1, abc)], &[(1, abc)])?,
-            true,
-        ),
-        (
-            equal(alloc, &[(1, ab)], &[(1, ab)])?,
-            negate(equal(alloc, &[(1, ab)], &[(1, ab)])?),
-            false,
-        ),
-        (
-            equal(alloc, &[(1, Term::Right)], &[(1, abc)])?,
-            equal(alloc, &[(1, abc)], &[(1, Term::Right)])?,
-            true,
-        ),
-    ];
-    for (a, b, want) in &table {
-        assert_eq!(rt; same(a, b), *want, "{a:?} and {b:?}");
-        assert_eq!(rt; same(b, a), *want, "{b:?} and {a:?}");
-        assert!(rt; same(a, &copy(alloc, a)?), "a copy of {a:?}");
+    for (first, second, equations, inequalities) in PAIRS {
+        let (a, b) = (equal(alloc, first)?, equal(alloc, second)?);
+        assert!(rt; agrees(&a, &b, equations), "{a:?} and {b:?}");
+        let (c, d) = (less(alloc, first)?, less(alloc, second)?);
+        assert!(rt; agrees(&c, &d, inequalities), "{c:?} and {d:?}");
+        assert!(rt; agrees(&a, &c, false), "{a:?} and {c:?}");
+        let copied = copy(alloc, &c)?;
+        assert!(rt; agrees(&c, &copied, true), "a copy of {c:?}");
+        let negation = negate(copied);
+        assert!(rt; agrees(&c, &negation, false), "the negation of {c:?}");
     }
     Ok(())
 }
@@ -163,7 +107,7 @@ fn diagram_literals_are_read(rt: HostRuntime) -> Result<(), Fail> {
     assert!(rt; lit.neg);
     assert_eq!(rt; kind(&lit), None);
     assert_eq!(rt;
-        kind(&equal(alloc, &[], &[(1, Term::Right)])?),
+        kind(&equal(alloc, (&[], &[(1, Term::Right)]))?),
         Some(Kind::Angle)
     );
     for (points, lines, want) in [(2, 1, true), (1, 1, false), (2, 0, false)] {
@@ -188,7 +132,7 @@ fn a_literal_is_renamed_where_each_object_has_an_image(rt: HostRuntime) -> Resul
         sort: Sort::Point,
         num,
     };
-    let lit = less(alloc, &[(3, Term::Seg(0, 1))], &[(1, Term::Seg(0, 0))])?;
+    let lit = less(alloc, (&[(3, AB)], &[(1, Term::Seg(0, 0))]))?;
     let mut map = Map::new(alloc);
     assert!(rt; rename(alloc, &lit, &map)?.is_none());
     map.set(point(0), point(7))?;
@@ -196,7 +140,7 @@ fn a_literal_is_renamed_where_each_object_has_an_image(rt: HostRuntime) -> Resul
     map.set(point(1), point(0))?;
     map.set(point(0), point(5))?;
     assert_eq!(rt; map.image(point(0)), Some(point(5)));
-    let wanted = less(alloc, &[(3, Term::Seg(0, 5))], &[(1, Term::Seg(5, 5))])?;
+    let wanted = less(alloc, (&[(3, Term::Seg(5, 0))], &[(1, Term::Seg(5, 5))]))?;
     let renamed = rename(alloc, &lit, &map)?.ok_or("an object has no image")?;
     assert!(rt; same(&renamed, &wanted), "{renamed:?}");
     Ok(())
