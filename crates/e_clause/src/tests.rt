@@ -116,6 +116,8 @@ fn vertical_angles(rt: HostRuntime) -> Result<(), Fail> {
     assert!(rt; !lits[11].neg && matches!(lits[11].atom, Atom::Between(12, 10, 14)));
     match &lits[12].atom {
         Atom::MagEq(x, y) => {
+            assert_eq!(rt; x.items().len(), 1);
+            assert_eq!(rt; y.items().len(), 1);
             assert_eq!(rt; x.items()[0].term, Term::Ang(11, 10, 12));
             assert_eq!(rt; y.items()[0].term, Term::Ang(13, 10, 14));
         }
