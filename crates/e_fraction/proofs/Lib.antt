@@ -1,0 +1,9 @@
+pub mod Arith
+pub mod Expand
+pub mod Columns
+pub mod Cramer
+pub mod Exact
+pub mod Minors
+pub mod Width
+pub mod Named
+pub mod Quotient

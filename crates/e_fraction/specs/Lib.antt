@@ -1,0 +1,4 @@
+pub mod Det
+pub mod Poly
+pub mod Tableau
+pub mod Quotients
