@@ -7,3 +7,6 @@ pub mod Minors
 pub mod Width
 pub mod Named
 pub mod Quotient
+pub mod Terms
+pub mod Refutes
+pub mod Sums
