@@ -10,3 +10,4 @@ pub mod Quotient
 pub mod Terms
 pub mod Refutes
 pub mod Sums
+pub mod Products

@@ -5,6 +5,7 @@ pub mod entry;
 pub mod row;
 pub mod signed;
 pub mod sum;
+pub mod widths;
 
 pub use entry::{Wide, cross};
 pub use row::{Row, RowKind, have_small_coefficients};

@@ -85,7 +85,8 @@ pub fn are_distinct(summands: &[(i64, Term)]) -> bool
     }
 }
 
-fn stands_in(summands: &[(i64, Term)], term: Term) -> bool
+/// Whether the term stands in the form.
+pub fn stands_in(summands: &[(i64, Term)], term: Term) -> bool
     ensures { result ≡ list_any (λ q. term_eq q.1 term) summands.now }
 {
     summands.iter().any(|p| p.1 == term)
