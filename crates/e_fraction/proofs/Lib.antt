@@ -11,3 +11,4 @@ pub mod Terms
 pub mod Refutes
 pub mod Sums
 pub mod Products
+pub mod Numbering
