@@ -12,3 +12,4 @@ pub mod Refutes
 pub mod Sums
 pub mod Products
 pub mod Numbering
+pub mod Wideness

@@ -81,7 +81,7 @@ new_more before (x ∷ xs) t = by (is_among before x) refl (λ bs. new_more bs x
         ap (λ ys. x ∷ ys) (ih (x ∷ before))
         ∙ ap (λ b. x ∷ (new_terms (x ∷ before) xs ++ cond b [] (t ∷ []))) (or_moved (term_eq t x) (is_among before t) (is_among xs t))
 
-product_more : (rows : List Row) (ts : List Term) (t : Term) → product (map (weight rows) (ts ++ t ∷ [])) ≡ product (map (weight rows) ts) * weight rows t
+pub product_more : (rows : List Row) (ts : List Term) (t : Term) → product (map (weight rows) (ts ++ t ∷ [])) ≡ product (map (weight rows) ts) * weight rows t
 product_more rows [] t = omega arith
 product_more rows (x ∷ xs) t = ap (λ n. weight rows x * n) (product_more rows xs t) ∙ grouped (weight rows x) (product (map (weight rows) xs)) (weight rows t)
   where
@@ -100,7 +100,7 @@ capped a w cap h = by (le_or_lt a cap)
     by (inr l) = (let e : min a cap ≡ cap = omega (arith, l) in
         ap (λ n. min (n * w) cap) e ∙ omega (arith, l, mul-le-mul_left cap h, mul-le-mul_left a h))
 
-none_more : (ts : List Term) → ts ++ [] ≡ ts
+pub none_more : (ts : List Term) → ts ++ [] ≡ ts
 none_more [] = refl
 none_more (t ∷ ts) = ap (λ xs. t ∷ xs) (none_more ts)
 
