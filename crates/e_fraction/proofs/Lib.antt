@@ -13,3 +13,4 @@ pub mod Sums
 pub mod Products
 pub mod Numbering
 pub mod Wideness
+pub mod Moved

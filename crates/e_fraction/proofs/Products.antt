@@ -8,7 +8,7 @@ use lib.IntN.{ℤ}
 use Rattle.e_literal.specs.declared.object.Term.{Term}
 use Rattle.e_literal.specs.Same.{term_eq}
 use Rattle.e_literal.specs.Rows.{Row, Summands, terms_of_rows}
-use Rattle.e_literal.specs.Width.{is_among, new_terms, weight, product, constants, width_over}
+use Rattle.e_literal.specs.Width.{is_among, new_terms, weight, product, constants, width_over, width}
 use Rattle.e_fraction.specs.declared.row.Row.{Row as GivenRow}
 use Rattle.e_fraction.specs.Views.{all_seen, seen}
 use Rattle.e_fraction.proofs.Terms.{yes_or_no, term_eq_is, term_eq_turned}
@@ -156,3 +156,12 @@ width_step_known rows before form j d n h old e =
     e
     ∙ sym (width_known rows (before ++ map (λ p. p.1) (take j form)) (get_or form j d).1 (not_false (is_among (before ++ map (λ p. p.1) (take j form)) (get_or form j d).1) old))
     ∙ ap (width_over rows) (append_assoc before (map (λ p. p.1) (take j form)) ((get_or form j d).1 ∷ []) ∙ ap (λ xs. before ++ xs) (sym (summands_more form j d h)))
+
+pub all_rows : (rows : List GivenRow) (i n : ℕ) → length rows ≤ i → n ≡ width_over (all_seen rows) (terms_of_rows (all_seen (take i rows))) → n ≡ width (all_seen rows)
+all_rows rows i n h e = e ∙ ap (λ rs. width_over (all_seen rows) (terms_of_rows (all_seen rs))) (whole rows i h)
+  where
+    whole : (rs : List GivenRow) (k : ℕ) → length rs ≤ k → take k rs ≡ rs
+    whole [] zero l = refl
+    whole [] (suc k) l = refl
+    whole (r ∷ rs) zero l = absurd (omega (arith, l))
+    whole (r ∷ rs) (suc k) l = ap (λ xs. r ∷ xs) (whole rs k (omega (arith, l)))

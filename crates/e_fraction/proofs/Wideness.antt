@@ -79,9 +79,11 @@ absent (r ∷ rs) t h =
   where
     both : (is_among (map (λ p. p.1) r.form) t || is_among (terms_of_rows rs) t) ≡ false
     both = sym (list_any-append (term_eq t) (map (λ p. p.1) r.form) (terms_of_rows rs)) ∙ h
+
     not_left : (a b : Bool) → (a || b) ≡ false → a ≡ false
     not_left true b e = e
     not_left false b e = refl
+
     not_right : (a b : Bool) → (a || b) ≡ false → b ≡ false
     not_right true b e = absurd (true≢false e)
     not_right false b e = e
@@ -103,6 +105,7 @@ extra rows (u ∷ us) ts h =
       | inl e ↦ absurd (true≢false (sym (among_left ts (u ∷ []) t e) ∙ n))
       | inr m ↦ m
     ]
+
     last : (b : Bool) → is_among ts u ≡ b → product (map (weight rows) (new_terms [] ts ++ cond b [] (u ∷ []))) ≡ product (map (weight rows) (new_terms [] ts))
     last true is = ap (λ xs. product (map (weight rows) xs)) (none_more (new_terms [] ts))
     last false is = product_more rows (new_terms [] ts) u ∙ ap (λ n. product (map (weight rows) (new_terms [] ts)) * n) (h u is) ∙ omega arith

@@ -5,6 +5,7 @@ ghost use Rattle.std.specs.List.{list_any};
 ghost use Rattle.e_literal.specs.Same.{term_eq};
 ghost use Rattle.e_literal.specs.Rows.{coefficient, terms_of_rows};
 ghost use Rattle.e_literal.specs.Width.{has_constant, constants, width_over, is_among};
+ghost use Rattle.e_literal.specs.Minor.{IsWide};
 ghost use Rattle.e_fraction.specs.Views.{says_of, all_seen};
 
 use crate::row::{Row, RowKind};
@@ -15,7 +16,8 @@ use e_literal::Term;
 /// number of rows that say `more` or `not 0` (or 1), or 2^128 - 1 where the product is greater. Before that cap it is
 /// at least the size of every minor, so the width of rows that are wide is at least 2^63.
 pub fn width(rows: &[Row]) -> u128
-    ensures { result ≡ Rattle.e_literal.specs.Width.width (all_seen rows.now) }
+    ensures value { result ≡ Rattle.e_literal.specs.Width.width (all_seen rows.now) }
+    ensures wide { IsWide (all_seen rows.now) → 2 ^ 63 ≤ result }
 {
     let mut product = constants(rows);
     for i in 0..rows.len() {
