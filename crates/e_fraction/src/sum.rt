@@ -14,7 +14,10 @@ use e_literal::Term;
 
 /// Whether the sum of the rows, each times its multiplier, is absurd: the coefficients of each term add up to 0, no
 /// row that says `at least` or `more` is taken away, and one that says `more` is added. Then no values satisfy the
-/// rows. A row that says that its form is not 0 takes part in no such sum.
+/// rows. A row that says that its form is not 0 takes part in no such sum. [`have_small_coefficients`] and
+/// [`are_good_multipliers`] test the conditions.
+///
+/// [`have_small_coefficients`]: crate::row::have_small_coefficients
 pub fn check_sum(rows: &[Row], multipliers: &[i128]) -> bool
     requires lengths { length multipliers.now ≡ length rows.now }
     requires few { length rows.now ≤ 4096 }
@@ -24,6 +27,15 @@ pub fn check_sum(rows: &[Row], multipliers: &[i128]) -> bool
     ensures refutes { IsTrue result → ¬ HasSolution (all_seen rows.now) }
 {
     have_absurd_signs(rows, multipliers) && cancels(rows, multipliers)
+}
+
+/// Whether each multiplier lies within plus or minus 2^80.
+pub fn are_good_multipliers(multipliers: &[i128]) -> bool
+    ensures { result ≡ Rattle.e_fraction.specs.Limits.are_good_multipliers multipliers.now }
+{
+    multipliers
+        .iter()
+        .all(|m| m.unsigned_abs() <= 0x1_0000_0000_0000_0000_0000)
 }
 
 /// Whether the coefficients of each term add up to 0.
@@ -101,6 +113,13 @@ fn has_good_sign(kind: RowKind, multiplier: i128) -> bool
 fn has_strict(rows: &[Row], multipliers: &[i128]) -> bool
     ensures { result ≡ list_any (λ x. is_strict (says_of x.0.kind) x.1) (zip rows.now multipliers.now) }
 {
-    rows.iter().zip(multipliers).any(|(row, multiplier)| row.kind == RowKind::More
-        && 1 <= *multiplier)
+    rows.iter()
+        .zip(multipliers)
+        .any(|(row, multiplier)| is_strict(row.kind, *multiplier))
+}
+
+fn is_strict(kind: RowKind, multiplier: i128) -> bool
+    ensures { result ≡ Rattle.e_literal.specs.Absurd.is_strict (says_of kind) multiplier }
+{
+    kind == RowKind::More && 1 <= multiplier
 }
