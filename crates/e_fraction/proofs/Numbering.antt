@@ -1,17 +1,17 @@
 -- Rows over terms and rows over numbered columns: column 0 is that of the constants, and the others are the terms in order.
-use Rattle.std.proofs.Common.{◌≡◌, ℕ, zero, suc, ◌+◌, ◌<◌, ◌≤◌, ◌^◌, List, [], ◌∷◌, ◌++◌, map, length, get_or, refl, sym, ap, ◌∙◌, arith, cond, Bool, true, false, true≢false, ◌||◌, ◌⊎◌, inl, inr, subst}
+use Rattle.std.proofs.Common.{◌≡◌, ℕ, zero, suc, ◌<◌, ◌≤◌, ◌^◌, List, [], ◌∷◌, map, length, get_or, refl, sym, ap, ◌∙◌, arith, cond, true, false, true≢false, ◌||◌, inl, inr, subst}
 use Rattle.std.specs.Prelude.{unsigned_abs}
 use lib.IntN.{ℤ, ◌*ℤ◌}
 use Rattle.e_literal.specs.declared.object.Term.{Term}
 use Rattle.e_literal.specs.declared.object.Term.TheVariants.{Right}
 use Rattle.e_literal.specs.Same.{term_eq}
 use Rattle.e_literal.specs.Rows.{Row}
-use Rattle.e_literal.specs.Minor.{determinant, Column, Constants, Of, SignedRow, entry, IsWide as IsWideRows}
+use Rattle.e_literal.specs.Minor.{Column, Constants, Of, SignedRow, entry, IsWide as IsWideRows}
 use Rattle.e_literal.specs.Width.{is_among}
 use Rattle.e_fraction.specs.Det.{det, expand, IsPart, EachBelow, IsWide}
 use Rattle.e_fraction.proofs.Arith.{sums}
 use Rattle.e_fraction.proofs.Named.{numbered, det_named}
-use Rattle.e_fraction.proofs.Width.{part_trans, part_all}
+use Rattle.e_fraction.proofs.Width.{part_trans}
 use Rattle.e_fraction.proofs.Terms.{term_eq_is, yes_or_no}
 
 -- ---- names and numbers of columns

@@ -1,5 +1,5 @@
 -- The width over terms, one term after the other.
-use Rattle.std.proofs.Common.{◌≡◌, ℕ, zero, suc, ◌+◌, ◌-◌, ◌*◌, ◌<◌, ◌≤◌, ◌^◌, min, max, List, [], ◌∷◌, ◌++◌, map, length, take, get_or, refl, sym, ap, ◌∙◌, arith, Bool, true, false, not, cond, ◌||◌, ◌&&◌, ◌⊎◌, inl, inr, append_assoc}
+use Rattle.std.proofs.Common.{◌≡◌, ℕ, zero, suc, ◌+◌, ◌-◌, ◌*◌, ◌<◌, ◌≤◌, ◌^◌, min, List, [], ◌∷◌, ◌++◌, map, length, take, get_or, refl, sym, ap, ◌∙◌, arith, Bool, true, false, not, cond, ◌||◌, ◌&&◌, ◌⊎◌, inl, inr, append_assoc}
 use Rattle.std.proofs.Math.Nat.{mul-le-mul_left}
 use Rattle.std.specs.Prelude.{nat_le}
 use Rattle.std.specs.List.{list_any}
@@ -10,7 +10,7 @@ use Rattle.e_literal.specs.Same.{term_eq}
 use Rattle.e_literal.specs.Rows.{Row, Summands, terms_of_rows}
 use Rattle.e_literal.specs.Width.{is_among, new_terms, weight, product, constants, width_over, width}
 use Rattle.e_fraction.specs.declared.row.Row.{Row as GivenRow}
-use Rattle.e_fraction.specs.Views.{all_seen, seen}
+use Rattle.e_fraction.specs.Views.{all_seen}
 use Rattle.e_fraction.proofs.Terms.{yes_or_no, term_eq_is, term_eq_turned}
 
 -- ---- what the tests find

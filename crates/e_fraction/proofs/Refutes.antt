@@ -1,6 +1,5 @@
 -- A sum that is absurd leaves its rows no solution.
-use Rattle.std.proofs.Common.{◌≡◌, ℕ, zero, suc, List, [], ◌∷◌, ◌++◌, map, refl, sym, ap, ◌∙◌, arith, Bool, true, false, cond, ◌&&◌, ◌||◌, true≢false, ◌⊎◌, inl, inr, subst}
-use Rattle.std.specs.Prelude.{flat_map}
+use Rattle.std.proofs.Common.{◌≡◌, ℕ, zero, suc, List, [], ◌∷◌, ◌++◌, map, refl, sym, ap, ◌∙◌, arith, Bool, true, false, cond, ◌&&◌, ◌||◌, true≢false, inl, inr}
 use Rattle.std.specs.List.{list_any, list_all}
 use Rattle.std.specs.Ordering.{int_eq}
 use Rattle.std.proofs.lemmas.Bool.Decides.{Decides-int_eq}
@@ -8,12 +7,12 @@ use lib.IntN.{ℤ, pos, negsuc, ◌+ℤ◌, ◌*ℤ◌, *ℤ-zero, zero-*ℤ}
 use lib.Signed.{◌<ℤ◌, ◌≤ℤ◌}
 use Rattle.e_literal.specs.declared.object.Term.{Term}
 use Rattle.e_literal.specs.Same.{term_eq}
-use Rattle.e_literal.specs.Rows.{Row, Says, Zero, AtLeast, More, Not, Summands, coefficient, terms_of_rows}
+use Rattle.e_literal.specs.Rows.{Says, Zero, AtLeast, More, Not, Summands, coefficient, terms_of_rows}
 use Rattle.e_literal.specs.Width.{is_among, new_terms}
 use Rattle.e_literal.specs.Absurd.{Weighed, total, is_good_sign, is_strict, is_absurd}
 use Rattle.e_fraction.specs.Solution.{form_value, IsSo, Satisfy}
 use Rattle.e_fraction.proofs.Arith.{sums, add_mul, mul_add, mul_assoc, mul-not_negative}
-use Rattle.e_fraction.proofs.Terms.{term_eq_is, term_eq_same, and_left, and_right, or_either, yes_or_no, among_left, among_right, among_first, among_rest}
+use Rattle.e_fraction.proofs.Terms.{term_eq_is, and_left, and_right, or_either, yes_or_no, among_right, among_first, among_rest}
 
 -- ---- sums over terms
 

@@ -1,5 +1,5 @@
 -- What the calls on sums compute, row by row.
-use Rattle.std.proofs.Common.{◌≡◌, ℕ, zero, suc, ◌+◌, ◌*◌, ◌<◌, ◌≤◌, ◌^◌, List, [], ◌∷◌, ◌++◌, map, length, take, get_or, refl, sym, ap, ◌∙◌, arith, Bool, true, false, not, cond, ◌&&◌, ◌||◌, true≢false, inl, inr, subst}
+use Rattle.std.proofs.Common.{◌≡◌, ℕ, zero, suc, ◌+◌, ◌*◌, ◌<◌, ◌≤◌, ◌^◌, List, [], ◌∷◌, map, length, take, get_or, refl, sym, ap, ◌∙◌, arith, Bool, true, false, not, cond, ◌&&◌, ◌||◌, true≢false, inl, inr, subst}
 use Rattle.std.specs.Prelude.{unsigned_abs, nat_le}
 use Rattle.std.specs.List.{list_any, list_all, zip}
 use Rattle.std.specs.Ordering.{int_eq}
@@ -12,14 +12,14 @@ use mir.Val.{SFits}
 use borrow.Author.Differences.{abs_is}
 use Rattle.e_literal.specs.declared.object.Term.{Term}
 use Rattle.e_literal.specs.Same.{term_eq}
-use Rattle.e_literal.specs.Rows.{Row, Summands, coefficient, terms_of_rows}
+use Rattle.e_literal.specs.Rows.{Summands, coefficient, terms_of_rows}
 use Rattle.e_literal.specs.Absurd.{Weighed, total, is_good_sign, is_strict, is_absurd}
 use Rattle.e_fraction.specs.declared.row.Row.{Row as GivenRow}
 use Rattle.e_fraction.specs.Distinct.{have_distinct_terms}
 use Rattle.e_fraction.specs.Limits.{has_small_coefficients, all_small, are_good_multipliers}
 use Rattle.e_fraction.specs.Views.{says_of, seen, all_seen, weighed}
 use Rattle.e_fraction.proofs.Arith.{sums}
-use Rattle.e_fraction.proofs.Terms.{and_left, and_right, or_right, yes_or_no, term_eq_is, term_eq_turned}
+use Rattle.e_fraction.proofs.Terms.{and_left, and_right, yes_or_no, term_eq_is}
 
 -- ---- the coefficient of a term
 

@@ -1,6 +1,6 @@
 -- The width of rows over terms is at least the size of each of their minors.
-use Rattle.std.proofs.Common.{◌≡◌, ℕ, zero, suc, ◌+◌, ◌-◌, ◌*◌, ◌<◌, ◌≤◌, ◌^◌, min, max, List, [], ◌∷◌, ◌++◌, map, length, get_or, refl, sym, ap, ◌∙◌, arith, cond, Bool, true, false, ◌||◌, true≢false, ◌⊎◌, inl, inr, subst, append_assoc}
-use Rattle.std.specs.Prelude.{unsigned_abs, sum_by, count_by}
+use Rattle.std.proofs.Common.{◌≡◌, ℕ, zero, suc, ◌*◌, ◌≤◌, ◌^◌, max, List, [], ◌∷◌, ◌++◌, map, length, get_or, refl, sym, ap, ◌∙◌, arith, cond, Bool, true, false, ◌||◌, true≢false, inl, inr, subst, append_assoc}
+use Rattle.std.specs.Prelude.{unsigned_abs, sum_by}
 use Rattle.std.proofs.lemmas.List.Sums.{sum_by-cons}
 use Rattle.std.proofs.lemmas.List.Folds.{list_any-append}
 use Rattle.std.proofs.lemmas.Nat.{mul-le}
@@ -11,13 +11,13 @@ use Rattle.e_literal.specs.Same.{term_eq}
 use Rattle.e_literal.specs.Rows.{Row, Says, Zero, AtLeast, More, Not, coefficient, terms_of_rows}
 use Rattle.e_literal.specs.Minor.{determinant, constant, Column, Constants, Of, SignedRow, entry, IsWide as IsWideRows}
 use Rattle.e_literal.specs.Width.{has_constant, is_among, new_terms, weight, product, constants, full_width, width}
-use Rattle.e_fraction.specs.Det.{det, IsPart, EachBelow, IsWide}
+use Rattle.e_fraction.specs.Det.{IsPart, EachBelow, IsWide}
 use Rattle.e_fraction.proofs.Named.{numbered, det_named}
 use Rattle.e_fraction.proofs.Width.{column_sum, whole, width_of, wide_width, part_all}
-use Rattle.e_fraction.proofs.Terms.{yes_or_no, among_left, among_right, among_first, among_new, or_left}
+use Rattle.e_fraction.proofs.Terms.{yes_or_no, among_left, among_right, among_first, among_new}
 use Rattle.e_fraction.proofs.Products.{new_more, product_more, none_more, among_form}
 use Rattle.e_fraction.proofs.Sums.{coefficient_none}
-use Rattle.e_fraction.proofs.Numbering.{column, place, number, place_below, term_at_place}
+use Rattle.e_fraction.proofs.Numbering.{column, number, place_below, term_at_place}
 
 abbrev row_of : SignedRow → Row
 row_of s = s.row

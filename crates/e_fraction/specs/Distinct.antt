@@ -1,7 +1,6 @@
 -- Terms that stand once.
-use Rattle.std.specs.Prelude.{List, [], ◌∷◌, map, Bool, true, not, ◌&&◌}
+use Rattle.std.specs.Prelude.{[], ◌∷◌, Bool, true, not, ◌&&◌}
 use Rattle.std.specs.List.{list_any}
-use Rattle.e_literal.specs.declared.object.Term.{Term}
 use Rattle.e_literal.specs.Same.{term_eq}
 use Rattle.e_literal.specs.Rows.{Summands}
 

@@ -1,5 +1,5 @@
 -- The first summand with the term has its coefficient, since terms stand once.
-use Rattle.std.proofs.Common.{◌≡◌, true, false, to_z-of_z, SFits, rules, sym, ap, ◌∙◌, get_or, take, length, pos, arith}
+use Rattle.std.proofs.Common.{◌≡◌, true, to_z-of_z, SFits, rules, sym, ap, ◌∙◌, get_or, take, length, pos, arith}
 use Rattle.std.specs.List.{list_any}
 use mir.Syntax.{w64}
 use Rattle.e_literal.specs.declared.object.Term.TheVariants.{Seg}

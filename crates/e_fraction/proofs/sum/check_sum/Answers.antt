@@ -1,5 +1,5 @@
 -- The two parts are those of an absurd sum, and an absurd sum leaves no values.
-use Rattle.std.proofs.Common.{◌≡◌, true, false, ap, sym, ◌∙◌, ◌&&◌, subst}
+use Rattle.std.proofs.Common.{◌≡◌, true, ap, sym, ◌∙◌, ◌&&◌, subst}
 use Rattle.e_literal.specs.Absurd.{is_absurd}
 use Rattle.e_fraction.specs.Views.{weighed}
 use Rattle.e_fraction.specs.Solution.{Satisfy}

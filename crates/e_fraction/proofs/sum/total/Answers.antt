@@ -1,5 +1,5 @@
 -- One row more, whose product is small.
-use Rattle.std.proofs.Common.{◌≡◌, ◌<◌, ◌≤◌, ◌+◌, ◌*◌, ◌^◌, ◌+ℤ◌, ◌*ℤ◌, get_or, length, pos, ap, sym, ◌∙◌, to_z, to_z-of_z, SFits, arith, rules, subst}
+use Rattle.std.proofs.Common.{◌<◌, ◌≤◌, ◌+◌, ◌*◌, ◌^◌, ◌+ℤ◌, ◌*ℤ◌, get_or, length, pos, ap, sym, ◌∙◌, to_z, to_z-of_z, SFits, arith, rules, subst}
 use Rattle.std.specs.Prelude.{unsigned_abs}
 use mir.Syntax.{w64, w128}
 use Rattle.e_literal.specs.Rows.{coefficient}

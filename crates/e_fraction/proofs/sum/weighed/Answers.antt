@@ -1,5 +1,5 @@
 -- The product fits.
-use Rattle.std.proofs.Common.{◌≡◌, ◌≤◌, ◌^◌, ◌*ℤ◌, ap, to_z-of_z, SFits, arith, subst, sym}
+use Rattle.std.proofs.Common.{◌≡◌, ◌≤◌, ◌^◌, ◌*ℤ◌, to_z-of_z, SFits, arith}
 use Rattle.std.specs.Prelude.{unsigned_abs}
 use mir.Syntax.{w64, w128}
 use Rattle.e_fraction.proofs.Sums.{product_size, fits_wide}

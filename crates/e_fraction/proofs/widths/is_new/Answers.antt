@@ -1,5 +1,5 @@
 -- The two tests are those of the list of terms.
-use Rattle.std.proofs.Common.{◌≡◌, not, ◌&&◌, ap, sym, ◌∙◌, refl}
+use Rattle.std.proofs.Common.{not, ◌&&◌, ap, sym, ◌∙◌, refl}
 use Rattle.std.specs.List.{list_any}
 use Rattle.e_literal.specs.Same.{term_eq}
 use Rattle.e_fraction.proofs.Products.{is_new_is}

@@ -1,5 +1,5 @@
 -- A term that stands nowhere before brings its weight, and any other nothing.
-use Rattle.std.proofs.Common.{◌≡◌, ◌*◌, ◌-◌, ◌^◌, min, ap, sym, ◌∙◌, pos, get_or}
+use Rattle.std.proofs.Common.{◌*◌, ◌-◌, ◌^◌, min, ap, sym, ◌∙◌, pos}
 use Rattle.e_literal.specs.declared.object.Term.TheVariants.{Seg}
 use Rattle.e_literal.specs.Rows.{terms_of_rows}
 use Rattle.e_fraction.specs.Views.{all_seen}
