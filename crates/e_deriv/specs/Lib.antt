@@ -5,3 +5,4 @@ pub mod Steps
 pub mod Proves
 pub mod Licensed
 pub mod Certified
+pub mod Laws
