@@ -3,8 +3,13 @@
 
 mod close;
 mod halt;
+mod laws;
 mod licence;
 mod prove;
 mod step;
 
+pub use laws::{derived_stops_for_memory, licensed_stops_for_memory};
 pub use prove::prove_parts;
+
+#[cfg(test)]
+mod tests;

@@ -1,11 +1,9 @@
 //! The derivation of a theorem.
-ghost use Rattle.std.specs.Prelude.{◌≡◌, ◌≤◌, [], IsTrue, IfOk, IfErr, OnOk};
-ghost use Rattle.std.specs.List.{list_all};
+ghost use Rattle.std.specs.Prelude.{◌≡◌, [], IfOk, IfErr};
 ghost use Rattle.e_literal.specs.Facts.{joined_all};
 ghost use Rattle.e_theorem.specs.Statements.{stated};
-ghost use Rattle.e_deriv.specs.Script.{script_of, size, erased};
-ghost use Rattle.e_deriv.specs.Lines.{proof_lines};
-ghost use Rattle.e_deriv.specs.Steps.{fits};
+ghost use Rattle.e_deriv.specs.Script.{script_of, erased};
+ghost use Rattle.e_deriv.specs.Fitting.{IsFitting};
 ghost use Rattle.e_deriv.specs.Certified.{Certified};
 ghost use Rattle.e_prove.specs.Stops.{StopIs, HasNames};
 
@@ -27,9 +25,7 @@ pub fn prove_parts(
     names: &Names,
     block: &Block,
 ) -> Result<Block, Stop>
-    requires nothing_made { statement.now.made ≡ [] }
-    requires fits { IsTrue (list_all fits (proof_lines (stated statement.now) (script_of block.now))) }
-    requires size { size (script_of block.now) ≤ 1024 }
+    requires { IsFitting (stated statement.now) (script_of block.now) }
     ensures certified { IfOk result (λ d. Certified (stated statement.now) (script_of d)) }
     ensures script { IfOk result (λ d. erased (script_of d) ≡ erased (script_of block.now)) }
     ensures stop { IfErr result (StopIs (stated statement.now) (script_of block.now)) }

@@ -11,7 +11,7 @@ loop-step-init c =
     record {
       judged =
           judged_none (stated c.args.statement.now) (script_of c.args.block.now) c.in_ok-facts.facts c.new-steps.result.items
-          (c.in_ok-facts.ensures ∙ ap (joined_all []) c.items.ensures) c.new-steps.ensures.items c.requires.fits;
+          (c.in_ok-facts.ensures ∙ ap (joined_all []) c.items.ensures) c.new-steps.ensures.items c.requires.forms;
       number = refl;
       room = refl;
     }
