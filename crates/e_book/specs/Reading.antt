@@ -1,5 +1,5 @@
 -- Reading from left to right, with the first fault that is met.
-use Rattle.std.specs.Prelude.{◌≡◌, ℕ, ◌+◌, Bool, nat_lt, length, take, drop, List, [], ◌∷◌, map, Option, Some, None, Result, Ok, Err}
+use Rattle.std.specs.Prelude.{◌≡◌, ℕ, ◌+◌, ◌++◌, Bool, nat_lt, length, take, drop, List, [], ◌∷◌, map, Option, Some, None, Result, Ok, Err}
 use Rattle.std.specs.Borrow.{Bor}
 use Rattle.std.specs.List.{position_or_len}
 use Rattle.std.specs.Str.{bytes_eq}
@@ -73,3 +73,7 @@ cut_at word words =
 abbrev pub each : {X Y : Type 0} → (X → Result Y Kind) → List X → Result (List Y) Kind
 each f [] = Ok []
 each f (x ∷ xs) = f x >>= λ y. each f xs >>= λ ys. Ok (y ∷ ys)
+
+-- what is read, behind what was there
+abbrev pub with_front : {X : Type 0} → List X → Result (List X) Kind → Result (List X) Kind
+with_front front read = read >>= λ xs. Ok (front ++ xs)
