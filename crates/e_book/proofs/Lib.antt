@@ -1,3 +1,6 @@
 pub mod Loops
 pub mod Texts
 pub mod SideBySide
+pub mod InScope
+pub mod Citations
+pub mod Keeps

@@ -1,7 +1,8 @@
 //! A theorem while its lines come.
 ghost use Rattle.std.specs.Prelude.{◌≡◌, ◌≤◌, ◌<◌, ◌+◌, ◌^◌, ◌++◌, List, [], length, replicate, IfOk, OnOk, Ok, Err};
 ghost use Rattle.e_book.specs.Reading.{Gives, Moves};
-ghost use Rattle.e_book.specs.Steps.{allowed, within};
+ghost use Rattle.e_book.specs.Steps.{allowed};
+ghost use Rattle.e_book.specs.Limits.{within, most_of, what_of};
 
 use crate::fault::{Kind, Trouble, What};
 use crate::form::Form;
@@ -84,7 +85,7 @@ fn within(count: usize, most: usize, what: What) -> Result<(), Trouble>
 }
 
 fn most_of(sort: Sort) -> usize
-    ensures value { result ≡ Rattle.e_book.specs.Steps.most_of sort }
+    ensures { result ≡ most_of sort }
 {
     match sort {
         Sort::Point => MAX_POINTS,
@@ -94,7 +95,7 @@ fn most_of(sort: Sort) -> usize
 }
 
 fn what_of(sort: Sort) -> What
-    ensures { result ≡ Rattle.e_book.specs.Steps.what_of sort }
+    ensures { result ≡ what_of sort }
 {
     match sort {
         Sort::Point => What::Points,

@@ -74,7 +74,7 @@ impl<T: Drop> From<AllocFailed<T>> for Trouble {
 }
 
 /// What is wrong with a book, and at which line; or want of memory.
-#[derive(Debug, Drop, Error)]
+#[derive(Clone, Copy, Debug, PartialEq, Eq, Error)]
 pub enum BookFault {
     /// The line has no form at its place, or a wrong number of names.
     #[error("line {line} has no form here")]

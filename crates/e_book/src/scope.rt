@@ -247,16 +247,13 @@ pub(crate) fn fresh(names: &Names, new: &[Name]) -> Result<(), Trouble>
 fn known_rule(name: Title) -> Result<Rule, Trouble>
     ensures { Gives (λ r. r) result (known_rule (Instance.place_of name)) }
 {
-    match Rule::named(name.bytes()) {
-        None => Err(Trouble::Fault(Kind::UnknownName)),
-        Some(rule) => {
-            if rule.is_transfer() {
-                Err(Trouble::Fault(Kind::UnknownName))
-            } else {
-                Ok(rule)
-            }
-        }
+    let Some(rule) = Rule::named(name.bytes()) else {
+        return Err(Trouble::Fault(Kind::UnknownName));
+    };
+    if rule.is_transfer() {
+        return Err(Trouble::Fault(Kind::UnknownName));
     }
+    Ok(rule)
 }
 
 /// An object for each variable of a rule: points, then lines, then circles.
