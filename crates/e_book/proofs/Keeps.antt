@@ -46,7 +46,7 @@ use Rattle.e_book.specs.Book.{is_skipped, line_step, put_at, is_last, is_done, a
 use Rattle.e_book.proofs.InScope.{bind_ok, ok_is, read_ok, lit_in_scope, each_all, each_length}
 use Rattle.e_book.proofs.Citations.{by_fits}
 
--- a step's objects are in scope
+-- the objects of a step are in scope
 abbrev pub step_fits : Scope → Step → Bool
 step_fits s (steps.Cite by) = is_citation s by
 step_fits s (steps.Hence lit cert) = all_in_scope s lit
@@ -62,7 +62,8 @@ Shut Closed n = n + 1 ≤ most_steps
 Shut Done n = n + 1 ≤ most_steps
 Shut place n = Unit {0}
 
-pub record Good (d : Draft) : Type 0 where
+pub record Good (known : List Headed) (d : Draft) : Type 0 where
+  pub new : is_known known d.title ≡ false
   pub scope : grown nothing d.declared ≡ scope_of_names d.names
   pub points : length d.names.points ≤ most_of Point
   pub lines : length d.names.lines ≤ most_of Line
@@ -126,9 +127,9 @@ declaring : (place : Place) (sort : Sort) (ns : List (List ℕ)) (given shown : 
 declaring Declaring sort ns given shown ss a e = (refl, e.0, e.1, e.2)
 declaring place sort ns given shown ss a e = absurd cc
 
-keeps_declare : (d e : Draft) (sort : Sort) (ns : List (List ℕ)) → Good d → allowed d.place (forms.Declare sort ns) ≡ true → stepped d (forms.Declare sort ns) ≡ Ok e → Good e
+keeps_declare : (known : List Headed) (d e : Draft) (sort : Sort) (ns : List (List ℕ)) → Good known d → allowed d.place (forms.Declare sort ns) ≡ true → stepped d (forms.Declare sort ns) ≡ Ok e → Good known e
 unfolding stepped declared
-keeps_declare d e sort ns g a h =
+keeps_declare known d e sort ns g a h =
     let now : Names = with_names d.names sort (names_of_sort d.names sort ++ ns) in
     let x : Draft = record d { names = now; declared = d.declared ++ replicate (length ns) sort } in
     let n = bind_ok (fresh d.names [] ns >>= λ free. within (length (names_of_sort d.names sort) + length ns) (most_of sort) (what_of sort) >>= λ few. read_ok now)
@@ -140,7 +141,8 @@ keeps_declare d e sort ns g a h =
     let at = declaring d.place sort ns d.given d.shown d.steps a g.empty in
     let names-is : now ≡ n.0 = ok_is now n.0 w.2 in
     let x-is : x ≡ e = ap (λ (m : Names). record d { names = m; declared = d.declared ++ replicate (length ns) sort }) names-is ∙ ok_is (record d { names = n.0; declared = d.declared ++ replicate (length ns) sort }) e n.2 in
-    subst (λ (y : Draft). Good y) x-is (record {
+    subst (λ (y : Draft). Good known y) x-is (record {
+      new = g.new;
       scope = grown-append nothing d.declared (replicate (length ns) sort) ∙ ap (λ (s : Scope). grown s (replicate (length ns) sort)) g.scope ∙ grown-replicate (scope_of_names d.names) sort (length ns) ∙ more_names d.names sort ns;
       points = few.points;
       lines = few.lines;
@@ -159,16 +161,17 @@ appended p xs ys hx hy = list_all-append p xs ys ∙ rw (hx, hy) refl
 lits_within : (ns : Names) (raws : List RawLit) (ls : List Lit) → lits_in ns raws ≡ Ok ls → list_all (all_in_scope (scope_of_names ns)) ls ≡ true
 lits_within ns raws ls e = each_all (lit_in ns) (all_in_scope (scope_of_names ns)) (lit_in_scope ns) raws ls e
 
-keeps_given : (d e : Draft) (raws : List RawLit) → Good d → stepped d (forms.Given raws) ≡ Ok e → Good e
+keeps_given : (known : List Headed) (d e : Draft) (raws : List RawLit) → Good known d → stepped d (forms.Given raws) ≡ Ok e → Good known e
 unfolding stepped
-keeps_given d e raws g h =
+keeps_given known d e raws g h =
     let all = bind_ok (with_front d.given (lits_in d.names raws)) (λ ls. within (fact_count d + length raws) most_facts limits.Facts >>= λ few. read_ok (record d { given = ls; place = Giving })) e h in
     let ls = bind_ok (lits_in d.names raws) (λ xs. read_ok (d.given ++ xs)) all.0 all.1 in
     let w = bind_ok (within (fact_count d + length raws) most_facts limits.Facts) (λ few. read_ok (record d { given = all.0; place = Giving })) e all.2 in
     let le = within_ok _ _ _ w.0 w.1 in
     let n = each_length (lit_in d.names) raws ls.0 ls.1 in
     let x-is : record d { given = d.given ++ ls.0; place = Giving } ≡ e = ap (λ (l : List Lit). record d { given = l; place = Giving }) (ok_is (d.given ++ ls.0) all.0 ls.2) ∙ ok_is (record d { given = all.0; place = Giving }) e w.2 in
-    subst (λ (y : Draft). Good y) x-is (record {
+    subst (λ (y : Draft). Good known y) x-is (record {
+      new = g.new;
       scope = g.scope;
       points = g.points;
       lines = g.lines;
@@ -181,13 +184,14 @@ keeps_given d e raws g h =
       shut = tt;
     })
 
-keeps_shown : (d e : Draft) (raws : List RawLit) → Good d → stepped d (forms.Show raws) ≡ Ok e → Good e
+keeps_shown : (known : List Headed) (d e : Draft) (raws : List RawLit) → Good known d → stepped d (forms.Show raws) ≡ Ok e → Good known e
 unfolding stepped
-keeps_shown d e raws g h =
+keeps_shown known d e raws g h =
     let all = bind_ok (with_front d.shown (lits_in d.names raws)) (λ ls. read_ok (record d { shown = ls; place = Showing })) e h in
     let ls = bind_ok (lits_in d.names raws) (λ xs. read_ok (d.shown ++ xs)) all.0 all.1 in
     let x-is : record d { shown = d.shown ++ ls.0; place = Showing } ≡ e = ap (λ (l : List Lit). record d { shown = l; place = Showing }) (ok_is (d.shown ++ ls.0) all.0 ls.2) ∙ ok_is (record d { shown = all.0; place = Showing }) e all.2 in
-    subst (λ (y : Draft). Good y) x-is (record {
+    subst (λ (y : Draft). Good known y) x-is (record {
+      new = g.new;
       scope = g.scope;
       points = g.points;
       lines = g.lines;
@@ -201,8 +205,9 @@ keeps_shown d e raws g h =
     })
 
 -- at another place, with nothing more
-moved : (d : Draft) (p : Place) → Good d → Empty p d.given d.shown d.steps → Shut p (length d.steps) → Good (record d { place = p })
-moved d p g empty shut = record {
+moved : (known : List Headed) (d : Draft) (p : Place) → Good known d → Empty p d.given d.shown d.steps → Shut p (length d.steps) → Good known (record d { place = p })
+moved known d p g empty shut = record {
+  new = g.new;
   scope = g.scope;
   points = g.points;
   lines = g.lines;
@@ -215,14 +220,15 @@ moved d p g empty shut = record {
   shut = shut;
 }
 
-keeps_step : (d e : Draft) (s : Step) → Good d → d.place ≡ Proving → step_fits (scope_of_names d.names) s ≡ true → with_step d s ≡ Ok e → Good e
+keeps_step : (known : List Headed) (d e : Draft) (s : Step) → Good known d → d.place ≡ Proving → step_fits (scope_of_names d.names) s ≡ true → with_step d s ≡ Ok e → Good known e
 unfolding with_step
-keeps_step d e s g at fit h =
+keeps_step known d e s g at fit h =
     let x : Draft = record d { steps = d.steps ++ s ∷ [] } in
     let a = bind_ok (within (length d.steps + 1) most_steps limits.Steps) (λ few. within (fact_count d + 1) most_facts limits.Facts >>= λ none. read_ok x) e h in
     let b = bind_ok (within (fact_count d + 1) most_facts limits.Facts) (λ none. read_ok x) e a.2 in
     let le = within_ok _ _ _ b.0 b.1 in
-    subst (λ (y : Draft). Good y) (ok_is x e b.2) (record {
+    subst (λ (y : Draft). Good known y) (ok_is x e b.2) (record {
+      new = g.new;
       scope = g.scope;
       points = g.points;
       lines = g.lines;
@@ -247,31 +253,31 @@ closed : (p : Place) (n : ℕ) → allowed p forms.End ≡ true → Shut p n →
 closed Closed n a s = s
 closed p n a s = absurd cc
 
-keeps_by : (d e : Draft) (r : List ℕ) (ns : List (List ℕ)) (l : RawLit) → Good d → allowed d.place (forms.By r ns l) ≡ true → stepped d (forms.By r ns l) ≡ Ok e → Good e
+keeps_by : (known : List Headed) (d e : Draft) (r : List ℕ) (ns : List (List ℕ)) (l : RawLit) → Good known d → allowed d.place (forms.By r ns l) ≡ true → stepped d (forms.By r ns l) ≡ Ok e → Good known e
 unfolding stepped
-keeps_by d e r ns l g a h =
+keeps_by known d e r ns l g a h =
     let b = bind_ok (by_in d.names r ns l) (λ b. with_step d (steps.Cite b)) e h in
-    keeps_step d e (steps.Cite b.0) g (proving_by d.place r ns l a) (by_fits d.names r ns l b.0 b.1) b.2
+    keeps_step known d e (steps.Cite b.0) g (proving_by d.place r ns l a) (by_fits d.names r ns l b.0 b.1) b.2
 
-keeps_hence : (d e : Draft) (l : RawLit) → Good d → allowed d.place (forms.Hence l) ≡ true → stepped d (forms.Hence l) ≡ Ok e → Good e
+keeps_hence : (known : List Headed) (d e : Draft) (l : RawLit) → Good known d → allowed d.place (forms.Hence l) ≡ true → stepped d (forms.Hence l) ≡ Ok e → Good known e
 unfolding stepped
-keeps_hence d e l g a h =
+keeps_hence known d e l g a h =
     let m = bind_ok (lit_in d.names l) (λ m. with_step d (steps.Hence m None)) e h in
-    keeps_step d e (steps.Hence m.0 None) g (proving_hence d.place l a) (lit_in_scope d.names l m.0 m.1) m.2
+    keeps_step known d e (steps.Hence m.0 None) g (proving_hence d.place l a) (lit_in_scope d.names l m.0 m.1) m.2
 
-keeps_qed : (d e : Draft) → Good d → stepped d forms.Qed ≡ Ok e → Good e
+keeps_qed : (known : List Headed) (d e : Draft) → Good known d → stepped d forms.Qed ≡ Ok e → Good known e
 unfolding stepped
-keeps_qed d e g h =
+keeps_qed known d e g h =
     let w = bind_ok (within (length d.steps + 1) most_steps limits.Steps) (λ few. read_ok (record d { place = Closed })) e h in
-    subst (λ (y : Draft). Good y) (ok_is (record d { place = Closed }) e w.2) (moved d Closed g tt (within_ok _ _ _ w.0 w.1))
+    subst (λ (y : Draft). Good known y) (ok_is (record d { place = Closed }) e w.2) (moved known d Closed g tt (within_ok _ _ _ w.0 w.1))
 
-keeps_proof : (d e : Draft) → Good d → stepped d forms.Proof ≡ Ok e → Good e
+keeps_proof : (known : List Headed) (d e : Draft) → Good known d → stepped d forms.Proof ≡ Ok e → Good known e
 unfolding stepped
-keeps_proof d e g h = subst (λ (y : Draft). Good y) (ok_is (record d { place = Proving }) e h) (moved d Proving g tt tt)
+keeps_proof known d e g h = subst (λ (y : Draft). Good known y) (ok_is (record d { place = Proving }) e h) (moved known d Proving g tt tt)
 
-keeps_end : (d e : Draft) → Good d → allowed d.place forms.End ≡ true → stepped d forms.End ≡ Ok e → Good e
+keeps_end : (known : List Headed) (d e : Draft) → Good known d → allowed d.place forms.End ≡ true → stepped d forms.End ≡ Ok e → Good known e
 unfolding stepped
-keeps_end d e g a h = subst (λ (y : Draft). Good y) (ok_is (record d { place = Done }) e h) (moved d Done g tt (closed d.place (length d.steps) a g.shut))
+keeps_end known d e g a h = subst (λ (y : Draft). Good known y) (ok_is (record d { place = Done }) e h) (moved known d Done g tt (closed d.place (length d.steps) a g.shut))
 
 no_title : (p : Place) (t : List ℕ) → allowed p (forms.Theorem t) ≡ true → ⊥
 no_title Declaring t a = absurd cc
@@ -281,27 +287,28 @@ no_title Proving t a = absurd cc
 no_title Closed t a = absurd cc
 no_title Done t a = absurd cc
 
-keeps_stepped : (d e : Draft) (f : Form) → Good d → allowed d.place f ≡ true → stepped d f ≡ Ok e → Good e
-keeps_stepped d e (forms.Theorem t) g a h = absurd (no_title d.place t a)
-keeps_stepped d e (forms.Declare sort ns) g a h = keeps_declare d e sort ns g a h
-keeps_stepped d e (forms.Given raws) g a h = keeps_given d e raws g h
-keeps_stepped d e (forms.Show raws) g a h = keeps_shown d e raws g h
-keeps_stepped d e forms.Proof g a h = keeps_proof d e g h
-keeps_stepped d e (forms.By r ns l) g a h = keeps_by d e r ns l g a h
-keeps_stepped d e (forms.Hence l) g a h = keeps_hence d e l g a h
-keeps_stepped d e forms.Qed g a h = keeps_qed d e g h
-keeps_stepped d e forms.End g a h = keeps_end d e g a h
+keeps_stepped : (known : List Headed) (d e : Draft) (f : Form) → Good known d → allowed d.place f ≡ true → stepped d f ≡ Ok e → Good known e
+keeps_stepped known d e (forms.Theorem t) g a h = absurd (no_title d.place t a)
+keeps_stepped known d e (forms.Declare sort ns) g a h = keeps_declare known d e sort ns g a h
+keeps_stepped known d e (forms.Given raws) g a h = keeps_given known d e raws g h
+keeps_stepped known d e (forms.Show raws) g a h = keeps_shown known d e raws g h
+keeps_stepped known d e forms.Proof g a h = keeps_proof known d e g h
+keeps_stepped known d e (forms.By r ns l) g a h = keeps_by known d e r ns l g a h
+keeps_stepped known d e (forms.Hence l) g a h = keeps_hence known d e l g a h
+keeps_stepped known d e forms.Qed g a h = keeps_qed known d e g h
+keeps_stepped known d e forms.End g a h = keeps_end known d e g a h
 
 passes : (b : Bool) (x : Result Draft Kind) (y : Draft) → cond b x (Err Malformed) ≡ Ok y → (b ≡ true) × (x ≡ Ok y)
 passes true x y e = (refl, e)
 passes false x y e = absurd cc
 
-keeps : (d e : Draft) (f : Form) → Good d → step d f ≡ Ok e → Good e
+keeps : (known : List Headed) (d e : Draft) (f : Form) → Good known d → step d f ≡ Ok e → Good known e
 unfolding step
-keeps d e f g h = let p = passes (allowed d.place f) (stepped d f) e h in keeps_stepped d e f g p.0 p.1
+keeps known d e f g h = let p = passes (allowed d.place f) (stepped d f) e h in keeps_stepped known d e f g p.0 p.1
 
-good_begun : (t : List ℕ) → Good (begun t)
-good_begun t = record {
+good_begun : (known : List Headed) (t : List ℕ) → is_known known t ≡ false → Good known (begun t)
+good_begun known t n = record {
+  new = n;
   scope = refl;
   points = omega arith;
   lines = omega arith;
@@ -314,26 +321,26 @@ good_begun t = record {
   shut = tt;
 }
 
-untaken : (b : Bool) (x : Result Draft Kind) (y : Draft) → cond b (Err NameTaken) x ≡ Ok y → x ≡ Ok y
+untaken : (b : Bool) (x : Result Draft Kind) (y : Draft) → cond b (Err NameTaken) x ≡ Ok y → (b ≡ false) × (x ≡ Ok y)
 untaken true x y e = absurd cc
-untaken false x y e = e
+untaken false x y e = (refl, e)
 
-keeps_begin : (known : List Headed) (f : Form) (e : Draft) → begin known f ≡ Ok e → Good e
+keeps_begin : (known : List Headed) (f : Form) (e : Draft) → begin known f ≡ Ok e → Good known e
 unfolding begin
 keeps_begin known (forms.Theorem t) e h =
     let n = untaken (is_known known t) (within (length known + 1) most_theorems limits.Theorems >>= λ few. read_ok (begun t)) e h in
-    let w = bind_ok (within (length known + 1) most_theorems limits.Theorems) (λ few. read_ok (begun t)) e n in
-    subst (λ (y : Draft). Good y) (ok_is (begun t) e w.2) (good_begun t)
+    let w = bind_ok (within (length known + 1) most_theorems limits.Theorems) (λ few. read_ok (begun t)) e n.1 in
+    subst (λ (y : Draft). Good known y) (ok_is (begun t) e w.2) (good_begun known t n.0)
 keeps_begin known f e h = absurd cc
 
-abbrev GoodSoFar : Option Draft → Type 0
-GoodSoFar None = Unit {0}
-GoodSoFar (Some d) = Good d
+abbrev GoodSoFar : List Headed → Option Draft → Type 0
+GoodSoFar known None = Unit {0}
+GoodSoFar known (Some d) = Good known d
 
-keeps_line : (known : List Headed) (draft : Option Draft) (words : List (List ℕ)) (e : Draft) → GoodSoFar draft → line_step known draft words ≡ Ok e → Good e
+keeps_line : (known : List Headed) (draft : Option Draft) (words : List (List ℕ)) (e : Draft) → GoodSoFar known draft → line_step known draft words ≡ Ok e → Good known e
 unfolding line_step
 keeps_line known None words e g h = let f = bind_ok (form_of words) (λ f. begin known f) e h in keeps_begin known f.0 e f.2
-keeps_line known (Some d) words e g h = let f = bind_ok (form_of words) (λ f. step d f) e h in keeps d e f.0 g f.2
+keeps_line known (Some d) words e g h = let f = bind_ok (form_of words) (λ f. step d f) e h in keeps known d e f.0 g f.2
 
 both : (a b : Bool) → (a && b) ≡ true → (a ≡ true) × (b ≡ true)
 both true b e = (refl, e)
@@ -360,13 +367,14 @@ last_shut : (p : Place) (n : ℕ) → is_last p ≡ true → Shut p n → n + 1 
 last_shut Done n a s = s
 last_shut p n a s = absurd cc
 
-fits_read : (d : Draft) → Good d → is_done d ≡ true → Fits (entry_of_draft d)
-fits_read d g a =
+fits_read : (known : List Headed) (d : Draft) → Good known d → is_done d ≡ true → Fits known (entry_of_draft d)
+fits_read known d g a =
     let s = scope_of_names d.names in
     let t = stated (statement_of_draft d) in
     let n = size_of d.steps in
     let few = last_shut d.place (length d.steps) a g.shut in
     record {
+      new = g.new;
       made = refl;
       scope = g.scope;
       points = g.points;
@@ -405,7 +413,7 @@ skip_or true x y z e = inl (refl, e)
 skip_or false x y z e = inr (refl, e)
 
 -- a theorem that is read fits
-pub reading_fits : (known : List Headed) (last : ℕ) (draft : Option Draft) (lines rest : List (Result Seen LineFault)) (t : Entry) → GoodSoFar draft → read_from known last draft lines ≡ answered (pair t rest) → Fits t
+pub reading_fits : (known : List Headed) (last : ℕ) (draft : Option Draft) (lines rest : List (Result Seen LineFault)) (t : Entry) → GoodSoFar known draft → read_from known last draft lines ≡ answered (pair t rest) → Fits known t
 reading_fits known last None [] rest t g e = absurd cc
 reading_fits known last (Some d) [] rest t g e = absurd cc
 reading_fits known last draft (Err f ∷ lines) rest t g e = absurd cc
@@ -419,7 +427,7 @@ reading_fits known last draft (Ok line ∷ lines) rest t g e =
           let d = bind_ok next then (pair t rest) s.1 in
           let good = keeps_line known draft words d.0 g (put_ok line.number (line_step known draft words) d.0 d.1) in
           elim (skip_or (is_done d.0) (answered (pair (entry_of_draft d.0) lines)) (read_from known last (Some d.0) lines) (answered (pair t rest)) d.2) [
-            | inl q ↦ subst (λ (x : Entry). Fits x) (first_is (entry_of_draft d.0) t lines rest q.1) (fits_read d.0 good q.0)
+            | inl q ↦ subst (λ (x : Entry). Fits known x) (first_is (entry_of_draft d.0) t lines rest q.1) (fits_read known d.0 good q.0)
             | inr q ↦ reading_fits known last (Some d.0) lines rest t good q.1
           ]
     ]

@@ -4,3 +4,4 @@ pub mod SideBySide
 pub mod InScope
 pub mod Citations
 pub mod Keeps
+pub mod LineCount

@@ -1,5 +1,5 @@
 -- What a theorem that is read is known to be: its objects are in scope, its names are theirs, it is within the limits.
-use Rattle.std.specs.Prelude.{◌≡◌, ℕ, ◌+◌, ◌≤◌, List, [], length, IsTrue}
+use Rattle.std.specs.Prelude.{◌≡◌, ℕ, ◌+◌, ◌≤◌, List, [], length, IsTrue, false}
 use Rattle.std.specs.List.{list_all}
 use Rattle.e_literal.specs.declared.object.Scope.{Scope}
 use Rattle.e_literal.specs.declared.object.Sort.TheVariants.{Point, Line, Circle}
@@ -11,13 +11,16 @@ use Rattle.e_deriv.specs.Script.{size}
 use Rattle.e_deriv.specs.Lines.{proof_lines}
 use Rattle.e_deriv.specs.Steps.{fits}
 use Rattle.e_book.specs.Limits.{most_of, most_steps, most_facts}
+use Rattle.e_book.specs.Headed.{Headed, is_known}
 use Rattle.e_book.specs.Entry.{Entry}
 
 -- the scope of the objects that have these names
 abbrev pub scope_of_names : Names → Scope
 scope_of_names ns = record { points = length ns.points; lines = length ns.lines; circles = length ns.circles }
 
-pub record Fits (t : Entry) : Type 0 where
+pub record Fits (known : List Headed) (t : Entry) : Type 0 where
+  -- no earlier theorem has its title
+  pub new : is_known known t.title ≡ false
   -- nothing is made
   pub made : t.statement.made ≡ []
   -- one name for each declared object

@@ -2,6 +2,8 @@
 ghost use Rattle.std.specs.Prelude.{◌≡◌, ◌≤◌, ◌<◌, ◌^◌, ◌+◌, List, [], length, None, IfOk, OnOk, IfSome, OnSome};
 ghost use Rattle.e_book.specs.Reading.{texts, Gives};
 ghost use Rattle.e_book.specs.Steps.{FitsScope};
+ghost use Rattle.e_book.specs.Entry.{entry_of};
+ghost use Rattle.e_book.specs.Fits.{Fits};
 ghost use Rattle.e_book.specs.Book.{starts_with_hash, is_skipped, line_step, is_done, read_from, last_line, BookReads};
 
 use crate::draft::{Draft, Place};
@@ -60,10 +62,8 @@ fn line_step(
     }
 }
 
-/// The next theorem, or nothing where only skipped lines are left.
-///
-/// It takes the lines up to the theorem's `end`. A fault is the first of the book from here on.
-pub fn next_theorem(
+/// Reads line by line, up to the end of a theorem.
+fn read_theorem(
     alloc: Global,
     lines: &mut Lines,
     known: &Known,
@@ -98,4 +98,23 @@ pub fn next_theorem(
             line: lines.line() as u32,
         }),
     }
+}
+
+/// The next theorem, or nothing where only skipped lines are left.
+///
+/// It takes the lines up to the theorem's `end`. A fault is the first of the book from here on, and after it the
+/// lines are not used again. The lines are those of a text with at most 1,600 bytes a line and 4,194,304 bytes in all.
+#[tactic(auto, using(crate::proofs::Keeps::reading_fits))]
+pub fn next_theorem(
+    alloc: Global,
+    lines: &mut Lines,
+    known: &Known,
+) -> Result<Option<Theorem>, BookFault>
+    requires { last_line lines.old < 2 ^ 32 }
+    ensures read { BookReads result lines.new (read_from known.now (last_line lines.old) None lines.old.lines) }
+    ensures last { OnOk result (last_line lines.new ≡ last_line lines.old) }
+    ensures shorter { IfOk result (λ t. OnSome t (length lines.new.lines < length lines.old.lines)) }
+    ensures fits { IfOk result (λ o. IfSome o (λ t. Fits known.now (entry_of t))) }
+{
+    read_theorem(alloc, lines, known)
 }

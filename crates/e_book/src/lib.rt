@@ -24,3 +24,6 @@ pub use literal::{RawAtom, RawLit};
 pub use steps::Steps;
 pub use theorem::Theorem;
 pub use words::{Words, collected};
+
+#[cfg(test)]
+mod tests;

@@ -2,7 +2,7 @@ use Rattle.std.proofs.Common.{◌≡◌, ◌≤◌, length, None}
 use Rattle.std.specs.Prelude.{IfSome}
 use Rattle.e_book.specs.Steps.{FitsScope}
 use Rattle.e_book.specs.Book.{read_from, last_line}
-use Rattle.e_book.proofs.book.next_theorem.Given as goal
+use Rattle.e_book.proofs.book.read_theorem.Given as goal
 
 abbrev pub invariant-loop-line : goal.invariant-loop-line
 invariant-loop-line l = record {
