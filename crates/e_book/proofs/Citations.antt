@@ -102,8 +102,8 @@ has_instance (Some r) s args e h =
     let is : Some sig ≡ Some s = e in
     let f : fits r args ≡ true = subst (λ (t : Sig). Parts t.points t.lines t.circles args) (sym (some_sig sig s is)) h in
     rw f refl where
-  some_sig : (x y : Sig) → Some x ≡ Some y → x ≡ y
-  some_sig x y e = cc
+      some_sig : (x y : Sig) → Some x ≡ Some y → x ≡ y
+      some_sig x y e = cc
 
 guarded : (b : Bool) (x r : ℕ) → cond b (read_ok x) (Err UnknownName) ≡ Ok r → (b ≡ true) × (x ≡ r)
 guarded true x r e = (refl, ok_is x r e)

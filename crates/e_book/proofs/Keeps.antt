@@ -133,7 +133,7 @@ keeps_declare known d e sort ns g a h =
     let now : Names = with_names d.names sort (names_of_sort d.names sort ++ ns) in
     let x : Draft = record d { names = now; declared = d.declared ++ replicate (length ns) sort } in
     let n = bind_ok (fresh d.names [] ns >>= λ free. within (length (names_of_sort d.names sort) + length ns) (most_of sort) (what_of sort) >>= λ few. read_ok now)
-        (λ names. read_ok (record d { names = names; declared = d.declared ++ replicate (length ns) sort })) e h in
+    (λ names. read_ok (record d { names = names; declared = d.declared ++ replicate (length ns) sort })) e h in
     let f = bind_ok (fresh d.names [] ns) (λ free. within (length (names_of_sort d.names sort) + length ns) (most_of sort) (what_of sort) >>= λ few. read_ok now) n.0 n.1 in
     let w = bind_ok (within (length (names_of_sort d.names sort) + length ns) (most_of sort) (what_of sort)) (λ few. read_ok now) n.0 f.2 in
     let le = within_ok _ _ _ w.0 w.1 in
@@ -405,6 +405,7 @@ first_is t u ts us e = ap (λ (a : Answer). entry_in t a) (answer_is (pair t ts)
   entry_in : Entry → Answer → Entry
   entry_in t None = t
   entry_in t (Some p) = p.0
+
   answer_is : (a b : Answer) → answered a ≡ answered b → a ≡ b
   answer_is a b e = cc
 
