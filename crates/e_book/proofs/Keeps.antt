@@ -1,9 +1,9 @@
 -- Each line keeps what is known of a draft, and so of the theorem that is read.
-use Rattle.std.proofs.Common.{◌≡◌, ℕ, zero, suc, ◌+◌, ◌<◌, ◌≤◌, Bool, true, false, cond, ltb, ◌&&◌, inl, inr, List, [], ◌∷◌, ◌++◌, length, replicate, Option, Some, None, Result, Ok, Err, refl, sym, ap, subst, ◌∙◌, arith, length-append}
+use Rattle.std.proofs.Common.{◌≡◌, ℕ, zero, suc, ◌+◌, ◌≤◌, Bool, true, false, cond, ltb, ◌&&◌, inl, inr, List, [], ◌∷◌, ◌++◌, length, replicate, Option, Some, None, Result, Ok, Err, refl, sym, ap, subst, ◌∙◌, arith, length-append}
 use Rattle.std.specs.List.{list_all}
 use Rattle.std.proofs.lemmas.Bool.{cases_lt, lt-ltb}
 use Rattle.std.proofs.lemmas.List.Folds.{list_all-append}
-use Rattle.std.specs.Prelude.{IsTrue, ◌⊎◌}
+use Rattle.std.specs.Prelude.{◌⊎◌}
 use Rattle.e_literal.specs.declared.object.Sort.{Sort}
 use Rattle.e_literal.specs.declared.object.Sort.TheVariants.{Point, Line, Circle}
 use Rattle.e_literal.specs.declared.object.Scope.{Scope}
@@ -11,7 +11,6 @@ use Rattle.e_literal.specs.declared.literal.Lit.{Lit}
 use Rattle.e_literal.specs.Literal.{all_in_scope}
 use Rattle.e_literal.specs.Facts.{joined}
 use Rattle.e_literal.specs.Scopes.{nothing, with_one, grown}
-use Rattle.e_clause.specs.declared.cert.By.{By}
 use Rattle.e_text.specs.Tokens.{tokens_of}
 use Rattle.e_text.specs.Lines.{Seen}
 use Rattle.e_text.specs.declared.line.LineFault.{LineFault}
@@ -19,9 +18,9 @@ use Rattle.e_theorem.specs.Statements.{stated}
 use Rattle.e_deriv.specs.declared.names.Names.{Names}
 use Rattle.e_deriv.specs.declared.block.Step.{Step}
 use Rattle.e_deriv.specs.declared.block.Step.TheVariants as steps
-use Rattle.e_deriv.specs.Script.{Script, Cite, Hence, Qed, steps_script, size}
+use Rattle.e_deriv.specs.Script.{Qed, steps_script, size}
 use Rattle.e_deriv.specs.Goal.{Goal, are_for, goal_of_statement, facts_of_statement}
-use Rattle.e_deriv.specs.Lines.{lines, proof_lines}
+use Rattle.e_deriv.specs.Lines.{lines}
 use Rattle.e_deriv.specs.Steps.{is_citation, fits}
 use Rattle.e_book.specs.declared.fault.Kind.{Kind}
 use Rattle.e_book.specs.declared.fault.Kind.TheVariants.{Malformed, NameTaken, Limit}
@@ -34,7 +33,7 @@ use Rattle.e_book.specs.declared.form.Form.TheVariants as forms
 use Rattle.e_book.specs.declared.draft.Place.{Place}
 use Rattle.e_book.specs.declared.draft.Place.TheVariants.{Declaring, Giving, Showing, Proving, Closed, Done}
 use Rattle.e_book.specs.declared.draft.Draft.{Draft}
-use Rattle.e_book.specs.Reading.{◌>>=◌, with_front, each}
+use Rattle.e_book.specs.Reading.{◌>>=◌, with_front}
 use Rattle.e_book.specs.Limits.{most_theorems, most_of, most_steps, most_facts, what_of, within}
 use Rattle.e_book.specs.Headed.{Headed, is_known}
 use Rattle.e_book.specs.Scope.{names_of_sort, with_names, fresh, lit_in, lits_in, by_in}
@@ -42,7 +41,7 @@ use Rattle.e_book.specs.Forms.{form_of}
 use Rattle.e_book.specs.Steps.{allowed, declared, fact_count, with_step, stepped, step, begin, begun}
 use Rattle.e_book.specs.Entry.{Entry, entry_of_draft, statement_of_draft}
 use Rattle.e_book.specs.Fits.{scope_of_names, Fits}
-use Rattle.e_book.specs.Book.{is_skipped, line_step, put_at, is_last, is_done, at_end, read_from}
+use Rattle.e_book.specs.Book.{is_skipped, line_step, put_at, is_last, is_done, read_from}
 use Rattle.e_book.proofs.InScope.{bind_ok, ok_is, read_ok, lit_in_scope, each_all, each_length}
 use Rattle.e_book.proofs.Citations.{by_fits}
 
