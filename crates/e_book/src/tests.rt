@@ -11,7 +11,7 @@ use std::process::Abort;
 fn answer(alloc: Global, text: &[u8]) -> Result<u32, BookFault>
     requires { length text.now < 2 ^ 20 }
 {
-    let mut lines = Lines::at(text, 1_600, 4_194_304, 1, 0);
+    let mut lines = Lines::new(text, 1_600, 4_194_304);
     let mut known = Known::new(alloc);
     let mut theorems = 0u32;
     while let Some(theorem) = next_theorem(alloc, &mut lines, &known)? {
