@@ -40,10 +40,11 @@ use Rattle.e_book.specs.Scope.{names_of_sort, with_names, fresh, lit_in, lits_in
 use Rattle.e_book.specs.Forms.{form_of}
 use Rattle.e_book.specs.Steps.{allowed, declared, fact_count, with_step, stepped, step, begin, begun}
 use Rattle.e_book.specs.Entry.{Entry, entry_of_draft, statement_of_draft}
-use Rattle.e_book.specs.Fits.{scope_of_names, Fits}
+use Rattle.e_book.specs.Fits.{scope_of_names, NamesDiffer, Fits}
 use Rattle.e_book.specs.Book.{is_skipped, line_step, put_at, is_last, is_done, read_from}
 use Rattle.e_book.proofs.InScope.{bind_ok, ok_is, read_ok, lit_in_scope, each_all, each_length}
 use Rattle.e_book.proofs.Citations.{by_fits}
+use Rattle.e_book.proofs.Distinct.{still_differ}
 
 -- the objects of a step are in scope
 abbrev pub step_fits : Scope → Step → Bool
@@ -64,6 +65,7 @@ Shut place n = Unit {0}
 pub record Good (known : List Headed) (d : Draft) : Type 0 where
   pub new : is_known known d.title ≡ false
   pub scope : grown nothing d.declared ≡ scope_of_names d.names
+  pub differ : NamesDiffer d.names
   pub points : length d.names.points ≤ most_of Point
   pub lines : length d.names.lines ≤ most_of Line
   pub circles : length d.names.circles ≤ most_of Circle
@@ -143,6 +145,7 @@ keeps_declare known d e sort ns g a h =
     subst (λ (y : Draft). Good known y) x-is (record {
       new = g.new;
       scope = grown-append nothing d.declared (replicate (length ns) sort) ∙ ap (λ (s : Scope). grown s (replicate (length ns) sort)) g.scope ∙ grown-replicate (scope_of_names d.names) sort (length ns) ∙ more_names d.names sort ns;
+      differ = still_differ d.names sort ns f.0 g.differ f.1;
       points = few.points;
       lines = few.lines;
       circles = few.circles;
@@ -172,6 +175,7 @@ keeps_given known d e raws g h =
     subst (λ (y : Draft). Good known y) x-is (record {
       new = g.new;
       scope = g.scope;
+      differ = g.differ;
       points = g.points;
       lines = g.lines;
       circles = g.circles;
@@ -192,6 +196,7 @@ keeps_shown known d e raws g h =
     subst (λ (y : Draft). Good known y) x-is (record {
       new = g.new;
       scope = g.scope;
+      differ = g.differ;
       points = g.points;
       lines = g.lines;
       circles = g.circles;
@@ -208,6 +213,7 @@ moved : (known : List Headed) (d : Draft) (p : Place) → Good known d → Empty
 moved known d p g empty shut = record {
   new = g.new;
   scope = g.scope;
+  differ = g.differ;
   points = g.points;
   lines = g.lines;
   circles = g.circles;
@@ -229,6 +235,7 @@ keeps_step known d e s g at fit h =
     subst (λ (y : Draft). Good known y) (ok_is x e b.2) (record {
       new = g.new;
       scope = g.scope;
+      differ = g.differ;
       points = g.points;
       lines = g.lines;
       circles = g.circles;
@@ -309,6 +316,7 @@ good_begun : (known : List Headed) (t : List ℕ) → is_known known t ≡ false
 good_begun known t n = record {
   new = n;
   scope = refl;
+  differ = record { points = refl; lines = refl; circles = refl; points_lines = refl; points_circles = refl; lines_circles = refl };
   points = omega arith;
   lines = omega arith;
   circles = omega arith;
@@ -376,6 +384,7 @@ fits_read known d g a =
       new = g.new;
       made = refl;
       scope = g.scope;
+      differ = g.differ;
       points = g.points;
       lines = g.lines;
       circles = g.circles;
