@@ -6,3 +6,4 @@ pub mod Citations
 pub mod Distinct
 pub mod Keeps
 pub mod LineCount
+mod Checks
