@@ -5,3 +5,11 @@ pub mod InScope
 pub mod Citations
 pub mod Keeps
 pub mod LineCount
+pub mod Differ
+pub mod Respelled
+pub mod LineWords
+pub mod Lookups
+pub mod RuleNames
+pub mod Cited
+pub mod Declared
+pub mod CanonicalRead
