@@ -7,3 +7,11 @@ pub mod Distinct
 pub mod Keeps
 pub mod LineCount
 mod Checks
+pub mod Differ
+pub mod Respelled
+pub mod LineWords
+pub mod Lookups
+pub mod RuleNames
+pub mod Cited
+pub mod Declared
+pub mod CanonicalRead

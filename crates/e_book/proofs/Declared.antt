@@ -1,0 +1,287 @@
+-- The lines that declare objects, one name after another.
+use Rattle.std.proofs.Common.{◌≡◌, ℕ, zero, suc, ◌+◌, ◌<◌, ◌≤◌, Bool, true, false, cond, ltb, ◌||◌, List, [], ◌∷◌, ◌++◌, length, take, replicate, Option, Some, None, Result, Ok, Err, refl, sym, ap, subst, ◌∙◌, arith, append_assoc, length-append, length-take-le}
+use Rattle.std.specs.Str.{bytes_eq}
+use Rattle.std.proofs.lemmas.Bool.{le-ltb, lt-ltb}
+use Rattle.std.proofs.lemmas.List.{append-nil, take_all}
+use Rattle.e_text.specs.Names.{is_name}
+use Rattle.e_literal.specs.declared.object.Sort.{Sort}
+use Rattle.e_literal.specs.declared.object.Sort.TheVariants.{Point, Line, Circle}
+use Rattle.e_literal.specs.declared.object.Scope.{Scope}
+use Rattle.e_literal.specs.Literal.{count_of}
+use Rattle.e_literal.specs.Scopes.{same_sort, nothing, with_one, grown, next_objects}
+use Rattle.e_deriv.specs.declared.names.Names.{Names}
+use Rattle.e_book.specs.declared.fault.Kind.{Kind}
+use Rattle.e_book.specs.declared.fault.Kind.TheVariants.{NameTaken}
+use Rattle.e_book.specs.declared.form.Form.{Form}
+use Rattle.e_book.specs.declared.form.Form.TheVariants as forms
+use Rattle.e_book.specs.declared.draft.Place.TheVariants.{Declaring}
+use Rattle.e_book.specs.declared.draft.Draft.{Draft}
+use Rattle.e_book.specs.Reading.{◌>>=◌}
+use Rattle.e_book.specs.Limits.{most_of, what_of, within}
+use Rattle.e_book.specs.Headed.{Headed}
+use Rattle.e_book.specs.Scope.{has, names_of_sort, with_names, is_taken, fresh}
+use Rattle.e_book.specs.Steps.{declared, stepped, step, begin}
+use Rattle.e_book.specs.Book.{is_done}
+use Rattle.e_book.specs.Canonical.{name_at, declared_before, declare_forms}
+use Rattle.e_book.specs.Fits.{scope_of_names}
+use Rattle.e_book.specs.HasSpelling.{AreNames}
+use Rattle.e_book.proofs.Differ.{apart_at, has_not_in_front, not_before}
+use Rattle.e_book.proofs.Respelled.{GoodForm}
+use Rattle.e_book.proofs.Lookups.{InOrder, named_at, sorts_same}
+
+-- a form at its place: the first of a theorem, or one more
+abbrev pub form_step : List Headed → Option Draft → Form → Result Draft Kind
+form_step known None f = begin known f
+form_step known (Some d) f = step d f
+
+-- forms that are taken one after another
+abbrev pub Runs : List Headed → Option Draft → List Form → Option Draft → Type 0
+Runs known s [] u = s ≡ u
+Runs known s (f ∷ fs) u = (e : Draft) × GoodForm f × (form_step known s f ≡ Ok e) × (is_done e ≡ false) × Runs known (Some e) fs u
+
+pub runs_append : (known : List Headed) (s m u : Option Draft) (fs gs : List Form) → Runs known s fs m → Runs known m gs u → Runs known s (fs ++ gs) u
+runs_append known s m u [] gs a b = subst (λ (x : Option Draft). Runs known x gs u) (sym a) b
+runs_append known s m u (f ∷ fs) gs a b = (a.0, a.1, a.2, a.3, runs_append known (Some a.0) m u fs gs a.4 b)
+
+abbrev pub declaring : List ℕ → Names → List Sort → Draft
+declaring t ns sorts = record { title = t; names = ns; declared = sorts; given = []; shown = []; steps = []; place = Declaring }
+
+-- with one name more
+abbrev plus : Names → Sort → List ℕ → Names
+plus ns sort name = with_names ns sort (names_of_sort ns sort ++ name ∷ [])
+
+-- no object has this name
+abbrev Free : Names → List ℕ → Type 0
+Free ns n = (has ns.points n ≡ false) × (has ns.lines n ≡ false) × (has ns.circles n ≡ false)
+
+-- ---- one line for a name, or the name on the next line
+
+one_declared : (t : List ℕ) (ns : Names) (sorts : List Sort) (sort : Sort) (name : List ℕ) → Free ns name → length (names_of_sort ns sort) + 1 ≤ most_of sort
+    → step (declaring t ns sorts) (forms.Declare sort (name ∷ [])) ≡ Ok (declaring t (plus ns sort name) (sorts ++ sort ∷ []))
+unfolding step stepped declared
+one_declared t ns sorts sort name f few =
+    let room : ltb (most_of sort) (length (names_of_sort ns sort) + length (name ∷ [])) ≡ false = le-ltb _ _ (omega (arith, few)) in
+    rw (f.0, f.1, f.2, room) refl
+
+or_false : (b : Bool) → (b || false) ≡ b
+or_false true = refl
+or_false false = refl
+
+or_assoc : (a b c : Bool) → (a || (b || c)) ≡ ((a || b) || c)
+or_assoc true b c = refl
+or_assoc false b c = refl
+
+has_push : (xs : List (List ℕ)) (n m : List ℕ) → has (xs ++ n ∷ []) m ≡ (has xs m || bytes_eq n m)
+has_push [] n m = or_false (bytes_eq n m)
+has_push (x ∷ xs) n m = ap (λ b. bytes_eq x m || b) (has_push xs n m) ∙ or_assoc (bytes_eq x m) (has xs m) (bytes_eq n m)
+
+in_points : (p l c q s : Bool) → (p || (l || (c || (q || s)))) ≡ ((p || q) || (l || (c || s)))
+in_points true l c q s = refl
+in_points false true c true s = refl
+in_points false true c false s = refl
+in_points false false true true s = refl
+in_points false false true false s = refl
+in_points false false false q s = refl
+
+in_lines : (p l c q s : Bool) → (p || (l || (c || (q || s)))) ≡ (p || ((l || q) || (c || s)))
+in_lines true l c q s = refl
+in_lines false true c q s = refl
+in_lines false false true true s = refl
+in_lines false false true false s = refl
+in_lines false false false q s = refl
+
+in_circles : (p l c q s : Bool) → (p || (l || (c || (q || s)))) ≡ (p || (l || ((c || q) || s)))
+in_circles p l c q s = ap (λ b. p || (l || b)) (or_assoc c q s)
+
+same_taken : (ns : Names) (sort : Sort) (name : List ℕ) (seen : List (List ℕ)) (m : List ℕ) → is_taken ns (name ∷ seen) m ≡ is_taken (plus ns sort name) seen m
+same_taken ns Point name seen m =
+    in_points (has ns.points m) (has ns.lines m) (has ns.circles m) (bytes_eq name m) (has seen m) ∙ ap (λ b. b || (has ns.lines m || (has ns.circles m || has seen m))) (sym (has_push ns.points name m))
+same_taken ns Line name seen m =
+    in_lines (has ns.points m) (has ns.lines m) (has ns.circles m) (bytes_eq name m) (has seen m) ∙ ap (λ b. has ns.points m || (b || (has ns.circles m || has seen m))) (sym (has_push ns.lines name m))
+same_taken ns Circle name seen m =
+    in_circles (has ns.points m) (has ns.lines m) (has ns.circles m) (bytes_eq name m) (has seen m) ∙ ap (λ b. has ns.points m || (has ns.lines m || (b || has seen m))) (sym (has_push ns.circles name m))
+
+abbrev taken_or : Bool → Result (Unit {0}) Kind → Result (Unit {0}) Kind
+taken_or b r = cond b (Err NameTaken) r
+
+same_fresh : (ns : Names) (sort : Sort) (name : List ℕ) (seen more : List (List ℕ)) → fresh ns (name ∷ seen) more ≡ fresh (plus ns sort name) seen more
+same_fresh ns sort name seen [] = refl
+same_fresh ns sort name seen (m ∷ more) =
+    ap (λ (b : Bool). taken_or b (fresh ns (name ∷ (seen ++ m ∷ [])) more)) (same_taken ns sort name seen m)
+    ∙ ap (λ (r : Result (Unit {0}) Kind). taken_or (is_taken (plus ns sort name) seen m) r) (same_fresh ns sort name (seen ++ m ∷ []) more)
+
+fresh_joined : (ns : Names) (sort : Sort) (name : List ℕ) (more : List (List ℕ)) → Free ns name → fresh ns [] (name ∷ more) ≡ fresh (plus ns sort name) [] more
+fresh_joined ns sort name more f =
+    let one : fresh ns [] (name ∷ more) ≡ fresh ns (name ∷ []) more = rw (f.0, f.1, f.2) refl in
+    one ∙ same_fresh ns sort name [] more
+
+abbrev answer : Result (Unit {0}) Kind → ℕ → Names → Sort → Result Names Kind
+answer f n new sort = f >>= λ free. within n (most_of sort) (what_of sort) >>= λ few. Ok new
+
+same_answer : (f g : Result (Unit {0}) Kind) (m n : ℕ) (v w : Names) (sort : Sort) → f ≡ g → m ≡ n → v ≡ w → answer f m v sort ≡ answer g n w sort
+same_answer f g m n v w sort a b c =
+    ap (λ (x : Result (Unit {0}) Kind). answer x m v sort) a ∙ ap (λ (k : ℕ). answer g k v sort) b ∙ ap (λ (x : Names). answer g n x sort) c
+
+one_less : (xs more : List (List ℕ)) (name : List ℕ) → length xs + length (name ∷ more) ≡ length (xs ++ name ∷ []) + length more
+one_less xs more name = omega (arith, length-append xs (name ∷ []))
+
+declared_joined : (ns : Names) (sort : Sort) (name : List ℕ) (more : List (List ℕ)) → Free ns name → declared ns sort (name ∷ more) ≡ declared (plus ns sort name) sort more
+unfolding declared
+declared_joined ns Point name more f =
+    same_answer (fresh ns [] (name ∷ more)) (fresh (plus ns Point name) [] more) (length ns.points + length (name ∷ more)) (length (ns.points ++ name ∷ []) + length more)
+    (record ns { points = ns.points ++ name ∷ more }) (record ns { points = (ns.points ++ name ∷ []) ++ more }) Point (fresh_joined ns Point name more f) (one_less ns.points more name)
+    (ap (λ (l : List (List ℕ)). record ns { points = l }) (sym (append_assoc ns.points (name ∷ []) more)))
+declared_joined ns Line name more f =
+    same_answer (fresh ns [] (name ∷ more)) (fresh (plus ns Line name) [] more) (length ns.lines + length (name ∷ more)) (length (ns.lines ++ name ∷ []) + length more)
+    (record ns { lines = ns.lines ++ name ∷ more }) (record ns { lines = (ns.lines ++ name ∷ []) ++ more }) Line (fresh_joined ns Line name more f) (one_less ns.lines more name)
+    (ap (λ (l : List (List ℕ)). record ns { lines = l }) (sym (append_assoc ns.lines (name ∷ []) more)))
+declared_joined ns Circle name more f =
+    same_answer (fresh ns [] (name ∷ more)) (fresh (plus ns Circle name) [] more) (length ns.circles + length (name ∷ more)) (length (ns.circles ++ name ∷ []) + length more)
+    (record ns { circles = ns.circles ++ name ∷ more }) (record ns { circles = (ns.circles ++ name ∷ []) ++ more }) Circle (fresh_joined ns Circle name more f) (one_less ns.circles more name)
+    (ap (λ (l : List (List ℕ)). record ns { circles = l }) (sym (append_assoc ns.circles (name ∷ []) more)))
+
+abbrev then_draft : List ℕ → Result Names Kind → List Sort → Result Draft Kind
+then_draft t r sorts = r >>= λ names. Ok (declaring t names sorts)
+
+step_joined : (t : List ℕ) (ns : Names) (sorts : List Sort) (sort : Sort) (name : List ℕ) (more : List (List ℕ)) → Free ns name
+    → step (declaring t ns sorts) (forms.Declare sort (name ∷ more)) ≡ step (declaring t (plus ns sort name) (sorts ++ sort ∷ [])) (forms.Declare sort more)
+unfolding step stepped
+step_joined t ns sorts sort name more f =
+    ap (λ (r : Result Names Kind). then_draft t r (sorts ++ sort ∷ replicate (length more) sort)) (declared_joined ns sort name more f)
+    ∙ ap (λ (l : List Sort). then_draft t (declared (plus ns sort name) sort more) l) (sym (append_assoc sorts (sort ∷ []) (replicate (length more) sort)))
+
+-- ---- one more name before the lines
+
+-- what is known of a name that comes next
+record Next (ns : Names) (sort : Sort) (name : List ℕ) : Type 0 where
+  named : is_name name ≡ true
+  free : Free ns name
+  few : length (names_of_sort ns sort) + 1 ≤ most_of sort
+
+alone : (known : List Headed) (t : List ℕ) (ns : Names) (sorts : List Sort) (sort : Sort) (name : List ℕ) (fs : List Form) (u : Option Draft) → Next ns sort name
+    → Runs known (Some (declaring t (plus ns sort name) (sorts ++ sort ∷ []))) fs u → Runs known (Some (declaring t ns sorts)) (forms.Declare sort (name ∷ []) ∷ fs) u
+alone known t ns sorts sort name fs u n r = (declaring t (plus ns sort name) (sorts ++ sort ∷ []), (n.named, tt), one_declared t ns sorts sort name n.free n.few, refl, r)
+
+names_in : (sort : Sort) (more : List (List ℕ)) → GoodForm (forms.Declare sort more) → AreNames more
+names_in sort [] h = absurd h
+names_in sort (n ∷ ns) h = h
+
+together : (known : List Headed) (t : List ℕ) (ns : Names) (sorts : List Sort) (sort s : Sort) (name : List ℕ) (more : List (List ℕ)) (fs : List Form) (u : Option Draft) → Next ns sort name → sort ≡ s
+    → Runs known (Some (declaring t (plus ns sort name) (sorts ++ sort ∷ []))) (forms.Declare s more ∷ fs) u → Runs known (Some (declaring t ns sorts)) (forms.Declare s (name ∷ more) ∷ fs) u
+together known t ns sorts sort s name more fs u n e r =
+    let join : step (declaring t ns sorts) (forms.Declare s (name ∷ more)) ≡ step (declaring t (plus ns sort name) (sorts ++ sort ∷ [])) (forms.Declare s more) =
+        subst (λ (x : Sort). step (declaring t ns sorts) (forms.Declare x (name ∷ more)) ≡ step (declaring t (plus ns sort name) (sorts ++ sort ∷ [])) (forms.Declare x more)) e (step_joined t ns sorts sort name more n.free) in
+    (r.0, (n.named, names_in s more r.1), join ∙ r.2, r.3, r.4)
+
+by_sort : (b : Bool) (known : List Headed) (t : List ℕ) (ns : Names) (sorts : List Sort) (sort s : Sort) (name : List ℕ) (more : List (List ℕ)) (fs : List Form) (u : Option Draft) → Next ns sort name → same_sort sort s ≡ b
+    → Runs known (Some (declaring t (plus ns sort name) (sorts ++ sort ∷ []))) (forms.Declare s more ∷ fs) u
+    → Runs known (Some (declaring t ns sorts)) (cond b (forms.Declare s (name ∷ more) ∷ fs) (forms.Declare sort (name ∷ []) ∷ forms.Declare s more ∷ fs)) u
+by_sort true known t ns sorts sort s name more fs u n e r = together known t ns sorts sort s name more fs u n (sorts_same sort s e) r
+by_sort false known t ns sorts sort s name more fs u n e r = alone known t ns sorts sort name (forms.Declare s more ∷ fs) u n r
+
+run_before : (known : List Headed) (t : List ℕ) (ns : Names) (sorts : List Sort) (sort : Sort) (name : List ℕ) (fs : List Form) (u : Option Draft) → Next ns sort name
+    → Runs known (Some (declaring t (plus ns sort name) (sorts ++ sort ∷ []))) fs u → Runs known (Some (declaring t ns sorts)) (declared_before sort name fs) u
+run_before known t ns sorts sort name [] u n r = alone known t ns sorts sort name [] u n r
+run_before known t ns sorts sort name (forms.Declare s more ∷ fs) u n r = by_sort (same_sort sort s) known t ns sorts sort s name more fs u n refl r
+run_before known t ns sorts sort name (f ∷ fs) u n r = alone known t ns sorts sort name (f ∷ fs) u n r
+
+-- ---- all names
+
+-- the names of the first objects of each sort
+abbrev pub taken : Scope → Names → Names
+taken s ns = record { points = take s.points ns.points; lines = take s.lines ns.lines; circles = take s.circles ns.circles }
+
+take_next : (xs : List (List ℕ)) (n : ℕ) → n < length xs → take n xs ++ name_at xs n ∷ [] ≡ take (suc n) xs
+take_next [] n lt = absurd (omega arith)
+take_next (x ∷ xs) zero lt = refl
+take_next (x ∷ xs) (suc n) lt = ap (λ (l : List (List ℕ)). x ∷ l) (take_next xs n (omega arith))
+
+take_one : (xs : List (List ℕ)) (n : ℕ) → n < length xs → take n xs ++ name_at xs n ∷ [] ≡ take (n + 1) xs
+take_one xs n lt = let k : suc n ≡ n + 1 = omega arith in take_next xs n lt ∙ ap (λ (i : ℕ). take i xs) k
+
+plus_taken : (ns : Names) (s : Scope) (sort : Sort) → count_of s sort < count_of (scope_of_names ns) sort → plus (taken s ns) sort (name_at (names_of_sort ns sort) (count_of s sort)) ≡ taken (with_one s sort) ns
+plus_taken ns s Point lt = ap (λ (l : List (List ℕ)). record { points = l; lines = take s.lines ns.lines; circles = take s.circles ns.circles }) (take_one ns.points s.points lt)
+plus_taken ns s Line lt = ap (λ (l : List (List ℕ)). record { points = take s.points ns.points; lines = l; circles = take s.circles ns.circles }) (take_one ns.lines s.lines lt)
+plus_taken ns s Circle lt = ap (λ (l : List (List ℕ)). record { points = take s.points ns.points; lines = take s.lines ns.lines; circles = l }) (take_one ns.circles s.circles lt)
+
+free_next : (ns : Names) (s : Scope) (sort : Sort) → InOrder ns → count_of s sort < count_of (scope_of_names ns) sort → Free (taken s ns) (name_at (names_of_sort ns sort) (count_of s sort))
+free_next ns s Point o lt =
+    let name = name_at ns.points s.points in
+    (not_before ns.points s.points o.points lt, has_not_in_front ns.lines s.lines name (apart_at ns.lines ns.points s.points o.no_line_point lt), has_not_in_front ns.circles s.circles name (apart_at ns.circles ns.points s.points o.no_circle_point lt))
+free_next ns s Line o lt =
+    let name = name_at ns.lines s.lines in
+    (has_not_in_front ns.points s.points name (apart_at ns.points ns.lines s.lines o.no_point_line lt), not_before ns.lines s.lines o.lines lt, has_not_in_front ns.circles s.circles name (apart_at ns.circles ns.lines s.lines o.no_circle_line lt))
+free_next ns s Circle o lt =
+    let name = name_at ns.circles s.circles in
+    (has_not_in_front ns.points s.points name (apart_at ns.points ns.circles s.circles o.no_point_circle lt), has_not_in_front ns.lines s.lines name (apart_at ns.lines ns.circles s.circles o.no_line_circle lt), not_before ns.circles s.circles o.circles lt)
+
+-- the objects are within the limits
+pub record Few (ns : Names) : Type 0 where
+  pub points : length ns.points ≤ most_of Point
+  pub lines : length ns.lines ≤ most_of Line
+  pub circles : length ns.circles ≤ most_of Circle
+
+room_next : (ns : Names) (s : Scope) (sort : Sort) → Few ns → count_of s sort < count_of (scope_of_names ns) sort → length (names_of_sort (taken s ns) sort) + 1 ≤ most_of sort
+room_next ns s Point f lt = omega (arith, lt, f.points, length-take-le s.points ns.points (omega (arith, lt)))
+room_next ns s Line f lt = omega (arith, lt, f.lines, length-take-le s.lines ns.lines (omega (arith, lt)))
+room_next ns s Circle f lt = omega (arith, lt, f.circles, length-take-le s.circles ns.circles (omega (arith, lt)))
+
+next : (ns : Names) (s : Scope) (sort : Sort) → InOrder ns → Few ns → count_of s sort < count_of (scope_of_names ns) sort → Next (taken s ns) sort (name_at (names_of_sort ns sort) (count_of s sort))
+next ns s sort o f lt = record { named = named_at ns sort (count_of s sort) o (lt-ltb _ _ lt); free = free_next ns s sort o lt; few = room_next ns s sort f lt }
+
+one_grows : (s : Scope) (x sort : Sort) → count_of s sort ≤ count_of (with_one s x) sort
+one_grows s Point Point = omega arith
+one_grows s Point Line = omega arith
+one_grows s Point Circle = omega arith
+one_grows s Line Point = omega arith
+one_grows s Line Line = omega arith
+one_grows s Line Circle = omega arith
+one_grows s Circle Point = omega arith
+one_grows s Circle Line = omega arith
+one_grows s Circle Circle = omega arith
+
+grown_grows : (s : Scope) (more : List Sort) (sort : Sort) → count_of s sort ≤ count_of (grown s more) sort
+grown_grows s [] sort = omega arith
+grown_grows s (x ∷ more) sort = omega (arith, one_grows s x sort, grown_grows (with_one s x) more sort)
+
+one_counts : (s : Scope) (sort : Sort) → count_of (with_one s sort) sort ≡ count_of s sort + 1
+one_counts s Point = refl
+one_counts s Line = refl
+one_counts s Circle = refl
+
+-- the lines of the objects from some scope on
+run_from : (known : List Headed) (t : List ℕ) (ns : Names) (s : Scope) (before more : List Sort) → InOrder ns → Few ns → grown s more ≡ scope_of_names ns
+    → Runs known (Some (declaring t (taken s ns) before)) (declare_forms ns (next_objects s more)) (Some (declaring t (taken (scope_of_names ns) ns) (before ++ more)))
+run_from known t ns s before [] o f e =
+    ap (λ (l : List Sort). Some (declaring t (taken s ns) l)) (sym (append-nil before)) ∙ ap (λ (x : Scope). Some (declaring t (taken x ns) (before ++ []))) e
+run_from known t ns s before (sort ∷ more) o f e =
+    let grows = grown_grows (with_one s sort) more sort in
+    let final : count_of (grown (with_one s sort) more) sort ≡ count_of (scope_of_names ns) sort = ap (λ (x : Scope). count_of x sort) e in
+    let lt : count_of s sort < count_of (scope_of_names ns) sort = omega (arith, grows, final, one_counts s sort) in
+    let name : List ℕ = name_at (names_of_sort ns sort) (count_of s sort) in
+    let fs : List Form = declare_forms ns (next_objects (with_one s sort) more) in
+    let u : Option Draft = Some (declaring t (taken (scope_of_names ns) ns) (before ++ sort ∷ more)) in
+    let rest = run_from known t ns (with_one s sort) (before ++ sort ∷ []) more o f e in
+    let last : Runs known (Some (declaring t (taken (with_one s sort) ns) (before ++ sort ∷ []))) fs u =
+        subst (λ (l : List Sort). Runs known (Some (declaring t (taken (with_one s sort) ns) (before ++ sort ∷ []))) fs (Some (declaring t (taken (scope_of_names ns) ns) l))) (append_assoc before (sort ∷ []) more) rest in
+    let first : Runs known (Some (declaring t (plus (taken s ns) sort name) (before ++ sort ∷ []))) fs u =
+        subst (λ (x : Names). Runs known (Some (declaring t x (before ++ sort ∷ []))) fs u) (sym (plus_taken ns s sort lt)) last in
+    run_before known t (taken s ns) before sort name fs u (next ns s sort o f lt) first
+
+all_taken : (ns : Names) → taken (scope_of_names ns) ns ≡ ns
+all_taken ns =
+    ap (λ (l : List (List ℕ)). record { points = l; lines = take (length ns.lines) ns.lines; circles = take (length ns.circles) ns.circles }) (take_all (length ns.points) ns.points (omega arith))
+    ∙ ap (λ (l : List (List ℕ)). record { points = ns.points; lines = l; circles = take (length ns.circles) ns.circles }) (take_all (length ns.lines) ns.lines (omega arith))
+    ∙ ap (λ (l : List (List ℕ)). record { points = ns.points; lines = ns.lines; circles = l }) (take_all (length ns.circles) ns.circles (omega arith))
+
+abbrev none : Names
+none = record { points = []; lines = []; circles = [] }
+
+none_taken : (ns : Names) → taken nothing ns ≡ none
+none_taken ns = refl
+
+-- the lines of all declared objects
+pub run_declared : (known : List Headed) (t : List ℕ) (ns : Names) (sorts : List Sort) → InOrder ns → Few ns → grown nothing sorts ≡ scope_of_names ns
+    → Runs known (Some (declaring t none [])) (declare_forms ns (next_objects nothing sorts)) (Some (declaring t ns sorts))
+run_declared known t ns sorts o f e =
+    subst (λ (x : Names). Runs known (Some (declaring t none [])) (declare_forms ns (next_objects nothing sorts)) (Some (declaring t x sorts))) (all_taken ns) (run_from known t ns nothing [] sorts o f e)

@@ -1,0 +1,131 @@
+-- Names that differ: what stands at its place stands nowhere else.
+use Rattle.std.proofs.Common.{◌≡◌, ℕ, zero, suc, ◌<◌, Bool, true, false, ltb, not, ◌&&◌, ◌||◌, List, [], ◌∷◌, ◌++◌, length, get_or, take, Some, None, refl, sym, ap, ◌∙◌, arith, length-take-le}
+use Rattle.std.specs.List.{position, position_or_len, AllByRecursion}
+use Rattle.std.specs.Str.{bytes_eq}
+use Rattle.std.proofs.lemmas.Bool.{lt-ltb, le-ltb, not-true}
+use Rattle.std.proofs.lemmas.List.{get_or-take}
+use Rattle.std.proofs.lemmas.List.Sums.{position_or_len_is}
+use Rattle.std.proofs.lemmas.Slice.Eq.{bytes_eq-Decides}
+use Rattle.e_text.specs.Names.{is_name}
+use Rattle.e_book.specs.Scope.{has}
+use Rattle.e_book.specs.Canonical.{name_at}
+use Rattle.e_book.specs.HasSpelling.{AreNames, differ}
+
+pub both : (a b : Bool) → (a && b) ≡ true → (a ≡ true) × (b ≡ true)
+both true b e = (refl, e)
+both false b e = absurd cc
+
+pub neither : (a b : Bool) → (a || b) ≡ false → (a ≡ false) × (b ≡ false)
+neither true b e = absurd cc
+neither false b e = (refl, e)
+
+pub same_bytes : (w : List ℕ) → bytes_eq w w ≡ true
+same_bytes w = (bytes_eq-Decides w w).1 refl
+
+turn_by : (t : Bool) (a b : List ℕ) → bytes_eq b a ≡ t → bytes_eq a b ≡ false → t ≡ false
+turn_by false a b e h = refl
+turn_by true a b e h =
+    let s : b ≡ a = (bytes_eq-Decides b a).0 e in
+    let k : bytes_eq a a ≡ false = ap (λ (x : List ℕ). bytes_eq a x) (sym s) ∙ h in
+    sym (same_bytes a) ∙ k
+
+turned : (a b : List ℕ) → bytes_eq a b ≡ false → bytes_eq b a ≡ false
+turned a b h = turn_by (bytes_eq b a) a b refl h
+
+-- ---- which names others do not have
+
+-- none of the names is among the others
+abbrev pub Apart : List (List ℕ) → List (List ℕ) → Type 0
+Apart others names = AllByRecursion (λ n. has others n ≡ false) names
+
+first_out : (x : List ℕ) (xs ys : List (List ℕ)) → Apart (x ∷ xs) ys → has ys x ≡ false
+first_out x xs [] h = refl
+first_out x xs (y ∷ ys) h =
+    let n = neither (bytes_eq x y) (has xs y) h.0 in
+    rw (turned x y n.0, first_out x xs ys h.1) refl
+
+rest_out : (x : List ℕ) (xs ys : List (List ℕ)) → Apart (x ∷ xs) ys → Apart xs ys
+rest_out x xs [] h = tt
+rest_out x xs (y ∷ ys) h = ((neither (bytes_eq x y) (has xs y) h.0).1, rest_out x xs ys h.1)
+
+pub Apart-sym : (xs ys : List (List ℕ)) → Apart xs ys → Apart ys xs
+Apart-sym [] ys h = tt
+Apart-sym (x ∷ xs) ys h = (first_out x xs ys h, Apart-sym xs ys (rest_out x xs ys h))
+
+has_append : (xs ys : List (List ℕ)) (n : List ℕ) → has (xs ++ ys) n ≡ false → (has xs n ≡ false) × (has ys n ≡ false)
+has_append [] ys n h = (refl, h)
+has_append (x ∷ xs) ys n h =
+    let a = neither (bytes_eq x n) (has (xs ++ ys) n) h in
+    let b = has_append xs ys n a.1 in
+    (rw (a.0, b.0) refl, b.1)
+
+one_more : (x : List ℕ) (xs ys : List (List ℕ)) → has ys x ≡ false → Apart xs ys → Apart (x ∷ xs) ys
+one_more x xs [] h k = tt
+one_more x xs (y ∷ ys) h k =
+    let n = neither (bytes_eq y x) (has ys x) h in
+    (rw (turned y x n.0, k.0) refl, one_more x xs ys n.1 k.1)
+
+none_apart : (ys : List (List ℕ)) → Apart [] ys
+none_apart [] = tt
+none_apart (y ∷ ys) = (refl, none_apart ys)
+
+pub differ-append : (xs ys : List (List ℕ)) → differ (xs ++ ys) ≡ true → (differ xs ≡ true) × (differ ys ≡ true) × Apart xs ys
+differ-append [] ys h = (refl, h, none_apart ys)
+differ-append (x ∷ xs) ys h =
+    let p = both (not (has (xs ++ ys) x)) (differ (xs ++ ys)) h in
+    let n = has_append xs ys x (not-true (has (xs ++ ys) x) p.0) in
+    let m = differ-append xs ys p.1 in
+    (rw (n.0, m.0) refl, m.1, one_more x xs ys n.1 m.2)
+
+pub Apart-append : (others xs ys : List (List ℕ)) → Apart others (xs ++ ys) → Apart others xs × Apart others ys
+Apart-append others [] ys h = (tt, h)
+Apart-append others (x ∷ xs) ys h = let m = Apart-append others xs ys h.1 in ((h.0, m.0), m.1)
+
+pub apart_at : (others names : List (List ℕ)) (i : ℕ) → Apart others names → i < length names → has others (name_at names i) ≡ false
+apart_at others [] i h lt = absurd (omega arith)
+apart_at others (n ∷ ns) zero h lt = h.0
+apart_at others (n ∷ ns) (suc i) h lt = apart_at others ns i h.1 (omega arith)
+
+pub has_not_in_front : (names : List (List ℕ)) (k : ℕ) (name : List ℕ) → has names name ≡ false → has (take k names) name ≡ false
+has_not_in_front names zero name h = refl
+has_not_in_front [] (suc k) name h = refl
+has_not_in_front (n ∷ ns) (suc k) name h =
+    let a = neither (bytes_eq n name) (has ns name) h in rw (a.0, has_not_in_front ns k name a.1) refl
+
+has_not : (names : List (List ℕ)) (name : List ℕ) (k : ℕ) → has names name ≡ false → k < length names → bytes_eq (get_or names k []) name ≡ false
+has_not [] name k e lt = absurd (omega arith)
+has_not (n ∷ ns) name zero e lt = (neither (bytes_eq n name) (has ns name) e).0
+has_not (n ∷ ns) name (suc k) e lt = has_not ns name k (neither (bytes_eq n name) (has ns name) e).1 (omega arith)
+
+-- no name stands before its place
+pub not_before : (names : List (List ℕ)) (i : ℕ) → differ names ≡ true → i < length names → has (take i names) (name_at names i) ≡ false
+not_before [] i h lt = absurd (omega arith)
+not_before (n ∷ ns) zero h lt = refl
+not_before (n ∷ ns) (suc i) h lt =
+    let p = both (not (has ns n)) (differ ns) h in
+    let first = has_not ns n i (not-true (has ns n) p.0) (omega arith) in
+    rw (turned (get_or ns i []) n first, not_before ns i p.1 (omega arith)) refl
+
+-- ---- where a name stands
+
+pub not_there : (names : List (List ℕ)) (name : List ℕ) → has names name ≡ false → position (λ n. bytes_eq n name) names ≡ None
+not_there names name e =
+    let at : position_or_len (λ n. bytes_eq n name) names ≡ length names = position_or_len_is (λ n. bytes_eq n name) names (length names) [] (omega arith) (λ k lt. has_not names name k e lt) (λ lt. absurd (omega arith)) in
+    let test : ltb (length names) (length names) ≡ false = le-ltb _ _ (omega arith) in
+    rw (at, test) refl
+
+-- a name is first at its own place
+pub there : (names : List (List ℕ)) (i : ℕ) → differ names ≡ true → i < length names → position (λ n. bytes_eq n (name_at names i)) names ≡ Some i
+there names i e lt =
+    let name = name_at names i in
+    let earlier = not_before names i e lt in
+    let len : length (take i names) ≡ i = length-take-le i names (omega arith) in
+    let at : position_or_len (λ n. bytes_eq n name) names ≡ i = position_or_len_is (λ n. bytes_eq n name) names i [] (omega arith)
+    (λ k lk. ap (λ w. bytes_eq w name) (sym (get_or-take i names k [] lk)) ∙ has_not (take i names) name k earlier (omega arith)) (λ _. same_bytes name) in
+    let test : ltb i (length names) ≡ true = lt-ltb _ _ lt in
+    rw (at, test) refl
+
+pub name_there : (names : List (List ℕ)) (i : ℕ) → AreNames names → i < length names → is_name (name_at names i) ≡ true
+name_there [] i h lt = absurd (omega arith)
+name_there (n ∷ ns) zero h lt = h.0
+name_there (n ∷ ns) (suc i) h lt = name_there ns i h.1 (omega arith)

@@ -1,0 +1,170 @@
+-- The name of an object in scope is read as that object.
+use Rattle.std.proofs.Common.{◌≡◌, ℕ, Bool, true, ltb, ◌&&◌, List, [], ◌∷◌, ◌++◌, length, map, Result, Ok, refl, ap, subst, ◌∙◌}
+use Rattle.std.specs.List.{list_all}
+use Rattle.std.proofs.lemmas.Bool.{ltb-true}
+use Rattle.e_text.specs.Names.{is_name}
+use Rattle.e_literal.specs.declared.object.Sort.{Sort}
+use Rattle.e_literal.specs.declared.object.Sort.TheVariants.{Point, Line, Circle}
+use Rattle.e_literal.specs.declared.object.Obj.{Obj}
+use Rattle.e_literal.specs.declared.literal.Atom.{Atom}
+use Rattle.e_literal.specs.declared.literal.Atom.TheVariants as atoms
+use Rattle.e_literal.specs.declared.literal.Lit.{Lit}
+use Rattle.e_literal.specs.Literal.{obj, count_of, is_in_scope, objects_of_atom, all_in_scope}
+use Rattle.e_literal.specs.Scopes.{same_sort}
+use Rattle.e_deriv.specs.declared.names.Names.{Names}
+use Rattle.e_book.specs.declared.fault.Kind.{Kind}
+use Rattle.e_book.specs.Reading.{◌>>=◌}
+use Rattle.e_book.specs.Scope.{names_of_sort, used, number_at, number_of, atom_in, lit_in, object_as, objects_as}
+use Rattle.e_book.specs.Canonical.{name_at, name_of_object, raw_atom, raw_of}
+use Rattle.e_book.specs.Fits.{scope_of_names}
+use Rattle.e_book.specs.HasSpelling.{AreNames, differ, is_diagram_atom, is_diagram_lit}
+use Rattle.e_book.proofs.Differ.{both, Apart, Apart-sym, Apart-append, apart_at, differ-append, there, not_there, name_there}
+use Rattle.e_book.proofs.Respelled.{AtomNamed}
+
+-- the names in scope are names, and each stands once
+pub record InOrder (ns : Names) : Type 0 where
+  pub point_names : AreNames ns.points
+  pub line_names : AreNames ns.lines
+  pub circle_names : AreNames ns.circles
+  pub points : differ ns.points ≡ true
+  pub lines : differ ns.lines ≡ true
+  pub circles : differ ns.circles ≡ true
+  pub no_point_line : Apart ns.points ns.lines
+  pub no_point_circle : Apart ns.points ns.circles
+  pub no_line_circle : Apart ns.lines ns.circles
+  pub no_line_point : Apart ns.lines ns.points
+  pub no_circle_point : Apart ns.circles ns.points
+  pub no_circle_line : Apart ns.circles ns.lines
+
+pub in_order : (ns : Names) → AreNames ns.points → AreNames ns.lines → AreNames ns.circles → differ (ns.points ++ (ns.lines ++ ns.circles)) ≡ true → InOrder ns
+in_order ns hp hl hc d =
+    let a = differ-append ns.points (ns.lines ++ ns.circles) d in
+    let b = differ-append ns.lines ns.circles a.1 in
+    let c = Apart-append ns.points ns.lines ns.circles a.2 in
+    record {
+      point_names = hp;
+      line_names = hl;
+      circle_names = hc;
+      points = a.0;
+      lines = b.0;
+      circles = b.1;
+      no_point_line = c.0;
+      no_point_circle = c.1;
+      no_line_circle = b.2;
+      no_line_point = Apart-sym ns.points ns.lines c.0;
+      no_circle_point = Apart-sym ns.points ns.circles c.1;
+      no_circle_line = Apart-sym ns.lines ns.circles b.2;
+    }
+
+abbrev pub Within : Names → Sort → ℕ → Type 0
+Within ns sort n = ltb n (count_of (scope_of_names ns) sort) ≡ true
+
+pub used_again : (ns : Names) (sort : Sort) (i : ℕ) → InOrder ns → Within ns sort i → used ns (name_at (names_of_sort ns sort) i) ≡ Ok (obj sort i)
+used_again ns Point i s h = rw (there ns.points i s.points (ltb-true i (length ns.points) h)) refl
+used_again ns Line i s h =
+    let lt = ltb-true i (length ns.lines) h in
+    rw (not_there ns.points (name_at ns.lines i) (apart_at ns.points ns.lines i s.no_point_line lt), there ns.lines i s.lines lt) refl
+used_again ns Circle i s h =
+    let lt = ltb-true i (length ns.circles) h in
+    rw (not_there ns.points (name_at ns.circles i) (apart_at ns.points ns.circles i s.no_point_circle lt), not_there ns.lines (name_at ns.circles i) (apart_at ns.lines ns.circles i s.no_line_circle lt), there ns.circles i s.circles lt) refl
+
+same_number : (sort : Sort) (i : ℕ) → number_at sort (obj sort i) ≡ Ok i
+same_number Point i = refl
+same_number Line i = refl
+same_number Circle i = refl
+
+pub number_again : (ns : Names) (sort : Sort) (i : ℕ) → InOrder ns → Within ns sort i → number_of ns sort (name_at (names_of_sort ns sort) i) ≡ Ok i
+unfolding number_of
+number_again ns sort i s h = ap (λ (r : Result Obj Kind). r >>= λ o. number_at sort o) (used_again ns sort i s h) ∙ same_number sort i
+
+pub named_at : (ns : Names) (sort : Sort) (i : ℕ) → InOrder ns → Within ns sort i → is_name (name_at (names_of_sort ns sort) i) ≡ true
+named_at ns Point i s h = name_there ns.points i s.point_names (ltb-true i (length ns.points) h)
+named_at ns Line i s h = name_there ns.lines i s.line_names (ltb-true i (length ns.lines) h)
+named_at ns Circle i s h = name_there ns.circles i s.circle_names (ltb-true i (length ns.circles) h)
+
+-- ---- literals
+
+abbrev AtomWithin : Names → Atom → Type 0
+AtomWithin ns a = list_all (is_in_scope (scope_of_names ns)) (objects_of_atom a) ≡ true
+
+two : (ns : Names) (a b : Obj) → list_all (is_in_scope (scope_of_names ns)) (a ∷ b ∷ []) ≡ true → Within ns a.sort a.num × Within ns b.sort b.num
+two ns a b h =
+    let s = scope_of_names ns in
+    let p = both (is_in_scope s a) (is_in_scope s b && true) h in
+    (p.0, (both (is_in_scope s b) true p.1).0)
+
+three : (ns : Names) (a b c : Obj) → list_all (is_in_scope (scope_of_names ns)) (a ∷ b ∷ c ∷ []) ≡ true → Within ns a.sort a.num × Within ns b.sort b.num × Within ns c.sort c.num
+three ns a b c h =
+    let s = scope_of_names ns in
+    let p = both (is_in_scope s a) (is_in_scope s b && (is_in_scope s c && true)) h in
+    let q = two ns b c p.1 in
+    (p.0, q.0, q.1)
+
+pub atom_number_again : (ns : Names) (a : Atom) → InOrder ns → AtomWithin ns a → is_diagram_atom a ≡ true → atom_in ns (raw_atom ns a) ≡ Ok a
+unfolding atom_in
+atom_number_again ns (atoms.On a l) s h d = let t = two ns (obj Point a) (obj Line l) h in rw (number_again ns Point a s t.0, used_again ns Line l s t.1) refl
+atom_number_again ns (atoms.OnC a c) s h d = let t = two ns (obj Point a) (obj Circle c) h in rw (number_again ns Point a s t.0, used_again ns Circle c s t.1) refl
+atom_number_again ns (atoms.Inside a c) s h d = let t = two ns (obj Point a) (obj Circle c) h in rw (number_again ns Point a s t.0, number_again ns Circle c s t.1) refl
+atom_number_again ns (atoms.Center a c) s h d = let t = two ns (obj Point a) (obj Circle c) h in rw (number_again ns Point a s t.0, number_again ns Circle c s t.1) refl
+atom_number_again ns (atoms.Between a b c) s h d = let t = three ns (obj Point a) (obj Point b) (obj Point c) h in rw (number_again ns Point a s t.0, number_again ns Point b s t.1, number_again ns Point c s t.2) refl
+atom_number_again ns (atoms.Same a b l) s h d = let t = three ns (obj Point a) (obj Point b) (obj Line l) h in rw (number_again ns Point a s t.0, number_again ns Point b s t.1, number_again ns Line l s t.2) refl
+atom_number_again ns (atoms.MeetLL l m) s h d = let t = two ns (obj Line l) (obj Line m) h in rw (used_again ns Line l s t.0, used_again ns Line m s t.1) refl
+atom_number_again ns (atoms.MeetLC l c) s h d = let t = two ns (obj Line l) (obj Circle c) h in rw (used_again ns Line l s t.0, used_again ns Circle c s t.1) refl
+atom_number_again ns (atoms.MeetCC c e) s h d = let t = two ns (obj Circle c) (obj Circle e) h in rw (used_again ns Circle c s t.0, number_again ns Circle e s t.1) refl
+atom_number_again ns (atoms.EqP a b) s h d = let t = two ns (obj Point a) (obj Point b) h in rw (used_again ns Point a s t.0, number_again ns Point b s t.1) refl
+atom_number_again ns (atoms.EqL l m) s h d = let t = two ns (obj Line l) (obj Line m) h in rw (used_again ns Line l s t.0, number_again ns Line m s t.1) refl
+atom_number_again ns (atoms.EqC c e) s h d = let t = two ns (obj Circle c) (obj Circle e) h in rw (used_again ns Circle c s t.0, number_again ns Circle e s t.1) refl
+atom_number_again ns (atoms.MagEq x y) s h d = absurd cc
+atom_number_again ns (atoms.MagLt x y) s h d = absurd cc
+
+pub lit_number_again : (ns : Names) (l : Lit) → InOrder ns → all_in_scope (scope_of_names ns) l ≡ true → is_diagram_lit l ≡ true → lit_in ns (raw_of ns l) ≡ Ok l
+unfolding lit_in
+lit_number_again ns l s h d = rw (atom_number_again ns l.atom s h d) refl
+
+atom_named : (ns : Names) (a : Atom) → InOrder ns → AtomWithin ns a → is_diagram_atom a ≡ true → AtomNamed (raw_atom ns a)
+atom_named ns (atoms.On a l) s h d = let t = two ns (obj Point a) (obj Line l) h in (named_at ns Point a s t.0, named_at ns Line l s t.1)
+atom_named ns (atoms.OnC a c) s h d = let t = two ns (obj Point a) (obj Circle c) h in (named_at ns Point a s t.0, named_at ns Circle c s t.1)
+atom_named ns (atoms.Inside a c) s h d = let t = two ns (obj Point a) (obj Circle c) h in (named_at ns Point a s t.0, named_at ns Circle c s t.1)
+atom_named ns (atoms.Center a c) s h d = let t = two ns (obj Point a) (obj Circle c) h in (named_at ns Point a s t.0, named_at ns Circle c s t.1)
+atom_named ns (atoms.Between a b c) s h d = let t = three ns (obj Point a) (obj Point b) (obj Point c) h in (named_at ns Point a s t.0, named_at ns Point b s t.1, named_at ns Point c s t.2)
+atom_named ns (atoms.Same a b l) s h d = let t = three ns (obj Point a) (obj Point b) (obj Line l) h in (named_at ns Point a s t.0, named_at ns Point b s t.1, named_at ns Line l s t.2)
+atom_named ns (atoms.MeetLL l m) s h d = let t = two ns (obj Line l) (obj Line m) h in (named_at ns Line l s t.0, named_at ns Line m s t.1)
+atom_named ns (atoms.MeetLC l c) s h d = let t = two ns (obj Line l) (obj Circle c) h in (named_at ns Line l s t.0, named_at ns Circle c s t.1)
+atom_named ns (atoms.MeetCC c e) s h d = let t = two ns (obj Circle c) (obj Circle e) h in (named_at ns Circle c s t.0, named_at ns Circle e s t.1)
+atom_named ns (atoms.EqP a b) s h d = let t = two ns (obj Point a) (obj Point b) h in (named_at ns Point a s t.0, named_at ns Point b s t.1)
+atom_named ns (atoms.EqL l m) s h d = let t = two ns (obj Line l) (obj Line m) h in (named_at ns Line l s t.0, named_at ns Line m s t.1)
+atom_named ns (atoms.EqC c e) s h d = let t = two ns (obj Circle c) (obj Circle e) h in (named_at ns Circle c s t.0, named_at ns Circle e s t.1)
+atom_named ns (atoms.MagEq x y) s h d = absurd cc
+atom_named ns (atoms.MagLt x y) s h d = absurd cc
+
+pub lit_named : (ns : Names) (l : Lit) → InOrder ns → all_in_scope (scope_of_names ns) l ≡ true → is_diagram_lit l ≡ true → AtomNamed (raw_of ns l).atom
+lit_named ns l s h d = atom_named ns l.atom s h d
+
+-- ---- objects
+
+object_again : (ns : Names) (o : Obj) → InOrder ns → is_in_scope (scope_of_names ns) o ≡ true → object_as ns o.sort (name_of_object ns o) ≡ Ok o
+unfolding object_as
+object_again ns o s h = rw (number_again ns o.sort o.num s h) refl
+
+pub sorts_same : (a b : Sort) → same_sort a b ≡ true → a ≡ b
+sorts_same Point Point e = refl
+sorts_same Line Line e = refl
+sorts_same Circle Circle e = refl
+sorts_same a b e = absurd cc
+
+abbrev all_of_sort : Sort → List Obj → Bool
+all_of_sort sort os = list_all (λ o. same_sort o.sort sort) os
+
+pub objects_again : (ns : Names) (sort : Sort) (os : List Obj) → InOrder ns → list_all (is_in_scope (scope_of_names ns)) os ≡ true → all_of_sort sort os ≡ true → objects_as ns sort (map (name_of_object ns) os) ≡ Ok os
+objects_again ns sort [] s h k = refl
+objects_again ns sort (o ∷ os) s h k =
+    let p = both (is_in_scope (scope_of_names ns) o) (list_all (is_in_scope (scope_of_names ns)) os) h in
+    let q = both (same_sort o.sort sort) (all_of_sort sort os) k in
+    let one : object_as ns sort (name_of_object ns o) ≡ Ok o = subst (λ (t : Sort). object_as ns t (name_of_object ns o) ≡ Ok o) (sorts_same o.sort sort q.0) (object_again ns o s p.0) in
+    rw (one, objects_again ns sort os s p.1 q.1) refl
+
+pub objects_named : (ns : Names) (os : List Obj) → InOrder ns → list_all (is_in_scope (scope_of_names ns)) os ≡ true → AreNames (map (name_of_object ns) os)
+objects_named ns [] s h = tt
+objects_named ns (o ∷ os) s h =
+    let p = both (is_in_scope (scope_of_names ns) o) (list_all (is_in_scope (scope_of_names ns)) os) h in
+    (named_at ns o.sort o.num s p.0, objects_named ns os s p.1)

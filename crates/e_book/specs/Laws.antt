@@ -1,0 +1,21 @@
+-- What holds of the grammar, whatever the code does.
+use Rattle.std.specs.Prelude.{◌≡◌, ℕ, List, [], ◌∷◌, map, Some, None, Result, Ok, Err}
+use Rattle.e_text.specs.Lines.{Seen}
+use Rattle.e_text.specs.declared.line.LineFault.{LineFault}
+use Rattle.e_book.specs.Headed.{Headed}
+use Rattle.e_book.specs.Entry.{Entry}
+use Rattle.e_book.specs.Book.{read_from}
+use Rattle.e_book.specs.Canonical.{forms_of, line_of}
+use Rattle.e_book.specs.HasSpelling.{HasSpelling}
+
+-- the lines ahead begin with these texts, whatever their numbers and ends, and the rest follows
+abbrev pub Shows : List (Result Seen LineFault) → List (List ℕ) → List (Result Seen LineFault) → Type 0
+Shows lines [] rest = lines ≡ rest
+Shows [] (text ∷ texts) rest = ⊥
+Shows (Err f ∷ lines) (text ∷ texts) rest = ⊥
+Shows (Ok l ∷ lines) (text ∷ texts) rest = (l.bytes ≡ text) × Shows lines texts rest
+
+-- a theorem that has a spelling is read from its canonical lines, and the lines behind them are left
+abbrev pub CanonicalLinesAreRead : Type 0
+CanonicalLinesAreRead = (known : List Headed) (last : ℕ) (t : Entry) (lines rest : List (Result Seen LineFault)) → HasSpelling known t
+    → Shows lines (map line_of (forms_of t)) rest → read_from known last None lines ≡ Ok (Some (t, rest))

@@ -1,0 +1,7 @@
+//! What holds of the grammar: each law is the contract of a function.
+ghost use Rattle.e_book.specs.Laws.{CanonicalLinesAreRead};
+
+/// A theorem that has a spelling is read from its canonical lines, and the lines behind them are left.
+pub fn canonical_lines_are_read()
+    ensures { CanonicalLinesAreRead }
+{}
