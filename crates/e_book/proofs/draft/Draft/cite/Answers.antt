@@ -1,0 +1,6 @@
+use Rattle.e_book.specs.Steps.{stepped}
+use Rattle.e_book.proofs.draft.Draft.cite.Goals as goal
+
+pub returns-clause-value : goal.returns-clause-value
+unfolding stepped
+returns-clause-value c = let h = c.in_ok-by.ensures in rw h c.add_step.ensures.value

@@ -1,0 +1,68 @@
+-- The forms of lines, by their spelling alone.
+use Rattle.std.specs.Prelude.{ℕ, List, [], ◌∷◌, Result, Ok, Err, codes, if◌then◌else◌}
+use Rattle.std.specs.Str.{bytes_eq}
+use Rattle.e_text.specs.Names.{name_of}
+use Rattle.e_literal.specs.declared.object.Sort.{Sort}
+use Rattle.e_literal.specs.declared.object.Sort.TheVariants as sorts
+use Rattle.e_book.specs.declared.fault.Kind.{Kind}
+use Rattle.e_book.specs.declared.fault.Kind.TheVariants.{Malformed}
+use Rattle.e_book.specs.declared.form.Form.{Form}
+use Rattle.e_book.specs.declared.form.Form.TheVariants.{Theorem, Declare, Given, Show, Proof, By, Hence, Qed, End}
+use Rattle.e_book.specs.Reading.{◌>>=◌, each, cut_at, title_at, end_at, or_malformed}
+use Rattle.e_book.specs.Literals.{lit_of, lits_of}
+
+abbrev pub names_of : List (List ℕ) → Result (List (List ℕ)) Kind
+names_of words = each (λ w. or_malformed (name_of w)) words
+
+abbrev pub not_empty : List (List ℕ) → Result (List (List ℕ)) Kind
+not_empty [] = Err Malformed
+not_empty (n ∷ ns) = Ok (n ∷ ns)
+
+unfoldable pub some_names : List (List ℕ) → Result (List (List ℕ)) Kind
+some_names words = do
+  ns ← names_of words
+  not_empty ns
+
+-- objects of a sort
+unfoldable pub declare_of : Sort → List (List ℕ) → Result Form Kind
+declare_of sort words = do
+  ns ← some_names words
+  Ok (Declare sort ns)
+
+-- a rule, names up to a colon, and a literal behind it
+unfoldable pub by_of : List (List ℕ) → Result Form Kind
+by_of words = do
+  r ← title_at words
+  let parts = cut_at (codes ":") r.1
+  if parts.2 then (names_of parts.0 >>= λ ns. lit_of parts.1 >>= λ l. Ok (By r.0 ns l)) else Err Malformed
+
+unfoldable pub theorem_of : List (List ℕ) → Result Form Kind
+theorem_of words = do
+  t ← title_at words
+  none ← end_at t.1
+  Ok (Theorem t.0)
+
+-- a word alone
+unfoldable pub bare : List (List ℕ) → Form → Result Form Kind
+bare words form = do
+  none ← end_at words
+  Ok form
+
+-- the form of a line, by its first word and the others
+unfoldable pub form_named : List ℕ → List (List ℕ) → Result Form Kind
+form_named w ws =
+    if bytes_eq w (codes "theorem") then theorem_of ws else
+    if bytes_eq w (codes "points") then declare_of sorts.Point ws else
+    if bytes_eq w (codes "lines") then declare_of sorts.Line ws else
+    if bytes_eq w (codes "circles") then declare_of sorts.Circle ws else
+    if bytes_eq w (codes "given") then (lits_of ws >>= λ ls. Ok (Given ls)) else
+    if bytes_eq w (codes "show") then (lits_of ws >>= λ ls. Ok (Show ls)) else
+    if bytes_eq w (codes "proof") then bare ws Proof else
+    if bytes_eq w (codes "by") then by_of ws else
+    if bytes_eq w (codes "hence") then (lit_of ws >>= λ l. Ok (Hence l)) else
+    if bytes_eq w (codes "qed") then bare ws Qed else
+    if bytes_eq w (codes "end") then bare ws End else Err Malformed
+
+unfoldable pub form_of : List (List ℕ) → Result Form Kind
+form_of [] = Err Malformed
+form_of (w ∷ ws) = form_named w ws

@@ -1,0 +1,35 @@
+-- The limits of a book.
+use Rattle.std.specs.Prelude.{ℕ, nat_lt, Result, Ok, Err, if◌then◌else◌}
+use Rattle.e_literal.specs.declared.object.Sort.{Sort}
+use Rattle.e_literal.specs.declared.object.Sort.TheVariants as sorts
+use Rattle.e_book.specs.declared.fault.Kind.{Kind}
+use Rattle.e_book.specs.declared.fault.Kind.TheVariants.{Limit}
+use Rattle.e_book.specs.declared.fault.What.{What}
+use Rattle.e_book.specs.declared.fault.What.TheVariants as limits
+
+-- theorems of a book
+abbrev pub most_theorems : ℕ
+most_theorems = 500
+
+-- objects of a sort in scope
+abbrev pub most_of : Sort → ℕ
+most_of sorts.Point = 40
+most_of sorts.Line = 24
+most_of sorts.Circle = 16
+
+-- step and close lines of a theorem
+abbrev pub most_steps : ℕ
+most_steps = 1024
+
+-- literals that are facts, repeats counted
+abbrev pub most_facts : ℕ
+most_facts = 2048
+
+abbrev pub what_of : Sort → What
+what_of sorts.Point = limits.Points
+what_of sorts.Line = limits.Lines
+what_of sorts.Circle = limits.Circles
+
+-- at most so many, or the limit
+abbrev pub within : ℕ → ℕ → What → Result (Unit {0}) Kind
+within n most what = if nat_lt most n then Err (Limit what) else Ok tt

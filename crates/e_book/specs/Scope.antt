@@ -1,0 +1,163 @@
+-- Names resolved to the objects in scope, from left to right.
+use Rattle.std.specs.Prelude.{ℕ, ◌+◌, ◌<◌, ◌^◌, Bool, true, false, ◌||◌, ◌==◌, List, [], ◌∷◌, ◌++◌, length, take, drop, Option, Some, None, Result, Ok, Err, if◌then◌else◌}
+use Rattle.std.specs.List.{position, list_any}
+use Rattle.std.specs.Str.{bytes_eq}
+use Rattle.e_literal.specs.declared.object.Sort.{Sort}
+use Rattle.e_literal.specs.declared.object.Sort.TheVariants as sorts
+use Rattle.e_literal.specs.declared.object.Obj.{Obj}
+use Rattle.e_literal.specs.declared.literal.Atom.{Atom}
+use Rattle.e_literal.specs.declared.literal.Atom.TheVariants as atoms
+use Rattle.e_literal.specs.declared.literal.Lit.{Lit}
+use Rattle.e_literal.specs.Literal.{obj}
+use Rattle.e_literal.specs.Scopes.{same_sort}
+use Rattle.e_clause.specs.declared.rule.Sig.{Sig}
+use Rattle.e_clause.specs.declared.cert.By.{By}
+use Rattle.e_clause.specs.Instance.{place_of}
+use Rattle.e_clause.specs.Sigs.{sig_of}
+use Rattle.e_clause.specs.RuleKinds.{is_diagram_rule}
+use Rattle.e_deriv.specs.declared.names.Names.{Names}
+use Rattle.e_book.specs.declared.fault.Kind.{Kind}
+use Rattle.e_book.specs.declared.fault.Kind.TheVariants.{Malformed, UnknownName, NameTaken, WrongSort}
+use Rattle.e_book.specs.declared.literal.RawLit.{RawLit}
+use Rattle.e_book.specs.declared.literal.RawAtom.{RawAtom}
+use Rattle.e_book.specs.declared.literal.RawAtom.TheVariants as raw
+use Rattle.e_book.specs.Reading.{◌>>=◌, each}
+
+-- the names of the objects of a sort
+abbrev pub names_of_sort : Names → Sort → List (List ℕ)
+names_of_sort ns sorts.Point = ns.points
+names_of_sort ns sorts.Line = ns.lines
+names_of_sort ns sorts.Circle = ns.circles
+
+-- with other names for the objects of a sort
+abbrev pub with_names : Names → Sort → List (List ℕ) → Names
+with_names ns sorts.Point new = record ns { points = new }
+with_names ns sorts.Line new = record ns { lines = new }
+with_names ns sorts.Circle new = record ns { circles = new }
+
+-- a number of 16 bits is enough for each object
+pub record FewNames (ns : Names) : Type 0 where
+  pub points : length ns.points < 2 ^ 16
+  pub lines : length ns.lines < 2 ^ 16
+  pub circles : length ns.circles < 2 ^ 16
+
+abbrev pub has : List (List ℕ) → List ℕ → Bool
+has names name = list_any (λ n. bytes_eq n name) names
+
+abbrev pub object_at : Sort → Option ℕ → Option Obj
+object_at sort None = None
+object_at sort (Some i) = Some (obj sort i)
+
+abbrev pub or_else : Option Obj → Option Obj → Option Obj
+or_else (Some o) other = Some o
+or_else None other = other
+
+abbrev pub object_in : Names → Sort → List ℕ → Option Obj
+object_in ns sort name = object_at sort (position (λ n. bytes_eq n name) (names_of_sort ns sort))
+
+-- the object with this name
+abbrev pub object_of : Names → List ℕ → Option Obj
+object_of ns name = or_else (object_in ns sorts.Point name) (or_else (object_in ns sorts.Line name) (object_in ns sorts.Circle name))
+
+abbrev pub known_object : Option Obj → Result Obj Kind
+known_object None = Err UnknownName
+known_object (Some o) = Ok o
+
+-- a name that is used
+abbrev pub used : Names → List ℕ → Result Obj Kind
+used ns name = known_object (object_of ns name)
+
+abbrev pub number_at : Sort → Obj → Result ℕ Kind
+number_at sort o = if same_sort o.sort sort then Ok o.num else Err WrongSort
+
+-- the number of an object of this sort
+unfoldable pub number_of : Names → Sort → List ℕ → Result ℕ Kind
+number_of ns sort name = used ns name >>= λ o. number_at sort o
+
+-- a point on an object of this sort
+abbrev pub on_sort : ℕ → Sort → ℕ → Result Atom Kind
+on_sort a sorts.Point n = Err WrongSort
+on_sort a sorts.Line n = Ok (atoms.On a n)
+on_sort a sorts.Circle n = Ok (atoms.OnC a n)
+
+-- a line that meets an object of this sort
+abbrev pub line_meets : ℕ → Sort → ℕ → Result Atom Kind
+line_meets l sorts.Point n = Err WrongSort
+line_meets l sorts.Line n = Ok (atoms.MeetLL l n)
+line_meets l sorts.Circle n = Ok (atoms.MeetLC l n)
+
+-- what meets: behind a line a line or a circle, behind a circle a circle
+abbrev pub meets_from : Names → Sort → ℕ → List ℕ → Result Atom Kind
+meets_from ns sorts.Point n y = Err WrongSort
+meets_from ns sorts.Line n y = used ns y >>= λ o. line_meets n o.sort o.num
+meets_from ns sorts.Circle n y = number_of ns sorts.Circle y >>= λ k. Ok (atoms.MeetCC n k)
+
+-- two equal objects of a sort
+abbrev pub equal_at : Sort → ℕ → ℕ → Atom
+equal_at sorts.Point a b = atoms.EqP a b
+equal_at sorts.Line a b = atoms.EqL a b
+equal_at sorts.Circle a b = atoms.EqC a b
+
+unfoldable pub atom_in : Names → RawAtom → Result Atom Kind
+atom_in ns (raw.On x y) = number_of ns sorts.Point x >>= λ a. used ns y >>= λ o. on_sort a o.sort o.num
+atom_in ns (raw.Inside x y) = number_of ns sorts.Point x >>= λ a. number_of ns sorts.Circle y >>= λ c. Ok (atoms.Inside a c)
+atom_in ns (raw.Center x y) = number_of ns sorts.Point x >>= λ a. number_of ns sorts.Circle y >>= λ c. Ok (atoms.Center a c)
+atom_in ns (raw.Between x y z) =
+    number_of ns sorts.Point x >>= λ a. number_of ns sorts.Point y >>= λ b. number_of ns sorts.Point z >>= λ c. Ok (atoms.Between a b c)
+atom_in ns (raw.Same x y z) =
+    number_of ns sorts.Point x >>= λ a. number_of ns sorts.Point y >>= λ b. number_of ns sorts.Line z >>= λ l. Ok (atoms.Same a b l)
+atom_in ns (raw.Meets x y) = used ns x >>= λ o. meets_from ns o.sort o.num y
+atom_in ns (raw.Equal x y) = used ns x >>= λ o. number_of ns o.sort y >>= λ n. Ok (equal_at o.sort o.num n)
+
+unfoldable pub lit_in : Names → RawLit → Result Lit Kind
+lit_in ns l = atom_in ns l.atom >>= λ a. Ok (record { neg = l.neg; atom = a })
+
+abbrev pub lits_in : Names → List RawLit → Result (List Lit) Kind
+lits_in ns raws = each (lit_in ns) raws
+
+-- an object of this sort
+unfoldable pub object_as : Names → Sort → List ℕ → Result Obj Kind
+object_as ns sort name = number_of ns sort name >>= λ n. Ok (obj sort n)
+
+abbrev pub objects_as : Names → Sort → List (List ℕ) → Result (List Obj) Kind
+objects_as ns sort names = each (object_as ns sort) names
+
+-- whether a name stands for an object, or among those that are new on the line
+abbrev pub is_taken : Names → List (List ℕ) → List ℕ → Bool
+is_taken ns seen name = has ns.points name || (has ns.lines name || (has ns.circles name || has seen name))
+
+-- none of the names is taken, and none is new twice
+abbrev pub fresh : Names → List (List ℕ) → List (List ℕ) → Result (Unit {0}) Kind
+fresh ns seen [] = Ok tt
+fresh ns seen (name ∷ names) = if is_taken ns seen name then Err NameTaken else fresh ns (seen ++ name ∷ []) names
+
+-- a citation is of a rule of diagrams and equality
+abbrev pub known_rule : Option ℕ → Result ℕ Kind
+known_rule None = Err UnknownName
+known_rule (Some r) = if is_diagram_rule r then Ok r else Err UnknownName
+
+abbrev pub variables_of : Option Sig → Result Sig Kind
+variables_of None = Err UnknownName
+variables_of (Some s) = Ok s
+
+abbrev pub right_count : Bool → Result (Unit {0}) Kind
+right_count true = Ok tt
+right_count false = Err Malformed
+
+-- a name for each variable of a rule: points, then lines, then circles
+unfoldable pub args_in : Names → Sig → List (List ℕ) → Result (List Obj) Kind
+args_in ns s names = do
+  ps ← objects_as ns sorts.Point (take s.points names)
+  ls ← objects_as ns sorts.Line (take s.lines (drop s.points names))
+  cs ← objects_as ns sorts.Circle (drop s.lines (drop s.points names))
+  Ok (ps ++ ls ++ cs)
+
+-- the rule, then how many names it has, then the names, then the literal
+unfoldable pub by_in : Names → List ℕ → List (List ℕ) → RawLit → Result By Kind
+by_in ns rule names lit = do
+  r ← known_rule (place_of rule)
+  s ← variables_of (sig_of r)
+  right ← right_count (length names == s.points + s.lines + s.circles)
+  args ← args_in ns s names
+  l ← lit_in ns lit
+  Ok (record { rule = r; args = args; lit = l })

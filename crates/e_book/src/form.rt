@@ -1,0 +1,154 @@
+//! The forms of lines, told from their words by spelling alone.
+ghost use Rattle.std.specs.Prelude.{◌≡◌, List, length, IfOk, [], ◌∷◌, ◌==◌};
+ghost use Rattle.e_book.specs.Reading.{texts, Gives};
+ghost use Rattle.e_book.specs.Forms.{names_of, some_names, declare_of, by_of, form_of, form_named, theorem_of, bare};
+
+use crate::fault::{Kind, Trouble};
+use crate::literal::{RawLit, lit_of, lits_of};
+use crate::words::{Words, cut};
+use e_literal::{Items, Sort};
+use e_text::{Name, Title, is};
+use std::alloc::Global;
+
+/// A line, by its first word.
+#[derive(Debug, Drop)]
+pub enum Form {
+    /// `theorem TITLE`
+    Theorem(Title),
+    /// `points NAMES`, `lines NAMES` or `circles NAMES`
+    Declare(Sort, Items<Name>),
+    /// `given LITERALS`
+    Given(Items<RawLit>),
+    /// `show LITERALS`
+    Show(Items<RawLit>),
+    /// `proof`
+    Proof,
+    /// `by RULE NAMES : LITERAL`
+    By(Title, Items<Name>, RawLit),
+    /// `hence LITERAL`
+    Hence(RawLit),
+    /// `qed`
+    Qed,
+    /// `end`
+    End,
+}
+
+fn names_of(alloc: Global, words: &[&[u8]]) -> Result<Items<Name>, Trouble>
+    ensures { Gives (λ n. n) result (names_of (texts words.now)) }
+{
+    let mut names = Items::empty(alloc);
+    for word in words {
+        match Name::read(word) {
+            Some(name) => names.push(name)?,
+            None => return Err(Trouble::Fault(Kind::Malformed)),
+        }
+    }
+    Ok(names)
+}
+
+#[tactic(auto, unfolding(crate::specs::Forms::some_names))]
+fn some_names(alloc: Global, words: &[&[u8]]) -> Result<Items<Name>, Trouble>
+    ensures { Gives (λ n. n) result (some_names (texts words.now)) }
+{
+    let names = names_of(alloc, words)?;
+    if names.is_empty() {
+        return Err(Trouble::Fault(Kind::Malformed));
+    }
+    Ok(names)
+}
+
+#[tactic(auto, unfolding(crate::specs::Forms::declare_of))]
+fn declare_of(alloc: Global, sort: Sort, words: &[&[u8]]) -> Result<Form, Trouble>
+    ensures { Gives (λ f. f) result (declare_of sort (texts words.now)) }
+{
+    let names = some_names(alloc, words)?;
+    Ok(Form::Declare(sort, names))
+}
+
+#[tactic(auto, unfolding(crate::specs::Forms::by_of, crate::specs::Reading::title_at, crate::specs::Reading::word_at))]
+fn by_of(alloc: Global, words: &[&[u8]]) -> Result<Form, Trouble>
+    ensures { Gives (λ f. f) result (by_of (texts words.now)) }
+{
+    let [rule, rest @ ..] = words else {
+        return Err(Trouble::Fault(Kind::Malformed));
+    };
+    let Some(rule) = Title::read(rule) else {
+        return Err(Trouble::Fault(Kind::Malformed));
+    };
+    let (names, lit, found) = cut(rest, b":");
+    if !found {
+        return Err(Trouble::Fault(Kind::Malformed));
+    }
+    let names = names_of(alloc, names)?;
+    let lit = lit_of(lit)?;
+    Ok(Form::By(rule, names, lit))
+}
+
+#[tactic(auto, unfolding(crate::specs::Forms::theorem_of))]
+fn theorem_of(mut words: Words) -> Result<Form, Trouble>
+    ensures { Gives (λ f. f) result (theorem_of words.entry) }
+{
+    let title = words.title()?;
+    words.end()?;
+    Ok(Form::Theorem(title))
+}
+
+#[tactic(auto, unfolding(crate::specs::Forms::bare))]
+fn bare(words: Words, form: Form) -> Result<Form, Trouble>
+    ensures { Gives (λ f. f) result (bare words.entry form) }
+{
+    words.end()?;
+    Ok(form)
+}
+
+#[tactic(auto, unfolding(crate::specs::Forms::form_named))]
+fn form_named(alloc: Global, word: &[u8], rest: &[&[u8]]) -> Result<Form, Trouble>
+    ensures { Gives (λ f. f) result (form_named word.now (texts rest.now)) }
+{
+    let words = Words::new(rest);
+    if is(word, b"theorem") {
+        return theorem_of(words);
+    }
+    if is(word, b"points") {
+        return declare_of(alloc, Sort::Point, rest);
+    }
+    if is(word, b"lines") {
+        return declare_of(alloc, Sort::Line, rest);
+    }
+    if is(word, b"circles") {
+        return declare_of(alloc, Sort::Circle, rest);
+    }
+    if is(word, b"given") {
+        return Ok(Form::Given(lits_of(alloc, rest)?));
+    }
+    if is(word, b"show") {
+        return Ok(Form::Show(lits_of(alloc, rest)?));
+    }
+    if is(word, b"proof") {
+        return bare(words, Form::Proof);
+    }
+    if is(word, b"by") {
+        return by_of(alloc, rest);
+    }
+    if is(word, b"hence") {
+        return Ok(Form::Hence(lit_of(rest)?));
+    }
+    if is(word, b"qed") {
+        return bare(words, Form::Qed);
+    }
+    if is(word, b"end") {
+        return bare(words, Form::End);
+    }
+    Err(Trouble::Fault(Kind::Malformed))
+}
+
+/// The form of a line, by its words alone.
+#[tactic(auto, unfolding(crate::specs::Forms::form_of))]
+pub fn form_of(alloc: Global, words: &[&[u8]]) -> Result<Form, Trouble>
+    ensures { Gives (λ f. f) result (form_of (texts words.now)) }
+{
+    match words {
+        [] => Err(Trouble::Fault(Kind::Malformed)),
+        [word, rest @ ..] => form_named(alloc, word, rest),
+    }
+}

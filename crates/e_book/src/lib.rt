@@ -1,0 +1,29 @@
+//! Books: their grammar, and the theorems that they are read as.
+//!
+//! A line is told from its words by their spelling alone; then its names are looked up from left to right; then
+//! the limits are asked. So the first thing that is wrong with a book is one thing at one line.
+#![tactic(auto)]
+
+mod book;
+mod draft;
+mod fault;
+mod form;
+mod known;
+mod literal;
+mod scope;
+mod steps;
+mod theorem;
+mod words;
+
+pub use book::next_theorem;
+pub use draft::{Draft, Place};
+pub use fault::{BookFault, Kind, Trouble, What};
+pub use form::{Form, form_of};
+pub use known::Known;
+pub use literal::{RawAtom, RawLit};
+pub use steps::Steps;
+pub use theorem::Theorem;
+pub use words::{Words, collected};
+
+#[cfg(test)]
+mod tests;

@@ -1,0 +1,297 @@
+//! Names looked up among the objects in scope.
+ghost use Rattle.std.specs.Prelude.{◌≡◌, ◌≤◌, ◌<◌, ◌^◌, ◌+◌, List, [], length, OnOk};
+ghost use Rattle.e_clause.specs.Instance;
+ghost use Rattle.e_clause.specs.Sigs.{sig_of};
+ghost use Rattle.e_literal.specs.Scopes.{same_sort};
+ghost use Rattle.e_book.specs.Reading.{Gives, Moves, with_front};
+ghost use Rattle.e_book.specs.Scope.{names_of_sort, object_in, object_of, used, number_at, number_of, on_sort, line_meets, meets_from, equal_at, atom_in, lit_in, lits_in, object_as, objects_as, is_taken, fresh, args_in, by_in, known_rule, FewNames};
+
+use crate::fault::{Kind, Trouble};
+use crate::literal::{RawAtom, RawLit};
+use e_clause::{By, Rule, Sig};
+use e_deriv::Names;
+use e_literal::{Atom, Items, Lit, Obj, Sort};
+use e_text::{Name, Title, contains, place_of};
+use std::alloc::Global;
+
+pub(crate) fn names_of_sort(names: &Names, sort: Sort) -> &[Name]
+    ensures { result.now ≡ names_of_sort names.now sort }
+{
+    match sort {
+        Sort::Point => names.points.items(),
+        Sort::Line => names.lines.items(),
+        Sort::Circle => names.circles.items(),
+    }
+}
+
+fn object_in(names: &Names, sort: Sort, name: Name) -> Option<Obj>
+    requires { FewNames names.now }
+    ensures { result ≡ object_in names.now sort name }
+{
+    match place_of(names_of_sort(names, sort), name) {
+        Some(i) => Some(Obj {
+            sort,
+            num: i as u16,
+        }),
+        None => None,
+    }
+}
+
+fn object_of(names: &Names, name: Name) -> Option<Obj>
+    requires { FewNames names.now }
+    ensures { result ≡ object_of names.now name }
+{
+    if let Some(point) = object_in(names, Sort::Point, name) {
+        return Some(point);
+    }
+    if let Some(line) = object_in(names, Sort::Line, name) {
+        return Some(line);
+    }
+    object_in(names, Sort::Circle, name)
+}
+
+fn used(names: &Names, name: Name) -> Result<Obj, Trouble>
+    requires { FewNames names.now }
+    ensures { Gives (λ o. o) result (used names.now name) }
+{
+    match object_of(names, name) {
+        Some(object) => Ok(object),
+        None => Err(Trouble::Fault(Kind::UnknownName)),
+    }
+}
+
+/// The number of the object of this sort.
+#[tactic(auto, unfolding(crate::specs::Scope::number_of))]
+fn number_of(names: &Names, sort: Sort, name: Name) -> Result<u16, Trouble>
+    requires { FewNames names.now }
+    ensures { Gives (λ n. n) result (number_of names.now sort name) }
+{
+    let object = used(names, name)?;
+    if is_sort(object.sort, sort) {
+        Ok(object.num)
+    } else {
+        Err(Trouble::Fault(Kind::WrongSort))
+    }
+}
+
+fn is_sort(a: Sort, b: Sort) -> bool
+    ensures { result ≡ same_sort a b }
+{
+    match (a, b) {
+        (Sort::Point, Sort::Point) => true,
+        (Sort::Line, Sort::Line) => true,
+        (Sort::Circle, Sort::Circle) => true,
+        _ => false,
+    }
+}
+
+fn on_object(point: u16, object: Obj) -> Result<Atom, Trouble>
+    ensures { Gives (λ a. a) result (on_sort point object.sort object.num) }
+{
+    match object.sort {
+        Sort::Point => Err(Trouble::Fault(Kind::WrongSort)),
+        Sort::Line => Ok(Atom::On(point, object.num)),
+        Sort::Circle => Ok(Atom::OnC(point, object.num)),
+    }
+}
+
+fn line_meets(line: u16, object: Obj) -> Result<Atom, Trouble>
+    ensures { Gives (λ a. a) result (line_meets line object.sort object.num) }
+{
+    match object.sort {
+        Sort::Point => Err(Trouble::Fault(Kind::WrongSort)),
+        Sort::Line => Ok(Atom::MeetLL(line, object.num)),
+        Sort::Circle => Ok(Atom::MeetLC(line, object.num)),
+    }
+}
+
+/// What meets the first object: behind a line a line or a circle, behind a circle a circle.
+fn meets_from(names: &Names, first: Obj, second: Name) -> Result<Atom, Trouble>
+    requires { FewNames names.now }
+    ensures { Gives (λ a. a) result (meets_from names.now first.sort first.num second) }
+{
+    match first.sort {
+        Sort::Point => Err(Trouble::Fault(Kind::WrongSort)),
+        Sort::Line => {
+            let object = used(names, second)?;
+            line_meets(first.num, object)
+        }
+        Sort::Circle => {
+            let circle = number_of(names, Sort::Circle, second)?;
+            Ok(Atom::MeetCC(first.num, circle))
+        }
+    }
+}
+
+fn equal_at(sort: Sort, first: u16, second: u16) -> Atom
+    ensures { result ≡ equal_at sort first second }
+{
+    match sort {
+        Sort::Point => Atom::EqP(first, second),
+        Sort::Line => Atom::EqL(first, second),
+        Sort::Circle => Atom::EqC(first, second),
+    }
+}
+
+#[tactic(auto, unfolding(crate::specs::Scope::atom_in))]
+fn atom_in(names: &Names, atom: &RawAtom) -> Result<Atom, Trouble>
+    requires { FewNames names.now }
+    ensures { Gives (λ a. a) result (atom_in names.now atom.now) }
+{
+    match atom {
+        RawAtom::On(x, y) => {
+            let point = number_of(names, Sort::Point, *x)?;
+            let object = used(names, *y)?;
+            on_object(point, object)
+        }
+        RawAtom::Inside(x, y) => {
+            let point = number_of(names, Sort::Point, *x)?;
+            let circle = number_of(names, Sort::Circle, *y)?;
+            Ok(Atom::Inside(point, circle))
+        }
+        RawAtom::Center(x, y) => {
+            let point = number_of(names, Sort::Point, *x)?;
+            let circle = number_of(names, Sort::Circle, *y)?;
+            Ok(Atom::Center(point, circle))
+        }
+        RawAtom::Between(x, y, z) => {
+            let first = number_of(names, Sort::Point, *x)?;
+            let middle = number_of(names, Sort::Point, *y)?;
+            let last = number_of(names, Sort::Point, *z)?;
+            Ok(Atom::Between(first, middle, last))
+        }
+        RawAtom::Same(x, y, z) => {
+            let first = number_of(names, Sort::Point, *x)?;
+            let second = number_of(names, Sort::Point, *y)?;
+            let line = number_of(names, Sort::Line, *z)?;
+            Ok(Atom::Same(first, second, line))
+        }
+        RawAtom::Meets(x, y) => {
+            let first = used(names, *x)?;
+            meets_from(names, first, *y)
+        }
+        RawAtom::Equal(x, y) => {
+            let first = used(names, *x)?;
+            let second = number_of(names, first.sort, *y)?;
+            Ok(equal_at(first.sort, first.num, second))
+        }
+    }
+}
+
+/// The literal with the objects that its names stand for; the leftmost fault.
+#[tactic(auto, unfolding(crate::specs::Scope::lit_in))]
+pub(crate) fn lit_in(names: &Names, lit: &RawLit) -> Result<Lit, Trouble>
+    requires { FewNames names.now }
+    ensures { Gives (λ l. l) result (lit_in names.now lit.now) }
+{
+    let atom = atom_in(names, &lit.atom)?;
+    Ok(Lit { neg: lit.neg, atom })
+}
+
+/// Puts the literals with their objects last; the leftmost fault.
+pub(crate) fn put_lits(names: &Names, raw: &[RawLit], lits: &mut Items<Lit>) -> Result<(), Trouble>
+    requires { FewNames names.now }
+    ensures value { Moves result lits.new (with_front lits.old (lits_in names.now raw.now)) }
+    ensures count { OnOk result (length lits.new ≡ length lits.old + length raw.now) }
+{
+    for lit in raw {
+        let lit = lit_in(names, lit)?;
+        lits.push(lit)?;
+    }
+    Ok(())
+}
+
+#[tactic(auto, unfolding(crate::specs::Scope::object_as))]
+fn object_as(names: &Names, sort: Sort, name: Name) -> Result<Obj, Trouble>
+    requires { FewNames names.now }
+    ensures { Gives (λ o. o) result (object_as names.now sort name) }
+{
+    let num = number_of(names, sort, name)?;
+    Ok(Obj { sort, num })
+}
+
+fn objects_as(alloc: Global, names: &Names, sort: Sort, of: &[Name]) -> Result<Items<Obj>, Trouble>
+    requires { FewNames names.now }
+    ensures { Gives (λ l. l) result (objects_as names.now sort of.now) }
+{
+    let mut found = Items::empty(alloc);
+    for name in of {
+        let object = object_as(names, sort, *name)?;
+        found.push(object)?;
+    }
+    Ok(found)
+}
+
+fn is_taken(names: &Names, earlier: &[Name], name: Name) -> bool
+    ensures { result ≡ is_taken names.now earlier.now name }
+{
+    contains(names.points.items(), name)
+        || contains(names.lines.items(), name)
+        || contains(names.circles.items(), name)
+        || contains(earlier, name)
+}
+
+/// No name is taken, and none is new twice.
+pub(crate) fn fresh(names: &Names, new: &[Name]) -> Result<(), Trouble>
+    ensures { Gives (λ u. u) result (fresh names.now [] new.now) }
+{
+    for (i, name) in new.iter().enumerate() {
+        if is_taken(names, &new[..i], *name) {
+            return Err(Trouble::Fault(Kind::NameTaken));
+        }
+    }
+    Ok(())
+}
+
+/// The rule of diagrams and equality with this name.
+fn known_rule(name: Title) -> Result<Rule, Trouble>
+    ensures { Gives (λ r. r) result (known_rule (Instance.place_of name)) }
+{
+    let Some(rule) = Rule::named(name.bytes()) else {
+        return Err(Trouble::Fault(Kind::UnknownName));
+    };
+    if rule.is_transfer() {
+        return Err(Trouble::Fault(Kind::UnknownName));
+    }
+    Ok(rule)
+}
+
+/// An object for each variable of a rule: points, then lines, then circles.
+#[tactic(auto, unfolding(crate::specs::Scope::args_in))]
+fn args_in(alloc: Global, names: &Names, sig: Sig, args: &[Name]) -> Result<Items<Obj>, Trouble>
+    requires names { FewNames names.now }
+    requires count { length args.now ≡ sig.points + sig.lines + sig.circles }
+    ensures { Gives (λ l. l) result (args_in names.now sig args.now) }
+{
+    let (points, rest) = args.split_at(usize::from(sig.points));
+    let (lines, circles) = rest.split_at(usize::from(sig.lines));
+    let mut objects = objects_as(alloc, names, Sort::Point, points)?;
+    let lines = objects_as(alloc, names, Sort::Line, lines)?;
+    let circles = objects_as(alloc, names, Sort::Circle, circles)?;
+    objects.append(lines.items())?;
+    objects.append(circles.items())?;
+    Ok(objects)
+}
+
+/// A citation: the rule, then how many names it has, then the names, then the literal.
+#[tactic(auto, unfolding(crate::specs::Scope::by_in))]
+pub(crate) fn by_in(
+    alloc: Global,
+    names: &Names,
+    rule: Title,
+    args: &[Name],
+    lit: &RawLit,
+) -> Result<By, Trouble>
+    requires { FewNames names.now }
+    ensures { Gives (λ b. b) result (by_in names.now rule args.now lit.now) }
+{
+    let rule = known_rule(rule)?;
+    let sig = rule.sig();
+    let count = usize::from(sig.points) + usize::from(sig.lines) + usize::from(sig.circles);
+    if args.len() != count {
+        return Err(Trouble::Fault(Kind::Malformed));
+    }
+    let args = args_in(alloc, names, sig, args)?;
+    let lit = lit_in(names, lit)?;
+    Ok(By { rule, args, lit })
+}

@@ -1,0 +1,63 @@
+//! The steps of a proof while its lines come.
+ghost use Rattle.std.specs.Prelude.{◌≡◌, ◌++◌, ◌∷◌, [], OnOk, length};
+ghost use Rattle.e_deriv.specs.Script.{script_of, steps_script, Qed};
+
+use e_deriv::{Block, Close, Step};
+use e_literal::Items;
+use std::alloc::{AllocError, Global};
+use std::marker::Model;
+
+/// The steps read so far, seen as their list.
+#[derive(Debug, Drop)]
+pub struct Steps {
+    steps: Vec<Step>,
+}
+
+impl Model for Steps {
+    ghost use Rattle.std.specs.Prelude.{List};
+    ghost use Rattle.e_deriv.specs.declared.block.Step.{Step};
+
+    ghost Value = { List Step };
+
+    ghost view = { λ s. s.steps.items };
+}
+
+impl Steps {
+    /// No steps.
+    pub fn new(alloc: Global) -> Self
+        ensures { result ≡ [] }
+    {
+        Steps {
+            steps: Vec::new(alloc),
+        }
+    }
+
+    /// How many there are.
+    pub fn len(&self) -> usize
+        ensures { result ≡ length self.now }
+    {
+        self.steps.len()
+    }
+
+    /// Puts a step last.
+    pub fn push(&mut self, step: Step) -> Result<(), AllocError>
+        ensures { OnOk result (self.new ≡ self.old ++ step ∷ []) }
+    {
+        self.steps.push(step)?;
+        Ok(())
+    }
+
+    /// The block with these steps, ended by `qed` without objects.
+    pub fn into_block(self, alloc: Global) -> Block
+        ensures { script_of result ≡ steps_script self (Qed [] []) }
+    {
+        let Steps { steps } = self;
+        Block {
+            steps,
+            close: Close::Qed {
+                objects: Items::empty(alloc),
+                certs: Items::empty(alloc),
+            },
+        }
+    }
+}
