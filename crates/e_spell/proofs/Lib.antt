@@ -1,0 +1,4 @@
+pub mod Spaced
+pub mod Declared
+pub mod Whole
+pub mod Stops

@@ -1,0 +1,4 @@
+pub mod Certificates
+pub mod Spelling
+pub mod Parts
+pub mod Counts

@@ -1,0 +1,11 @@
+//! The one spelling of a derivation: each line of a theorem with the certificates that it needs.
+#![tactic(auto)]
+
+mod certificates;
+mod head;
+mod literals;
+mod proof;
+mod words;
+mod writer;
+
+pub use writer::{spell, spell_stop};
