@@ -2,3 +2,4 @@ pub mod Spaced
 pub mod Declared
 pub mod Whole
 pub mod Stops
+pub mod Plain

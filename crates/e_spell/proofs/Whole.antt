@@ -1,6 +1,6 @@
 -- The texts of the parts make the spelling.
 use Rattle.std.proofs.Common.{◌≡◌, ℕ, List, [], ◌∷◌, ◌++◌, map, refl, sym, ap, ◌∙◌, append_assoc}
-use Rattle.std.specs.Prelude.{codes, Option, Some, None}
+use Rattle.std.specs.Prelude.{codes, None}
 use Rattle.std.specs.List.{flat_map}
 use Rattle.std.specs.Option.{option_to_list}
 use Rattle.std.proofs.lemmas.List.{append-nil}
@@ -13,14 +13,14 @@ use Rattle.e_deriv.specs.declared.block.Step.TheVariants.{Cite as CiteStep, Henc
 use Rattle.e_deriv.specs.declared.block.Close.{Close}
 use Rattle.e_deriv.specs.declared.block.Close.TheVariants.{Qed as QedClose}
 use Rattle.e_deriv.specs.declared.block.Block.{Block}
-use Rattle.e_deriv.specs.Script.{Script, Cite, Hence, Qed, script_of, step_script, steps_script, close_script}
+use Rattle.e_deriv.specs.Script.{Script, script_of, step_script, steps_script, close_script}
 use Rattle.e_theorem.specs.declared.statement.Statement.{Statement}
 use Rattle.e_book.specs.declared.form.Form.{Form}
 use Rattle.e_book.specs.declared.form.Form.TheVariants as forms
 use Rattle.e_book.specs.Entry.{Entry}
 use Rattle.e_book.specs.Canonical.{joined, spaced, line_of, lit_words, raw_of, given_form, show_form, declare_forms, declared_objects, head_forms, end_form, text_of}
 use Rattle.e_spell.specs.Certificates.{cert_lines, certs_lines}
-use Rattle.e_spell.specs.Spelling.{script_lines, spelled_lines, spelled}
+use Rattle.e_spell.specs.Spelling.{script_lines, spelled}
 use Rattle.e_spell.specs.Parts.{lits_text, lit_text, cert_text, certs_text, step_text, steps_text, close_text, proof_text, title_text, statement_text, head_text, block_text, declared_rest}
 use Rattle.e_spell.proofs.Declared.{text, declared_text}
 
@@ -68,7 +68,7 @@ of_head t =
     let behind = map (given_form t.names) t.statement.given ++ (map (show_form t.names) t.statement.shown ++ forms.Proof ∷ []) in
     ap (λ (x : List ℕ). x ++ (declared_rest t.names None objects ++ statement_text t.names t.statement)) (title_line t.title)
     ∙ ap (λ (x : List ℕ). (line_of (forms.Theorem t.title) ++ 10 ∷ []) ++ x)
-        (ap (λ (x : List ℕ). x ++ statement_text t.names t.statement) (declared_text t.names objects) ∙ ap (λ (x : List ℕ). text (declare_forms t.names objects) ++ x) (of_literals t.names t.statement) ∙ sym (of_forms (declare_forms t.names objects) behind))
+    (ap (λ (x : List ℕ). x ++ statement_text t.names t.statement) (declared_text t.names objects) ∙ ap (λ (x : List ℕ). text (declare_forms t.names objects) ++ x) (of_literals t.names t.statement) ∙ sym (of_forms (declare_forms t.names objects) behind))
 
 of_step : (ns : Names) (s : Step) (rest : Script) → text_of (script_lines ns (step_script s rest)) ≡ step_text ns s ++ text_of (script_lines ns rest)
 unfolding script_lines

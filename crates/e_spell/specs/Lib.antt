@@ -2,3 +2,4 @@ pub mod Certificates
 pub mod Spelling
 pub mod Parts
 pub mod Counts
+pub mod Laws

@@ -168,11 +168,6 @@ pub(crate) fn put_head(
 {
     put_title(out, title)?;
     put_declared(out, names, statement.declared.items())?;
-    put_literals(
-        out,
-        names,
-        statement.given.items(),
-        statement.shown.items(),
-    )?;
+    put_literals(out, names, statement.given.items(), statement.shown.items())?;
     Ok(())
 }

@@ -3,9 +3,11 @@
 
 mod certificates;
 mod head;
+mod laws;
 mod literals;
 mod proof;
 mod words;
 mod writer;
 
+pub use laws::lines_are_the_theorem;
 pub use writer::{spell, spell_stop};

@@ -75,11 +75,7 @@ fn put_close(out: &mut Vec<u8>, names: &Names, close: &Close) -> Result<(), Allo
 }
 
 /// The lines from behind the word proof to the theorem's end.
-pub(crate) fn put_proof(
-    out: &mut Vec<u8>,
-    names: &Names,
-    block: &Block,
-) -> Result<(), AllocError>
+pub(crate) fn put_proof(out: &mut Vec<u8>, names: &Names, block: &Block) -> Result<(), AllocError>
     ensures { OnOk result (out.new.items ≡ out.old.items ++ proof_text names.now block.now) }
 {
     put_steps(out, names, &block.steps)?;

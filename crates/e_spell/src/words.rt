@@ -19,12 +19,7 @@ pub(crate) fn put_two(out: &mut Vec<u8>, x: &[u8], y: &[u8]) -> Result<(), Alloc
     put(out, y)
 }
 
-pub(crate) fn put_three(
-    out: &mut Vec<u8>,
-    x: &[u8],
-    y: &[u8],
-    z: &[u8],
-) -> Result<(), AllocError>
+pub(crate) fn put_three(out: &mut Vec<u8>, x: &[u8], y: &[u8], z: &[u8]) -> Result<(), AllocError>
     ensures { OnOk result (out.new.items ≡ out.old.items ++ spaced (x.now ∷ y.now ∷ z.now ∷ [])) }
 {
     put(out, x)?;
