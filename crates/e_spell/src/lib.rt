@@ -11,3 +11,6 @@ mod writer;
 
 pub use laws::lines_are_the_theorem;
 pub use writer::{spell, spell_stop};
+
+#[cfg(test)]
+mod tests;
