@@ -37,11 +37,12 @@ grew_front : (old s0 s1 s2 : Option (List ℕ)) (ds : List Derived) (last : List
     → (n : ℕ) × Grew old s2 (take n (written_with ds last))
 grew_front old s0 s1 s2 ds last h b l =
     let n = l.0 in
-    let blocks = flat_map block_of ds in
-    (length head_line + (length blocks + n),
+    let blocks = flat_map block_of ds in (
+      length head_line + (length blocks + n),
       subst (λ (x : List ℕ). Grew old s2 x)
-      (sym (take-append-add head_line (blocks ++ last) (length blocks + n) ∙ ap (λ (x : List ℕ). head_line ++ x) (take-append-add blocks last n)))
-      (grew_more old s0 s2 head_line (blocks ++ take n last) h (grew_more s0 s1 s2 blocks (take n last) b l.2)))
+          (sym (take-append-add head_line (blocks ++ last) (length blocks + n) ∙ ap (λ (x : List ℕ). head_line ++ x) (take-append-add blocks last n)))
+          (grew_more old s0 s2 head_line (blocks ++ take n last) h (grew_more s0 s1 s2 blocks (take n last) b l.2)),
+    )
 
 -- the answer is right, by what its bytes are
 pub closed : (lines : Rest) (old s0 s1 s2 : Option (List ℕ)) (ds : List Derived) (last : List ℕ) (answer result : Status)
@@ -95,8 +96,8 @@ closed_inside lines old s0 s1 h e =
       outputs = record { derived = e.derived; sound = e.sound; front = e.front; bytes = refl };
       count = length head_line + e.count;
       grew = subst (λ (x : List ℕ). Grew old s1 x)
-      (sym (take-append-add head_line (blocks ++ no_memory_line) e.count ∙ ap (λ (x : List ℕ). head_line ++ x) (take-append-le e.count blocks no_memory_line e.short)))
-      (grew_more old s0 s1 head_line (take e.count blocks) h e.grew);
+          (sym (take-append-add head_line (blocks ++ no_memory_line) e.count ∙ ap (λ (x : List ℕ). head_line ++ x) (take-append-le e.count blocks no_memory_line e.short)))
+          (grew_more old s0 s1 head_line (take e.count blocks) h e.grew);
     }
 
 -- before any theorem is read
@@ -141,9 +142,12 @@ any_book (Some text) old new answer h = (text, refl, h (lines_of_book text))
 -- the lines of what was read are those of the book
 pub read_book_lines : (left : Option (List ℕ)) (read : List ℕ) (old new : Option (List ℕ)) (answer : Status) → IsTextOf 4194305 left read → Checks (lines_of_book read) old new answer → ChecksBook left old new answer
 read_book_lines None read old new answer e h = (read, tt, h)
-read_book_lines (Some text) read old new answer e h =
-    (text, refl, subst (λ (l : Rest). Checks l old new answer)
-      (ap lines_of_book e ∙ lines_of-take (record { longest = 1600; most = 4194304 }) (record { line = 1; before = 0 }) text (omega arith)) h)
+read_book_lines (Some text) read old new answer e h = (
+  text,
+  refl,
+  subst (λ (l : Rest). Checks l old new answer)
+      (ap lines_of_book e ∙ lines_of-take (record { longest = 1600; most = 4194304 }) (record { line = 1; before = 0 }) text (omega arith)) h,
+)
 
 pub checks_at : (a b : Rest) (old new : Option (List ℕ)) (answer : Status) → a ≡ b → Checks a old new answer → Checks b old new answer
 checks_at a b old new answer e h = subst (λ (l : Rest). Checks l old new answer) e h

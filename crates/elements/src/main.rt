@@ -8,10 +8,9 @@ mod output;
 mod runner;
 mod status;
 
+use e_io::{StdSink, StdSource};
 pub use runner::run;
 pub use status::{Status, exit_code};
-
-use e_io::{StdSink, StdSource};
 use std::alloc::{AllocError, Global};
 use std::env;
 use std::io::ErrorKind;

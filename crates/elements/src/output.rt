@@ -7,12 +7,7 @@ use itoa::Buffer;
 use std::alloc::{AllocError, Global};
 
 /// A word, a number and what follows them.
-fn line_with(
-    alloc: Global,
-    word: &[u8],
-    number: u32,
-    after: &[u8],
-) -> Result<Vec<u8>, AllocError>
+fn line_with(alloc: Global, word: &[u8], number: u32, after: &[u8]) -> Result<Vec<u8>, AllocError>
     ensures { IfOk result (λ v. v.items ≡ word.now ++ (decimal number ++ after.now)) }
 {
     let mut buffer = Buffer::new();

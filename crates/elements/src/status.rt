@@ -10,7 +10,9 @@ use e_text::Title;
 #[derive(Debug, Drop)]
 pub enum Status {
     /// Each theorem of the book has a derivation, and the derivations are written.
-    Accepted { theorems: u32 },
+    Accepted {
+        theorems: u32,
+    },
     /// The first line that is not licensed, and what it lacks.
     Unlicensed {
         title: Title,

@@ -32,7 +32,7 @@ loop-theorem-preserved g c =
     let fewer = rw c.in-Ok-Some.field-0-is at c.in-Ok-Some.ensures.shorter in
     record {
       history = rw c.in-Ok-add.ensures.ok (goes_on c.args.lines.now.lines (g.K.Sink.written c.args.sink.now) (g.K.Sink.written c.loop-theorem.sink) (g.K.Sink.written c.write_all.new.sink) c.loop-theorem.known c.loop-theorem.lines.lines c.next_theorem.new.lines.lines d c.loop-theorem.invariant.history read made.sound
-      (spelled_as (g.K.Sink.written c.loop-theorem.sink) (g.K.Sink.written c.write_all.new.sink) c.deref.result.now c.in-Ok.block.items d c.deref.ensures.value made.spells c.in-Ok-write_all.ensures.ok));
+          (spelled_as (g.K.Sink.written c.loop-theorem.sink) (g.K.Sink.written c.write_all.new.sink) c.deref.result.now c.in-Ok.block.items d c.deref.ensures.value made.spells c.in-Ok-write_all.ensures.ok));
       last = c.in-Ok-Some.ensures.last ∙ c.loop-theorem.invariant.last;
       count = omega (arith, ap length c.in-Ok-add.ensures.ok, length-append c.loop-theorem.known (headed c.in-Ok-Some.theorem.title c.in-Ok-Some.theorem.statement ∷ []), c.loop-theorem.invariant.count);
       few = omega (arith, fewer, c.loop-theorem.invariant.few);

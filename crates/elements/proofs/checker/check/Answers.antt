@@ -30,5 +30,8 @@ returns-clause-checks g c =
 
 pub returns-clause-end : goal.returns-clause-end
 returns-clause-end g c =
-    λ h. c.in-Ok-read_book.ensures.end (omega (arith, read_is_short (g.K.Sink.written c.args.sink.now) (g.K.Sink.written c.check_lines.new.sink) c.in-Ok-read_book.text.items c.check_lines.result h
-      (checks_at c.new-lines.result.lines (lines_of_book c.in-Ok-read_book.text.items) (g.K.Sink.written c.args.sink.now) (g.K.Sink.written c.check_lines.new.sink) c.check_lines.result (ap (λ (a : Ahead). a.lines) c.new-lines.ensures ∙ ap lines_of_book c.deref.ensures.value) (c.check_lines.ensures.checks (g.K.Sink.written c.args.sink.now) c.in-Ok.ensures.ok))))
+    λ h. c.in-Ok-read_book.ensures.end (omega (
+      arith,
+      read_is_short (g.K.Sink.written c.args.sink.now) (g.K.Sink.written c.check_lines.new.sink) c.in-Ok-read_book.text.items c.check_lines.result h
+          (checks_at c.new-lines.result.lines (lines_of_book c.in-Ok-read_book.text.items) (g.K.Sink.written c.args.sink.now) (g.K.Sink.written c.check_lines.new.sink) c.check_lines.result (ap (λ (a : Ahead). a.lines) c.new-lines.ensures ∙ ap lines_of_book c.deref.ensures.value) (c.check_lines.ensures.checks (g.K.Sink.written c.args.sink.now) c.in-Ok.ensures.ok)),
+    ))
