@@ -7,6 +7,8 @@ mod input;
 mod output;
 mod runner;
 mod status;
+#[cfg(test)]
+mod tests;
 
 use e_io::{StdSink, StdSource};
 pub use runner::run;
