@@ -38,7 +38,7 @@ turned a b h = turn_by (bytes_eq b a) a b refl h
 abbrev pub Apart : List (List ℕ) → List (List ℕ) → Type 0
 Apart others names = AllByRecursion (λ n. has others n ≡ false) names
 
-first_out : (x : List ℕ) (xs ys : List (List ℕ)) → Apart (x ∷ xs) ys → has ys x ≡ false
+pub first_out : (x : List ℕ) (xs ys : List (List ℕ)) → Apart (x ∷ xs) ys → has ys x ≡ false
 first_out x xs [] h = refl
 first_out x xs (y ∷ ys) h =
     let n = neither (bytes_eq x y) (has xs y) h.0 in
@@ -52,7 +52,7 @@ pub Apart-sym : (xs ys : List (List ℕ)) → Apart xs ys → Apart ys xs
 Apart-sym [] ys h = tt
 Apart-sym (x ∷ xs) ys h = (first_out x xs ys h, Apart-sym xs ys (rest_out x xs ys h))
 
-has_append : (xs ys : List (List ℕ)) (n : List ℕ) → has (xs ++ ys) n ≡ false → (has xs n ≡ false) × (has ys n ≡ false)
+pub has_append : (xs ys : List (List ℕ)) (n : List ℕ) → has (xs ++ ys) n ≡ false → (has xs n ≡ false) × (has ys n ≡ false)
 has_append [] ys n h = (refl, h)
 has_append (x ∷ xs) ys n h =
     let a = neither (bytes_eq x n) (has (xs ++ ys) n) h in

@@ -13,3 +13,5 @@ pub mod RuleNames
 pub mod Cited
 pub mod Declared
 pub mod CanonicalRead
+pub mod SaidForms
+pub mod ReadSpelled
