@@ -265,7 +265,7 @@ front t = head_forms t ++ script_forms t.names t.script
 
 run_front : (known : List Headed) (t : Entry) → HasSpelling known t → Runs known None (front t) (Some (closed t Closed))
 run_front known t h =
-    let o = in_order t.names h.point_names h.line_names h.circle_names h.names_differ in
+    let o = in_order t.names h.point_names h.line_names h.circle_names h.fits.differ in
     let facts : List Lit = facts_of_statement (stated t.statement) in
     let goal : Goal = goal_of_statement (stated t.statement) in
     let fit : list_all fits (lines t.script (scope_of_names t.names) facts goal) ≡ true = subst (λ (z : Scope). list_all fits (lines t.script z facts goal) ≡ true) h.fits.scope h.fits.script in

@@ -1,17 +1,16 @@
 -- What a citation that is read is known to be.
-use Rattle.std.proofs.Common.{◌≡◌, ℕ, ◌+◌, ◌-◌, ◌<◌, ◌≤◌, Bool, true, false, cond, ltb, eqb, ◌&&◌, List, [], ◌∷◌, ◌++◌, length, take, drop, Option, Some, None, Result, Ok, Err, refl, sym, ap, subst, ◌∙◌, arith, append_assoc, length-append}
+use Rattle.std.proofs.Common.{◌≡◌, ℕ, ◌+◌, Bool, true, false, cond, eqb, ◌&&◌, List, ◌++◌, length, take, drop, Option, Some, None, Ok, Err, refl, sym, ap, subst, ◌∙◌, arith, append_assoc, length-append}
 use Rattle.std.specs.Prelude.{is_some, slice_get, option_and_then}
 use Rattle.std.specs.Option.{option_map}
 use Rattle.std.specs.List.{list_all}
 use Rattle.std.proofs.Math.Seq.{take-append_seam, drop-append_seam}
 use Rattle.std.proofs.lemmas.List.Folds.{list_all-append}
-use Rattle.std.proofs.lemmas.List.{length-take-le, length-drop, drop-drop}
+use Rattle.std.proofs.lemmas.List.{length-take-le, length-drop}
 use Rattle.std.proofs.lemmas.Bool.{eqb-true, eq-eqb}
 use Rattle.e_literal.specs.declared.object.Sort.{Sort}
 use Rattle.e_literal.specs.declared.object.Sort.TheVariants.{Point, Line, Circle}
 use Rattle.e_literal.specs.declared.object.Obj.{Obj}
-use Rattle.e_literal.specs.declared.literal.Lit.{Lit}
-use Rattle.e_literal.specs.Literal.{obj, is_in_scope, all_in_scope}
+use Rattle.e_literal.specs.Literal.{obj, is_in_scope}
 use Rattle.e_literal.specs.Scopes.{same_sort}
 use Rattle.e_clause.specs.declared.rule.Sig.{Sig}
 use Rattle.e_clause.specs.declared.cert.By.{By}
@@ -19,13 +18,12 @@ use Rattle.e_clause.specs.Rows.{Row}
 use Rattle.e_clause.specs.Table.{table}
 use Rattle.e_clause.specs.Instance.{all_of, fits, Inst, instance_of_row, place_of}
 use Rattle.e_clause.specs.Sigs.{sig_of}
-use Rattle.e_clause.specs.Transfer.{is_diagram_rule}
+use Rattle.e_clause.specs.RuleKinds.{is_diagram_rule}
 use Rattle.e_deriv.specs.declared.names.Names.{Names}
 use Rattle.e_deriv.specs.Steps.{is_citation}
-use Rattle.e_book.specs.declared.fault.Kind.{Kind}
-use Rattle.e_book.specs.declared.fault.Kind.TheVariants.{UnknownName, Malformed}
+use Rattle.e_book.specs.declared.fault.Kind.TheVariants.{UnknownName}
 use Rattle.e_book.specs.declared.literal.RawLit.{RawLit}
-use Rattle.e_book.specs.Reading.{◌>>=◌, each}
+use Rattle.e_book.specs.Reading.{◌>>=◌}
 use Rattle.e_book.specs.Scope.{number_of, object_as, objects_as, args_in, by_in, known_rule, variables_of, right_count, lit_in}
 use Rattle.e_book.specs.Fits.{scope_of_names}
 use Rattle.e_book.proofs.InScope.{bind_ok, ok_is, read_ok, number_in_scope, lit_in_scope, each_all, each_length}
@@ -102,8 +100,8 @@ has_instance (Some r) s args e h =
     let is : Some sig ≡ Some s = e in
     let f : fits r args ≡ true = subst (λ (t : Sig). Parts t.points t.lines t.circles args) (sym (some_sig sig s is)) h in
     rw f refl where
-  some_sig : (x y : Sig) → Some x ≡ Some y → x ≡ y
-  some_sig x y e = cc
+      some_sig : (x y : Sig) → Some x ≡ Some y → x ≡ y
+      some_sig x y e = cc
 
 guarded : (b : Bool) (x r : ℕ) → cond b (read_ok x) (Err UnknownName) ≡ Ok r → (b ≡ true) × (x ≡ r)
 guarded true x r e = (refl, ok_is x r e)

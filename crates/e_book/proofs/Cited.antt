@@ -15,7 +15,7 @@ use Rattle.e_clause.specs.Rows.{Row}
 use Rattle.e_clause.specs.Table.{table}
 use Rattle.e_clause.specs.Instance.{all_of, fits, Inst, instance_of_row, place_of}
 use Rattle.e_clause.specs.Sigs.{sig_of}
-use Rattle.e_clause.specs.Transfer.{is_diagram_rule}
+use Rattle.e_clause.specs.RuleKinds.{is_diagram_rule}
 use Rattle.e_deriv.specs.declared.names.Names.{Names}
 use Rattle.e_deriv.specs.Steps.{is_citation}
 use Rattle.e_book.specs.Scope.{objects_as, args_in, by_in, known_rule, variables_of}

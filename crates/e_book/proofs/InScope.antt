@@ -1,5 +1,5 @@
 -- What a name resolves to is in scope.
-use Rattle.std.proofs.Common.{◌≡◌, ℕ, ◌+◌, ◌-◌, ◌<◌, ◌≤◌, Bool, true, false, cond, ltb, eqb, ◌&&◌, List, [], ◌∷◌, ◌++◌, length, take, drop, get_or, Option, Some, None, Result, Ok, Err, refl, sym, ap, subst, ◌∙◌, arith}
+use Rattle.std.proofs.Common.{◌≡◌, ℕ, Bool, true, ltb, List, [], ◌∷◌, length, Option, Some, None, Result, Ok, Err, refl, sym, ap, subst, ◌∙◌, arith}
 use Rattle.std.specs.List.{position, list_all}
 use Rattle.std.specs.Str.{bytes_eq}
 use Rattle.std.proofs.lemmas.Bool.{lt-ltb}
@@ -12,15 +12,13 @@ use Rattle.e_literal.specs.declared.literal.Atom.{Atom}
 use Rattle.e_literal.specs.declared.literal.Atom.TheVariants as atoms
 use Rattle.e_literal.specs.declared.literal.Lit.{Lit}
 use Rattle.e_literal.specs.Literal.{obj, count_of, is_in_scope, objects_of_atom, all_in_scope}
-use Rattle.e_literal.specs.Scopes.{same_sort}
 use Rattle.e_deriv.specs.declared.names.Names.{Names}
 use Rattle.e_book.specs.declared.fault.Kind.{Kind}
-use Rattle.e_book.specs.declared.fault.Kind.TheVariants.{WrongSort}
 use Rattle.e_book.specs.declared.literal.RawLit.{RawLit}
 use Rattle.e_book.specs.declared.literal.RawAtom.{RawAtom}
 use Rattle.e_book.specs.declared.literal.RawAtom.TheVariants as raw
 use Rattle.e_book.specs.Reading.{◌>>=◌, each}
-use Rattle.e_book.specs.Scope.{names_of_sort, object_at, or_else, object_in, object_of, known_object, used, number_at, number_of, on_sort, line_meets, meets_from, equal_at, atom_in, lit_in, object_as}
+use Rattle.e_book.specs.Scope.{object_at, or_else, object_in, object_of, known_object, used, number_at, number_of, on_sort, line_meets, meets_from, equal_at, atom_in, lit_in}
 use Rattle.e_book.specs.Fits.{scope_of_names}
 
 pub bind_ok : {F A B : Type 0} (r : Result A F) (f : A → Result B F) (y : B) → (r >>= f) ≡ Ok y → (x : A) × (r ≡ Ok x) × (f x ≡ Ok y)

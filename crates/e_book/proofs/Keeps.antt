@@ -1,9 +1,9 @@
 -- Each line keeps what is known of a draft, and so of the theorem that is read.
-use Rattle.std.proofs.Common.{◌≡◌, ℕ, zero, suc, ◌+◌, ◌<◌, ◌≤◌, Bool, true, false, cond, ltb, ◌&&◌, inl, inr, List, [], ◌∷◌, ◌++◌, length, replicate, Option, Some, None, Result, Ok, Err, refl, sym, ap, subst, ◌∙◌, arith, length-append}
+use Rattle.std.proofs.Common.{◌≡◌, ℕ, zero, suc, ◌+◌, ◌≤◌, Bool, true, false, cond, ltb, ◌&&◌, inl, inr, List, [], ◌∷◌, ◌++◌, length, replicate, Option, Some, None, Result, Ok, Err, refl, sym, ap, subst, ◌∙◌, arith, length-append}
 use Rattle.std.specs.List.{list_all}
 use Rattle.std.proofs.lemmas.Bool.{cases_lt, lt-ltb}
 use Rattle.std.proofs.lemmas.List.Folds.{list_all-append}
-use Rattle.std.specs.Prelude.{IsTrue, ◌⊎◌}
+use Rattle.std.specs.Prelude.{◌⊎◌}
 use Rattle.e_literal.specs.declared.object.Sort.{Sort}
 use Rattle.e_literal.specs.declared.object.Sort.TheVariants.{Point, Line, Circle}
 use Rattle.e_literal.specs.declared.object.Scope.{Scope}
@@ -11,7 +11,6 @@ use Rattle.e_literal.specs.declared.literal.Lit.{Lit}
 use Rattle.e_literal.specs.Literal.{all_in_scope}
 use Rattle.e_literal.specs.Facts.{joined}
 use Rattle.e_literal.specs.Scopes.{nothing, with_one, grown}
-use Rattle.e_clause.specs.declared.cert.By.{By}
 use Rattle.e_text.specs.Tokens.{tokens_of}
 use Rattle.e_text.specs.Lines.{Seen}
 use Rattle.e_text.specs.declared.line.LineFault.{LineFault}
@@ -19,9 +18,9 @@ use Rattle.e_theorem.specs.Statements.{stated}
 use Rattle.e_deriv.specs.declared.names.Names.{Names}
 use Rattle.e_deriv.specs.declared.block.Step.{Step}
 use Rattle.e_deriv.specs.declared.block.Step.TheVariants as steps
-use Rattle.e_deriv.specs.Script.{Script, Cite, Hence, Qed, steps_script, size}
+use Rattle.e_deriv.specs.Script.{Qed, steps_script, size}
 use Rattle.e_deriv.specs.Goal.{Goal, are_for, goal_of_statement, facts_of_statement}
-use Rattle.e_deriv.specs.Lines.{lines, proof_lines}
+use Rattle.e_deriv.specs.Lines.{lines}
 use Rattle.e_deriv.specs.Steps.{is_citation, fits}
 use Rattle.e_book.specs.declared.fault.Kind.{Kind}
 use Rattle.e_book.specs.declared.fault.Kind.TheVariants.{Malformed, NameTaken, Limit}
@@ -34,17 +33,18 @@ use Rattle.e_book.specs.declared.form.Form.TheVariants as forms
 use Rattle.e_book.specs.declared.draft.Place.{Place}
 use Rattle.e_book.specs.declared.draft.Place.TheVariants.{Declaring, Giving, Showing, Proving, Closed, Done}
 use Rattle.e_book.specs.declared.draft.Draft.{Draft}
-use Rattle.e_book.specs.Reading.{◌>>=◌, with_front, each}
+use Rattle.e_book.specs.Reading.{◌>>=◌, with_front}
 use Rattle.e_book.specs.Limits.{most_theorems, most_of, most_steps, most_facts, what_of, within}
 use Rattle.e_book.specs.Headed.{Headed, is_known}
 use Rattle.e_book.specs.Scope.{names_of_sort, with_names, fresh, lit_in, lits_in, by_in}
 use Rattle.e_book.specs.Forms.{form_of}
 use Rattle.e_book.specs.Steps.{allowed, declared, fact_count, with_step, stepped, step, begin, begun}
 use Rattle.e_book.specs.Entry.{Entry, entry_of_draft, statement_of_draft}
-use Rattle.e_book.specs.Fits.{scope_of_names, Fits}
-use Rattle.e_book.specs.Book.{is_skipped, line_step, put_at, is_last, is_done, at_end, read_from}
+use Rattle.e_book.specs.Fits.{scope_of_names, NamesDiffer, Fits}
+use Rattle.e_book.specs.Book.{is_skipped, line_step, put_at, is_last, is_done, read_from}
 use Rattle.e_book.proofs.InScope.{bind_ok, ok_is, read_ok, lit_in_scope, each_all, each_length}
 use Rattle.e_book.proofs.Citations.{by_fits}
+use Rattle.e_book.proofs.Distinct.{still_differ}
 
 -- the objects of a step are in scope
 abbrev pub step_fits : Scope → Step → Bool
@@ -65,6 +65,7 @@ Shut place n = Unit {0}
 pub record Good (known : List Headed) (d : Draft) : Type 0 where
   pub new : is_known known d.title ≡ false
   pub scope : grown nothing d.declared ≡ scope_of_names d.names
+  pub differ : NamesDiffer d.names
   pub points : length d.names.points ≤ most_of Point
   pub lines : length d.names.lines ≤ most_of Line
   pub circles : length d.names.circles ≤ most_of Circle
@@ -133,7 +134,7 @@ keeps_declare known d e sort ns g a h =
     let now : Names = with_names d.names sort (names_of_sort d.names sort ++ ns) in
     let x : Draft = record d { names = now; declared = d.declared ++ replicate (length ns) sort } in
     let n = bind_ok (fresh d.names [] ns >>= λ free. within (length (names_of_sort d.names sort) + length ns) (most_of sort) (what_of sort) >>= λ few. read_ok now)
-        (λ names. read_ok (record d { names = names; declared = d.declared ++ replicate (length ns) sort })) e h in
+    (λ names. read_ok (record d { names = names; declared = d.declared ++ replicate (length ns) sort })) e h in
     let f = bind_ok (fresh d.names [] ns) (λ free. within (length (names_of_sort d.names sort) + length ns) (most_of sort) (what_of sort) >>= λ few. read_ok now) n.0 n.1 in
     let w = bind_ok (within (length (names_of_sort d.names sort) + length ns) (most_of sort) (what_of sort)) (λ few. read_ok now) n.0 f.2 in
     let le = within_ok _ _ _ w.0 w.1 in
@@ -144,6 +145,7 @@ keeps_declare known d e sort ns g a h =
     subst (λ (y : Draft). Good known y) x-is (record {
       new = g.new;
       scope = grown-append nothing d.declared (replicate (length ns) sort) ∙ ap (λ (s : Scope). grown s (replicate (length ns) sort)) g.scope ∙ grown-replicate (scope_of_names d.names) sort (length ns) ∙ more_names d.names sort ns;
+      differ = still_differ d.names sort ns f.0 g.differ f.1;
       points = few.points;
       lines = few.lines;
       circles = few.circles;
@@ -173,6 +175,7 @@ keeps_given known d e raws g h =
     subst (λ (y : Draft). Good known y) x-is (record {
       new = g.new;
       scope = g.scope;
+      differ = g.differ;
       points = g.points;
       lines = g.lines;
       circles = g.circles;
@@ -193,6 +196,7 @@ keeps_shown known d e raws g h =
     subst (λ (y : Draft). Good known y) x-is (record {
       new = g.new;
       scope = g.scope;
+      differ = g.differ;
       points = g.points;
       lines = g.lines;
       circles = g.circles;
@@ -209,6 +213,7 @@ moved : (known : List Headed) (d : Draft) (p : Place) → Good known d → Empty
 moved known d p g empty shut = record {
   new = g.new;
   scope = g.scope;
+  differ = g.differ;
   points = g.points;
   lines = g.lines;
   circles = g.circles;
@@ -230,6 +235,7 @@ keeps_step known d e s g at fit h =
     subst (λ (y : Draft). Good known y) (ok_is x e b.2) (record {
       new = g.new;
       scope = g.scope;
+      differ = g.differ;
       points = g.points;
       lines = g.lines;
       circles = g.circles;
@@ -310,6 +316,7 @@ good_begun : (known : List Headed) (t : List ℕ) → is_known known t ≡ false
 good_begun known t n = record {
   new = n;
   scope = refl;
+  differ = record { points = refl; lines = refl; circles = refl; points_lines = refl; points_circles = refl; lines_circles = refl };
   points = omega arith;
   lines = omega arith;
   circles = omega arith;
@@ -377,6 +384,7 @@ fits_read known d g a =
       new = g.new;
       made = refl;
       scope = g.scope;
+      differ = g.differ;
       points = g.points;
       lines = g.lines;
       circles = g.circles;
@@ -405,6 +413,7 @@ first_is t u ts us e = ap (λ (a : Answer). entry_in t a) (answer_is (pair t ts)
   entry_in : Entry → Answer → Entry
   entry_in t None = t
   entry_in t (Some p) = p.0
+
   answer_is : (a b : Answer) → answered a ≡ answered b → a ≡ b
   answer_is a b e = cc
 

@@ -3,6 +3,7 @@ pub mod Texts
 pub mod SideBySide
 pub mod InScope
 pub mod Citations
+pub mod Distinct
 pub mod Keeps
 pub mod LineCount
 pub mod Differ
@@ -15,3 +16,4 @@ pub mod Declared
 pub mod CanonicalRead
 pub mod SaidForms
 pub mod ReadSpelled
+mod Checks

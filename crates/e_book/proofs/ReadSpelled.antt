@@ -1,9 +1,8 @@
 -- A theorem that is read has a spelling.
-use Rattle.std.proofs.Common.{◌≡◌, ℕ, ◌+◌, ◌<◌, ◌≤◌, Bool, true, false, cond, ltb, not, ◌||◌, inl, inr, List, [], ◌∷◌, ◌++◌, length, replicate, Option, Some, None, Result, Ok, Err, refl, ap, subst, ◌∙◌, arith, length-append}
+use Rattle.std.proofs.Common.{◌≡◌, ℕ, ◌+◌, ◌<◌, ◌≤◌, Bool, true, false, cond, ltb, inl, inr, List, [], ◌∷◌, ◌++◌, length, replicate, Option, Some, None, Result, Ok, Err, refl, ap, subst, ◌∙◌, arith, length-append}
 use Rattle.std.specs.Prelude.{◌⊎◌}
 use Rattle.std.specs.List.{list_all}
-use Rattle.std.specs.Str.{bytes_eq}
-use Rattle.std.proofs.lemmas.Bool.{cases_lt, lt-ltb, not-true}
+use Rattle.std.proofs.lemmas.Bool.{cases_lt, lt-ltb}
 use Rattle.std.proofs.lemmas.List.Folds.{list_all-append}
 use Rattle.e_text.specs.Tokens.{tokens_of}
 use Rattle.e_text.specs.Lines.{Seen}
@@ -30,125 +29,32 @@ use Rattle.e_book.specs.declared.draft.Draft.{Draft}
 use Rattle.e_book.specs.Reading.{◌>>=◌, with_front}
 use Rattle.e_book.specs.Limits.{most_theorems, most_of, most_steps, most_facts, what_of, within}
 use Rattle.e_book.specs.Headed.{Headed, is_known}
-use Rattle.e_book.specs.Scope.{has, names_of_sort, with_names, is_taken, fresh, lit_in, lits_in, by_in}
+use Rattle.e_book.specs.Scope.{names_of_sort, with_names, fresh, lit_in, lits_in, by_in}
 use Rattle.e_book.specs.Forms.{form_of}
 use Rattle.e_book.specs.Steps.{allowed, declared, fact_count, with_step, stepped, step, begin, begun}
 use Rattle.e_book.specs.Entry.{Entry, entry_of_draft}
 use Rattle.e_book.specs.Book.{is_skipped, line_step, put_at, is_last, is_done, read_from}
-use Rattle.e_book.specs.HasSpelling.{HasSpelling, AreNames, differ, is_diagram_lit, is_plain}
+use Rattle.e_book.specs.HasSpelling.{HasSpelling, AreNames, is_diagram_lit, is_plain}
 use Rattle.e_book.proofs.InScope.{bind_ok, ok_is, read_ok, each_all, each_length}
 use Rattle.e_book.proofs.Keeps.{reading_fits}
-use Rattle.e_book.proofs.Differ.{both, neither, Apart, Apart-sym, first_out, has_append}
+use Rattle.e_book.proofs.Differ.{both}
 use Rattle.e_book.proofs.SaidForms.{Said, form_said, lit_plain, by_plain}
 
--- ---- names that differ, put together
-
-has_none : (xs ys : List (List ℕ)) (n : List ℕ) → has xs n ≡ false → has ys n ≡ false → has (xs ++ ys) n ≡ false
-has_none [] ys n h k = k
-has_none (x ∷ xs) ys n h k = let a = neither (bytes_eq x n) (has xs n) h in rw (a.0, has_none xs ys n a.1 k) refl
-
-join_others : (xs ys names : List (List ℕ)) → Apart xs names → Apart ys names → Apart (xs ++ ys) names
-join_others xs ys [] h k = tt
-join_others xs ys (n ∷ names) h k = (has_none xs ys n h.0 k.0, join_others xs ys names h.1 k.1)
-
-split_others : (xs ys names : List (List ℕ)) → Apart (xs ++ ys) names → Apart xs names × Apart ys names
-split_others xs ys [] h = (tt, tt)
-split_others xs ys (n ∷ names) h =
-    let a = has_append xs ys n h.0 in
-    let b = split_others xs ys names h.1 in
-    ((a.0, b.0), (a.1, b.1))
-
-join_names : (others xs ys : List (List ℕ)) → Apart others xs → Apart others ys → Apart others (xs ++ ys)
-join_names others [] ys h k = k
-join_names others (x ∷ xs) ys h k = (h.0, join_names others xs ys h.1 k)
-
-tail_apart : (x : List ℕ) (xs ys : List (List ℕ)) → Apart (x ∷ xs) ys → Apart xs ys
-tail_apart x xs [] h = tt
-tail_apart x xs (y ∷ ys) h = ((neither (bytes_eq x y) (has xs y) h.0).1, tail_apart x xs ys h.1)
-
-differ_join : (xs ys : List (List ℕ)) → differ xs ≡ true → differ ys ≡ true → Apart xs ys → differ (xs ++ ys) ≡ true
-differ_join [] ys h k a = k
-differ_join (x ∷ xs) ys h k a =
-    let p = both (not (has xs x)) (differ xs) h in
-    let n = has_none xs ys x (not-true (has xs x) p.0) (first_out x xs ys a) in
-    rw (n, differ_join xs ys p.1 k (tail_apart x xs ys a)) refl
+-- ---- names
 
 join_all : (xs ys : List (List ℕ)) → AreNames xs → AreNames ys → AreNames (xs ++ ys)
 join_all [] ys h k = k
 join_all (x ∷ xs) ys h k = (h.0, join_all xs ys h.1 k)
 
-record AllFresh (ns : Names) (seen new : List (List ℕ)) : Type 0 where
-  points : Apart ns.points new
-  lines : Apart ns.lines new
-  circles : Apart ns.circles new
-  earlier : Apart seen new
-  once : differ new ≡ true
-
-not_taken : (b : Bool) (r : Result (Unit {0}) Kind) (u : Unit {0}) → cond b (Err NameTaken) r ≡ Ok u → (b ≡ false) × (r ≡ Ok u)
-not_taken true r u e = absurd cc
-not_taken false r u e = (refl, e)
-
-all_fresh : (ns : Names) (seen new : List (List ℕ)) (u : Unit {0}) → fresh ns seen new ≡ Ok u → AllFresh ns seen new
-all_fresh ns seen [] u e = record { points = tt; lines = tt; circles = tt; earlier = tt; once = refl }
-all_fresh ns seen (m ∷ more) u e =
-    let t = not_taken (is_taken ns seen m) (fresh ns (seen ++ m ∷ []) more) u e in
-    let a = neither (has ns.points m) (has ns.lines m || (has ns.circles m || has seen m)) t.0 in
-    let b = neither (has ns.lines m) (has ns.circles m || has seen m) a.1 in
-    let c = neither (has ns.circles m) (has seen m) b.1 in
-    let r = all_fresh ns (seen ++ m ∷ []) more u t.1 in
-    let s = split_others seen (m ∷ []) more r.earlier in
-    let once : has more m ≡ false = first_out m [] more s.1 in
-    record { points = (a.0, r.points); lines = (b.0, r.lines); circles = (c.0, r.circles); earlier = (c.1, s.0); once = rw (once, r.once) refl }
-
 record Naming (ns : Names) : Type 0 where
   point_names : AreNames ns.points
   line_names : AreNames ns.lines
   circle_names : AreNames ns.circles
-  points : differ ns.points ≡ true
-  lines : differ ns.lines ≡ true
-  circles : differ ns.circles ≡ true
-  no_point_line : Apart ns.points ns.lines
-  no_point_circle : Apart ns.points ns.circles
-  no_line_circle : Apart ns.lines ns.circles
 
-naming_more : (ns : Names) (sort : Sort) (new : List (List ℕ)) → Naming ns → AreNames new → AllFresh ns [] new → Naming (with_names ns sort (names_of_sort ns sort ++ new))
-naming_more ns Point new g h f = record {
-  point_names = join_all ns.points new g.point_names h;
-  line_names = g.line_names;
-  circle_names = g.circle_names;
-  points = differ_join ns.points new g.points f.once f.points;
-  lines = g.lines;
-  circles = g.circles;
-  no_point_line = join_others ns.points new ns.lines g.no_point_line (Apart-sym ns.lines new f.lines);
-  no_point_circle = join_others ns.points new ns.circles g.no_point_circle (Apart-sym ns.circles new f.circles);
-  no_line_circle = g.no_line_circle;
-}
-naming_more ns Line new g h f = record {
-  point_names = g.point_names;
-  line_names = join_all ns.lines new g.line_names h;
-  circle_names = g.circle_names;
-  points = g.points;
-  lines = differ_join ns.lines new g.lines f.once f.lines;
-  circles = g.circles;
-  no_point_line = join_names ns.points ns.lines new g.no_point_line f.points;
-  no_point_circle = g.no_point_circle;
-  no_line_circle = join_others ns.lines new ns.circles g.no_line_circle (Apart-sym ns.circles new f.circles);
-}
-naming_more ns Circle new g h f = record {
-  point_names = g.point_names;
-  line_names = g.line_names;
-  circle_names = join_all ns.circles new g.circle_names h;
-  points = g.points;
-  lines = g.lines;
-  circles = differ_join ns.circles new g.circles f.once f.circles;
-  no_point_line = g.no_point_line;
-  no_point_circle = join_names ns.points ns.circles new g.no_point_circle f.points;
-  no_line_circle = join_names ns.lines ns.circles new g.no_line_circle f.lines;
-}
-
-all_differ : (ns : Names) → Naming ns → differ (ns.points ++ (ns.lines ++ ns.circles)) ≡ true
-all_differ ns g =
-    differ_join ns.points (ns.lines ++ ns.circles) g.points (differ_join ns.lines ns.circles g.lines g.circles g.no_line_circle) (join_names ns.points ns.lines ns.circles g.no_point_line g.no_point_circle)
+naming_more : (ns : Names) (sort : Sort) (new : List (List ℕ)) → Naming ns → AreNames new → Naming (with_names ns sort (names_of_sort ns sort ++ new))
+naming_more ns Point new g h = record { point_names = join_all ns.points new g.point_names h; line_names = g.line_names; circle_names = g.circle_names }
+naming_more ns Line new g h = record { point_names = g.point_names; line_names = join_all ns.lines new g.line_names h; circle_names = g.circle_names }
+naming_more ns Circle new g h = record { point_names = g.point_names; line_names = g.line_names; circle_names = join_all ns.circles new g.circle_names h }
 
 -- ---- what each line keeps
 
@@ -189,7 +95,7 @@ spelled_declare known d e sort ns g said h =
     let w = bind_ok (within (length (names_of_sort d.names sort) + length ns) (most_of sort) (what_of sort)) (λ few. read_ok now) n.0 f.2 in
     let x-is : x ≡ e = ap (λ (m : Names). record d { names = m; declared = d.declared ++ replicate (length ns) sort }) (ok_is now n.0 w.2) ∙ ok_is (record d { names = n.0; declared = d.declared ++ replicate (length ns) sort }) e n.2 in
     subst (λ (y : Draft). Spelled known y) x-is
-    (record { few = g.few; title = g.title; naming = naming_more d.names sort ns g.naming said (all_fresh d.names [] ns f.0 f.1); given = g.given; shown = g.shown; some = g.some; plain = g.plain })
+    (record { few = g.few; title = g.title; naming = naming_more d.names sort ns g.naming said; given = g.given; shown = g.shown; some = g.some; plain = g.plain })
 
 lits_plain : (ns : Names) (raws : List RawLit) (ls : List Lit) → lits_in ns raws ≡ Ok ls → list_all is_diagram_lit ls ≡ true
 lits_plain ns raws ls e = each_all (lit_in ns) is_diagram_lit (lit_plain ns) raws ls e
@@ -306,7 +212,7 @@ untaken true x y e = absurd cc
 untaken false x y e = (refl, e)
 
 no_names : Naming (record { points = []; lines = []; circles = [] })
-no_names = record { point_names = tt; line_names = tt; circle_names = tt; points = refl; lines = refl; circles = refl; no_point_line = tt; no_point_circle = tt; no_line_circle = tt }
+no_names = record { point_names = tt; line_names = tt; circle_names = tt }
 
 spelled_begin : (known : List Headed) (f : Form) (e : Draft) → Said f → begin known f ≡ Ok e → Spelled known e
 unfolding begin
@@ -407,7 +313,6 @@ read_is_spelled known last t lines rest e =
       point_names = n.naming.point_names;
       line_names = n.naming.line_names;
       circle_names = n.naming.circle_names;
-      names_differ = all_differ t.names n.naming;
       given = n.given;
       shown = n.shown;
       some_shown = n.some;

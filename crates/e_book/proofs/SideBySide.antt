@@ -1,5 +1,7 @@
 -- Titles and statements side by side.
-use Rattle.std.proofs.Common.{◌≡◌, ℕ, ◌+◌, ◌<◌, suc, List, [], ◌∷◌, ◌++◌, length, map, refl, sym, ap, ◌∙◌, arith}
+use Rattle.std.proofs.Common.{◌≡◌, ℕ, ◌+◌, ◌<◌, suc, false, cond, List, [], ◌∷◌, ◌++◌, length, length-append, map, refl, sym, ap, subst, ◌∙◌, arith}
+use Rattle.std.specs.List.{list_any}
+use Rattle.std.specs.Str.{bytes_eq}
 use Rattle.e_theorem.specs.declared.statement.Statement.{Statement}
 use Rattle.e_book.specs.Headed.{Headed, headed, side_by_side, titles, statements}
 
@@ -27,3 +29,10 @@ append_side_by_side [] [] t s e = refl
 append_side_by_side [] (s' ∷ ss) t s e = absurd (omega (arith, e))
 append_side_by_side (t' ∷ ts) [] t s e = absurd (omega (arith, e))
 append_side_by_side (t' ∷ ts) (s' ∷ ss) t s e = ap (λ (l : List Headed). headed t' s' ∷ l) (append_side_by_side ts ss t s (omega (arith, e)))
+
+-- a title that is new is put last
+pub put_new : (t : List ℕ) (before now : List (List ℕ)) → now ≡ before → list_any (bytes_eq t) before ≡ false → cond (list_any (bytes_eq t) now) now (now ++ t ∷ []) ≡ before ++ t ∷ []
+put_new t before now e n = subst (λ (l : List (List ℕ)). cond (list_any (bytes_eq t) l) l (l ++ t ∷ []) ≡ before ++ t ∷ []) (sym e) (rw n refl)
+
+pub one_more_each : (ts : List (List ℕ)) (ss : List Statement) (t : List ℕ) (s : Statement) → length ts ≡ length ss → length (ts ++ t ∷ []) ≡ length (ss ++ s ∷ [])
+one_more_each ts ss t s e = omega (arith, e, length-append ts (t ∷ []), length-append ss (s ∷ []))

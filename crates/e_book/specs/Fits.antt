@@ -1,5 +1,5 @@
 -- What a theorem that is read is known to be: its objects are in scope, its names are theirs, it is within the limits.
-use Rattle.std.specs.Prelude.{◌≡◌, ℕ, ◌+◌, ◌≤◌, List, [], length, IsTrue, false}
+use Rattle.std.specs.Prelude.{◌≡◌, ℕ, ◌+◌, ◌≤◌, List, [], ◌∷◌, length, Bool, true, false, not, ◌&&◌, IsTrue}
 use Rattle.std.specs.List.{list_all}
 use Rattle.e_literal.specs.declared.object.Scope.{Scope}
 use Rattle.e_literal.specs.declared.object.Sort.TheVariants.{Point, Line, Circle}
@@ -12,11 +12,30 @@ use Rattle.e_deriv.specs.Lines.{proof_lines}
 use Rattle.e_deriv.specs.Steps.{fits}
 use Rattle.e_book.specs.Limits.{most_of, most_steps, most_facts}
 use Rattle.e_book.specs.Headed.{Headed, is_known}
+use Rattle.e_book.specs.Scope.{has}
 use Rattle.e_book.specs.Entry.{Entry}
 
 -- the scope of the objects that have these names
 abbrev pub scope_of_names : Names → Scope
 scope_of_names ns = record { points = length ns.points; lines = length ns.lines; circles = length ns.circles }
+
+-- no two of the names are equal
+abbrev pub are_distinct : List (List ℕ) → Bool
+are_distinct [] = true
+are_distinct (n ∷ ns) = not (has ns n) && are_distinct ns
+
+-- no name of the second list is in the first
+abbrev pub are_apart : List (List ℕ) → List (List ℕ) → Bool
+are_apart ms ns = list_all (λ n. not (has ms n)) ns
+
+-- no two objects have one name
+pub record NamesDiffer (ns : Names) : Type 0 where
+  pub points : are_distinct ns.points ≡ true
+  pub lines : are_distinct ns.lines ≡ true
+  pub circles : are_distinct ns.circles ≡ true
+  pub points_lines : are_apart ns.points ns.lines ≡ true
+  pub points_circles : are_apart ns.points ns.circles ≡ true
+  pub lines_circles : are_apart ns.lines ns.circles ≡ true
 
 pub record Fits (known : List Headed) (t : Entry) : Type 0 where
   -- no earlier theorem has its title
@@ -25,6 +44,7 @@ pub record Fits (known : List Headed) (t : Entry) : Type 0 where
   pub made : t.statement.made ≡ []
   -- one name for each declared object
   pub scope : scope_of (stated t.statement) ≡ scope_of_names t.names
+  pub differ : NamesDiffer t.names
   pub points : length t.names.points ≤ most_of Point
   pub lines : length t.names.lines ≤ most_of Line
   pub circles : length t.names.circles ≤ most_of Circle

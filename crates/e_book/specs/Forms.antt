@@ -1,5 +1,5 @@
 -- The forms of lines, by their spelling alone.
-use Rattle.std.specs.Prelude.{ℕ, Bool, List, [], ◌∷◌, Result, Ok, Err, codes, if◌then◌else◌}
+use Rattle.std.specs.Prelude.{ℕ, List, [], ◌∷◌, Result, Ok, Err, codes, if◌then◌else◌}
 use Rattle.std.specs.Str.{bytes_eq}
 use Rattle.e_text.specs.Names.{name_of}
 use Rattle.e_literal.specs.declared.object.Sort.{Sort}

@@ -14,7 +14,7 @@ use Rattle.e_clause.specs.declared.rule.Sig.{Sig}
 use Rattle.e_clause.specs.declared.cert.By.{By}
 use Rattle.e_clause.specs.Instance.{place_of}
 use Rattle.e_clause.specs.Sigs.{sig_of}
-use Rattle.e_clause.specs.Transfer.{is_diagram_rule}
+use Rattle.e_clause.specs.RuleKinds.{is_diagram_rule}
 use Rattle.e_deriv.specs.declared.names.Names.{Names}
 use Rattle.e_book.specs.declared.fault.Kind.{Kind}
 use Rattle.e_book.specs.declared.fault.Kind.TheVariants.{Malformed, UnknownName, NameTaken, WrongSort}

@@ -2,7 +2,7 @@
 ghost use Rattle.std.specs.Prelude.{◌≡◌, ◌<◌, ◌^◌};
 ghost use Rattle.e_book.specs.declared.fault.Trouble.TheVariants.{NoMemory};
 ghost use Rattle.e_book.specs.Faults.{line_fault};
-ghost use Rattle.e_text.specs.Lines.{number_of_fault};
+ghost use Rattle.e_text.specs.Lines.{fault_line};
 
 use e_text::LineFault;
 use std::alloc::{AllocError, AllocFailed};
@@ -142,7 +142,7 @@ impl Trouble {
 
 /// What a fault of a line's bytes is for a book.
 pub(crate) fn of_line(fault: LineFault) -> BookFault
-    requires { number_of_fault fault < 2 ^ 32 }
+    requires { fault_line fault < 2 ^ 32 }
     ensures { result ≡ line_fault fault }
 {
     match fault {

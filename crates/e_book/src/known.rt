@@ -46,7 +46,6 @@ impl Known {
     }
 
     /// Puts a theorem last. After want of memory all is as before.
-    #[tactic(auto, using(crate::proofs::SideBySide::append_side_by_side, crate::proofs::SideBySide::titles_of))]
     pub fn add(&mut self, title: Title, statement: Statement) -> Result<(), AllocError>
         requires new { is_known self.old title ≡ false }
         ensures ok { OnOk result (self.new ≡ self.old ++ headed title statement ∷ []) }
@@ -67,7 +66,6 @@ impl Known {
     }
 
     /// Where the theorem with this title stands.
-    #[tactic(auto, using(crate::proofs::SideBySide::titles_of))]
     pub fn place(&self, title: Title) -> Option<usize>
         ensures { result ≡ place_in self.now title }
     {

@@ -5,3 +5,5 @@ pub mod Steps
 pub mod Proves
 pub mod Licensed
 pub mod Certified
+pub mod Fitting
+pub mod Laws

@@ -8,7 +8,7 @@ use Rattle.e_literal.specs.Literal.{negation, is_in_scope, all_in_scope}
 use Rattle.e_literal.specs.Facts.{has, has_all, others}
 use Rattle.e_clause.specs.declared.cert.By.{By}
 use Rattle.e_clause.specs.Instance.{Inst}
-use Rattle.e_clause.specs.Transfer.{is_diagram_rule}
+use Rattle.e_clause.specs.RuleKinds.{is_diagram_rule}
 use Rattle.e_deriv.specs.Script.{Script, Cite, Hence, Qed}
 use Rattle.e_deriv.specs.Goal.{Goal, are_for, goal_with}
 use Rattle.e_deriv.specs.Lines.{Line}

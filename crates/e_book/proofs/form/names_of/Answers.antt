@@ -1,4 +1,4 @@
-use Rattle.std.proofs.Common.{◌≡◌, ℕ, ◌+◌, List, [], length, get_or, drop, sym, ap, ◌∙◌, arith}
+use Rattle.std.proofs.Common.{◌+◌, [], get_or, drop, sym, ap, ◌∙◌, arith}
 use Rattle.e_text.specs.Names.{name_of}
 use Rattle.e_book.specs.declared.fault.Kind.TheVariants.{Malformed}
 use Rattle.e_book.specs.declared.fault.Trouble.TheVariants.{Fault}

@@ -1,6 +1,6 @@
-use Rattle.std.proofs.Common.{◌≡◌, ℕ, ◌+◌, ◌-◌, List, [], length, get_or, take, drop, refl, sym, ap, ◌∙◌, arith}
+use Rattle.std.proofs.Common.{◌+◌, ◌-◌, take, drop, arith}
 use Rattle.std.proofs.lemmas.Result.{err_from_is_err_and}
-use Rattle.e_book.specs.Reading.{texts, Fails, with_front}
+use Rattle.e_book.specs.Reading.{texts, with_front}
 use Rattle.e_book.specs.Literals.{is_semicolon, lit_of, lits_of}
 use Rattle.e_book.proofs.Loops.{goes_on, fails, parts_from}
 use Rattle.e_book.proofs.Texts.{part_of}

@@ -1,4 +1,4 @@
-use Rattle.std.proofs.Common.{◌≡◌, ℕ, ◌<◌, List, [], length, get_or, false, sym, ap, ◌∙◌, arith, below_more}
+use Rattle.std.proofs.Common.{[], length, sym, ap, ◌∙◌, arith, below_more}
 use Rattle.std.specs.Str.{bytes_eq}
 use Rattle.std.proofs.lemmas.List.Sums.{position_or_len_is}
 use Rattle.e_book.specs.Reading.{texts}

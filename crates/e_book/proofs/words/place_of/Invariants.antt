@@ -1,4 +1,4 @@
-use Rattle.std.proofs.Common.{◌≡◌, ℕ, ◌<◌, List, [], get_or, false}
+use Rattle.std.proofs.Common.{◌≡◌, ℕ, ◌<◌, [], get_or, false}
 use Rattle.std.specs.Str.{bytes_eq}
 use Rattle.e_book.specs.Reading.{texts}
 use Rattle.e_book.proofs.words.place_of.Given as goal

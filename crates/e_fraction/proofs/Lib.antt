@@ -1,0 +1,16 @@
+pub mod Arith
+pub mod Expand
+pub mod Columns
+pub mod Cramer
+pub mod Exact
+pub mod Minors
+pub mod Width
+pub mod Named
+pub mod Quotient
+pub mod Terms
+pub mod Refutes
+pub mod Sums
+pub mod Products
+pub mod Numbering
+pub mod Wideness
+pub mod Moved
