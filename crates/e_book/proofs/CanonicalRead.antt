@@ -4,7 +4,7 @@ use Rattle.std.specs.List.{list_all}
 use Rattle.std.proofs.lemmas.Bool.{le-ltb}
 use Rattle.std.proofs.lemmas.List.{append-nil}
 use Rattle.e_text.specs.Tokens.{tokens_of}
-use Rattle.e_text.specs.Lines.{Seen}
+use Rattle.e_text.specs.Lines.{Seen, numbered}
 use Rattle.e_text.specs.Names.{is_title}
 use Rattle.e_text.specs.declared.line.LineFault.{LineFault}
 use Rattle.e_literal.specs.declared.object.Sort.{Sort}
@@ -82,8 +82,7 @@ run_given : (known : List Headed) (t : List ℕ) (ns : Names) (sorts : List Sort
     → Runs known (Some (draft t ns sorts given [] [] Giving)) (map (given_form ns) more) (Some (draft t ns sorts (given ++ more) [] [] Giving))
 run_given known t ns sorts given [] o p few = ap (λ (g : List Lit). Some (draft t ns sorts g [] [] Giving)) (sym (append-nil given))
 run_given known t ns sorts given (l ∷ more) o p few =
-    let q = plain_first ns l more p in
-    (
+    let q = plain_first ns l more p in (
       draft t ns sorts (given ++ l ∷ []) [] [] Giving,
       lit_named ns l o q.0.within q.0.diagram,
       step_given t ns sorts given Giving l o q.0 (omega (arith, few)) refl,
@@ -100,8 +99,7 @@ run_all_given : (known : List Headed) (t : List ℕ) (ns : Names) (sorts : List 
     → Runs known (Some (draft t ns sorts [] [] [] Declaring)) (map (given_form ns) given) (Some (draft t ns sorts given [] [] (after_given given)))
 run_all_given known t ns sorts [] o p few = refl
 run_all_given known t ns sorts (l ∷ more) o p few =
-    let q = plain_first ns l more p in
-    (
+    let q = plain_first ns l more p in (
       draft t ns sorts (l ∷ []) [] [] Giving,
       lit_named ns l o q.0.within q.0.diagram,
       step_given t ns sorts [] Declaring l o q.0 (omega (arith, few)) refl,
@@ -120,8 +118,7 @@ run_shown : (known : List Headed) (t : List ℕ) (ns : Names) (sorts : List Sort
     → Runs known (Some (draft t ns sorts given shown [] Showing)) (map (show_form ns) more) (Some (draft t ns sorts given (shown ++ more) [] Showing))
 run_shown known t ns sorts given shown [] o p = ap (λ (g : List Lit). Some (draft t ns sorts given g [] Showing)) (sym (append-nil shown))
 run_shown known t ns sorts given shown (l ∷ more) o p =
-    let q = plain_first ns l more p in
-    (
+    let q = plain_first ns l more p in (
       draft t ns sorts given (shown ++ l ∷ []) [] Showing,
       lit_named ns l o q.0.within q.0.diagram,
       step_show t ns sorts given shown Showing l o q.0 refl,
@@ -138,8 +135,7 @@ run_all_shown : (known : List Headed) (t : List ℕ) (ns : Names) (sorts : List 
     → Runs known (Some (draft t ns sorts given [] [] (after_given given))) (map (show_form ns) shown) (Some (draft t ns sorts given shown [] Showing))
 run_all_shown known t ns sorts given [] o p some = absurd (omega (arith, some))
 run_all_shown known t ns sorts given (l ∷ more) o p some =
-    let q = plain_first ns l more p in
-    (
+    let q = plain_first ns l more p in (
       draft t ns sorts given (l ∷ []) [] Showing,
       lit_named ns l o q.0.within q.0.diagram,
       step_show t ns sorts given [] (after_given given) l o q.0 (may_show ns given l),
@@ -194,8 +190,7 @@ run_script known t ns sorts given shown ss (Cite by rest) facts goal o plain fit
     let p = both (is_diagram_lit by.lit) (is_plain rest) plain in
     let q = both (is_citation (scope_of_names ns) by) (list_all fits (lines rest (scope_of_names ns) (joined facts by.lit) goal)) fit in
     let some : 1 ≤ size rest = at_least rest in
-    let n : length (ss ++ steps.Cite by ∷ []) ≡ length ss + 1 = length-append ss (steps.Cite by ∷ []) in
-    (
+    let n : length (ss ++ steps.Cite by ∷ []) ≡ length ss + 1 = length-append ss (steps.Cite by ∷ []) in (
       draft t ns sorts given shown (ss ++ steps.Cite by ∷ []) Proving,
       by_good ns by o q.0 p.0,
       step_cite t ns sorts given shown ss by o q.0 p.0 (omega (arith, few)) (omega (arith, most, some)),
@@ -207,8 +202,7 @@ run_script known t ns sorts given shown ss (Hence lit None rest) facts goal o pl
     let p = both (is_diagram_lit lit) (is_plain rest) plain in
     let q = both (all_in_scope (scope_of_names ns) lit) (list_all fits (lines rest (scope_of_names ns) (joined facts lit) goal)) fit in
     let some : 1 ≤ size rest = at_least rest in
-    let n : length (ss ++ steps.Hence lit None ∷ []) ≡ length ss + 1 = length-append ss (steps.Hence lit None ∷ []) in
-    (
+    let n : length (ss ++ steps.Hence lit None ∷ []) ≡ length ss + 1 = length-append ss (steps.Hence lit None ∷ []) in (
       draft t ns sorts given shown (ss ++ steps.Hence lit None ∷ []) Proving,
       lit_named ns lit o q.0 p.0,
       step_hence t ns sorts given shown ss lit o (record { within = q.0; diagram = p.0 }) (omega (arith, few)) (omega (arith, most, some)),
@@ -335,3 +329,13 @@ canonical_lines_read known last t all rest h sh =
     let shown : Shows all (map line_of (front t ++ forms.End ∷ [])) rest = subst (λ (fs : List Form). Shows all (map line_of fs) rest) whole sh in
     let l = reads_runs known last None (Some (closed t Closed)) (front t) (forms.End ∷ []) all rest (run_front known t h) shown in
     l.same ∙ end_read known last t l.ahead rest (same_entry t h.fits.made h.script) l.shown
+
+-- lines with their numbers, as they stand in a text
+shows_numbered : (first : ℕ) (texts : List (List ℕ)) (rest : List (Result Seen LineFault)) → Shows (numbered first texts ++ rest) texts rest
+shows_numbered first [] rest = refl
+shows_numbered first (text ∷ texts) rest = (refl, shows_numbered (first + 1) texts rest)
+
+pub numbered_lines_read : (known : List Headed) (last : ℕ) (t : Entry) (first : ℕ) (rest : List (Result Seen LineFault)) → HasSpelling known t
+    → read_from known last None (numbered first (map line_of (forms_of t)) ++ rest) ≡ Ok (Some (t, rest))
+numbered_lines_read known last t first rest h =
+    canonical_lines_read known last t (numbered first (map line_of (forms_of t)) ++ rest) rest h (shows_numbered first (map line_of (forms_of t)) rest)

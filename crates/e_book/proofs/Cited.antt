@@ -86,15 +86,15 @@ args_again ns r args s f h =
     let rest = drop r.points args in
     let rest-is = drop_map name r.points args in
     let ps : objects_as ns Point (take r.points (map name args)) ≡ Ok (take r.points args) =
-        ap (objects_as ns Point) (take_map name r.points args) ∙ objects_again ns Point (take r.points args) s (all_take within r.points args h) f.points in
+    ap (objects_as ns Point) (take_map name r.points args) ∙ objects_again ns Point (take r.points args) s (all_take within r.points args h) f.points in
     let ls : objects_as ns Line (take r.lines (drop r.points (map name args))) ≡ Ok (take r.lines rest) =
-        ap (λ (l : List (List ℕ)). objects_as ns Line (take r.lines l)) rest-is ∙ ap (objects_as ns Line) (take_map name r.lines rest)
-        ∙ objects_again ns Line (take r.lines rest) s (all_take within r.lines rest (all_drop within r.points args h)) f.lines in
+    ap (λ (l : List (List ℕ)). objects_as ns Line (take r.lines l)) rest-is ∙ ap (objects_as ns Line) (take_map name r.lines rest)
+    ∙ objects_again ns Line (take r.lines rest) s (all_take within r.lines rest (all_drop within r.points args h)) f.lines in
     let cs : objects_as ns Circle (drop r.lines (drop r.points (map name args))) ≡ Ok (drop r.lines rest) =
-        ap (λ (l : List (List ℕ)). objects_as ns Circle (drop r.lines l)) rest-is ∙ ap (objects_as ns Circle) (drop_map name r.lines rest)
-        ∙ objects_again ns Circle (drop r.lines rest) s (all_drop within r.lines rest (all_drop within r.points args h)) f.circles in
+    ap (λ (l : List (List ℕ)). objects_as ns Circle (drop r.lines l)) rest-is ∙ ap (objects_as ns Circle) (drop_map name r.lines rest)
+    ∙ objects_again ns Circle (drop r.lines rest) s (all_drop within r.lines rest (all_drop within r.points args h)) f.circles in
     let whole : take r.points args ++ take r.lines rest ++ drop r.lines rest ≡ args =
-        append_assoc (take r.points args) (take r.lines rest) (drop r.lines rest) ∙ ap (λ (l : List Obj). take r.points args ++ l) (take-append-drop r.lines rest) ∙ take-append-drop r.points args in
+    append_assoc (take r.points args) (take r.lines rest) (drop r.lines rest) ∙ ap (λ (l : List Obj). take r.points args ++ l) (take-append-drop r.lines rest) ∙ take-append-drop r.points args in
     rw (ps, ls, cs) (ap (λ (l : List Obj). Ok l) whole)
 
 -- what a citation in scope is known to be

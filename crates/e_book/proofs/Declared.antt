@@ -170,7 +170,7 @@ together : (known : List Headed) (t : List ℕ) (ns : Names) (sorts : List Sort)
     → Runs known (Some (declaring t (plus ns sort name) (sorts ++ sort ∷ []))) (forms.Declare s more ∷ fs) u → Runs known (Some (declaring t ns sorts)) (forms.Declare s (name ∷ more) ∷ fs) u
 together known t ns sorts sort s name more fs u n e r =
     let join : step (declaring t ns sorts) (forms.Declare s (name ∷ more)) ≡ step (declaring t (plus ns sort name) (sorts ++ sort ∷ [])) (forms.Declare s more) =
-        subst (λ (x : Sort). step (declaring t ns sorts) (forms.Declare x (name ∷ more)) ≡ step (declaring t (plus ns sort name) (sorts ++ sort ∷ [])) (forms.Declare x more)) e (step_joined t ns sorts sort name more n.free) in
+    subst (λ (x : Sort). step (declaring t ns sorts) (forms.Declare x (name ∷ more)) ≡ step (declaring t (plus ns sort name) (sorts ++ sort ∷ [])) (forms.Declare x more)) e (step_joined t ns sorts sort name more n.free) in
     (r.0, (n.named, names_in s more r.1), join ∙ r.2, r.3, r.4)
 
 by_sort : (b : Bool) (known : List Headed) (t : List ℕ) (ns : Names) (sorts : List Sort) (sort s : Sort) (name : List ℕ) (more : List (List ℕ)) (fs : List Form) (u : Option Draft) → Next ns sort name → same_sort sort s ≡ b
@@ -263,9 +263,9 @@ run_from known t ns s before (sort ∷ more) o f e =
     let u : Option Draft = Some (declaring t (taken (scope_of_names ns) ns) (before ++ sort ∷ more)) in
     let rest = run_from known t ns (with_one s sort) (before ++ sort ∷ []) more o f e in
     let last : Runs known (Some (declaring t (taken (with_one s sort) ns) (before ++ sort ∷ []))) fs u =
-        subst (λ (l : List Sort). Runs known (Some (declaring t (taken (with_one s sort) ns) (before ++ sort ∷ []))) fs (Some (declaring t (taken (scope_of_names ns) ns) l))) (append_assoc before (sort ∷ []) more) rest in
+    subst (λ (l : List Sort). Runs known (Some (declaring t (taken (with_one s sort) ns) (before ++ sort ∷ []))) fs (Some (declaring t (taken (scope_of_names ns) ns) l))) (append_assoc before (sort ∷ []) more) rest in
     let first : Runs known (Some (declaring t (plus (taken s ns) sort name) (before ++ sort ∷ []))) fs u =
-        subst (λ (x : Names). Runs known (Some (declaring t x (before ++ sort ∷ []))) fs u) (sym (plus_taken ns s sort lt)) last in
+    subst (λ (x : Names). Runs known (Some (declaring t x (before ++ sort ∷ []))) fs u) (sym (plus_taken ns s sort lt)) last in
     run_before known t (taken s ns) before sort name fs u (next ns s sort o f lt) first
 
 all_taken : (ns : Names) → taken (scope_of_names ns) ns ≡ ns

@@ -90,7 +90,7 @@ spelled_declare known d e sort ns g said h =
     let now : Names = with_names d.names sort (names_of_sort d.names sort ++ ns) in
     let x : Draft = record d { names = now; declared = d.declared ++ replicate (length ns) sort } in
     let n = bind_ok (fresh d.names [] ns >>= λ free. within (length (names_of_sort d.names sort) + length ns) (most_of sort) (what_of sort) >>= λ few. read_ok now)
-        (λ names. read_ok (record d { names = names; declared = d.declared ++ replicate (length ns) sort })) e h in
+    (λ names. read_ok (record d { names = names; declared = d.declared ++ replicate (length ns) sort })) e h in
     let f = bind_ok (fresh d.names [] ns) (λ free. within (length (names_of_sort d.names sort) + length ns) (most_of sort) (what_of sort) >>= λ few. read_ok now) n.0 n.1 in
     let w = bind_ok (within (length (names_of_sort d.names sort) + length ns) (most_of sort) (what_of sort)) (λ few. read_ok now) n.0 f.2 in
     let x-is : x ≡ e = ap (λ (m : Names). record d { names = m; declared = d.declared ++ replicate (length ns) sort }) (ok_is now n.0 w.2) ∙ ok_is (record d { names = n.0; declared = d.declared ++ replicate (length ns) sort }) e n.2 in
@@ -276,6 +276,7 @@ first_is t u ts us e = ap (λ (a : Answer). entry_in t a) (answer_is (pair t ts)
   entry_in : Entry → Answer → Entry
   entry_in t None = t
   entry_in t (Some p) = p.0
+
   answer_is : (a b : Answer) → answered a ≡ answered b → a ≡ b
   answer_is a b e = cc
 
