@@ -1,7 +1,8 @@
 -- The objects for variables.
 use Rattle.std.proofs.Common.{◌≡◌, List, [], ◌∷◌, ◌++◌, refl, ap, ◌∙◌, Option, Some, None, Bool, true, false, cond}
 use Rattle.e_literal.specs.declared.object.Obj.{Obj}
-use Rattle.e_literal.specs.Rename.{Entry, image_in, same_obj, paired, renamed}
+use Rattle.e_literal.specs.declared.map.Entry.{Entry}
+use Rattle.e_literal.specs.Rename.{image_in, same_obj, paired, renamed}
 use Rattle.std.proofs.Common.{ℕ, ◌+◌, ◌≤◌, arith, length, map}
 use Rattle.e_literal.specs.Scopes.{with_one, same_sort, are_of_sorts}
 use Rattle.e_literal.specs.declared.literal.Lit.{Lit}

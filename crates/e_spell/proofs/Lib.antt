@@ -1,0 +1,5 @@
+pub mod Spaced
+pub mod Declared
+pub mod Whole
+pub mod Stops
+pub mod Plain

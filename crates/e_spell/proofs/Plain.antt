@@ -1,0 +1,63 @@
+-- The lines of a spelling that are not a certificate's.
+use Rattle.std.proofs.Common.{◌≡◌, ℕ, true, List, [], ◌∷◌, ◌++◌, map, refl, sym, ap, ◌∙◌}
+use Rattle.std.specs.Prelude.{filter}
+use Rattle.std.specs.Option.{option_to_list}
+use Rattle.std.proofs.lemmas.List.Elements.{filter-append}
+use Rattle.e_literal.specs.declared.object.Sort.TheVariants.{Point, Line, Circle}
+use Rattle.e_clause.specs.declared.cert.Part.TheVariants.{Fact}
+use Rattle.e_clause.specs.declared.cert.Cert.{Cert}
+use Rattle.e_clause.specs.declared.cert.Cert.TheVariants.{Plain}
+use Rattle.e_deriv.specs.declared.names.Names.{Names}
+use Rattle.e_deriv.specs.Script.{Script, Cite, Hence, Qed, erased}
+use Rattle.e_book.specs.declared.form.Form.{Form}
+use Rattle.e_book.specs.declared.form.Form.TheVariants as forms
+use Rattle.e_book.specs.Entry.{Entry}
+use Rattle.e_book.specs.Canonical.{line_of, by_form, hence_form, head_forms, script_forms, end_form, forms_of}
+use Rattle.e_spell.specs.Certificates.{certs_lines}
+use Rattle.e_spell.specs.Spelling.{script_lines, spelled_lines}
+use Rattle.e_spell.specs.Laws.{is_plain}
+
+form_is_plain : (f : Form) → is_plain (line_of f) ≡ true
+form_is_plain (forms.Theorem t) = refl
+form_is_plain (forms.Declare Point ns) = refl
+form_is_plain (forms.Declare Line ns) = refl
+form_is_plain (forms.Declare Circle ns) = refl
+form_is_plain (forms.Given ls) = refl
+form_is_plain (forms.Show ls) = refl
+form_is_plain forms.Proof = refl
+form_is_plain (forms.By r ns l) = refl
+form_is_plain (forms.Hence l) = refl
+form_is_plain forms.Qed = refl
+form_is_plain forms.End = refl
+
+keep : (line : List ℕ) (lines : List (List ℕ)) → is_plain line ≡ true → filter is_plain (line ∷ lines) ≡ line ∷ filter is_plain lines
+keep line lines e = rw e refl
+
+forms_stay : (fs : List Form) → filter is_plain (map line_of fs) ≡ map line_of fs
+forms_stay [] = refl
+forms_stay (f ∷ fs) = keep (line_of f) (map line_of fs) (form_is_plain f) ∙ ap (λ (x : List (List ℕ)). line_of f ∷ x) (forms_stay fs)
+
+certs_go : (ns : Names) (cs : List Cert) → filter is_plain (certs_lines ns cs) ≡ []
+certs_go ns [] = refl
+certs_go ns (Plain Fact ∷ cs) = certs_go ns cs
+
+lines_append : (fs gs : List Form) → map line_of (fs ++ gs) ≡ map line_of fs ++ map line_of gs
+lines_append [] gs = refl
+lines_append (f ∷ fs) gs = ap (λ (x : List (List ℕ)). line_of f ∷ x) (lines_append fs gs)
+
+script_stays : (ns : Names) (d : Script) → filter is_plain (script_lines ns d) ≡ map line_of (script_forms ns (erased d))
+unfolding script_lines script_forms erased
+script_stays ns (Cite by rest) = ap (λ (x : List (List ℕ)). line_of (by_form ns by) ∷ x) (script_stays ns rest)
+script_stays ns (Hence lit cert rest) =
+    ap (λ (x : List (List ℕ)). line_of (hence_form ns lit) ∷ x)
+    (filter-append is_plain (certs_lines ns (option_to_list cert)) (script_lines ns rest) ∙ ap (λ (x : List (List ℕ)). x ++ filter is_plain (script_lines ns rest)) (certs_go ns (option_to_list cert)) ∙ script_stays ns rest)
+script_stays ns (Qed objects cs) = ap (λ (x : List (List ℕ)). line_of forms.Qed ∷ x) (certs_go ns cs)
+
+pub plain_lines : (t : Entry) (d : Script) → erased d ≡ t.script → filter is_plain (spelled_lines t d) ≡ map line_of (forms_of t)
+plain_lines t d e =
+    let end = line_of end_form ∷ [] in
+    filter-append is_plain (map line_of (head_forms t)) (script_lines t.names d ++ end)
+    ∙ ap (λ (x : List (List ℕ)). x ++ filter is_plain (script_lines t.names d ++ end)) (forms_stay (head_forms t))
+    ∙ ap (λ (x : List (List ℕ)). map line_of (head_forms t) ++ x)
+    (filter-append is_plain (script_lines t.names d) end ∙ ap (λ (x : List (List ℕ)). x ++ end) (script_stays t.names d ∙ ap (λ (s : Script). map line_of (script_forms t.names s)) e) ∙ sym (lines_append (script_forms t.names t.script) (end_form ∷ [])))
+    ∙ sym (lines_append (head_forms t) (script_forms t.names t.script ++ end_form ∷ []))

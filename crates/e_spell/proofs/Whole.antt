@@ -1,0 +1,98 @@
+-- The texts of the parts make the spelling.
+use Rattle.std.proofs.Common.{◌≡◌, ℕ, List, [], ◌∷◌, ◌++◌, map, refl, sym, ap, ◌∙◌, append_assoc}
+use Rattle.std.specs.Prelude.{codes, None}
+use Rattle.std.specs.List.{flat_map}
+use Rattle.std.specs.Option.{option_to_list}
+use Rattle.std.proofs.lemmas.List.{append-nil}
+use Rattle.e_literal.specs.declared.literal.Lit.{Lit}
+use Rattle.e_clause.specs.declared.cert.Cert.{Cert}
+use Rattle.e_clause.specs.declared.cert.Cert.TheVariants.{Plain}
+use Rattle.e_deriv.specs.declared.names.Names.{Names}
+use Rattle.e_deriv.specs.declared.block.Step.{Step}
+use Rattle.e_deriv.specs.declared.block.Step.TheVariants.{Cite as CiteStep, Hence as HenceStep}
+use Rattle.e_deriv.specs.declared.block.Close.{Close}
+use Rattle.e_deriv.specs.declared.block.Close.TheVariants.{Qed as QedClose}
+use Rattle.e_deriv.specs.declared.block.Block.{Block}
+use Rattle.e_deriv.specs.Script.{Script, script_of, step_script, steps_script, close_script}
+use Rattle.e_theorem.specs.declared.statement.Statement.{Statement}
+use Rattle.e_book.specs.declared.form.Form.{Form}
+use Rattle.e_book.specs.declared.form.Form.TheVariants as forms
+use Rattle.e_book.specs.Entry.{Entry}
+use Rattle.e_book.specs.Canonical.{joined, spaced, line_of, lit_words, raw_of, given_form, show_form, declare_forms, declared_objects, head_forms, end_form, text_of}
+use Rattle.e_spell.specs.Certificates.{cert_lines, certs_lines}
+use Rattle.e_spell.specs.Spelling.{script_lines, spelled}
+use Rattle.e_spell.specs.Parts.{lits_text, lit_text, cert_text, certs_text, step_text, steps_text, close_text, proof_text, title_text, statement_text, head_text, block_text, declared_rest}
+use Rattle.e_spell.proofs.Declared.{text, declared_text}
+
+of_lines : (xs ys : List (List ℕ)) → text_of (xs ++ ys) ≡ text_of xs ++ text_of ys
+of_lines [] ys = refl
+of_lines (x ∷ xs) ys = ap (λ (t : List ℕ). (x ++ 10 ∷ []) ++ t) (of_lines xs ys) ∙ sym (append_assoc (x ++ 10 ∷ []) (text_of xs) (text_of ys))
+
+of_forms : (fs gs : List Form) → text (fs ++ gs) ≡ text fs ++ text gs
+of_forms [] gs = refl
+of_forms (f ∷ fs) gs = ap (λ (t : List ℕ). (line_of f ++ 10 ∷ []) ++ t) (of_forms fs gs) ∙ sym (append_assoc (line_of f ++ 10 ∷ []) (text fs) (text gs))
+
+of_words : (xs ys : List (List (List ℕ))) → text_of (map joined (xs ++ ys)) ≡ text_of (map joined xs) ++ text_of (map joined ys)
+of_words [] ys = refl
+of_words (x ∷ xs) ys = ap (λ (t : List ℕ). (joined x ++ 10 ∷ []) ++ t) (of_words xs ys) ∙ sym (append_assoc (joined x ++ 10 ∷ []) (text_of (map joined xs)) (text_of (map joined ys)))
+
+of_certs : (ns : Names) (cs : List Cert) → text_of (certs_lines ns cs) ≡ certs_text ns cs
+of_certs ns [] = refl
+of_certs ns (Plain p ∷ cs) = of_words (cert_lines ns (Plain p)) (flat_map (cert_lines ns) cs) ∙ ap (λ (t : List ℕ). cert_text ns (Plain p) ++ t) (of_certs ns cs)
+
+one_literal : (word : List ℕ) (words : List (List ℕ)) → (word ++ spaced (words ++ [])) ++ 10 ∷ [] ≡ word ++ (spaced words ++ 10 ∷ [])
+one_literal word words = rw (append-nil words) (append_assoc word (spaced words) (10 ∷ []))
+
+given_text : (ns : Names) (ls : List Lit) → lits_text (codes "given") ns ls ≡ text (map (given_form ns) ls)
+given_text ns [] = refl
+given_text ns (l ∷ ls) =
+    ap (λ (t : List ℕ). t ++ lits_text (codes "given") ns ls) (sym (one_literal (codes "given") (lit_words (raw_of ns l)))) ∙ ap (λ (t : List ℕ). (line_of (given_form ns l) ++ 10 ∷ []) ++ t) (given_text ns ls)
+
+show_text : (ns : Names) (ls : List Lit) → lits_text (codes "show") ns ls ≡ text (map (show_form ns) ls)
+show_text ns [] = refl
+show_text ns (l ∷ ls) =
+    ap (λ (t : List ℕ). t ++ lits_text (codes "show") ns ls) (sym (one_literal (codes "show") (lit_words (raw_of ns l)))) ∙ ap (λ (t : List ℕ). (line_of (show_form ns l) ++ 10 ∷ []) ++ t) (show_text ns ls)
+
+title_line : (title : List ℕ) → title_text title ≡ line_of (forms.Theorem title) ++ 10 ∷ []
+title_line title = rw (append-nil title) (sym (append_assoc (codes "theorem") (32 ∷ title) (10 ∷ [])))
+
+of_literals : (ns : Names) (t : Statement) → statement_text ns t ≡ text (map (given_form ns) t.given ++ (map (show_form ns) t.shown ++ forms.Proof ∷ []))
+of_literals ns t =
+    ap (λ (x : List ℕ). x ++ (lits_text (codes "show") ns t.shown ++ (codes "proof" ++ 10 ∷ []))) (given_text ns t.given)
+    ∙ ap (λ (x : List ℕ). text (map (given_form ns) t.given) ++ x) (ap (λ (x : List ℕ). x ++ (codes "proof" ++ 10 ∷ [])) (show_text ns t.shown) ∙ sym (of_forms (map (show_form ns) t.shown) (forms.Proof ∷ [])))
+    ∙ sym (of_forms (map (given_form ns) t.given) (map (show_form ns) t.shown ++ forms.Proof ∷ []))
+
+of_head : (t : Entry) → head_text t.title t.names t.statement ≡ text (head_forms t)
+of_head t =
+    let objects = declared_objects t.statement.declared in
+    let behind = map (given_form t.names) t.statement.given ++ (map (show_form t.names) t.statement.shown ++ forms.Proof ∷ []) in
+    ap (λ (x : List ℕ). x ++ (declared_rest t.names None objects ++ statement_text t.names t.statement)) (title_line t.title)
+    ∙ ap (λ (x : List ℕ). (line_of (forms.Theorem t.title) ++ 10 ∷ []) ++ x)
+    (ap (λ (x : List ℕ). x ++ statement_text t.names t.statement) (declared_text t.names objects) ∙ ap (λ (x : List ℕ). text (declare_forms t.names objects) ++ x) (of_literals t.names t.statement) ∙ sym (of_forms (declare_forms t.names objects) behind))
+
+of_step : (ns : Names) (s : Step) (rest : Script) → text_of (script_lines ns (step_script s rest)) ≡ step_text ns s ++ text_of (script_lines ns rest)
+unfolding script_lines
+of_step ns (CiteStep by) rest = refl
+of_step ns (HenceStep lit cert) rest =
+    ap (λ (t : List ℕ). lit_text (codes "hence") ns lit ++ t) (of_lines (certs_lines ns (option_to_list cert)) (script_lines ns rest) ∙ ap (λ (t : List ℕ). t ++ text_of (script_lines ns rest)) (of_certs ns (option_to_list cert)))
+    ∙ sym (append_assoc (lit_text (codes "hence") ns lit) (certs_text ns (option_to_list cert)) (text_of (script_lines ns rest)))
+
+of_steps : (ns : Names) (ss : List Step) (rest : Script) → text_of (script_lines ns (steps_script ss rest)) ≡ steps_text ns ss ++ text_of (script_lines ns rest)
+of_steps ns [] rest = refl
+of_steps ns (s ∷ ss) rest =
+    of_step ns s (steps_script ss rest) ∙ ap (λ (t : List ℕ). step_text ns s ++ t) (of_steps ns ss rest) ∙ sym (append_assoc (step_text ns s) (steps_text ns ss) (text_of (script_lines ns rest)))
+
+of_close : (ns : Names) (c : Close) → text_of (script_lines ns (close_script c)) ≡ close_text ns c
+unfolding script_lines
+of_close ns (QedClose objects cs) = ap (λ (t : List ℕ). (codes "qed" ++ 10 ∷ []) ++ t) (of_certs ns cs)
+
+of_proof : (ns : Names) (b : Block) → proof_text ns b ≡ text_of (script_lines ns (script_of b) ++ line_of end_form ∷ [])
+of_proof ns b =
+    let end = line_of end_form ∷ [] in
+    sym (of_lines (script_lines ns (script_of b)) end ∙ ap (λ (t : List ℕ). t ++ text_of end) (of_steps ns b.steps.items (close_script b.close) ∙ ap (λ (t : List ℕ). steps_text ns b.steps.items ++ t) (of_close ns b.close))
+    ∙ append_assoc (steps_text ns b.steps.items) (close_text ns b.close) (text_of end))
+
+pub spelled_parts : (t : Entry) (b : Block) → block_text t b ≡ spelled t (script_of b)
+spelled_parts t b =
+    ap (λ (x : List ℕ). x ++ proof_text t.names b) (of_head t) ∙ ap (λ (x : List ℕ). text (head_forms t) ++ x) (of_proof t.names b)
+    ∙ sym (of_lines (map line_of (head_forms t)) (script_lines t.names (script_of b) ++ line_of end_form ∷ []))

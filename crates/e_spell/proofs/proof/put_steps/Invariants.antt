@@ -1,0 +1,6 @@
+use Rattle.std.proofs.Common.{◌≡◌, ◌++◌, drop}
+use Rattle.e_spell.specs.Parts.{steps_text}
+use Rattle.e_spell.proofs.proof.put_steps.Given as goal
+
+abbrev pub invariant-loop-step : goal.invariant-loop-step
+invariant-loop-step l = l.out.items ++ steps_text l.names (drop l.step-index l.steps) ≡ l.initial.out.items ++ steps_text l.names l.steps

@@ -1,0 +1,5 @@
+pub mod Certificates
+pub mod Spelling
+pub mod Parts
+pub mod Counts
+pub mod Laws

@@ -1,0 +1,48 @@
+-- The one spelling of a derivation, and the last lines of a stop.
+use Rattle.std.specs.Prelude.{ℕ, List, [], ◌∷◌, ◌++◌, map, codes}
+use Rattle.std.specs.Option.{option_to_list}
+use Rattle.std.specs.Fmt.{decimal}
+use Rattle.e_deriv.specs.declared.names.Names.{Names}
+use Rattle.e_deriv.specs.declared.stop.Wanted.{Wanted}
+use Rattle.e_deriv.specs.declared.stop.Wanted.TheVariants.{Literal}
+use Rattle.e_deriv.specs.declared.stop.Stop.{Stop}
+use Rattle.e_deriv.specs.declared.stop.Stop.TheVariants.{Unlicensed, NoMemory}
+use Rattle.e_deriv.specs.Script.{Script, Cite, Hence, Qed}
+use Rattle.e_book.specs.Entry.{Entry}
+use Rattle.e_book.specs.Canonical.{joined, line_of, lit_words, raw_of, by_form, hence_form, qed_form, end_form, head_forms, text_of}
+use Rattle.e_spell.specs.Certificates.{certs_lines}
+
+-- each line of a derivation, and below it one certificate for each literal that it needs
+unfoldable pub script_lines : Names → Script → List (List ℕ)
+script_lines ns (Cite by rest) = line_of (by_form ns by) ∷ script_lines ns rest
+script_lines ns (Hence lit cert rest) = line_of (hence_form ns lit) ∷ (certs_lines ns (option_to_list cert) ++ script_lines ns rest)
+script_lines ns (Qed objects certs) = line_of (qed_form ns objects) ∷ certs_lines ns certs
+
+-- the lines of a theorem with its derivation, in order
+abbrev pub spelled_lines : Entry → Script → List (List ℕ)
+spelled_lines t d = map line_of (head_forms t) ++ (script_lines t.names d ++ line_of end_form ∷ [])
+
+abbrev pub spelled : Entry → Script → List ℕ
+spelled t d = text_of (spelled_lines t d)
+
+-- what a line lacks
+abbrev pub wanted_words : Names → Wanted → List (List ℕ)
+wanted_words ns (Literal l) = lit_words (raw_of ns l)
+
+-- the line that is not licensed, and what it lacks
+abbrev pub unlicensed_words : List ℕ → ℕ → Wanted → Names → List (List (List ℕ))
+unlicensed_words title step wanted ns =
+    (codes "unlicensed" ∷ title ∷ decimal step ∷ []) ∷ (codes "|" ∷ codes "wanted" ∷ wanted_words ns wanted) ∷ []
+
+abbrev pub unlicensed_text : List ℕ → ℕ → Wanted → Names → List ℕ
+unlicensed_text title step wanted ns = text_of (map joined (unlicensed_words title step wanted ns))
+
+-- the last lines of a stop; want of memory has none here
+abbrev pub stop_text : List ℕ → Stop → List ℕ
+stop_text title (Unlicensed step wanted ns) = unlicensed_text title step wanted ns
+stop_text title NoMemory = []
+
+-- a stop at a line of the script
+abbrev pub IsStop : Stop → Type 0
+IsStop (Unlicensed step wanted ns) = Unit {0}
+IsStop NoMemory = ⊥

@@ -1,0 +1,16 @@
+//! The one spelling of a derivation: each line of a theorem with the certificates that it needs.
+#![tactic(auto)]
+
+mod certificates;
+mod head;
+mod laws;
+mod literals;
+mod proof;
+mod words;
+mod writer;
+
+pub use laws::lines_are_the_theorem;
+pub use writer::{spell, spell_stop};
+
+#[cfg(test)]
+mod tests;

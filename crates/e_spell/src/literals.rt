@@ -1,0 +1,179 @@
+//! Literals and objects by their names.
+ghost use Rattle.std.specs.Prelude.{◌≡◌, ◌++◌, ◌∷◌, [], codes, map, OnOk};
+ghost use Rattle.e_book.specs.Scope.{names_of_sort};
+ghost use Rattle.e_book.specs.Canonical.{spaced, atom_words, not_words, lit_words, raw_atom, raw_of, name_at, name_of_object};
+ghost use Rattle.e_spell.specs.Parts.{lit_text, lits_text};
+
+use crate::words::{end_line, put, put_three, put_two};
+use e_deriv::Names;
+use e_literal::{Atom, Lit, Obj, Sort};
+use e_text::Name;
+use std::alloc::AllocError;
+
+/// A name by its place; nothing where there is none.
+fn name_at(names: &[Name], i: usize) -> &[u8]
+    ensures { result.now ≡ name_at names.now i }
+{
+    match names.get(i) {
+        Some(name) => name.bytes(),
+        None => &[],
+    }
+}
+
+fn names_of_sort(names: &Names, sort: Sort) -> &[Name]
+    ensures { result.now ≡ names_of_sort names.now sort }
+{
+    match sort {
+        Sort::Point => names.points.items(),
+        Sort::Line => names.lines.items(),
+        Sort::Circle => names.circles.items(),
+    }
+}
+
+/// The name of the object of a sort with a number.
+pub(crate) fn name_of(names: &Names, sort: Sort, num: usize) -> &[u8]
+    ensures { result.now ≡ name_at (names_of_sort names.now sort) num }
+{
+    name_at(names_of_sort(names, sort), num)
+}
+
+fn point(names: &Names, i: u16) -> &[u8]
+    ensures { result.now ≡ name_at names.now.points i }
+{
+    name_at(names.points.items(), i as usize)
+}
+
+fn line(names: &Names, i: u16) -> &[u8]
+    ensures { result.now ≡ name_at names.now.lines i }
+{
+    name_at(names.lines.items(), i as usize)
+}
+
+fn circle(names: &Names, i: u16) -> &[u8]
+    ensures { result.now ≡ name_at names.now.circles i }
+{
+    name_at(names.circles.items(), i as usize)
+}
+
+/// The names of objects.
+pub(crate) fn put_objects(
+    out: &mut Vec<u8>,
+    names: &Names,
+    objects: &[Obj],
+) -> Result<(), AllocError>
+    ensures { OnOk result (out.new.items ≡ out.old.items ++ spaced (map (name_of_object names.now) objects.now)) }
+{
+    for object in objects {
+        put(out, name_of(names, object.sort, object.num as usize))?;
+    }
+    Ok(())
+}
+
+/// A word and two names.
+fn put_relation(out: &mut Vec<u8>, word: &[u8], x: &[u8], y: &[u8]) -> Result<(), AllocError>
+    ensures { OnOk result (out.new.items ≡ out.old.items ++ spaced (word.now ∷ x.now ∷ y.now ∷ [])) }
+{
+    put_three(out, word, x, y)
+}
+
+/// A word and three names.
+fn put_relation_of_three(
+    out: &mut Vec<u8>,
+    word: &[u8],
+    x: &[u8],
+    y: &[u8],
+    z: &[u8],
+) -> Result<(), AllocError>
+    ensures { OnOk result (out.new.items ≡ out.old.items ++ spaced (word.now ∷ x.now ∷ y.now ∷ z.now ∷ [])) }
+{
+    put_two(out, word, x)?;
+    put_two(out, y, z)
+}
+
+fn put_atom(out: &mut Vec<u8>, names: &Names, atom: &Atom) -> Result<(), AllocError>
+    ensures { OnOk result (out.new.items ≡ out.old.items ++ spaced (atom_words (raw_atom names.now atom.now))) }
+{
+    match atom {
+        Atom::On(a, l) => put_relation(out, b"on", point(names, *a), line(names, *l)),
+        Atom::OnC(a, c) => put_relation(out, b"on", point(names, *a), circle(names, *c)),
+        Atom::Inside(a, c) => put_relation(out, b"inside", point(names, *a), circle(names, *c)),
+        Atom::Center(a, c) => put_relation(out, b"center", point(names, *a), circle(names, *c)),
+        Atom::Between(a, b, c) => put_relation_of_three(
+            out,
+            b"between",
+            point(names, *a),
+            point(names, *b),
+            point(names, *c),
+        ),
+        Atom::Same(a, b, l) => put_relation_of_three(
+            out,
+            b"same-side",
+            point(names, *a),
+            point(names, *b),
+            line(names, *l),
+        ),
+        Atom::MeetLL(l, m) => put_relation(out, b"meets", line(names, *l), line(names, *m)),
+        Atom::MeetLC(l, c) => put_relation(out, b"meets", line(names, *l), circle(names, *c)),
+        Atom::MeetCC(c, d) => put_relation(out, b"meets", circle(names, *c), circle(names, *d)),
+        Atom::EqP(a, b) => put_relation(out, point(names, *a), b"=", point(names, *b)),
+        Atom::EqL(l, m) => put_relation(out, line(names, *l), b"=", line(names, *m)),
+        Atom::EqC(c, d) => put_relation(out, circle(names, *c), b"=", circle(names, *d)),
+        Atom::MagEq(_, _) | Atom::MagLt(_, _) => put_relation(out, b"", b"=", b""),
+    }
+}
+
+/// The negation of an atom: an equality by its sign, any other atom by a word before it.
+fn put_not(out: &mut Vec<u8>, names: &Names, atom: &Atom) -> Result<(), AllocError>
+    ensures { OnOk result (out.new.items ≡ out.old.items ++ spaced (not_words (raw_atom names.now atom.now))) }
+{
+    match atom {
+        Atom::EqP(a, b) => put_relation(out, point(names, *a), b"!=", point(names, *b)),
+        Atom::EqL(l, m) => put_relation(out, line(names, *l), b"!=", line(names, *m)),
+        Atom::EqC(c, d) => put_relation(out, circle(names, *c), b"!=", circle(names, *d)),
+        Atom::MagEq(_, _) | Atom::MagLt(_, _) => put_relation(out, b"", b"!=", b""),
+        _ => {
+            put(out, b"not")?;
+            put_atom(out, names, atom)
+        }
+    }
+}
+
+/// A literal with the names of its objects.
+pub(crate) fn put_literal(out: &mut Vec<u8>, names: &Names, lit: &Lit) -> Result<(), AllocError>
+    ensures { OnOk result (out.new.items ≡ out.old.items ++ spaced (lit_words (raw_of names.now lit.now))) }
+{
+    if lit.neg {
+        put_not(out, names, &lit.atom)
+    } else {
+        put_atom(out, names, &lit.atom)
+    }
+}
+
+/// A line of a word and a literal.
+pub(crate) fn put_literal_line(
+    out: &mut Vec<u8>,
+    word: &[u8],
+    names: &Names,
+    lit: &Lit,
+) -> Result<(), AllocError>
+    ensures { OnOk result (out.new.items ≡ out.old.items ++ lit_text word.now names.now lit.now) }
+{
+    out.extend_from_slice(word)?;
+    put_literal(out, names, lit)?;
+    end_line(out)
+}
+
+/// One line for each literal.
+pub(crate) fn put_literal_lines(
+    out: &mut Vec<u8>,
+    word: &[u8],
+    names: &Names,
+    lits: &[Lit],
+) -> Result<(), AllocError>
+    ensures { OnOk result (out.new.items ≡ out.old.items ++ lits_text word.now names.now lits.now) }
+{
+    for lit in lits {
+        put_literal_line(out, word, names, lit)?;
+    }
+    Ok(())
+}

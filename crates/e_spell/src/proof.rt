@@ -1,0 +1,85 @@
+//! The lines of a proof, each with its certificates below it.
+ghost use Rattle.std.specs.Prelude.{◌≡◌, ◌++◌, ◌∷◌, [], codes, OnOk};
+ghost use Rattle.e_book.specs.Canonical.{spaced, rule_name};
+ghost use Rattle.e_spell.specs.Parts.{citation_words, step_text, steps_text, close_text, proof_text};
+
+use crate::certificates::{put_cert_of, put_certs};
+use crate::literals::{put_literal, put_literal_line, put_objects};
+use crate::words::{end_line, put, put_line};
+use e_clause::{By, Rule};
+use e_deriv::{Block, Close, Names, Step};
+use std::alloc::AllocError;
+
+/// The name of a rule in the table.
+fn rule_name(rule: Rule) -> &'static [u8]
+    ensures { result.now ≡ rule_name rule }
+{
+    rule.name().as_bytes()
+}
+
+fn put_rule(out: &mut Vec<u8>, rule: Rule) -> Result<(), AllocError>
+    ensures { OnOk result (out.new.items ≡ out.old.items ++ 32 ∷ rule_name rule) }
+{
+    put(out, rule_name(rule))
+}
+
+/// A rule, its objects and the literal that it gives.
+#[tactic(auto, using(crate::proofs::Spaced::spaced_append))]
+fn put_citation(out: &mut Vec<u8>, names: &Names, by: &By) -> Result<(), AllocError>
+    ensures { OnOk result (out.new.items ≡ out.old.items ++ spaced (citation_words names.now by.now)) }
+{
+    put_rule(out, by.rule)?;
+    put_objects(out, names, by.args.items())?;
+    put(out, b":")?;
+    put_literal(out, names, &by.lit)
+}
+
+fn put_by(out: &mut Vec<u8>, names: &Names, by: &By) -> Result<(), AllocError>
+    ensures { OnOk result (out.new.items ≡ out.old.items ++ (codes "by" ++ (spaced (citation_words names.now by.now) ++ 10 ∷ []))) }
+{
+    out.extend_from_slice(b"by")?;
+    put_citation(out, names, by)?;
+    end_line(out)
+}
+
+fn put_step(out: &mut Vec<u8>, names: &Names, step: &Step) -> Result<(), AllocError>
+    ensures { OnOk result (out.new.items ≡ out.old.items ++ step_text names.now step.now) }
+{
+    match step {
+        Step::Cite(by) => put_by(out, names, by),
+        Step::Hence { lit, cert } => {
+            put_literal_line(out, b"hence", names, lit)?;
+            put_cert_of(out, names, cert)
+        }
+    }
+}
+
+fn put_steps(out: &mut Vec<u8>, names: &Names, steps: &[Step]) -> Result<(), AllocError>
+    ensures { OnOk result (out.new.items ≡ out.old.items ++ steps_text names.now steps.now) }
+{
+    for step in steps {
+        put_step(out, names, step)?;
+    }
+    Ok(())
+}
+
+fn put_close(out: &mut Vec<u8>, names: &Names, close: &Close) -> Result<(), AllocError>
+    ensures { OnOk result (out.new.items ≡ out.old.items ++ close_text names.now close.now) }
+{
+    match close {
+        Close::Qed { certs, .. } => {
+            put_line(out, b"qed")?;
+            put_certs(out, names, certs.items())
+        }
+    }
+}
+
+/// The lines from behind the word proof to the theorem's end.
+pub(crate) fn put_proof(out: &mut Vec<u8>, names: &Names, block: &Block) -> Result<(), AllocError>
+    ensures { OnOk result (out.new.items ≡ out.old.items ++ proof_text names.now block.now) }
+{
+    put_steps(out, names, &block.steps)?;
+    put_close(out, names, &block.close)?;
+    put_line(out, b"end")?;
+    Ok(())
+}

@@ -1,0 +1,154 @@
+-- The theorems taken so far, with their derivations and what was written.
+use Rattle.std.proofs.Common.{◌≡◌, ℕ, suc, ◌+◌, ◌<◌, ◌≤◌, List, [], ◌∷◌, ◌++◌, length, map, Option, Some, None, Result, Ok, Err, refl, sym, ap, subst, ◌∙◌, arith, append_assoc, length-append, take}
+use Rattle.std.specs.List.{flat_map}
+use Rattle.std.proofs.lemmas.List.{append-nil}
+use Rattle.std.proofs.lemmas.Grind.{flat_map-append}
+use Rattle.std.proofs.Math.Seq.{take-append-add}
+use Rattle.e_io.specs.Bytes.{Grew, GrewByFront}
+use Rattle.e_theorem.specs.Statements.{stated}
+use Rattle.e_deriv.specs.Script.{Script}
+use Rattle.e_deriv.proofs.Agreement.{licensed_of_derived}
+use Rattle.e_book.specs.Headed.{Headed, headed}
+use Rattle.e_book.specs.Entry.{Entry}
+use Rattle.e_book.specs.Book.{read_from}
+use Rattle.e_book.specs.Fits.{Fits}
+use Rattle.e_deriv.specs.Fitting.{IsFitting}
+use Rattle.elements.specs.Outcome.{Rest, IsLicensed, Takes, End, Ends, Begins, number_behind, IsOutcome, IsFront}
+use Rattle.elements.specs.Answers.{Derived, IsDerived, AllDerived, theorems_of, block_of}
+use Rattle.elements.specs.Endings.{EndsWith, BreaksOff, BreaksInside, BlocksAre, stop_ending}
+use Rattle.elements.specs.declared.blocks.Ending.{Ending}
+use Rattle.elements.specs.declared.blocks.Broken.{Broken}
+use Rattle.e_deriv.specs.declared.stop.Stop.{Stop}
+use Rattle.e_deriv.specs.declared.stop.Stop.TheVariants as stops
+use Rattle.e_prove.specs.Stops.{StopIs, HasNames}
+use Rattle.elements.specs.Outcome as ends
+use Rattle.e_deriv.specs.declared.stop.Wanted.{Wanted}
+use Rattle.e_deriv.specs.declared.names.Names.{Names}
+use Rattle.e_deriv.specs.Licensed.{IsFirstUnlicensed}
+use Rattle.e_book.specs.declared.fault.BookFault.{BookFault}
+
+pub record History (lines : Rest) (old : Option (List ℕ)) (known : List Headed) (rest : Rest) (new : Option (List ℕ)) : Type 0 where
+  pub derived : List Derived
+  pub sound : AllDerived derived
+  pub begins : Begins lines (theorems_of derived) known rest
+  pub grew : Grew old new (flat_map block_of derived)
+
+-- one more theorem is taken
+takes_more : (last : ℕ) (known : List Headed) (lines : Rest) (ts : List Entry) (now : List Headed) (rest : Rest) (t : Entry) (after : Rest)
+    → Takes last known lines ts now rest → read_from now last None rest ≡ Ok (Some (t, after)) → IsLicensed t
+    → Takes last known lines (ts ++ t ∷ []) (now ++ headed t.title t.statement ∷ []) after
+takes_more last known lines [] now rest t after r h l =
+    (after, subst (λ (k : List Headed). read_from k last None lines ≡ Ok (Some (t, after))) (sym r.0) (ap (read_from now last None) r.1 ∙ h), l, (ap (λ (k : List Headed). k ++ headed t.title t.statement ∷ []) r.0, refl))
+takes_more last known lines (u ∷ us) now rest t after r h l =
+    (r.0, r.1, r.2, takes_more last (known ++ headed u.title u.statement ∷ []) r.0 us now rest t after r.3 h l)
+
+pub grew_more : (a b c : Option (List ℕ)) (xs ys : List ℕ) → Grew a b xs → Grew b c ys → Grew a c (xs ++ ys)
+grew_more None b c xs ys p q = subst (λ (x : Option (List ℕ)). Grew x c ys) p q
+grew_more (Some old) b c xs ys p q = let r = subst (λ (x : Option (List ℕ)). Grew x c ys) p q in r ∙ ap (λ (l : List ℕ). Some l) (append_assoc old xs ys)
+
+pub grew_none : (a : Option (List ℕ)) → Grew a a []
+grew_none None = refl
+grew_none (Some old) = ap (λ (l : List ℕ). Some l) (sym (append-nil old))
+
+all_more : (ds : List Derived) (d : Derived) → AllDerived ds → IsDerived d → AllDerived (ds ++ d ∷ [])
+all_more [] d h k = (k, tt)
+all_more (e ∷ es) d h k = (h.0, all_more es d h.1 k)
+
+theorems_more : (ds : List Derived) (d : Derived) → theorems_of (ds ++ d ∷ []) ≡ theorems_of ds ++ d.theorem ∷ []
+theorems_more [] d = refl
+theorems_more (e ∷ es) d = ap (λ (ts : List Entry). e.theorem ∷ ts) (theorems_more es d)
+
+blocks_more : (ds : List Derived) (d : Derived) → flat_map block_of (ds ++ d ∷ []) ≡ flat_map block_of ds ++ block_of d
+blocks_more ds d = flat_map-append block_of ds (d ∷ []) ∙ ap (λ (x : List ℕ). flat_map block_of ds ++ x) (append-nil (block_of d))
+
+-- a theorem with a derivation has each of its lines licensed
+licensed : (d : Derived) → IsDerived d → IsLicensed d.theorem
+licensed d h = licensed_of_derived (stated d.theorem.statement) d.derivation d.theorem.script h.certified h.own
+
+pub begins : (lines : Rest) (old : Option (List ℕ)) → History lines old [] lines old
+begins lines old = record { derived = []; sound = tt; begins = (refl, refl); grew = grew_none old }
+
+begins_more : (lines : Rest) (ds : List Derived) (known : List Headed) (rest after : Rest) (d : Derived)
+    → Begins lines (theorems_of ds) known rest → read_from known (number_behind lines) None rest ≡ Ok (Some (d.theorem, after)) → IsDerived d
+    → Begins lines (theorems_of (ds ++ d ∷ [])) (known ++ headed d.theorem.title d.theorem.statement ∷ []) after
+begins_more lines ds known rest after d b h k =
+    subst (λ (ts : List Entry). Begins lines ts (known ++ headed d.theorem.title d.theorem.statement ∷ []) after) (sym (theorems_more ds d))
+    (takes_more (number_behind lines) [] lines (theorems_of ds) known rest d.theorem after b h (licensed d k))
+
+-- the block of the next theorem was written
+pub goes_on : (lines : Rest) (old new newer : Option (List ℕ)) (known : List Headed) (rest after : Rest) (d : Derived)
+    → History lines old known rest new → read_from known (number_behind lines) None rest ≡ Ok (Some (d.theorem, after)) → IsDerived d → Grew new newer (block_of d)
+    → History lines old (known ++ headed d.theorem.title d.theorem.statement ∷ []) after newer
+goes_on lines old new newer known rest after d h read k w =
+    record {
+      derived = h.derived ++ d ∷ [];
+      sound = all_more h.derived d h.sound k;
+      begins = begins_more lines h.derived known rest after d h.begins read k;
+      grew = subst (λ (b : List ℕ). Grew old newer b) (sym (blocks_more h.derived d)) (grew_more old new newer (flat_map block_of h.derived) (block_of d) h.grew w);
+    }
+
+-- the lines end so
+pub ends_with : (lines : Rest) (old new : Option (List ℕ)) (known : List Headed) (rest : Rest) (end : End)
+    → History lines old known rest new → Ends (number_behind lines) known rest end → EndsWith lines old new end
+ends_with lines old new known rest end h e =
+    record {
+      derived = h.derived;
+      sound = h.sound;
+      outcome = record { known = known; rest = rest; begins = h.begins; ends = e };
+      grew = h.grew;
+    }
+
+pub breaks_off : (lines : Rest) (old new : Option (List ℕ)) (known : List Headed) (rest : Rest) → History lines old known rest new → BreaksOff lines old new
+breaks_off lines old new known rest h =
+    record { derived = h.derived; sound = h.sound; front = record { known = known; rest = rest; begins = h.begins }; grew = h.grew }
+
+front_more : (a b c : Option (List ℕ)) (xs ys : List ℕ) → Grew a b xs → GrewByFront b c ys → (n : ℕ) × (n ≤ length (xs ++ ys)) × Grew a c (take n (xs ++ ys))
+front_more a b c xs ys p q =
+    (length xs + q.0, omega (arith, length-append xs ys, q.1), subst (λ (l : List ℕ). Grew a c l) (sym (take-append-add xs ys q.0)) (grew_more a b c xs (take q.0 ys) p q.2))
+
+-- a front of the block of the next theorem was written
+pub breaks_inside : (lines : Rest) (old new newer : Option (List ℕ)) (known : List Headed) (rest after : Rest) (d : Derived)
+    → History lines old known rest new → read_from known (number_behind lines) None rest ≡ Ok (Some (d.theorem, after)) → IsDerived d → GrewByFront new newer (block_of d)
+    → BreaksInside lines old newer
+breaks_inside lines old new newer known rest after d h read k w =
+    let f = front_more old new newer (flat_map block_of h.derived) (block_of d) h.grew w in
+    record {
+      derived = h.derived ++ d ∷ [];
+      sound = all_more h.derived d h.sound k;
+      front = record { known = known ++ headed d.theorem.title d.theorem.statement ∷ []; rest = after; begins = begins_more lines h.derived known rest after d h.begins read k };
+      count = f.0;
+      short = subst (λ (b : List ℕ). f.0 ≤ length b) (sym (blocks_more h.derived d)) f.1;
+      grew = subst (λ (b : List ℕ). Grew old newer (take f.0 b)) (sym (blocks_more h.derived d)) f.2;
+    }
+
+-- what the grammar gives, where the number behind the last line is that of all lines
+pub at_last : (known : List Headed) (a b : ℕ) (lines : Rest) (e : Result (Option (Entry × Rest)) BookFault) → a ≡ b → read_from known a None lines ≡ e → read_from known b None lines ≡ e
+at_last known a b lines e is h = subst (λ (k : ℕ). read_from known k None lines ≡ e) is h
+
+-- the next theorem has a line that is not licensed
+pub stops_with : (lines : Rest) (old new : Option (List ℕ)) (known : List Headed) (rest after : Rest) (t : Entry) (step : ℕ) (wanted : Wanted) (names : Names)
+    → History lines old known rest new → read_from known (number_behind lines) None rest ≡ Ok (Some (t, after))
+    → IsFirstUnlicensed (stated t.statement) t.script step wanted → names ≡ t.names
+    → EndsWith lines old new (ends.Unlicensed t.title step wanted names)
+stops_with lines old new known rest after t step wanted names h read first named =
+    ends_with lines old new known rest (ends.Unlicensed t.title step wanted names) h (t, after, read, record { titled = refl; first = first; named = sym named })
+
+-- the bytes that were written are the block of this derivation
+pub spelled_as : (old new : Option (List ℕ)) (xs ys : List ℕ) (d : Derived) → xs ≡ ys → ys ≡ block_of d → Grew old new xs → Grew old new (block_of d)
+spelled_as old new xs ys d e f g = subst (λ (l : List ℕ). Grew old new l) (e ∙ f) g
+
+pub front_spelled_as : (old new : Option (List ℕ)) (xs ys : List ℕ) (d : Derived) → xs ≡ ys → ys ≡ block_of d → GrewByFront old new xs → GrewByFront old new (block_of d)
+front_spelled_as old new xs ys d e f g = subst (λ (l : List ℕ). GrewByFront old new l) (e ∙ f) g
+
+-- the next theorem stops, or memory ran out
+pub stopped : (lines : Rest) (old new : Option (List ℕ)) (known : List Headed) (rest after : Rest) (t : Entry) (stop : Stop) (r : Result Ending Broken)
+    → r ≡ stop_ending t.title stop → History lines old known rest new → read_from known (number_behind lines) None rest ≡ Ok (Some (t, after))
+    → StopIs (stated t.statement) t.script stop → HasNames t.names stop → BlocksAre lines old new r
+stopped lines old new known rest after t (stops.Unlicensed step wanted names) r e h read s k =
+    subst (BlocksAre lines old new) (sym e) (stops_with lines old new known rest after t step wanted names h read s k)
+stopped lines old new known rest after t stops.NoMemory r e h read s k =
+    subst (BlocksAre lines old new) (sym e) (breaks_off lines old new known rest h)
+
+-- what is read can be judged
+pub fitting : (known : List Headed) (t : Entry) → Fits known t → IsFitting (stated t.statement) t.script
+fitting known t f = record { nothing_made = f.made; forms = f.script; short = f.steps }

@@ -1,0 +1,6 @@
+mod Told
+mod History
+mod Closing
+mod OneOutcome
+mod Answering
+mod WholeBook

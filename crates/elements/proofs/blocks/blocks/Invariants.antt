@@ -1,0 +1,17 @@
+use Rattle.std.proofs.Common.{◌≡◌, ◌≤◌, ◌+◌, length}
+use Rattle.e_book.specs.Book.{last_line}
+use Rattle.elements.specs.Outcome.{number_behind}
+use Rattle.elements.proofs.History.{History}
+use Rattle.elements.proofs.blocks.blocks.Given as goal
+
+abbrev pub invariant-loop-theorem : goal.invariant-loop-theorem
+invariant-loop-theorem g l = record {
+  history : History l.initial.lines.lines (g.K.Sink.written l.initial.sink) l.known l.lines.lines (g.K.Sink.written l.sink);
+  last : last_line l.lines ≡ number_behind l.initial.lines.lines;
+  count : length l.known ≡ l.theorems;
+  few : l.theorems + length l.lines.lines ≤ length l.initial.lines.lines;
+  rises : g.K.Sink.faults l.initial.sink ≤ g.K.Sink.faults l.sink;
+}
+
+abbrev pub decreases-loop-theorem : goal.decreases-loop-theorem
+decreases-loop-theorem g l = length l.lines.lines

@@ -1,0 +1,150 @@
+-- What a run answers to a text, and what it writes.
+use Rattle.std.specs.Prelude.{◌≡◌, ℕ, ◌+◌, ◌<◌, List, [], ◌∷◌, ◌++◌, map, take, length, codes, Option, Some, None}
+use Rattle.std.specs.List.{flat_map}
+use Rattle.e_io.specs.Bytes.{Grew, GrewByFront}
+use Rattle.e_theorem.specs.Statements.{stated}
+use Rattle.e_deriv.specs.declared.names.Names.{Names}
+use Rattle.e_deriv.specs.Script.{Script, erased}
+use Rattle.e_deriv.specs.Certified.{Certified}
+use Rattle.e_book.specs.Entry.{Entry}
+use Rattle.e_spell.specs.Spelling.{spelled, unlicensed_text}
+use Rattle.elements.specs.declared.status.Status.{Status}
+use Rattle.elements.specs.declared.status.Status.TheVariants as status
+use Rattle.elements.specs.Outcome.{Rest, End, IsOutcome, IsFront, EndsBook, lines_of_book}
+use Rattle.elements.specs.Outcome as ends
+use Rattle.elements.specs.LastLines.{head_line, accepted_line, fault_line, read_fault_line, no_memory_line, usage_line}
+
+-- a theorem with a derivation of it
+pub record Derived : Type 0 where
+  pub theorem : Entry
+  pub derivation : Script
+
+-- the derivation is certified, and without its certificates it is the theorem's own script
+pub record IsDerived (d : Derived) : Type 0 where
+  pub certified : Certified (stated d.theorem.statement) d.derivation
+  pub own : erased d.derivation ≡ erased d.theorem.script
+
+abbrev pub AllDerived : List Derived → Type 0
+AllDerived [] = Unit {0}
+AllDerived (d ∷ ds) = IsDerived d × AllDerived ds
+
+abbrev pub theorems_of : List Derived → List Entry
+theorems_of ds = map (λ d. d.theorem) ds
+
+-- the block of a derivation
+abbrev pub block_of : Derived → List ℕ
+block_of d = spelled d.theorem d.derivation
+
+-- these bytes are the block of a derivation of the theorem
+pub record HasBlock (theorem : Entry) (bytes : List ℕ) : Type 0 where
+  pub derivation : Script
+  pub sound : IsDerived (record { theorem = theorem; derivation = derivation })
+  pub spells : bytes ≡ spelled theorem derivation
+
+-- the head line, the blocks, and the last lines
+abbrev pub written_with : List Derived → List ℕ → List ℕ
+written_with ds last = head_line ++ (flat_map block_of ds ++ last)
+
+-- theorems with their derivations: the whole book, or those before the line at which it ends
+pub record Ended (lines : Rest) (end : End) (last out : List ℕ) : Type 0 where
+  pub derived : List Derived
+  pub sound : AllDerived derived
+  pub outcome : IsOutcome lines (theorems_of derived) end
+  pub bytes : out ≡ written_with derived last
+
+-- theorems with their derivations: some of the first ones of the book
+pub record CutOff (lines : Rest) (last out : List ℕ) : Type 0 where
+  pub derived : List Derived
+  pub sound : AllDerived derived
+  pub front : IsFront lines (theorems_of derived)
+  pub bytes : out ≡ written_with derived last
+
+-- what is written in all under an answer to a book of these lines
+abbrev pub Outputs : Rest → Status → List ℕ → Type 0
+Outputs lines (status.Accepted n) out = Ended lines (ends.Accepted n) (accepted_line n) out
+Outputs lines (status.Unlicensed title step wanted) out =
+    (names : Names) × Ended lines (ends.Unlicensed title step wanted names) (unlicensed_text title step wanted names) out
+Outputs lines (status.Fault f) out = Ended lines (ends.Faulty f) (fault_line f) out
+Outputs lines status.ReadFault out = CutOff lines read_fault_line out
+Outputs lines status.NoMemory out = CutOff lines no_memory_line out
+Outputs lines status.WriteFault out = ⊥
+Outputs lines status.Usage out = ⊥
+
+-- the bytes of this answer were written
+pub record WroteAll (lines : Rest) (old new : Option (List ℕ)) (answer : Status) : Type 0 where
+  pub out : List ℕ
+  pub outputs : Outputs lines answer out
+  pub grew : Grew old new out
+
+-- a front of the bytes of some answer was written
+pub record WroteFront (lines : Rest) (old new : Option (List ℕ)) : Type 0 where
+  pub answer : Status
+  pub out : List ℕ
+  pub outputs : Outputs lines answer out
+  pub count : ℕ
+  pub grew : Grew old new (take count out)
+
+-- a book of these lines is answered so, and this was written
+abbrev pub Checks : Rest → Option (List ℕ) → Option (List ℕ) → Status → Type 0
+Checks lines old new status.WriteFault = WroteFront lines old new
+Checks lines old new (status.Accepted n) = WroteAll lines old new (status.Accepted n)
+Checks lines old new (status.Unlicensed title step wanted) = WroteAll lines old new (status.Unlicensed title step wanted)
+Checks lines old new (status.Fault f) = WroteAll lines old new (status.Fault f)
+Checks lines old new status.ReadFault = WroteAll lines old new status.ReadFault
+Checks lines old new status.NoMemory = WroteAll lines old new status.NoMemory
+Checks lines old new status.Usage = ⊥
+
+-- the answer of an outcome; a fault of the source or the sink, and want of memory, can come in place of it
+abbrev pub IsAnswer : End → Status → Type 0
+IsAnswer (ends.Accepted n) (status.Accepted m) = m ≡ n
+IsAnswer (ends.Unlicensed title step wanted names) (status.Unlicensed p i w) = (p ≡ title) × (i ≡ step) × (w ≡ wanted)
+IsAnswer (ends.Faulty f) (status.Fault g) = g ≡ f
+IsAnswer end status.ReadFault = Unit {0}
+IsAnswer end status.WriteFault = Unit {0}
+IsAnswer end status.NoMemory = Unit {0}
+IsAnswer end other = ⊥
+
+-- where a source tells its bytes, whatever the outcome of that book is, the answer is that
+abbrev pub Answers : Option (List ℕ) → Status → Type 0
+Answers left answer = (text : List ℕ) (end : End) → left ≡ Some text → EndsBook text end → IsAnswer end answer
+
+-- where a source tells its bytes, the text is all of them
+abbrev pub IsAllOf : Option (List ℕ) → List ℕ → Type 0
+IsAllOf None text = Unit {0}
+IsAllOf (Some bytes) text = text ≡ bytes
+
+-- the book that a source tells is answered so, and this was written
+abbrev pub ChecksBook : Option (List ℕ) → Option (List ℕ) → Option (List ℕ) → Status → Type 0
+ChecksBook left old new answer = (text : List ℕ) × IsAllOf left text × Checks (lines_of_book text) old new answer
+
+abbrev pub IsWriteFault : Status → Type 0
+IsWriteFault status.WriteFault = Unit {0}
+IsWriteFault _ = ⊥
+
+abbrev pub IsReadFault : Status → Type 0
+IsReadFault status.ReadFault = Unit {0}
+IsReadFault _ = ⊥
+
+abbrev pub IsAccepted : Status → Type 0
+IsAccepted (status.Accepted n) = Unit {0}
+IsAccepted _ = ⊥
+
+-- the status with which the program exits
+abbrev pub exit_of : Status → ℕ
+exit_of (status.Accepted n) = 0
+exit_of (status.Unlicensed title step wanted) = 1
+exit_of (status.Fault f) = 2
+exit_of status.Usage = 3
+exit_of status.ReadFault = 4
+exit_of status.WriteFault = 5
+exit_of status.NoMemory = 6
+
+-- the usage line was written, or a front of it and the sink failed
+abbrev pub AnswersUsage : Option (List ℕ) → Option (List ℕ) → Status → Type 0
+AnswersUsage old new status.Usage = Grew old new usage_line
+AnswersUsage old new status.WriteFault = GrewByFront old new usage_line
+AnswersUsage old new _ = ⊥
+
+abbrev pub IsUsage : Status → Type 0
+IsUsage status.Usage = Unit {0}
+IsUsage _ = ⊥

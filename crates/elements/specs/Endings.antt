@@ -1,0 +1,88 @@
+-- How the blocks of a book end, before the last lines are written.
+use Rattle.std.specs.Prelude.{◌≡◌, ◌⊎◌, ℕ, ◌≤◌, List, [], length, take, Option, Result, Ok, Err}
+use Rattle.std.specs.List.{flat_map}
+use Rattle.e_io.specs.Bytes.{Grew, GrewByFront}
+use Rattle.e_deriv.specs.declared.stop.Stop.{Stop}
+use Rattle.e_deriv.specs.declared.stop.Stop.TheVariants as stops
+use Rattle.elements.specs.declared.blocks.Ending.{Ending}
+use Rattle.elements.specs.declared.blocks.Ending.TheVariants.{All, Stopped, Faulty}
+use Rattle.elements.specs.declared.blocks.Broken.{Broken}
+use Rattle.elements.specs.declared.blocks.Broken.TheVariants.{NoMemory, WriteFault}
+use Rattle.e_spell.specs.Spelling.{stop_text, IsStop}
+use Rattle.elements.specs.declared.status.Status.{Status}
+use Rattle.elements.specs.declared.status.Status.TheVariants as status
+use Rattle.elements.specs.LastLines.{accepted_line, fault_line}
+use Rattle.elements.specs.Outcome.{Rest, End, IsOutcome, IsFront}
+use Rattle.elements.specs.Outcome as ends
+use Rattle.elements.specs.Answers.{Derived, AllDerived, theorems_of, block_of}
+
+-- the blocks of these theorems with their derivations were written, and the lines end so
+pub record EndsWith (lines : Rest) (old new : Option (List ℕ)) (end : End) : Type 0 where
+  pub derived : List Derived
+  pub sound : AllDerived derived
+  pub outcome : IsOutcome lines (theorems_of derived) end
+  pub grew : Grew old new (flat_map block_of derived)
+
+-- the blocks of some of the first theorems were written
+pub record BreaksOff (lines : Rest) (old new : Option (List ℕ)) : Type 0 where
+  pub derived : List Derived
+  pub sound : AllDerived derived
+  pub front : IsFront lines (theorems_of derived)
+  pub grew : Grew old new (flat_map block_of derived)
+
+-- a front of them was written
+pub record BreaksInside (lines : Rest) (old new : Option (List ℕ)) : Type 0 where
+  pub derived : List Derived
+  pub sound : AllDerived derived
+  pub front : IsFront lines (theorems_of derived)
+  pub count : ℕ
+  pub short : count ≤ length (flat_map block_of derived)
+  pub grew : Grew old new (take count (flat_map block_of derived))
+
+-- a stop that is no want of memory
+abbrev pub StopsWith : Rest → Option (List ℕ) → Option (List ℕ) → List ℕ → Stop → Type 0
+StopsWith lines old new title (stops.Unlicensed step wanted names) = EndsWith lines old new (ends.Unlicensed title step wanted names)
+StopsWith lines old new title stops.NoMemory = ⊥
+
+abbrev pub EndingIs : Rest → Option (List ℕ) → Option (List ℕ) → Ending → Type 0
+EndingIs lines old new (All n) = EndsWith lines old new (ends.Accepted n)
+EndingIs lines old new (Stopped title stop) = StopsWith lines old new title stop
+EndingIs lines old new (Faulty f) = EndsWith lines old new (ends.Faulty f)
+
+-- the blocks end so, or memory or the sink gave out
+abbrev pub BlocksAre : Rest → Option (List ℕ) → Option (List ℕ) → Result Ending Broken → Type 0
+BlocksAre lines old new (Ok ending) = EndingIs lines old new ending
+BlocksAre lines old new (Err NoMemory) = BreaksOff lines old new
+BlocksAre lines old new (Err WriteFault) = BreaksInside lines old new
+
+-- a stop ends the blocks, or was for want of memory
+abbrev pub stop_ending : List ℕ → Stop → Result Ending Broken
+stop_ending title (stops.Unlicensed step wanted names) = Ok (Stopped title (stops.Unlicensed step wanted names))
+stop_ending title stops.NoMemory = Err NoMemory
+
+-- the last lines of an ending
+abbrev pub last_lines : Ending → List ℕ
+last_lines (All n) = accepted_line n
+last_lines (Stopped title stop) = stop_text title stop
+last_lines (Faulty f) = fault_line f
+
+-- the answer of a stop
+abbrev pub stop_answer : List ℕ → Stop → Status
+stop_answer title (stops.Unlicensed step wanted names) = status.Unlicensed title step wanted
+stop_answer title stops.NoMemory = status.NoMemory
+
+abbrev pub answer_of : Ending → Status
+answer_of (All n) = status.Accepted n
+answer_of (Stopped title stop) = stop_answer title stop
+answer_of (Faulty f) = status.Fault f
+
+-- a stop is no want of memory
+abbrev pub IsEnding : Ending → Type 0
+IsEnding (All n) = Unit {0}
+IsEnding (Stopped title stop) = IsStop stop
+IsEnding (Faulty f) = Unit {0}
+
+-- the last lines were written, or a front of them and the sink failed
+abbrev pub Closes : Option (List ℕ) → Option (List ℕ) → List ℕ → Status → Status → Type 0
+Closes old new last answer result =
+    ((result ≡ answer) × Grew old new last) ⊎ ((result ≡ status.WriteFault) × GrewByFront old new last)

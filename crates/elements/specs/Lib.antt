@@ -1,0 +1,6 @@
+pub mod Words
+pub mod Input
+pub mod Outcome
+pub mod LastLines
+pub mod Answers
+pub mod Endings

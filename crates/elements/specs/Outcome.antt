@@ -1,0 +1,78 @@
+-- The outcome of a book: its theorems are taken one after another, up to the first fault or the first unlicensed line.
+use Rattle.std.specs.Prelude.{◌≡◌, ℕ, ◌+◌, List, [], ◌∷◌, ◌++◌, length, Option, Some, None, Result, Ok, Err}
+use Rattle.e_text.specs.Lines.{Seen, lines_of}
+use Rattle.e_text.specs.declared.line.LineFault.{LineFault}
+use Rattle.e_theorem.specs.Statements.{stated}
+use Rattle.e_deriv.specs.declared.stop.Wanted.{Wanted}
+use Rattle.e_deriv.specs.declared.names.Names.{Names}
+use Rattle.e_deriv.specs.Lines.{proof_lines}
+use Rattle.e_deriv.specs.Licensed.{AllLicensed, IsFirstUnlicensed}
+use Rattle.e_book.specs.declared.fault.BookFault.{BookFault}
+use Rattle.e_book.specs.Headed.{Headed, headed}
+use Rattle.e_book.specs.Entry.{Entry}
+use Rattle.e_book.specs.Book.{read_from}
+
+-- the lines ahead, cut off behind the first that has a fault
+abbrev pub Rest : Type 0
+Rest = List (Result Seen LineFault)
+
+-- each line of the theorem's script is licensed
+abbrev pub IsLicensed : Entry → Type 0
+IsLicensed t = AllLicensed (proof_lines (stated t.statement) t.script)
+
+-- these theorems are read one after another, and each is licensed; then this is known, and these lines are left
+abbrev pub Takes : ℕ → List Headed → Rest → List Entry → List Headed → Rest → Type 0
+Takes last known lines [] now rest = (known ≡ now) × (lines ≡ rest)
+Takes last known lines (t ∷ ts) now rest =
+    (after : Rest) × (read_from known last None lines ≡ Ok (Some (t, after))) × IsLicensed t
+    × Takes last (known ++ headed t.title t.statement ∷ []) after ts now rest
+
+-- how a book ends: all its theorems are taken; a line is not licensed; a line has a fault
+pub data End : Type 0 where
+  Accepted : (theorems : ℕ) → End
+  Unlicensed : (title : List ℕ) (step : ℕ) (wanted : Wanted) (names : Names) → End
+  Faulty : (fault : BookFault) → End
+
+-- the next theorem has this title, its line of this number is the first unlicensed one and lacks this, and these are
+-- the names of the objects in scope before it
+pub record StopsAt (t : Entry) (title : List ℕ) (step : ℕ) (wanted : Wanted) (names : Names) : Type 0 where
+  pub titled : t.title ≡ title
+  pub first : IsFirstUnlicensed (stated t.statement) t.script step wanted
+  pub named : t.names ≡ names
+
+-- with this known, these lines end so
+abbrev pub Ends : ℕ → List Headed → Rest → End → Type 0
+Ends last known lines (Accepted n) = (read_from known last None lines ≡ Ok None) × (length known ≡ n)
+Ends last known lines (Unlicensed title step wanted names) =
+    (t : Entry) × (after : Rest) × (read_from known last None lines ≡ Ok (Some (t, after))) × StopsAt t title step wanted names
+Ends last known lines (Faulty fault) = read_from known last None lines ≡ Err fault
+
+-- the number behind the last line
+abbrev pub number_behind : Rest → ℕ
+number_behind lines = 1 + length lines
+
+-- these are the first theorems of the lines, each licensed; then this is known, and these lines are left
+abbrev pub Begins : Rest → List Entry → List Headed → Rest → Type 0
+Begins lines theorems known rest = Takes (number_behind lines) [] lines theorems known rest
+
+-- the lines are these theorems, each licensed, and then end so
+pub record IsOutcome (lines : Rest) (theorems : List Entry) (end : End) : Type 0 where
+  pub known : List Headed
+  pub rest : Rest
+  pub begins : Begins lines theorems known rest
+  pub ends : Ends (number_behind lines) known rest end
+
+-- these are the first theorems of the lines, each licensed
+pub record IsFront (lines : Rest) (theorems : List Entry) : Type 0 where
+  pub known : List Headed
+  pub rest : Rest
+  pub begins : Begins lines theorems known rest
+
+-- the lines of a book: a line has at most 1,600 bytes, and a book 4,194,304
+abbrev pub lines_of_book : List ℕ → Rest
+lines_of_book text = lines_of (record { longest = 1600; most = 4194304 }) (record { line = 1; before = 0 }) text
+
+-- the outcome of a book is this
+pub record EndsBook (text : List ℕ) (end : End) : Type 0 where
+  pub theorems : List Entry
+  pub outcome : IsOutcome (lines_of_book text) theorems end

@@ -1,0 +1,8 @@
+-- The words of a command.
+use Rattle.std.specs.Prelude.{ℕ, List, [], ◌∷◌, Bool, false, codes, map, string_bytes}
+use Rattle.std.specs.Str.{bytes_eq}
+
+-- the one word check
+abbrev pub is_check : List (List ℕ) → Bool
+is_check (word ∷ []) = bytes_eq word (codes "check")
+is_check _ = false

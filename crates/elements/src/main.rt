@@ -1,0 +1,41 @@
+//! `elements`: a proof checker for System E.
+#![tactic(auto)]
+
+mod blocks;
+mod checker;
+mod input;
+mod output;
+mod runner;
+mod status;
+
+pub use runner::run;
+pub use status::{Status, exit_code};
+
+use e_io::{StdSink, StdSource};
+use std::alloc::{AllocError, Global};
+use std::env;
+use std::io::ErrorKind;
+use std::process::ExitCode;
+
+/// The words behind the program's name.
+fn behind_the_name(alloc: Global, mut args: env::Args) -> Result<Vec<String>, AllocError> {
+    args.next();
+    args.collect(alloc)
+}
+
+fn main(rt: HostRuntime) -> ExitCode {
+    let words = match env::args(&rt) {
+        Ok(args) => behind_the_name(rt.alloc(), args),
+        // A word that is no text is no command.
+        Err(error) if error.kind() == ErrorKind::InvalidData => Ok(Vec::new(rt.alloc())),
+        Err(error) if error.kind() == ErrorKind::OutOfMemory => Err(AllocError),
+        Err(_) => return ExitCode::from(7),
+    };
+    let Ok(words) = words else {
+        return ExitCode::from(exit_code(&Status::NoMemory));
+    };
+    let mut source = StdSource::new(rt.stdin());
+    let mut sink = StdSink::new(rt.stdout());
+    let status = run(rt.alloc(), &words, &mut source, &mut sink);
+    ExitCode::from(exit_code(&status))
+}

@@ -1,0 +1,59 @@
+//! The top call.
+ghost use Rattle.std.specs.Prelude.{◌≡◌, ◌≤◌, IsTrue, IsFalse, map, string_bytes};
+ghost use Rattle.e_io.specs.Bytes.{Rose};
+ghost use Rattle.elements.specs.Answers.{Answers, AnswersUsage, ChecksBook, IsAccepted, IsReadFault, IsUsage, IsWriteFault};
+ghost use Rattle.elements.specs.Input.{IsAtEnd};
+ghost use Rattle.elements.specs.Words.{is_check};
+
+use crate::checker::{check, close};
+use crate::status::Status;
+use e_io::{Sink, Source};
+use std::alloc::Global;
+
+/// Whether the words are the command `check`.
+fn is_check(words: &[String]) -> bool
+    ensures { result ≡ is_check (map string_bytes words.now) }
+{
+    match words {
+        [word] => word.as_bytes() == b"check".as_slice(),
+        _ => false,
+    }
+}
+
+/// Does what the words say.
+///
+/// With the word `check` it reads a book from the source, and writes to the sink the line `derivation 1`, the block of
+/// each theorem with its derivation, and the last lines. With any other words it writes the usage line. The answers
+/// are those of `Status`: `Accepted` only where each theorem of the book has a derivation, and then the bytes written
+/// spell them; `Unlicensed` only where the named literal is not allowed at the named line and all lines before it are
+/// licensed; `Fault` only where that is the first fault of the book; `ReadFault` and `WriteFault` only where the count
+/// of faults of the source, or of the sink, rose in this call or stands at its last value.
+pub fn run<S: Source, K: Sink>(
+    alloc: Global,
+    words: &[String],
+    source: &mut S,
+    sink: &mut K,
+) -> Status
+    // What the answer means, and what was written.
+    ensures book { IsTrue (is_check (map string_bytes words.now)) → ChecksBook (S.left source.old) (K.written sink.old) (K.written sink.new) result }
+    ensures usage { IsFalse (is_check (map string_bytes words.now)) → AnswersUsage (K.written sink.old) (K.written sink.new) result }
+    // An accepted book was read to its end.
+    ensures end { IsAccepted result → IsAtEnd (S.left source.new) }
+    // A book with an outcome is answered so.
+    ensures complete { IsTrue (is_check (map string_bytes words.now)) → Answers (S.left source.old) result }
+    // The causes of the other answers.
+    ensures read_rises { S.faults source.old ≤ S.faults source.new }
+    ensures read_cause { IsReadFault result → Rose (S.faults source.old) (S.faults source.new) }
+    ensures write_rises { K.faults sink.old ≤ K.faults sink.new }
+    ensures write_cause { IsWriteFault result → Rose (K.faults sink.old) (K.faults sink.new) }
+{
+    if is_check(words) {
+        check(alloc, source, sink)
+    } else {
+        close(
+            sink,
+            b"usage: elements check | verify | make N | trial N\n",
+            Status::Usage,
+        )
+    }
+}

@@ -1,0 +1,45 @@
+//! How a run ends.
+ghost use Rattle.std.specs.Prelude.{◌≡◌};
+ghost use Rattle.elements.specs.Answers.{exit_of};
+
+use e_book::BookFault;
+use e_deriv::Wanted;
+use e_text::Title;
+
+/// What a run answers.
+#[derive(Debug, Drop)]
+pub enum Status {
+    /// Each theorem of the book has a derivation, and the derivations are written.
+    Accepted { theorems: u32 },
+    /// The first line that is not licensed, and what it lacks.
+    Unlicensed {
+        title: Title,
+        step: u32,
+        wanted: Wanted,
+    },
+    /// The first fault of the book.
+    Fault(BookFault),
+    /// The words are no command.
+    Usage,
+    /// The source failed.
+    ReadFault,
+    /// The sink failed.
+    WriteFault,
+    /// Memory ran out.
+    NoMemory,
+}
+
+/// The status with which the program exits.
+pub fn exit_code(status: &Status) -> u8
+    ensures { result ≡ exit_of status.now }
+{
+    match status {
+        Status::Accepted { .. } => 0,
+        Status::Unlicensed { .. } => 1,
+        Status::Fault(_) => 2,
+        Status::Usage => 3,
+        Status::ReadFault => 4,
+        Status::WriteFault => 5,
+        Status::NoMemory => 6,
+    }
+}
