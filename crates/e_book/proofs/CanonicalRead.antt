@@ -4,7 +4,7 @@ use Rattle.std.specs.List.{list_all}
 use Rattle.std.proofs.lemmas.Bool.{le-ltb}
 use Rattle.std.proofs.lemmas.List.{append-nil}
 use Rattle.e_text.specs.Tokens.{tokens_of}
-use Rattle.e_text.specs.Lines.{Seen}
+use Rattle.e_text.specs.Lines.{Seen, numbered}
 use Rattle.e_text.specs.Names.{is_title}
 use Rattle.e_text.specs.declared.line.LineFault.{LineFault}
 use Rattle.e_literal.specs.declared.object.Sort.{Sort}
@@ -259,7 +259,7 @@ front t = head_forms t ++ script_forms t.names t.script
 
 run_front : (known : List Headed) (t : Entry) → HasSpelling known t → Runs known None (front t) (Some (closed t Closed))
 run_front known t h =
-    let o = in_order t.names h.point_names h.line_names h.circle_names h.names_differ in
+    let o = in_order t.names h.point_names h.line_names h.circle_names h.fits.differ in
     let facts : List Lit = facts_of_statement (stated t.statement) in
     let goal : Goal = goal_of_statement (stated t.statement) in
     let fit : list_all fits (lines t.script (scope_of_names t.names) facts goal) ≡ true = subst (λ (z : Scope). list_all fits (lines t.script z facts goal) ≡ true) h.fits.scope h.fits.script in
@@ -329,3 +329,13 @@ canonical_lines_read known last t all rest h sh =
     let shown : Shows all (map line_of (front t ++ forms.End ∷ [])) rest = subst (λ (fs : List Form). Shows all (map line_of fs) rest) whole sh in
     let l = reads_runs known last None (Some (closed t Closed)) (front t) (forms.End ∷ []) all rest (run_front known t h) shown in
     l.same ∙ end_read known last t l.ahead rest (same_entry t h.fits.made h.script) l.shown
+
+-- lines with their numbers, as they stand in a text
+shows_numbered : (first : ℕ) (texts : List (List ℕ)) (rest : List (Result Seen LineFault)) → Shows (numbered first texts ++ rest) texts rest
+shows_numbered first [] rest = refl
+shows_numbered first (text ∷ texts) rest = (refl, shows_numbered (first + 1) texts rest)
+
+pub numbered_lines_read : (known : List Headed) (last : ℕ) (t : Entry) (first : ℕ) (rest : List (Result Seen LineFault)) → HasSpelling known t
+    → read_from known last None (numbered first (map line_of (forms_of t)) ++ rest) ≡ Ok (Some (t, rest))
+numbered_lines_read known last t first rest h =
+    canonical_lines_read known last t (numbered first (map line_of (forms_of t)) ++ rest) rest h (shows_numbered first (map line_of (forms_of t)) rest)

@@ -15,6 +15,7 @@ use Rattle.e_clause.specs.Rows.{Row}
 use Rattle.e_clause.specs.Table.{table}
 use Rattle.e_clause.specs.Instance.{all_of, fits, Inst, instance_of_row, place_of}
 use Rattle.e_clause.specs.Sigs.{sig_of}
+use Rattle.e_clause.proofs.Names.{found_by_name}
 use Rattle.e_clause.specs.RuleKinds.{is_diagram_rule}
 use Rattle.e_deriv.specs.declared.names.Names.{Names}
 use Rattle.e_deriv.specs.Steps.{is_citation}
@@ -25,7 +26,7 @@ use Rattle.e_book.specs.HasSpelling.{is_diagram_lit}
 use Rattle.e_book.proofs.Differ.{both}
 use Rattle.e_book.proofs.Respelled.{GoodForm}
 use Rattle.e_book.proofs.Lookups.{InOrder, lit_number_again, lit_named, objects_again, objects_named}
-use Rattle.e_book.proofs.RuleNames.{place_again, title_again, rule_name_is}
+use Rattle.e_book.proofs.RuleNames.{title_again, rule_name_is}
 
 take_map : {A B : Type 0} (f : A → B) (n : ℕ) (xs : List A) → take n (map f xs) ≡ map f (take n xs)
 take_map f zero xs = refl
@@ -115,7 +116,7 @@ cited ns b h =
 
 rule_again : (ns : Names) (b : By) (c : Cited ns b) → known_rule (place_of (rule_name b.rule)) ≡ Ok b.rule
 rule_again ns b c =
-    ap (λ (w : List ℕ). known_rule (place_of w)) (rule_name_is b.rule c.row c.at) ∙ ap known_rule (place_again b.rule c.row c.at) ∙ rw c.diagram refl
+    ap (λ (w : List ℕ). known_rule (place_of w)) (rule_name_is b.rule c.row c.at) ∙ ap known_rule (found_by_name b.rule c.row c.at) ∙ rw c.diagram refl
 
 sig_again : (ns : Names) (b : By) (c : Cited ns b) → variables_of (sig_of b.rule) ≡ Ok (sig_of_row c.row)
 sig_again ns b c = ap (λ (o : Option Row). variables_of (option_map (λ r. sig_of_row r) o)) c.at

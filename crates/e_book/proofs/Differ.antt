@@ -1,5 +1,5 @@
 -- Names that differ: what stands at its place stands nowhere else.
-use Rattle.std.proofs.Common.{◌≡◌, ℕ, zero, suc, ◌<◌, Bool, true, false, ltb, not, ◌&&◌, ◌||◌, List, [], ◌∷◌, ◌++◌, length, get_or, take, Some, None, refl, sym, ap, ◌∙◌, arith, length-take-le}
+use Rattle.std.proofs.Common.{◌≡◌, ℕ, zero, suc, ◌<◌, Bool, true, false, ltb, not, ◌&&◌, ◌||◌, List, [], ◌∷◌, length, get_or, take, Some, None, refl, sym, ap, ◌∙◌, arith, length-take-le}
 use Rattle.std.specs.List.{position, position_or_len, AllByRecursion}
 use Rattle.std.specs.Str.{bytes_eq}
 use Rattle.std.proofs.lemmas.Bool.{lt-ltb, le-ltb, not-true}
@@ -9,7 +9,8 @@ use Rattle.std.proofs.lemmas.Slice.Eq.{bytes_eq-Decides}
 use Rattle.e_text.specs.Names.{is_name}
 use Rattle.e_book.specs.Scope.{has}
 use Rattle.e_book.specs.Canonical.{name_at}
-use Rattle.e_book.specs.HasSpelling.{AreNames, differ}
+use Rattle.e_book.specs.Fits.{are_distinct, are_apart}
+use Rattle.e_book.specs.HasSpelling.{AreNames}
 
 pub both : (a b : Bool) → (a && b) ≡ true → (a ≡ true) × (b ≡ true)
 both true b e = (refl, e)
@@ -38,7 +39,7 @@ turned a b h = turn_by (bytes_eq b a) a b refl h
 abbrev pub Apart : List (List ℕ) → List (List ℕ) → Type 0
 Apart others names = AllByRecursion (λ n. has others n ≡ false) names
 
-first_out : (x : List ℕ) (xs ys : List (List ℕ)) → Apart (x ∷ xs) ys → has ys x ≡ false
+pub first_out : (x : List ℕ) (xs ys : List (List ℕ)) → Apart (x ∷ xs) ys → has ys x ≡ false
 first_out x xs [] h = refl
 first_out x xs (y ∷ ys) h =
     let n = neither (bytes_eq x y) (has xs y) h.0 in
@@ -52,34 +53,9 @@ pub Apart-sym : (xs ys : List (List ℕ)) → Apart xs ys → Apart ys xs
 Apart-sym [] ys h = tt
 Apart-sym (x ∷ xs) ys h = (first_out x xs ys h, Apart-sym xs ys (rest_out x xs ys h))
 
-has_append : (xs ys : List (List ℕ)) (n : List ℕ) → has (xs ++ ys) n ≡ false → (has xs n ≡ false) × (has ys n ≡ false)
-has_append [] ys n h = (refl, h)
-has_append (x ∷ xs) ys n h =
-    let a = neither (bytes_eq x n) (has (xs ++ ys) n) h in
-    let b = has_append xs ys n a.1 in
-    (rw (a.0, b.0) refl, b.1)
-
-one_more : (x : List ℕ) (xs ys : List (List ℕ)) → has ys x ≡ false → Apart xs ys → Apart (x ∷ xs) ys
-one_more x xs [] h k = tt
-one_more x xs (y ∷ ys) h k =
-    let n = neither (bytes_eq y x) (has ys x) h in
-    (rw (turned y x n.0, k.0) refl, one_more x xs ys n.1 k.1)
-
-none_apart : (ys : List (List ℕ)) → Apart [] ys
-none_apart [] = tt
-none_apart (y ∷ ys) = (refl, none_apart ys)
-
-pub differ-append : (xs ys : List (List ℕ)) → differ (xs ++ ys) ≡ true → (differ xs ≡ true) × (differ ys ≡ true) × Apart xs ys
-differ-append [] ys h = (refl, h, none_apart ys)
-differ-append (x ∷ xs) ys h =
-    let p = both (not (has (xs ++ ys) x)) (differ (xs ++ ys)) h in
-    let n = has_append xs ys x (not-true (has (xs ++ ys) x) p.0) in
-    let m = differ-append xs ys p.1 in
-    (rw (n.0, m.0) refl, m.1, one_more x xs ys n.1 m.2)
-
-pub Apart-append : (others xs ys : List (List ℕ)) → Apart others (xs ++ ys) → Apart others xs × Apart others ys
-Apart-append others [] ys h = (tt, h)
-Apart-append others (x ∷ xs) ys h = let m = Apart-append others xs ys h.1 in ((h.0, m.0), m.1)
+pub apart : (others names : List (List ℕ)) → are_apart others names ≡ true → Apart others names
+apart others [] h = tt
+apart others (n ∷ ns) h = let p = both (not (has others n)) (are_apart others ns) h in (not-true (has others n) p.0, apart others ns p.1)
 
 pub apart_at : (others names : List (List ℕ)) (i : ℕ) → Apart others names → i < length names → has others (name_at names i) ≡ false
 apart_at others [] i h lt = absurd (omega arith)
@@ -98,11 +74,11 @@ has_not (n ∷ ns) name zero e lt = (neither (bytes_eq n name) (has ns name) e).
 has_not (n ∷ ns) name (suc k) e lt = has_not ns name k (neither (bytes_eq n name) (has ns name) e).1 (omega arith)
 
 -- no name stands before its place
-pub not_before : (names : List (List ℕ)) (i : ℕ) → differ names ≡ true → i < length names → has (take i names) (name_at names i) ≡ false
+pub not_before : (names : List (List ℕ)) (i : ℕ) → are_distinct names ≡ true → i < length names → has (take i names) (name_at names i) ≡ false
 not_before [] i h lt = absurd (omega arith)
 not_before (n ∷ ns) zero h lt = refl
 not_before (n ∷ ns) (suc i) h lt =
-    let p = both (not (has ns n)) (differ ns) h in
+    let p = both (not (has ns n)) (are_distinct ns) h in
     let first = has_not ns n i (not-true (has ns n) p.0) (omega arith) in
     rw (turned (get_or ns i []) n first, not_before ns i p.1 (omega arith)) refl
 
@@ -115,7 +91,7 @@ not_there names name e =
     rw (at, test) refl
 
 -- a name is first at its own place
-pub there : (names : List (List ℕ)) (i : ℕ) → differ names ≡ true → i < length names → position (λ n. bytes_eq n (name_at names i)) names ≡ Some i
+pub there : (names : List (List ℕ)) (i : ℕ) → are_distinct names ≡ true → i < length names → position (λ n. bytes_eq n (name_at names i)) names ≡ Some i
 there names i e lt =
     let name = name_at names i in
     let earlier = not_before names i e lt in

@@ -6,7 +6,6 @@ pub mod Citations
 pub mod Distinct
 pub mod Keeps
 pub mod LineCount
-mod Checks
 pub mod Differ
 pub mod Respelled
 pub mod LineWords
@@ -15,3 +14,6 @@ pub mod RuleNames
 pub mod Cited
 pub mod Declared
 pub mod CanonicalRead
+pub mod SaidForms
+pub mod ReadSpelled
+mod Checks

@@ -1,5 +1,5 @@
 -- The name of an object in scope is read as that object.
-use Rattle.std.proofs.Common.{◌≡◌, ℕ, Bool, true, ltb, ◌&&◌, List, [], ◌∷◌, ◌++◌, length, map, Result, Ok, refl, ap, subst, ◌∙◌}
+use Rattle.std.proofs.Common.{◌≡◌, ℕ, Bool, true, ltb, ◌&&◌, List, [], ◌∷◌, length, map, Result, Ok, refl, ap, subst, ◌∙◌}
 use Rattle.std.specs.List.{list_all}
 use Rattle.std.proofs.lemmas.Bool.{ltb-true}
 use Rattle.e_text.specs.Names.{is_name}
@@ -16,9 +16,9 @@ use Rattle.e_book.specs.declared.fault.Kind.{Kind}
 use Rattle.e_book.specs.Reading.{◌>>=◌}
 use Rattle.e_book.specs.Scope.{names_of_sort, used, number_at, number_of, atom_in, lit_in, object_as, objects_as}
 use Rattle.e_book.specs.Canonical.{name_at, name_of_object, raw_atom, raw_of}
-use Rattle.e_book.specs.Fits.{scope_of_names}
-use Rattle.e_book.specs.HasSpelling.{AreNames, differ, is_diagram_atom, is_diagram_lit}
-use Rattle.e_book.proofs.Differ.{both, Apart, Apart-sym, Apart-append, apart_at, differ-append, there, not_there, name_there}
+use Rattle.e_book.specs.Fits.{scope_of_names, are_distinct, NamesDiffer}
+use Rattle.e_book.specs.HasSpelling.{AreNames, is_diagram_atom, is_diagram_lit}
+use Rattle.e_book.proofs.Differ.{both, Apart, Apart-sym, apart, apart_at, there, not_there, name_there}
 use Rattle.e_book.proofs.Respelled.{AtomNamed}
 
 -- the names in scope are names, and each stands once
@@ -26,9 +26,9 @@ pub record InOrder (ns : Names) : Type 0 where
   pub point_names : AreNames ns.points
   pub line_names : AreNames ns.lines
   pub circle_names : AreNames ns.circles
-  pub points : differ ns.points ≡ true
-  pub lines : differ ns.lines ≡ true
-  pub circles : differ ns.circles ≡ true
+  pub points : are_distinct ns.points ≡ true
+  pub lines : are_distinct ns.lines ≡ true
+  pub circles : are_distinct ns.circles ≡ true
   pub no_point_line : Apart ns.points ns.lines
   pub no_point_circle : Apart ns.points ns.circles
   pub no_line_circle : Apart ns.lines ns.circles
@@ -36,24 +36,24 @@ pub record InOrder (ns : Names) : Type 0 where
   pub no_circle_point : Apart ns.circles ns.points
   pub no_circle_line : Apart ns.circles ns.lines
 
-pub in_order : (ns : Names) → AreNames ns.points → AreNames ns.lines → AreNames ns.circles → differ (ns.points ++ (ns.lines ++ ns.circles)) ≡ true → InOrder ns
+pub in_order : (ns : Names) → AreNames ns.points → AreNames ns.lines → AreNames ns.circles → NamesDiffer ns → InOrder ns
 in_order ns hp hl hc d =
-    let a = differ-append ns.points (ns.lines ++ ns.circles) d in
-    let b = differ-append ns.lines ns.circles a.1 in
-    let c = Apart-append ns.points ns.lines ns.circles a.2 in
+    let pl = apart ns.points ns.lines d.points_lines in
+    let pc = apart ns.points ns.circles d.points_circles in
+    let lc = apart ns.lines ns.circles d.lines_circles in
     record {
       point_names = hp;
       line_names = hl;
       circle_names = hc;
-      points = a.0;
-      lines = b.0;
-      circles = b.1;
-      no_point_line = c.0;
-      no_point_circle = c.1;
-      no_line_circle = b.2;
-      no_line_point = Apart-sym ns.points ns.lines c.0;
-      no_circle_point = Apart-sym ns.points ns.circles c.1;
-      no_circle_line = Apart-sym ns.lines ns.circles b.2;
+      points = d.points;
+      lines = d.lines;
+      circles = d.circles;
+      no_point_line = pl;
+      no_point_circle = pc;
+      no_line_circle = lc;
+      no_line_point = Apart-sym ns.points ns.lines pl;
+      no_circle_point = Apart-sym ns.points ns.circles pc;
+      no_circle_line = Apart-sym ns.lines ns.circles lc;
     }
 
 abbrev pub Within : Names → Sort → ℕ → Type 0

@@ -1,5 +1,5 @@
 -- What a theorem is that canonical lines can spell.
-use Rattle.std.specs.Prelude.{◌≡◌, ℕ, ◌<◌, Bool, true, false, ◌&&◌, not, List, [], ◌∷◌, ◌++◌, length, None, Some}
+use Rattle.std.specs.Prelude.{◌≡◌, ℕ, ◌<◌, Bool, true, false, ◌&&◌, List, [], length, None, Some}
 use Rattle.std.specs.List.{list_all, AllByRecursion}
 use Rattle.e_text.specs.Names.{is_name, is_title}
 use Rattle.e_literal.specs.declared.literal.Atom.{Atom}
@@ -8,17 +8,11 @@ use Rattle.e_literal.specs.declared.literal.Lit.{Lit}
 use Rattle.e_deriv.specs.Script.{Script, Cite, Hence, Qed}
 use Rattle.e_book.specs.Limits.{most_theorems}
 use Rattle.e_book.specs.Headed.{Headed}
-use Rattle.e_book.specs.Scope.{has}
 use Rattle.e_book.specs.Entry.{Entry}
 use Rattle.e_book.specs.Fits.{Fits}
 
 abbrev pub AreNames : List (List ℕ) → Type 0
 AreNames names = AllByRecursion (λ n. is_name n ≡ true) names
-
--- no name stands twice
-abbrev pub differ : List (List ℕ) → Bool
-differ [] = true
-differ (n ∷ ns) = not (has ns n) && differ ns
 
 -- an atom of diagrams or equality of objects: no book has metric ones yet
 abbrev pub is_diagram_atom : Atom → Bool
@@ -38,15 +32,13 @@ is_plain (Qed [] []) = true
 is_plain (Qed objects certs) = false
 
 pub record HasSpelling (known : List Headed) (t : Entry) : Type 0 where
-  -- objects in scope, a rule with fitting arguments at each citation, and the limits of a theorem
+  -- objects in scope, names that differ, a rule with fitting arguments at each citation, and the limits of a theorem
   pub fits : Fits known t
   pub few_theorems : length known < most_theorems
   pub title : is_title t.title ≡ true
   pub point_names : AreNames t.names.points
   pub line_names : AreNames t.names.lines
   pub circle_names : AreNames t.names.circles
-  -- over all three sorts
-  pub names_differ : differ (t.names.points ++ (t.names.lines ++ t.names.circles)) ≡ true
   pub given : list_all is_diagram_lit t.statement.given ≡ true
   pub shown : list_all is_diagram_lit t.statement.shown ≡ true
   pub some_shown : 0 < length t.statement.shown

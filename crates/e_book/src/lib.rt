@@ -21,7 +21,7 @@ pub use draft::{Draft, Place};
 pub use fault::{BookFault, Kind, Trouble, What};
 pub use form::{Form, form_of};
 pub use known::Known;
-pub use laws::canonical_lines_are_read;
+pub use laws::{canonical_lines_are_read, read_theorems_have_a_spelling};
 pub use literal::{RawAtom, RawLit};
 pub use steps::Steps;
 pub use theorem::Theorem;

@@ -1,0 +1,321 @@
+-- A theorem that is read has a spelling.
+use Rattle.std.proofs.Common.{◌≡◌, ℕ, ◌+◌, ◌<◌, ◌≤◌, Bool, true, false, cond, ltb, inl, inr, List, [], ◌∷◌, ◌++◌, length, replicate, Option, Some, None, Result, Ok, Err, refl, ap, subst, ◌∙◌, arith, length-append}
+use Rattle.std.specs.Prelude.{◌⊎◌}
+use Rattle.std.specs.List.{list_all}
+use Rattle.std.proofs.lemmas.Bool.{cases_lt, lt-ltb}
+use Rattle.std.proofs.lemmas.List.Folds.{list_all-append}
+use Rattle.e_text.specs.Tokens.{tokens_of}
+use Rattle.e_text.specs.Lines.{Seen}
+use Rattle.e_text.specs.Names.{is_title}
+use Rattle.e_text.specs.declared.line.LineFault.{LineFault}
+use Rattle.e_literal.specs.declared.object.Sort.{Sort}
+use Rattle.e_literal.specs.declared.object.Sort.TheVariants.{Point, Line, Circle}
+use Rattle.e_literal.specs.declared.literal.Lit.{Lit}
+use Rattle.e_deriv.specs.declared.names.Names.{Names}
+use Rattle.e_deriv.specs.declared.block.Step.{Step}
+use Rattle.e_deriv.specs.declared.block.Step.TheVariants as steps
+use Rattle.e_deriv.specs.Script.{Qed, steps_script}
+use Rattle.e_book.specs.declared.fault.Kind.{Kind}
+use Rattle.e_book.specs.declared.fault.Kind.TheVariants.{Malformed, NameTaken, Limit}
+use Rattle.e_book.specs.declared.fault.BookFault.{BookFault}
+use Rattle.e_book.specs.declared.fault.What.{What}
+use Rattle.e_book.specs.declared.fault.What.TheVariants as limits
+use Rattle.e_book.specs.declared.literal.RawLit.{RawLit}
+use Rattle.e_book.specs.declared.form.Form.{Form}
+use Rattle.e_book.specs.declared.form.Form.TheVariants as forms
+use Rattle.e_book.specs.declared.draft.Place.{Place}
+use Rattle.e_book.specs.declared.draft.Place.TheVariants.{Declaring, Giving, Showing, Proving, Closed, Done}
+use Rattle.e_book.specs.declared.draft.Draft.{Draft}
+use Rattle.e_book.specs.Reading.{◌>>=◌, with_front}
+use Rattle.e_book.specs.Limits.{most_theorems, most_of, most_steps, most_facts, what_of, within}
+use Rattle.e_book.specs.Headed.{Headed, is_known}
+use Rattle.e_book.specs.Scope.{names_of_sort, with_names, fresh, lit_in, lits_in, by_in}
+use Rattle.e_book.specs.Forms.{form_of}
+use Rattle.e_book.specs.Steps.{allowed, declared, fact_count, with_step, stepped, step, begin, begun}
+use Rattle.e_book.specs.Entry.{Entry, entry_of_draft}
+use Rattle.e_book.specs.Book.{is_skipped, line_step, put_at, is_last, is_done, read_from}
+use Rattle.e_book.specs.HasSpelling.{HasSpelling, AreNames, is_diagram_lit, is_plain}
+use Rattle.e_book.proofs.InScope.{bind_ok, ok_is, read_ok, each_all, each_length}
+use Rattle.e_book.proofs.Keeps.{reading_fits}
+use Rattle.e_book.proofs.Differ.{both}
+use Rattle.e_book.proofs.SaidForms.{Said, form_said, lit_plain, by_plain}
+
+-- ---- names
+
+join_all : (xs ys : List (List ℕ)) → AreNames xs → AreNames ys → AreNames (xs ++ ys)
+join_all [] ys h k = k
+join_all (x ∷ xs) ys h k = (h.0, join_all xs ys h.1 k)
+
+record Naming (ns : Names) : Type 0 where
+  point_names : AreNames ns.points
+  line_names : AreNames ns.lines
+  circle_names : AreNames ns.circles
+
+naming_more : (ns : Names) (sort : Sort) (new : List (List ℕ)) → Naming ns → AreNames new → Naming (with_names ns sort (names_of_sort ns sort ++ new))
+naming_more ns Point new g h = record { point_names = join_all ns.points new g.point_names h; line_names = g.line_names; circle_names = g.circle_names }
+naming_more ns Line new g h = record { point_names = g.point_names; line_names = join_all ns.lines new g.line_names h; circle_names = g.circle_names }
+naming_more ns Circle new g h = record { point_names = g.point_names; line_names = g.line_names; circle_names = join_all ns.circles new g.circle_names h }
+
+-- ---- what each line keeps
+
+abbrev is_plain_step : Step → Bool
+is_plain_step (steps.Cite by) = is_diagram_lit by.lit
+is_plain_step (steps.Hence lit None) = is_diagram_lit lit
+is_plain_step (steps.Hence lit (Some cert)) = false
+
+-- from the first show line on there is a shown literal
+abbrev SomeShown : Place → List Lit → Type 0
+SomeShown Declaring shown = Unit {0}
+SomeShown Giving shown = Unit {0}
+SomeShown Showing shown = 0 < length shown
+SomeShown Proving shown = 0 < length shown
+SomeShown Closed shown = 0 < length shown
+SomeShown Done shown = 0 < length shown
+
+record Spelled (known : List Headed) (d : Draft) : Type 0 where
+  few : length known < most_theorems
+  title : is_title d.title ≡ true
+  naming : Naming d.names
+  given : list_all is_diagram_lit d.given ≡ true
+  shown : list_all is_diagram_lit d.shown ≡ true
+  some : SomeShown d.place d.shown
+  plain : list_all is_plain_step d.steps ≡ true
+
+appended : {X : Type 0} (p : X → Bool) (xs ys : List X) → list_all p xs ≡ true → list_all p ys ≡ true → list_all p (xs ++ ys) ≡ true
+appended p xs ys hx hy = list_all-append p xs ys ∙ rw (hx, hy) refl
+
+spelled_declare : (known : List Headed) (d e : Draft) (sort : Sort) (ns : List (List ℕ)) → Spelled known d → AreNames ns → stepped d (forms.Declare sort ns) ≡ Ok e → Spelled known e
+unfolding stepped declared
+spelled_declare known d e sort ns g said h =
+    let now : Names = with_names d.names sort (names_of_sort d.names sort ++ ns) in
+    let x : Draft = record d { names = now; declared = d.declared ++ replicate (length ns) sort } in
+    let n = bind_ok (fresh d.names [] ns >>= λ free. within (length (names_of_sort d.names sort) + length ns) (most_of sort) (what_of sort) >>= λ few. read_ok now)
+    (λ names. read_ok (record d { names = names; declared = d.declared ++ replicate (length ns) sort })) e h in
+    let f = bind_ok (fresh d.names [] ns) (λ free. within (length (names_of_sort d.names sort) + length ns) (most_of sort) (what_of sort) >>= λ few. read_ok now) n.0 n.1 in
+    let w = bind_ok (within (length (names_of_sort d.names sort) + length ns) (most_of sort) (what_of sort)) (λ few. read_ok now) n.0 f.2 in
+    let x-is : x ≡ e = ap (λ (m : Names). record d { names = m; declared = d.declared ++ replicate (length ns) sort }) (ok_is now n.0 w.2) ∙ ok_is (record d { names = n.0; declared = d.declared ++ replicate (length ns) sort }) e n.2 in
+    subst (λ (y : Draft). Spelled known y) x-is
+    (record { few = g.few; title = g.title; naming = naming_more d.names sort ns g.naming said; given = g.given; shown = g.shown; some = g.some; plain = g.plain })
+
+lits_plain : (ns : Names) (raws : List RawLit) (ls : List Lit) → lits_in ns raws ≡ Ok ls → list_all is_diagram_lit ls ≡ true
+lits_plain ns raws ls e = each_all (lit_in ns) is_diagram_lit (lit_plain ns) raws ls e
+
+spelled_given : (known : List Headed) (d e : Draft) (raws : List RawLit) → Spelled known d → stepped d (forms.Given raws) ≡ Ok e → Spelled known e
+unfolding stepped
+spelled_given known d e raws g h =
+    let all = bind_ok (with_front d.given (lits_in d.names raws)) (λ ls. within (fact_count d + length raws) most_facts limits.Facts >>= λ few. read_ok (record d { given = ls; place = Giving })) e h in
+    let ls = bind_ok (lits_in d.names raws) (λ xs. read_ok (d.given ++ xs)) all.0 all.1 in
+    let w = bind_ok (within (fact_count d + length raws) most_facts limits.Facts) (λ few. read_ok (record d { given = all.0; place = Giving })) e all.2 in
+    let x-is : record d { given = d.given ++ ls.0; place = Giving } ≡ e = ap (λ (l : List Lit). record d { given = l; place = Giving }) (ok_is (d.given ++ ls.0) all.0 ls.2) ∙ ok_is (record d { given = all.0; place = Giving }) e w.2 in
+    subst (λ (y : Draft). Spelled known y) x-is
+    (record { few = g.few; title = g.title; naming = g.naming; given = appended is_diagram_lit d.given ls.0 g.given (lits_plain d.names raws ls.0 ls.1); shown = g.shown; some = tt; plain = g.plain })
+
+spelled_shown : (known : List Headed) (d e : Draft) (raws : List RawLit) → Spelled known d → 0 < length raws → stepped d (forms.Show raws) ≡ Ok e → Spelled known e
+unfolding stepped
+spelled_shown known d e raws g said h =
+    let all = bind_ok (with_front d.shown (lits_in d.names raws)) (λ ls. read_ok (record d { shown = ls; place = Showing })) e h in
+    let ls = bind_ok (lits_in d.names raws) (λ xs. read_ok (d.shown ++ xs)) all.0 all.1 in
+    let n = each_length (lit_in d.names) raws ls.0 ls.1 in
+    let x-is : record d { shown = d.shown ++ ls.0; place = Showing } ≡ e = ap (λ (l : List Lit). record d { shown = l; place = Showing }) (ok_is (d.shown ++ ls.0) all.0 ls.2) ∙ ok_is (record d { shown = all.0; place = Showing }) e all.2 in
+    subst (λ (y : Draft). Spelled known y) x-is
+    (record { few = g.few; title = g.title; naming = g.naming; given = g.given; shown = appended is_diagram_lit d.shown ls.0 g.shown (lits_plain d.names raws ls.0 ls.1); some = omega (arith, n, said, length-append d.shown ls.0); plain = g.plain })
+
+-- at another place, with nothing more
+moved : (known : List Headed) (d : Draft) (p : Place) → Spelled known d → SomeShown p d.shown → Spelled known (record d { place = p })
+moved known d p g some = record { few = g.few; title = g.title; naming = g.naming; given = g.given; shown = g.shown; some = some; plain = g.plain }
+
+spelled_step : (known : List Headed) (d e : Draft) (s : Step) → Spelled known d → is_plain_step s ≡ true → with_step d s ≡ Ok e → Spelled known e
+unfolding with_step
+spelled_step known d e s g p h =
+    let x : Draft = record d { steps = d.steps ++ s ∷ [] } in
+    let a = bind_ok (within (length d.steps + 1) most_steps limits.Steps) (λ few. within (fact_count d + 1) most_facts limits.Facts >>= λ none. read_ok x) e h in
+    let b = bind_ok (within (fact_count d + 1) most_facts limits.Facts) (λ none. read_ok x) e a.2 in
+    subst (λ (y : Draft). Spelled known y) (ok_is x e b.2)
+    (record { few = g.few; title = g.title; naming = g.naming; given = g.given; shown = g.shown; some = g.some; plain = appended is_plain_step d.steps (s ∷ []) g.plain (rw p refl) })
+
+spelled_by : (known : List Headed) (d e : Draft) (r : List ℕ) (ns : List (List ℕ)) (l : RawLit) → Spelled known d → stepped d (forms.By r ns l) ≡ Ok e → Spelled known e
+unfolding stepped
+spelled_by known d e r ns l g h =
+    let b = bind_ok (by_in d.names r ns l) (λ b. with_step d (steps.Cite b)) e h in
+    spelled_step known d e (steps.Cite b.0) g (by_plain d.names r ns l b.0 b.1) b.2
+
+spelled_hence : (known : List Headed) (d e : Draft) (l : RawLit) → Spelled known d → stepped d (forms.Hence l) ≡ Ok e → Spelled known e
+unfolding stepped
+spelled_hence known d e l g h =
+    let m = bind_ok (lit_in d.names l) (λ m. with_step d (steps.Hence m None)) e h in
+    spelled_step known d e (steps.Hence m.0 None) g (lit_plain d.names l m.0 m.1) m.2
+
+at_proof : (p : Place) (shown : List Lit) → allowed p forms.Proof ≡ true → SomeShown p shown → 0 < length shown
+at_proof Showing shown a s = s
+at_proof p shown a s = absurd cc
+
+at_qed : (p : Place) (shown : List Lit) → allowed p forms.Qed ≡ true → SomeShown p shown → 0 < length shown
+at_qed Proving shown a s = s
+at_qed p shown a s = absurd cc
+
+at_close : (p : Place) (shown : List Lit) → allowed p forms.End ≡ true → SomeShown p shown → 0 < length shown
+at_close Closed shown a s = s
+at_close p shown a s = absurd cc
+
+spelled_proof : (known : List Headed) (d e : Draft) → Spelled known d → allowed d.place forms.Proof ≡ true → stepped d forms.Proof ≡ Ok e → Spelled known e
+unfolding stepped
+spelled_proof known d e g a h = subst (λ (y : Draft). Spelled known y) (ok_is (record d { place = Proving }) e h) (moved known d Proving g (at_proof d.place d.shown a g.some))
+
+spelled_qed : (known : List Headed) (d e : Draft) → Spelled known d → allowed d.place forms.Qed ≡ true → stepped d forms.Qed ≡ Ok e → Spelled known e
+unfolding stepped
+spelled_qed known d e g a h =
+    let w = bind_ok (within (length d.steps + 1) most_steps limits.Steps) (λ few. read_ok (record d { place = Closed })) e h in
+    subst (λ (y : Draft). Spelled known y) (ok_is (record d { place = Closed }) e w.2) (moved known d Closed g (at_qed d.place d.shown a g.some))
+
+spelled_end : (known : List Headed) (d e : Draft) → Spelled known d → allowed d.place forms.End ≡ true → stepped d forms.End ≡ Ok e → Spelled known e
+unfolding stepped
+spelled_end known d e g a h = subst (λ (y : Draft). Spelled known y) (ok_is (record d { place = Done }) e h) (moved known d Done g (at_close d.place d.shown a g.some))
+
+no_title : (d e : Draft) (t : List ℕ) → stepped d (forms.Theorem t) ≡ Ok e → ⊥
+unfolding stepped
+no_title d e t h = absurd cc
+
+spelled_stepped : (known : List Headed) (d e : Draft) (f : Form) → Spelled known d → Said f → allowed d.place f ≡ true → stepped d f ≡ Ok e → Spelled known e
+spelled_stepped known d e (forms.Theorem t) g s a h = absurd (no_title d e t h)
+spelled_stepped known d e (forms.Declare sort ns) g s a h = spelled_declare known d e sort ns g s h
+spelled_stepped known d e (forms.Given raws) g s a h = spelled_given known d e raws g h
+spelled_stepped known d e (forms.Show raws) g s a h = spelled_shown known d e raws g s h
+spelled_stepped known d e forms.Proof g s a h = spelled_proof known d e g a h
+spelled_stepped known d e (forms.By r ns l) g s a h = spelled_by known d e r ns l g h
+spelled_stepped known d e (forms.Hence l) g s a h = spelled_hence known d e l g h
+spelled_stepped known d e forms.Qed g s a h = spelled_qed known d e g a h
+spelled_stepped known d e forms.End g s a h = spelled_end known d e g a h
+
+passes : (b : Bool) (x : Result Draft Kind) (y : Draft) → cond b x (Err Malformed) ≡ Ok y → (b ≡ true) × (x ≡ Ok y)
+passes true x y e = (refl, e)
+passes false x y e = absurd cc
+
+spelled_next : (known : List Headed) (d e : Draft) (f : Form) → Spelled known d → Said f → step d f ≡ Ok e → Spelled known e
+unfolding step
+spelled_next known d e f g s h = let p = passes (allowed d.place f) (stepped d f) e h in spelled_stepped known d e f g s p.0 p.1
+
+-- ---- the first line
+
+refused : (b : Bool) (what : What) (u : Unit {0}) → b ≡ true → cond b (Err (Limit what)) (read_ok tt) ≡ Ok u → ⊥
+refused true what u t e = absurd cc
+refused false what u t e = absurd cc
+
+within_ok : (n most : ℕ) (what : What) (u : Unit {0}) → within n most what ≡ Ok u → n ≤ most
+within_ok n most what u e =
+    elim (cases_lt most n) [
+      | inl lt ↦ absurd (refused (ltb most n) what u (lt-ltb most n lt) e)
+      | inr ge ↦ omega (arith, ge)
+    ]
+
+untaken : (b : Bool) (x : Result Draft Kind) (y : Draft) → cond b (Err NameTaken) x ≡ Ok y → (b ≡ false) × (x ≡ Ok y)
+untaken true x y e = absurd cc
+untaken false x y e = (refl, e)
+
+no_names : Naming (record { points = []; lines = []; circles = [] })
+no_names = record { point_names = tt; line_names = tt; circle_names = tt }
+
+spelled_begin : (known : List Headed) (f : Form) (e : Draft) → Said f → begin known f ≡ Ok e → Spelled known e
+unfolding begin
+spelled_begin known (forms.Theorem t) e s h =
+    let n = untaken (is_known known t) (within (length known + 1) most_theorems limits.Theorems >>= λ few. read_ok (begun t)) e h in
+    let w = bind_ok (within (length known + 1) most_theorems limits.Theorems) (λ few. read_ok (begun t)) e n.1 in
+    let few = within_ok (length known + 1) most_theorems limits.Theorems w.0 w.1 in
+    subst (λ (y : Draft). Spelled known y) (ok_is (begun t) e w.2) (record { few = omega (arith, few); title = s; naming = no_names; given = refl; shown = refl; some = tt; plain = refl })
+spelled_begin known f e s h = absurd cc
+
+-- ---- the whole
+
+abbrev SpelledSoFar : List Headed → Option Draft → Type 0
+SpelledSoFar known None = Unit {0}
+SpelledSoFar known (Some d) = Spelled known d
+
+spelled_line : (known : List Headed) (draft : Option Draft) (words : List (List ℕ)) (e : Draft) → SpelledSoFar known draft → line_step known draft words ≡ Ok e → Spelled known e
+unfolding line_step
+spelled_line known None words e g h = let f = bind_ok (form_of words) (λ f. begin known f) e h in spelled_begin known f.0 e (form_said words f.0 f.1) f.2
+spelled_line known (Some d) words e g h = let f = bind_ok (form_of words) (λ f. step d f) e h in spelled_next known d e f.0 g (form_said words f.0 f.1) f.2
+
+plain_script : (ss : List Step) → list_all is_plain_step ss ≡ true → is_plain (steps_script ss (Qed [] [])) ≡ true
+unfolding is_plain
+plain_script [] h = refl
+plain_script (steps.Cite by ∷ ss) h = let p = both (is_diagram_lit by.lit) (list_all is_plain_step ss) h in rw (p.0, plain_script ss p.1) refl
+plain_script (steps.Hence lit None ∷ ss) h = let p = both (is_diagram_lit lit) (list_all is_plain_step ss) h in rw (p.0, plain_script ss p.1) refl
+plain_script (steps.Hence lit (Some cert) ∷ ss) h = absurd cc
+
+-- what is known of a theorem beside that it fits
+record Named (known : List Headed) (t : Entry) : Type 0 where
+  few : length known < most_theorems
+  title : is_title t.title ≡ true
+  naming : Naming t.names
+  given : list_all is_diagram_lit t.statement.given ≡ true
+  shown : list_all is_diagram_lit t.statement.shown ≡ true
+  some : 0 < length t.statement.shown
+  plain : is_plain t.script ≡ true
+
+at_last : (p : Place) (shown : List Lit) → is_last p ≡ true → SomeShown p shown → 0 < length shown
+at_last Done shown a s = s
+at_last p shown a s = absurd cc
+
+named : (known : List Headed) (d : Draft) → Spelled known d → is_done d ≡ true → Named known (entry_of_draft d)
+named known d g a = record { few = g.few; title = g.title; naming = g.naming; given = g.given; shown = g.shown; some = at_last d.place d.shown a g.some; plain = plain_script d.steps g.plain }
+
+put_ok : (n : ℕ) (r : Result Draft Kind) (d : Draft) → put_at n r ≡ Ok d → r ≡ Ok d
+put_ok n (Ok x) d e = cc
+put_ok n (Err k) d e = absurd cc
+
+abbrev Answer : Type 0
+Answer = Option (Entry × List (Result Seen LineFault))
+
+abbrev answered : Answer → Result Answer BookFault
+answered x = Ok x
+
+abbrev pair : Entry → List (Result Seen LineFault) → Answer
+pair t rest = Some (t, rest)
+
+first_is : (t u : Entry) (ts us : List (Result Seen LineFault)) → answered (pair t ts) ≡ answered (pair u us) → t ≡ u
+first_is t u ts us e = ap (λ (a : Answer). entry_in t a) (answer_is (pair t ts) (pair u us) e) where
+  entry_in : Entry → Answer → Entry
+  entry_in t None = t
+  entry_in t (Some p) = p.0
+
+  answer_is : (a b : Answer) → answered a ≡ answered b → a ≡ b
+  answer_is a b e = cc
+
+skip_or : (b : Bool) (x y z : Result Answer BookFault) → cond b x y ≡ z → ((b ≡ true) × (x ≡ z)) ⊎ ((b ≡ false) × (y ≡ z))
+skip_or true x y z e = inl (refl, e)
+skip_or false x y z e = inr (refl, e)
+
+reading_names : (known : List Headed) (last : ℕ) (draft : Option Draft) (lines rest : List (Result Seen LineFault)) (t : Entry) → SpelledSoFar known draft → read_from known last draft lines ≡ answered (pair t rest) → Named known t
+reading_names known last None [] rest t g e = absurd cc
+reading_names known last (Some d) [] rest t g e = absurd cc
+reading_names known last draft (Err f ∷ lines) rest t g e = absurd cc
+reading_names known last draft (Ok line ∷ lines) rest t g e =
+    let words = tokens_of line.bytes in
+    let next : Result Draft BookFault = put_at line.number (line_step known draft words) in
+    let then : Draft → Result Answer BookFault = λ d. cond (is_done d) (answered (pair (entry_of_draft d) lines)) (read_from known last (Some d) lines) in
+    elim (skip_or (is_skipped words) (read_from known last draft lines) (next >>= then) (answered (pair t rest)) e) [
+      | inl s ↦ reading_names known last draft lines rest t g s.1
+      | inr s ↦
+          let d = bind_ok next then (pair t rest) s.1 in
+          let good = spelled_line known draft words d.0 g (put_ok line.number (line_step known draft words) d.0 d.1) in
+          elim (skip_or (is_done d.0) (answered (pair (entry_of_draft d.0) lines)) (read_from known last (Some d.0) lines) (answered (pair t rest)) d.2) [
+            | inl q ↦ subst (λ (x : Entry). Named known x) (first_is (entry_of_draft d.0) t lines rest q.1) (named known d.0 good q.0)
+            | inr q ↦ reading_names known last (Some d.0) lines rest t good q.1
+          ]
+    ]
+
+pub read_is_spelled : (known : List Headed) (last : ℕ) (t : Entry) (lines rest : List (Result Seen LineFault)) → read_from known last None lines ≡ Ok (Some (t, rest)) → HasSpelling known t
+read_is_spelled known last t lines rest e =
+    let f = reading_fits known last None lines rest t tt e in
+    let n = reading_names known last None lines rest t tt e in
+    record {
+      fits = f;
+      few_theorems = n.few;
+      title = n.title;
+      point_names = n.naming.point_names;
+      line_names = n.naming.line_names;
+      circle_names = n.naming.circle_names;
+      given = n.given;
+      shown = n.shown;
+      some_shown = n.some;
+      script = n.plain;
+    }

@@ -1,0 +1,227 @@
+-- What the forms of lines are known to be, and the literals that their names resolve to.
+use Rattle.std.proofs.Common.{◌≡◌, ℕ, ◌+◌, ◌<◌, Bool, true, false, cond, eqb, List, [], ◌∷◌, length, Some, None, Result, Ok, Err, refl, subst, arith}
+use Rattle.std.specs.Prelude.{codes}
+use Rattle.std.specs.List.{slice_split}
+use Rattle.std.specs.Str.{bytes_eq}
+use Rattle.std.proofs.lemmas.List.Splits.{length-slice_split}
+use Rattle.e_text.specs.Names.{is_name, is_title, name_of, title_of}
+use Rattle.e_literal.specs.declared.object.Sort.{Sort}
+use Rattle.e_literal.specs.declared.object.Sort.TheVariants.{Point, Line, Circle}
+use Rattle.e_literal.specs.declared.literal.Atom.{Atom}
+use Rattle.e_literal.specs.declared.literal.Atom.TheVariants as atoms
+use Rattle.e_literal.specs.declared.literal.Lit.{Lit}
+use Rattle.e_clause.specs.declared.cert.By.{By}
+use Rattle.e_clause.specs.Instance.{place_of}
+use Rattle.e_clause.specs.Sigs.{sig_of}
+use Rattle.e_deriv.specs.declared.names.Names.{Names}
+use Rattle.e_book.specs.declared.fault.Kind.{Kind}
+use Rattle.e_book.specs.declared.fault.Kind.TheVariants.{Malformed}
+use Rattle.e_book.specs.declared.literal.RawLit.{RawLit}
+use Rattle.e_book.specs.declared.literal.RawAtom.{RawAtom}
+use Rattle.e_book.specs.declared.literal.RawAtom.TheVariants as raw
+use Rattle.e_book.specs.declared.form.Form.{Form}
+use Rattle.e_book.specs.declared.form.Form.TheVariants as forms
+use Rattle.e_book.specs.Reading.{◌>>=◌, or_malformed, word_at, title_at, end_at, cut_at}
+use Rattle.e_book.specs.Literals.{lit_of, is_semicolon, lits_of}
+use Rattle.e_book.specs.Forms.{names_of, not_empty, some_names, declare_of, by_of, theorem_of, bare, form_named, form_of}
+use Rattle.e_book.specs.Scope.{used, number_of, on_sort, line_meets, meets_from, equal_at, atom_in, lit_in, args_in, by_in, known_rule, variables_of, right_count}
+use Rattle.e_book.specs.HasSpelling.{AreNames, is_diagram_atom, is_diagram_lit}
+use Rattle.e_book.proofs.InScope.{bind_ok, ok_is, read_ok, each_length}
+
+-- ---- forms
+
+-- what spelling alone says of a form
+abbrev pub Said : Form → Type 0
+Said (forms.Theorem t) = is_title t ≡ true
+Said (forms.Declare sort ns) = AreNames ns
+Said (forms.Show raws) = 0 < length raws
+Said f = Unit {0}
+
+kept : (b : Bool) (w n : List ℕ) → or_malformed (cond b (Some w) None) ≡ read_ok n → (b ≡ true) × (w ≡ n)
+kept true w n e = (refl, ok_is w n e)
+kept false w n e = absurd cc
+
+abbrev pair : List ℕ → List (List ℕ) → List ℕ × List (List ℕ)
+pair w ws = (w, ws)
+
+title_said : (ws : List (List ℕ)) (p : List ℕ × List (List ℕ)) → title_at ws ≡ Ok p → is_title p.0 ≡ true
+unfolding title_at word_at
+title_said [] p e = absurd cc
+title_said (w ∷ ws) p e =
+    let a = bind_ok (or_malformed (title_of w)) (λ n. read_ok (pair n ws)) p e in
+    let k = kept (is_title w) w a.0 a.1 in
+    let t : is_title a.0 ≡ true = subst (λ (x : List ℕ). is_title x ≡ true) k.1 k.0 in
+    subst (λ (q : List ℕ × List (List ℕ)). is_title q.0 ≡ true) (ok_is (pair a.0 ws) p a.2) t
+
+names_said : (ws ns : List (List ℕ)) → names_of ws ≡ Ok ns → AreNames ns
+names_said [] ns e = subst AreNames (ok_is [] ns e) tt
+names_said (w ∷ ws) ns e =
+    let a = bind_ok (or_malformed (name_of w)) (λ y. names_of ws >>= λ ys. read_ok (y ∷ ys)) ns e in
+    let b = bind_ok (names_of ws) (λ ys. read_ok (a.0 ∷ ys)) ns a.2 in
+    let k = kept (is_name w) w a.0 a.1 in
+    let n : is_name a.0 ≡ true = subst (λ (x : List ℕ). is_name x ≡ true) k.1 k.0 in
+    subst AreNames (ok_is (a.0 ∷ b.0) ns b.2) (n, names_said ws b.0 b.1)
+
+not_empty_said : (ns ms : List (List ℕ)) → AreNames ns → not_empty ns ≡ Ok ms → AreNames ms
+not_empty_said [] ms h e = absurd cc
+not_empty_said (n ∷ ns) ms h e = subst AreNames (ok_is (n ∷ ns) ms e) h
+
+theorem_said : (ws : List (List ℕ)) (f : Form) → theorem_of ws ≡ Ok f → Said f
+unfolding theorem_of
+theorem_said ws f e =
+    let a = bind_ok (title_at ws) (λ t. end_at t.1 >>= λ none. read_ok (forms.Theorem t.0)) f e in
+    let b = bind_ok (end_at a.0.1) (λ none. read_ok (forms.Theorem a.0.0)) f a.2 in
+    subst Said (ok_is (forms.Theorem a.0.0) f b.2) (title_said ws a.0 a.1)
+
+declare_said : (sort : Sort) (ws : List (List ℕ)) (f : Form) → declare_of sort ws ≡ Ok f → Said f
+unfolding declare_of some_names
+declare_said sort ws f e =
+    let a = bind_ok (names_of ws >>= λ ns. not_empty ns) (λ ns. read_ok (forms.Declare sort ns)) f e in
+    let b = bind_ok (names_of ws) (λ ns. not_empty ns) a.0 a.1 in
+    subst Said (ok_is (forms.Declare sort a.0) f a.2) (not_empty_said b.0 a.0 (names_said ws b.0 b.1) b.2)
+
+given_said : (ws : List (List ℕ)) (f : Form) → (lits_of ws >>= λ ls. read_ok (forms.Given ls)) ≡ Ok f → Said f
+given_said ws f e = let a = bind_ok (lits_of ws) (λ ls. read_ok (forms.Given ls)) f e in subst Said (ok_is (forms.Given a.0) f a.2) tt
+
+show_said : (ws : List (List ℕ)) (f : Form) → (lits_of ws >>= λ ls. read_ok (forms.Show ls)) ≡ Ok f → Said f
+show_said ws f e =
+    let a = bind_ok (lits_of ws) (λ ls. read_ok (forms.Show ls)) f e in
+    let n = each_length lit_of (slice_split is_semicolon ws) a.0 a.1 in
+    let some : 0 < length a.0 = omega (arith, n, length-slice_split is_semicolon ws) in
+    subst Said (ok_is (forms.Show a.0) f a.2) some
+
+bare_said : (ws : List (List ℕ)) (g f : Form) → Said g → bare ws g ≡ Ok f → Said f
+unfolding bare
+bare_said ws g f h e = let a = bind_ok (end_at ws) (λ none. read_ok g) f e in subst Said (ok_is g f a.2) h
+
+found : (b : Bool) (x : Result Form Kind) (f : Form) → cond b x (Err Malformed) ≡ Ok f → x ≡ Ok f
+found true x f e = e
+found false x f e = absurd cc
+
+by_said : (ws : List (List ℕ)) (f : Form) → by_of ws ≡ Ok f → Said f
+unfolding by_of
+by_said ws f e =
+    let rest : List ℕ × List (List ℕ) → Result Form Kind = λ r. cond (cut_at (codes ":") r.1).2 (names_of (cut_at (codes ":") r.1).0 >>= λ ns. lit_of (cut_at (codes ":") r.1).1 >>= λ l. read_ok (forms.By r.0 ns l)) (Err Malformed) in
+    let a = bind_ok (title_at ws) rest f e in
+    let parts = cut_at (codes ":") a.0.1 in
+    let b = found parts.2 (names_of parts.0 >>= λ ns. lit_of parts.1 >>= λ l. read_ok (forms.By a.0.0 ns l)) f a.2 in
+    let c = bind_ok (names_of parts.0) (λ ns. lit_of parts.1 >>= λ l. read_ok (forms.By a.0.0 ns l)) f b in
+    let d = bind_ok (lit_of parts.1) (λ l. read_ok (forms.By a.0.0 c.0 l)) f c.2 in
+    subst Said (ok_is (forms.By a.0.0 c.0 d.0) f d.2) tt
+
+hence_said : (ws : List (List ℕ)) (f : Form) → (lit_of ws >>= λ l. read_ok (forms.Hence l)) ≡ Ok f → Said f
+hence_said ws f e = let a = bind_ok (lit_of ws) (λ l. read_ok (forms.Hence l)) f e in subst Said (ok_is (forms.Hence a.0) f a.2) tt
+
+no_form : (f : Form) → Err Malformed ≡ read_ok f → Said f
+no_form f e = absurd cc
+
+either : (b : Bool) (x y : Result Form Kind) (f : Form) → cond b x y ≡ Ok f → (x ≡ Ok f → Said f) → (y ≡ Ok f → Said f) → Said f
+either true x y f e hx hy = hx e
+either false x y f e hx hy = hy e
+
+named_said : (w : List ℕ) (ws : List (List ℕ)) (f : Form) → form_named w ws ≡ Ok f → Said f
+unfolding form_named
+named_said w ws f e =
+    let r12 : Result Form Kind = Err Malformed in
+    let r11 : Result Form Kind = cond (bytes_eq w (codes "end")) (bare ws forms.End) r12 in
+    let r10 : Result Form Kind = cond (bytes_eq w (codes "qed")) (bare ws forms.Qed) r11 in
+    let r9 : Result Form Kind = cond (bytes_eq w (codes "hence")) (lit_of ws >>= λ l. read_ok (forms.Hence l)) r10 in
+    let r8 : Result Form Kind = cond (bytes_eq w (codes "by")) (by_of ws) r9 in
+    let r7 : Result Form Kind = cond (bytes_eq w (codes "proof")) (bare ws forms.Proof) r8 in
+    let r6 : Result Form Kind = cond (bytes_eq w (codes "show")) (lits_of ws >>= λ ls. read_ok (forms.Show ls)) r7 in
+    let r5 : Result Form Kind = cond (bytes_eq w (codes "given")) (lits_of ws >>= λ ls. read_ok (forms.Given ls)) r6 in
+    let r4 : Result Form Kind = cond (bytes_eq w (codes "circles")) (declare_of Circle ws) r5 in
+    let r3 : Result Form Kind = cond (bytes_eq w (codes "lines")) (declare_of Line ws) r4 in
+    let r2 : Result Form Kind = cond (bytes_eq w (codes "points")) (declare_of Point ws) r3 in
+    either (bytes_eq w (codes "theorem")) (theorem_of ws) r2 f e (theorem_said ws f) (λ e1.
+    either (bytes_eq w (codes "points")) (declare_of Point ws) r3 f e1 (declare_said Point ws f) (λ e2.
+    either (bytes_eq w (codes "lines")) (declare_of Line ws) r4 f e2 (declare_said Line ws f) (λ e3.
+    either (bytes_eq w (codes "circles")) (declare_of Circle ws) r5 f e3 (declare_said Circle ws f) (λ e4.
+    either (bytes_eq w (codes "given")) (lits_of ws >>= λ ls. read_ok (forms.Given ls)) r6 f e4 (given_said ws f) (λ e5.
+    either (bytes_eq w (codes "show")) (lits_of ws >>= λ ls. read_ok (forms.Show ls)) r7 f e5 (show_said ws f) (λ e6.
+    either (bytes_eq w (codes "proof")) (bare ws forms.Proof) r8 f e6 (bare_said ws forms.Proof f tt) (λ e7.
+    either (bytes_eq w (codes "by")) (by_of ws) r9 f e7 (by_said ws f) (λ e8.
+    either (bytes_eq w (codes "hence")) (lit_of ws >>= λ l. read_ok (forms.Hence l)) r10 f e8 (hence_said ws f) (λ e9.
+    either (bytes_eq w (codes "qed")) (bare ws forms.Qed) r11 f e9 (bare_said ws forms.Qed f tt) (λ e10.
+    either (bytes_eq w (codes "end")) (bare ws forms.End) r12 f e10 (bare_said ws forms.End f tt) (no_form f)))))))))))
+
+pub form_said : (words : List (List ℕ)) (f : Form) → form_of words ≡ Ok f → Said f
+unfolding form_of
+form_said [] f e = absurd cc
+form_said (w ∷ ws) f e = named_said w ws f e
+
+-- ---- literals
+
+abbrev Plain : Atom → Type 0
+Plain a = is_diagram_atom a ≡ true
+
+to : (x a : Atom) → Plain x → read_ok x ≡ Ok a → Plain a
+to x a h e = subst Plain (ok_is x a e) h
+
+on_plain : (p : ℕ) (t : Sort) (m : ℕ) (a : Atom) → on_sort p t m ≡ Ok a → Plain a
+on_plain p Point m a e = absurd cc
+on_plain p Line m a e = to (atoms.On p m) a refl e
+on_plain p Circle m a e = to (atoms.OnC p m) a refl e
+
+line_plain : (l : ℕ) (t : Sort) (m : ℕ) (a : Atom) → line_meets l t m ≡ Ok a → Plain a
+line_plain l Point m a e = absurd cc
+line_plain l Line m a e = to (atoms.MeetLL l m) a refl e
+line_plain l Circle m a e = to (atoms.MeetLC l m) a refl e
+
+meets_plain : (ns : Names) (t : Sort) (n : ℕ) (y : List ℕ) (a : Atom) → meets_from ns t n y ≡ Ok a → Plain a
+meets_plain ns Point n y a e = absurd cc
+meets_plain ns Line n y a e = let o = bind_ok (used ns y) (λ o. line_meets n o.sort o.num) a e in line_plain n o.0.sort o.0.num a o.2
+meets_plain ns Circle n y a e = let k = bind_ok (number_of ns Circle y) (λ k. read_ok (atoms.MeetCC n k)) a e in to (atoms.MeetCC n k.0) a refl k.2
+
+equal_plain : (t : Sort) (m n : ℕ) → Plain (equal_at t m n)
+equal_plain Point m n = refl
+equal_plain Line m n = refl
+equal_plain Circle m n = refl
+
+atom_plain : (ns : Names) (r : RawAtom) (a : Atom) → atom_in ns r ≡ Ok a → Plain a
+unfolding atom_in
+atom_plain ns (raw.On x y) a e =
+    let p = bind_ok (number_of ns Point x) (λ p. used ns y >>= λ o. on_sort p o.sort o.num) a e in
+    let o = bind_ok (used ns y) (λ o. on_sort p.0 o.sort o.num) a p.2 in
+    on_plain p.0 o.0.sort o.0.num a o.2
+atom_plain ns (raw.Inside x y) a e =
+    let p = bind_ok (number_of ns Point x) (λ p. number_of ns Circle y >>= λ c. read_ok (atoms.Inside p c)) a e in
+    let c = bind_ok (number_of ns Circle y) (λ c. read_ok (atoms.Inside p.0 c)) a p.2 in
+    to (atoms.Inside p.0 c.0) a refl c.2
+atom_plain ns (raw.Center x y) a e =
+    let p = bind_ok (number_of ns Point x) (λ p. number_of ns Circle y >>= λ c. read_ok (atoms.Center p c)) a e in
+    let c = bind_ok (number_of ns Circle y) (λ c. read_ok (atoms.Center p.0 c)) a p.2 in
+    to (atoms.Center p.0 c.0) a refl c.2
+atom_plain ns (raw.Between x y z) a e =
+    let p = bind_ok (number_of ns Point x) (λ p. number_of ns Point y >>= λ q. number_of ns Point z >>= λ r. read_ok (atoms.Between p q r)) a e in
+    let q = bind_ok (number_of ns Point y) (λ q. number_of ns Point z >>= λ r. read_ok (atoms.Between p.0 q r)) a p.2 in
+    let r = bind_ok (number_of ns Point z) (λ r. read_ok (atoms.Between p.0 q.0 r)) a q.2 in
+    to (atoms.Between p.0 q.0 r.0) a refl r.2
+atom_plain ns (raw.Same x y z) a e =
+    let p = bind_ok (number_of ns Point x) (λ p. number_of ns Point y >>= λ q. number_of ns Line z >>= λ r. read_ok (atoms.Same p q r)) a e in
+    let q = bind_ok (number_of ns Point y) (λ q. number_of ns Line z >>= λ r. read_ok (atoms.Same p.0 q r)) a p.2 in
+    let r = bind_ok (number_of ns Line z) (λ r. read_ok (atoms.Same p.0 q.0 r)) a q.2 in
+    to (atoms.Same p.0 q.0 r.0) a refl r.2
+atom_plain ns (raw.Meets x y) a e =
+    let o = bind_ok (used ns x) (λ o. meets_from ns o.sort o.num y) a e in
+    meets_plain ns o.0.sort o.0.num y a o.2
+atom_plain ns (raw.Equal x y) a e =
+    let o = bind_ok (used ns x) (λ o. number_of ns o.sort y >>= λ n. read_ok (equal_at o.sort o.num n)) a e in
+    let n = bind_ok (number_of ns o.0.sort y) (λ n. read_ok (equal_at o.0.sort o.0.num n)) a o.2 in
+    to (equal_at o.0.sort o.0.num n.0) a (equal_plain o.0.sort o.0.num n.0) n.2
+
+pub lit_plain : (ns : Names) (r : RawLit) (l : Lit) → lit_in ns r ≡ Ok l → is_diagram_lit l ≡ true
+unfolding lit_in
+lit_plain ns r l e =
+    let a = bind_ok (atom_in ns r.atom) (λ a. read_ok (record { neg = r.neg; atom = a })) l e in
+    subst (λ (x : Lit). is_diagram_lit x ≡ true) (ok_is (record { neg = r.neg; atom = a.0 }) l a.2) (atom_plain ns r.atom a.0 a.1)
+
+pub by_plain : (ns : Names) (rule : List ℕ) (names : List (List ℕ)) (lit : RawLit) (b : By) → by_in ns rule names lit ≡ Ok b → is_diagram_lit b.lit ≡ true
+unfolding by_in
+by_plain ns rule names lit b e =
+    let r = bind_ok (known_rule (place_of rule)) (λ r. variables_of (sig_of r) >>= λ s. right_count (eqb (length names) (s.points + s.lines + s.circles)) >>= λ right. args_in ns s names >>= λ args. lit_in ns lit >>= λ l. read_ok (record { rule = r; args = args; lit = l })) b e in
+    let s = bind_ok (variables_of (sig_of r.0)) (λ s. right_count (eqb (length names) (s.points + s.lines + s.circles)) >>= λ right. args_in ns s names >>= λ args. lit_in ns lit >>= λ l. read_ok (record { rule = r.0; args = args; lit = l })) b r.2 in
+    let t = bind_ok (right_count (eqb (length names) (s.0.points + s.0.lines + s.0.circles))) (λ right. args_in ns s.0 names >>= λ args. lit_in ns lit >>= λ l. read_ok (record { rule = r.0; args = args; lit = l })) b s.2 in
+    let a = bind_ok (args_in ns s.0 names) (λ args. lit_in ns lit >>= λ l. read_ok (record { rule = r.0; args = args; lit = l })) b t.2 in
+    let l = bind_ok (lit_in ns lit) (λ l. read_ok (record { rule = r.0; args = a.0; lit = l })) b a.2 in
+    subst (λ (x : By). is_diagram_lit x.lit ≡ true) (ok_is (record { rule = r.0; args = a.0; lit = l.0 }) b l.2) (lit_plain ns lit l.0 l.1)
