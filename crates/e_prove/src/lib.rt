@@ -5,11 +5,11 @@ mod close;
 mod halt;
 mod laws;
 mod licence;
-mod prove;
+mod prover;
 mod step;
 
 pub use laws::{derived_stops_for_memory, licensed_stops_for_memory};
-pub use prove::prove_parts;
+pub use prover::prove;
 
 #[cfg(test)]
 mod tests;

@@ -1,7 +1,7 @@
 // That a call succeeds, and literals from outside.
 
 use crate::halt::Halt;
-use crate::prove_parts;
+use crate::prover::prove_parts;
 use crate::step::judge_step;
 use e_clause::{By, Cert, Part, Rule};
 use e_deriv::{Block, Close, Names, Step, Stop, Wanted};

@@ -12,9 +12,10 @@ ghost use Rattle.elements.specs.Endings.{BlocksAre, stop_ending};
 use e_book::{BookFault, Known, Theorem, next_theorem};
 use e_deriv::Stop;
 use e_io::{Sink, write_all};
-use e_prove::prove_parts;
+use e_prove::prove;
 use e_spell::spell;
 use e_text::{Lines, Title};
+use e_theorem::Statement;
 use std::alloc::Global;
 
 /// How the blocks of a book end.
@@ -36,13 +37,13 @@ pub enum Broken {
 }
 
 /// The block of a theorem with its derivation.
-fn block(alloc: Global, theorem: &Theorem) -> Result<Vec<u8>, Stop>
+fn block(alloc: Global, before: &[Statement], theorem: &Theorem) -> Result<Vec<u8>, Stop>
     requires { IsFitting (stated theorem.now.statement) (script_of theorem.now.block) }
     ensures block { IfOk result (λ v. HasBlock (entry_of theorem.now) v.items) }
     ensures stop { IfErr result (StopIs (stated theorem.now.statement) (script_of theorem.now.block)) }
     ensures names { IfErr result (HasNames theorem.now.names) }
 {
-    let derivation = prove_parts(alloc, &theorem.statement, &theorem.names, &theorem.block)?;
+    let derivation = prove(alloc, before, theorem)?;
     Ok(spell(alloc, theorem, &derivation)?)
 }
 
@@ -73,7 +74,7 @@ pub fn blocks<K: Sink>(alloc: Global, lines: &mut Lines, sink: &mut K) -> Result
             Err(BookFault::NoMemory) => return Err(Broken::NoMemory),
             Err(fault) => return Ok(Ending::Faulty(fault)),
         };
-        let block = match block(alloc, &theorem) {
+        let block = match block(alloc, known.statements(), &theorem) {
             Ok(block) => block,
             Err(stop) => return stopped(theorem.title, stop),
         };

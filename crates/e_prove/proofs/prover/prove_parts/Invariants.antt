@@ -2,7 +2,7 @@ use Rattle.std.proofs.Common.{◌≡◌, ◌+◌, drop}
 use Rattle.e_theorem.specs.Statements.{stated}
 use Rattle.e_deriv.specs.Script.{size, script_of, steps_script, close_script}
 use Rattle.e_prove.proofs.Proving.{IsJudgedTo}
-use Rattle.e_prove.proofs.prove.prove_parts.Given as goal
+use Rattle.e_prove.proofs.prover.prove_parts.Given as goal
 
 abbrev pub invariant-loop-step : goal.invariant-loop-step
 invariant-loop-step l =

@@ -4,7 +4,7 @@ use Rattle.e_theorem.specs.Statements.{stated}
 use Rattle.e_deriv.specs.Script.{script_of, steps_script, close_script, size}
 use Rattle.e_deriv.proofs.Scripts.{steps_at}
 use Rattle.e_prove.proofs.Proving.{judged_none, judged_more, judged_end, steps_done, size_of_step, stopped_at_step, stopped_at_close, stop_is, all_certified, all_erased}
-use Rattle.e_prove.proofs.prove.prove_parts.Goals as goal
+use Rattle.e_prove.proofs.prover.prove_parts.Goals as goal
 
 pub loop-step-init : goal.loop-step-init
 loop-step-init c =

@@ -10,16 +10,35 @@ ghost use Rattle.e_prove.specs.Stops.{StopIs, HasNames};
 use crate::close::judge_close;
 use crate::halt::stop;
 use crate::step::judge_step;
+use e_book::Theorem;
 use e_deriv::{Block, Names, Stop};
 use e_facts::Facts;
 use e_literal::{Lit, copy};
 use e_theorem::Statement;
 use std::alloc::{AllocError, Global};
 
+/// The derivation of a theorem by its own script, from the statements before it: each line judged in order,
+/// with a certificate for each literal that it needs.
+///
+/// `Unlicensed` comes only at the first line that is not licensed, with what it lacks and the names in scope before
+/// it. The forms of the script's lines fit where they stand, as those of a theorem that is read do (System E 2009,
+/// section 3.4).
+pub fn prove(alloc: Global, before: &[Statement], theorem: &Theorem) -> Result<Block, Stop>
+    requires { IsFitting (stated theorem.now.statement) (script_of theorem.now.block) }
+    ensures certified { IfOk result (λ d. Certified (stated theorem.now.statement) (script_of d)) }
+    ensures script { IfOk result (λ d. erased (script_of d) ≡ erased (script_of theorem.now.block)) }
+    ensures stop { IfErr result (StopIs (stated theorem.now.statement) (script_of theorem.now.block)) }
+    ensures names { IfErr result (HasNames theorem.now.names) }
+{
+    // No step so far uses an earlier statement.
+    let _ = before;
+    prove_parts(alloc, &theorem.statement, &theorem.names, &theorem.block)
+}
+
 /// The derivation of a statement by a script: each line judged in order, with a certificate for each
 /// literal that it needs. `Unlicensed` at the first line that is not licensed, with what it lacks and
 /// the names in scope before it.
-pub fn prove_parts(
+pub(crate) fn prove_parts(
     alloc: Global,
     statement: &Statement,
     names: &Names,
