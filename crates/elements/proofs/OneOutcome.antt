@@ -106,3 +106,9 @@ one_outcome last known lines (t ∷ ts) (u ∷ us) k1 k2 r1 r2 a b p q h k =
 pub outcome_is_one : (lines : Rest) (ts us : List Entry) (a b : End) → IsOutcome lines ts a → IsOutcome lines us b → a ≡ b
 outcome_is_one lines ts us a b p q =
     one_outcome (number_behind lines) [] lines ts us p.known q.known p.rest q.rest a b p.begins q.begins p.ends q.ends
+
+-- the same lines are read in one way
+pub one_reading : (known : List Headed) (last : ℕ) (lines : Rest) (t u : Entry) (after behind : Rest)
+    → read_from known last None lines ≡ Ok (Some (t, after)) → read_from known last None lines ≡ Ok (Some (u, behind)) → (t ≡ u) × (after ≡ behind)
+one_reading known last lines t u after behind h k =
+    let e = sym h ∙ k in (same_first t u after behind e, same_rest t u after behind e)

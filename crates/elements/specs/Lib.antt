@@ -4,3 +4,4 @@ pub mod Outcome
 pub mod LastLines
 pub mod Answers
 pub mod Endings
+pub mod Laws

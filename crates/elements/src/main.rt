@@ -4,6 +4,7 @@
 mod blocks;
 mod checker;
 mod input;
+pub mod laws;
 mod output;
 mod runner;
 mod status;

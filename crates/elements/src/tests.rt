@@ -1,9 +1,9 @@
 //! What no clause says of the top call: outside rows, and each rule of the table once with and without its premises.
 use crate::{exit_code, run};
-use e_clause::{Rule, instance};
-use e_deriv::{Names, Stop, Wanted};
+use e_clause::{Cert, Part, Rule, instance};
+use e_deriv::{Block, Close, Names, Step, Stop, Wanted, erase};
 use e_io::{MemSink, MemSource};
-use e_literal::{Items, Lit, Obj, Sort, copy, negate};
+use e_literal::{Atom, Items, Lit, Obj, Sort, copy, negate};
 use e_spell::spell_stop;
 use e_text::{Name, Title};
 use std::alloc::{AllocError, Global};
@@ -158,6 +158,31 @@ fn books_are_answered(rt: HostRuntime) -> Result<(), Fail> {
         );
         assert_eq!(rt; answer.exit, exit);
     }
+    Ok(())
+}
+
+#[test]
+fn a_derivation_is_erased(rt: HostRuntime) -> Result<(), Fail> {
+    let alloc = rt.alloc();
+    let lit = Lit {
+        neg: false,
+        atom: Atom::EqP(0, 0),
+    };
+    let step = Step::Hence {
+        lit,
+        cert: Some(Cert::Plain(Part::Fact)),
+    };
+    let derivation = Block {
+        steps: vec![in alloc; step]?,
+        close: Close::Qed {
+            objects: Items::empty(alloc),
+            certs: Items::new(vec![in alloc; Cert::Plain(Part::Fact)]?),
+        },
+    };
+    let script = erase(alloc, &derivation)?;
+    let Close::Qed { certs, .. } = &script.close;
+    assert!(rt; certs.is_empty());
+    assert!(rt; matches!(script.steps.as_slice(), [Step::Hence { cert: None, .. }]));
     Ok(())
 }
 
