@@ -1,0 +1,16 @@
+pub mod Clash
+pub mod Runs
+pub mod Measure
+pub mod Answers
+pub mod Pivoting
+pub mod Keeps
+pub mod Choosing
+pub mod Glue
+pub mod First
+pub mod Verdict
+pub mod Forms
+pub mod Disequal
+pub mod Reading
+pub mod Deciding
+pub mod Refutes
+pub mod Multiples
