@@ -1,4 +1,3 @@
 pub mod Det
-pub mod Poly
 pub mod Tableau
 pub mod Quotients
