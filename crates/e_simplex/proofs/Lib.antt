@@ -6,7 +6,6 @@ pub mod Pivoting
 pub mod Keeps
 pub mod Choosing
 pub mod Glue
-pub mod First
 pub mod Verdict
 pub mod Forms
 pub mod Disequal
@@ -14,3 +13,6 @@ pub mod Reading
 pub mod Deciding
 pub mod Refutes
 pub mod Multiples
+pub mod Joining
+pub mod FurtherRows
+pub mod Tables

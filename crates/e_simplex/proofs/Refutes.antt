@@ -64,7 +64,7 @@ over-form w (x ∷ xs) v h =
 abbrev lines_total : List Line → List ℤ → List ℤ → ℤ
 lines_total [] ms v = pos 0
 lines_total (l ∷ ls) [] v = pos 0
-lines_total (l ∷ ls) (m ∷ ms) v = m *ℤ form_value l.form.items v +ℤ lines_total ls ms v
+lines_total (l ∷ ls) (m ∷ ms) v = m *ℤ form_value l.form v +ℤ lines_total ls ms v
 
 over-weighed : (w : ℕ) (lines : List Line) (ms v : List ℤ) → AllFormsWithin w lines → over w (weighed_at lines ms) v ≡ lines_total lines ms v
 over-weighed w [] ms v h = over-none w v
@@ -73,9 +73,9 @@ over-weighed w (l ∷ ls) (m ∷ ms) v h =
     omega (
       arith,
       sums,
-      over-add w (λ c. m *ℤ form_at l.form.items c) (weighed_at ls ms) v,
-      over-scale w m (form_at l.form.items) v,
-      ap (λ z. m *ℤ z) (over-form w l.form.items v (h 0 l (omega arith))),
+      over-add w (λ c. m *ℤ form_at l.form c) (weighed_at ls ms) v,
+      over-scale w m (form_at l.form) v,
+      ap (λ z. m *ℤ z) (over-form w l.form v (h 0 l (omega arith))),
       over-weighed w ls ms v (λ k d n. h (suc k) d (omega (arith, n))),
     )
 
@@ -97,7 +97,7 @@ weighed_constant w (l ∷ ls) (m ∷ ms) h =
     omega (
       arith,
       sums,
-      ap (λ v. m *ℤ v) (form_at_constant w l.form.items (h 0 l (omega arith))),
+      ap (λ v. m *ℤ v) (form_at_constant w l.form (h 0 l (omega arith))),
       *ℤ-zero m,
       weighed_constant w ls ms (λ k d n. h (suc k) d (omega (arith, n))),
     )
@@ -125,14 +125,14 @@ one_line AtLeast m z a b = mul-not_negative m z a b
 one_line More m z a b = mul-not_negative m z a (omega (arith, sums, b))
 
 total-not_negative : (lines : List Line) (ms v : List ℤ) → ((i : ℕ) (d : Line) → i < length lines → MayWeigh (get_or lines i d).kind (get_or ms i (pos 0)))
-    → ((i : ℕ) (d : Line) → i < length lines → LineHolds (get_or lines i d).kind (form_value (get_or lines i d).form.items v)) → pos 0 ≤ℤ lines_total lines ms v
+    → ((i : ℕ) (d : Line) → i < length lines → LineHolds (get_or lines i d).kind (form_value (get_or lines i d).form v)) → pos 0 ≤ℤ lines_total lines ms v
 total-not_negative [] ms v a b = omega (arith, sums)
 total-not_negative (l ∷ ls) [] v a b = omega (arith, sums)
 total-not_negative (l ∷ ls) (m ∷ ms) v a b =
     omega (
       arith,
       sums,
-      one_line l.kind m (form_value l.form.items v) (a 0 l (omega arith)) (b 0 l (omega arith)),
+      one_line l.kind m (form_value l.form v) (a 0 l (omega arith)) (b 0 l (omega arith)),
       total-not_negative ls ms v (λ i d n. a (suc i) d (omega (arith, n))) (λ i d n. b (suc i) d (omega (arith, n))),
     )
 
@@ -148,7 +148,7 @@ more_holds k z e h = subst (λ x. LineHolds x z) e h
 
 total-positive : (lines : List Line) (ms v : List ℤ) → length ms ≡ length lines
     → ((i : ℕ) (d : Line) → i < length lines → MayWeigh (get_or lines i d).kind (get_or ms i (pos 0)))
-    → ((i : ℕ) (d : Line) → i < length lines → LineHolds (get_or lines i d).kind (form_value (get_or lines i d).form.items v))
+    → ((i : ℕ) (d : Line) → i < length lines → LineHolds (get_or lines i d).kind (form_value (get_or lines i d).form v))
     → (p : ℕ) → p < length lines → ((d : Line) → (get_or lines p d).kind ≡ More) → pos 0 <ℤ get_or ms p (pos 0) → pos 0 <ℤ lines_total lines ms v
 total-positive [] ms v e a b p l k h = absurd (omega (arith, l))
 total-positive (x ∷ ls) [] v e a b p l k h = absurd (omega (arith, e))
@@ -156,14 +156,14 @@ total-positive (x ∷ ls) (m ∷ ms) v e a b zero l k h =
     omega (
       arith,
       sums,
-      mul-positive m (form_value x.form.items v) h (more_holds x.kind (form_value x.form.items v) (k x) (b 0 x (omega arith))),
+      mul-positive m (form_value x.form v) h (more_holds x.kind (form_value x.form v) (k x) (b 0 x (omega arith))),
       total-not_negative ls ms v (λ i d n. a (suc i) d (omega (arith, n))) (λ i d n. b (suc i) d (omega (arith, n))),
     )
 total-positive (x ∷ ls) (m ∷ ms) v e a b (suc p) l k h =
     omega (
       arith,
       sums,
-      one_line x.kind m (form_value x.form.items v) (a 0 x (omega arith)) (b 0 x (omega arith)),
+      one_line x.kind m (form_value x.form v) (a 0 x (omega arith)) (b 0 x (omega arith)),
       total-positive ls ms v (omega (arith, e)) (λ i d n. a (suc i) d (omega (arith, n))) (λ i d n. b (suc i) d (omega (arith, n))) p (omega (arith, l)) k h,
     )
 

@@ -4,5 +4,6 @@ pub mod Least
 pub mod Ends
 pub mod Lines
 pub mod Readings
-pub mod Answer
 pub mod Multiple
+pub mod Further
+pub mod Solved

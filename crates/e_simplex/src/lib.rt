@@ -1,11 +1,14 @@
-// The linear part.
+//! Decides systems of linear rows over whole numbers of at least 0: values that satisfy them, or multipliers that
+//! show that there are none, or the proved excuse that some minor of the rows is large.
 #![tactic(auto)]
 
 pub mod choose;
-pub mod decide;
+pub mod further;
 pub mod hasten;
 pub mod lines;
 pub mod multiple;
+pub mod number;
 pub mod pivot;
 pub mod readings;
+pub mod solved;
 pub mod solve;

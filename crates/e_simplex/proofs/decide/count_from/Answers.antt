@@ -1,7 +1,0 @@
-use Rattle.std.proofs.Common.{◌+◌, ap, ◌∙◌, ◌++◌, ◌∷◌, []}
-use Rattle.e_simplex.proofs.First.{numbers_push}
-use Rattle.e_simplex.proofs.decide.count_from.Goals as goal
-
-pub loop-i-preserved : goal.loop-i-preserved
-loop-i-preserved c =
-    c.in_ok-push.ensures.items ∙ ap (λ v. v ++ (c.args.first + c.loop-i.i) ∷ []) c.loop-i.invariant ∙ numbers_push c.args.first c.loop-i.i
