@@ -16,3 +16,4 @@ pub mod Multiples
 pub mod Joining
 pub mod FurtherRows
 pub mod Tables
+pub mod Solving

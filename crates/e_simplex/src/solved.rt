@@ -1,9 +1,10 @@
 //! Lines with a table in which every row holds, and what comes of one line more.
 
-ghost use Rattle.std.specs.Prelude.{◌≡◌, ℕ, ◌+◌, ◌^◌, ◌<◌, ◌≤◌, ◌++◌, ◌∷◌, [], length, get_or, IfOk, MatchOption};
-ghost use Rattle.e_simplex.specs.Lines.{numbers, FixedTo, AllSmallLines, AllFormsWithin, IsSolution, table_rows};
-ghost use Rattle.e_simplex.specs.Ends.{IsTableOf, IsWideDet};
-ghost use Rattle.e_simplex.specs.Solved.{IsSolved, IsOutcome, IsFit, lines_of, columns_of, AreBelow, WideFurther};
+ghost use Rattle.std.specs.Prelude.{◌≡◌, ◌+◌, ◌^◌, ◌<◌, ◌≤◌, ◌++◌, ◌∷◌, [], length, IfOk, MatchOption};
+ghost use Rattle.e_simplex.specs.Lines.{numbers, FixedTo, AllSmallLines, AllFormsWithin, IsSolution, rows_of};
+ghost use Rattle.e_fraction.specs.Det.{IsWide};
+ghost use Rattle.e_simplex.specs.Ends.{IsTableOf};
+ghost use Rattle.e_simplex.specs.Solved.{IsSolved, IsOutcome, IsFit, lines_of, columns_of};
 ghost use Rattle.e_simplex.specs.Entries.{AllSmall};
 
 use crate::further::joined;
@@ -77,7 +78,7 @@ fn empty_table(alloc: Global, w: usize) -> Result<Table, AllocError>
 /// The table of all lines; None where an entry has size at least 2^63.
 fn first_table(alloc: Global, lines: &[Line], w: usize) -> Result<Option<Table>, AllocError>
     requires { IsFit w lines.now }
-    ensures { IfOk result (λ o. MatchOption o (IsWideDet (table_rows lines.now w)) (IsTableOf lines.now w)) }
+    ensures { IfOk result (λ o. MatchOption o (IsWide (rows_of lines.now) w (2 ^ 63)) (IsTableOf lines.now w)) }
 {
     let mut table = empty_table(alloc, w)?;
     for i in 0..lines.len() {
@@ -123,15 +124,17 @@ fn concluded(
 }
 
 /// What comes of lines.
-pub fn solved(alloc: Global, lines: Vec<Line>, w: usize) -> Result<Outcome, AllocError>
+pub fn solve_lines(alloc: Global, lines: Vec<Line>, w: usize) -> Result<Outcome, AllocError>
     requires { IsFit w lines.items }
     ensures { IfOk result (IsOutcome w lines.items) }
 {
-    let Some(table) = first_table(alloc, &lines, w)? else {
-        return Ok(Outcome::TooWide);
-    };
-    let fixed = fixed_columns(alloc, &lines, w)?;
-    concluded(alloc, lines, fixed, table)
+    match first_table(alloc, &lines, w)? {
+        None => Ok(Outcome::TooWide),
+        Some(table) => {
+            let fixed = fixed_columns(alloc, &lines, w)?;
+            concluded(alloc, lines, fixed, table)
+        }
+    }
 }
 
 /// An equal line.
@@ -180,11 +183,13 @@ impl Solved {
         let w = self.table.columns.len();
         let lines = lines_with(alloc, &self.lines, line)?;
         let table = copy_of_table(alloc, &self.table)?;
-        let Some(table) = joined(alloc, &lines, self.lines.len(), table)? else {
-            return Ok(Outcome::TooWide);
-        };
-        let fixed = fixed_columns(alloc, &lines, w)?;
-        concluded(alloc, lines, fixed, table)
+        match joined(alloc, &lines, self.lines.len(), table)? {
+            None => Ok(Outcome::TooWide),
+            Some(table) => {
+                let fixed = fixed_columns(alloc, &lines, w)?;
+                concluded(alloc, lines, fixed, table)
+            }
+        }
     }
 
     /// The values of the columns.
@@ -192,14 +197,13 @@ impl Solved {
         requires { IsSolved (columns_of self.now) (lines_of self.now) self.now }
         ensures solution { IfOk result (λ v. IsSolution (columns_of self.now) (lines_of self.now) v.items) }
         ensures small { IfOk result (λ v. AllSmall v.items) }
-        ensures bounded { IfOk result (λ v. AreBelow (2 ^ 64) (lines_of self.now) v.items) }
-        ensures further { IfOk result (λ v. WideFurther (columns_of self.now) (lines_of self.now) v.items) }
     {
-        values(
+        let found = values(
             alloc,
             &self.table.basis,
             &self.table.entries,
             self.table.columns.len(),
-        )
+        )?;
+        Ok(found)
     }
 }
