@@ -4,7 +4,7 @@ ghost use Rattle.std.specs.Prelude.{◌≡◌, ◌+◌, ◌^◌, ◌<◌, ◌≤
 ghost use Rattle.e_simplex.specs.Lines.{numbers, FixedTo, AllSmallLines, AllFormsWithin, IsSolution, rows_of};
 ghost use Rattle.e_fraction.specs.Det.{IsWide};
 ghost use Rattle.e_simplex.specs.Ends.{IsTableOf};
-ghost use Rattle.e_simplex.specs.Solved.{IsSolved, IsOutcome, IsFit, lines_of, columns_of};
+ghost use Rattle.e_simplex.specs.Solved.{IsSolved, IsOutcome, IsFit, lines_of, columns_of, AreBelow, WideFurther};
 ghost use Rattle.e_simplex.specs.Entries.{AllSmall};
 
 use crate::further::joined;
@@ -197,6 +197,8 @@ impl Solved {
         requires { IsSolved (columns_of self.now) (lines_of self.now) self.now }
         ensures solution { IfOk result (λ v. IsSolution (columns_of self.now) (lines_of self.now) v.items) }
         ensures small { IfOk result (λ v. AllSmall v.items) }
+        ensures bounded { IfOk result (λ v. AreBelow (2 ^ 64) (lines_of self.now) v.items) }
+        ensures further { IfOk result (λ v. WideFurther (columns_of self.now) (lines_of self.now) v.items) }
     {
         let found = values(
             alloc,
