@@ -17,3 +17,4 @@ pub mod Joining
 pub mod FurtherRows
 pub mod Tables
 pub mod Solving
+pub mod Negatives

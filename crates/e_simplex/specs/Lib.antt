@@ -7,3 +7,4 @@ pub mod Readings
 pub mod Multiple
 pub mod Further
 pub mod Solved
+pub mod Tried

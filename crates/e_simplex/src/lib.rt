@@ -11,4 +11,5 @@ pub mod number;
 pub mod pivot;
 pub mod readings;
 pub mod solved;
+pub mod unequal;
 pub mod solve;
