@@ -1,5 +1,5 @@
 -- What comes of a form that is to be more than 0 or less than 0.
-use Rattle.std.specs.Prelude.{◌≡◌, ◌≢◌, ◌⊎◌, ℕ, ◌^◌, ◌<◌, ◌++◌, ◌∷◌, [], ℤ, pos, neg_ℤ, List, map, unsigned_abs}
+use Rattle.std.specs.Prelude.{◌≢◌, ◌⊎◌, ℕ, ◌^◌, ◌<◌, ◌++◌, ◌∷◌, [], ℤ, pos, neg_ℤ, List, unsigned_abs}
 use Rattle.e_fraction.specs.Det.{IsWide}
 use Rattle.e_simplex.specs.Entries.{AllSmall}
 use Rattle.e_simplex.specs.Lines.{rows_of, form_value, IsSolution, IsAbsurd}

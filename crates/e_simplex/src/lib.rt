@@ -10,6 +10,6 @@ pub mod multiple;
 pub mod number;
 pub mod pivot;
 pub mod readings;
+pub mod solve;
 pub mod solved;
 pub mod unequal;
-pub mod solve;

@@ -1,4 +1,4 @@
-use Rattle.std.proofs.Common.{◌≡◌, ◌+◌, SFits, to_z-of_z, refl, ap, sym, ◌∙◌, subst, length}
+use Rattle.std.proofs.Common.{◌+◌, SFits, to_z-of_z, refl, ap, sym, ◌∙◌, subst, length}
 use mir.Syntax.{w128}
 use Rattle.e_simplex.specs.Ends.{IsWideDet, IsTableOf}
 use Rattle.e_simplex.specs.Lines.{table_rows, FixedTo}
