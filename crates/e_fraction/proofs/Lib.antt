@@ -7,3 +7,10 @@ pub mod Minors
 pub mod Width
 pub mod Named
 pub mod Quotient
+pub mod Terms
+pub mod Refutes
+pub mod Sums
+pub mod Products
+pub mod Numbering
+pub mod Wideness
+pub mod Moved

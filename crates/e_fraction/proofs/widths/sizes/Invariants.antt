@@ -1,0 +1,11 @@
+-- The sum over the rows passed, and its size.
+use Rattle.std.proofs.Common.{◌≡◌, ◌*◌, ◌≤◌, ◌^◌, take}
+use Rattle.std.specs.Prelude.{unsigned_abs, sum_by}
+use Rattle.e_literal.specs.Rows.{coefficient}
+use Rattle.e_fraction.proofs.widths.sizes.Given as goal
+
+abbrev pub invariant-loop-i : goal.invariant-loop-i
+invariant-loop-i l = record {
+  value : l.sum ≡ sum_by (λ r. unsigned_abs (coefficient r.form l.term)) (take l.i l.rows);
+  size : l.sum ≤ l.i * 2 ^ 63;
+}

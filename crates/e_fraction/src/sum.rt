@@ -1,0 +1,125 @@
+// Sums of rows that refute them.
+
+ghost use Rattle.std.specs.Prelude.{◌≡◌, ◌≤◌, ◌<◌, ◌^◌, length, IsTrue, pos, unsigned_abs, ◌*ℤ◌, ◌&&◌};
+ghost use Rattle.std.specs.List.{list_all, list_any, zip};
+ghost use Rattle.std.specs.Ordering.{int_eq};
+ghost use Rattle.e_literal.specs.Rows.{Summands};
+ghost use Rattle.e_literal.specs.Absurd.{total, is_good_sign, is_strict, is_absurd};
+ghost use Rattle.e_fraction.specs.Limits.{all_small, are_good_multipliers};
+ghost use Rattle.e_fraction.specs.Views.{says_of, weighed, all_seen};
+ghost use Rattle.e_fraction.specs.Solution.{HasSolution};
+
+use crate::row::{Row, RowKind};
+use e_literal::Term;
+
+/// Whether the sum of the rows, each times its multiplier, is absurd: the coefficients of each term add up to 0, no
+/// row that says `at least` or `more` is taken away, and one that says `more` is added. Then no values satisfy the
+/// rows. A row that says that its form is not 0 takes part in no such sum. [`have_small_coefficients`] and
+/// [`are_good_multipliers`] test the conditions.
+///
+/// [`have_small_coefficients`]: crate::row::have_small_coefficients
+pub fn check_sum(rows: &[Row], multipliers: &[i128]) -> bool
+    requires lengths { length multipliers.now ≡ length rows.now }
+    requires few { length rows.now ≤ 4096 }
+    requires coefficients { IsTrue (all_small rows.now) }
+    requires multipliers { IsTrue (are_good_multipliers multipliers.now) }
+    ensures value { result ≡ is_absurd (weighed rows.now multipliers.now) }
+    ensures refutes { IsTrue result → ¬ HasSolution (all_seen rows.now) }
+{
+    have_absurd_signs(rows, multipliers) && cancels(rows, multipliers)
+}
+
+/// Whether each multiplier lies within plus or minus 2^80.
+pub fn are_good_multipliers(multipliers: &[i128]) -> bool
+    ensures { result ≡ Rattle.e_fraction.specs.Limits.are_good_multipliers multipliers.now }
+{
+    multipliers
+        .iter()
+        .all(|m| m.unsigned_abs() <= 0x1_0000_0000_0000_0000_0000)
+}
+
+/// Whether the coefficients of each term add up to 0.
+fn cancels(rows: &[Row], multipliers: &[i128]) -> bool
+    requires lengths { length multipliers.now ≡ length rows.now }
+    requires few { length rows.now ≤ 4096 }
+    requires coefficients { IsTrue (all_small rows.now) }
+    requires multipliers { IsTrue (are_good_multipliers multipliers.now) }
+    ensures { result ≡ list_all (λ r. list_all (λ p. int_eq (total (weighed rows.now multipliers.now) p.1) (pos 0)) r.form) rows.now }
+{
+    rows.iter()
+        .all(|row| cancels_in(row.form.summands(), rows, multipliers))
+}
+
+fn cancels_in(form: &[(i64, Term)], rows: &[Row], multipliers: &[i128]) -> bool
+    requires lengths { length multipliers.now ≡ length rows.now }
+    requires few { length rows.now ≤ 4096 }
+    requires coefficients { IsTrue (all_small rows.now) }
+    requires multipliers { IsTrue (are_good_multipliers multipliers.now) }
+    ensures { result ≡ list_all (λ p. int_eq (total (weighed rows.now multipliers.now) p.1) (pos 0)) form.now }
+{
+    form.iter().all(|p| total(rows, multipliers, p.1) == 0)
+}
+
+/// The coefficient of a term in the sum.
+fn total(rows: &[Row], multipliers: &[i128], term: Term) -> i128
+    requires lengths { length multipliers.now ≡ length rows.now }
+    requires few { length rows.now ≤ 4096 }
+    requires coefficients { IsTrue (all_small rows.now) }
+    requires multipliers { IsTrue (are_good_multipliers multipliers.now) }
+    ensures { result ≡ Rattle.e_literal.specs.Absurd.total (weighed rows.now multipliers.now) term }
+{
+    let mut sum: i128 = 0;
+    for i in 0..rows.len() {
+        sum += weighed(rows[i].form.coefficient(term), multipliers[i]);
+    }
+    sum
+}
+
+fn weighed(coefficient: i64, multiplier: i128) -> i128
+    requires coefficient { unsigned_abs coefficient ≤ 2 ^ 30 }
+    requires multiplier { unsigned_abs multiplier ≤ 2 ^ 80 }
+    ensures value { result ≡ multiplier *ℤ coefficient }
+    ensures size { unsigned_abs result ≤ 2 ^ 110 }
+{
+    multiplier * i128::from(coefficient)
+}
+
+/// Whether no row that says `at least` or `more` is taken away, and one that says `more` is added.
+fn have_absurd_signs(rows: &[Row], multipliers: &[i128]) -> bool
+    ensures { result ≡ (list_all (λ x. is_good_sign (says_of x.0.kind) x.1) (zip rows.now multipliers.now)
+        && list_any (λ x. is_strict (says_of x.0.kind) x.1) (zip rows.now multipliers.now)) }
+{
+    have_good_signs(rows, multipliers) && has_strict(rows, multipliers)
+}
+
+fn have_good_signs(rows: &[Row], multipliers: &[i128]) -> bool
+    ensures { result ≡ list_all (λ x. is_good_sign (says_of x.0.kind) x.1) (zip rows.now multipliers.now) }
+{
+    rows.iter()
+        .zip(multipliers)
+        .all(|(row, multiplier)| has_good_sign(row.kind, *multiplier))
+}
+
+fn has_good_sign(kind: RowKind, multiplier: i128) -> bool
+    ensures { result ≡ is_good_sign (says_of kind) multiplier }
+{
+    match kind {
+        RowKind::Zero => true,
+        RowKind::AtLeast | RowKind::More => 0 <= multiplier,
+        RowKind::Not => false,
+    }
+}
+
+fn has_strict(rows: &[Row], multipliers: &[i128]) -> bool
+    ensures { result ≡ list_any (λ x. is_strict (says_of x.0.kind) x.1) (zip rows.now multipliers.now) }
+{
+    rows.iter()
+        .zip(multipliers)
+        .any(|(row, multiplier)| is_strict(row.kind, *multiplier))
+}
+
+fn is_strict(kind: RowKind, multiplier: i128) -> bool
+    ensures { result ≡ Rattle.e_literal.specs.Absurd.is_strict (says_of kind) multiplier }
+{
+    kind == RowKind::More && 1 <= multiplier
+}

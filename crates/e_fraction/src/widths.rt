@@ -1,0 +1,93 @@
+// The width of a list of rows.
+
+ghost use Rattle.std.specs.Prelude.{◌≡◌, ◌≤◌, ◌<◌, ◌+◌, ◌-◌, ◌*◌, ◌^◌, ◌++◌, length, min, max, take, map, get_or, sum_by, count_by, unsigned_abs, not};
+ghost use Rattle.std.specs.List.{list_any};
+ghost use Rattle.e_literal.specs.Same.{term_eq};
+ghost use Rattle.e_literal.specs.Rows.{coefficient, terms_of_rows};
+ghost use Rattle.e_literal.specs.Width.{has_constant, constants, width_over, is_among};
+ghost use Rattle.e_literal.specs.Minor.{IsWide};
+ghost use Rattle.e_fraction.specs.Views.{says_of, all_seen};
+
+use crate::row::{Row, RowKind};
+use crate::signed::stands_in;
+use e_literal::Term;
+
+/// The product over the terms of the sum of the sizes of the term's coefficients (or 1, where that is 0), times the
+/// number of rows that say `more` or `not 0` (or 1), or 2^128 - 1 where the product is greater. Before that cap it is
+/// at least the size of every minor, so the width of rows that are wide is at least 2^63.
+pub fn width(rows: &[Row]) -> u128
+    ensures value { result ≡ Rattle.e_literal.specs.Width.width (all_seen rows.now) }
+    ensures wide { IsWide (all_seen rows.now) → 2 ^ 63 ≤ result }
+{
+    let mut product = constants(rows);
+    for i in 0..rows.len() {
+        product = times_weights(product, rows, i);
+    }
+    product
+}
+
+/// How many rows have a constant, or 1.
+fn constants(rows: &[Row]) -> u128
+    ensures { result ≡ Rattle.e_literal.specs.Width.constants (all_seen rows.now) }
+{
+    let count = rows.iter().filter(|row| has_constant(row.kind)).count();
+    (count as u128).max(1)
+}
+
+fn has_constant(kind: RowKind) -> bool
+    ensures { result ≡ Rattle.e_literal.specs.Width.has_constant (says_of kind) }
+{
+    match kind {
+        RowKind::More | RowKind::Not => true,
+        RowKind::Zero | RowKind::AtLeast => false,
+    }
+}
+
+/// The product, times the weights of the terms of the row `i` that stand nowhere before.
+fn times_weights(product: u128, rows: &[Row], i: usize) -> u128
+    requires row { i < length rows.now }
+    requires product { product ≡ width_over (all_seen rows.now) (terms_of_rows (all_seen (take i rows.now))) }
+    ensures { result ≡ width_over (all_seen rows.now) (terms_of_rows (all_seen (take (i + 1) rows.now))) }
+{
+    let form = rows[i].form.summands();
+    let mut product = product;
+    for j in 0..form.len() {
+        let term = form[j].1;
+        if is_new(&rows[..i], &form[..j], term) {
+            product = product.saturating_mul(weight(rows, term));
+        }
+    }
+    product
+}
+
+/// Whether the term stands neither in one of the rows nor in the form.
+fn is_new(rows: &[Row], form: &[(i64, Term)], term: Term) -> bool
+    ensures { result ≡ not (is_among (terms_of_rows (all_seen rows.now) ++ map (λ p. p.1) form.now) term) }
+{
+    !stands_in(form, term) && !occurs(rows, term)
+}
+
+/// Whether the term stands in one of the rows.
+fn occurs(rows: &[Row], term: Term) -> bool
+    ensures { result ≡ list_any (λ r. list_any (λ q. term_eq q.1 term) r.form) rows.now }
+{
+    rows.iter().any(|row| stands_in(row.form.summands(), term))
+}
+
+/// The sum of the sizes of the term's coefficients, or 1.
+fn weight(rows: &[Row], term: Term) -> u128
+    ensures { result ≡ Rattle.e_literal.specs.Width.weight (all_seen rows.now) term }
+{
+    sizes(rows, term).max(1)
+}
+
+/// The sum of the sizes of the term's coefficients.
+fn sizes(rows: &[Row], term: Term) -> u128
+    ensures { result ≡ sum_by (λ r. unsigned_abs (coefficient r.form term)) rows.now }
+{
+    let mut sum = 0u128;
+    for i in 0..rows.len() {
+        sum += u128::from(rows[i].form.coefficient(term).unsigned_abs());
+    }
+    sum
+}
