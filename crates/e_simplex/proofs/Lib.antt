@@ -18,3 +18,4 @@ pub mod FurtherRows
 pub mod Tables
 pub mod Solving
 pub mod Negatives
+pub mod Combining

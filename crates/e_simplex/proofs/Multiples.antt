@@ -7,7 +7,9 @@ use Rattle.std.proofs.lemmas.Nat.{mul-le}
 use Rattle.std.proofs.lemmas.Bool.{cases_lt, cases_eq}
 use lib.IntN.{ℤ, pos, ◌+ℤ◌, ◌*ℤ◌, *ℤ-zero}
 use borrow.Author.Differences.{abs_is}
-use Rattle.e_simplex.specs.Multiple.{IsBad}
+use Rattle.std.proofs.Common.{[], ◌∷◌, ◌++◌, ◌∙◌}
+use Rattle.std.proofs.lemmas.List.{length_push, get_or_push, get_or_append_left}
+use Rattle.e_simplex.specs.Multiple.{IsBad, added, AddedTo}
 use Rattle.e_fraction.proofs.Arith.{sums}
 use Rattle.e_simplex.proofs.Disequal.{some_good, one_bad}
 
@@ -55,3 +57,13 @@ bad_more first second k t j h b s z l = elim (cases_eq s t) [
   | inl e ↦ (j, subst (λ v. IsBad first second k v j) (sym e) b)
   | inr d ↦ h s z (omega (arith, l, d))
 ]
+
+pub added_more : (n : ℕ) (first second : List ℤ) (t : ℕ) (xs ys : List ℤ) (v : ℤ) → ys ≡ xs ++ v ∷ [] → AddedTo n first second t xs → v ≡ added first second t n
+    → AddedTo (n + 1) first second t ys
+added_more n first second t xs ys v g h e = subst (AddedTo (n + 1) first second t) (sym g) (record {
+  shape = omega (arith, length_push xs v, h.shape);
+  each = λ j l. elim (cases_eq j n) [
+    | inl q ↦ get_or_push xs v (pos 0) j (omega (arith, h.shape, q)) ∙ e ∙ ap (added first second t) (sym q)
+    | inr d ↦ get_or_append_left xs (v ∷ []) (pos 0) j (omega (arith, l, d, h.shape)) ∙ h.each j (omega (arith, l, d))
+  ];
+})

@@ -1,5 +1,5 @@
 -- What comes of a form that is to be more than 0 or less than 0.
-use Rattle.std.specs.Prelude.{◌≢◌, ◌⊎◌, ℕ, ◌^◌, ◌<◌, ◌++◌, ◌∷◌, [], ℤ, pos, neg_ℤ, List, unsigned_abs}
+use Rattle.std.specs.Prelude.{◌≡◌, ◌≢◌, ◌⊎◌, ℕ, ◌^◌, ◌<◌, ◌++◌, ◌∷◌, [], ℤ, pos, neg_ℤ, List, length, get_or, unsigned_abs}
 use Rattle.e_fraction.specs.Det.{IsWide}
 use Rattle.e_simplex.specs.Entries.{AllSmall}
 use Rattle.e_simplex.specs.Lines.{rows_of, form_value, IsSolution, IsAbsurd}
@@ -31,3 +31,8 @@ abbrev pub IsTried : ℕ → List Line → Line → Tried → Type 0
 IsTried w lines l (Found values) = IsFound w lines l values.items
 IsTried w lines l (Neither above below) = IsAbsurd w (lines ++ l ∷ []) above.items × IsAbsurd w (lines ++ negative_line l ∷ []) below.items
 IsTried w lines l TooWide = IsWide (rows_of (lines ++ l ∷ [])) w (2 ^ 63) ⊎ IsWide (rows_of (lines ++ negative_line l ∷ [])) w (2 ^ 63)
+
+-- the values of the first n forms
+pub record AreValues (n : ℕ) (forms : List Line) (values : List ℤ) (xs : List ℤ) : Type 0 where
+  pub shape : length xs ≡ n
+  pub each : (j : ℕ) (d : Line) → j < n → get_or xs j (pos 0) ≡ form_value (get_or forms j d).form values

@@ -1,5 +1,7 @@
-ghost use Rattle.std.specs.Prelude.{◌≡◌, ◌≢◌, ℕ, ◌+◌, ◌^◌, ◌<◌, ◌≤◌, pos, length, get_or, unsigned_abs, MatchOption};
-ghost use Rattle.e_simplex.specs.Multiple.{IsBad, IsGood, added};
+ghost use Rattle.std.specs.Prelude.{◌≡◌, ◌≢◌, ℕ, ◌+◌, ◌^◌, ◌<◌, ◌≤◌, pos, length, get_or, unsigned_abs, MatchOption, IfOk};
+ghost use Rattle.e_simplex.specs.Multiple.{IsBad, IsGood, added, AddedTo};
+
+use std::alloc::{AllocError, Global};
 
 // first[j] + t * second[j]
 fn added_at(first: &[i128], second: &[i128], t: usize, j: usize) -> i128
@@ -49,4 +51,24 @@ pub fn least_multiple(first: &[i128], second: &[i128], k: usize) -> usize
         }
     }
     unreachable!()
+}
+
+/// Each number of the first list, and `t` times that of the second.
+pub fn combined(
+    alloc: Global,
+    first: &[i128],
+    second: &[i128],
+    t: usize,
+) -> Result<Vec<i128>, AllocError>
+    requires lengths { length first.now ≡ length second.now }
+    requires few { t < 2 ^ 13 }
+    requires small_first { (j : ℕ) → j < length first.now → unsigned_abs (get_or first.now j (pos 0)) < 2 ^ 90 }
+    requires small_second { (j : ℕ) → j < length second.now → unsigned_abs (get_or second.now j (pos 0)) < 2 ^ 65 }
+    ensures { IfOk result (λ v. AddedTo (length first.now) first.now second.now t v.items) }
+{
+    let mut all = Vec::new(alloc);
+    for j in 0..first.len() {
+        all.push(added_at(first, second, t, j))?;
+    }
+    Ok(all)
 }

@@ -1,12 +1,13 @@
 //! Values at which a form is not 0: it is tried as more than 0, and as less than 0.
 
-ghost use Rattle.std.specs.Prelude.{◌≡◌, ◌^◌, ◌≤◌, ◌++◌, ◌∷◌, [], neg_ℤ, unsigned_abs, IfOk};
+ghost use Rattle.std.specs.Prelude.{◌≡◌, ◌^◌, ◌≤◌, ◌++◌, ◌∷◌, [], neg_ℤ, length, unsigned_abs, IfOk};
 ghost use Rattle.e_simplex.specs.declared.lines.Kind.TheVariants.{More};
-ghost use Rattle.e_simplex.specs.Lines.{IsSmallLine};
+ghost use Rattle.e_simplex.specs.Entries.{AllSmall};
+ghost use Rattle.e_simplex.specs.Lines.{IsSmallLine, AllSmallLines, AllFormsWithin};
 ghost use Rattle.e_simplex.specs.Solved.{IsSolved, IsFit, columns_of, lines_of};
-ghost use Rattle.e_simplex.specs.Tried.{negated, IsTried};
+ghost use Rattle.e_simplex.specs.Tried.{negated, IsTried, AreValues};
 
-use crate::lines::{Kind, Line, Monomial};
+use crate::lines::{Kind, Line, Monomial, value_of};
 use crate::solved::{Outcome, Solved};
 use e_literal::Items;
 use std::alloc::{AllocError, Global};
@@ -71,4 +72,18 @@ pub fn try_both(alloc: Global, solved: &Solved, line: &Line) -> Result<Tried, Al
             }
         }
     }
+}
+
+/// The values of the lines' forms.
+pub fn values_at(alloc: Global, forms: &[Line], values: &[i128]) -> Result<Vec<i128>, AllocError>
+    requires small { AllSmallLines forms.now }
+    requires within { AllFormsWithin (length values.now) forms.now }
+    requires values { AllSmall values.now }
+    ensures { IfOk result (λ v. AreValues (length forms.now) forms.now values.now v.items) }
+{
+    let mut all = Vec::new(alloc);
+    for j in 0..forms.len() {
+        all.push(value_of(forms[j].form.items(), values))?;
+    }
+    Ok(all)
 }
