@@ -19,3 +19,4 @@ pub mod Tables
 pub mod Solving
 pub mod Negatives
 pub mod Combining
+pub mod Keeping

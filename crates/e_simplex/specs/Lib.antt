@@ -8,3 +8,4 @@ pub mod Multiple
 pub mod Further
 pub mod Solved
 pub mod Tried
+pub mod Kept
