@@ -1,5 +1,5 @@
 -- What comes of a form that is to be more than 0 or less than 0.
-use Rattle.std.specs.Prelude.{◌≡◌, ◌≢◌, ◌⊎◌, ℕ, ◌^◌, ◌<◌, ◌++◌, ◌∷◌, [], ℤ, pos, neg_ℤ, List, length, get_or, unsigned_abs}
+use Rattle.std.specs.Prelude.{◌≡◌, ◌≢◌, ◌⊎◌, ℕ, ◌^◌, ◌<◌, ◌≤◌, ◌++◌, ◌∷◌, [], ℤ, pos, neg_ℤ, List, length, get_or, unsigned_abs}
 use Rattle.e_fraction.specs.Det.{IsWide}
 use Rattle.e_simplex.specs.Entries.{AllSmall}
 use Rattle.e_simplex.specs.Lines.{rows_of, form_value, IsSolution, IsAbsurd}
@@ -36,3 +36,12 @@ IsTried w lines l TooWide = IsWide (rows_of (lines ++ l ∷ [])) w (2 ^ 63) ⊎ 
 pub record AreValues (n : ℕ) (forms : List Line) (values : List ℤ) (xs : List ℤ) : Type 0 where
   pub shape : length xs ≡ n
   pub each : (j : ℕ) (d : Line) → j < n → get_or xs j (pos 0) ≡ form_value (get_or forms j d).form values
+
+-- all numbers but one have size below 2 ^ 64
+abbrev pub AreBelowBut : List ℤ → ℕ → Type 0
+AreBelowBut xs but = (j : ℕ) → j < length xs → j ≢ but → unsigned_abs (get_or xs j (pos 0)) < 2 ^ 64
+
+pub record IsLargeAt (xs : List ℤ) (but j : ℕ) : Type 0 where
+  pub here : j < length xs
+  pub other : j ≢ but
+  pub large : 2 ^ 64 ≤ unsigned_abs (get_or xs j (pos 0))

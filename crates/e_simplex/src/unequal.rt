@@ -1,11 +1,11 @@
 //! Values at which a form is not 0: it is tried as more than 0, and as less than 0.
 
-ghost use Rattle.std.specs.Prelude.{◌≡◌, ◌^◌, ◌≤◌, ◌++◌, ◌∷◌, [], neg_ℤ, length, unsigned_abs, IfOk};
+ghost use Rattle.std.specs.Prelude.{◌≡◌, ◌^◌, ◌≤◌, ◌++◌, ◌∷◌, [], neg_ℤ, length, unsigned_abs, true, false, ◌<◌, IfOk, MatchOption};
 ghost use Rattle.e_simplex.specs.declared.lines.Kind.TheVariants.{More};
 ghost use Rattle.e_simplex.specs.Entries.{AllSmall};
 ghost use Rattle.e_simplex.specs.Lines.{IsSmallLine, AllSmallLines, AllFormsWithin};
 ghost use Rattle.e_simplex.specs.Solved.{IsSolved, IsFit, columns_of, lines_of};
-ghost use Rattle.e_simplex.specs.Tried.{negated, IsTried, AreValues};
+ghost use Rattle.e_simplex.specs.Tried.{negated, IsTried, AreValues, AreBelowBut, IsLargeAt};
 
 use crate::lines::{Kind, Line, Monomial, value_of};
 use crate::solved::{Outcome, Solved};
@@ -86,4 +86,23 @@ pub fn values_at(alloc: Global, forms: &[Line], values: &[i128]) -> Result<Vec<i
         all.push(value_of(forms[j].form.items(), values))?;
     }
     Ok(all)
+}
+
+fn is_large(x: i128) -> bool
+    ensures large { result ≡ true → 2 ^ 64 ≤ unsigned_abs x }
+    ensures small { result ≡ false → unsigned_abs x < 2 ^ 64 }
+{
+    x <= -0x1_0000_0000_0000_0000 || 0x1_0000_0000_0000_0000 <= x
+}
+
+/// A place, other than one, of a number of size at least 2^64.
+pub fn large_place(xs: &[i128], but: usize) -> Option<usize>
+    ensures { MatchOption result (AreBelowBut xs.now but) (IsLargeAt xs.now but) }
+{
+    for j in 0..xs.len() {
+        if j != but && is_large(xs[j]) {
+            return Some(j);
+        }
+    }
+    None
 }
