@@ -1,0 +1,197 @@
+// The objects for the variables of a shape.
+
+ghost use Rattle.std.specs.Prelude.{◌≡◌, ◌<◌, ◌+◌, ◌^◌, ◌++◌, length, IfOk, false};
+ghost use Rattle.e_literal.specs.Literal.{count_of, is_in_scope};
+ghost use Rattle.e_literal.specs.Scopes.{are_of_sorts, with_one};
+ghost use Rattle.e_literal.specs.Rename.{image_in, paired, number_at, renamed, same_obj};
+ghost use Rattle.e_literal.specs.declared.object.Sort.TheVariants.{Point, Line, Circle};
+ghost use Rattle.e_construct.specs.Construct.{sorts_of};
+ghost use Rattle.e_construct.specs.Views.{atom_of, lit_of, image_of};
+
+use crate::pattern::{Pattern, Relation};
+use e_literal::{Atom, Lit, Obj, Scope, Sort};
+use std::alloc::{AllocError, Global};
+
+/// The arguments in the places of their variables, and the new objects in the places of theirs.
+#[derive(Clone, Copy, Debug)]
+pub struct Naming<'a> {
+    pub letters: &'a [Obj],
+    pub objects: &'a [Obj],
+    pub new_letters: &'a [Obj],
+    pub new_objects: &'a [Obj],
+}
+
+impl<'a> Naming<'a> {
+    /// The literal with the objects for its variables.
+    pub fn literal(&self, pattern: &Pattern) -> Lit
+        ensures { result ≡ renamed (image_of self.now) (lit_of pattern.now) }
+    {
+        match pattern {
+            Pattern::Is(relation) => Lit {
+                neg: false,
+                atom: self.atom(relation),
+            },
+            Pattern::Not(relation) => Lit {
+                neg: true,
+                atom: self.atom(relation),
+            },
+        }
+    }
+
+    fn atom(&self, relation: &Relation) -> Atom
+        ensures { result ≡ (renamed (image_of self.now) (record { neg = false; atom = atom_of relation.now })).atom }
+    {
+        match relation {
+            Relation::On(x, y) => Atom::On(self.point(*x), self.line(*y)),
+            Relation::OnC(x, y) => Atom::OnC(self.point(*x), self.circle(*y)),
+            Relation::Inside(x, y) => Atom::Inside(self.point(*x), self.circle(*y)),
+            Relation::Center(x, y) => Atom::Center(self.point(*x), self.circle(*y)),
+            Relation::Between(x, y, z) => {
+                Atom::Between(self.point(*x), self.point(*y), self.point(*z))
+            }
+            Relation::Same(x, y, z) => Atom::Same(self.point(*x), self.point(*y), self.line(*z)),
+            Relation::MeetLL(x, y) => Atom::MeetLL(self.line(*x), self.line(*y)),
+            Relation::MeetLC(x, y) => Atom::MeetLC(self.line(*x), self.circle(*y)),
+            Relation::MeetCC(x, y) => Atom::MeetCC(self.circle(*x), self.circle(*y)),
+            Relation::EqP(x, y) => Atom::EqP(self.point(*x), self.point(*y)),
+        }
+    }
+
+    fn point(&self, letter: Obj) -> u16
+        ensures { result ≡ number_at (image_of self.now) Point letter.num }
+    {
+        self.number(Sort::Point, letter.num)
+    }
+
+    fn line(&self, letter: Obj) -> u16
+        ensures { result ≡ number_at (image_of self.now) Line letter.num }
+    {
+        self.number(Sort::Line, letter.num)
+    }
+
+    fn circle(&self, letter: Obj) -> u16
+        ensures { result ≡ number_at (image_of self.now) Circle letter.num }
+    {
+        self.number(Sort::Circle, letter.num)
+    }
+
+    /// The number of the object for a variable, which keeps its own where there is none.
+    #[tactic(auto, using(crate::proofs::Images::namings))]
+    fn number(&self, sort: Sort, num: u16) -> u16
+        ensures { result ≡ number_at (image_of self.now) sort num }
+    {
+        let letter = Obj { sort, num };
+        match image(self.letters, self.objects, letter) {
+            Some(object) => object.num,
+            None => match image(self.new_letters, self.new_objects, letter) {
+                Some(object) => object.num,
+                None => num,
+            },
+        }
+    }
+}
+
+/// The object in the place that the variable has among the variables.
+#[tactic(auto, using(crate::proofs::Images::empties))]
+pub fn image(letters: &[Obj], objects: &[Obj], letter: Obj) -> Option<Obj>
+    ensures { result ≡ image_in (paired letters.now objects.now) letter }
+{
+    match (letters, objects) {
+        ([first, letters @ ..], [object, objects @ ..]) => {
+            if same(*first, letter) {
+                Some(*object)
+            } else {
+                image(letters, objects, letter)
+            }
+        }
+        ([], _) => None,
+        ([_, ..], []) => None,
+    }
+}
+
+pub fn same_sort(x: Sort, y: Sort) -> bool
+    ensures { result ≡ Rattle.e_literal.specs.Scopes.same_sort x y }
+{
+    x == y
+}
+
+fn same(x: Obj, y: Obj) -> bool
+    ensures { result ≡ same_obj x y }
+{
+    x.sort == y.sort && x.num == y.num
+}
+
+/// The objects that come next in the scope, one for each variable and of its sort.
+#[tactic(auto, using(crate::proofs::Images::growing))]
+pub fn next_objects(alloc: Global, scope: Scope, letters: &[Obj]) -> Result<Vec<Obj>, AllocError>
+    requires points { scope.points + length letters.now < 2 ^ 16 }
+    requires lines { scope.lines + length letters.now < 2 ^ 16 }
+    requires circles { scope.circles + length letters.now < 2 ^ 16 }
+    ensures { IfOk result (λ objects. objects.items ≡ Rattle.e_literal.specs.Scopes.next_objects scope (sorts_of letters.now)) }
+{
+    let mut scope = scope;
+    let mut objects = Vec::new(alloc);
+    for letter in letters {
+        objects.push(Obj {
+            sort: letter.sort,
+            num: count(scope, letter.sort),
+        })?;
+        scope = grown(scope, letter.sort);
+    }
+    Ok(objects)
+}
+
+fn count(scope: Scope, sort: Sort) -> u16
+    ensures { result ≡ count_of scope sort }
+{
+    match sort {
+        Sort::Point => scope.points,
+        Sort::Line => scope.lines,
+        Sort::Circle => scope.circles,
+    }
+}
+
+fn grown(scope: Scope, sort: Sort) -> Scope
+    requires points { scope.points + 1 < 2 ^ 16 }
+    requires lines { scope.lines + 1 < 2 ^ 16 }
+    requires circles { scope.circles + 1 < 2 ^ 16 }
+    ensures { result ≡ with_one scope sort }
+{
+    match sort {
+        Sort::Point => Scope {
+            points: scope.points + 1,
+            ..scope
+        },
+        Sort::Line => Scope {
+            lines: scope.lines + 1,
+            ..scope
+        },
+        Sort::Circle => Scope {
+            circles: scope.circles + 1,
+            ..scope
+        },
+    }
+}
+
+pub fn is_in_scope(scope: Scope, object: Obj) -> bool
+    ensures { result ≡ Rattle.e_literal.specs.Literal.is_in_scope scope object }
+{
+    object.num < count(scope, object.sort)
+}
+
+/// Whether the objects are as many as the variables, of their sorts, and in scope.
+#[tactic(auto, using(crate::proofs::Images::empties))]
+pub fn are_of_sorts(scope: Scope, letters: &[Obj], objects: &[Obj]) -> bool
+    ensures { result ≡ Rattle.e_literal.specs.Scopes.are_of_sorts scope (sorts_of letters.now) objects.now }
+{
+    match (letters, objects) {
+        ([], []) => true,
+        ([letter, letters @ ..], [object, objects @ ..]) => {
+            letter.sort == object.sort
+                && is_in_scope(scope, *object)
+                && are_of_sorts(scope, letters, objects)
+        }
+        ([], [_, ..]) => false,
+        ([_, ..], []) => false,
+    }
+}

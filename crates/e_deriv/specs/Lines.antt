@@ -1,0 +1,32 @@
+-- The lines of a script in text order, each with what holds before it.
+use Rattle.std.specs.Prelude.{ℕ, ◌+◌, List, [], ◌∷◌, Bool, Result, Ok, Err, if◌then◌else◌}
+use Rattle.e_literal.specs.declared.object.Scope.{Scope}
+use Rattle.e_literal.specs.declared.literal.Lit.{Lit}
+use Rattle.e_literal.specs.Facts.{joined}
+use Rattle.e_literal.specs.Use.{Stated, scope_of}
+use Rattle.e_deriv.specs.Script.{Script, Cite, Hence, Qed}
+use Rattle.e_deriv.specs.Goal.{Goal, goal_of_statement, facts_of_statement}
+
+-- a line: the scope and the facts before it, the goal of its block, and the script from it on
+pub record Line : Type 0 where
+  pub scope : Scope
+  pub facts : List Lit
+  pub goal : Goal
+  pub here : Script
+
+abbrev pub line : Script → Scope → List Lit → Goal → Line
+line here s facts goal = record { scope = s; facts = facts; goal = goal; here = here }
+
+unfoldable pub lines : Script → Scope → List Lit → Goal → List Line
+lines (Cite by rest) s facts goal = line (Cite by rest) s facts goal ∷ lines rest s (joined facts by.lit) goal
+lines (Hence lit cert rest) s facts goal = line (Hence lit cert rest) s facts goal ∷ lines rest s (joined facts lit) goal
+lines (Qed objects certs) s facts goal = line (Qed objects certs) s facts goal ∷ []
+
+-- the lines of a statement's proof
+abbrev pub proof_lines : Stated → Script → List Line
+proof_lines t script = lines script (scope_of t) (facts_of_statement t) (goal_of_statement t)
+
+-- the number of the first line that fails the test, where the first line has number n; else the number after the last
+abbrev pub first_failure : (Line → Bool) → List Line → ℕ → Result ℕ ℕ
+first_failure p [] n = Ok n
+first_failure p (x ∷ xs) n = if p x then first_failure p xs (n + 1) else Err n

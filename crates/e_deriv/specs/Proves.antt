@@ -1,0 +1,28 @@
+-- When a script proves a goal from a scope and facts, whatever its certificates say.
+use Rattle.std.specs.Prelude.{List, IsTrue}
+use Rattle.e_literal.specs.declared.object.Scope.{Scope}
+use Rattle.e_literal.specs.declared.literal.Lit.{Lit}
+use Rattle.e_literal.specs.Literal.{all_in_scope}
+use Rattle.e_literal.specs.Facts.{joined}
+use Rattle.e_literal.specs.Use.{Stated, scope_of}
+use Rattle.e_clause.specs.Allowed.{Allowed, AllAllowed}
+use Rattle.e_deriv.specs.Script.{Script, Cite, Hence, Qed}
+use Rattle.e_deriv.specs.Goal.{Goal, are_for, goal_with, goal_of_statement, facts_of_statement}
+use Rattle.e_deriv.specs.Steps.{is_citation, is_cited}
+
+unfoldable pub Proves : Scope → List Lit → Goal → Script → Type 0
+-- the literal is one of the instance, the negation of each other is a fact; it joins the facts
+Proves s facts goal (Cite by rest) =
+    IsTrue (is_citation s by) × IsTrue (is_cited facts by)
+    × Proves s (joined facts by.lit) goal rest
+-- the literal is allowed; it joins the facts
+Proves s facts goal (Hence lit cert rest) =
+    IsTrue (all_in_scope s lit) × Allowed s facts lit
+    × Proves s (joined facts lit) goal rest
+-- each goal literal, with the objects for the made ones, is allowed
+Proves s facts goal (Qed objects certs) =
+    IsTrue (are_for goal s objects) × AllAllowed s facts (goal_with goal objects)
+
+-- the script proves the statement
+abbrev pub IsProof : Stated → Script → Type 0
+IsProof t script = Proves (scope_of t) (facts_of_statement t) (goal_of_statement t) script

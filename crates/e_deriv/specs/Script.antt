@@ -1,0 +1,44 @@
+-- A block as a plain tree: each step with what comes after it, and a close at the end.
+use Rattle.std.specs.Prelude.{ℕ, ◌+◌, List, [], ◌∷◌, Option, None}
+use Rattle.e_literal.specs.declared.literal.Lit.{Lit}
+use Rattle.e_literal.specs.declared.object.Obj.{Obj}
+use Rattle.e_clause.specs.declared.cert.By.{By}
+use Rattle.e_clause.specs.declared.cert.Cert.{Cert}
+use Rattle.e_deriv.specs.declared.block.Block.{Block}
+use Rattle.e_deriv.specs.declared.block.Step.{Step}
+use Rattle.e_deriv.specs.declared.block.Step.TheVariants.{Cite as CiteStep, Hence as HenceStep}
+use Rattle.e_deriv.specs.declared.block.Close.{Close}
+use Rattle.e_deriv.specs.declared.block.Close.TheVariants.{Qed as QedClose}
+
+pub data Script : Type 0 where
+  Cite : (by : By) (rest : Script) → Script
+  Hence : (lit : Lit) (cert : Option Cert) (rest : Script) → Script
+  Qed : (objects : List Obj) (certs : List Cert) → Script
+
+-- a step, and what comes after it
+abbrev pub step_script : Step → Script → Script
+step_script (CiteStep by) rest = Cite by rest
+step_script (HenceStep lit cert) rest = Hence lit cert rest
+
+abbrev pub close_script : Close → Script
+close_script (QedClose objects certs) = Qed objects certs
+
+-- the steps of a list, and what comes after them
+abbrev pub steps_script : List Step → Script → Script
+steps_script [] rest = rest
+steps_script (s ∷ steps) rest = step_script s (steps_script steps rest)
+
+abbrev pub script_of : Block → Script
+script_of b = steps_script b.steps.items (close_script b.close)
+
+-- step and close lines
+unfoldable pub size : Script → ℕ
+size (Cite by rest) = 1 + size rest
+size (Hence lit cert rest) = 1 + size rest
+size (Qed objects certs) = 1
+
+-- without its certificates
+unfoldable pub erased : Script → Script
+erased (Cite by rest) = Cite by (erased rest)
+erased (Hence lit cert rest) = Hence lit None (erased rest)
+erased (Qed objects certs) = Qed objects []

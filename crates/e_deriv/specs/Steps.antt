@@ -1,0 +1,46 @@
+-- What has to be so at a line beside what it has to be allowed: its objects are in scope, its form fits. What it needs.
+use Rattle.std.specs.Prelude.{List, [], ◌∷◌, map, Bool, true, false, ◌&&◌, is_some}
+use Rattle.std.specs.Option.{option_map_or}
+use Rattle.std.specs.List.{list_all}
+use Rattle.e_literal.specs.declared.object.Scope.{Scope}
+use Rattle.e_literal.specs.declared.literal.Lit.{Lit}
+use Rattle.e_literal.specs.Literal.{negation, is_in_scope, all_in_scope}
+use Rattle.e_literal.specs.Facts.{has, has_all, others}
+use Rattle.e_clause.specs.declared.cert.By.{By}
+use Rattle.e_clause.specs.Instance.{Inst}
+use Rattle.e_clause.specs.RuleKinds.{is_diagram_rule}
+use Rattle.e_deriv.specs.Script.{Script, Cite, Hence, Qed}
+use Rattle.e_deriv.specs.Goal.{Goal, are_for, goal_with}
+use Rattle.e_deriv.specs.Lines.{Line}
+
+-- the rule is one of diagrams and equality, its arguments have the sorts of its variables, and all objects are in scope
+abbrev pub is_citation : Scope → By → Bool
+is_citation s by =
+    is_diagram_rule by.rule
+    && (list_all (is_in_scope s) by.args && (all_in_scope s by.lit && is_some (Inst by.rule by.args)))
+
+-- the literal is one of the instance, and the negation of each other is a fact
+abbrev pub instance_gives : List Lit → Lit → List Lit → Bool
+instance_gives facts l lits = has lits l && has_all facts (map negation (others lits l))
+
+-- the cited instance gives the literal
+abbrev pub is_cited : List Lit → By → Bool
+is_cited facts by = option_map_or (instance_gives facts by.lit) (Inst by.rule by.args) false
+
+-- the line's form fits where it stands
+abbrev pub fits_at : Script → Scope → Goal → Bool
+fits_at (Cite by rest) s goal = is_citation s by
+fits_at (Hence lit cert rest) s goal = all_in_scope s lit
+fits_at (Qed objects certs) s goal = are_for goal s objects
+
+-- the literals that the line needs, in order
+abbrev pub needs_at : Script → Goal → List Lit
+needs_at (Hence lit cert rest) goal = lit ∷ []
+needs_at (Qed objects certs) goal = goal_with goal objects
+needs_at (Cite by rest) goal = []
+
+abbrev pub fits : Line → Bool
+fits x = fits_at x.here x.scope x.goal
+
+abbrev pub needs : Line → List Lit
+needs x = needs_at x.here x.goal

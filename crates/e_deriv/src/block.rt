@@ -1,0 +1,32 @@
+//! Blocks, steps and closes.
+
+use e_clause::{By, Cert};
+use e_literal::{Items, Lit, Obj};
+
+/// Steps, and the close that ends them.
+///
+/// A script has no certificates; a derivation has one for each literal that a line needs.
+#[derive(Debug, Drop)]
+pub struct Block {
+    pub steps: Vec<Step>,
+    pub close: Close,
+}
+
+/// A step, after which its literal is a fact.
+#[derive(Debug, Drop)]
+pub enum Step {
+    /// The literal is one of an instance of the rule, and the negation of each other one is a fact.
+    Cite(By),
+    /// The literal is allowed.
+    Hence { lit: Lit, cert: Option<Cert> },
+}
+
+/// The end of a block.
+#[derive(Debug, Drop)]
+pub enum Close {
+    /// Each literal of the goal is allowed, with these objects for its made ones.
+    Qed {
+        objects: Items<Obj>,
+        certs: Items<Cert>,
+    },
+}

@@ -1,0 +1,62 @@
+//! Blocks without their certificates.
+ghost use Rattle.std.specs.Prelude.{◌≡◌, IfOk};
+ghost use Rattle.e_deriv.specs.Script.{Script, script_of, step_script, close_script, erased};
+
+use crate::block::{Block, Close, Step};
+use e_clause::By;
+use e_literal::{Items, copy};
+use std::alloc::{AllocError, Global};
+
+/// The script of a block: the same lines without their certificates.
+#[tactic(auto, using(crate::proofs::Scripts::erasing))]
+pub fn erase(alloc: Global, block: &Block) -> Result<Block, AllocError>
+    ensures { IfOk result (λ b. script_of b ≡ erased (script_of block.now)) }
+{
+    let mut steps = Vec::new(alloc);
+    for step in &block.steps {
+        let bare = erase_step(alloc, step)?;
+        steps.push(bare)?;
+    }
+    let close = erase_close(alloc, &block.close)?;
+    Ok(Block { steps, close })
+}
+
+#[tactic(auto, using(crate::proofs::Scripts::erasing))]
+fn erase_step(alloc: Global, step: &Step) -> Result<Step, AllocError>
+    ensures { IfOk result (λ s. (rest : Script) → step_script s (erased rest) ≡ erased (step_script step.now rest)) }
+{
+    match step {
+        Step::Cite(by) => Ok(Step::Cite(copy_by(alloc, by)?)),
+        Step::Hence { lit, .. } => {
+            let lit = copy(alloc, lit)?;
+            Ok(Step::Hence { lit, cert: None })
+        }
+    }
+}
+
+#[tactic(auto, using(crate::proofs::Scripts::erasing))]
+fn erase_close(alloc: Global, close: &Close) -> Result<Close, AllocError>
+    ensures { IfOk result (λ c. close_script c ≡ erased (close_script close.now)) }
+{
+    match close {
+        Close::Qed { objects, .. } => {
+            let objects = Vec::from_slice(alloc, objects.items())?;
+            Ok(Close::Qed {
+                objects: Items::new(objects),
+                certs: Items::empty(alloc),
+            })
+        }
+    }
+}
+
+/// An equal citation.
+pub fn copy_by(alloc: Global, by: &By) -> Result<By, AllocError>
+    ensures { IfOk result (λ b. b ≡ by.now) }
+{
+    let args = Vec::from_slice(alloc, by.args.items())?;
+    Ok(By {
+        rule: by.rule,
+        args: Items::new(args),
+        lit: copy(alloc, &by.lit)?,
+    })
+}

@@ -1,0 +1,42 @@
+//! Laws of scripts and derivations, each as a function that does nothing and whose contract is the law.
+ghost use Rattle.e_deriv.specs.Laws.{CertifiedProves, LicensedProves, ProofIsLicensed, ContextIsOne, LicensedHasNoStop, StopIsOne, DerivedIsLicensed, DerivedHasNoStop};
+
+/// What is certified is a proof.
+pub fn certified_proves()
+    ensures { CertifiedProves }
+{}
+
+/// A script of which each line is licensed is a proof.
+pub fn licensed_proves()
+    ensures { LicensedProves }
+{}
+
+/// Each line of a proof is licensed.
+pub fn proof_is_licensed()
+    ensures { ProofIsLicensed }
+{}
+
+/// The scope, the facts and the goal at the line of a number are determined by the script.
+pub fn context_is_one()
+    ensures { ContextIsOne }
+{}
+
+/// Where each line is licensed none is the first that is not.
+pub fn licensed_has_no_stop()
+    ensures { LicensedHasNoStop }
+{}
+
+/// The first line that is not licensed, and what it lacks, are determined by the script.
+pub fn stop_is_one()
+    ensures { StopIsOne }
+{}
+
+/// Each line of a script that has a certified derivation is licensed.
+pub fn derived_is_licensed()
+    ensures { DerivedIsLicensed }
+{}
+
+/// A script that has a certified derivation has no first line that is not licensed.
+pub fn derived_has_no_stop()
+    ensures { DerivedHasNoStop }
+{}

@@ -1,0 +1,19 @@
+//! Scripts and derivations: blocks of steps, without and with their certificates.
+#![tactic(auto)]
+
+mod block;
+mod erasing;
+mod laws;
+mod names;
+mod sizes;
+mod stop;
+
+pub use block::{Block, Close, Step};
+pub use erasing::{copy_by, erase};
+pub use laws::{
+    certified_proves, context_is_one, derived_has_no_stop, derived_is_licensed,
+    licensed_has_no_stop, licensed_proves, proof_is_licensed, stop_is_one,
+};
+pub use names::Names;
+pub use sizes::size;
+pub use stop::{Stop, Wanted};

@@ -1,0 +1,43 @@
+//! Why a script has no derivation.
+ghost use Rattle.std.specs.Prelude.{◌≡◌};
+ghost use Rattle.e_deriv.specs.declared.stop.Stop.TheVariants.{NoMemory};
+
+use crate::names::Names;
+use e_literal::Lit;
+use std::alloc::{AllocError, AllocFailed};
+
+/// What an unlicensed line lacks.
+#[derive(Debug, Drop)]
+pub enum Wanted {
+    /// The first literal that is not allowed; the cited one of a citation.
+    Literal(Lit),
+}
+
+/// The first line that is not licensed, or want of memory.
+#[derive(Debug, Drop)]
+pub enum Stop {
+    Unlicensed {
+        /// The line's number among the step and close lines, from 1.
+        step: u32,
+        wanted: Wanted,
+        /// The names of the objects in scope before the line.
+        names: Names,
+    },
+    NoMemory,
+}
+
+impl From<AllocError> for Stop {
+    ghost from_gives = { λ _ e. e ≡ NoMemory };
+
+    fn from(_e: AllocError) -> Stop {
+        Stop::NoMemory
+    }
+}
+
+impl<T: Drop> From<AllocFailed<T>> for Stop {
+    ghost from_gives = { λ _ e. e ≡ NoMemory };
+
+    fn from(_e: AllocFailed<T>) -> Stop {
+        Stop::NoMemory
+    }
+}

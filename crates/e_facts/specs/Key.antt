@@ -1,0 +1,61 @@
+-- The keys by which diagram literals are looked up, and the places where metric ones stand.
+use Rattle.std.specs.Prelude.{◌≡◌, ℕ, ◌+◌, List, [], ◌∷◌, Bool, false, Option, Some, None, slice_get}
+use Rattle.std.specs.Option.{option_map, option_map_or}
+use Rattle.e_literal.specs.declared.literal.Lit.{Lit}
+use Rattle.e_literal.specs.declared.literal.Atom.{Atom}
+use Rattle.e_literal.specs.declared.literal.Atom.TheVariants.{On, OnC, Inside, Center, Between, Same, MeetLL, MeetLC, MeetCC, EqP, EqL, EqC, MagEq, MagLt}
+use Rattle.e_facts.specs.declared.key.Key.{Key}
+use Rattle.e_facts.specs.declared.key.Relation.{Relation}
+use Rattle.e_facts.specs.declared.key.Relation.TheVariants as relation
+use Rattle.e_literal.specs.Same.{same_lit}
+use Rattle.e_facts.specs.Facts.{AreApart}
+
+-- the relation and the numbers of a diagram atom, with 0 for the third of two
+abbrev pub parts_of_atom : Atom → Option (Relation × ℕ × ℕ × ℕ)
+parts_of_atom (On a l) = Some (relation.OnLine, a, l, 0)
+parts_of_atom (OnC a c) = Some (relation.OnCircle, a, c, 0)
+parts_of_atom (Inside a c) = Some (relation.Inside, a, c, 0)
+parts_of_atom (Center a c) = Some (relation.Center, a, c, 0)
+parts_of_atom (Between a b c) = Some (relation.Between, a, b, c)
+parts_of_atom (Same a b l) = Some (relation.SameSide, a, b, l)
+parts_of_atom (MeetLL l m) = Some (relation.LinesMeet, l, m, 0)
+parts_of_atom (MeetLC l c) = Some (relation.LineMeetsCircle, l, c, 0)
+parts_of_atom (MeetCC c d) = Some (relation.CirclesMeet, c, d, 0)
+parts_of_atom (EqP a b) = Some (relation.PointsEqual, a, b, 0)
+parts_of_atom (EqL l m) = Some (relation.LinesEqual, l, m, 0)
+parts_of_atom (EqC c d) = Some (relation.CirclesEqual, c, d, 0)
+parts_of_atom (MagEq x y) = None
+parts_of_atom (MagLt x y) = None
+
+-- the key of a diagram literal, and none of a metric one
+abbrev pub key_of_lit : Lit → Option Key
+key_of_lit l =
+    option_map (λ p. record { negated = l.neg; relation = p.0; first = p.1; second = p.2; third = p.3 }) (parts_of_atom l.atom)
+
+abbrev pub with_key : Option Key → List Key → List Key
+with_key None ks = ks
+with_key (Some k) ks = k ∷ ks
+
+-- the keys of the diagram literals of a list, in order
+abbrev pub keys_of : List Lit → List Key
+keys_of [] = []
+keys_of (l ∷ ls) = with_key (key_of_lit l) (keys_of ls)
+
+abbrev pub with_place : Option Key → ℕ → List ℕ → List ℕ
+with_place None n ns = n ∷ ns
+with_place (Some k) n ns = ns
+
+-- the places of the metric literals of a list whose first place is n
+abbrev pub metric_places : ℕ → List Lit → List ℕ
+metric_places n [] = []
+metric_places n (l ∷ ls) = with_place (key_of_lit l) n (metric_places (n + 1) ls)
+
+-- the list has no two the same, and the table and the places are those of the list
+pub record IsKept (lits : List Lit) (keys : List Key) (places : List ℕ) : Type 0 where
+  pub apart : AreApart lits
+  pub keyed : keys ≡ keys_of lits
+  pub placed : places ≡ metric_places 0 lits
+
+-- the literal at the place is the same
+abbrev pub same_at : List Lit → Lit → ℕ → Bool
+same_at ls l n = option_map_or (λ f. same_lit f l) (slice_get ls n) false

@@ -1,0 +1,113 @@
+// Images of objects.
+
+ghost use Rattle.std.specs.Prelude.{◌≡◌, [], ◌∷◌, OnOk, OnErr, is_some};
+ghost use Rattle.e_literal.specs.Literal.{obj};
+ghost use Rattle.e_literal.specs.Scopes.{same_sort};
+ghost use Rattle.e_literal.specs.Rename.{image_in, number_at, same_obj};
+
+use crate::object::{Obj, Sort};
+use std::alloc::{AllocError, Global};
+use std::marker::Model;
+
+/// An object and its image.
+#[derive(Clone, Copy, PartialEq, Eq, Debug)]
+pub struct Entry {
+    pub source: Obj,
+    pub target: Obj,
+}
+
+/// A finite map from objects to objects of their sorts.
+///
+/// Contracts see the list of what was set, the last first; the image of an object is that of the first entry with it.
+#[derive(Debug, Drop)]
+pub struct Map {
+    entries: Vec<Entry>,
+}
+
+impl Model for Map {
+    ghost use Rattle.std.specs.Prelude.{List};
+    ghost use Rattle.e_literal.specs.declared.map.Entry.{Entry};
+
+    ghost Value = { List Entry };
+
+    ghost view = { λ m. m.entries.items };
+}
+
+impl Map {
+    /// The map in which no object has an image.
+    pub fn new(alloc: Global) -> Self
+        ensures { result ≡ [] }
+    {
+        Map {
+            entries: Vec::new(alloc),
+        }
+    }
+
+    /// From now on `to` is the image of `from`, and each other object keeps its image.
+    ///
+    /// It fails only for want of memory, and then the map is as before.
+    pub fn set(&mut self, from: Obj, to: Obj) -> Result<(), AllocError>
+        requires one_sort { from.sort ≡ to.sort }
+        ensures ok { OnOk result (self.new ≡ record { source = from; target = to } ∷ self.old) }
+        ensures err { OnErr result (self.new ≡ self.old) }
+    {
+        let entry = Entry {
+            source: from,
+            target: to,
+        };
+        self.entries.insert(0, entry)?;
+        Ok(())
+    }
+
+    /// The image of an object, if it has one.
+    pub fn image(&self, object: Obj) -> Option<Obj>
+        ensures { result ≡ image_in self.now object }
+    {
+        image_among(&self.entries, object)
+    }
+
+    /// Whether the object with this number has an image.
+    pub(crate) fn has(&self, sort: Sort, number: u16) -> bool
+        ensures { result ≡ is_some (image_in self.now (obj sort number)) }
+    {
+        self.image(Obj { sort, num: number }).is_some()
+    }
+
+    /// The number of the image; an object without image keeps its own.
+    pub(crate) fn number(&self, sort: Sort, number: u16) -> u16
+        ensures { result ≡ number_at (image_in self.now) sort number }
+    {
+        match self.image(Obj { sort, num: number }) {
+            Some(image) => image.num,
+            None => number,
+        }
+    }
+}
+
+fn image_among(entries: &[Entry], object: Obj) -> Option<Obj>
+    ensures { result ≡ image_in entries.now object }
+{
+    for entry in entries {
+        if is_same(entry.source, object) {
+            return Some(entry.target);
+        }
+    }
+    None
+}
+
+fn is_same(a: Obj, b: Obj) -> bool
+    ensures { result ≡ same_obj a b }
+{
+    is_same_sort(a.sort, b.sort) && a.num == b.num
+}
+
+fn is_same_sort(a: Sort, b: Sort) -> bool
+    ensures { result ≡ same_sort a b }
+{
+    match (a, b) {
+        (Sort::Point, Sort::Point) | (Sort::Line, Sort::Line) | (Sort::Circle, Sort::Circle) => {
+            true
+        }
+        _ => false,
+    }
+}

@@ -1,0 +1,4 @@
+pub mod Judging
+pub mod Closing
+pub mod Proving
+pub mod Answering

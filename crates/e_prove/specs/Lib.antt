@@ -1,0 +1,4 @@
+pub mod Halts
+pub mod Judging
+pub mod Stops
+pub mod Laws

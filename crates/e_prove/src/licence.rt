@@ -1,0 +1,64 @@
+//! Whether a literal is allowed by the facts, and a citation good.
+ghost use Rattle.std.specs.Prelude.{◌≡◌, IsTrue, IfSome, IfNone, IfOk, map};
+ghost use Rattle.e_literal.specs.declared.object.Scope.{Scope};
+ghost use Rattle.e_literal.specs.Facts.{has, has_all, others};
+ghost use Rattle.e_literal.specs.Literal.{negation};
+ghost use Rattle.e_clause.specs.Allowed.{Allowed};
+ghost use Rattle.e_clause.specs.Certify.{certifies};
+ghost use Rattle.e_deriv.specs.Steps.{instance_gives};
+
+use e_clause::{By, Cert, InstanceFault, Part, instance};
+use e_facts::Facts;
+use e_literal::{Lit, copy, negate, same};
+use std::alloc::{AllocError, Global};
+
+/// A certificate of the literal, exactly where it is allowed.
+pub fn licence(facts: &Facts, lit: &Lit) -> Option<Cert>
+    ensures some { IfSome result (λ c. (s : Scope) → IsTrue (certifies s facts.now lit.now c)) }
+    ensures none { IfNone result ((s : Scope) → ¬ Allowed s facts.now lit.now) }
+{
+    if facts.has(lit) {
+        Some(Cert::Plain(Part::Fact))
+    } else {
+        None
+    }
+}
+
+/// Whether the cited instance gives the literal.
+pub fn is_cited(alloc: Global, by: &By, facts: &Facts) -> Result<bool, AllocError>
+    ensures { IfOk result (λ b. b ≡ Rattle.e_deriv.specs.Steps.is_cited facts.now by.now) }
+{
+    match instance(alloc, by.rule, by.args.items()) {
+        Ok(lits) => gives(alloc, facts, &by.lit, &lits),
+        Err(InstanceFault::BadArgs) => Ok(false),
+        Err(InstanceFault::NoMemory) => Err(AllocError),
+    }
+}
+
+/// Whether the literal is one of the instance, and the negation of each other is a fact.
+fn gives(alloc: Global, facts: &Facts, lit: &Lit, lits: &[Lit]) -> Result<bool, AllocError>
+    ensures { IfOk result (λ b. b ≡ instance_gives facts.now lit.now lits.now) }
+{
+    if !is_one(lits, lit) {
+        return Ok(false);
+    }
+    others_fail(alloc, facts, lit, lits)
+}
+
+fn is_one(lits: &[Lit], lit: &Lit) -> bool
+    ensures { result ≡ has lits.now lit.now }
+{
+    lits.iter().any(|m| same(m, lit))
+}
+
+/// Whether the negation of each literal that is not the same as this one is a fact.
+fn others_fail(alloc: Global, facts: &Facts, lit: &Lit, lits: &[Lit]) -> Result<bool, AllocError>
+    ensures { IfOk result (λ b. b ≡ has_all facts.now (map negation (others lits.now lit.now))) }
+{
+    for m in lits {
+        if !same(m, lit) && !facts.has(&negate(copy(alloc, m)?)) {
+            return Ok(false);
+        }
+    }
+    Ok(true)
+}

@@ -1,0 +1,5 @@
+use Rattle.e_text.proofs.WholeLines.{length-lines_of}
+use Rattle.e_text.proofs.laws.no_more_lines_than_bytes.Goals as goal
+
+pub returns : goal.returns
+returns c = length-lines_of

@@ -1,0 +1,5 @@
+use Rattle.e_text.proofs.WholeLines.{lines_of-take}
+use Rattle.e_text.proofs.laws.one_byte_more_is_enough.Goals as goal
+
+pub returns : goal.returns
+returns c = lines_of-take

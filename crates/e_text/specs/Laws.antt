@@ -1,0 +1,34 @@
+-- What holds of lines, tokens, names and numerals, whatever the code does.
+use Rattle.std.specs.Prelude.{◌≡◌, ℕ, ◌+◌, ◌-◌, ◌^◌, ◌<◌, ◌≤◌, List, length, take, Some, decimal}
+use Rattle.e_text.specs.Lines.{Bounds, Spot, AreGood, AreShort, lines_of, text_of_lines, lf_text, numbered}
+use Rattle.e_text.specs.Tokens.{AreTokens, tokens_of, joined}
+use Rattle.e_text.specs.Numerals.{number_of}
+
+-- where no line has a fault, the lines with their ends, put together, are the text
+abbrev pub LinesMakeTheText : Type 0
+LinesMakeTheText = (w : Bounds) (at : Spot) (text : List ℕ) → AreGood (lines_of w at text) → text_of_lines (lines_of w at text) ≡ text
+
+-- lines that are written with a line feed behind each are read as these lines
+abbrev pub WrittenLinesAreRead : Type 0
+WrittenLinesAreRead = (w : Bounds) (at : Spot) (lines : List (List ℕ)) → AreShort w.longest lines → at.before + length (lf_text lines) ≤ w.most
+    → lines_of w at (lf_text lines) ≡ numbered at.line lines
+
+-- the lines of a text are known from its bytes up to one behind the last that counts
+abbrev pub OneByteMoreIsEnough : Type 0
+OneByteMoreIsEnough = (w : Bounds) (at : Spot) (text : List ℕ) → at.before ≤ w.most → lines_of w at (take (w.most + 1 - at.before) text) ≡ lines_of w at text
+
+-- a text has no more lines than bytes
+abbrev pub NoMoreLinesThanBytes : Type 0
+NoMoreLinesThanBytes = (w : Bounds) (at : Spot) (text : List ℕ) → length (lines_of w at text) ≤ length text
+
+-- the tokens of a line hold no blank, and each has bytes
+abbrev pub TokensHoldNoBlank : Type 0
+TokensHoldNoBlank = (line : List ℕ) → AreTokens (tokens_of line)
+
+-- words with one space between two are read as these words
+abbrev pub JoinedWordsAreRead : Type 0
+JoinedWordsAreRead = (words : List (List ℕ)) → AreTokens words → tokens_of (joined words) ≡ words
+
+-- a number that is printed is read as itself
+abbrev pub PrintedNumbersAreRead : Type 0
+PrintedNumbersAreRead = (n : ℕ) → n < 2 ^ 128 → number_of (decimal n) ≡ Some n

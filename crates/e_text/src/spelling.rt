@@ -1,0 +1,116 @@
+//! A short spelling, kept where it stands.
+ghost use Rattle.std.specs.Prelude.{◌≡◌, ◌≤◌, Some, length, nat_eq, refl};
+ghost use Rattle.std.specs.Ordering.{nat_cmp};
+ghost use Rattle.std.specs.Hash as fed;
+ghost use Rattle.std.specs.Cmp.Lexicographic.{pointwise, slice_cmp, nat_list_eq_equiv, nat_list_cmp_total, texts_ties, texts_po};
+ghost use Rattle.std.specs.Cmp.{partial_equiv_from_equiv};
+ghost use Rattle.std.specs.Cmp.Rules.{hashing};
+ghost use Rattle.std.proofs.Common.{rules};
+
+use std::cmp::Ordering;
+use std::fmt;
+use std::hash::{Hash, Hasher};
+use std::marker::Model;
+
+/// At most 24 bytes, seen as these bytes.
+#[derive(Clone, Copy)]
+pub struct Spelling {
+    bytes: [u8; 24],
+    len: u8,
+}
+
+impl Model for Spelling {
+    ghost use Rattle.std.specs.Prelude.{◌≡◌, ◌≤◌, ◌-◌, ◌++◌, List, ℕ, length, take, drop, replicate};
+    ghost use Rattle.std.proofs.Common.{arith, length-take-le};
+    ghost use Rattle.e_text.specs.Fixed.{undone};
+
+    ghost Value = { List ℕ };
+
+    ghost view = { λ s. take s.len s.bytes };
+
+    ghost invariant = { λ s. (s.len ≤ 24) × (length s.bytes ≡ 24) × (drop s.len s.bytes ≡ replicate (24 - s.len) 0) };
+
+    ghost inverse = { λ bs. record { bytes = bs ++ replicate (24 - length bs) 0; len = length bs } };
+
+    ghost inverse_ok = { λ s h i. record {
+      bytes = undone 24 s.len s.bytes h.0 h.1 h.2 i;
+      len = length-take-le s.len s.bytes (omega (arith, h.0, h.1)) i;
+    } };
+}
+
+impl Spelling {
+    pub fn new(token: &[u8]) -> Self
+        requires { length token.now ≤ 24 }
+        ensures { result ≡ token.now }
+    {
+        let mut bytes = [0; 24];
+        bytes[..token.len()].copy_from_slice(token);
+        Spelling {
+            bytes,
+            len: token.len() as u8,
+        }
+    }
+
+    pub fn bytes(&self) -> &[u8]
+        ensures { result.now ≡ self.now }
+    {
+        &self.bytes[..self.len as usize]
+    }
+}
+
+impl PartialEq for Spelling {
+    ghost eq = { pointwise nat_eq };
+
+    ghost laws = { partial_equiv_from_equiv nat_list_eq_equiv };
+
+    fn eq(&self, other: &Self) -> bool {
+        self.bytes() == other.bytes()
+    }
+}
+
+impl Eq for Spelling {
+    ghost laws = { nat_list_eq_equiv };
+}
+
+impl PartialOrd for Spelling {
+    ghost partial_cmp = { λ x y. Some (slice_cmp nat_cmp x y) };
+
+    ghost laws = { texts_po };
+
+    fn partial_cmp(&self, other: &Self) -> Option<Ordering> {
+        Some(self.cmp(other))
+    }
+}
+
+impl Ord for Spelling {
+    ghost cmp = { slice_cmp nat_cmp };
+
+    ghost total = { nat_list_cmp_total };
+
+    ghost matches_partial_cmp = { λ x y. refl };
+
+    ghost matches_eq = { texts_ties };
+
+    fn cmp(&self, other: &Self) -> Ordering {
+        self.bytes().cmp(other.bytes())
+    }
+}
+
+impl Hash for Spelling {
+    ghost hash_input = { fed.slice fed.u8 };
+
+    ghost respects_eq = { Prim.search (hashing, rules) };
+
+    fn hash<H: Hasher>(&self, state: &mut H) {
+        self.bytes().hash(state);
+    }
+}
+
+impl fmt::Debug for Spelling {
+    fn fmt<W: fmt::Write>(&self, f: &mut fmt::Formatter<W>) -> fmt::Result {
+        for b in self.bytes() {
+            fmt::Write::write_char(f, char::from(*b))?;
+        }
+        Ok(())
+    }
+}

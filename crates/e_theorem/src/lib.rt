@@ -1,0 +1,6 @@
+//! Statements of theorems.
+#![tactic(auto)]
+
+mod statement;
+
+pub use statement::Statement;
