@@ -20,3 +20,4 @@ pub mod Solving
 pub mod Negatives
 pub mod Combining
 pub mod Keeping
+pub mod Parting

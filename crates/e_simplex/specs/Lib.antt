@@ -9,3 +9,4 @@ pub mod Further
 pub mod Solved
 pub mod Tried
 pub mod Kept
+pub mod Apart

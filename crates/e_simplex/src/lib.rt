@@ -2,6 +2,7 @@
 //! show that there are none, or the proved excuse that some minor of the rows is large.
 #![tactic(auto)]
 
+pub mod apart;
 pub mod choose;
 pub mod further;
 pub mod hasten;
