@@ -21,3 +21,6 @@ pub mod Negatives
 pub mod Combining
 pub mod Keeping
 pub mod Parting
+pub mod Places
+pub mod NamedLines
+pub mod Picked

@@ -43,7 +43,7 @@ pub negated_value : (xs : List Monomial) (values : List ℤ) → form_value (neg
 negated_value [] values = refl
 negated_value (x ∷ xs) values = omega (arith, sums, neg_mul x.coefficient (get_or values x.column (pos 0)), negated_value xs values)
 
-negated_at : (xs : List Monomial) (c : ℕ) → form_at (negated xs) c ≡ neg_ℤ (form_at xs c)
+pub negated_at : (xs : List Monomial) (c : ℕ) → form_at (negated xs) c ≡ neg_ℤ (form_at xs c)
 negated_at [] c = refl
 negated_at (x ∷ xs) c = omega (arith, sums, neg_mul x.coefficient (unit x.column c), negated_at xs c)
 
@@ -63,7 +63,7 @@ negative_within w l h k d m =
     (let n : k < length l.form = omega (arith, m, length-negated l.form) in
     (omega (arith, ap (λ x. x.column) (get_or-negated l.form k d n), (h k d n).0), omega (arith, ap (λ x. x.column) (get_or-negated l.form k d n), (h k d n).1)))
 
-small_push : (lines : List Line) (l : Line) → AllSmallLines lines → IsSmallLine l → AllSmallLines (lines ++ l ∷ [])
+pub small_push : (lines : List Line) (l : Line) → AllSmallLines lines → IsSmallLine l → AllSmallLines (lines ++ l ∷ [])
 small_push [] l h g zero d n = g
 small_push [] l h g (suc k) d n = absurd (omega (arith, n))
 small_push (x ∷ xs) l h g zero d n = h 0 x (omega arith)

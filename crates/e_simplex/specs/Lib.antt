@@ -10,3 +10,5 @@ pub mod Solved
 pub mod Tried
 pub mod Kept
 pub mod Apart
+pub mod Naming
+pub mod Answer

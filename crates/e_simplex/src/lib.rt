@@ -4,10 +4,12 @@
 
 pub mod apart;
 pub mod choose;
+pub mod decide;
 pub mod further;
 pub mod hasten;
 pub mod lines;
 pub mod multiple;
+pub mod naming;
 pub mod number;
 pub mod pivot;
 pub mod readings;
