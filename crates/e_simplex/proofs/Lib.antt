@@ -6,7 +6,7 @@ pub mod Pivoting
 pub mod Keeps
 pub mod Choosing
 pub mod Glue
-pub mod Verdict
+pub mod Concluding
 pub mod Forms
 pub mod Disequal
 pub mod Reading
@@ -24,3 +24,6 @@ pub mod Parting
 pub mod Places
 pub mod NamedLines
 pub mod Picked
+pub mod Spreading
+pub mod Assigning
+pub mod Refuting

@@ -12,6 +12,7 @@ use Rattle.e_literal.specs.declared.object.Term.TheVariants.{Right}
 use Rattle.e_literal.specs.Same.{term_eq}
 use Rattle.e_literal.specs.Rows.{Row, Says, Zero, AtLeast, More, Not, Summands, coefficient, negative}
 use Rattle.e_literal.specs.Minor.{Column, Constants, Of, SignedRow, entry, constant}
+use Rattle.e_fraction.specs.declared.row.Row.{Row as GivenRow}
 use Rattle.e_fraction.specs.Tableau.{unit}
 use Rattle.e_fraction.specs.Limits.{has_small_coefficients}
 use Rattle.e_fraction.specs.Distinct.{have_distinct_terms}
@@ -27,7 +28,7 @@ use Rattle.e_simplex.proofs.Negatives.{small_push, negated_at}
 use Rattle.e_simplex.proofs.Deciding.{forms_push}
 use Rattle.std.proofs.lemmas.List.{length_push}
 use Rattle.e_fraction.proofs.Arith.{neg_mul}
-use Rattle.e_simplex.specs.Naming.{place_of, IsIn, AreOnce, FormNamed, AllNamed, named_form, named_line, named_lines, kind_of, keeps}
+use Rattle.e_simplex.specs.Naming.{place_of, IsIn, AreOnce, FormNamed, AllNamed, named_form, named_line, named_lines, kind_of, keeps, have_short_forms}
 use Rattle.e_fraction.proofs.Arith.{sums, one_mul}
 use Rattle.e_fraction.proofs.Minors.{unit-same, unit-other}
 use Rattle.e_fraction.proofs.Terms.{term_eq_is, term_eq_same, equal_terms, yes_or_no, and_left, and_right}
@@ -195,3 +196,16 @@ further_lines ts rows n m h s g = record {
   within = within_lines true ts rows h;
   few = omega (arith, m, count_lines true ts rows);
 }
+
+-- a line is small if its form is that of a small line
+pub small_like : (l m : Line) → l.form ≡ m.form → IsSmallLine m → IsSmallLine l
+small_like l m e h = record {
+  small = λ k d n. subst (λ v. unsigned_abs (get_or v k d).coefficient ≤ 2 ^ 30) (sym e) (h.small k d (omega (arith, n, ap length e)));
+  short = omega (arith, h.short, ap length e);
+  sums = λ c. subst (λ v. unsigned_abs (form_at v c) ≤ 2 ^ 30) (sym e) (h.sums c);
+}
+
+pub short_row : (rows : List GivenRow) (i : ℕ) (d : GivenRow) → i < length rows → have_short_forms rows ≡ true → length (get_or rows i d).form ≤ 2 ^ 32
+short_row [] i d l h = absurd (omega (arith, l))
+short_row (r ∷ rs) zero d l h = le_of (length r.form) (2 ^ 32) (and_left (nat_le (length r.form) (2 ^ 32)) (have_short_forms rs) h)
+short_row (r ∷ rs) (suc i) d l h = short_row rs i d (omega (arith, l)) (and_right (nat_le (length r.form) (2 ^ 32)) (have_short_forms rs) h)

@@ -1,17 +1,18 @@
 -- What is answered on a list of rows.
-use Rattle.std.specs.Prelude.{◌≡◌, ◌≢◌, ◌⊎◌, ℕ, zero, suc, ◌^◌, ◌<◌, ◌≤◌, cond, Bool, true, ℤ, pos, ◌≤ℤ◌, List, [], ◌∷◌, map, length, get_or, unsigned_abs, IsTrue}
+use Rattle.std.specs.Prelude.{◌≡◌, ◌⊎◌, ℕ, zero, suc, ◌^◌, ◌<◌, ◌≤◌, cond, Bool, true, ℤ, pos, ◌≤ℤ◌, List, [], ◌∷◌, map, length, get_or, unsigned_abs, IsTrue}
 use Rattle.e_literal.specs.declared.object.Term.{Term}
 use Rattle.e_literal.specs.Same.{term_eq}
 use Rattle.e_literal.specs.Rows.{Row, Says, Zero, AtLeast, More, Not, negative}
 use Rattle.e_literal.specs.Absurd.{Weighed, total}
 use Rattle.e_literal.specs.Minor.{IsWide}
 use Rattle.e_fraction.specs.Limits.{are_good_multipliers}
-use Rattle.e_fraction.specs.Solution.{Satisfy}
+use Rattle.e_fraction.specs.Solution.{Satisfy, HasSolution}
+use Rattle.e_literal.specs.Width.{width}
 use Rattle.e_simplex.specs.Naming.{AreOnce, AllNamed}
-use Rattle.e_simplex.specs.declared.decide.Absurdity.{Absurdity}
-use Rattle.e_simplex.specs.declared.decide.Absurdity.TheVariants.{One, Two}
-use Rattle.e_simplex.specs.declared.decide.Verdict.{Verdict}
-use Rattle.e_simplex.specs.declared.decide.Verdict.TheVariants.{Absurd, Holds, TooWide}
+use Rattle.e_simplex.specs.declared.decision.Absurdity.{Absurdity}
+use Rattle.e_simplex.specs.declared.decision.Absurdity.TheVariants.{One, Two}
+use Rattle.e_simplex.specs.declared.decision.Verdict.{Verdict}
+use Rattle.e_simplex.specs.declared.decision.Verdict.TheVariants.{Absurd, Holds, TooWide}
 
 -- ---- multipliers
 
@@ -90,7 +91,23 @@ pub record AreValuesOf (rows : List Row) (pairs : List (Term × ℕ)) : Type 0 w
   pub all : AllNamed (map (λ p. p.0) pairs) rows
   pub satisfy : Satisfy (assigned pairs) rows
 
+-- multipliers that refute the rows, which have no solution
+pub record IsRefuted (rows : List Row) (absurdity : Absurdity) : Type 0 where
+  pub refutes : IsAbsurdity rows absurdity
+  pub none : ¬ HasSolution rows
+
+-- values that satisfy the rows; or multipliers that refute them; or the rows are wide, and so is their width
 abbrev pub IsVerdict : List Row → Verdict → Type 0
-IsVerdict rows (Absurd absurdity) = IsAbsurdity rows absurdity
+IsVerdict rows (Absurd absurdity) = IsRefuted rows absurdity
 IsVerdict rows (Holds values) = AreValuesOf rows values
-IsVerdict rows TooWide = IsWide rows
+IsVerdict rows TooWide = IsWide rows × (2 ^ 63 ≤ width rows)
+
+abbrev pub IsHolds : Verdict → Type 0
+IsHolds (Absurd absurdity) = ⊥
+IsHolds (Holds values) = Unit {0}
+IsHolds TooWide = ⊥
+
+abbrev pub IsAbsurd : Verdict → Type 0
+IsAbsurd (Absurd absurdity) = Unit {0}
+IsAbsurd (Holds values) = ⊥
+IsAbsurd TooWide = ⊥

@@ -12,3 +12,5 @@ pub mod Kept
 pub mod Apart
 pub mod Naming
 pub mod Answer
+pub mod Spread
+pub mod Paired

@@ -4,7 +4,7 @@
 
 pub mod apart;
 pub mod choose;
-pub mod decide;
+pub mod decision;
 pub mod further;
 pub mod hasten;
 pub mod lines;
@@ -15,4 +15,9 @@ pub mod pivot;
 pub mod readings;
 pub mod solve;
 pub mod solved;
+pub mod spread;
 pub mod unequal;
+
+pub use decision::{Absurdity, Verdict, decide};
+pub use e_fraction::widths::width;
+pub use naming::have_short_forms;

@@ -1,8 +1,10 @@
 //! Terms and their columns.
 
-ghost use Rattle.std.specs.Prelude.{◌≡◌, ◌+◌, ◌<◌, ◌^◌, IfOk, length, take};
+ghost use Rattle.std.specs.Prelude.{◌≡◌, ◌+◌, ◌<◌, ◌≤◌, ◌^◌, IfOk, IsTrue, length, take};
 ghost use Rattle.e_literal.specs.declared.object.Term.{Term};
 ghost use Rattle.e_fraction.specs.Views.{says_of, all_seen};
+ghost use Rattle.e_fraction.specs.Limits.{has_small_coefficients, all_small};
+ghost use Rattle.e_simplex.specs.Lines.{IsSmallLine, AllSmallLines};
 ghost use Rattle.e_simplex.specs.Naming.{place_of, IsIn, AreOnce, FormNamed, AllNamed, named_form, named_lines};
 
 use crate::lines::{Kind, Line, Monomial};
@@ -73,7 +75,11 @@ fn kind_of(kind: RowKind) -> Kind
 
 /// The line of a row.
 fn named_line(alloc: Global, row: &Row, terms: &[Term]) -> Result<Line, AllocError>
-    requires { FormNamed terms.now row.now.form }
+    requires once { AreOnce terms.now }
+    requires named { FormNamed terms.now row.now.form }
+    requires coefficients { IsTrue (has_small_coefficients row.now.form) }
+    requires short { length row.now.form ≤ 2 ^ 32 }
+    ensures small { IfOk result IsSmallLine }
     ensures kind { IfOk result (λ l. l.kind ≡ Rattle.e_simplex.specs.Naming.kind_of (says_of row.now.kind)) }
     ensures form { IfOk result (λ l. l.form ≡ named_form terms.now row.now.form) }
 {
@@ -91,7 +97,8 @@ fn named_line(alloc: Global, row: &Row, terms: &[Term]) -> Result<Line, AllocErr
     })
 }
 
-fn keeps(not: bool, kind: RowKind) -> bool
+/// Whether the row is wanted: one that says `not 0`, or another.
+pub fn keeps(not: bool, kind: RowKind) -> bool
     ensures { result ≡ Rattle.e_simplex.specs.Naming.keeps not (says_of kind) }
 {
     match kind {
@@ -107,8 +114,12 @@ pub fn lines_where(
     terms: &[Term],
     rows: &[Row],
 ) -> Result<Vec<Line>, AllocError>
-    requires { AllNamed terms.now (all_seen rows.now) }
-    ensures { IfOk result (λ v. v.items ≡ named_lines not terms.now (all_seen rows.now)) }
+    requires once { AreOnce terms.now }
+    requires named { AllNamed terms.now (all_seen rows.now) }
+    requires coefficients { IsTrue (all_small rows.now) }
+    requires short { IsTrue (Rattle.e_simplex.specs.Naming.have_short_forms rows.now) }
+    ensures value { IfOk result (λ v. v.items ≡ named_lines not terms.now (all_seen rows.now)) }
+    ensures small { IfOk result (λ v. AllSmallLines v.items) }
 {
     let mut lines = Vec::new(alloc);
     for i in 0..rows.len() {
