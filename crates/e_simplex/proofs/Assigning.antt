@@ -50,7 +50,7 @@ assigned_at (x ∷ xs) (p ∷ ps) f t n a b h = elim (yes_or_no (term_eq t x)) [
   | inl e ↦ ap (λ k. cond k p.1 (assigned ps t)) (ap (term_eq t) (a 0 (omega arith)) ∙ e) ∙ b 0 (omega arith) ∙ sym (ap (λ k. f (cond k 0 (suc (place_of xs t)))) e)
   | inr m ↦ ap (λ k. cond k p.1 (assigned ps t)) (ap (term_eq t) (a 0 (omega arith)) ∙ m)
       ∙ assigned_at xs ps (λ c. f (suc c)) t (omega (arith, n)) (λ c l. a (suc c) (omega (arith, l))) (λ c l. b (suc c) (omega (arith, l)))
-          (omega (arith, h, ap (λ k. cond k 0 (suc (place_of xs t))) m))
+      (omega (arith, h, ap (λ k. cond k 0 (suc (place_of xs t))) m))
       ∙ sym (ap (λ k. f (cond k 0 (suc (place_of xs t)))) m)
 ]
 
@@ -95,13 +95,15 @@ module _ (ts : List Term) (values : List ℤ) (v : Term → ℕ) (same : Values 
           → (((i : ℕ) (d : Line) → i < length (named_lines false ts rs) → LineHolds (get_or (named_lines false ts rs) i d).kind (form_value (get_or (named_lines false ts rs) i d).form values))
           → ((j : ℕ) (d : Line) → j < length (named_lines true ts rs) → form_value (get_or (named_lines true ts rs) j d).form values ≢ pos 0) → Satisfy v rs)
           → Satisfy v (r ∷ rs)
-      by true e p q ih =
-          (subst (λ s. IsSo s (Rattle.e_fraction.specs.Solution.form_value r.form v)) (sym (kept_not r.says e)) (λ z. q 0 (named_line ts r) (omega arith) (sym (form_same ts r.form values v same a.0) ∙ z)),
-          ih p (λ j d l. q (suc j) d (omega (arith, l))))
-      by false e p q ih =
-          (so_of r.says (Rattle.e_fraction.specs.Solution.form_value r.form v) e
-          (subst (LineHolds (kind_of r.says)) (sym (form_same ts r.form values v same a.0)) (p 0 (named_line ts r) (omega arith))),
-          ih (λ i d l. p (suc i) d (omega (arith, l))) q)
+      by true e p q ih = (
+        subst (λ s. IsSo s (Rattle.e_fraction.specs.Solution.form_value r.form v)) (sym (kept_not r.says e)) (λ z. q 0 (named_line ts r) (omega arith) (sym (form_same ts r.form values v same a.0) ∙ z)),
+        ih p (λ j d l. q (suc j) d (omega (arith, l))),
+      )
+      by false e p q ih = (
+        so_of r.says (Rattle.e_fraction.specs.Solution.form_value r.form v) e
+            (subst (LineHolds (kind_of r.says)) (sym (form_same ts r.form values v same a.0)) (p 0 (named_line ts r) (omega arith))),
+        ih (λ i d l. p (suc i) d (omega (arith, l))) q,
+      )
 
   -- ---- from rows to lines
 

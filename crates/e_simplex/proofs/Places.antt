@@ -178,11 +178,14 @@ pub terms_new : (ts new : List Term) (rows : List Row) (form : Summands) (k : �
     → place_of ts (get_or form k d).1 ≡ length ts → AreOnce ts → AllNamed ts rows → FormNamed ts (take k form)
     → AreOnce new × (AllNamed new rows × FormNamed new (take (k + 1) form))
 terms_new ts new rows form k d l e n o a f =
-    subst (λ v. AreOnce v × (AllNamed v rows × FormNamed v (take (k + 1) form))) (sym e)
-    (once_push ts (get_or form k d).1 o n,
-    (all_grown ts (ts ++ (get_or form k d).1 ∷ []) rows (in_push ts (get_or form k d).1) a,
-    form_more (ts ++ (get_or form k d).1 ∷ []) form k d l (form_grown ts (ts ++ (get_or form k d).1 ∷ []) (take k form) (in_push ts (get_or form k d).1) f)
-    (in_last ts (get_or form k d).1 n)))
+    subst (λ v. AreOnce v × (AllNamed v rows × FormNamed v (take (k + 1) form))) (sym e) (
+      once_push ts (get_or form k d).1 o n,
+      (
+        all_grown ts (ts ++ (get_or form k d).1 ∷ []) rows (in_push ts (get_or form k d).1) a,
+        form_more (ts ++ (get_or form k d).1 ∷ []) form k d l (form_grown ts (ts ++ (get_or form k d).1 ∷ []) (take k form) (in_push ts (get_or form k d).1) f)
+            (in_last ts (get_or form k d).1 n),
+      ),
+    )
 
 pub terms_old : (ts new : List Term) (rows : List Row) (form : Summands) (k : ℕ) (d : ℤ × Term) → k < length form → new ≡ ts
     → place_of ts (get_or form k d).1 ≢ length ts → AreOnce ts → AllNamed ts rows → FormNamed ts (take k form)

@@ -111,8 +111,13 @@ total_push (k ∷ ks) l ws n m x e = omega (arith, sums, total_push ks l ws (suc
 form_past_all : (form : List Monomial) (w x : ℕ) → FormWithin w form → w ≤ x → form_at form x ≡ pos 0
 form_past_all [] w x h l = refl
 form_past_all (p ∷ ps) w x h l =
-    omega (arith, sums, ap (λ v. p.coefficient *ℤ v) (unit-other p.column x (λ q. omega (arith, q, l, (h 0 p (omega arith)).1))), *ℤ-zero p.coefficient,
-    form_past_all ps w x (λ k d n. h (suc k) d (omega (arith, n))) l)
+    omega (
+      arith,
+      sums,
+      ap (λ v. p.coefficient *ℤ v) (unit-other p.column x (λ q. omega (arith, q, l, (h 0 p (omega arith)).1))),
+      *ℤ-zero p.coefficient,
+      form_past_all ps w x (λ k d n. h (suc k) d (omega (arith, n))) l,
+    )
 
 weighed_past : (ls : List Line) (ws : List ℤ) (w x : ℕ) → AllFormsWithin w ls → w ≤ x → weighed_at ls ws x ≡ pos 0
 weighed_past [] ws w x h l = refl

@@ -16,6 +16,8 @@ pub mod readings;
 pub mod solve;
 pub mod solved;
 pub mod spread;
+#[cfg(test)]
+mod tests;
 pub mod unequal;
 
 pub use decision::{Absurdity, Verdict, decide};

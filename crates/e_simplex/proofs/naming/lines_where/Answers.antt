@@ -39,8 +39,8 @@ loop-i-preserved c = elim c.if-keeps.branch [
         small = subst AllSmallLines (sym new) (small_push c.loop-i.lines.items w.in_ok-named_line.field-0 c.loop-i.invariant.small w.in_ok-named_line.ensures.small);
       })
   | else-keeps w ↦ record {
-      value = ap (λ v. v.items) w.lines-is
-          ∙ lines_same c.args.not c.args.terms.now c.args.rows.now c.loop-i.i c.index-rows-i.result c.loop-i.lines.items c.loop-i-test.true c.loop-i.invariant.value (sym c.keeps.ensures ∙ w.if-keeps.false);
-      small = subst AllSmallLines (sym (ap (λ v. v.items) w.lines-is)) c.loop-i.invariant.small;
-    }
+    value = ap (λ v. v.items) w.lines-is
+        ∙ lines_same c.args.not c.args.terms.now c.args.rows.now c.loop-i.i c.index-rows-i.result c.loop-i.lines.items c.loop-i-test.true c.loop-i.invariant.value (sym c.keeps.ensures ∙ w.if-keeps.false);
+    small = subst AllSmallLines (sym (ap (λ v. v.items) w.lines-is)) c.loop-i.invariant.small;
+  }
 ]
