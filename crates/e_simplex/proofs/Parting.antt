@@ -26,14 +26,6 @@ all_below forms k found second v b h j l = elim (cases_eq j k) [
   | inr d ↦ b j (omega (arith, l, v.shape)) d
 ]
 
-pub large_form : (forms : List Line) (k : ℕ) (found second : List ℤ) (j : ℕ) → AreValues (length forms) forms found second → IsLargeAt second k j → LargeForm forms k found
-large_form forms k found second j v h = record {
-  place = j;
-  here = omega (arith, h.here, v.shape);
-  other = h.other;
-  large = λ d. subst (λ z. 2 ^ 64 ≤ unsigned_abs z) (v.each j d (omega (arith, h.here, v.shape))) h.large;
-}
-
 module _ (w : ℕ) (lines forms : List Line) (k : ℕ) (l : Line) (at : (d : Line) → l ≡ get_or forms k d) (here : k < length forms) where
   pub step_kept : (values held found second : List ℤ) (t : ℕ) (m : Kept) → AllFormsWithin w lines → AreFurther w lines forms
       → IsKept w lines forms k values held → get_or held k (pos 0) ≡ pos 0 → IsFound w lines l found → IsMoved forms k values held found second t m
@@ -63,41 +55,3 @@ module _ (w : ℕ) (lines forms : List Line) (k : ℕ) (l : Line) (at : (d : Lin
       by d (inr h) =
           inr (subst (λ v. IsWide (rows_of ((lines ++ negative_line v ∷ []) ++ get_or forms g.place d ∷ [])) w (2 ^ 63)) (at d)
           (h (get_or forms g.place d) (af.more g.place d g.here) (af.within g.place d g.here) (g.large d)))
-
-  pub step_neither : (above below : List ℤ) → IsAbsurd w (lines ++ l ∷ []) above → IsAbsurd w (lines ++ negative_line l ∷ []) below → IsNeither w lines forms k above below
-  step_neither above below a b = record {
-    here = here;
-    above_absurd = λ d. subst (λ v. IsAbsurd w (lines ++ v ∷ []) above) (at d) a;
-    below_absurd = λ d. subst (λ v. IsAbsurd w (lines ++ negative_line v ∷ []) below) (at d) b;
-  }
-
-  pub step_wide : IsWide (rows_of (lines ++ l ∷ [])) w (2 ^ 63) ⊎ IsWide (rows_of (lines ++ negative_line l ∷ [])) w (2 ^ 63) → WideWith w lines forms k
-  step_wide (inl h) d = inl (subst (λ v. IsWide (rows_of (lines ++ v ∷ [])) w (2 ^ 63)) (at d) h)
-  step_wide (inr h) d = inr (subst (λ v. IsWide (rows_of (lines ++ negative_line v ∷ [])) w (2 ^ 63)) (at d) h)
-
--- ---- the start
-
-pub kept_start : (w : ℕ) (lines forms : List Line) (values held : List ℤ) → IsSolution w lines values → AllSmall values → AreValues (length forms) forms values held
-    → AreBelowBut held (length forms) → IsKept w lines forms 0 values held
-kept_start w lines forms values held s a v b = record {
-  solution = s;
-  bounded = λ c l. omega (arith, a c l);
-  held_are = v;
-  held_bounded = λ j l. omega (arith, b j (omega (arith, l, v.shape)) (omega (arith, l)));
-  unequal = λ j l. absurd (omega (arith, l));
-}
-
-pub wide_start : (w : ℕ) (lines forms : List Line) (values held : List ℤ) (j : ℕ) → AreFurther w lines forms → WideFurther w lines values
-    → AreValues (length forms) forms values held → IsLargeAt held (length forms) j → WideApart w lines forms
-wide_start w lines forms values held j af f v h =
-    (let l : j < length forms = omega (arith, h.here, v.shape) in
-    (j, l, inl (λ d. inl (f (get_or forms j d) (af.more j d l) (af.within j d l) (subst (λ z. 2 ^ 64 ≤ unsigned_abs z) (v.each j d l) h.large)))))
-
--- ---- the end
-
-pub all_apart : (w : ℕ) (lines forms : List Line) (k : ℕ) (values held : List ℤ) → length forms ≤ k → k ≤ 4096 → IsKept w lines forms k values held → AreApart w lines forms values
-all_apart w lines forms k values held n few h = record {
-  solution = h.solution;
-  bounded = λ c l. omega (arith, few, h.bounded c (omega (arith, l, h.solution.shape)));
-  unequal = λ j d l z. h.unequal j (omega (arith, l, n)) (h.held_are.each j d l ∙ z);
-}
