@@ -1,6 +1,6 @@
 -- Values of terms and values of columns: which satisfy rows, and which lines.
-use Rattle.std.proofs.Common.{◌≡◌, ◌≢◌, ℕ, zero, suc, ◌+◌, ◌<◌, ◌≤◌, List, [], ◌∷◌, ◌++◌, refl, ap, ap₂, arith, sym, ◌∙◌, subst, length, get_or, cond, Bool, true, false, true≢false, ◌⊎◌, inl, inr}
-use Rattle.std.specs.Prelude.{map, unsigned_abs, neg_ℤ}
+use Rattle.std.proofs.Common.{◌≡◌, ◌≢◌, ℕ, zero, suc, ◌+◌, ◌<◌, List, [], ◌∷◌, ◌++◌, refl, ap, ap₂, arith, sym, ◌∙◌, subst, length, get_or, cond, Bool, true, false, true≢false, ◌⊎◌, inl, inr}
+use Rattle.std.specs.Prelude.{map, unsigned_abs}
 use Rattle.std.proofs.lemmas.Bool.{cases_lt}
 use Rattle.std.proofs.lemmas.List.{get_or_push, get_or_append_left, length_push}
 use lib.IntN.{ℤ, pos, negsuc, ◌+ℤ◌, ◌*ℤ◌}
@@ -12,18 +12,17 @@ use Rattle.e_literal.specs.Same.{term_eq}
 use Rattle.e_literal.specs.Rows.{Row, Says, Zero, AtLeast, More, Not, Summands}
 use Rattle.e_fraction.specs.Solution.{IsSo, Satisfy, HasSolution}
 use Rattle.e_simplex.specs.declared.lines.Line.{Line}
-use Rattle.e_simplex.specs.declared.lines.Monomial.{Monomial}
 use Rattle.e_simplex.specs.declared.lines.Kind.TheVariants.{More as LineMore}
-use Rattle.e_simplex.specs.Lines.{form_value, LineHolds, IsSolution, IsAbsurd, AllFormsWithin}
+use Rattle.e_simplex.specs.Lines.{form_value, LineHolds, IsSolution, IsAbsurd}
 use Rattle.e_simplex.specs.Naming.{place_of, IsIn, AreOnce, FormNamed, AllNamed, named_form, named_line, named_lines, kind_of, keeps}
 use Rattle.e_simplex.specs.Answer.{assigned, AreValuesOf}
 use Rattle.e_simplex.specs.Paired.{PairedTo}
 use Rattle.e_simplex.specs.Apart.{AreApart, IsNeither}
-use Rattle.e_simplex.specs.Tried.{negated, negative_line}
+use Rattle.e_simplex.specs.Tried.{negative_line}
 use Rattle.e_fraction.proofs.Arith.{sums}
-use Rattle.e_fraction.proofs.Terms.{term_eq_is, term_eq_same, equal_terms, yes_or_no}
+use Rattle.e_fraction.proofs.Terms.{yes_or_no}
 use Rattle.e_simplex.proofs.Negatives.{negated_value, negative_within}
-use Rattle.e_simplex.proofs.NamedLines.{kept_not, within_lines, within_named, more_lines}
+use Rattle.e_simplex.proofs.NamedLines.{kept_not, within_lines, more_lines}
 use Rattle.e_simplex.proofs.Deciding.{forms_push}
 use Rattle.e_simplex.proofs.Refutes.{no_solution}
 use Rattle.e_simplex.proofs.Places.{term_at}

@@ -1,5 +1,5 @@
 -- One step of the loop over the forms that are not to be 0.
-use Rattle.std.proofs.Common.{◌≡◌, ◌≢◌, ℕ, ◌+◌, ◌*◌, ◌^◌, ◌<◌, ◌≤◌, List, refl, ap, arith, sym, ◌∙◌, subst, length, get_or, inl, inr}
+use Rattle.std.proofs.Common.{◌≡◌, ◌≢◌, ℕ, ◌+◌, ◌*◌, ◌^◌, ◌<◌, ◌≤◌, List, ap, arith, sym, ◌∙◌, subst, length, get_or, inl, inr}
 use Rattle.std.specs.Prelude.{unsigned_abs}
 use Rattle.std.proofs.lemmas.Int.{unsigned_abs-mul}
 use Rattle.std.proofs.lemmas.Nat.{mul-le}
@@ -9,7 +9,7 @@ use borrow.Author.Differences.{abs_is}
 use Rattle.e_simplex.specs.declared.lines.Line.{Line}
 use Rattle.e_simplex.specs.Entries.{AllSmall}
 use Rattle.e_simplex.specs.Lines.{IsSolution, AllFormsWithin}
-use Rattle.e_simplex.specs.Multiple.{AddedTo, IsGood, added}
+use Rattle.e_simplex.specs.Multiple.{AddedTo, IsGood}
 use Rattle.e_simplex.specs.Tried.{AreValues}
 use Rattle.e_simplex.specs.Kept.{IsKept}
 use Rattle.e_fraction.proofs.Arith.{sums}

@@ -1,37 +1,32 @@
 -- Lines of rows over terms: what they have in each column, and their values.
-use Rattle.std.proofs.Common.{◌≡◌, ◌≢◌, ℕ, zero, suc, ◌+◌, ◌<◌, ◌≤◌, ◌^◌, List, [], ◌∷◌, ◌++◌, refl, ap, ap₂, arith, sym, ◌∙◌, subst, length, get_or, take, cond, eqb, Bool, true, false, true≢false, inl, inr}
-use Rattle.std.specs.Prelude.{map, unsigned_abs, neg_ℤ, nat_le}
-use Rattle.std.specs.List.{list_all}
-use Rattle.std.proofs.lemmas.Bool.{cases_eq, cases_lt}
+use Rattle.std.proofs.Common.{◌≡◌, ◌≢◌, ℕ, zero, suc, ◌+◌, ◌<◌, ◌≤◌, ◌^◌, List, [], ◌∷◌, refl, ap, ap₂, arith, sym, ◌∙◌, subst, length, get_or, cond, Bool, true, false, true≢false, inl, inr}
+use Rattle.std.specs.Prelude.{unsigned_abs, neg_ℤ, nat_le}
+use Rattle.std.proofs.lemmas.Bool.{cases_lt}
 use Rattle.std.proofs.lemmas.Bool.Decides.{nat_tests}
-use lib.IntN.{ℤ, pos, ◌+ℤ◌, ◌-ℤ◌, ◌*ℤ◌, *ℤ-zero, *ℤ_comm}
-use lib.Signed.{◌≤ℤ◌, ◌<ℤ◌}
-use borrow.Author.Differences.{abs_is}
+use lib.IntN.{ℤ, pos, ◌+ℤ◌, ◌*ℤ◌, *ℤ-zero, *ℤ_comm}
 use Rattle.e_literal.specs.declared.object.Term.{Term}
 use Rattle.e_literal.specs.declared.object.Term.TheVariants.{Right}
 use Rattle.e_literal.specs.Same.{term_eq}
-use Rattle.e_literal.specs.Rows.{Row, Says, Zero, AtLeast, More, Not, Summands, coefficient, negative}
-use Rattle.e_literal.specs.Minor.{Column, Constants, Of, SignedRow, entry, constant}
+use Rattle.e_literal.specs.Rows.{Row, Says, Zero, AtLeast, More, Not, Summands, coefficient}
+use Rattle.e_literal.specs.Minor.{entry, constant}
 use Rattle.e_fraction.specs.declared.row.Row.{Row as GivenRow}
 use Rattle.e_fraction.specs.Tableau.{unit}
 use Rattle.e_fraction.specs.Limits.{has_small_coefficients}
 use Rattle.e_fraction.specs.Distinct.{have_distinct_terms}
 use Rattle.e_simplex.specs.declared.lines.Monomial.{Monomial}
 use Rattle.e_simplex.specs.declared.lines.Line.{Line}
-use Rattle.e_simplex.specs.Lines.{form_at, line_row, constant_of, form_value, rows_of, IsSmallLine, FormWithin, AllSmallLines, AllFormsWithin}
+use Rattle.e_simplex.specs.Lines.{form_at, line_row, constant_of, IsSmallLine, FormWithin, AllSmallLines, AllFormsWithin}
 use Rattle.e_simplex.specs.Solved.{IsFit}
 use Rattle.e_simplex.specs.Apart.{AreFurther}
-use Rattle.e_simplex.specs.Tried.{negated, negative_line}
-use Rattle.e_simplex.specs.declared.lines.Kind.{Kind}
+use Rattle.e_simplex.specs.Tried.{negative_line}
 use Rattle.e_simplex.specs.declared.lines.Kind.TheVariants.{More as LineMore}
 use Rattle.e_simplex.proofs.Negatives.{small_push, negated_at}
 use Rattle.e_simplex.proofs.Deciding.{forms_push}
 use Rattle.std.proofs.lemmas.List.{length_push}
-use Rattle.e_fraction.proofs.Arith.{neg_mul}
 use Rattle.e_simplex.specs.Naming.{place_of, IsIn, AreOnce, FormNamed, AllNamed, named_form, named_line, named_lines, kind_of, keeps, have_short_forms}
 use Rattle.e_fraction.proofs.Arith.{sums, one_mul}
 use Rattle.e_fraction.proofs.Minors.{unit-same, unit-other}
-use Rattle.e_fraction.proofs.Terms.{term_eq_is, term_eq_same, equal_terms, yes_or_no, and_left, and_right}
+use Rattle.e_fraction.proofs.Terms.{term_eq_is, equal_terms, yes_or_no, and_left, and_right}
 use Rattle.e_fraction.proofs.Sums.{small_coefficient}
 use Rattle.e_fraction.proofs.Numbering.{column}
 use Rattle.e_simplex.proofs.Places.{term_at}

@@ -1,5 +1,5 @@
 -- Steps of the loop over the forms that are not to be 0: what is kept, and when the lines are wide.
-use Rattle.std.proofs.Common.{◌≡◌, ◌≢◌, ℕ, ◌+◌, ◌*◌, ◌^◌, ◌<◌, ◌≤◌, List, [], ◌∷◌, ◌++◌, refl, ap, arith, sym, ◌∙◌, subst, length, get_or, ◌⊎◌, inl, inr}
+use Rattle.std.proofs.Common.{◌≡◌, ℕ, ◌+◌, ◌^◌, ◌<◌, List, [], ◌∷◌, ◌++◌, ap, arith, sym, ◌∙◌, subst, length, get_or, ◌⊎◌, inl, inr}
 use Rattle.std.specs.Prelude.{unsigned_abs}
 use Rattle.std.proofs.lemmas.Bool.{cases_eq}
 use lib.IntN.{ℤ, pos}
@@ -7,13 +7,12 @@ use Rattle.e_simplex.specs.declared.lines.Line.{Line}
 use Rattle.e_simplex.specs.declared.lines.Kind.TheVariants.{More}
 use Rattle.e_simplex.specs.declared.apart.Kept.{Kept}
 use Rattle.e_fraction.specs.Det.{IsWide}
-use Rattle.e_simplex.specs.Entries.{AllSmall}
-use Rattle.e_simplex.specs.Lines.{rows_of, form_value, FormWithin, IsSolution, IsAbsurd, AllFormsWithin}
+use Rattle.e_simplex.specs.Lines.{rows_of, form_value, AllFormsWithin}
 use Rattle.e_simplex.specs.Multiple.{AddedTo}
 use Rattle.e_simplex.specs.Solved.{WideFurther}
-use Rattle.e_simplex.specs.Tried.{IsTried, IsFound, negative_line, AreValues, AreBelowBut, IsLargeAt}
+use Rattle.e_simplex.specs.Tried.{IsFound, negative_line, AreValues, AreBelowBut}
 use Rattle.e_simplex.specs.Kept.{IsKept}
-use Rattle.e_simplex.specs.Apart.{AreFurther, LargeForm, IsMoved, WideWith, WideWithTwo, IsNeither, WideApart, AreApart}
+use Rattle.e_simplex.specs.Apart.{AreFurther, LargeForm, IsMoved, WideWithTwo}
 use Rattle.e_simplex.proofs.Keeping.{kept_step}
 
 some_line : Line

@@ -1,7 +1,7 @@
 -- Where the lines are wide with one or two further forms, the rows are wide.
-use Rattle.std.proofs.Common.{◌≡◌, ◌≢◌, ℕ, zero, suc, ◌+◌, ◌<◌, ◌≤◌, ◌^◌, List, [], ◌∷◌, ◌++◌, refl, ap, ap₂, arith, sym, ◌∙◌, subst, length, get_or, cond, Bool, true, false, true≢false, ◌⊎◌, inl, inr, append_assoc}
+use Rattle.std.proofs.Common.{◌≡◌, ◌≢◌, ℕ, zero, suc, ◌+◌, ◌<◌, ◌^◌, List, [], ◌∷◌, ◌++◌, refl, ap, arith, sym, ◌∙◌, subst, length, get_or, cond, Bool, true, false, true≢false, inl, inr, append_assoc}
 use Rattle.std.specs.Prelude.{map, unsigned_abs}
-use lib.IntN.{ℤ, pos, neg_ℤ}
+use lib.IntN.{ℤ, neg_ℤ}
 use borrow.Author.Differences.{abs_is}
 use Rattle.e_literal.specs.declared.object.Term.{Term}
 use Rattle.e_literal.specs.Rows.{Row, Says, Zero, AtLeast, More, Not}

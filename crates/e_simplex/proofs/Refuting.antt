@@ -1,25 +1,23 @@
 -- Weights that refute lines are multipliers that refute rows.
-use Rattle.std.proofs.Common.{◌≡◌, ◌≢◌, ℕ, zero, suc, ◌+◌, ◌<◌, ◌≤◌, ◌^◌, List, [], ◌∷◌, ◌++◌, refl, ap, ap₂, arith, sym, ◌∙◌, subst, length, get_or, take, cond, eqb, Bool, true, false, true≢false, ◌⊎◌, inl, inr}
-use Rattle.std.specs.Prelude.{map, unsigned_abs, neg_ℤ}
-use Rattle.std.proofs.lemmas.Bool.{cases_lt, cases_eq, ne_eqb}
+use Rattle.std.proofs.Common.{◌≡◌, ℕ, zero, suc, ◌+◌, ◌<◌, ◌≤◌, ◌^◌, List, [], ◌∷◌, ◌++◌, refl, ap, ap₂, arith, sym, ◌∙◌, subst, length, get_or, take, cond, eqb, Bool, true, false, true≢false, ◌⊎◌, inl, inr}
+use Rattle.std.specs.Prelude.{unsigned_abs, neg_ℤ}
+use Rattle.std.proofs.lemmas.Bool.{cases_lt, ne_eqb}
 use Rattle.std.proofs.lemmas.List.{length_push}
 use lib.IntN.{ℤ, pos, ◌+ℤ◌, ◌*ℤ◌, *ℤ-zero, zero-*ℤ}
 use lib.Signed.{◌≤ℤ◌, ◌<ℤ◌}
 use Rattle.e_literal.specs.declared.object.Term.{Term}
-use Rattle.e_literal.specs.declared.object.Term.TheVariants.{Right}
 use Rattle.e_literal.specs.Rows.{Row, Says, Zero, AtLeast, More, Not, Summands, coefficient, negative}
 use Rattle.e_literal.specs.Absurd.{total}
 use Rattle.e_literal.specs.Same.{term_eq}
 use Rattle.e_fraction.specs.declared.row.Row.{Row as GivenRow}
 use Rattle.e_fraction.specs.Views.{seen, all_seen}
-use Rattle.e_fraction.specs.Tableau.{unit}
 use Rattle.e_simplex.specs.declared.lines.Line.{Line}
 use Rattle.e_simplex.specs.declared.lines.Monomial.{Monomial}
 use Rattle.e_simplex.specs.declared.lines.Kind.{Kind}
 use Rattle.e_simplex.specs.declared.lines.Kind.TheVariants.{Zero as LineZero, AtLeast as LineAtLeast, More as LineMore}
 use Rattle.e_simplex.specs.Entries.{AllSmall}
 use Rattle.e_simplex.specs.Lines.{form_at, weighed_at, MayWeigh, IsAbsurd, AllFormsWithin, FormWithin}
-use Rattle.e_simplex.specs.Naming.{place_of, IsIn, AreOnce, FormNamed, AllNamed, named_form, named_line, named_lines, kind_of, keeps}
+use Rattle.e_simplex.specs.Naming.{place_of, AreOnce, FormNamed, AllNamed, named_form, named_line, named_lines, kind_of, keeps}
 use Rattle.e_simplex.specs.Spread.{spread, count_nots}
 use Rattle.e_simplex.specs.Answer.{each_weighed, MayTake, AreTaken, TakesMore, Refutes, RefutesBoth, IsNotAt, as_more, as_less}
 use Rattle.e_simplex.specs.Apart.{IsNeither, AreFurther, WideApart, AreApart}
@@ -32,13 +30,13 @@ use Rattle.e_simplex.specs.Answer.{IsAbsurd as IsAbsurdVerdict}
 use Rattle.e_simplex.specs.declared.decision.Verdict.{Verdict}
 use Rattle.e_simplex.specs.declared.decision.Verdict.TheVariants.{Absurd, Holds, TooWide}
 use Rattle.e_simplex.specs.Tried.{negated, negative_line}
-use Rattle.e_fraction.proofs.Arith.{sums, neg_mul}
+use Rattle.e_fraction.proofs.Arith.{sums}
 use Rattle.e_fraction.proofs.Minors.{unit-other}
 use Rattle.e_simplex.proofs.Negatives.{negated_at, negative_within}
 use Rattle.e_simplex.proofs.Deciding.{forms_push}
 use Rattle.e_simplex.proofs.NamedLines.{kept_not, more_lines, within_lines, form_column, form_past, absent_term}
 use Rattle.e_simplex.proofs.Assigning.{main_cons}
-use Rattle.e_simplex.proofs.Places.{term_at, place_most}
+use Rattle.e_simplex.proofs.Places.{term_at}
 
 -- ---- the rows with one that says `not 0` changed
 

@@ -1,11 +1,10 @@
 -- What is answered on a list of rows.
-use Rattle.std.specs.Prelude.{◌≡◌, ◌⊎◌, ℕ, zero, suc, ◌^◌, ◌<◌, ◌≤◌, cond, Bool, true, ℤ, pos, ◌≤ℤ◌, List, [], ◌∷◌, map, length, get_or, unsigned_abs, IsTrue}
+use Rattle.std.specs.Prelude.{◌≡◌, ◌⊎◌, ℕ, zero, suc, ◌^◌, ◌<◌, ◌≤◌, cond, ℤ, pos, ◌≤ℤ◌, List, [], ◌∷◌, map, length, get_or, unsigned_abs}
 use Rattle.e_literal.specs.declared.object.Term.{Term}
 use Rattle.e_literal.specs.Same.{term_eq}
 use Rattle.e_literal.specs.Rows.{Row, Says, Zero, AtLeast, More, Not, negative}
 use Rattle.e_literal.specs.Absurd.{Weighed, total}
 use Rattle.e_literal.specs.Minor.{IsWide}
-use Rattle.e_fraction.specs.Limits.{are_good_multipliers}
 use Rattle.e_fraction.specs.Solution.{Satisfy, HasSolution}
 use Rattle.e_literal.specs.Width.{width}
 use Rattle.e_simplex.specs.Naming.{AreOnce, AllNamed}

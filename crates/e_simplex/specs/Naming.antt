@@ -1,5 +1,5 @@
 -- Rows over terms as lines over numbered columns: column 0 has the constants, and the terms follow in order.
-use Rattle.std.specs.Prelude.{◌≡◌, ℕ, suc, ◌<◌, cond, not, Bool, true, false, List, [], ◌∷◌, length, get_or, nat_le, ◌^◌}
+use Rattle.std.specs.Prelude.{◌≡◌, ℕ, suc, ◌<◌, cond, not, Bool, List, [], ◌∷◌, length, get_or, nat_le, ◌^◌}
 use Rattle.std.specs.List.{list_all}
 use Rattle.e_literal.specs.declared.object.Term.{Term}
 use Rattle.e_literal.specs.declared.object.Term.TheVariants.{Right}

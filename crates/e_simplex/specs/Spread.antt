@@ -1,6 +1,6 @@
 -- The weights of lines as multipliers of rows.
-use Rattle.std.specs.Prelude.{◌≡◌, ℕ, zero, suc, ◌<◌, cond, eqb, Bool, true, ℤ, pos, List, [], ◌∷◌, get_or, length}
-use Rattle.e_literal.specs.Rows.{Row, Says, Not}
+use Rattle.std.specs.Prelude.{ℕ, zero, suc, cond, eqb, Bool, true, ℤ, pos, List, [], ◌∷◌, get_or}
+use Rattle.e_literal.specs.Rows.{Row}
 use Rattle.e_simplex.specs.Naming.{keeps}
 
 -- the weights from n on, for the rows that do not say `not 0`; of the others the one counted as k has the weight `last`, and the rest 0

@@ -1,4 +1,4 @@
-use Rattle.std.proofs.Common.{◌≡◌, sym, subst, get_or, inr}
+use Rattle.std.proofs.Common.{◌≡◌, subst, get_or, inr}
 use Rattle.std.proofs.lemmas.List.{get_or_read}
 use Rattle.e_simplex.specs.declared.lines.Line.{Line}
 use Rattle.e_simplex.specs.Apart.{LargeForm, IsMoved}

@@ -1,4 +1,4 @@
-use Rattle.std.proofs.Common.{◌≡◌, ◌+◌, ◌<◌, ◌^◌, arith, ap, sym, ◌∙◌, subst, length, true, false, rules, pos}
+use Rattle.std.proofs.Common.{◌≡◌, ◌+◌, ◌<◌, ◌^◌, arith, ap, sym, ◌∙◌, subst, length, false, rules, pos}
 use Rattle.e_fraction.specs.Det.{IsWide}
 use Rattle.e_fraction.specs.Views.{all_seen}
 use Rattle.e_simplex.specs.Naming.{named_lines}

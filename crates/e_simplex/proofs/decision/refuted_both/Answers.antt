@@ -1,4 +1,4 @@
-use Rattle.std.proofs.Common.{◌≡◌, ◌+◌, ◌-◌, ◌<◌, arith, ap, sym, ◌∙◌, subst, length, take, get_or, pos, SFits, to_z-of_z, []}
+use Rattle.std.proofs.Common.{◌-◌, arith, length, get_or, pos, SFits, to_z-of_z, []}
 use mir.Syntax.{w128}
 use Rattle.e_fraction.specs.Views.{all_seen}
 use Rattle.e_simplex.proofs.Spreading.{nots_most}

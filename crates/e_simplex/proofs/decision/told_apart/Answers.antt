@@ -1,4 +1,4 @@
-use Rattle.std.proofs.Common.{◌≡◌, ◌+◌, arith, ap, sym, ◌∙◌, subst, length}
+use Rattle.std.proofs.Common.{◌+◌, arith, ◌∙◌, subst, length}
 use Rattle.e_fraction.specs.Views.{all_seen}
 use Rattle.std.proofs.Common.{true, false}
 use Rattle.e_simplex.specs.Naming.{named_lines}

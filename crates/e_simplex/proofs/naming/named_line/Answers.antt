@@ -1,12 +1,11 @@
-use Rattle.std.proofs.Common.{◌≡◌, ◌<◌, suc, ◌+◌, arith, ap, sym, ◌∙◌, subst, length, get_or, SFits, to_z-of_z, rules}
+use Rattle.std.proofs.Common.{◌<◌, ◌+◌, arith, ap, sym, ◌∙◌, subst, length, get_or, SFits, to_z-of_z, rules}
 use Rattle.e_literal.specs.declared.object.Term.TheVariants.{Seg}
 use lib.IntN.{ℤ, pos}
 use Rattle.e_literal.specs.declared.object.Term.{Term}
 use mir.Syntax.{w64}
 use Rattle.e_simplex.specs.Naming.{place_of, IsIn}
-use Rattle.std.proofs.Common.{◌≤◌, true}
+use Rattle.std.proofs.Common.{◌≤◌}
 use Rattle.e_fraction.specs.Views.{seen}
-use Rattle.e_fraction.specs.Distinct.{have_distinct_terms}
 use Rattle.e_simplex.proofs.Spreading.{take_done}
 use Rattle.e_simplex.proofs.NamedLines.{small_like, small_line}
 use Rattle.e_simplex.proofs.Places.{named_at, named_more}

@@ -1,8 +1,8 @@
-use Rattle.std.proofs.Common.{◌≡◌, ◌≢◌, ◌+◌, List, arith, ap, sym, ◌∙◌, subst, length, get_or, take, ℤ, pos}
+use Rattle.std.proofs.Common.{◌≡◌, List, ap, sym, ◌∙◌, subst, length, get_or, take, ℤ, pos}
 use Rattle.e_literal.specs.declared.object.Term.{Term}
 use Rattle.e_literal.specs.declared.object.Term.TheVariants.{Seg}
 use Rattle.e_fraction.specs.Views.{all_seen}
-use Rattle.e_simplex.specs.Naming.{place_of, AllNamed, FormNamed}
+use Rattle.e_simplex.specs.Naming.{place_of, FormNamed}
 use Rattle.e_simplex.proofs.Places.{all_more, form_all, terms_new, terms_old}
 use Rattle.e_simplex.proofs.naming.with_terms.Goals.{then-place-len+in_ok-push, else-place-len}
 use Rattle.e_simplex.proofs.naming.with_terms.Goals as goal

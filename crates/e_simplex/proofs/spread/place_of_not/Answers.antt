@@ -1,7 +1,5 @@
-use Rattle.std.proofs.Common.{◌≡◌, ◌+◌, suc, cond, arith, ap, sym, ◌∙◌, length, take}
-use Rattle.e_fraction.specs.Views.{all_seen}
-use Rattle.e_simplex.specs.Spread.{count_nots}
-use Rattle.e_simplex.proofs.Spreading.{nots_more, count_most, take_done, is_not_at}
+use Rattle.std.proofs.Common.{suc, cond, arith, ap, sym, ◌∙◌}
+use Rattle.e_simplex.proofs.Spreading.{nots_more, count_most, is_not_at}
 use Rattle.e_simplex.proofs.spread.place_of_not.Goals.{else-is_not-via-then-is_not+else-seen-k, else-is_not-via-else-is_not}
 use Rattle.e_simplex.proofs.spread.place_of_not.Goals as goal
 
