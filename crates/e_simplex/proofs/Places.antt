@@ -1,0 +1,194 @@
+-- Terms and their columns: places of terms, and lines of one row more.
+use Rattle.std.proofs.Common.{◌≡◌, ◌≢◌, ℕ, zero, suc, ◌+◌, ◌<◌, ◌≤◌, List, [], ◌∷◌, ◌++◌, refl, ap, ap₂, arith, sym, ◌∙◌, subst, length, get_or, take, cond, Bool, true, false, true≢false, inl, inr}
+use Rattle.std.proofs.lemmas.List.{take_more, length_push, get_or_push, get_or_append_left}
+use Rattle.std.proofs.lemmas.Bool.{cases_eq}
+use lib.IntN.{ℤ}
+use Rattle.e_literal.specs.declared.object.Term.{Term}
+use Rattle.e_literal.specs.declared.object.Term.TheVariants.{Right}
+use Rattle.e_literal.specs.Same.{term_eq}
+use Rattle.e_literal.specs.Rows.{Row, Summands}
+use Rattle.e_fraction.specs.declared.row.Row.{Row as GivenRow}
+use Rattle.e_fraction.specs.Views.{seen, all_seen}
+use Rattle.e_simplex.specs.declared.lines.Monomial.{Monomial}
+use Rattle.e_simplex.specs.declared.lines.Line.{Line}
+use Rattle.e_simplex.specs.declared.lines.Kind.{Kind}
+use Rattle.e_simplex.specs.Naming.{place_of, IsIn, AreOnce, FormNamed, AllNamed, named_form, named_line, named_lines, kind_of, keeps}
+use Rattle.e_fraction.proofs.Terms.{term_eq_is, term_eq_same, equal_terms, yes_or_no}
+
+-- ---- places
+
+place_head : (x : Term) (xs : List Term) (t : Term) → term_eq t x ≡ true → place_of (x ∷ xs) t ≡ 0
+place_head x xs t e = ap (λ b. cond b 0 (suc (place_of xs t))) e
+
+place_rest : (x : Term) (xs : List Term) (t : Term) → term_eq t x ≡ false → place_of (x ∷ xs) t ≡ suc (place_of xs t)
+place_rest x xs t e = ap (λ b. cond b 0 (suc (place_of xs t))) e
+
+pub place_most : (ts : List Term) (t : Term) → place_of ts t ≤ length ts
+place_most [] t = omega arith
+place_most (x ∷ xs) t = elim (yes_or_no (term_eq t x)) [
+  | inl e ↦ omega (arith, place_head x xs t e)
+  | inr n ↦ omega (arith, place_rest x xs t n, place_most xs t)
+]
+
+pub term_at : (ts : List Term) (t : Term) → IsIn ts t → get_or ts (place_of ts t) Right ≡ t
+term_at [] t h = absurd (omega (arith, h))
+term_at (x ∷ xs) t h = elim (yes_or_no (term_eq t x)) [
+  | inl e ↦ ap (λ n. get_or (x ∷ xs) n Right) (place_head x xs t e) ∙ sym (term_eq_is t x e)
+  | inr n ↦ ap (λ m. get_or (x ∷ xs) m Right) (place_rest x xs t n) ∙ term_at xs t (omega (arith, h, place_rest x xs t n))
+]
+
+-- a term that is found at i and not before
+pub place_at : (ts : List Term) (t : Term) (i : ℕ) (d : Term) → i < length ts → ((k : ℕ) → k < i → term_eq (get_or ts k d) t ≡ false)
+    → term_eq (get_or ts i d) t ≡ true → place_of ts t ≡ i
+place_at [] t i d l h e = absurd (omega (arith, l))
+place_at (x ∷ xs) t zero d l h e = place_head x xs t (equal_terms t x (sym (term_eq_is x t e)))
+place_at (x ∷ xs) t (suc i) d l h e =
+    place_rest x xs t (turned_false x t (h 0 (omega arith))) ∙ ap suc (place_at xs t i d (omega (arith, l)) (λ k m. h (suc k) (omega (arith, m))) e)
+  where
+    turned_false : (a b : Term) → term_eq a b ≡ false → term_eq b a ≡ false
+    turned_false a b f = elim (yes_or_no (term_eq b a)) [
+      | inl y ↦ absurd (true≢false (sym (equal_terms a b (sym (term_eq_is b a y))) ∙ f))
+      | inr n ↦ n
+    ]
+
+pub place_none : (ts : List Term) (t d : Term) → ((k : ℕ) → k < length ts → term_eq (get_or ts k d) t ≡ false) → place_of ts t ≡ length ts
+place_none [] t d h = refl
+place_none (x ∷ xs) t d h =
+    place_rest x xs t (turned_false x t (h 0 (omega arith))) ∙ ap suc (place_none xs t d (λ k m. h (suc k) (omega (arith, m))))
+  where
+    turned_false : (a b : Term) → term_eq a b ≡ false → term_eq b a ≡ false
+    turned_false a b f = elim (yes_or_no (term_eq b a)) [
+      | inl y ↦ absurd (true≢false (sym (equal_terms a b (sym (term_eq_is b a y))) ∙ f))
+      | inr n ↦ n
+    ]
+
+place_push : (ts : List Term) (u t : Term) → IsIn ts u → place_of (ts ++ t ∷ []) u ≡ place_of ts u
+place_push [] u t h = absurd (omega (arith, h))
+place_push (x ∷ xs) u t h = elim (yes_or_no (term_eq u x)) [
+  | inl e ↦ place_head x (xs ++ t ∷ []) u e ∙ sym (place_head x xs u e)
+  | inr n ↦ place_rest x (xs ++ t ∷ []) u n ∙ ap suc (place_push xs u t (omega (arith, h, place_rest x xs u n))) ∙ sym (place_rest x xs u n)
+]
+
+place_last : (ts : List Term) (t : Term) → place_of ts t ≡ length ts → place_of (ts ++ t ∷ []) t ≡ length ts
+place_last [] t h = place_head t [] t (term_eq_same t)
+place_last (x ∷ xs) t h = elim (yes_or_no (term_eq t x)) [
+  | inl e ↦ absurd (omega (arith, h, place_head x xs t e))
+  | inr n ↦ place_rest x (xs ++ t ∷ []) t n ∙ ap suc (place_last xs t (omega (arith, h, place_rest x xs t n)))
+]
+
+pub in_push : (ts : List Term) (t u : Term) → IsIn ts u → IsIn (ts ++ t ∷ []) u
+in_push ts t u h = omega (arith, h, place_push ts u t h, length_push ts t)
+
+pub in_last : (ts : List Term) (t : Term) → place_of ts t ≡ length ts → IsIn (ts ++ t ∷ []) t
+in_last ts t h = omega (arith, place_last ts t h, length_push ts t)
+
+pub once_push : (ts : List Term) (t : Term) → AreOnce ts → place_of ts t ≡ length ts → AreOnce (ts ++ t ∷ [])
+once_push ts t o h c l = elim (cases_eq c (length ts)) [
+  | inl e ↦ ap (place_of (ts ++ t ∷ [])) (get_or_push ts t Right c (sym e)) ∙ place_last ts t h ∙ sym e
+  | inr d ↦ (let m : c < length ts = omega (arith, l, d, length_push ts t) in
+      ap (place_of (ts ++ t ∷ [])) (get_or_append_left ts (t ∷ []) Right c m)
+      ∙ place_push ts (get_or ts c Right) t (omega (arith, o c m, m)) ∙ o c m)
+]
+
+pub form_grown : (ts us : List Term) (form : Summands) → ((t : Term) → IsIn ts t → IsIn us t) → FormNamed ts form → FormNamed us form
+form_grown ts us [] g h = tt
+form_grown ts us (p ∷ ps) g h = (g p.1 h.0, form_grown ts us ps g h.1)
+
+pub all_grown : (ts us : List Term) (rows : List Row) → ((t : Term) → IsIn ts t → IsIn us t) → AllNamed ts rows → AllNamed us rows
+all_grown ts us [] g h = tt
+all_grown ts us (r ∷ rs) g h = (form_grown ts us r.form g h.0, all_grown ts us rs g h.1)
+
+form_push : (ts : List Term) (form : Summands) (p : ℤ × Term) → FormNamed ts form → IsIn ts p.1 → FormNamed ts (form ++ p ∷ [])
+form_push ts [] p h i = (i, tt)
+form_push ts (q ∷ qs) p h i = (h.0, form_push ts qs p h.1 i)
+
+pub form_more : (ts : List Term) (form : Summands) (k : ℕ) (d : ℤ × Term) → k < length form → FormNamed ts (take k form) → IsIn ts (get_or form k d).1
+    → FormNamed ts (take (k + 1) form)
+form_more ts form k d l h i = subst (FormNamed ts) (sym (take_more form k d l)) (form_push ts (take k form) (get_or form k d) h i)
+
+all_push : (ts : List Term) (rows : List GivenRow) (r : GivenRow) → AllNamed ts (all_seen rows) → FormNamed ts r.form → AllNamed ts (all_seen (rows ++ r ∷ []))
+all_push ts [] r h i = (i, tt)
+all_push ts (q ∷ qs) r h i = (h.0, all_push ts qs r h.1 i)
+
+pub all_more : (ts : List Term) (rows : List GivenRow) (k : ℕ) (d : GivenRow) → k < length rows → AllNamed ts (all_seen (take k rows)) → FormNamed ts (get_or rows k d).form
+    → AllNamed ts (all_seen (take (k + 1) rows))
+all_more ts rows k d l h i = subst (λ v. AllNamed ts (all_seen v)) (sym (take_more rows k d l)) (all_push ts (take k rows) (get_or rows k d) h i)
+
+-- ---- what is named
+
+pub named_at : (ts : List Term) (form : Summands) (k : ℕ) (d : ℤ × Term) → k < length form → FormNamed ts form → IsIn ts (get_or form k d).1
+named_at ts [] k d l h = absurd (omega (arith, l))
+named_at ts (p ∷ ps) zero d l h = h.0
+named_at ts (p ∷ ps) (suc k) d l h = named_at ts ps k d (omega (arith, l)) h.1
+
+pub row_named : (ts : List Term) (rows : List GivenRow) (i : ℕ) (d : GivenRow) → i < length rows → AllNamed ts (all_seen rows) → FormNamed ts (get_or rows i d).form
+row_named ts [] i d l h = absurd (omega (arith, l))
+row_named ts (r ∷ rs) zero d l h = h.0
+row_named ts (r ∷ rs) (suc i) d l h = row_named ts rs i d (omega (arith, l)) h.1
+
+named_push : (ts : List Term) (form : Summands) (p : ℤ × Term) → named_form ts (form ++ p ∷ []) ≡ named_form ts form ++ record { coefficient = p.0; column = suc (place_of ts p.1) } ∷ []
+named_push ts [] p = refl
+named_push ts (q ∷ qs) p = ap (λ v. record { coefficient = q.0; column = suc (place_of ts q.1) } ∷ v) (named_push ts qs p)
+
+pub named_more : (ts : List Term) (form : Summands) (k : ℕ) (d : ℤ × Term) (old new : List Monomial) (x : ℤ) (n : ℕ) → k < length form → old ≡ named_form ts (take k form)
+    → new ≡ old ++ record { coefficient = x; column = n } ∷ [] → x ≡ (get_or form k d).0 → n ≡ suc (place_of ts (get_or form k d).1) → new ≡ named_form ts (take (k + 1) form)
+named_more ts form k d old new x n l e f a b =
+    f ∙ ap₂ {A = List Monomial} {B = Monomial} (λ u v. u ++ v ∷ []) e (ap₂ {A = ℤ} {B = ℕ} (λ u v. let m : Monomial = record { coefficient = u; column = v } in m) a b)
+    ∙ sym (named_push ts (take k form) (get_or form k d)) ∙ ap (named_form ts) (sym (take_more form k d l))
+
+lines_push : (b : Bool) (ts : List Term) (rows : List GivenRow) (r : GivenRow)
+    → named_lines b ts (all_seen (rows ++ r ∷ [])) ≡ named_lines b ts (all_seen rows) ++ cond (keeps b (seen r).says) (named_line ts (seen r) ∷ []) []
+lines_push b ts [] r = refl
+lines_push b ts (q ∷ qs) r = by (keeps b (seen q).says) (lines_push b ts qs r)
+  where
+    by : (k : Bool) → named_lines b ts (all_seen (qs ++ r ∷ [])) ≡ named_lines b ts (all_seen qs) ++ cond (keeps b (seen r).says) (named_line ts (seen r) ∷ []) []
+        → cond k (named_line ts (seen q) ∷ named_lines b ts (all_seen (qs ++ r ∷ []))) (named_lines b ts (all_seen (qs ++ r ∷ [])))
+        ≡ cond k (named_line ts (seen q) ∷ named_lines b ts (all_seen qs)) (named_lines b ts (all_seen qs)) ++ cond (keeps b (seen r).says) (named_line ts (seen r) ∷ []) []
+    by true e = ap (λ v. named_line ts (seen q) ∷ v) e
+    by false e = e
+
+pub lines_more : (b : Bool) (ts : List Term) (rows : List GivenRow) (i : ℕ) (d : GivenRow) (old new : List Line) (l : Line) → i < length rows → old ≡ named_lines b ts (all_seen (take i rows))
+    → new ≡ old ++ l ∷ [] → keeps b (seen (get_or rows i d)).says ≡ true → l.kind ≡ kind_of (seen (get_or rows i d)).says → l.form ≡ named_form ts (get_or rows i d).form
+    → new ≡ named_lines b ts (all_seen (take (i + 1) rows))
+lines_more b ts rows i d old new l here e f k g h =
+    f ∙ ap₂ {A = List Line} {B = Line} (λ u v. u ++ v ∷ []) e (ap₂ {A = Kind} {B = List Monomial} (λ u v. let m : Line = record { kind = u; form = v } in m) g h)
+    ∙ ap (λ v. named_lines b ts (all_seen (take i rows)) ++ cond v (named_line ts (seen (get_or rows i d)) ∷ []) []) (sym k)
+    ∙ sym (lines_push b ts (take i rows) (get_or rows i d)) ∙ ap (λ v. named_lines b ts (all_seen v)) (sym (take_more rows i d here))
+
+pub lines_same : (b : Bool) (ts : List Term) (rows : List GivenRow) (i : ℕ) (d : GivenRow) (old : List Line) → i < length rows → old ≡ named_lines b ts (all_seen (take i rows))
+    → keeps b (seen (get_or rows i d)).says ≡ false → old ≡ named_lines b ts (all_seen (take (i + 1) rows))
+lines_same b ts rows i d old here e k =
+    e ∙ sym (no_more (named_lines b ts (all_seen (take i rows))))
+    ∙ ap (λ v. named_lines b ts (all_seen (take i rows)) ++ cond v (named_line ts (seen (get_or rows i d)) ∷ []) []) (sym k)
+    ∙ sym (lines_push b ts (take i rows) (get_or rows i d)) ∙ ap (λ v. named_lines b ts (all_seen v)) (sym (take_more rows i d here))
+  where
+    no_more : (vs : List Line) → vs ++ [] ≡ vs
+    no_more [] = refl
+    no_more (v ∷ vs) = ap (λ ws. v ∷ ws) (no_more vs)
+
+-- ---- terms that are new, and terms that are not
+
+pub form_all : (ts : List Term) (form : Summands) (k : ℕ) → length form ≤ k → FormNamed ts (take k form) → FormNamed ts form
+form_all ts [] k l h = tt
+form_all ts (p ∷ ps) zero l h = absurd (omega (arith, l))
+form_all ts (p ∷ ps) (suc k) l h = (h.0, form_all ts ps k (omega (arith, l)) h.1)
+
+pub terms_new : (ts new : List Term) (rows : List Row) (form : Summands) (k : ℕ) (d : ℤ × Term) → k < length form → new ≡ ts ++ (get_or form k d).1 ∷ []
+    → place_of ts (get_or form k d).1 ≡ length ts → AreOnce ts → AllNamed ts rows → FormNamed ts (take k form)
+    → AreOnce new × (AllNamed new rows × FormNamed new (take (k + 1) form))
+terms_new ts new rows form k d l e n o a f =
+    subst (λ v. AreOnce v × (AllNamed v rows × FormNamed v (take (k + 1) form))) (sym e) (
+      once_push ts (get_or form k d).1 o n,
+      (
+        all_grown ts (ts ++ (get_or form k d).1 ∷ []) rows (in_push ts (get_or form k d).1) a,
+        form_more (ts ++ (get_or form k d).1 ∷ []) form k d l (form_grown ts (ts ++ (get_or form k d).1 ∷ []) (take k form) (in_push ts (get_or form k d).1) f)
+            (in_last ts (get_or form k d).1 n),
+      ),
+    )
+
+pub terms_old : (ts new : List Term) (rows : List Row) (form : Summands) (k : ℕ) (d : ℤ × Term) → k < length form → new ≡ ts
+    → place_of ts (get_or form k d).1 ≢ length ts → AreOnce ts → AllNamed ts rows → FormNamed ts (take k form)
+    → AreOnce new × (AllNamed new rows × FormNamed new (take (k + 1) form))
+terms_old ts new rows form k d l e n o a f =
+    subst (λ v. AreOnce v × (AllNamed v rows × FormNamed v (take (k + 1) form))) (sym e)
+    (o, (a, form_more ts form k d l f (omega (arith, n, place_most ts (get_or form k d).1))))

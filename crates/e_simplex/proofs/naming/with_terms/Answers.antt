@@ -1,0 +1,29 @@
+use Rattle.std.proofs.Common.{◌≡◌, List, ap, sym, ◌∙◌, subst, length, get_or, take, ℤ, pos}
+use Rattle.e_literal.specs.declared.object.Term.{Term}
+use Rattle.e_literal.specs.declared.object.Term.TheVariants.{Seg}
+use Rattle.e_fraction.specs.Views.{all_seen}
+use Rattle.e_simplex.specs.Naming.{place_of, FormNamed}
+use Rattle.e_simplex.proofs.Places.{all_more, form_all, terms_new, terms_old}
+use Rattle.e_simplex.proofs.naming.with_terms.Goals.{then-place-len+in_ok-push, else-place-len}
+use Rattle.e_simplex.proofs.naming.with_terms.Goals as goal
+
+pub loop-k-preserved : goal.loop-k-preserved
+loop-k-preserved c =
+    let d : ℤ × Term = (pos 0, Seg 0 0) in
+    let n : c.len.result ≡ length c.loop-k.terms.items = c.len.ensures ∙ c.loop-k.terms.ok.0 in
+    let v = ap (λ (v : List Term). place_of v (get_or {A = ℤ × Term} c.summands-form.result.now c.loop-k.k (pos 0, Seg 0 0)).1) c.deref.ensures.value in
+    elim c.if-place-len.branch [
+      | then-place-len+in_ok-push w ↦ (let t = terms_new c.loop-k.terms.items c.if-place-len.terms.items (all_seen (take c.args.i c.args.rows.now)) c.summands-form.result.now c.loop-k.k (pos 0, Seg 0 0)
+          c.loop-k-test.true (ap (λ u. u.items) w.terms-is ∙ w.in_ok-push.ensures.items) (sym v ∙ sym c.place.ensures.value ∙ w.if-place-len.true ∙ n)
+          c.loop-k.invariant.once c.loop-k.invariant.before c.loop-k.invariant.form in
+          record { once = t.0; before = t.1.0; form = t.1.1 })
+      | else-place-len w ↦ (let t = terms_old c.loop-k.terms.items c.if-place-len.terms.items (all_seen (take c.args.i c.args.rows.now)) c.summands-form.result.now c.loop-k.k (pos 0, Seg 0 0)
+          c.loop-k-test.true (ap (λ u. u.items) w.terms-is) (λ q. w.if-place-len.false (c.place.ensures.value ∙ v ∙ q ∙ sym n))
+          c.loop-k.invariant.once c.loop-k.invariant.before c.loop-k.invariant.form in
+          record { once = t.0; before = t.1.0; form = t.1.1 })
+    ]
+
+pub returns-clause-all : goal.returns-clause-all
+returns-clause-all c =
+    all_more c.loop-k.terms.items c.args.rows.now c.args.i c.index-rows-i.result c.requires.here c.loop-k.invariant.before
+    (subst (FormNamed c.loop-k.terms.items) c.summands-form.ensures.value (form_all c.loop-k.terms.items c.summands-form.result.now c.loop-k.k c.loop-k-test.false c.loop-k.invariant.form))

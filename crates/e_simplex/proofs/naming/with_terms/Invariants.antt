@@ -1,0 +1,11 @@
+use Rattle.std.proofs.Common.{take}
+use Rattle.e_fraction.specs.Views.{all_seen}
+use Rattle.e_simplex.specs.Naming.{AreOnce, AllNamed, FormNamed}
+use Rattle.e_simplex.proofs.naming.with_terms.Given as goal
+
+abbrev pub invariant-loop-k : goal.invariant-loop-k
+invariant-loop-k l = record {
+  once : AreOnce l.terms.items;
+  before : AllNamed l.terms.items (all_seen (take l.i l.rows));
+  form : FormNamed l.terms.items (take l.k l.form);
+}

@@ -1,0 +1,5 @@
+use Rattle.std.proofs.Common.{◌≡◌, take}
+use Rattle.e_simplex.proofs.solved.lines_with.Given as goal
+
+abbrev pub invariant-loop-old : goal.invariant-loop-old
+invariant-loop-old l = l.all.items ≡ take l.old-index l.lines

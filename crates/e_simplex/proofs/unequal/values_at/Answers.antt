@@ -1,0 +1,15 @@
+use Rattle.std.proofs.Common.{SFits, to_z-of_z, ap, sym, ◌∙◌}
+use Rattle.std.proofs.lemmas.List.{get_or_read}
+use mir.Syntax.{w128}
+use Rattle.e_simplex.specs.Lines.{form_value}
+use Rattle.e_simplex.proofs.Forms.{fits_type}
+use Rattle.e_simplex.proofs.Combining.{values_more}
+use Rattle.e_simplex.proofs.unequal.values_at.Goals as goal
+
+pub loop-j-preserved : goal.loop-j-preserved
+loop-j-preserved c =
+    let fv : SFits w128 c.value_of.result = fits_type c.value_of.result c.value_of.type_inv in
+    let e = simp to_z-of_z at c.in_ok-push.ensures.items in
+    values_more c.loop-j.j c.args.forms.now c.args.values.now c.loop-j.all.items c.push.new.self.items c.value_of.result e c.loop-j.invariant
+    (λ d. c.value_of.ensures.value ∙ ap (λ v. form_value v c.args.values.now) c.items.ensures
+    ∙ ap (λ l. form_value l.form c.args.values.now) (sym c.index-forms-j.is ∙ get_or_read c.args.forms.now c.loop-j.j c.index-forms-j.result c.loop-j-test.true c.index-forms-j.is d))

@@ -1,0 +1,135 @@
+//! Decides rows over terms.
+
+ghost use Rattle.std.specs.Prelude.{◌≡◌, ◌≢◌, ℕ, ◌+◌, ◌<◌, ◌≤◌, ◌^◌, pos, length, get_or, IfOk, IsTrue};
+ghost use Rattle.e_literal.specs.Minor.{IsWide};
+ghost use Rattle.e_fraction.specs.Limits.{all_small};
+ghost use Rattle.e_fraction.specs.Solution.{HasSolution};
+ghost use Rattle.e_fraction.specs.Views.{all_seen};
+ghost use Rattle.e_simplex.specs.Naming.{AreOnce, AllNamed, named_lines};
+ghost use Rattle.e_simplex.specs.Solved.{IsSolved, columns_of, lines_of};
+ghost use Rattle.e_simplex.specs.Apart.{IsNeither};
+ghost use Rattle.e_simplex.specs.Paired.{PairedTo};
+ghost use Rattle.e_simplex.specs.Answer.{IsAbsurdity, IsVerdict, IsRefuted, IsHolds, IsAbsurd};
+
+use crate::apart::{Apart, keep_apart};
+use crate::naming::{lines_where, terms_of};
+use crate::solved::{Outcome, Solved, solve_lines};
+use crate::spread::{place_of_not, spread};
+use e_fraction::Row;
+use e_literal::{Term, Values};
+use std::alloc::{AllocError, Global};
+
+/// Multipliers of the rows that show that no values satisfy them: one list, or, for the row at `row`, which says
+/// `not 0`, one list that counts it as more than 0 and one that counts it as less.
+#[derive(Drop)]
+pub enum Absurdity {
+    One(Vec<i128>),
+    Two {
+        row: usize,
+        above: Vec<i128>,
+        below: Vec<i128>,
+    },
+}
+
+/// No values satisfy the rows, or these do, or a minor of the rows is large.
+#[derive(Drop)]
+pub enum Verdict {
+    Absurd(Absurdity),
+    Holds(Values),
+    TooWide,
+}
+
+/// The terms, each with the value of its column.
+fn named_values(alloc: Global, terms: &[Term], values: &[i128]) -> Result<Values, AllocError>
+    requires { length values.now ≡ length terms.now + 1 }
+    ensures { IfOk result (PairedTo (length terms.now) terms.now values.now) }
+{
+    let mut pairs = Vec::new(alloc);
+    for c in 0..terms.len() {
+        pairs.push((terms[c], values[c + 1].unsigned_abs()))?;
+    }
+    Ok(Values::new(pairs))
+}
+
+/// What comes of the row at the place `k` among those that say `not 0`, both of whose signs are refuted.
+fn refuted_both(
+    alloc: Global,
+    rows: &[Row],
+    terms: &[Term],
+    k: usize,
+    above: &[i128],
+    below: &[i128],
+) -> Result<Absurdity, AllocError>
+    requires few { length rows.now ≤ 4096 }
+    requires once { AreOnce terms.now }
+    requires named { AllNamed terms.now (all_seen rows.now) }
+    requires neither { IsNeither (length terms.now + 1) (named_lines Rattle.std.specs.Prelude.false terms.now (all_seen rows.now)) (named_lines Rattle.std.specs.Prelude.true terms.now (all_seen rows.now)) k above.now below.now }
+    ensures { IfOk result (IsRefuted (all_seen rows.now)) }
+{
+    let row = place_of_not(rows, k);
+    let last = above[above.len() - 1];
+    let above = spread(alloc, rows, above, k + 1, last)?;
+    let last = below[below.len() - 1];
+    let below = spread(alloc, rows, below, k + 1, last)?;
+    Ok(Absurdity::Two { row, above, below })
+}
+
+/// What comes of the solved lines and the rows that say `not 0`.
+fn told_apart(
+    alloc: Global,
+    rows: &[Row],
+    terms: &[Term],
+    solved: &Solved,
+) -> Result<Verdict, AllocError>
+    requires few { length rows.now ≤ 4096 }
+    requires coefficients { IsTrue (all_small rows.now) }
+    requires short { IsTrue (Rattle.e_simplex.specs.Naming.have_short_forms rows.now) }
+    requires once { AreOnce terms.now }
+    requires named { AllNamed terms.now (all_seen rows.now) }
+    requires counted { length terms.now < 2 ^ 63 }
+    requires solved { IsSolved (length terms.now + 1) (named_lines Rattle.std.specs.Prelude.false terms.now (all_seen rows.now)) solved.now }
+    ensures { IfOk result (IsVerdict (all_seen rows.now)) }
+{
+    let forms = lines_where(alloc, true, terms, rows)?;
+    match keep_apart(alloc, solved, &forms)? {
+        Apart::TooWide => Ok(Verdict::TooWide),
+        Apart::Found(values) => {
+            let values = named_values(alloc, terms, &values)?;
+            Ok(Verdict::Holds(values))
+        }
+        Apart::Neither(k, above, below) => {
+            let both = refuted_both(alloc, rows, terms, k, &above, &below)?;
+            Ok(Verdict::Absurd(both))
+        }
+    }
+}
+
+/// Whether values of the terms, whole numbers of at least 0, satisfy the rows. [`have_small_coefficients`] and
+/// [`have_short_forms`] test the conditions. The answer is `Holds` with values that satisfy every row, or `Absurd` with
+/// multipliers that refute the rows, or `TooWide`, which comes only where some minor of the rows has size at least
+/// 2^63, and the width with it.
+///
+/// [`have_small_coefficients`]: e_fraction::row::have_small_coefficients
+/// [`have_short_forms`]: crate::naming::have_short_forms
+pub fn decide(alloc: Global, rows: &[Row]) -> Result<Verdict, AllocError>
+    requires few { length rows.now ≤ 4096 }
+    requires coefficients { IsTrue (all_small rows.now) }
+    requires short { IsTrue (Rattle.e_simplex.specs.Naming.have_short_forms rows.now) }
+    ensures verdict { IfOk result (IsVerdict (all_seen rows.now)) }
+    ensures holds { IfOk result (λ v. ¬ IsWide (all_seen rows.now) → HasSolution (all_seen rows.now) → IsHolds v) }
+    ensures absurd { IfOk result (λ v. ¬ IsWide (all_seen rows.now) → ¬ HasSolution (all_seen rows.now) → IsAbsurd v) }
+{
+    let terms = terms_of(alloc, rows)?;
+    let lines = lines_where(alloc, false, &terms, rows)?;
+    match solve_lines(alloc, lines, terms.len() + 1)? {
+        Outcome::TooWide => Ok(Verdict::TooWide),
+        Outcome::Absurd(weights) => {
+            let multipliers = spread(alloc, rows, &weights, 0, 0)?;
+            Ok(Verdict::Absurd(Absurdity::One(multipliers)))
+        }
+        Outcome::Holds(solved) => {
+            let told = told_apart(alloc, rows, &terms, &solved)?;
+            Ok(told)
+        }
+    }
+}

@@ -1,0 +1,74 @@
+ghost use Rattle.std.specs.Prelude.{◌≡◌, ◌≢◌, ℕ, ◌+◌, ◌^◌, ◌<◌, ◌≤◌, pos, length, get_or, unsigned_abs, MatchOption, IfOk};
+ghost use Rattle.e_simplex.specs.Multiple.{IsBad, IsGood, added, AddedTo};
+
+use std::alloc::{AllocError, Global};
+
+// first[j] + t * second[j]
+fn added_at(first: &[i128], second: &[i128], t: usize, j: usize) -> i128
+    requires here { j < length first.now }
+    requires there { j < length second.now }
+    requires few { t < 2 ^ 13 }
+    requires small_first { unsigned_abs (get_or first.now j (pos 0)) < 2 ^ 90 }
+    requires small_second { unsigned_abs (get_or second.now j (pos 0)) < 2 ^ 65 }
+    ensures { result ≡ added first.now second.now t j }
+{
+    first[j] + t as i128 * second[j]
+}
+
+// A place, of the first k, where t times the second list leaves 0.
+fn bad_place(first: &[i128], second: &[i128], k: usize, t: usize) -> Option<usize>
+    requires here { k ≤ length first.now }
+    requires there { k ≤ length second.now }
+    requires few { t < 2 ^ 13 }
+    requires small_first { (j : ℕ) → j < k → unsigned_abs (get_or first.now j (pos 0)) < 2 ^ 90 }
+    requires small_second { (j : ℕ) → j < k → unsigned_abs (get_or second.now j (pos 0)) < 2 ^ 65 }
+    ensures { MatchOption result (IsGood first.now second.now k t) (IsBad first.now second.now k t) }
+{
+    for j in 0..k {
+        if added_at(first, second, t, j) == 0 {
+            return Some(j);
+        }
+    }
+    None
+}
+
+// The least multiple from 1 on that leaves no 0 among the first k.
+pub fn least_multiple(first: &[i128], second: &[i128], k: usize) -> usize
+    requires here { k ≤ length first.now }
+    requires there { k ≤ length second.now }
+    requires few { k ≤ 4096 }
+    requires small_first { (j : ℕ) → j < k → unsigned_abs (get_or first.now j (pos 0)) < 2 ^ 90 }
+    requires small_second { (j : ℕ) → j < k → unsigned_abs (get_or second.now j (pos 0)) < 2 ^ 65 }
+    requires none_before { (j : ℕ) → j < k → get_or first.now j (pos 0) ≢ pos 0 }
+    ensures some { 0 < result }
+    ensures few { result ≤ k + 1 }
+    ensures good { IsGood first.now second.now k result }
+{
+    for t in 1..k + 2 {
+        match bad_place(first, second, k, t) {
+            None => return t,
+            Some(_) => {}
+        }
+    }
+    unreachable!()
+}
+
+/// Each number of the first list, and `t` times that of the second.
+pub fn combined(
+    alloc: Global,
+    first: &[i128],
+    second: &[i128],
+    t: usize,
+) -> Result<Vec<i128>, AllocError>
+    requires lengths { length first.now ≡ length second.now }
+    requires few { t < 2 ^ 13 }
+    requires small_first { (j : ℕ) → j < length first.now → unsigned_abs (get_or first.now j (pos 0)) < 2 ^ 90 }
+    requires small_second { (j : ℕ) → j < length second.now → unsigned_abs (get_or second.now j (pos 0)) < 2 ^ 65 }
+    ensures { IfOk result (λ v. AddedTo (length first.now) first.now second.now t v.items) }
+{
+    let mut all = Vec::new(alloc);
+    for j in 0..first.len() {
+        all.push(added_at(first, second, t, j))?;
+    }
+    Ok(all)
+}

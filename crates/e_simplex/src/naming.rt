@@ -1,0 +1,131 @@
+//! Terms and their columns.
+
+ghost use Rattle.std.specs.Prelude.{◌≡◌, ◌+◌, ◌<◌, ◌≤◌, ◌^◌, IfOk, IsTrue, length, take};
+ghost use Rattle.e_literal.specs.declared.object.Term.{Term};
+ghost use Rattle.e_fraction.specs.Views.{says_of, all_seen};
+ghost use Rattle.e_fraction.specs.Limits.{has_small_coefficients, all_small};
+ghost use Rattle.e_simplex.specs.Lines.{IsSmallLine, AllSmallLines};
+ghost use Rattle.e_simplex.specs.Naming.{place_of, IsIn, AreOnce, FormNamed, AllNamed, named_form, named_lines};
+
+use crate::lines::{Kind, Line, Monomial};
+use e_fraction::{Row, RowKind};
+use e_literal::{Items, Term};
+use std::alloc::{AllocError, Global};
+
+/// Whether no form has more than 2^32 terms.
+pub fn have_short_forms(rows: &[Row]) -> bool
+    ensures { result ≡ Rattle.e_simplex.specs.Naming.have_short_forms rows.now }
+{
+    rows.iter()
+        .all(|row| row.form.summands().len() <= 0x1_0000_0000)
+}
+
+/// Where the term stands first, or how many terms there are.
+pub fn place(terms: &[Term], term: Term) -> usize
+    ensures value { result ≡ place_of terms.now term }
+    ensures counted { length terms.now < 2 ^ 64 }
+{
+    for i in 0..terms.len() {
+        if terms[i] == term {
+            return i;
+        }
+    }
+    terms.len()
+}
+
+/// The terms of the first `i` rows, and those of the next that are not among them.
+fn with_terms(mut terms: Vec<Term>, rows: &[Row], i: usize) -> Result<Vec<Term>, AllocError>
+    requires here { i < length rows.now }
+    requires once { AreOnce terms.items }
+    requires before { AllNamed terms.items (all_seen (take i rows.now)) }
+    ensures once { IfOk result (λ v. AreOnce v.items) }
+    ensures all { IfOk result (λ v. AllNamed v.items (all_seen (take (i + 1) rows.now))) }
+{
+    let form = rows[i].form.summands();
+    for k in 0..form.len() {
+        let term = form[k].1;
+        if place(&terms, term) == terms.len() {
+            terms.push(term)?;
+        }
+    }
+    Ok(terms)
+}
+
+/// The terms of the rows, each once, in the order in which they stand first.
+pub fn terms_of(alloc: Global, rows: &[Row]) -> Result<Vec<Term>, AllocError>
+    ensures once { IfOk result (λ v. AreOnce v.items) }
+    ensures all { IfOk result (λ v. AllNamed v.items (all_seen rows.now)) }
+{
+    let mut terms = Vec::new(alloc);
+    for i in 0..rows.len() {
+        terms = with_terms(terms, rows, i)?;
+    }
+    Ok(terms)
+}
+
+fn kind_of(kind: RowKind) -> Kind
+    ensures { result ≡ Rattle.e_simplex.specs.Naming.kind_of (says_of kind) }
+{
+    match kind {
+        RowKind::Zero => Kind::Zero,
+        RowKind::AtLeast => Kind::AtLeast,
+        RowKind::More | RowKind::Not => Kind::More,
+    }
+}
+
+/// The line of a row.
+fn named_line(alloc: Global, row: &Row, terms: &[Term]) -> Result<Line, AllocError>
+    requires once { AreOnce terms.now }
+    requires named { FormNamed terms.now row.now.form }
+    requires coefficients { IsTrue (has_small_coefficients row.now.form) }
+    requires short { length row.now.form ≤ 2 ^ 32 }
+    ensures small { IfOk result IsSmallLine }
+    ensures kind { IfOk result (λ l. l.kind ≡ Rattle.e_simplex.specs.Naming.kind_of (says_of row.now.kind)) }
+    ensures form { IfOk result (λ l. l.form ≡ named_form terms.now row.now.form) }
+{
+    let summands = row.form.summands();
+    let mut form = Vec::new(alloc);
+    for k in 0..summands.len() {
+        form.push(Monomial {
+            coefficient: summands[k].0,
+            column: place(terms, summands[k].1) + 1,
+        })?;
+    }
+    Ok(Line {
+        kind: kind_of(row.kind),
+        form: Items::new(form),
+    })
+}
+
+/// Whether the row is wanted: one that says `not 0`, or another.
+pub fn keeps(not: bool, kind: RowKind) -> bool
+    ensures { result ≡ Rattle.e_simplex.specs.Naming.keeps not (says_of kind) }
+{
+    match kind {
+        RowKind::Not => not,
+        RowKind::Zero | RowKind::AtLeast | RowKind::More => !not,
+    }
+}
+
+/// The lines of the rows that say `not 0`, or of the others.
+pub fn lines_where(
+    alloc: Global,
+    not: bool,
+    terms: &[Term],
+    rows: &[Row],
+) -> Result<Vec<Line>, AllocError>
+    requires once { AreOnce terms.now }
+    requires named { AllNamed terms.now (all_seen rows.now) }
+    requires coefficients { IsTrue (all_small rows.now) }
+    requires short { IsTrue (Rattle.e_simplex.specs.Naming.have_short_forms rows.now) }
+    ensures value { IfOk result (λ v. v.items ≡ named_lines not terms.now (all_seen rows.now)) }
+    ensures small { IfOk result (λ v. AllSmallLines v.items) }
+{
+    let mut lines = Vec::new(alloc);
+    for i in 0..rows.len() {
+        if keeps(not, rows[i].kind) {
+            lines.push(named_line(alloc, &rows[i], terms)?)?;
+        }
+    }
+    Ok(lines)
+}

@@ -1,0 +1,211 @@
+//! Lines with a table in which every row holds, and what comes of one line more.
+
+ghost use Rattle.std.specs.Prelude.{◌≡◌, ◌+◌, ◌^◌, ◌<◌, ◌≤◌, ◌++◌, ◌∷◌, [], length, IfOk, MatchOption};
+ghost use Rattle.e_simplex.specs.Lines.{numbers, FixedTo, AllSmallLines, AllFormsWithin, IsSolution, rows_of};
+ghost use Rattle.e_fraction.specs.Det.{IsWide};
+ghost use Rattle.e_simplex.specs.Ends.{IsTableOf};
+ghost use Rattle.e_simplex.specs.Solved.{IsSolved, IsOutcome, IsFit, lines_of, columns_of, AreBelow, WideFurther};
+ghost use Rattle.e_simplex.specs.Entries.{AllSmall};
+
+use crate::further::joined;
+use crate::lines::{Line, is_zero};
+use crate::readings::{values, weights};
+use crate::solve::{End, Table, solve};
+use e_literal::Items;
+use std::alloc::{AllocError, Global};
+
+/// Lines, which numbers are fixed at 0, and a table in which every row holds.
+#[derive(Drop)]
+pub struct Solved {
+    lines: Vec<Line>,
+    fixed: Vec<bool>,
+    table: Table,
+}
+
+/// What comes of lines: every one holds, or multipliers refute them, or a minor is large.
+#[derive(Drop)]
+pub enum Outcome {
+    Holds(Solved),
+    Absurd(Vec<i128>),
+    TooWide,
+}
+
+/// `count` numbers from 0 on.
+fn count_up(alloc: Global, count: usize) -> Result<Vec<usize>, AllocError>
+    ensures { IfOk result (λ v. v.items ≡ numbers 0 count) }
+{
+    let mut all = Vec::new(alloc);
+    for i in 0..count {
+        all.push(i)?;
+    }
+    Ok(all)
+}
+
+/// Which columns are fixed at 0: that of the constants, and those of the slacks of lines that say 0.
+fn fixed_columns(alloc: Global, lines: &[Line], w: usize) -> Result<Vec<bool>, AllocError>
+    requires some { 0 < w }
+    requires counted { w + length lines.now < 2 ^ 64 }
+    ensures { IfOk result (λ v. FixedTo (w + length lines.now) lines.now w v.items) }
+{
+    let mut fixed = Vec::new(alloc);
+    for c in 0..w + lines.len() {
+        let is_fixed = if c == 0 {
+            true
+        } else if c < w {
+            false
+        } else {
+            is_zero(lines[c - w].kind)
+        };
+        fixed.push(is_fixed)?;
+    }
+    Ok(fixed)
+}
+
+/// The table of no line.
+fn empty_table(alloc: Global, w: usize) -> Result<Table, AllocError>
+    requires { 0 < w }
+    ensures { IfOk result (IsTableOf [] w) }
+{
+    let columns = count_up(alloc, w)?;
+    Ok(Table {
+        basis: Vec::new(alloc),
+        columns,
+        entries: Vec::new(alloc),
+        det: 1,
+    })
+}
+
+/// The table of all lines; None where an entry has size at least 2^63.
+fn first_table(alloc: Global, lines: &[Line], w: usize) -> Result<Option<Table>, AllocError>
+    requires { IsFit w lines.now }
+    ensures { IfOk result (λ o. MatchOption o (IsWide (rows_of lines.now) w (2 ^ 63)) (IsTableOf lines.now w)) }
+{
+    let mut table = empty_table(alloc, w)?;
+    for i in 0..lines.len() {
+        match joined(alloc, lines, i, table)? {
+            Some(more) => table = more,
+            None => return Ok(None),
+        }
+    }
+    Ok(Some(table))
+}
+
+/// What comes of lines whose table is sound.
+fn concluded(
+    alloc: Global,
+    lines: Vec<Line>,
+    fixed: Vec<bool>,
+    table: Table,
+) -> Result<Outcome, AllocError>
+    requires fit { IsFit (length table.columns.items) lines.items }
+    requires fix { FixedTo (length table.columns.items + length lines.items) lines.items (length table.columns.items) fixed.items }
+    requires table { IsTableOf lines.items (length table.columns.items) table }
+    ensures { IfOk result (IsOutcome (length table.columns.items) lines.items) }
+{
+    match solve(alloc, &lines, table, &fixed)? {
+        End::TooWide => Ok(Outcome::TooWide),
+        End::Holds(table) => Ok(Outcome::Holds(Solved {
+            lines,
+            fixed,
+            table,
+        })),
+        End::Absurd(table, row) => {
+            let found = weights(
+                alloc,
+                &table.basis,
+                &table.columns,
+                &table.entries,
+                table.det,
+                row,
+            )?;
+            Ok(Outcome::Absurd(found))
+        }
+    }
+}
+
+/// What comes of lines.
+pub fn solve_lines(alloc: Global, lines: Vec<Line>, w: usize) -> Result<Outcome, AllocError>
+    requires { IsFit w lines.items }
+    ensures { IfOk result (IsOutcome w lines.items) }
+{
+    match first_table(alloc, &lines, w)? {
+        None => Ok(Outcome::TooWide),
+        Some(table) => {
+            let fixed = fixed_columns(alloc, &lines, w)?;
+            concluded(alloc, lines, fixed, table)
+        }
+    }
+}
+
+/// An equal line.
+fn copy_of_line(alloc: Global, line: &Line) -> Result<Line, AllocError>
+    ensures { IfOk result (λ l. l ≡ line.now) }
+{
+    Ok(Line {
+        kind: line.kind,
+        form: Items::new(Vec::from_slice(alloc, line.form.items())?),
+    })
+}
+
+/// The lines, and one more.
+fn lines_with(alloc: Global, lines: &[Line], line: &Line) -> Result<Vec<Line>, AllocError>
+    ensures { IfOk result (λ v. v.items ≡ lines.now ++ line.now ∷ []) }
+{
+    let mut all = Vec::new(alloc);
+    for old in lines {
+        all.push(copy_of_line(alloc, old)?)?;
+    }
+    all.push(copy_of_line(alloc, line)?)?;
+    Ok(all)
+}
+
+fn copy_of_table(alloc: Global, table: &Table) -> Result<Table, AllocError>
+    ensures basis { IfOk result (λ t. t.basis.items ≡ table.now.basis.items) }
+    ensures columns { IfOk result (λ t. t.columns.items ≡ table.now.columns.items) }
+    ensures entries { IfOk result (λ t. t.entries.items ≡ table.now.entries.items) }
+    ensures det { IfOk result (λ t. t.det ≡ table.now.det) }
+{
+    Ok(Table {
+        basis: Vec::from_slice(alloc, &table.basis)?,
+        columns: Vec::from_slice(alloc, &table.columns)?,
+        entries: Vec::from_slice(alloc, &table.entries)?,
+        det: table.det,
+    })
+}
+
+impl Solved {
+    /// What comes of the lines and one more. The solved table stays as it is.
+    pub fn with(&self, alloc: Global, line: &Line) -> Result<Outcome, AllocError>
+        requires solved { IsSolved (columns_of self.now) (lines_of self.now) self.now }
+        requires fit { IsFit (columns_of self.now) (lines_of self.now ++ line.now ∷ []) }
+        ensures { IfOk result (IsOutcome (columns_of self.now) (lines_of self.now ++ line.now ∷ [])) }
+    {
+        let w = self.table.columns.len();
+        let lines = lines_with(alloc, &self.lines, line)?;
+        let table = copy_of_table(alloc, &self.table)?;
+        match joined(alloc, &lines, self.lines.len(), table)? {
+            None => Ok(Outcome::TooWide),
+            Some(table) => {
+                let fixed = fixed_columns(alloc, &lines, w)?;
+                concluded(alloc, lines, fixed, table)
+            }
+        }
+    }
+
+    /// The values of the columns.
+    pub fn values(&self, alloc: Global) -> Result<Vec<i128>, AllocError>
+        requires { IsSolved (columns_of self.now) (lines_of self.now) self.now }
+        ensures solution { IfOk result (λ v. IsSolution (columns_of self.now) (lines_of self.now) v.items) }
+        ensures small { IfOk result (λ v. AllSmall v.items) }
+        ensures bounded { IfOk result (λ v. AreBelow (2 ^ 64) (lines_of self.now) v.items) }
+        ensures further { IfOk result (λ v. WideFurther (columns_of self.now) (lines_of self.now) v.items) }
+    {
+        let found = values(
+            alloc,
+            &self.table.basis,
+            &self.table.entries,
+            self.table.columns.len(),
+        )?;
+        Ok(found)
+    }
+}

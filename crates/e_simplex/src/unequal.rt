@@ -1,0 +1,108 @@
+//! Values at which a form is not 0: it is tried as more than 0, and as less than 0.
+
+ghost use Rattle.std.specs.Prelude.{◌≡◌, ◌^◌, ◌≤◌, ◌++◌, ◌∷◌, [], neg_ℤ, length, unsigned_abs, true, false, ◌<◌, IfOk, MatchOption};
+ghost use Rattle.e_simplex.specs.declared.lines.Kind.TheVariants.{More};
+ghost use Rattle.e_simplex.specs.Entries.{AllSmall};
+ghost use Rattle.e_simplex.specs.Lines.{IsSmallLine, AllSmallLines, AllFormsWithin};
+ghost use Rattle.e_simplex.specs.Solved.{IsSolved, IsFit, columns_of, lines_of};
+ghost use Rattle.e_simplex.specs.Tried.{negated, IsTried, AreValues, AreBelowBut, IsLargeAt};
+
+use crate::lines::{Kind, Line, Monomial, value_of};
+use crate::solved::{Outcome, Solved};
+use e_literal::Items;
+use std::alloc::{AllocError, Global};
+
+/// Values at which the form is not 0, or multipliers that refute that it is more, and that it is less.
+#[derive(Drop)]
+pub enum Tried {
+    Found(Vec<i128>),
+    Neither(Vec<i128>, Vec<i128>),
+    TooWide,
+}
+
+fn turned_round(x: &Monomial) -> Monomial
+    requires { unsigned_abs x.now.coefficient ≤ 2 ^ 30 }
+    ensures coefficient { result.coefficient ≡ neg_ℤ x.now.coefficient }
+    ensures column { result.column ≡ x.now.column }
+{
+    Monomial {
+        coefficient: -x.coefficient,
+        column: x.column,
+    }
+}
+
+/// The line that says that the form is less than 0.
+fn negative(alloc: Global, line: &Line) -> Result<Line, AllocError>
+    requires { IsSmallLine line.now }
+    ensures kind { IfOk result (λ l. l.kind ≡ More) }
+    ensures form { IfOk result (λ l. l.form ≡ negated line.now.form) }
+{
+    let mut form = Vec::new(alloc);
+    for x in line.form.items() {
+        form.push(turned_round(x))?;
+    }
+    Ok(Line {
+        kind: Kind::More,
+        form: Items::new(form),
+    })
+}
+
+/// Tries the form of a line that says `more` as more than 0, and then as less, beside the solved lines.
+pub fn try_both(alloc: Global, solved: &Solved, line: &Line) -> Result<Tried, AllocError>
+    requires solved { IsSolved (columns_of solved.now) (lines_of solved.now) solved.now }
+    requires fit { IsFit (columns_of solved.now) (lines_of solved.now ++ line.now ∷ []) }
+    requires more { line.now.kind ≡ More }
+    ensures { IfOk result (IsTried (columns_of solved.now) (lines_of solved.now) line.now) }
+{
+    match solved.with(alloc, line)? {
+        Outcome::Holds(more) => {
+            let found = more.values(alloc)?;
+            Ok(Tried::Found(found))
+        }
+        Outcome::TooWide => Ok(Tried::TooWide),
+        Outcome::Absurd(above) => {
+            let turned = negative(alloc, line)?;
+            match solved.with(alloc, &turned)? {
+                Outcome::Holds(more) => {
+                    let found = more.values(alloc)?;
+                    Ok(Tried::Found(found))
+                }
+                Outcome::TooWide => Ok(Tried::TooWide),
+                Outcome::Absurd(below) => Ok(Tried::Neither(above, below)),
+            }
+        }
+    }
+}
+
+/// The values of the lines' forms.
+pub fn values_at(alloc: Global, forms: &[Line], values: &[i128]) -> Result<Vec<i128>, AllocError>
+    requires small { AllSmallLines forms.now }
+    requires within { AllFormsWithin (length values.now) forms.now }
+    requires values { AllSmall values.now }
+    ensures { IfOk result (λ v. AreValues (length forms.now) forms.now values.now v.items) }
+{
+    let mut all = Vec::new(alloc);
+    for j in 0..forms.len() {
+        all.push(value_of(forms[j].form.items(), values))?;
+    }
+    Ok(all)
+}
+
+fn is_large(x: i128) -> bool
+    ensures large { result ≡ true → 2 ^ 64 ≤ unsigned_abs x }
+    ensures small { result ≡ false → unsigned_abs x < 2 ^ 64 }
+{
+    x <= -0x1_0000_0000_0000_0000 || 0x1_0000_0000_0000_0000 <= x
+}
+
+/// A place, other than one, of a number of size at least 2^64.
+pub fn large_place(xs: &[i128], but: usize) -> Option<usize>
+    ensures { MatchOption result (AreBelowBut xs.now but) (IsLargeAt xs.now but) }
+{
+    for j in 0..xs.len() {
+        if j != but && is_large(xs[j]) {
+            return Some(j);
+        }
+    }
+    None
+}
