@@ -1,0 +1,33 @@
+"""Runs the linear decision on systems made from seeds, and prints a table of their times and memory."""
+
+import os
+import resource
+import subprocess
+import sys
+import time
+
+SIZES = ((20, 10), (50, 30), (100, 60), (200, 150), (400, 200), (1000, 500))
+SEEDS = (1, 2, 3)
+
+
+def run(program, words):
+    """Seconds, peak KiB and the line of one run, which goes through a shell of its own so that its peak is its own."""
+    start = time.perf_counter()
+    child = subprocess.Popen([program, *words], stdout=subprocess.PIPE)
+    line = child.stdout.read().decode().strip()
+    _, status, usage = os.wait4(child.pid, 0)
+    child.returncode = status
+    return time.perf_counter() - start, usage.ru_maxrss, line
+
+
+def main(program):
+    print("%5s %5s %-5s %9s %9s  %s" % ("rows", "terms", "end", "seconds", "peak KiB", "answer"))
+    for rows, terms in SIZES:
+        for end in ("open", "shut"):
+            runs = [run(program, [str(rows), str(terms), str(seed), end]) for seed in SEEDS]
+            worst = max(runs)
+            print("%5d %5d %-5s %9.3f %9d  %s" % (rows, terms, end, worst[0], worst[1], "; ".join(r[2] for r in runs)))
+
+
+if __name__ == "__main__":
+    main(sys.argv[1])
