@@ -496,3 +496,17 @@ fn both_signs_are_refuted(rt: HostRuntime) -> Result<(), Fail> {
     }
     Ok(())
 }
+
+#[test]
+fn a_wide_system_is_told(rt: HostRuntime) -> Result<(), Fail> {
+    let system = [
+        (More, [1, 0, 0, 0]),
+        (Zero, [-1_073_741_824, 1, 0, 0]),
+        (Zero, [0, -1_073_741_824, 1, 0]),
+        (Zero, [0, 0, -1_073_741_824, 1]),
+    ];
+    match verdict(&rt, rt.alloc(), &system)? {
+        Verdict::TooWide => Ok(()),
+        _ => panic!(rt; "a value of 2^90 is told"),
+    }
+}
