@@ -10,8 +10,7 @@ use e_fraction::{Row, RowKind, Signed, are_distinct, have_small_coefficients};
 use e_literal::Term;
 use e_simplex::{Absurdity, Verdict, decide, have_short_forms};
 use std::alloc::{AllocError, Global};
-use std::env;
-use std::io;
+use std::{env, io};
 
 /// What is asked.
 #[derive(Clone, Copy)]
