@@ -1,4 +1,7 @@
-"""Runs the linear decision on systems made from seeds, and prints a table of their times and memory."""
+"""Runs the linear decision on systems made from seeds, and prints a table of their times and memory.
+
+The peak that the system tells of a child is never below that of this interpreter, so it is an upper bound of the program's own.
+"""
 
 import os
 import resource
@@ -11,7 +14,7 @@ SEEDS = (1, 2, 3)
 
 
 def run(program, words):
-    """Seconds, peak KiB and the line of one run, which goes through a shell of its own so that its peak is its own."""
+    """Seconds, the peak in KiB and the line of one run."""
     start = time.perf_counter()
     child = subprocess.Popen([program, *words], stdout=subprocess.PIPE)
     line = child.stdout.read().decode().strip()
@@ -21,7 +24,7 @@ def run(program, words):
 
 
 def main(program):
-    print("%5s %5s %-5s %9s %9s  %s" % ("rows", "terms", "end", "seconds", "peak KiB", "answer"))
+    print("%5s %5s %-5s %9s %9s  %s" % ("rows", "terms", "end", "seconds", "KiB below", "answer"))
     for rows, terms in SIZES:
         for end in ("open", "shut"):
             runs = [run(program, [str(rows), str(terms), str(seed), end]) for seed in SEEDS]
