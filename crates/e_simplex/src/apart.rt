@@ -81,6 +81,7 @@ fn next_kept(
     forms: &[Line],
     k: usize,
     kept: &Kept,
+    pivots: &mut u64,
 ) -> Result<Step, AllocError>
     requires solved { IsSolved (columns_of solved.now) (lines_of solved.now) solved.now }
     requires forms { AreFurther (columns_of solved.now) (lines_of solved.now) forms.now }
@@ -89,7 +90,7 @@ fn next_kept(
     requires none { get_or kept.now.held.items k (pos 0) ≡ pos 0 }
     ensures { IfOk result (IsStep (columns_of solved.now) (lines_of solved.now) forms.now k) }
 {
-    match try_both(alloc, solved, &forms[k])? {
+    match try_both(alloc, solved, &forms[k], pivots)? {
         Tried::TooWide => Ok(Step::TooWide),
         Tried::Neither(above, below) => Ok(Step::Neither(above, below)),
         Tried::Found(found) => match moved(alloc, forms, k, &kept.values, &kept.held, &found)? {
@@ -100,7 +101,12 @@ fn next_kept(
 }
 
 /// Values that satisfy the solved lines and at which no form is 0.
-pub fn keep_apart(alloc: Global, solved: &Solved, forms: &[Line]) -> Result<Apart, AllocError>
+pub fn keep_apart(
+    alloc: Global,
+    solved: &Solved,
+    forms: &[Line],
+    pivots: &mut u64,
+) -> Result<Apart, AllocError>
     requires solved { IsSolved (columns_of solved.now) (lines_of solved.now) solved.now }
     requires forms { AreFurther (columns_of solved.now) (lines_of solved.now) forms.now }
     ensures { IfOk result (IsApart (columns_of solved.now) (lines_of solved.now) forms.now) }
@@ -109,7 +115,7 @@ pub fn keep_apart(alloc: Global, solved: &Solved, forms: &[Line]) -> Result<Apar
     let held = values_at(alloc, forms, &values)?;
     match large_place(&held, forms.len()) {
         Some(_) => Ok(Apart::TooWide),
-        None => kept_apart(alloc, solved, forms, Kept { values, held }),
+        None => kept_apart(alloc, solved, forms, Kept { values, held }, pivots),
     }
 }
 
@@ -118,6 +124,7 @@ fn kept_apart(
     solved: &Solved,
     forms: &[Line],
     mut kept: Kept,
+    pivots: &mut u64,
 ) -> Result<Apart, AllocError>
     requires solved { IsSolved (columns_of solved.now) (lines_of solved.now) solved.now }
     requires forms { AreFurther (columns_of solved.now) (lines_of solved.now) forms.now }
@@ -126,7 +133,7 @@ fn kept_apart(
 {
     for k in 0..forms.len() {
         if kept.held[k] == 0 {
-            match next_kept(alloc, solved, forms, k, &kept)? {
+            match next_kept(alloc, solved, forms, k, &kept, pivots)? {
                 Step::Moved(more) => kept = more,
                 Step::Neither(above, below) => return Ok(Apart::Neither(k, above, below)),
                 Step::TooWide => return Ok(Apart::TooWide),

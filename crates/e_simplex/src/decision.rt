@@ -80,6 +80,7 @@ fn told_apart(
     rows: &[Row],
     terms: &[Term],
     solved: &Solved,
+    pivots: &mut u64,
 ) -> Result<Verdict, AllocError>
     requires few { length rows.now ≤ 4096 }
     requires coefficients { IsTrue (all_small rows.now) }
@@ -91,7 +92,7 @@ fn told_apart(
     ensures { IfOk result (IsVerdict (all_seen rows.now)) }
 {
     let forms = lines_where(alloc, true, terms, rows)?;
-    match keep_apart(alloc, solved, &forms)? {
+    match keep_apart(alloc, solved, &forms, pivots)? {
         Apart::TooWide => Ok(Verdict::TooWide),
         Apart::Found(values) => {
             let values = named_values(alloc, terms, &values)?;
@@ -119,16 +120,30 @@ pub fn decide(alloc: Global, rows: &[Row]) -> Result<Verdict, AllocError>
     ensures holds { IfOk result (λ v. ¬ IsWide (all_seen rows.now) → HasSolution (all_seen rows.now) → IsHolds v) }
     ensures absurd { IfOk result (λ v. ¬ IsWide (all_seen rows.now) → ¬ HasSolution (all_seen rows.now) → IsAbsurd v) }
 {
+    let mut pivots = 0;
+    let verdict = decide_counting(alloc, rows, &mut pivots)?;
+    Ok(verdict)
+}
+
+/// [`decide`], which adds the pivots that it takes to `pivots`: a measure of the work, of which no clause speaks.
+pub fn decide_counting(alloc: Global, rows: &[Row], pivots: &mut u64) -> Result<Verdict, AllocError>
+    requires few { length rows.now ≤ 4096 }
+    requires coefficients { IsTrue (all_small rows.now) }
+    requires short { IsTrue (Rattle.e_simplex.specs.Naming.have_short_forms rows.now) }
+    ensures verdict { IfOk result (IsVerdict (all_seen rows.now)) }
+    ensures holds { IfOk result (λ v. ¬ IsWide (all_seen rows.now) → HasSolution (all_seen rows.now) → IsHolds v) }
+    ensures absurd { IfOk result (λ v. ¬ IsWide (all_seen rows.now) → ¬ HasSolution (all_seen rows.now) → IsAbsurd v) }
+{
     let terms = terms_of(alloc, rows)?;
     let lines = lines_where(alloc, false, &terms, rows)?;
-    match solve_lines(alloc, lines, terms.len() + 1)? {
+    match solve_lines(alloc, lines, terms.len() + 1, pivots)? {
         Outcome::TooWide => Ok(Verdict::TooWide),
         Outcome::Absurd(weights) => {
             let multipliers = spread(alloc, rows, &weights, 0, 0)?;
             Ok(Verdict::Absurd(Absurdity::One(multipliers)))
         }
         Outcome::Holds(solved) => {
-            let told = told_apart(alloc, rows, &terms, &solved)?;
+            let told = told_apart(alloc, rows, &terms, &solved, pivots)?;
             Ok(told)
         }
     }

@@ -20,6 +20,6 @@ pub mod spread;
 mod tests;
 pub mod unequal;
 
-pub use decision::{Absurdity, Verdict, decide};
+pub use decision::{Absurdity, Verdict, decide, decide_counting};
 pub use e_fraction::widths::width;
 pub use naming::have_short_forms;

@@ -96,13 +96,14 @@ fn concluded(
     lines: Vec<Line>,
     fixed: Vec<bool>,
     table: Table,
+    pivots: &mut u64,
 ) -> Result<Outcome, AllocError>
     requires fit { IsFit (length table.columns.items) lines.items }
     requires fix { FixedTo (length table.columns.items + length lines.items) lines.items (length table.columns.items) fixed.items }
     requires table { IsTableOf lines.items (length table.columns.items) table }
     ensures { IfOk result (IsOutcome (length table.columns.items) lines.items) }
 {
-    match solve(alloc, &lines, table, &fixed)? {
+    match solve(alloc, &lines, table, &fixed, pivots)? {
         End::TooWide => Ok(Outcome::TooWide),
         End::Holds(table) => Ok(Outcome::Holds(Solved {
             lines,
@@ -123,8 +124,13 @@ fn concluded(
     }
 }
 
-/// What comes of lines.
-pub fn solve_lines(alloc: Global, lines: Vec<Line>, w: usize) -> Result<Outcome, AllocError>
+/// What comes of lines. The pivots that it takes are added to `pivots`.
+pub fn solve_lines(
+    alloc: Global,
+    lines: Vec<Line>,
+    w: usize,
+    pivots: &mut u64,
+) -> Result<Outcome, AllocError>
     requires { IsFit w lines.items }
     ensures { IfOk result (IsOutcome w lines.items) }
 {
@@ -132,7 +138,7 @@ pub fn solve_lines(alloc: Global, lines: Vec<Line>, w: usize) -> Result<Outcome,
         None => Ok(Outcome::TooWide),
         Some(table) => {
             let fixed = fixed_columns(alloc, &lines, w)?;
-            concluded(alloc, lines, fixed, table)
+            concluded(alloc, lines, fixed, table, pivots)
         }
     }
 }
@@ -174,8 +180,8 @@ fn copy_of_table(alloc: Global, table: &Table) -> Result<Table, AllocError>
 }
 
 impl Solved {
-    /// What comes of the lines and one more. The solved table stays as it is.
-    pub fn with(&self, alloc: Global, line: &Line) -> Result<Outcome, AllocError>
+    /// What comes of the lines and one more. The solved table stays as it is, and the pivots are added to `pivots`.
+    pub fn with(&self, alloc: Global, line: &Line, pivots: &mut u64) -> Result<Outcome, AllocError>
         requires solved { IsSolved (columns_of self.now) (lines_of self.now) self.now }
         requires fit { IsFit (columns_of self.now) (lines_of self.now ++ line.now ∷ []) }
         ensures { IfOk result (IsOutcome (columns_of self.now) (lines_of self.now ++ line.now ∷ [])) }
@@ -187,7 +193,7 @@ impl Solved {
             None => Ok(Outcome::TooWide),
             Some(table) => {
                 let fixed = fixed_columns(alloc, &lines, w)?;
-                concluded(alloc, lines, fixed, table)
+                concluded(alloc, lines, fixed, table, pivots)
             }
         }
     }

@@ -48,13 +48,18 @@ fn negative(alloc: Global, line: &Line) -> Result<Line, AllocError>
 }
 
 /// Tries the form of a line that says `more` as more than 0, and then as less, beside the solved lines.
-pub fn try_both(alloc: Global, solved: &Solved, line: &Line) -> Result<Tried, AllocError>
+pub fn try_both(
+    alloc: Global,
+    solved: &Solved,
+    line: &Line,
+    pivots: &mut u64,
+) -> Result<Tried, AllocError>
     requires solved { IsSolved (columns_of solved.now) (lines_of solved.now) solved.now }
     requires fit { IsFit (columns_of solved.now) (lines_of solved.now ++ line.now ∷ []) }
     requires more { line.now.kind ≡ More }
     ensures { IfOk result (IsTried (columns_of solved.now) (lines_of solved.now) line.now) }
 {
-    match solved.with(alloc, line)? {
+    match solved.with(alloc, line, pivots)? {
         Outcome::Holds(more) => {
             let found = more.values(alloc)?;
             Ok(Tried::Found(found))
@@ -62,7 +67,7 @@ pub fn try_both(alloc: Global, solved: &Solved, line: &Line) -> Result<Tried, Al
         Outcome::TooWide => Ok(Tried::TooWide),
         Outcome::Absurd(above) => {
             let turned = negative(alloc, line)?;
-            match solved.with(alloc, &turned)? {
+            match solved.with(alloc, &turned, pivots)? {
                 Outcome::Holds(more) => {
                     let found = more.values(alloc)?;
                     Ok(Tried::Found(found))

@@ -5,6 +5,8 @@ mod blocks;
 mod checker;
 mod input;
 pub mod laws;
+#[cfg(test)]
+mod limit_tests;
 mod output;
 mod runner;
 mod status;

@@ -8,7 +8,7 @@ ghost use Rattle.std.specs.Prelude.{◌<◌};
 
 use e_fraction::{Row, RowKind, Signed, are_distinct, have_small_coefficients};
 use e_literal::Term;
-use e_simplex::{Absurdity, Verdict, decide, have_short_forms};
+use e_simplex::{Absurdity, Verdict, decide_counting, have_short_forms};
 use std::alloc::{AllocError, Global};
 use std::{env, io};
 
@@ -99,12 +99,12 @@ fn system(alloc: Global, size: Size) -> Result<Vec<Row>, AllocError> {
     Ok(rows)
 }
 
-/// How the rows come out, in a word.
-fn word(alloc: Global, rows: &[Row]) -> Result<&'static str, AllocError> {
+/// How the rows come out, in a word. The pivots that it takes are added to `pivots`.
+fn word(alloc: Global, rows: &[Row], pivots: &mut u64) -> Result<&'static str, AllocError> {
     if rows.len() > 4096 || !have_small_coefficients(rows) || !have_short_forms(rows) {
         return Ok("not asked");
     }
-    match decide(alloc, rows)? {
+    match decide_counting(alloc, rows, pivots)? {
         Verdict::Holds(_) => Ok("holds"),
         Verdict::Absurd(Absurdity::One(_)) => Ok("absurd"),
         Verdict::Absurd(Absurdity::Two { .. }) => Ok("absurd, by two sums"),
@@ -132,6 +132,7 @@ fn main(rt: HostRuntime) -> io::Result<()> {
     };
     let rows = system(alloc, size)?;
     let count = rows.len();
-    let answer = word(alloc, &rows)?;
-    println!(rt; "{count} rows: {answer}")
+    let mut pivots = 0;
+    let answer = word(alloc, &rows, &mut pivots)?;
+    println!(rt; "{count} rows: {answer}, {pivots} pivots")
 }

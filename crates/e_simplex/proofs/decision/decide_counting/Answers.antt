@@ -11,7 +11,7 @@ use Rattle.e_simplex.proofs.Picked.{wide_main}
 use Rattle.e_simplex.proofs.Assigning.{none_one}
 use Rattle.e_simplex.proofs.NamedLines.{fit_lines}
 use Rattle.e_simplex.proofs.Refuting.{length_seen, refutes_one, law_holds, law_absurd}
-use Rattle.e_simplex.proofs.decision.decide.Goals as goal
+use Rattle.e_simplex.proofs.decision.decide_counting.Goals as goal
 
 pub solve_lines-requires : goal.solve_lines-requires
 solve_lines-requires c =
