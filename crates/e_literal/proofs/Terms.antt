@@ -105,6 +105,16 @@ pub among_right : (xs ys : List Term) (t : Term) → is_among ys t ≡ true → 
 among_right [] ys t h = h
 among_right (x ∷ xs) ys t h = or_right (term_eq t x) (is_among (xs ++ ys) t) (among_right xs ys t h)
 
+pub among_either : (xs ys : List Term) (t : Term) → is_among (xs ++ ys) t ≡ true → (is_among xs t ≡ true) ⊎ (is_among ys t ≡ true)
+among_either [] ys t h = inr h
+among_either (x ∷ xs) ys t h = elim (or_either (term_eq t x) (is_among (xs ++ ys) t) h) [
+  | inl e ↦ inl (or_left (term_eq t x) (is_among xs t) e)
+  | inr b ↦ elim (among_either xs ys t b) [
+    | inl k ↦ inl (or_right (term_eq t x) (is_among xs t) k)
+    | inr k ↦ inr k
+  ]
+]
+
 pub among_first : (x : Term) (xs : List Term) → is_among (x ∷ xs) x ≡ true
 among_first x xs = or_left (term_eq x x) (is_among xs x) (term_eq_same x)
 
