@@ -1,6 +1,6 @@
 -- A model makes each row so that may be used, and so no sum refutes where there is one.
 use Rattle.std.proofs.Common.{◌≡◌, ◌≢◌, ℕ, zero, suc, ◌+◌, ◌*◌, ◌≤◌, List, [], ◌∷◌, ◌++◌, map, refl, sym, ap, ap₂, ◌∙◌, subst, arith, Option, Some, None, Bool, true, false, not, cond, ◌&&◌, ◌||◌, true≢false, ◌⊎◌, inl, inr}
-use Rattle.std.specs.Prelude.{filter_map, flat_map, option_and_then}
+use Rattle.std.specs.Prelude.{filter_map, flat_map, option_and_then, is_some}
 use Rattle.std.specs.Option.{option_map_or, option_map}
 use Rattle.std.specs.List.{list_all, list_any}
 use lib.IntN.{ℤ, pos, negsuc, ◌+ℤ◌, ◌*ℤ◌, neg_ℤ}
@@ -39,10 +39,10 @@ pub option_split : {A : Type 0} (o : Option A) → (o ≡ None) ⊎ ((a : A) × 
 option_split None = inl refl
 option_split (Some a) = inr (a, refl)
 
-none_is : {A : Type 0} (a : A) → None ≡ Some a → ⊥
+pub none_is : {A : Type 0} (a : A) → None ≡ Some a → ⊥
 none_is a e = cc
 
-some_is : {A : Type 0} (a b : A) → Some a ≡ Some b → a ≡ b
+pub some_is : {A : Type 0} (a b : A) → Some a ≡ Some b → a ≡ b
 some_is a b e = cc
 
 cond_some : {A : Type 0} (b : Bool) (o : Option A) (a : A) → cond b o None ≡ Some a → (b ≡ true) × (o ≡ Some a)
@@ -91,6 +91,15 @@ negation_holds l v h = by (split l.atom)
     by (inl (inl p)) = ap (λ a. atom_holds v a (not l.neg)) p.2 ∙ sym (negated_cond l.neg _) ∙ sym (ap (λ a. not (atom_holds v a l.neg)) p.2) ∙ h
     by (inl (inr p)) = ap (λ a. atom_holds v a (not l.neg)) p.2 ∙ sym (negated_cond l.neg _) ∙ sym (ap (λ a. not (atom_holds v a l.neg)) p.2) ∙ h
     by (inr d) = d.quiet v (not l.neg)
+
+-- and the other way, for a metric literal
+pub negation_fails : (l : Lit) (v : Term → ℕ) → is_metric l ≡ true → holds v (negation l) ≡ true → not (holds v l) ≡ true
+negation_fails l v m h = by (split l.atom)
+  where
+    by : (IsMagEq l.atom ⊎ IsMagLt l.atom) ⊎ IsDiagram l.atom → not (holds v l) ≡ true
+    by (inl (inl p)) = ap (λ a. not (atom_holds v a l.neg)) p.2 ∙ negated_cond l.neg _ ∙ sym (ap (λ a. atom_holds v a (not l.neg)) p.2) ∙ h
+    by (inl (inr p)) = ap (λ a. not (atom_holds v a l.neg)) p.2 ∙ negated_cond l.neg _ ∙ sym (ap (λ a. atom_holds v a (not l.neg)) p.2) ∙ h
+    by (inr d) = absurd (true≢false (sym m ∙ ap is_some d.no_kind))
 
 pub pos_so : (t : Term) (w : Term → ℕ) → 1 ≤ carried w t → IsSoAt w (pos_row t)
 pos_so t w h = let e = normal_value (times (pos 1) t ∷ []) w in let k = one_mul (pos (carried w t)) in omega (arith, sums, e, k, h)
@@ -219,7 +228,7 @@ sums_not_refuted facts wanted w model (Two differs first second) h =
             let k = cond_some (says_differ m.0.says) (Some m.0) r (sym (ap (option_and_then (λ x. cond (says_differ x.says) (Some x) None)) m.1) ∙ e) in
             let is : m.0 ≡ r = some_is m.0 r k.1 in
             let differs_from : form_value r.form w ≢ pos 0 =
-              subst (λ s. IsSo s (form_value r.form w)) (ap (λ (x : Row). x.says) (sym is) ∙ says_not m.0.says k.0) (subst (IsSoAt w) is (differing_so facts wanted w model differs m.0 m.1)) in
+            subst (λ s. IsSo s (form_value r.form w)) (ap (λ (x : Row). x.says) (sym is) ∙ says_not m.0.says k.0) (subst (IsSoAt w) is (differing_so facts wanted w model differs m.0 m.1)) in
             let high : Place = record { facts = facts; wanted = wanted; above = Some (above_row r); below = None } in
             let low : Place = record { facts = facts; wanted = wanted; above = None; below = Some (below_row r) } in
             elim (other_sign (form_value r.form w) differs_from) [

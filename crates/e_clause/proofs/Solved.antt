@@ -60,7 +60,7 @@ literals_so w which name (l ∷ ls) h =
 -- ---- the terms of a system
 
 -- a term that stands first in a list is in it
-first_among : (seen ts : List Term) (t : Term) → is_among (first_terms seen ts) t ≡ true → is_among ts t ≡ true
+pub first_among : (seen ts : List Term) (t : Term) → is_among (first_terms seen ts) t ≡ true → is_among ts t ≡ true
 first_among seen [] t h = h
 first_among seen (s ∷ ss) t h = by (has_term seen s) h (λ bs. first_among bs ss t)
   where

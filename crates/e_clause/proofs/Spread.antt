@@ -144,10 +144,10 @@ model_of facts wanted v x =
     let agree : Agree ts v (carried w) = spread_agrees facts ts v x.is_admissible in
     let good : (t : Term) → is_among ts t ≡ true → is_good_at facts ts v t ≡ true = λ t a. all_among (is_good_at facts ts v) ts t x.is_admissible a in
     let bound : (t : Term) → is_among ts t ≡ true → is_within v t ≡ true =
-      λ t a. and_left (is_within v t) (is_zero_if_degenerate v t && (is_positive_if_apart facts v t && agrees_with v ts t)) (good t a) in
+    λ t a. and_left (is_within v t) (is_zero_if_degenerate v t && (is_positive_if_apart facts v t && agrees_with v ts t)) (good t a) in
     let positive : (t : Term) → is_among ts t ≡ true → is_positive_if_apart facts v t ≡ true =
-      λ t a. and_left (is_positive_if_apart facts v t) (agrees_with v ts t) (and_right (is_zero_if_degenerate v t) (is_positive_if_apart facts v t && agrees_with v ts t)
-          (and_right (is_within v t) (is_zero_if_degenerate v t && (is_positive_if_apart facts v t && agrees_with v ts t)) (good t a))) in
+    λ t a. and_left (is_positive_if_apart facts v t) (agrees_with v ts t) (and_right (is_zero_if_degenerate v t) (is_positive_if_apart facts v t && agrees_with v ts t)
+    (and_right (is_within v t) (is_zero_if_degenerate v t && (is_positive_if_apart facts v t && agrees_with v ts t)) (good t a))) in
     let first : is_among ts Right ≡ true = among_first Right (terms_of_lits facts ++ terms_of_wanted wanted) in
     record {
       right = subst (λ n. 1 ≤ n) (agree Right first) (nat_le_is 1 (v Right) (bound Right first));
