@@ -1,11 +1,10 @@
 -- Solutions of the three metric systems, carried to the terms as they are written, are a counterexample.
-use Rattle.std.proofs.Common.{◌≡◌, ◌≢◌, ℕ, zero, suc, ◌+◌, ◌*◌, ◌≤◌, List, [], ◌∷◌, ◌++◌, map, length, refl, sym, ap, ap₂, ◌∙◌, subst, arith, Option, Some, None, Bool, true, false, not, cond, ◌&&◌, ◌||◌, ◌==◌, eqb, eq-eqb, true≢false, ◌⊎◌, inl, inr, min, max}
+use Rattle.std.proofs.Common.{◌≡◌, ◌≢◌, ℕ, ◌+◌, ◌*◌, ◌≤◌, List, [], ◌∷◌, ◌++◌, length, refl, sym, ap, ap₂, ◌∙◌, subst, arith, Option, Some, None, Bool, true, false, cond, ◌&&◌, ◌||◌, ◌==◌, eqb, eq-eqb, true≢false, ◌⊎◌, inl, inr, min, max}
 use Rattle.std.specs.Prelude.{flat_map, nat_le}
 use Rattle.std.specs.Option.{option_map, option_map_or}
-use Rattle.std.specs.List.{list_all, list_any, cons_option}
+use Rattle.std.specs.List.{list_all, cons_option}
 use Rattle.std.proofs.lemmas.Bool.Decides.{nat_tests}
-use lib.IntN.{ℤ, pos, negsuc, ◌+ℤ◌, ◌*ℤ◌, neg_ℤ}
-use lib.Signed.{◌≤ℤ◌, ◌<ℤ◌}
+use lib.IntN.{pos, negsuc}
 use Rattle.e_literal.specs.declared.object.Kind.{Kind}
 use Rattle.e_literal.specs.declared.object.Kind.TheVariants.{Segment, Angle, Area as AreaKind}
 use Rattle.e_literal.specs.declared.object.Mono.{Mono}
@@ -21,16 +20,16 @@ use Rattle.e_literal.specs.Width.{is_among}
 use Rattle.e_literal.specs.Truth.{holds, all_hold}
 use Rattle.e_literal.specs.Facts.{has, is_metric, are_apart, are_equal_points}
 use Rattle.e_literal.specs.Rows.{Row, Zero, AtLeast, More, Not, is_degenerate, times, row, plus, minus, row_of_atom, row_of_lit, has_term, first_terms}
-use Rattle.e_literal.specs.Solution.{form_value, Satisfy, carried}
+use Rattle.e_literal.specs.Solution.{Satisfy, carried}
 use Rattle.e_literal.proofs.Arith.{sums, one_mul, minus_one}
 use Rattle.e_literal.proofs.Terms.{eqb_is, and_left, and_right, both, or_either, or_left, or_right, yes_or_no, term_eq_is, equal_terms, among_either, among_left, among_right, among_first, among_rest}
 use Rattle.e_literal.proofs.Canonical.{kind_canonical, one_term_is, same_degenerate}
 use Rattle.e_literal.proofs.Valued.{IsMagEq, IsMagLt, IsDiagram, split, normal_value, holds_of_so}
 use Rattle.e_clause.specs.declared.cert.RowName.{RowName}
-use Rattle.e_clause.specs.declared.cert.RowName.TheVariants.{Fact, Goal, Pos, Top, Right as RightRow}
-use Rattle.e_clause.specs.Assignment.{terms_of_atom, terms_of_lits, terms_of_wanted, terms_of_step, is_within, is_zero_if_degenerate, is_positive_if_apart, agrees_with, is_admissible_over}
+use Rattle.e_clause.specs.declared.cert.RowName.TheVariants.{Fact, Goal, Pos}
+use Rattle.e_clause.specs.Assignment.{terms_of_atom, terms_of_lits, terms_of_wanted, terms_of_step, is_within, is_zero_if_degenerate, is_positive_if_apart, agrees_with}
 use Rattle.e_clause.specs.Metric.{wanted_fails, IsCounterexample}
-use Rattle.e_clause.specs.System.{NamedRow, named, is_of_kind, of_kind, against_goal, rows_named, pos_row, top_row, right_row, rows_of_term, rows_of_kind, system, rows_of_system, by_kind}
+use Rattle.e_clause.specs.System.{NamedRow, named, is_of_kind, of_kind, against_goal, rows_named, pos_row, top_row, rows_of_term, rows_of_kind, system, rows_of_system, by_kind}
 use Rattle.e_clause.specs.Laws.{is_good_wanted, SolutionsRefute}
 use Rattle.e_clause.proofs.Spread.{Agree, terms_of_sum, holds_agrees, all_hold_agrees, fails_agrees, among_facts, among_wanted}
 use Rattle.e_clause.proofs.Refuted.{IsSoAt, some_is, negation_fails}

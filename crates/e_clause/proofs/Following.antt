@@ -1,29 +1,24 @@
 -- What follows from facts: by a certificate, by a system without solution, or because it is a fact.
-use Rattle.std.proofs.Common.{◌≡◌, ℕ, List, [], ◌∷◌, refl, sym, ap, ◌∙◌, Option, Some, None, Bool, true, false, not, ◌&&◌, true≢false, ◌⊎◌, inl, inr}
+use Rattle.std.proofs.Common.{◌≡◌, ℕ, List, [], ◌∷◌, refl, sym, ap, Some, None, Bool, true, false, not, true≢false, inl, inr}
 use Rattle.std.specs.Prelude.{IsTrue, MatchBool}
 use Rattle.std.specs.Option.{option_map_or}
-use Rattle.e_literal.specs.declared.object.Kind.{Kind}
-use Rattle.e_literal.specs.declared.object.Scope.{Scope}
 use Rattle.e_literal.specs.declared.object.Term.{Term}
 use Rattle.e_literal.specs.declared.literal.Lit.{Lit}
 use Rattle.e_literal.specs.Literal.{negation}
 use Rattle.e_literal.specs.Truth.{holds}
 use Rattle.e_literal.specs.Facts.{has, others, is_metric}
-use Rattle.e_literal.specs.Solution.{HasSolution, carried}
+use Rattle.e_literal.specs.Solution.{carried}
 use Rattle.e_literal.proofs.Terms.{and_left, and_right, yes_or_no}
-use Rattle.e_clause.specs.declared.cert.MetricCert.{MetricCert}
 use Rattle.e_clause.specs.declared.cert.Part.{Part}
 use Rattle.e_clause.specs.declared.cert.Part.TheVariants.{Fact}
-use Rattle.e_clause.specs.declared.cert.TransferCert.{TransferCert}
 use Rattle.e_clause.specs.Assignment.{terms_of_step}
 use Rattle.e_clause.specs.Instance.{Inst}
 use Rattle.e_clause.specs.RuleKinds.{is_transfer}
 use Rattle.e_clause.specs.Metric.{MetricConsequence, Unsatisfiable, IsCounterexample}
-use Rattle.e_clause.specs.Transfer.{Stands, NegationsStand, TransferConsequence}
-use Rattle.e_clause.specs.System.{rows_of_system}
+use Rattle.e_clause.specs.Transfer.{Stands, NegationsStand}
 use Rattle.e_clause.specs.Certify.{part_certifies}
-use Rattle.e_clause.specs.MetricCertificate.{sums_refute, metric_certifies, metric_contradicts}
-use Rattle.e_clause.specs.TransferCertificate.{parts_certify, instance_certifies, transfer_certifies, args_in}
+use Rattle.e_clause.specs.MetricCertificate.{sums_refute}
+use Rattle.e_clause.specs.TransferCertificate.{parts_certify, instance_certifies}
 use Rattle.e_clause.specs.Laws.{MetricCertificateIsSound, MetricContradictionIsSound, TransferCertificateIsSound, MetricFactFollows, CounterexampleSolves, UnsolvedFollows, UnsolvedContradicts, CounterexampleRefutes, CounterexampleSatisfies}
 use Rattle.e_clause.proofs.Spread.{spread, model_of}
 use Rattle.e_clause.proofs.Refuted.{found, has_holds, sums_not_refuted}

@@ -1,8 +1,8 @@
 -- The rows of a metric system: each is the one that its name names, and has no term but those of the system.
-use Rattle.std.proofs.Common.{◌≡◌, ℕ, ◌+◌, List, [], ◌∷◌, ◌++◌, map, refl, sym, ap, ap₂, ◌∙◌, subst, arith, Option, Some, None, Bool, true, false, not, cond, ◌&&◌, ◌||◌, true≢false, ◌⊎◌, inl, inr}
+use Rattle.std.proofs.Common.{◌≡◌, ℕ, ◌+◌, List, [], ◌∷◌, ◌++◌, refl, sym, ap, ap₂, ◌∙◌, subst, Option, Some, None, Bool, true, false, not, cond, ◌||◌, true≢false, ◌⊎◌, inl, inr}
 use Rattle.std.specs.Prelude.{flat_map, option_and_then}
 use Rattle.std.specs.Option.{option_map}
-use Rattle.std.specs.List.{list_all, list_any, cons_option}
+use Rattle.std.specs.List.{cons_option}
 use Rattle.std.proofs.lemmas.List.{map-append}
 use lib.IntN.{ℤ, pos, negsuc, ◌-ℤ◌}
 use Rattle.e_literal.specs.declared.object.Kind.{Kind}
@@ -15,18 +15,18 @@ use Rattle.e_literal.specs.Literal.{negation}
 use Rattle.e_literal.specs.Same.{canonical, term_eq, one_term, coeff_of, same_lit}
 use Rattle.e_literal.specs.Width.{is_among}
 use Rattle.e_literal.specs.Facts.{has, are_apart}
-use Rattle.e_literal.specs.Rows.{Row, Says, Zero, AtLeast, More, Not, Summands, coefficient, times, normal_summands, plus, minus, row, row_of_atom, row_of_lit, has_term, first_terms}
-use Rattle.e_literal.proofs.Terms.{and_left, and_right, both, or_either, or_right, or_not_left, or_not_right, yes_or_no, term_eq_is, term_eq_turned, among_left, among_right, among_first, among_rest}
+use Rattle.e_literal.specs.Rows.{Row, Zero, AtLeast, More, Not, coefficient, times, normal_summands, plus, minus, row, row_of_atom, row_of_lit, has_term, first_terms}
+use Rattle.e_literal.proofs.Terms.{both, or_either, or_right, or_not_left, or_not_right, term_eq_is, term_eq_turned, among_first, among_rest}
 use Rattle.e_literal.proofs.Agreeing.{same_lit_self}
 use Rattle.e_literal.proofs.Valued.{IsMagEq, IsMagLt, IsDiagram, split, is_normal, normal_coefficient, normal_none}
 use Rattle.e_clause.specs.declared.cert.RowName.{RowName}
-use Rattle.e_clause.specs.declared.cert.RowName.TheVariants.{Fact, Goal, Pos, Top, Right as RightRow}
+use Rattle.e_clause.specs.declared.cert.RowName.TheVariants.{Fact, Goal, Pos}
 use Rattle.e_clause.specs.Assignment.{terms_of_atom, terms_of_lits, terms_of_step}
 use Rattle.e_clause.specs.Sum.{Place, is_step_term, fact_row, goal_row, says_differ, unless_not, row_named}
 use Rattle.e_clause.specs.MetricCertificate.{differing}
-use Rattle.e_clause.specs.System.{NamedRow, named, is_of_kind, of_kind, against_goal, rows_named, pos_row, top_row, right_row, rows_of_term, rows_of_kind, system}
+use Rattle.e_clause.specs.System.{NamedRow, named, is_of_kind, of_kind, against_goal, rows_named, pos_row, top_row, rows_of_term, rows_of_kind, system}
 use Rattle.e_clause.proofs.Spread.{terms_of_sum}
-use Rattle.e_clause.proofs.Refuted.{option_split, none_is, some_is}
+use Rattle.e_clause.proofs.Refuted.{none_is, some_is}
 use Rattle.e_clause.proofs.Solved.{terms_of_system, system_among, first_among}
 
 -- ---- properties of each row

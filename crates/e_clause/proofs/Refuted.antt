@@ -1,35 +1,30 @@
 -- A model makes each row so that may be used, and so no sum refutes where there is one.
-use Rattle.std.proofs.Common.{◌≡◌, ◌≢◌, ℕ, zero, suc, ◌+◌, ◌*◌, ◌≤◌, List, [], ◌∷◌, ◌++◌, map, refl, sym, ap, ap₂, ◌∙◌, subst, arith, Option, Some, None, Bool, true, false, not, cond, ◌&&◌, ◌||◌, true≢false, ◌⊎◌, inl, inr}
-use Rattle.std.specs.Prelude.{filter_map, flat_map, option_and_then, is_some}
+use Rattle.std.proofs.Common.{◌≡◌, ◌≢◌, ℕ, zero, suc, ◌*◌, ◌≤◌, List, [], ◌∷◌, map, refl, sym, ap, ◌∙◌, subst, arith, Option, Some, None, Bool, true, false, not, cond, ◌&&◌, true≢false, ◌⊎◌, inl, inr}
+use Rattle.std.specs.Prelude.{option_and_then, is_some}
 use Rattle.std.specs.Option.{option_map_or, option_map}
-use Rattle.std.specs.List.{list_all, list_any}
-use lib.IntN.{ℤ, pos, negsuc, ◌+ℤ◌, ◌*ℤ◌, neg_ℤ}
-use lib.Signed.{◌≤ℤ◌, ◌<ℤ◌}
-use Rattle.e_literal.specs.declared.object.Kind.{Kind}
-use Rattle.e_literal.specs.declared.object.Kind.TheVariants.{Segment, Angle, Area as AreaKind}
+use lib.IntN.{ℤ, pos, negsuc, neg_ℤ}
+use lib.Signed.{◌<ℤ◌}
 use Rattle.e_literal.specs.declared.object.Term.{Term}
 use Rattle.e_literal.specs.declared.object.Term.TheVariants.{Seg, Ang, Area, Right}
 use Rattle.e_literal.specs.declared.literal.Lit.{Lit}
 use Rattle.e_literal.specs.Literal.{negation}
 use Rattle.e_literal.specs.Same.{same_lit}
-use Rattle.e_literal.specs.Width.{is_among}
 use Rattle.e_literal.specs.Truth.{atom_holds, holds, all_hold}
 use Rattle.e_literal.specs.Facts.{has, is_metric, are_apart}
-use Rattle.e_literal.specs.Rows.{Row, Says, Zero, AtLeast, More, Not, Summands, times, normal_summands, negative, row, row_of_lit, has_term, first_terms}
+use Rattle.e_literal.specs.Rows.{Row, Says, Zero, AtLeast, More, Not, times, row, row_of_lit}
 use Rattle.e_literal.specs.Absurd.{Weighed, is_absurd}
 use Rattle.e_literal.specs.Solution.{form_value, IsSo, Satisfy, carried}
 use Rattle.e_literal.proofs.Arith.{sums, one_mul, minus_one}
-use Rattle.e_literal.proofs.Terms.{and_left, and_right, or_either, yes_or_no, among_left, among_right, among_first, among_rest}
+use Rattle.e_literal.proofs.Terms.{and_left, and_right, or_either}
 use Rattle.e_literal.proofs.Valued.{IsMagEq, IsMagLt, IsDiagram, split, form-negative, normal_value, holds_same, so_of_holds}
 use Rattle.e_literal.proofs.Refutes.{no_values}
 use Rattle.e_clause.specs.declared.cert.RowName.{RowName}
 use Rattle.e_clause.specs.declared.cert.RowName.TheVariants.{Fact, Goal, Pos, Top, Right as RightRow, Least, Above, Below}
 use Rattle.e_clause.specs.declared.cert.Sums.{Sums}
 use Rattle.e_clause.specs.declared.cert.Sums.TheVariants.{One, Two}
-use Rattle.e_clause.specs.Assignment.{terms_of_atom, terms_of_lits, terms_of_step}
 use Rattle.e_clause.specs.Metric.{wanted_fails}
 use Rattle.e_clause.specs.Sum.{Place, is_step_term, fact_row, goal_row, says_differ, unless_not, pos_of, top_of, row_named, weighed_rows, is_good_size, refutes}
-use Rattle.e_clause.specs.System.{NamedRow, named, pos_row, top_row, right_row, least_row}
+use Rattle.e_clause.specs.System.{pos_row, top_row, right_row, least_row}
 use Rattle.e_clause.specs.MetricCertificate.{differing_of, differing, above_row, below_row, both_refute, sums_refute}
 use Rattle.e_clause.proofs.Spread.{IsModel}
 

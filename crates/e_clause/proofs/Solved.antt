@@ -1,6 +1,6 @@
 -- A model solves each metric system.
-use Rattle.std.proofs.Common.{◌≡◌, ℕ, List, [], ◌∷◌, ◌++◌, map, refl, sym, ap, ◌∙◌, subst, Option, Some, None, Bool, true, false, not, cond, ◌&&◌, ◌||◌, true≢false, ◌⊎◌, inl, inr}
-use Rattle.std.specs.Prelude.{filter_map, flat_map}
+use Rattle.std.proofs.Common.{◌≡◌, ℕ, List, [], ◌∷◌, ◌++◌, map, refl, sym, ap, subst, Option, Some, None, Bool, true, false, cond, ◌&&◌, true≢false, inl, inr}
+use Rattle.std.specs.Prelude.{flat_map}
 use Rattle.std.specs.Option.{option_map}
 use Rattle.std.specs.List.{cons_option}
 use Rattle.e_literal.specs.declared.object.Kind.{Kind}
@@ -15,15 +15,15 @@ use Rattle.e_literal.specs.Truth.{holds, all_hold}
 use Rattle.e_literal.specs.Facts.{are_apart}
 use Rattle.e_literal.specs.Rows.{Row, row_of_lit, has_term, first_terms}
 use Rattle.e_literal.specs.Solution.{Satisfy, carried}
-use Rattle.e_literal.proofs.Terms.{and_left, and_right, or_either, or_left, or_right, yes_or_no, among_either, among_left, among_right, among_first, among_rest}
+use Rattle.e_literal.proofs.Terms.{and_left, and_right, or_either, or_left, among_either, among_left, among_right, among_first, among_rest}
 use Rattle.e_literal.proofs.Valued.{so_of_holds}
 use Rattle.e_clause.specs.declared.cert.RowName.{RowName}
-use Rattle.e_clause.specs.declared.cert.RowName.TheVariants.{Fact, Goal, Pos, Top, Right as RightRow}
+use Rattle.e_clause.specs.declared.cert.RowName.TheVariants.{Fact, Goal, Pos}
 use Rattle.e_clause.specs.Assignment.{terms_of_atom, terms_of_lits, terms_of_wanted, terms_of_step}
 use Rattle.e_clause.specs.Metric.{wanted_fails}
-use Rattle.e_clause.specs.System.{NamedRow, named, is_of_kind, of_kind, against_goal, rows_named, pos_row, top_row, right_row, rows_of_term, rows_of_kind, system, rows_of_system}
+use Rattle.e_clause.specs.System.{NamedRow, named, is_of_kind, of_kind, against_goal, rows_named, pos_row, rows_of_term, rows_of_kind, system}
 use Rattle.e_clause.proofs.Spread.{IsModel, among_facts, among_wanted}
-use Rattle.e_clause.proofs.Refuted.{IsSoAt, option_split, pos_so, top_so, negation_holds}
+use Rattle.e_clause.proofs.Refuted.{pos_so, top_so, negation_holds}
 
 -- ---- rows of lists
 

@@ -1,5 +1,5 @@
 -- Assignments that agree on the terms of a step, and an admissible one spread over all terms.
-use Rattle.std.proofs.Common.{◌≡◌, ℕ, zero, suc, ◌+◌, ◌*◌, ◌≤◌, List, [], ◌∷◌, ◌++◌, map, refl, sym, ap, ap₂, ◌∙◌, subst, arith, Option, Some, None, Bool, true, false, not, cond, ◌&&◌, ◌==◌, eqb, true≢false, ◌⊎◌, inl, inr}
+use Rattle.std.proofs.Common.{◌≡◌, ℕ, ◌+◌, ◌*◌, ◌≤◌, List, [], ◌∷◌, ◌++◌, map, refl, sym, ap, ap₂, ◌∙◌, subst, arith, Option, Some, None, Bool, true, false, not, cond, ◌&&◌, ◌==◌, eqb, true≢false, ◌⊎◌, inl, inr}
 use Rattle.std.specs.Prelude.{nat_le, nat_lt}
 use Rattle.std.specs.List.{list_all}
 use Rattle.std.proofs.lemmas.List.{map-append}
@@ -9,8 +9,6 @@ use Rattle.e_literal.specs.declared.object.Term.TheVariants.{Seg, Ang, Right}
 use Rattle.e_literal.specs.declared.object.Mono.{Mono}
 use Rattle.e_literal.specs.declared.literal.Lit.{Lit}
 use Rattle.e_literal.specs.declared.literal.Atom.{Atom}
-use Rattle.e_literal.specs.declared.literal.Atom.TheVariants.{MagEq, MagLt}
-use Rattle.e_literal.specs.Literal.{negation}
 use Rattle.e_literal.specs.Same.{canonical, term_eq, one_term}
 use Rattle.e_literal.specs.Width.{is_among}
 use Rattle.e_literal.specs.Truth.{value_of, atom_holds, holds, all_hold}

@@ -1,13 +1,13 @@
 -- Values of sums, of forms and of literals, where terms that are one term have one value and those that are 0 have 0.
-use Rattle.std.proofs.Common.{◌≡◌, ℕ, zero, suc, ◌+◌, ◌*◌, ◌<◌, ◌≤◌, List, [], ◌∷◌, ◌++◌, map, refl, sym, ap, ap₂, ◌∙◌, subst, arith, Option, Some, None, Bool, true, false, not, cond, ◌&&◌, ◌||◌, true≢false, eqb, eq-eqb, ◌⊎◌, inl, inr}
+use Rattle.std.proofs.Common.{◌≡◌, ℕ, ◌+◌, ◌<◌, ◌≤◌, List, [], ◌∷◌, ◌++◌, map, refl, sym, ap, ap₂, ◌∙◌, subst, arith, Some, None, Bool, true, false, not, cond, ◌&&◌, ◌||◌, true≢false, eqb, eq-eqb, ◌⊎◌, inl, inr}
 use Rattle.std.specs.Prelude.{filter, nat_lt}
-use Rattle.std.specs.List.{list_all, list_any}
+use Rattle.std.specs.List.{list_any}
 use Rattle.std.proofs.lemmas.List.{map-append}
 use Rattle.std.proofs.lemmas.List.Elements.{filter-append}
 use Rattle.std.proofs.Math.IntN.{pos-*ℤ-pos}
 use Rattle.std.proofs.lemmas.Int.{ints}
 use Rattle.std.proofs.lemmas.Bool.Decides.{nat_tests}
-use lib.IntN.{ℤ, pos, negsuc, ◌+ℤ◌, ◌-ℤ◌, ◌*ℤ◌, neg_ℤ, *ℤ-zero, zero-*ℤ}
+use lib.IntN.{ℤ, pos, ◌+ℤ◌, ◌-ℤ◌, ◌*ℤ◌, neg_ℤ, *ℤ-zero}
 use lib.Signed.{◌≤ℤ◌, ◌<ℤ◌}
 use Rattle.e_literal.specs.declared.object.Term.{Term}
 use Rattle.e_literal.specs.declared.object.Mono.{Mono}
@@ -17,7 +17,7 @@ use Rattle.e_literal.specs.declared.literal.Atom.TheVariants.{On, OnC, Inside, C
 use Rattle.e_literal.specs.Literal.{kind_of_atom}
 use Rattle.e_literal.specs.Same.{canonical, term_eq, one_term, coeff_of, agree, same_atom, same_neg, same_lit, EqualNormal}
 use Rattle.e_literal.specs.Truth.{value_of, atom_holds, holds}
-use Rattle.e_literal.specs.Rows.{Row, Says, Zero, AtLeast, More, Not, Summands, coefficient, times, is_degenerate, normal_summands, row, plus, minus, negative, row_of_atom, row_of_lit}
+use Rattle.e_literal.specs.Rows.{Row, Zero, AtLeast, More, Not, Summands, coefficient, times, is_degenerate, normal_summands, row, plus, minus, negative, row_of_atom, row_of_lit}
 use Rattle.e_literal.specs.Solution.{form_value, IsSo, carried}
 use Rattle.e_literal.proofs.Arith.{sums, neg_mul}
 use Rattle.e_literal.proofs.Terms.{eqb_is, and_left, and_right, or_either, or_not_left, or_not_right, yes_or_no, term_eq_is, equal_terms}
