@@ -5,6 +5,7 @@ use Rattle.std.specs.Option.{option_map, option_map_or}
 use Rattle.std.specs.Str.{bytes_eq}
 use Rattle.std.proofs.lemmas.Slice.Eq.{bytes_eq-Decides}
 use Rattle.std.proofs.lemmas.Bool.Decides.{Decides-eqb}
+use Rattle.e_literal.proofs.Terms.{and_left, and_right}
 use Rattle.e_clause.specs.Rows.{Row}
 use Rattle.e_clause.specs.Table.{table}
 use Rattle.e_clause.specs.Table.Incidence.{incidence}
@@ -28,14 +29,6 @@ are_found (r ∷ rows) n = is_place (place_of r.name) n && are_found rows (n + 1
 all_found : are_found table 0 ≡ true
 unfolding table incidence sides circles equality lengths angles
 all_found = refl
-
-and_left : (a b : Bool) → (a && b) ≡ true → a ≡ true
-and_left true b h = refl
-and_left false b h = h
-
-and_right : (a b : Bool) → (a && b) ≡ true → b ≡ true
-and_right true b h = h
-and_right false b h = absurd (true≢false (sym h))
 
 place_is : (o : Option ℕ) (n : ℕ) → is_place o n ≡ true → o ≡ Some n
 place_is None n h = absurd (true≢false (sym h))

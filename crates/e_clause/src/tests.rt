@@ -125,3 +125,15 @@ fn vertical_angles(rt: HostRuntime) -> Result<(), Fail> {
     }
     Ok(())
 }
+
+#[test]
+fn sum_keeps_its_rows(rt: HostRuntime) -> Result<(), Fail> {
+    let mut rows = Vec::new(rt.alloc());
+    rows.push((1, RowName::Pos(Term::Seg(0, 1))))?;
+    rows.push((-3, RowName::Goal))?;
+    let sum = Sum::new(rows);
+    assert_eq!(rt; sum.rows().len(), 2);
+    assert!(rt; matches!(sum.rows()[0], (1, RowName::Pos(Term::Seg(0, 1)))));
+    assert!(rt; matches!(sum.rows()[1], (-3, RowName::Goal)));
+    Ok(())
+}

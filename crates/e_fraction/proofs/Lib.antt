@@ -1,4 +1,3 @@
-pub mod Arith
 pub mod Expand
 pub mod Columns
 pub mod Cramer
@@ -7,8 +6,6 @@ pub mod Minors
 pub mod Width
 pub mod Named
 pub mod Quotient
-pub mod Terms
-pub mod Refutes
 pub mod Sums
 pub mod Products
 pub mod Numbering

@@ -9,10 +9,10 @@ use Rattle.e_literal.specs.Rows.{Row}
 use Rattle.e_literal.specs.Minor.{Column, Constants, Of, SignedRow, entry, IsWide as IsWideRows}
 use Rattle.e_literal.specs.Width.{is_among}
 use Rattle.e_fraction.specs.Det.{det, expand, IsPart, EachBelow, IsWide}
-use Rattle.e_fraction.proofs.Arith.{sums}
+use Rattle.e_literal.proofs.Arith.{sums}
 use Rattle.e_fraction.proofs.Named.{numbered, det_named}
 use Rattle.e_fraction.proofs.Width.{part_trans}
-use Rattle.e_fraction.proofs.Terms.{term_eq_is, yes_or_no}
+use Rattle.e_literal.proofs.Terms.{term_eq_is, yes_or_no}
 
 -- ---- names and numbers of columns
 

@@ -11,7 +11,7 @@ use Rattle.e_literal.specs.Rows.{Row, Summands, terms_of_rows}
 use Rattle.e_literal.specs.Width.{is_among, new_terms, weight, product, constants, width_over, width}
 use Rattle.e_fraction.specs.declared.row.Row.{Row as GivenRow}
 use Rattle.e_fraction.specs.Views.{all_seen}
-use Rattle.e_fraction.proofs.Terms.{yes_or_no, term_eq_is, term_eq_turned}
+use Rattle.e_literal.proofs.Terms.{yes_or_no, term_eq_is, term_eq_turned}
 
 -- ---- what the tests find
 

@@ -18,8 +18,8 @@ use Rattle.e_fraction.specs.declared.row.Row.{Row as GivenRow}
 use Rattle.e_fraction.specs.Distinct.{have_distinct_terms}
 use Rattle.e_fraction.specs.Limits.{has_small_coefficients, all_small, are_good_multipliers}
 use Rattle.e_fraction.specs.Views.{says_of, seen, all_seen, weighed}
-use Rattle.e_fraction.proofs.Arith.{sums}
-use Rattle.e_fraction.proofs.Terms.{and_left, and_right, yes_or_no, term_eq_is}
+use Rattle.e_literal.proofs.Arith.{sums}
+use Rattle.e_literal.proofs.Terms.{and_left, and_right, yes_or_no, term_eq_is}
 
 -- ---- the coefficient of a term
 

@@ -14,7 +14,7 @@ use Rattle.e_literal.specs.Width.{has_constant, is_among, new_terms, weight, pro
 use Rattle.e_fraction.specs.Det.{IsPart, EachBelow, IsWide}
 use Rattle.e_fraction.proofs.Named.{numbered, det_named}
 use Rattle.e_fraction.proofs.Width.{column_sum, whole, width_of, wide_width, part_all}
-use Rattle.e_fraction.proofs.Terms.{yes_or_no, among_left, among_right, among_first, among_new}
+use Rattle.e_literal.proofs.Terms.{yes_or_no, among_left, among_right, among_first, among_new}
 use Rattle.e_fraction.proofs.Products.{new_more, product_more, none_more, among_form}
 use Rattle.e_fraction.proofs.Sums.{coefficient_none}
 use Rattle.e_fraction.proofs.Numbering.{column, number, place_below, term_at_place}

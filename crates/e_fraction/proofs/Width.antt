@@ -8,7 +8,7 @@ use Rattle.std.proofs.Math.Nat.{mul-le-mul_left}
 use lib.IntN.{ℤ, pos, ◌-ℤ◌, ◌*ℤ◌}
 use borrow.Author.Differences.{abs_is}
 use Rattle.e_fraction.specs.Det.{det, expand, IsPart, EachBelow, IsWide}
-use Rattle.e_fraction.proofs.Arith.{sums}
+use Rattle.e_literal.proofs.Arith.{sums}
 use Rattle.e_fraction.proofs.Expand.{expand-none, expand-same, expand-scale, expand-sub}
 use Rattle.e_fraction.proofs.Columns.{Alternates-det, det_dup}
 

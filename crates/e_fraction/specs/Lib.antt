@@ -4,4 +4,3 @@ pub mod Quotients
 pub mod Distinct
 pub mod Limits
 pub mod Views
-pub mod Solution

@@ -7,7 +7,7 @@ ghost use Rattle.e_literal.specs.Rows.{Summands};
 ghost use Rattle.e_literal.specs.Absurd.{total, is_good_sign, is_strict, is_absurd};
 ghost use Rattle.e_fraction.specs.Limits.{all_small, are_good_multipliers};
 ghost use Rattle.e_fraction.specs.Views.{says_of, weighed, all_seen};
-ghost use Rattle.e_fraction.specs.Solution.{HasSolution};
+ghost use Rattle.e_literal.specs.Solution.{HasSolution};
 
 use crate::row::{Row, RowKind};
 use e_literal::Term;
@@ -60,8 +60,11 @@ fn cancels_in(form: &[(i64, Term)], rows: &[Row], multipliers: &[i128]) -> bool
     form.iter().all(|p| total(rows, multipliers, p.1) == 0)
 }
 
-/// The coefficient of a term in the sum.
-fn total(rows: &[Row], multipliers: &[i128], term: Term) -> i128
+/// The coefficient of a term in the sum of the rows, each times its multiplier. [`have_small_coefficients`] and
+/// [`are_good_multipliers`] test the conditions.
+///
+/// [`have_small_coefficients`]: crate::row::have_small_coefficients
+pub fn total(rows: &[Row], multipliers: &[i128], term: Term) -> i128
     requires lengths { length multipliers.now ≡ length rows.now }
     requires few { length rows.now ≤ 4096 }
     requires coefficients { IsTrue (all_small rows.now) }

@@ -3,7 +3,7 @@ use Rattle.std.proofs.Common.{◌≡◌, ◌≢◌, ℕ, ◌<◌, ◌≤◌, Lis
 use lib.IntN.{ℤ, pos, negsuc, ◌+ℤ◌, ◌-ℤ◌, ◌*ℤ◌, neg_ℤ, *ℤ-zero, zero-*ℤ}
 use Rattle.e_fraction.specs.Det.{det}
 use Rattle.e_fraction.specs.Tableau.{Slacked, unit, full, full_rows}
-use Rattle.e_fraction.proofs.Arith.{sums, minus_one, add_mul, sub_mul, mul_add, mul_assoc, mul_swap}
+use Rattle.e_literal.proofs.Arith.{sums, minus_one, add_mul, sub_mul, mul_add, mul_assoc, mul_swap}
 use Rattle.e_fraction.proofs.Columns.{replaced}
 use Rattle.e_fraction.proofs.Cramer.{Linear, EachRow, InColumns-det, Adds_nothing, rows_add_nothing, cramer}
 use Rattle.e_simplex.proofs.Clash.{replaced-scale}

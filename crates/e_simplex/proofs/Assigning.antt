@@ -10,7 +10,7 @@ use Rattle.e_literal.specs.declared.object.Term.{Term}
 use Rattle.e_literal.specs.declared.object.Term.TheVariants.{Right}
 use Rattle.e_literal.specs.Same.{term_eq}
 use Rattle.e_literal.specs.Rows.{Row, Says, Zero, AtLeast, More, Not, Summands}
-use Rattle.e_fraction.specs.Solution.{IsSo, Satisfy, HasSolution}
+use Rattle.e_literal.specs.Solution.{IsSo, Satisfy, HasSolution}
 use Rattle.e_simplex.specs.declared.lines.Line.{Line}
 use Rattle.e_simplex.specs.declared.lines.Kind.TheVariants.{More as LineMore}
 use Rattle.e_simplex.specs.Lines.{form_value, LineHolds, IsSolution, IsAbsurd}
@@ -19,8 +19,8 @@ use Rattle.e_simplex.specs.Answer.{assigned, AreValuesOf}
 use Rattle.e_simplex.specs.Paired.{PairedTo}
 use Rattle.e_simplex.specs.Apart.{AreApart, IsNeither}
 use Rattle.e_simplex.specs.Tried.{negative_line}
-use Rattle.e_fraction.proofs.Arith.{sums}
-use Rattle.e_fraction.proofs.Terms.{yes_or_no}
+use Rattle.e_literal.proofs.Arith.{sums}
+use Rattle.e_literal.proofs.Terms.{yes_or_no}
 use Rattle.e_simplex.proofs.Negatives.{negated_value, negative_within}
 use Rattle.e_simplex.proofs.NamedLines.{kept_not, within_lines, more_lines}
 use Rattle.e_simplex.proofs.Deciding.{forms_push}
@@ -65,7 +65,7 @@ Values ts values v = (t : Term) → IsIn ts t → pos (v t) ≡ get_or values (s
 
 -- a form has the value of its line's form
 form_same : (ts : List Term) (form : Summands) (values : List ℤ) (v : Term → ℕ) → Values ts values v → FormNamed ts form
-    → Rattle.e_fraction.specs.Solution.form_value form v ≡ form_value (named_form ts form) values
+    → Rattle.e_literal.specs.Solution.form_value form v ≡ form_value (named_form ts form) values
 form_same ts [] values v h f = refl
 form_same ts (p ∷ ps) values v h f =
     ap₂ {A = ℤ} {B = ℤ} (λ a b. a +ℤ b) (ap (λ z. p.0 *ℤ z) (h p.1 f.0)) (form_same ts ps values v h f.1)
@@ -95,11 +95,11 @@ module _ (ts : List Term) (values : List ℤ) (v : Term → ℕ) (same : Values 
           → ((j : ℕ) (d : Line) → j < length (named_lines true ts rs) → form_value (get_or (named_lines true ts rs) j d).form values ≢ pos 0) → Satisfy v rs)
           → Satisfy v (r ∷ rs)
       by true e p q ih = (
-        subst (λ s. IsSo s (Rattle.e_fraction.specs.Solution.form_value r.form v)) (sym (kept_not r.says e)) (λ z. q 0 (named_line ts r) (omega arith) (sym (form_same ts r.form values v same a.0) ∙ z)),
+        subst (λ s. IsSo s (Rattle.e_literal.specs.Solution.form_value r.form v)) (sym (kept_not r.says e)) (λ z. q 0 (named_line ts r) (omega arith) (sym (form_same ts r.form values v same a.0) ∙ z)),
         ih p (λ j d l. q (suc j) d (omega (arith, l))),
       )
       by false e p q ih = (
-        so_of r.says (Rattle.e_fraction.specs.Solution.form_value r.form v) e
+        so_of r.says (Rattle.e_literal.specs.Solution.form_value r.form v) e
             (subst (LineHolds (kind_of r.says)) (sym (form_same ts r.form values v same a.0)) (p 0 (named_line ts r) (omega arith))),
         ih (λ i d l. p (suc i) d (omega (arith, l))) q,
       )
@@ -124,7 +124,7 @@ module _ (ts : List Term) (values : List ℤ) (v : Term → ℕ) (same : Values 
           → (i : ℕ) (d : Line) → i < length (cond b (named_lines false ts rs) (named_line ts r ∷ named_lines false ts rs))
           → LineHolds (get_or (cond b (named_lines false ts rs) (named_line ts r ∷ named_lines false ts rs)) i d).kind (form_value (get_or (cond b (named_lines false ts rs) (named_line ts r ∷ named_lines false ts rs)) i d).form values)
       by true e h i d l = h i d l
-      by false e h zero d l = subst (LineHolds (kind_of r.says)) (form_same ts r.form values v same a.0) (holds_of r.says (Rattle.e_fraction.specs.Solution.form_value r.form v) e s.0)
+      by false e h zero d l = subst (LineHolds (kind_of r.says)) (form_same ts r.form values v same a.0) (holds_of r.says (Rattle.e_literal.specs.Solution.form_value r.form v) e s.0)
       by false e h (suc i) d l = h i d (omega (arith, l))
 
   forms_differ : (rows : List Row) → AllNamed ts rows → Satisfy v rows → (j : ℕ) (d : Line) → j < length (named_lines true ts rows) → form_value (get_or (named_lines true ts rows) j d).form values ≢ pos 0
@@ -134,7 +134,7 @@ module _ (ts : List Term) (values : List ℤ) (v : Term → ℕ) (same : Values 
       by : (b : Bool) → keeps true r.says ≡ b → (i : ℕ) → i < length (cond b (named_line ts r ∷ named_lines true ts rs) (named_lines true ts rs))
           → ((i : ℕ) (d : Line) → i < length (named_lines true ts rs) → form_value (get_or (named_lines true ts rs) i d).form values ≢ pos 0)
           → form_value (get_or (cond b (named_line ts r ∷ named_lines true ts rs) (named_lines true ts rs)) i d).form values ≢ pos 0
-      by true e zero m h = λ z. (subst (λ u. IsSo u (Rattle.e_fraction.specs.Solution.form_value r.form v)) (kept_not r.says e) s.0) (form_same ts r.form values v same a.0 ∙ z)
+      by true e zero m h = λ z. (subst (λ u. IsSo u (Rattle.e_literal.specs.Solution.form_value r.form v)) (kept_not r.says e) s.0) (form_same ts r.form values v same a.0 ∙ z)
       by true e (suc i) m h = h i d (omega (arith, m))
       by false e i m h = h i d m
 

@@ -11,7 +11,7 @@ use Rattle.e_simplex.specs.declared.lines.Kind.TheVariants.{Zero, AtLeast, More}
 use Rattle.e_simplex.specs.Lines.{form_value, LineHolds, IsSolution, AllFormsWithin}
 use Rattle.e_simplex.specs.Multiple.{AddedTo}
 use Rattle.e_simplex.specs.Tried.{AreValues}
-use Rattle.e_fraction.proofs.Arith.{sums, mul_add, mul_swap, mul-not_negative}
+use Rattle.e_literal.proofs.Arith.{sums, mul_add, mul_swap, mul-not_negative}
 
 pub combined_form : (xs : List Monomial) (w : ℕ) (a b c : List ℤ) (t : ℕ) → ((k : ℕ) (d : Monomial) → k < length xs → (get_or xs k d).column < w) → AddedTo w a b t c
     → form_value xs c ≡ form_value xs a +ℤ pos t *ℤ form_value xs b

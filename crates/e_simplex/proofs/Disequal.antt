@@ -3,7 +3,7 @@ use Rattle.std.proofs.Common.{◌≡◌, ◌≢◌, ℕ, zero, suc, ◌+◌, ◌
 use Rattle.std.proofs.lemmas.Bool.{cases_eq, eq-eqb, ne_eqb}
 use lib.IntN.{ℤ, pos, ◌+ℤ◌, ◌-ℤ◌, ◌*ℤ◌, neg_ℤ}
 use Rattle.e_fraction.specs.Det.{det, expand, EachBelow}
-use Rattle.e_fraction.proofs.Arith.{sums, neg_mul}
+use Rattle.e_literal.proofs.Arith.{sums, neg_mul}
 use Rattle.e_fraction.proofs.Expand.{expand-same, expand-neg}
 use Rattle.e_fraction.proofs.Columns.{replaced, expand_front, Alternates-det}
 use Rattle.e_fraction.proofs.Width.{Misses, AllApart, Twice, apart}

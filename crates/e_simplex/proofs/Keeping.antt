@@ -12,7 +12,7 @@ use Rattle.e_simplex.specs.Lines.{IsSolution, AllFormsWithin}
 use Rattle.e_simplex.specs.Multiple.{AddedTo, IsGood}
 use Rattle.e_simplex.specs.Tried.{AreValues}
 use Rattle.e_simplex.specs.Kept.{IsKept}
-use Rattle.e_fraction.proofs.Arith.{sums}
+use Rattle.e_literal.proofs.Arith.{sums}
 use Rattle.e_simplex.proofs.Combining.{combined_solution, combined_values}
 
 -- a number below (k * 4097 + 1) * b and at most 4,097 times one below b

@@ -24,9 +24,9 @@ use Rattle.e_simplex.proofs.Negatives.{small_push, negated_at}
 use Rattle.e_simplex.proofs.Deciding.{forms_push}
 use Rattle.std.proofs.lemmas.List.{length_push}
 use Rattle.e_simplex.specs.Naming.{place_of, IsIn, AreOnce, FormNamed, AllNamed, named_form, named_line, named_lines, kind_of, keeps, have_short_forms}
-use Rattle.e_fraction.proofs.Arith.{sums, one_mul}
+use Rattle.e_literal.proofs.Arith.{sums, one_mul}
 use Rattle.e_fraction.proofs.Minors.{unit-same, unit-other}
-use Rattle.e_fraction.proofs.Terms.{term_eq_is, equal_terms, yes_or_no, and_left, and_right}
+use Rattle.e_literal.proofs.Terms.{term_eq_is, equal_terms, yes_or_no, and_left, and_right}
 use Rattle.e_fraction.proofs.Sums.{small_coefficient}
 use Rattle.e_fraction.proofs.Numbering.{column}
 use Rattle.e_simplex.proofs.Places.{term_at}

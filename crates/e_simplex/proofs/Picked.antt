@@ -12,7 +12,7 @@ use Rattle.e_simplex.specs.Lines.{line_row, rows_of}
 use Rattle.e_simplex.specs.Tried.{negative_line}
 use Rattle.e_simplex.specs.Naming.{AreOnce, FormNamed, AllNamed, named_line, named_lines, keeps}
 use Rattle.e_simplex.specs.Apart.{WideWith, WideWithTwo, WideApart}
-use Rattle.e_fraction.proofs.Arith.{sums}
+use Rattle.e_literal.proofs.Arith.{sums}
 use Rattle.e_fraction.proofs.Moved.{wide_last}
 use Rattle.e_fraction.proofs.Numbering.{column, SameEntries, wide_named}
 use Rattle.e_simplex.proofs.Disequal.{Similar, similar_det}

@@ -13,7 +13,7 @@ use Rattle.e_simplex.specs.declared.lines.Monomial.{Monomial}
 use Rattle.e_simplex.specs.declared.lines.Line.{Line}
 use Rattle.e_simplex.specs.declared.lines.Kind.{Kind}
 use Rattle.e_simplex.specs.Naming.{place_of, IsIn, AreOnce, FormNamed, AllNamed, named_form, named_line, named_lines, kind_of, keeps}
-use Rattle.e_fraction.proofs.Terms.{term_eq_is, term_eq_same, equal_terms, yes_or_no}
+use Rattle.e_literal.proofs.Terms.{term_eq_is, term_eq_same, equal_terms, yes_or_no}
 
 -- ---- places
 

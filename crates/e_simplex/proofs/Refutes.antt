@@ -9,7 +9,7 @@ use Rattle.e_simplex.specs.declared.lines.Kind.{Kind}
 use Rattle.e_simplex.specs.declared.lines.Kind.TheVariants.{Zero, AtLeast, More}
 use Rattle.e_fraction.specs.Tableau.{unit}
 use Rattle.e_simplex.specs.Lines.{form_at, form_value, LineHolds, weighed_at, MayWeigh, IsSolution, IsAbsurd, FormWithin, AllFormsWithin}
-use Rattle.e_fraction.proofs.Arith.{sums, one_mul, mul_add, add_mul, mul_assoc, mul-not_negative}
+use Rattle.e_literal.proofs.Arith.{sums, one_mul, mul_add, add_mul, mul_assoc, mul-not_negative}
 use Rattle.e_fraction.proofs.Minors.{unit-same, unit-other}
 
 -- the sum over the first n columns of f times the value

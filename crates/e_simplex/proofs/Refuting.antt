@@ -24,13 +24,13 @@ use Rattle.e_simplex.specs.Apart.{IsNeither, AreFurther, WideApart, AreApart}
 use Rattle.e_simplex.specs.Solved.{IsSolved, columns_of, lines_of}
 use Rattle.e_simplex.specs.declared.solved.Solved.{Solved}
 use Rattle.e_literal.specs.Minor.{IsWide}
-use Rattle.e_fraction.specs.Solution.{HasSolution}
+use Rattle.e_literal.specs.Solution.{HasSolution}
 use Rattle.e_simplex.specs.Answer.{IsVerdict, IsHolds, assigned}
 use Rattle.e_simplex.specs.Answer.{IsAbsurd as IsAbsurdVerdict}
 use Rattle.e_simplex.specs.declared.decision.Verdict.{Verdict}
 use Rattle.e_simplex.specs.declared.decision.Verdict.TheVariants.{Absurd, Holds, TooWide}
 use Rattle.e_simplex.specs.Tried.{negated, negative_line}
-use Rattle.e_fraction.proofs.Arith.{sums}
+use Rattle.e_literal.proofs.Arith.{sums}
 use Rattle.e_fraction.proofs.Minors.{unit-other}
 use Rattle.e_simplex.proofs.Negatives.{negated_at, negative_within}
 use Rattle.e_simplex.proofs.Deciding.{forms_push}

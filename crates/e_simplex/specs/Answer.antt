@@ -5,7 +5,7 @@ use Rattle.e_literal.specs.Same.{term_eq}
 use Rattle.e_literal.specs.Rows.{Row, Says, Zero, AtLeast, More, Not, negative}
 use Rattle.e_literal.specs.Absurd.{Weighed, total}
 use Rattle.e_literal.specs.Minor.{IsWide}
-use Rattle.e_fraction.specs.Solution.{Satisfy, HasSolution}
+use Rattle.e_literal.specs.Solution.{Satisfy, HasSolution}
 use Rattle.e_literal.specs.Width.{width}
 use Rattle.e_simplex.specs.Naming.{AreOnce, AllNamed}
 use Rattle.e_simplex.specs.declared.decision.Absurdity.{Absurdity}

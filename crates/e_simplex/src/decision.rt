@@ -3,7 +3,7 @@
 ghost use Rattle.std.specs.Prelude.{◌≡◌, ◌≢◌, ℕ, ◌+◌, ◌<◌, ◌≤◌, ◌^◌, pos, length, get_or, IfOk, IsTrue};
 ghost use Rattle.e_literal.specs.Minor.{IsWide};
 ghost use Rattle.e_fraction.specs.Limits.{all_small};
-ghost use Rattle.e_fraction.specs.Solution.{HasSolution};
+ghost use Rattle.e_literal.specs.Solution.{HasSolution};
 ghost use Rattle.e_fraction.specs.Views.{all_seen};
 ghost use Rattle.e_simplex.specs.Naming.{AreOnce, AllNamed, named_lines};
 ghost use Rattle.e_simplex.specs.Solved.{IsSolved, columns_of, lines_of};

@@ -2,9 +2,9 @@
 use Rattle.std.proofs.Common.{◌≡◌, true, ap, sym, ◌∙◌, ◌&&◌, subst}
 use Rattle.e_literal.specs.Absurd.{is_absurd}
 use Rattle.e_fraction.specs.Views.{weighed}
-use Rattle.e_fraction.specs.Solution.{Satisfy}
+use Rattle.e_literal.specs.Solution.{Satisfy}
 use Rattle.e_fraction.proofs.Sums.{absurd_is, absurd_not, weighed_rows}
-use Rattle.e_fraction.proofs.Refutes.{no_values}
+use Rattle.e_literal.proofs.Refutes.{no_values}
 use Rattle.e_fraction.proofs.sum.check_sum.Goals as goal
 
 pub returns-then-have_absurd_signs-clause-value : goal.returns-then-have_absurd_signs-clause-value

@@ -1,6 +1,6 @@
 -- The quotients are 8 and 2 ^ 128.
 use Rattle.std.proofs.Common.{◌^◌, refl, pos, arith}
-use Rattle.e_fraction.proofs.Arith.{sums}
+use Rattle.e_literal.proofs.Arith.{sums}
 use Rattle.e_fraction.proofs.tests.divides_or_is_wide.Goals as goal
 
 pub cross-requires : goal.cross-requires

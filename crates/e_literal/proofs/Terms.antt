@@ -6,7 +6,7 @@ use Rattle.e_literal.specs.declared.object.Term.TheVariants.{Seg, Ang, Area, Rig
 use Rattle.e_literal.specs.Same.{term_eq}
 use Rattle.e_literal.specs.Width.{is_among, new_terms}
 
-eqb_is : (a b : ℕ) → eqb a b ≡ true → a ≡ b
+pub eqb_is : (a b : ℕ) → eqb a b ≡ true → a ≡ b
 eqb_is a b h = grind (arith, nat_tests)
 
 pub and_left : (a b : Bool) → (a && b) ≡ true → a ≡ true
@@ -28,6 +28,14 @@ or_left false b h = absurd (true≢false (sym h))
 pub or_right : (a b : Bool) → b ≡ true → (a || b) ≡ true
 or_right true b h = refl
 or_right false b h = h
+
+pub or_not_left : (a b : Bool) → (a || b) ≡ false → a ≡ false
+or_not_left true b h = h
+or_not_left false b h = refl
+
+pub or_not_right : (a b : Bool) → (a || b) ≡ false → b ≡ false
+or_not_right true b h = absurd (true≢false h)
+or_not_right false b h = h
 
 pub yes_or_no : (b : Bool) → (b ≡ true) ⊎ (b ≡ false)
 yes_or_no true = inl refl
@@ -58,17 +66,17 @@ term_eq_is Right (Seg d e) h = absurd (true≢false (sym h))
 term_eq_is Right (Ang d e f) h = absurd (true≢false (sym h))
 term_eq_is Right (Area d e f) h = absurd (true≢false (sym h))
 
-eqb_same : (a : ℕ) → eqb a a ≡ true
-eqb_same a = eq-eqb a a refl
+pub eqb_self : (a : ℕ) → eqb a a ≡ true
+eqb_self a = eq-eqb a a refl
 
-both : (a b : Bool) → a ≡ true → b ≡ true → (a && b) ≡ true
+pub both : (a b : Bool) → a ≡ true → b ≡ true → (a && b) ≡ true
 both true b h k = k
 both false b h k = h
 
 pub term_eq_same : (t : Term) → term_eq t t ≡ true
-term_eq_same (Seg a b) = both _ _ (eqb_same a) (eqb_same b)
-term_eq_same (Ang a b c) = both _ _ (eqb_same a) (both _ _ (eqb_same b) (eqb_same c))
-term_eq_same (Area a b c) = both _ _ (eqb_same a) (both _ _ (eqb_same b) (eqb_same c))
+term_eq_same (Seg a b) = both _ _ (eqb_self a) (eqb_self b)
+term_eq_same (Ang a b c) = both _ _ (eqb_self a) (both _ _ (eqb_self b) (eqb_self c))
+term_eq_same (Area a b c) = both _ _ (eqb_self a) (both _ _ (eqb_self b) (eqb_self c))
 term_eq_same Right = refl
 
 pub equal_terms : (a b : Term) → a ≡ b → term_eq a b ≡ true
@@ -96,6 +104,16 @@ among_left (x ∷ xs) ys t h = elim (or_either (term_eq t x) (is_among xs t) h) 
 pub among_right : (xs ys : List Term) (t : Term) → is_among ys t ≡ true → is_among (xs ++ ys) t ≡ true
 among_right [] ys t h = h
 among_right (x ∷ xs) ys t h = or_right (term_eq t x) (is_among (xs ++ ys) t) (among_right xs ys t h)
+
+pub among_either : (xs ys : List Term) (t : Term) → is_among (xs ++ ys) t ≡ true → (is_among xs t ≡ true) ⊎ (is_among ys t ≡ true)
+among_either [] ys t h = inr h
+among_either (x ∷ xs) ys t h = elim (or_either (term_eq t x) (is_among (xs ++ ys) t) h) [
+  | inl e ↦ inl (or_left (term_eq t x) (is_among xs t) e)
+  | inr b ↦ elim (among_either xs ys t b) [
+    | inl k ↦ inl (or_right (term_eq t x) (is_among xs t) k)
+    | inr k ↦ inr k
+  ]
+]
 
 pub among_first : (x : Term) (xs : List Term) → is_among (x ∷ xs) x ≡ true
 among_first x xs = or_left (term_eq x x) (is_among xs x) (term_eq_same x)

@@ -10,9 +10,9 @@ use Rattle.e_literal.specs.Same.{term_eq}
 use Rattle.e_literal.specs.Rows.{Says, Zero, AtLeast, More, Not, Summands, coefficient, terms_of_rows}
 use Rattle.e_literal.specs.Width.{is_among, new_terms}
 use Rattle.e_literal.specs.Absurd.{Weighed, total, is_good_sign, is_strict, is_absurd}
-use Rattle.e_fraction.specs.Solution.{form_value, IsSo, Satisfy}
-use Rattle.e_fraction.proofs.Arith.{sums, add_mul, mul_add, mul_assoc, mul-not_negative}
-use Rattle.e_fraction.proofs.Terms.{term_eq_is, and_left, and_right, or_either, yes_or_no, among_right, among_first, among_rest}
+use Rattle.e_literal.specs.Solution.{form_value, IsSo, Satisfy}
+use Rattle.e_literal.proofs.Arith.{sums, add_mul, mul_add, mul_assoc, mul-not_negative}
+use Rattle.e_literal.proofs.Terms.{term_eq_is, and_left, and_right, or_either, yes_or_no, among_right, among_first, among_rest}
 
 -- ---- sums over terms
 
@@ -80,6 +80,7 @@ over_point : (before ts : List Term) (c : ℤ) (u : Term) (v : Term → ℕ)
 over_point before [] c u v = point_none before c u v (is_among before u)
 over_point before (t ∷ ts) c u v = point_step before ts t c u v (λ bs. over_point bs ts c u v) (is_among before t) refl
 
+-- each term of the form is in the list
 abbrev pub AllAmong : List Term → Summands → Type 0
 AllAmong ts [] = Unit {0}
 AllAmong ts (p ∷ ps) = (is_among ts p.1 ≡ true) × AllAmong ts ps
@@ -109,7 +110,7 @@ over_total ts (w ∷ ws) v h =
 
 -- ---- the terms of the rows
 
-among_own : (form : Summands) (ts : List Term) → AllAmong (map (λ p. p.1) form ++ ts) form
+pub among_own : (form : Summands) (ts : List Term) → AllAmong (map (λ p. p.1) form ++ ts) form
 among_own [] ts = tt
 among_own (p ∷ ps) ts = (among_first p.1 (map (λ q. q.1) ps ++ ts), all_rest p.1 (map (λ q. q.1) ps ++ ts) ps (among_own ps ts))
   where
@@ -117,9 +118,22 @@ among_own (p ∷ ps) ts = (among_first p.1 (map (λ q. q.1) ps ++ ts), all_rest 
     all_rest x xs [] h = tt
     all_rest x xs (q ∷ qs) h = (among_rest x xs q.1 h.0, all_rest x xs qs h.1)
 
-among_past : (xs ts : List Term) (form : Summands) → AllAmong ts form → AllAmong (xs ++ ts) form
+pub among_past : (xs ts : List Term) (form : Summands) → AllAmong ts form → AllAmong (xs ++ ts) form
 among_past xs ts [] h = tt
 among_past xs ts (p ∷ ps) h = (among_right xs ts p.1 h.0, among_past xs ts ps h.1)
+
+over_same : (ts : List Term) (f g : Term → ℤ) (v : Term → ℕ) → ((t : Term) → f t ≡ g t) → over ts f v ≡ over ts g v
+over_same [] f g v h = refl
+over_same (t ∷ ts) f g v h = omega (arith, sums, ap (λ z. z *ℤ pos (v t)) (h t), over_same ts f g v h)
+
+-- forms with the same coefficients have one value
+pub form_value_same : (f g : Summands) (v : Term → ℕ) → ((t : Term) → coefficient f t ≡ coefficient g t) → form_value f v ≡ form_value g v
+form_value_same f g v h =
+    let first = map (λ (p : ℤ × Term). p.1) f in
+    let second = map (λ (p : ℤ × Term). p.1) g in
+    sym (over_form (first ++ (second ++ [])) f v (among_own f (second ++ [])))
+    ∙ over_same (new_terms [] (first ++ (second ++ []))) (coefficient f) (coefficient g) v h
+    ∙ over_form (first ++ (second ++ [])) g v (among_past first (second ++ []) g (among_own g []))
 
 forms_past : (xs ts : List Term) (ws : List Weighed) → AllFormsAmong ts ws → AllFormsAmong (xs ++ ts) ws
 forms_past xs ts [] h = tt

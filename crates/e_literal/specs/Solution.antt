@@ -1,7 +1,8 @@
 -- Values of terms that satisfy rows.
-use Rattle.std.specs.Prelude.{◌≡◌, ◌≢◌, ℕ, List, [], ◌∷◌, ℤ, pos, ◌+ℤ◌, ◌*ℤ◌, ◌≤ℤ◌, ◌<ℤ◌}
+use Rattle.std.specs.Prelude.{◌≡◌, ◌≢◌, ℕ, List, [], ◌∷◌, ℤ, pos, ◌+ℤ◌, ◌*ℤ◌, ◌≤ℤ◌, ◌<ℤ◌, if◌then◌else◌}
 use Rattle.e_literal.specs.declared.object.Term.{Term}
-use Rattle.e_literal.specs.Rows.{Row, Says, Zero, AtLeast, More, Not, Summands}
+use Rattle.e_literal.specs.Rows.{Row, Says, Zero, AtLeast, More, Not, Summands, is_degenerate}
+use Rattle.e_literal.specs.Same.{canonical}
 
 -- the value of a form where each term has a whole number
 abbrev pub form_value : Summands → (Term → ℕ) → ℤ
@@ -24,3 +25,8 @@ Satisfy values (r ∷ rs) = IsSo r.says (form_value r.form values) × Satisfy va
 pub record HasSolution (rows : List Row) : Type 0 where
   pub values : Term → ℕ
   pub satisfy : Satisfy values rows
+
+-- values of terms that are written one way, for all terms: terms that are one term have one value, and those that are
+-- 0 have 0
+abbrev pub carried : (Term → ℕ) → Term → ℕ
+carried values t = if is_degenerate t then 0 else values (canonical t)
