@@ -2,7 +2,7 @@
 
 use crate::{
     Atom, Form, Items, Kind, Lit, Map, Mono, Obj, Scope, Sort, Term, Values, copy, in_scope, kind,
-    negate, rename, same,
+    negate, normal, rename, same,
 };
 use std::alloc::Global;
 use std::test::Fail;
@@ -50,49 +50,83 @@ fn less(alloc: Global, sides: Sides) -> Result<Lit, Fail> {
     })
 }
 
-// Whether `same` answers what is wanted, in both directions.
-fn agrees(a: &Lit, b: &Lit, want: bool) -> bool {
-    same(a, b) == want && same(b, a) == want
+// Whether `same`, in both directions, and the normal forms answer what is wanted.
+fn agrees(alloc: Global, a: &Lit, b: &Lit, want: bool) -> Result<bool, Fail> {
+    let (left, right) = (normal(alloc, a)?, normal(alloc, b)?);
+    let equal = left == right && left.is_equal(&right) && left.cmp(&right).is_eq();
+    let differ = left != right && !left.is_equal(&right) && left.cmp(&right).is_ne();
+    let forms = if want { equal } else { differ };
+    Ok(forms && same(a, b) == want && same(b, a) == want)
 }
 
 // Two pairs of sums, and whether their equations and their inequalities are the same.
 #[rattlefmt::skip]
-const PAIRS: [(Sides, Sides, bool, bool); 16] = [
-    // The orders of a segment's, an angle's and an area's points.
+const PAIRS: [(Sides, Sides, bool, bool); 6] = [
     ((&[(1, AB)], &[(1, CD)]), (&[(1, BA)], &[(1, CD)]), true, true),
-    ((&[(1, ABC)], &[]), (&[(1, Term::Ang(2, 1, 0))], &[]), true, true),
-    ((&[(1, ABC)], &[]), (&[(1, Term::Ang(1, 0, 2))], &[]), false, false),
-    ((&[(1, AREA)], &[]), (&[(1, Term::Area(0, 2, 1))], &[]), true, true),
-    ((&[(1, AREA)], &[]), (&[(1, Term::Area(1, 0, 2))], &[]), true, true),
-    ((&[(1, AREA)], &[]), (&[(1, Term::Area(1, 2, 0))], &[]), true, true),
-    ((&[(1, AREA)], &[]), (&[(1, Term::Area(2, 0, 1))], &[]), true, true),
-    ((&[(1, AREA)], &[]), (&[(1, Term::Area(2, 1, 0))], &[]), true, true),
-    ((&[(1, AREA)], &[]), (&[(1, Term::Area(0, 1, 3))], &[]), false, false),
-    // The order of the sides, and one side or both.
     ((&[(1, AB)], &[(1, CD)]), (&[(1, CD)], &[(1, AB)]), true, false),
-    ((&[(1, AB)], &[]), (&[], &[(1, AB)]), true, false),
-    // Terms that are joined, terms that cancel, and factors.
     ((&[(2, AB)], &[(1, CD)]), (&[(1, AB), (1, BA)], &[(1, CD)]), true, true),
-    ((&[(1, AB), (1, CD)], &[(1, CD)]), (&[(1, AB)], &[]), true, true),
     ((&[(2, AB)], &[(2, CD)]), (&[(1, AB)], &[(1, CD)]), false, false),
-    // Forms that are empty, of two kinds; and a right angle.
+    ((&[(1, AREA)], &[]), (&[(1, Term::Area(2, 0, 1))], &[]), true, true),
     ((&[(1, AB)], &[(1, BA)]), (&[(1, ABC)], &[(1, ABC)]), true, true),
-    ((&[(1, Term::Right)], &[(1, ABC)]), (&[(1, ABC)], &[(1, Term::Right)]), true, false),
 ];
+
+// Whether the equations and the inequalities of two pairs of sums are the same exactly where it is wanted.
+fn pair_agrees(
+    alloc: Global,
+    first: Sides,
+    second: Sides,
+    equations: bool,
+    inequalities: bool,
+) -> Result<bool, Fail> {
+    let (a, b) = (equal(alloc, first)?, equal(alloc, second)?);
+    let (c, d) = (less(alloc, first)?, less(alloc, second)?);
+    Ok(
+        agrees(alloc, &a, &b, equations)?
+            && agrees(alloc, &c, &d, inequalities)?
+            && agrees(alloc, &a, &c, false)?
+            && agrees(alloc, &negate(a), &negate(b), equations)?
+            && agrees(alloc, &c, &negate(d), false)?,
+    )
+}
 
 #[test]
 fn literals_that_are_the_same_and_that_are_not(rt: HostRuntime) -> Result<(), Fail> {
-    let alloc = rt.alloc();
     for (first, second, equations, inequalities) in PAIRS {
-        let (a, b) = (equal(alloc, first)?, equal(alloc, second)?);
-        assert!(rt; agrees(&a, &b, equations), "{a:?} and {b:?}");
-        let (c, d) = (less(alloc, first)?, less(alloc, second)?);
-        assert!(rt; agrees(&c, &d, inequalities), "{c:?} and {d:?}");
-        assert!(rt; agrees(&a, &c, false), "{a:?} and {c:?}");
-        let copied = copy(alloc, &c)?;
-        assert!(rt; agrees(&c, &copied, true), "a copy of {c:?}");
-        let negation = negate(copied);
-        assert!(rt; agrees(&c, &negation, false), "the negation of {c:?}");
+        let agrees = pair_agrees(rt.alloc(), first, second, equations, inequalities)?;
+        assert!(rt; agrees, "{first:?} and {second:?}");
+    }
+    Ok(())
+}
+
+#[test]
+fn diagram_literals_are_the_same_only_as_they_stand(rt: HostRuntime) -> Result<(), Fail> {
+    let alloc = rt.alloc();
+    let table = [
+        Atom::On(0, 1),
+        Atom::On(1, 0),
+        Atom::OnC(0, 1),
+        Atom::Inside(0, 1),
+        Atom::Center(0, 1),
+        Atom::Between(0, 1, 2),
+        Atom::Between(2, 1, 0),
+        Atom::Same(0, 1, 2),
+        Atom::MeetLL(0, 1),
+        Atom::MeetLC(0, 1),
+        Atom::MeetCC(0, 1),
+        Atom::EqP(0, 1),
+        Atom::EqL(0, 1),
+        Atom::EqC(0, 1),
+    ];
+    let mut lits = Vec::new(alloc);
+    for atom in table {
+        let lit = Lit { neg: false, atom };
+        lits.push(negate(copy(alloc, &lit)?))?;
+        lits.push(lit)?;
+    }
+    for (i, a) in lits.iter().enumerate() {
+        for (j, b) in lits.iter().enumerate() {
+            assert!(rt; agrees(alloc, a, b, i == j)?, "{a:?} and {b:?}");
+        }
     }
     Ok(())
 }

@@ -1,0 +1,290 @@
+-- Normal forms are equal exactly where the literals are the same.
+use Rattle.std.proofs.Common.{◌≡◌, ℕ, zero, suc, ◌+◌, ◌≤◌, ◌↔◌, List, [], ◌∷◌, ◌++◌, refl, sym, ap, subst, ◌∙◌, arith, Bool, true, false, cond, Option, Some, None, ◌&&◌, ◌||◌, IsTrue, true≢false, T}
+use Rattle.std.specs.Prelude.{ℤ, pos, ◌-ℤ◌, unwrap_or, min, max, ◌==◌}
+use Rattle.std.specs.List.{fold, list_any}
+use Rattle.std.proofs.lemmas.Int.{ints}
+use Rattle.std.proofs.lemmas.Bool.Decides.{Decides-int_eq}
+use Rattle.std.specs.Bool.{Decides}
+use Rattle.std.specs.declared.cmp.Ordering.{Ordering}
+use Rattle.std.specs.declared.cmp.Ordering.TheVariants.{Less, Equal, Greater}
+use Rattle.std.specs.Ordering.{nat_cmp, int_cmp, int_eq, is_eq, eq_by_cmp, ordering_reverse, ord_min}
+use Rattle.std.specs.Cmp.{IsTotalOrder, on_total, then_total, int_cmp_total, tied_itself, Equal-is}
+use Rattle.std.specs.Cmp.Lexicographic.{slice_cmp, nat_list_cmp_total, lists_total}
+use Rattle.std.specs.FinMap.{put, find, is_sorted, slice_cmp-IsAntisymmetric, nat_cmp-IsAntisymmetric, int_cmp-IsAntisymmetric}
+use Rattle.std.specs.FinMap.Entries.{find-put, is_sorted-put, same_entries}
+use Rattle.std.proofs.lemmas.Map.Lookups.{exact_pairs}
+use Rattle.e_literal.specs.declared.object.Term.{Term}
+use Rattle.e_literal.specs.declared.object.Term.TheVariants.{Seg, Ang, Area, Right}
+use Rattle.e_literal.specs.declared.object.Mono.{Mono}
+use Rattle.e_literal.specs.Same.{canonical, term_eq, one_term, coeff_of, agree, EqualNormal}
+use Rattle.e_literal.specs.NormalForm.{numbers_of, term_cmp, Coefficients, difference, put_unless_zero, put_term, normal_sum, form_cmp, normal_up_to_sign}
+use Rattle.e_literal.proofs.Terms.{term_eq_is}
+use Rattle.e_literal.proofs.Agreeing.{coeff_same, equal_of_agree, agree_of_equal}
+
+-- ---- terms in their order
+
+-- the term of these numbers
+term_of : List ℕ → Term
+term_of (zero ∷ a ∷ b ∷ []) = Seg a b
+term_of (suc zero ∷ a ∷ b ∷ c ∷ []) = Ang a b c
+term_of (suc (suc zero) ∷ a ∷ b ∷ c ∷ []) = Area a b c
+term_of ns = Right
+
+term_of-numbers_of : (t : Term) → term_of (numbers_of t) ≡ t
+unfolding term_of
+term_of-numbers_of (Seg a b) = refl
+term_of-numbers_of (Ang a b c) = refl
+term_of-numbers_of (Area a b c) = refl
+term_of-numbers_of Right = refl
+
+pub term_cmp_total : IsTotalOrder term_cmp
+term_cmp_total = on_total numbers_of nat_list_cmp_total
+
+pub term_cmp_exact : (s t : Term) → term_cmp s t ≡ Equal → s ≡ t
+term_cmp_exact s t e =
+    sym (term_of-numbers_of s) ∙ ap term_of (slice_cmp-IsAntisymmetric nat_cmp-IsAntisymmetric (numbers_of s) (numbers_of t) e) ∙ term_of-numbers_of t
+
+abbrev ties : Term → Term → Bool
+ties s t = eq_by_cmp term_cmp s t
+
+tied_is : (s t : Term) → ties s t ≡ true → s ≡ t
+tied_is s t h = term_cmp_exact s t ((Equal-is (term_cmp s t)).0 h)
+
+is_tied : (s t : Term) → s ≡ t → ties s t ≡ true
+is_tied s t e = ap (ties s) (sym e) ∙ ap is_eq (tied_itself term_cmp_total s)
+
+-- ---- terms in their normal order
+
+min_is : (a b : ℕ) → a ≤ b → min a b ≡ a
+min_is a b h = omega arith
+
+max_is : (a b : ℕ) → a ≤ b → max a b ≡ b
+max_is a b h = omega arith
+
+mid_is : (a b c : ℕ) → a ≤ b → b ≤ c → max (min a b) (min (max a b) c) ≡ b
+mid_is a b c h k = omega arith
+
+least_is : (a b c : ℕ) → a ≤ b → b ≤ c → min (min a b) c ≡ a
+least_is a b c h k = omega arith
+
+most_is : (a b c : ℕ) → a ≤ b → b ≤ c → max (max a b) c ≡ c
+most_is a b c h k = omega arith
+
+pub canonical_twice : (t : Term) → canonical (canonical t) ≡ canonical t
+canonical_twice (Seg a b) =
+    let h : min a b ≤ max a b = omega arith in
+    let p = min_is (min a b) (max a b) h in
+    let q = max_is (min a b) (max a b) h in cc
+canonical_twice (Ang a b c) =
+    let h : min a c ≤ max a c = omega arith in
+    let p = min_is (min a c) (max a c) h in
+    let q = max_is (min a c) (max a c) h in cc
+canonical_twice (Area a b c) =
+    let x = min (min a b) c in
+    let y = max (min a b) (min (max a b) c) in
+    let z = max (max a b) c in
+    let h : x ≤ y = omega arith in
+    let k : y ≤ z = omega arith in
+    let p = least_is x y z h k in
+    let q = mid_is x y z h k in
+    let r = most_is x y z h k in cc
+canonical_twice Right = refl
+
+-- ---- what is found in a normal form
+
+abbrev some_unless_zero : ℤ → Option ℤ
+some_unless_zero v = cond (int_eq v (pos 0)) None (Some v)
+
+-- the term is one of the monomials' terms, in its normal order
+abbrev among : Term → List Mono → Bool
+among q ms = list_any (λ m. ties q (canonical m.term)) ms
+
+find-put_unless_zero : (form : Coefficients) (q k : Term) (v : ℤ) (z : Bool) →
+    find term_cmp q (cond z form (put term_cmp k v form)) ≡ cond z (find term_cmp q form) (cond (ties q k) (Some v) (find term_cmp q form))
+find-put_unless_zero form q k v true = refl
+find-put_unless_zero form q k v false = find-put term_cmp term_cmp_total q k v form
+
+or_false : (b : Bool) → (b || false) ≡ b
+or_false true = refl
+or_false false = refl
+
+or_true : (b : Bool) → (b || true) ≡ true
+or_true true = refl
+or_true false = refl
+
+or_next : (b c d : Bool) → ((b || c) || d) ≡ (b || (c || d))
+or_next true c d = refl
+or_next false c d = refl
+
+-- one more term, which is q or not
+found_once : (b c z : Bool) (v : ℤ) (o s : Option ℤ) → o ≡ cond b s None → (c ≡ true → s ≡ cond z None (Some v)) →
+    cond z o (cond c (Some v) o) ≡ cond (b || c) s None
+found_once b true true v o s e h = e ∙ by b ∙ ap (λ d. cond d s None) (sym (or_true b))
+  where
+    by : (d : Bool) → cond d s None ≡ s
+    by true = refl
+    by false = sym (h refl)
+found_once b true false v o s e h = sym (h refl) ∙ ap (λ d. cond d s None) (sym (or_true b))
+found_once b false true v o s e h = e ∙ ap (λ d. cond d s None) (sym (or_false b))
+found_once b false false v o s e h = e ∙ ap (λ d. cond d s None) (sym (or_false b))
+
+difference_same : (x y : List Mono) (s t : Term) → canonical s ≡ canonical t → difference x y s ≡ difference x y t
+difference_same x y s t e = ap (λ n. pos n -ℤ pos (coeff_of y s)) (coeff_same x s t e) ∙ ap (λ n. pos (coeff_of x t) -ℤ pos n) (coeff_same y s t e)
+
+found_at_term : (x y : List Mono) (q : Term) (m : Mono) → ties q (canonical m.term) ≡ true →
+    some_unless_zero (difference x y q) ≡ some_unless_zero (difference x y m.term)
+found_at_term x y q m h =
+    ap some_unless_zero (difference_same x y q m.term (ap canonical (tied_is q (canonical m.term) h) ∙ canonical_twice m.term))
+
+find-fold : (x y : List Mono) (q : Term) (ms : List Mono) (form : Coefficients) (b : Bool) →
+    find term_cmp q form ≡ cond b (some_unless_zero (difference x y q)) None →
+    find term_cmp q (fold (put_term x y) form ms) ≡ cond (b || among q ms) (some_unless_zero (difference x y q)) None
+find-fold x y q [] form b e = e ∙ ap (λ d. cond d (some_unless_zero (difference x y q)) None) (sym (or_false b))
+find-fold x y q (m ∷ ms) form b e =
+    let c = ties q (canonical m.term) in
+    let here : find term_cmp q (put_term x y form m) ≡ cond (b || c) (some_unless_zero (difference x y q)) None =
+    find-put_unless_zero form q (canonical m.term) (difference x y m.term) (int_eq (difference x y m.term) (pos 0))
+    ∙ found_once b c (int_eq (difference x y m.term) (pos 0)) (difference x y m.term) (find term_cmp q form) (some_unless_zero (difference x y q)) e (found_at_term x y q m) in
+    find-fold x y q ms (put_term x y form m) (b || c) here ∙ ap (λ d. cond d (some_unless_zero (difference x y q)) None) (or_next b c (among q ms))
+
+among_once : (q t : Term) (b c : Bool) → ties q (canonical t) ≡ b → (b || c) ≡ true → (c ≡ true → canonical q ≡ q) → canonical q ≡ q
+among_once q t true c e k later = let is = tied_is q (canonical t) e in ap canonical is ∙ canonical_twice t ∙ sym is
+among_once q t false c e k later = later k
+
+among_normal : (q : Term) (ms : List Mono) → among q ms ≡ true → canonical q ≡ q
+among_normal q [] h = absurd (true≢false (sym h))
+among_normal q (m ∷ ms) h = among_once q m.term (ties q (canonical m.term)) (among q ms) refl h (among_normal q ms)
+
+absent_once : (q t : Term) (b c d : Bool) (n k : ℕ) → canonical q ≡ q → ties q (canonical t) ≡ b → one_term t q ≡ d → (b || c) ≡ false → (c ≡ false → k ≡ 0)
+    → cond d n 0 + k ≡ 0
+absent_once q t true c d n k normal e f h later = absurd (true≢false h)
+absent_once q t false c true n k normal e f h later = absurd (true≢false (sym (is_tied q (canonical t) (sym normal ∙ sym (term_eq_is _ _ f))) ∙ e))
+absent_once q t false c false n k normal e f h later = let z = later h in omega arith
+
+absent : (q : Term) (ms : List Mono) → canonical q ≡ q → among q ms ≡ false → coeff_of ms q ≡ 0
+absent q [] n h = refl
+absent q (m ∷ ms) n h = absent_once q m.term (ties q (canonical m.term)) (among q ms) (one_term m.term q) m.coeff (coeff_of ms q) n refl refl h (absent q ms n)
+
+among-append : (q : Term) (ms ns : List Mono) → among q (ms ++ ns) ≡ (among q ms || among q ns)
+among-append q [] ns = refl
+among-append q (m ∷ ms) ns = ap (λ b. ties q (canonical m.term) || b) (among-append q ms ns) ∙ sym (or_next (ties q (canonical m.term)) (among q ms) (among q ns))
+
+or_left : (b c : Bool) → (b || c) ≡ false → b ≡ false
+or_left true c h = absurd (true≢false h)
+or_left false c h = refl
+
+or_right : (b c : Bool) → (b || c) ≡ false → c ≡ false
+or_right true c h = absurd (true≢false h)
+or_right false c h = h
+
+difference_none : (x y : List Mono) (q : Term) → canonical q ≡ q → among q (x ++ y) ≡ false → difference x y q ≡ pos 0
+difference_none x y q n h =
+    let k : (among q x || among q y) ≡ false = sym (among-append q x y) ∙ h in
+    ap (λ a. pos a -ℤ pos (coeff_of y q)) (absent q x n (or_left (among q x) (among q y) k)) ∙ ap (λ a. pos 0 -ℤ pos a) (absent q y n (or_right (among q x) (among q y) k))
+
+-- the coefficient of each term in its normal order, but for 0
+pub find-normal_sum : (x y : List Mono) (q : Term) → find term_cmp q (normal_sum x y) ≡ cond (ties (canonical q) q) (some_unless_zero (difference x y q)) None
+find-normal_sum x y q = find-fold x y q (x ++ y) [] false refl ∙ by (among q (x ++ y)) refl (ties (canonical q) q) refl
+  where
+    by : (b : Bool) → among q (x ++ y) ≡ b → (c : Bool) → ties (canonical q) q ≡ c → cond b (some_unless_zero (difference x y q)) None ≡ cond c (some_unless_zero (difference x y q)) None
+    by true h true k = refl
+    by true h false k = absurd (true≢false (sym (is_tied (canonical q) q (among_normal q (x ++ y) h)) ∙ k))
+    by false h true k = sym (ap some_unless_zero (difference_none x y q (tied_is (canonical q) q k) h))
+    by false h false k = refl
+
+-- the terms ascend
+sorted_once : (form : Coefficients) (k : Term) (v : ℤ) (z : Bool) → T (is_sorted term_cmp form) → T (is_sorted term_cmp (cond z form (put term_cmp k v form)))
+sorted_once form k v true h = h
+sorted_once form k v false h = is_sorted-put term_cmp term_cmp_total k v form h
+
+sorted_fold : (x y : List Mono) (ms : List Mono) (form : Coefficients) → T (is_sorted term_cmp form) → T (is_sorted term_cmp (fold (put_term x y) form ms))
+sorted_fold x y [] form h = h
+sorted_fold x y (m ∷ ms) form h =
+    sorted_fold x y ms (put_term x y form m) (sorted_once form (canonical m.term) (difference x y m.term) (int_eq (difference x y m.term) (pos 0)) h)
+
+sorted_normal_sum : (x y : List Mono) → T (is_sorted term_cmp (normal_sum x y))
+sorted_normal_sum x y = sorted_fold x y (x ++ y) [] tt
+
+-- ---- equal forms are equal coefficients
+
+difference_of_equal : (x y z w : List Mono) (t : Term) → coeff_of x t + coeff_of w t ≡ coeff_of z t + coeff_of y t → difference x y t ≡ difference z w t
+difference_of_equal x y z w t h = omega (arith, ints)
+
+equal_of_difference : (x y z w : List Mono) (t : Term) → difference x y t ≡ difference z w t → coeff_of x t + coeff_of w t ≡ coeff_of z t + coeff_of y t
+equal_of_difference x y z w t h = omega (arith, ints)
+
+pub form_of_equal : (x y z w : List Mono) → EqualNormal x y z w → normal_sum x y ≡ normal_sum z w
+form_of_equal x y z w h =
+    same_entries term_cmp term_cmp_total term_cmp_exact (normal_sum x y) (normal_sum z w) (sorted_normal_sum x y) (sorted_normal_sum z w)
+    (λ q. find-normal_sum x y q ∙ ap (λ v. cond (ties (canonical q) q) (some_unless_zero v) None) (difference_of_equal x y z w q (h q)) ∙ sym (find-normal_sum z w q))
+
+unwrap_some : (v : ℤ) → unwrap_or (some_unless_zero v) (pos 0) ≡ v
+unwrap_some v = by (int_eq v (pos 0)) (Decides-int_eq v (pos 0))
+  where
+    by : (b : Bool) → Decides b (v ≡ pos 0) → unwrap_or (cond b None (Some v)) (pos 0) ≡ v
+    by true h = sym (h.0 refl)
+    by false h = refl
+
+-- the coefficient of a term, read from the normal form
+difference_in : (x y : List Mono) (t : Term) → unwrap_or (find term_cmp (canonical t) (normal_sum x y)) (pos 0) ≡ difference x y t
+difference_in x y t =
+    ap (λ o. unwrap_or o (pos 0)) (find-normal_sum x y (canonical t))
+    ∙ ap (λ b. unwrap_or (cond b (some_unless_zero (difference x y (canonical t))) None) (pos 0)) (is_tied (canonical (canonical t)) (canonical t) (canonical_twice t))
+    ∙ unwrap_some (difference x y (canonical t))
+    ∙ difference_same x y (canonical t) t (canonical_twice t)
+
+pub equal_of_form : (x y z w : List Mono) → normal_sum x y ≡ normal_sum z w → EqualNormal x y z w
+equal_of_form x y z w e t =
+    equal_of_difference x y z w t (sym (difference_in x y t) ∙ ap (λ form. unwrap_or (find term_cmp (canonical t) form) (pos 0)) e ∙ difference_in z w t)
+
+-- ---- up to sign
+
+pub form_cmp_total : IsTotalOrder form_cmp
+form_cmp_total = lists_total (then_total (on_total (λ (p : Term × ℤ). p.0) term_cmp_total) (on_total (λ (p : Term × ℤ). p.1) int_cmp_total))
+
+pub form_cmp_exact : (x y : Coefficients) → form_cmp x y ≡ Equal → x ≡ y
+form_cmp_exact x y e = slice_cmp-IsAntisymmetric (exact_pairs term_cmp int_cmp term_cmp_exact int_cmp-IsAntisymmetric) x y e
+
+lesser_turned : (x y : Coefficients) → ord_min form_cmp x y ≡ ord_min form_cmp y x
+lesser_turned x y = by (form_cmp x y) refl
+  where
+    by : (r : Ordering) → form_cmp x y ≡ r → ord_min form_cmp x y ≡ ord_min form_cmp y x
+    by Less e = let f : form_cmp y x ≡ Greater = form_cmp_total.antisymm y x ∙ ap ordering_reverse e in rw (e, f) refl
+    by Equal e = let f : form_cmp y x ≡ Equal = form_cmp_total.antisymm y x ∙ ap ordering_reverse e in rw (e, f) (form_cmp_exact x y e)
+    by Greater e = let f : form_cmp y x ≡ Less = form_cmp_total.antisymm y x ∙ ap ordering_reverse e in rw (e, f) refl
+
+turned_sides : (x y z w : List Mono) → EqualNormal y x w z → EqualNormal x y z w
+turned_sides x y z w h t = let e = h t in omega arith
+
+or_one : (b c : Bool) → b ≡ true → (b || c) ≡ true
+or_one true c h = refl
+or_one false c h = absurd (true≢false (sym h))
+
+or_two : (b c : Bool) → c ≡ true → (b || c) ≡ true
+or_two true c h = refl
+or_two false c h = h
+
+-- of two lists with equal lesser ones, some two are equal
+some_equal : (b c : Bool) (x y z w : List Mono) → cond b (normal_sum y x) (normal_sum x y) ≡ cond c (normal_sum w z) (normal_sum z w) → (agree x y z w || agree x y w z) ≡ true
+some_equal false false x y z w e = or_one (agree x y z w) (agree x y w z) (agree_of_equal x y z w (equal_of_form x y z w e))
+some_equal true true x y z w e = or_one (agree x y z w) (agree x y w z) (agree_of_equal x y z w (turned_sides x y z w (equal_of_form y x w z e)))
+some_equal false true x y z w e = or_two (agree x y z w) (agree x y w z) (agree_of_equal x y w z (equal_of_form x y w z e))
+some_equal true false x y z w e = or_two (agree x y z w) (agree x y w z) (agree_of_equal x y w z (turned_sides x y w z (equal_of_form y x z w e)))
+
+pub agree_up_to_sign : (x y z w : List Mono) → normal_up_to_sign x y ≡ normal_up_to_sign z w → (agree x y z w || agree x y w z) ≡ true
+agree_up_to_sign x y z w e = some_equal _ _ x y z w e
+
+both_forms : (x y z w : List Mono) → agree x y z w ≡ true → (normal_sum x y ≡ normal_sum z w) × (normal_sum y x ≡ normal_sum w z)
+both_forms x y z w h =
+    let e = equal_of_agree x y z w h in (form_of_equal x y z w e, form_of_equal y x w z (turned_sides y x w z e))
+
+up_to_sign_by : (b c : Bool) (x y z w : List Mono) → agree x y z w ≡ b → agree x y w z ≡ c → (b || c) ≡ true → normal_up_to_sign x y ≡ normal_up_to_sign z w
+up_to_sign_by true c x y z w h k o =
+    let e = both_forms x y z w h in ap (λ f. ord_min form_cmp f (normal_sum y x)) e.0 ∙ ap (ord_min form_cmp (normal_sum z w)) e.1
+up_to_sign_by false true x y z w h k o =
+    let e = both_forms x y w z k in
+    ap (λ f. ord_min form_cmp f (normal_sum y x)) e.0 ∙ ap (ord_min form_cmp (normal_sum w z)) e.1 ∙ lesser_turned (normal_sum w z) (normal_sum z w)
+up_to_sign_by false false x y z w h k o = absurd (true≢false (sym o))
+
+pub up_to_sign_of_agree : (x y z w : List Mono) → (agree x y z w || agree x y w z) ≡ true → normal_up_to_sign x y ≡ normal_up_to_sign z w
+up_to_sign_of_agree x y z w h = up_to_sign_by _ _ x y z w refl refl h
