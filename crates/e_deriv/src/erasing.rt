@@ -4,6 +4,7 @@ ghost use Rattle.e_deriv.specs.Script.{Script, script_of, step_script, close_scr
 
 use crate::block::{Block, Close, Step};
 use e_clause::By;
+use e_construct::Construction;
 use e_literal::{Items, copy};
 use std::alloc::{AllocError, Global};
 
@@ -30,6 +31,15 @@ fn erase_step(alloc: Global, step: &Step) -> Result<Step, AllocError>
         Step::Hence { lit, .. } => {
             let lit = copy(alloc, lit)?;
             Ok(Step::Hence { lit, cert: None })
+        }
+        Step::Make { form, names, .. } => {
+            let form = copy_construction(alloc, form)?;
+            let names = Vec::from_slice(alloc, names.items())?;
+            Ok(Step::Make {
+                form,
+                names: Items::new(names),
+                certs: Items::empty(alloc),
+            })
         }
     }
 }
@@ -58,5 +68,18 @@ pub fn copy_by(alloc: Global, by: &By) -> Result<By, AllocError>
         rule: by.rule,
         args: Items::new(args),
         lit: copy(alloc, &by.lit)?,
+    })
+}
+
+/// An equal construction.
+pub fn copy_construction(alloc: Global, form: &Construction) -> Result<Construction, AllocError>
+    ensures { IfOk result (λ f. f ≡ form.now) }
+{
+    let args = Vec::from_slice(alloc, form.args.items())?;
+    let avoid = Vec::from_slice(alloc, form.avoid.items())?;
+    Ok(Construction {
+        shape: form.shape,
+        args: Items::new(args),
+        avoid: Items::new(avoid),
     })
 }
