@@ -20,7 +20,10 @@ pub enum Step {
     /// The literal is one of an instance of the rule, and the negation of each other one is a fact.
     Cite(By),
     /// The literal is allowed.
-    Hence { lit: Lit, cert: Option<Cert> },
+    Hence {
+        lit: Lit,
+        cert: Option<Cert>,
+    },
     /// Each literal that the construction needs is allowed; the new objects, with these names, come into scope, and
     /// what it gives are facts.
     Make {

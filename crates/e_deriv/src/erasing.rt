@@ -5,7 +5,7 @@ ghost use Rattle.e_deriv.specs.Script.{Script, script_of, step_script, close_scr
 use crate::block::{Block, Close, Step};
 use e_clause::By;
 use e_construct::Construction;
-use e_literal::{Items, copy};
+use e_literal::{Items, Obj, copy};
 use std::alloc::{AllocError, Global};
 
 /// The script of a block: the same lines without their certificates.
@@ -75,11 +75,15 @@ pub fn copy_by(alloc: Global, by: &By) -> Result<By, AllocError>
 pub fn copy_construction(alloc: Global, form: &Construction) -> Result<Construction, AllocError>
     ensures { IfOk result (λ f. f ≡ form.now) }
 {
-    let args = Vec::from_slice(alloc, form.args.items())?;
-    let avoid = Vec::from_slice(alloc, form.avoid.items())?;
     Ok(Construction {
         shape: form.shape,
-        args: Items::new(args),
-        avoid: Items::new(avoid),
+        args: copy_objects(alloc, form.args.items())?,
+        avoid: copy_objects(alloc, form.avoid.items())?,
     })
+}
+
+fn copy_objects(alloc: Global, objects: &[Obj]) -> Result<Items<Obj>, AllocError>
+    ensures { IfOk result (λ o. o ≡ objects.now) }
+{
+    Ok(Items::new(Vec::from_slice(alloc, objects)?))
 }
