@@ -16,24 +16,13 @@ use Rattle.e_clause.specs.Instance.{place_of}
 use Rattle.e_clause.specs.Sigs.{sig_of}
 use Rattle.e_clause.specs.RuleKinds.{is_diagram_rule}
 use Rattle.e_deriv.specs.declared.names.Names.{Names}
+pub use Rattle.e_deriv.specs.Naming.{names_of_sort, with_names}
 use Rattle.e_book.specs.declared.fault.Kind.{Kind}
 use Rattle.e_book.specs.declared.fault.Kind.TheVariants.{Malformed, UnknownName, NameTaken, WrongSort}
 use Rattle.e_book.specs.declared.literal.RawLit.{RawLit}
 use Rattle.e_book.specs.declared.literal.RawAtom.{RawAtom}
 use Rattle.e_book.specs.declared.literal.RawAtom.TheVariants as raw
 use Rattle.e_book.specs.Reading.{◌>>=◌, each}
-
--- the names of the objects of a sort
-abbrev pub names_of_sort : Names → Sort → List (List ℕ)
-names_of_sort ns sorts.Point = ns.points
-names_of_sort ns sorts.Line = ns.lines
-names_of_sort ns sorts.Circle = ns.circles
-
--- with other names for the objects of a sort
-abbrev pub with_names : Names → Sort → List (List ℕ) → Names
-with_names ns sorts.Point new = record ns { points = new }
-with_names ns sorts.Line new = record ns { lines = new }
-with_names ns sorts.Circle new = record ns { circles = new }
 
 -- a number of 16 bits is enough for each object
 pub record FewNames (ns : Names) : Type 0 where
