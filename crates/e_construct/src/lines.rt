@@ -23,18 +23,31 @@ pub enum Piece {
 use Piece::{Argument, New};
 
 const point: Piece = Piece::Word(b"point");
+
 const line: Piece = Piece::Word(b"line");
+
 const circle: Piece = Piece::Word(b"circle");
+
 const on: Piece = Piece::Word(b"on");
+
 const between: Piece = Piece::Word(b"between");
+
 const beyond: Piece = Piece::Word(b"beyond");
+
 const from: Piece = Piece::Word(b"from");
+
 const side: Piece = Piece::Word(b"side");
+
 const opposite: Piece = Piece::Word(b"opposite");
+
 const of: Piece = Piece::Word(b"of");
+
 const inside: Piece = Piece::Word(b"inside");
+
 const outside: Piece = Piece::Word(b"outside");
+
 const meet: Piece = Piece::Word(b"meet");
+
 const centers: Piece = Piece::Word(b"centers");
 
 macro_rules! written {
