@@ -1,6 +1,7 @@
 pub mod Loops
 pub mod Texts
 pub mod Placed
+pub mod Arguments
 pub mod SideBySide
 pub mod InScope
 pub mod Citations
