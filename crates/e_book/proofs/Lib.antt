@@ -1,5 +1,6 @@
 pub mod Loops
 pub mod Texts
+pub mod Counted
 pub mod Placed
 pub mod Arguments
 pub mod SideBySide
