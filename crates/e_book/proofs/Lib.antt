@@ -7,6 +7,7 @@ pub mod SideBySide
 pub mod InScope
 pub mod Citations
 pub mod Distinct
+pub mod Building
 pub mod Keeps
 pub mod LineCount
 pub mod Differ
