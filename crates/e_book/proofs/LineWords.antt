@@ -1,7 +1,7 @@
 -- The tokens of a canonical line are the words of its form.
-use Rattle.std.proofs.Common.{◌≡◌, ℕ, Bool, true, false, List, [], ◌∷◌, ◌++◌, refl, ap, ◌∙◌}
+use Rattle.std.proofs.Common.{◌≡◌, ℕ, Bool, true, false, List, [], ◌∷◌, ◌++◌, refl}
 use Rattle.std.specs.Prelude.{codes}
-use Rattle.e_text.specs.Tokens.{tokens_of, AreTokens, spaced as text_spaced, joined as text_joined}
+use Rattle.e_text.specs.Tokens.{tokens_of, AreTokens}
 use Rattle.e_text.proofs.TokenWords.{tokens_of-joined, is_token-name, is_token-title}
 use Rattle.e_literal.specs.declared.object.Sort.TheVariants as sorts
 use Rattle.e_book.specs.declared.literal.RawLit.{RawLit}
@@ -9,19 +9,10 @@ use Rattle.e_book.specs.declared.literal.RawAtom.{RawAtom}
 use Rattle.e_book.specs.declared.literal.RawAtom.TheVariants as raw
 use Rattle.e_book.specs.declared.form.Form.{Form}
 use Rattle.e_book.specs.declared.form.Form.TheVariants as forms
-use Rattle.e_book.specs.Canonical.{spaced, joined, atom_words, signed_words, lit_words, form_words, line_of}
+use Rattle.e_book.specs.Canonical.{atom_words, signed_words, lit_words, form_words, line_of}
 use Rattle.e_book.specs.Book.{is_skipped}
 use Rattle.e_book.specs.HasSpelling.{AreNames}
 use Rattle.e_book.proofs.Respelled.{AtomNamed, GoodForm}
-
--- the words of a line are put together as those of any text
-same_spaced : (ws : List (List ℕ)) → spaced ws ≡ text_spaced ws
-same_spaced [] = refl
-same_spaced (w ∷ ws) = ap (λ (l : List ℕ). 32 ∷ (w ++ l)) (same_spaced ws)
-
-same_joined : (ws : List (List ℕ)) → joined ws ≡ text_joined ws
-same_joined [] = refl
-same_joined (w ∷ ws) = ap (λ (l : List ℕ). w ++ l) (same_spaced ws)
 
 -- ---- the words of forms are tokens
 
@@ -74,7 +65,7 @@ form_tokens forms.Qed h = (refl, tt)
 form_tokens forms.End h = (refl, tt)
 
 pub words_again : (f : Form) → GoodForm f → tokens_of (line_of f) ≡ form_words f
-words_again f h = ap tokens_of (same_joined (form_words f)) ∙ tokens_of-joined (form_words f) (form_tokens f h)
+words_again f h = tokens_of-joined (form_words f) (form_tokens f h)
 
 pub not_skipped : (f : Form) → is_skipped (form_words f) ≡ false
 not_skipped (forms.Theorem t) = refl

@@ -8,7 +8,8 @@ use Rattle.e_literal.specs.Scopes.{same_sort}
 use Rattle.e_deriv.specs.declared.names.Names.{Names}
 use Rattle.e_book.specs.declared.form.Form.{Form}
 use Rattle.e_book.specs.declared.form.Form.TheVariants as forms
-use Rattle.e_book.specs.Canonical.{spaced, line_of, sort_word, name_of_object, declared_before, declare_forms, text_of}
+use Rattle.e_text.specs.Tokens.{spaced}
+use Rattle.e_book.specs.Canonical.{line_of, sort_word, name_of_object, declared_before, declare_forms, text_of}
 use Rattle.e_spell.specs.Parts.{opening, declared_rest}
 
 -- the text of forms

@@ -18,7 +18,8 @@ use Rattle.e_theorem.specs.declared.statement.Statement.{Statement}
 use Rattle.e_book.specs.declared.form.Form.{Form}
 use Rattle.e_book.specs.declared.form.Form.TheVariants as forms
 use Rattle.e_book.specs.Entry.{Entry}
-use Rattle.e_book.specs.Canonical.{joined, spaced, line_of, lit_words, raw_of, given_form, show_form, declare_forms, declared_objects, head_forms, end_form, text_of}
+use Rattle.e_text.specs.Tokens.{joined, spaced}
+use Rattle.e_book.specs.Canonical.{line_of, lit_words, raw_of, given_form, show_form, declare_forms, declared_objects, head_forms, end_form, text_of}
 use Rattle.e_spell.specs.Certificates.{cert_lines, certs_lines}
 use Rattle.e_spell.specs.Spelling.{script_lines, spelled}
 use Rattle.e_spell.specs.Parts.{lits_text, lit_text, cert_text, certs_text, step_text, steps_text, close_text, proof_text, title_text, statement_text, head_text, block_text, declared_rest}

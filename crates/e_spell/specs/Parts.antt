@@ -20,7 +20,8 @@ use Rattle.e_deriv.specs.declared.block.Block.{Block}
 use Rattle.e_deriv.specs.declared.stop.Wanted.{Wanted}
 use Rattle.e_theorem.specs.declared.statement.Statement.{Statement}
 use Rattle.e_book.specs.Entry.{Entry}
-use Rattle.e_book.specs.Canonical.{joined, spaced, lit_words, raw_of, rule_name, name_of_object, sort_word, declared_objects, text_of}
+use Rattle.e_text.specs.Tokens.{joined, spaced}
+use Rattle.e_book.specs.Canonical.{lit_words, raw_of, rule_name, name_of_object, sort_word, declared_objects, text_of}
 use Rattle.e_spell.specs.Certificates.{part_lines}
 use Rattle.e_spell.specs.Spelling.{wanted_words}
 

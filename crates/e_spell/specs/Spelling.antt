@@ -9,7 +9,8 @@ use Rattle.e_deriv.specs.declared.stop.Stop.{Stop}
 use Rattle.e_deriv.specs.declared.stop.Stop.TheVariants.{Unlicensed, NoMemory}
 use Rattle.e_deriv.specs.Script.{Script, Cite, Hence, Qed}
 use Rattle.e_book.specs.Entry.{Entry}
-use Rattle.e_book.specs.Canonical.{joined, line_of, lit_words, raw_of, by_form, hence_form, qed_form, end_form, head_forms, text_of}
+use Rattle.e_text.specs.Tokens.{joined}
+use Rattle.e_book.specs.Canonical.{line_of, lit_words, raw_of, by_form, hence_form, qed_form, end_form, head_forms, text_of}
 use Rattle.e_spell.specs.Certificates.{certs_lines}
 
 -- each line of a derivation, and below it one certificate for each literal that it needs

@@ -1,7 +1,8 @@
 //! Literals and objects by their names.
 ghost use Rattle.std.specs.Prelude.{◌≡◌, ◌++◌, ◌∷◌, [], codes, map, OnOk};
 ghost use Rattle.e_book.specs.Scope.{names_of_sort};
-ghost use Rattle.e_book.specs.Canonical.{spaced, atom_words, not_words, lit_words, raw_atom, raw_of, name_at, name_of_object};
+ghost use Rattle.e_text.specs.Tokens.{spaced};
+ghost use Rattle.e_book.specs.Canonical.{atom_words, not_words, lit_words, raw_atom, raw_of, name_at, name_of_object};
 ghost use Rattle.e_spell.specs.Parts.{lit_text, lits_text};
 
 use crate::words::{end_line, put, put_three, put_two};

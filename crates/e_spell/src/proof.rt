@@ -1,6 +1,7 @@
 //! The lines of a proof, each with its certificates below it.
 ghost use Rattle.std.specs.Prelude.{◌≡◌, ◌++◌, ◌∷◌, [], codes, OnOk};
-ghost use Rattle.e_book.specs.Canonical.{spaced, rule_name};
+ghost use Rattle.e_text.specs.Tokens.{spaced};
+ghost use Rattle.e_book.specs.Canonical.{rule_name};
 ghost use Rattle.e_spell.specs.Parts.{citation_words, step_text, steps_text, close_text, proof_text};
 
 use crate::certificates::{put_cert_of, put_certs};
