@@ -25,7 +25,8 @@ use Rattle.e_book.specs.Canonical.{name_of_object, let_form}
 use Rattle.e_book.specs.HasSpelling.{AreNames}
 use Rattle.e_book.proofs.Differ.{both}
 use Rattle.e_book.proofs.Lookups.{InOrder, object_used, objects_named}
-use Rattle.e_book.proofs.Pieces.{alike, Filled, made_count, argument_count}
+use Rattle.e_construct.proofs.Sorts.{names_all_objects}
+use Rattle.e_book.proofs.Pieces.{alike, Filled}
 use Rattle.e_book.proofs.LetsAgain.{may_have, GoodLet, as_read}
 
 -- ---- what the arguments of a shape are
@@ -199,8 +200,8 @@ let_good ns form names o h =
       names = record {
         new_names = h.named;
         argument_names = objects_named ns form.args o (of_sorts_in_scope s (sorts_of (shape_row form.shape).args) form.args p.0);
-        made = h.count ∙ sym (made_count form.shape);
-        arguments = length-map form.args (name_of_object ns) ∙ of_sorts_length s (sorts_of (shape_row form.shape).args) form.args p.0 ∙ sym (argument_count form.shape);
+        made = h.count ∙ length-map (shape_row form.shape).made (λ o. o.sort) ∙ sym (names_all_objects form.shape).0;
+        arguments = length-map form.args (name_of_object ns) ∙ of_sorts_length s (sorts_of (shape_row form.shape).args) form.args p.0 ∙ length-map (shape_row form.shape).args (λ o. o.sort) ∙ sym (names_all_objects form.shape).1;
       };
       avoided = objects_named ns form.avoid o (avoided_in_scope s (shape_row form.shape).avoids form.avoid p.1);
       may = may_behind s form.shape (name_of_object ns) form.avoid p.1;

@@ -240,7 +240,7 @@ one_grows s Circle Point = omega arith
 one_grows s Circle Line = omega arith
 one_grows s Circle Circle = omega arith
 
-grown_grows : (s : Scope) (more : List Sort) (sort : Sort) → count_of s sort ≤ count_of (grown s more) sort
+pub grown_grows : (s : Scope) (more : List Sort) (sort : Sort) → count_of s sort ≤ count_of (grown s more) sort
 grown_grows s [] sort = omega arith
 grown_grows s (x ∷ more) sort = omega (arith, one_grows s x sort, grown_grows (with_one s x) more sort)
 

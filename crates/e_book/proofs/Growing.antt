@@ -1,20 +1,26 @@
 -- Names stay in order where some are left out and where new ones come into scope.
-use Rattle.std.proofs.Common.{◌≡◌, ℕ, zero, suc, ◌+◌, ◌≤◌, Bool, true, false, cond, not, ◌&&◌, ◌||◌, List, [], ◌∷◌, ◌++◌, length, take, Result, Ok, Err, refl, sym, ap, subst, ◌∙◌, arith, length-append, length-take-le}
-use Rattle.std.specs.Str.{bytes_eq}
-use Rattle.std.proofs.lemmas.Bool.{not-true}
+use Rattle.std.proofs.Common.{◌≡◌, ℕ, zero, suc, ◌+◌, ◌≤◌, Bool, true, false, not, ◌&&◌, List, [], ◌∷◌, ◌++◌, length, take, Ok, refl, sym, ap, ◌∙◌, arith, length-append, length-take-le}
+use Rattle.std.specs.List.{list_all}
+use Rattle.std.proofs.lemmas.Bool.{not-true, ltb-true}
+use Rattle.std.proofs.lemmas.List.{get_or-take}
 use Rattle.e_text.specs.Names.{is_name}
 use Rattle.e_literal.specs.declared.object.Sort.{Sort}
 use Rattle.e_literal.specs.declared.object.Sort.TheVariants.{Point, Line, Circle}
 use Rattle.e_literal.specs.declared.object.Scope.{Scope}
-use Rattle.e_literal.specs.Literal.{count_of}
+use Rattle.e_literal.specs.declared.object.Obj.{Obj}
+use Rattle.e_literal.specs.declared.literal.Atom.{Atom}
+use Rattle.e_literal.specs.declared.literal.Atom.TheVariants as atoms
+use Rattle.e_literal.specs.declared.literal.Lit.{Lit}
+use Rattle.e_literal.specs.Literal.{obj, is_in_scope, objects_of_atom, all_in_scope}
 use Rattle.e_literal.specs.Scopes.{with_one, grown}
 use Rattle.e_deriv.specs.declared.names.Names.{Names}
 use Rattle.e_deriv.specs.Naming.{names_of_sort, named}
-use Rattle.e_book.specs.declared.fault.Kind.{Kind}
-use Rattle.e_book.specs.declared.fault.Kind.TheVariants.{NameTaken}
+use Rattle.e_book.specs.declared.literal.RawAtom.{RawAtom}
+use Rattle.e_book.specs.declared.literal.RawAtom.TheVariants as raw
 use Rattle.e_book.specs.Scope.{scope_of_names, has, is_taken, fresh}
 use Rattle.e_book.specs.Fits.{are_distinct}
-use Rattle.e_book.specs.HasSpelling.{AreNames}
+use Rattle.e_book.specs.Canonical.{name_at, raw_atom, raw_of}
+use Rattle.e_book.specs.HasSpelling.{AreNames, is_diagram_atom, is_diagram_lit}
 use Rattle.e_book.proofs.Differ.{both, neither, Apart, Apart-sym, has_not_in_front}
 use Rattle.e_book.proofs.Distinct.{distinct_last, Untaken, untaken, passed}
 use Rattle.e_book.proofs.Lookups.{InOrder, ordered}
@@ -99,3 +105,47 @@ named_scope ns [] [] e = refl
 named_scope ns [] (n ∷ names) e = absurd (omega (arith, e))
 named_scope ns (sort ∷ sorts) [] e = absurd (omega (arith, e))
 named_scope ns (sort ∷ sorts) (n ∷ names) e = named_scope (plus ns sort n) sorts names (omega (arith, e)) ∙ ap (λ (s : Scope). grown s sorts) (plus_scope ns sort n)
+
+-- ---- the names of the first objects
+
+two : (s : Scope) (a b : Obj) → list_all (is_in_scope s) (a ∷ b ∷ []) ≡ true → (is_in_scope s a ≡ true) × (is_in_scope s b ≡ true)
+two s a b h =
+    let p = both (is_in_scope s a) (is_in_scope s b && true) h in
+    (p.0, (both (is_in_scope s b) true p.1).0)
+
+three : (s : Scope) (a b c : Obj) → list_all (is_in_scope s) (a ∷ b ∷ c ∷ []) ≡ true → (is_in_scope s a ≡ true) × (is_in_scope s b ≡ true) × (is_in_scope s c ≡ true)
+three s a b c h =
+    let p = both (is_in_scope s a) (is_in_scope s b && (is_in_scope s c && true)) h in
+    let q = two s b c p.1 in
+    (p.0, q.0, q.1)
+
+in_front : (s : Scope) (ns : Names) (sort : Sort) (i : ℕ) → is_in_scope s (obj sort i) ≡ true → name_at (names_of_sort (taken s ns) sort) i ≡ name_at (names_of_sort ns sort) i
+in_front s ns Point i h = get_or-take s.points ns.points i [] (ltb-true i s.points h)
+in_front s ns Line i h = get_or-take s.lines ns.lines i [] (ltb-true i s.lines h)
+in_front s ns Circle i h = get_or-take s.circles ns.circles i [] (ltb-true i s.circles h)
+
+atom_of_taken : (s : Scope) (ns : Names) (a : Atom) → list_all (is_in_scope s) (objects_of_atom a) ≡ true → is_diagram_atom a ≡ true → raw_atom (taken s ns) a ≡ raw_atom ns a
+atom_of_taken s ns (atoms.On a l) h d = let t = two s (obj Point a) (obj Line l) h in rw (in_front s ns Point a t.0, in_front s ns Line l t.1) refl
+atom_of_taken s ns (atoms.OnC a c) h d = let t = two s (obj Point a) (obj Circle c) h in rw (in_front s ns Point a t.0, in_front s ns Circle c t.1) refl
+atom_of_taken s ns (atoms.Inside a c) h d = let t = two s (obj Point a) (obj Circle c) h in rw (in_front s ns Point a t.0, in_front s ns Circle c t.1) refl
+atom_of_taken s ns (atoms.Center a c) h d = let t = two s (obj Point a) (obj Circle c) h in rw (in_front s ns Point a t.0, in_front s ns Circle c t.1) refl
+atom_of_taken s ns (atoms.Between a b c) h d =
+    let t = three s (obj Point a) (obj Point b) (obj Point c) h in
+    ap (λ (x : List ℕ). raw.Between x (name_at (take s.points ns.points) b) (name_at (take s.points ns.points) c)) (in_front s ns Point a t.0)
+    ∙ ap (λ (x : List ℕ). raw.Between (name_at ns.points a) x (name_at (take s.points ns.points) c)) (in_front s ns Point b t.1) ∙ ap (raw.Between (name_at ns.points a) (name_at ns.points b)) (in_front s ns Point c t.2)
+atom_of_taken s ns (atoms.Same a b l) h d =
+    let t = three s (obj Point a) (obj Point b) (obj Line l) h in
+    ap (λ (x : List ℕ). raw.Same x (name_at (take s.points ns.points) b) (name_at (take s.lines ns.lines) l)) (in_front s ns Point a t.0)
+    ∙ ap (λ (x : List ℕ). raw.Same (name_at ns.points a) x (name_at (take s.lines ns.lines) l)) (in_front s ns Point b t.1) ∙ ap (raw.Same (name_at ns.points a) (name_at ns.points b)) (in_front s ns Line l t.2)
+atom_of_taken s ns (atoms.MeetLL l m) h d = let t = two s (obj Line l) (obj Line m) h in ap (λ (x : List ℕ). raw.Meets x (name_at (take s.lines ns.lines) m)) (in_front s ns Line l t.0) ∙ ap (raw.Meets (name_at ns.lines l)) (in_front s ns Line m t.1)
+atom_of_taken s ns (atoms.MeetLC l c) h d = let t = two s (obj Line l) (obj Circle c) h in ap (λ (x : List ℕ). raw.Meets x (name_at (take s.circles ns.circles) c)) (in_front s ns Line l t.0) ∙ ap (raw.Meets (name_at ns.lines l)) (in_front s ns Circle c t.1)
+atom_of_taken s ns (atoms.MeetCC c e) h d = let t = two s (obj Circle c) (obj Circle e) h in ap (λ (x : List ℕ). raw.Meets x (name_at (take s.circles ns.circles) e)) (in_front s ns Circle c t.0) ∙ ap (raw.Meets (name_at ns.circles c)) (in_front s ns Circle e t.1)
+atom_of_taken s ns (atoms.EqP a b) h d = let t = two s (obj Point a) (obj Point b) h in ap (λ (x : List ℕ). raw.Equal x (name_at (take s.points ns.points) b)) (in_front s ns Point a t.0) ∙ ap (raw.Equal (name_at ns.points a)) (in_front s ns Point b t.1)
+atom_of_taken s ns (atoms.EqL l m) h d = let t = two s (obj Line l) (obj Line m) h in ap (λ (x : List ℕ). raw.Equal x (name_at (take s.lines ns.lines) m)) (in_front s ns Line l t.0) ∙ ap (raw.Equal (name_at ns.lines l)) (in_front s ns Line m t.1)
+atom_of_taken s ns (atoms.EqC c e) h d = let t = two s (obj Circle c) (obj Circle e) h in ap (λ (x : List ℕ). raw.Equal x (name_at (take s.circles ns.circles) e)) (in_front s ns Circle c t.0) ∙ ap (raw.Equal (name_at ns.circles c)) (in_front s ns Circle e t.1)
+atom_of_taken s ns (atoms.MagEq x y) h d = absurd cc
+atom_of_taken s ns (atoms.MagLt x y) h d = absurd cc
+
+-- a literal over the first objects is spelled with their names alone
+pub lit_of_taken : (s : Scope) (ns : Names) (l : Lit) → all_in_scope s l ≡ true → is_diagram_lit l ≡ true → raw_of (taken s ns) l ≡ raw_of ns l
+lit_of_taken s ns l h d = ap (λ (a : RawAtom). record { neg = l.neg; atom = a }) (atom_of_taken s ns l.atom h d)

@@ -9,7 +9,6 @@ use Rattle.e_text.specs.Tokens.{is_token}
 use Rattle.e_construct.specs.declared.construction.Shape.{Shape}
 use Rattle.e_construct.specs.declared.construction.Shape.TheVariants.{Free, OnLine, Within, Beyond, SideOf, Opposite, OnCircle, Inside, Outside, MeetLines, MeetOne, MeetBoth, CirclesOne, CirclesBoth}
 use Rattle.e_construct.specs.Shapes.{shape_row}
-use Rattle.e_construct.specs.Construct.{sorts_of}
 use Rattle.e_construct.specs.Lines.{Piece, New, Argument, Word, pieces, all_shapes, may_avoid, count_new, count_arguments}
 use Rattle.e_book.specs.Lets.{are_words_of, new_words, argument_words, is_line_of, shapes_of}
 use Rattle.e_book.specs.Canonical.{filled}
@@ -177,15 +176,3 @@ first_alike CirclesOne = record { first = MeetLines; more = MeetOne ∷ CirclesO
 first_alike MeetBoth = itself MeetBoth (CirclesBoth ∷ []) refl
 first_alike CirclesBoth = record { first = MeetBoth; more = CirclesBoth ∷ []; is = refl; same = refl }
 first_alike s = itself s [] refl
-
--- ---- the line and the row of a shape
-
-pub made_count : (s : Shape) → count_new (pieces s) ≡ length (sorts_of (shape_row s).made)
-unfolding pieces shape_row
-made_count Free = refl
-made_count s = refl
-
-pub argument_count : (s : Shape) → count_arguments (pieces s) ≡ length (sorts_of (shape_row s).args)
-unfolding pieces shape_row
-argument_count Free = refl
-argument_count s = refl
