@@ -1,5 +1,6 @@
 pub mod Loops
 pub mod Texts
+pub mod Placed
 pub mod SideBySide
 pub mod InScope
 pub mod Citations

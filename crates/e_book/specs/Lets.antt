@@ -1,5 +1,5 @@
 -- The lines of constructions, by their spelling alone.
-use Rattle.std.specs.Prelude.{ℕ, Bool, true, false, not, ◌&&◌, ◌||◌, List, [], ◌∷◌, Result, Ok, Err, codes, filter}
+use Rattle.std.specs.Prelude.{ℕ, Bool, true, false, not, ◌&&◌, ◌||◌, List, [], ◌∷◌, Result, Ok, Err, codes, filter, if◌then◌else◌}
 use Rattle.std.specs.Str.{bytes_eq}
 use Rattle.e_text.specs.Names.{is_name}
 use Rattle.e_construct.specs.declared.construction.Shape.{Shape}
@@ -21,26 +21,31 @@ are_words_of [] [] = true
 are_words_of (p ∷ ps) (w ∷ ws) = is_word_of p w && are_words_of ps ws
 are_words_of _ _ = false
 
+-- the place of a new object, or else that of an argument
+abbrev pub is_place : Bool → Piece → Bool
+is_place new New = new
+is_place new Argument = not new
+is_place new (Word w) = false
+
+-- the words at these places
+abbrev pub words_at : Bool → List Piece → List (List ℕ) → List (List ℕ)
+words_at new (p ∷ ps) (w ∷ ws) = if is_place new p then w ∷ words_at new ps ws else words_at new ps ws
+words_at new _ _ = []
+
 -- the words at the places of the new objects
 abbrev pub new_words : List Piece → List (List ℕ) → List (List ℕ)
-new_words (New ∷ ps) (w ∷ ws) = w ∷ new_words ps ws
-new_words (Argument ∷ ps) (w ∷ ws) = new_words ps ws
-new_words (Word v ∷ ps) (w ∷ ws) = new_words ps ws
-new_words _ _ = []
+new_words ps ws = words_at true ps ws
 
 -- the words at the places of the arguments
 abbrev pub argument_words : List Piece → List (List ℕ) → List (List ℕ)
-argument_words (New ∷ ps) (w ∷ ws) = argument_words ps ws
-argument_words (Argument ∷ ps) (w ∷ ws) = w ∷ argument_words ps ws
-argument_words (Word v ∷ ps) (w ∷ ws) = argument_words ps ws
-argument_words _ _ = []
+argument_words ps ws = words_at false ps ws
 
 -- the words are the line of this shape, which may avoid objects if the line does
 abbrev pub is_line_of : Bool → List (List ℕ) → Shape → Bool
 is_line_of avoiding words s = are_words_of (pieces s) words && (not avoiding || may_avoid s)
 
 -- the shapes whose line the words are, in the order of the table
-abbrev pub shapes_of : Bool → List (List ℕ) → List Shape
+unfoldable pub shapes_of : Bool → List (List ℕ) → List Shape
 shapes_of avoiding words = filter (is_line_of avoiding words) all_shapes
 
 -- the words behind avoid, at least one name

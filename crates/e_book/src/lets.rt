@@ -1,8 +1,9 @@
 //! The lines of constructions, told from their words by spelling alone.
-ghost use Rattle.std.specs.Prelude.{◌≡◌, List, map, IfOk};
+ghost use Rattle.std.specs.Prelude.{◌≡◌, List, map, slice_get, false, IfOk};
+ghost use Rattle.std.specs.Option.{option_map_or};
 ghost use Rattle.e_construct.specs.Views.{piece_said};
-ghost use Rattle.e_book.specs.Reading.{texts, names_of, with_front, Gives, Moves};
-ghost use Rattle.e_book.specs.Lets.{is_word_of, are_words_of, is_line_of, shapes_of, new_words, argument_words, avoided_of, let_named, let_of};
+ghost use Rattle.e_book.specs.Reading.{texts, names_of, Gives};
+ghost use Rattle.e_book.specs.Lets.{is_word_of, are_words_of, is_line_of, shapes_of, is_place, words_at, avoided_of, let_named, let_of};
 
 use crate::fault::{Kind, Trouble};
 use crate::words::{cut, some_names};
@@ -35,6 +36,7 @@ fn is_word_of(piece: Piece, word: &[u8]) -> bool
 }
 
 /// Whether the words are those of a line, one for each piece.
+#[tactic(auto, using(crate::proofs::Placed::counting))]
 fn are_words_of(pieces: &[Piece], words: &[&[u8]]) -> bool
     ensures { result ≡ are_words_of (map piece_said pieces.now) (texts words.now) }
 {
@@ -55,11 +57,13 @@ fn is_line_of(avoiding: bool, words: &[&[u8]], shape: Shape) -> bool
 }
 
 /// The shapes whose line the words are.
+#[tactic(auto, unfolding(crate::specs::Lets::shapes_of))]
 fn shapes_of(alloc: Global, avoiding: bool, words: &[&[u8]]) -> Result<Items<Shape>, AllocError>
     ensures { IfOk result (λ s. s ≡ shapes_of avoiding (texts words.now)) }
 {
+    let all = all_shapes();
     let mut shapes = Items::empty(alloc);
-    for shape in all_shapes() {
+    for shape in all {
         if is_line_of(avoiding, words, *shape) {
             shapes.push(*shape)?;
         }
@@ -67,36 +71,47 @@ fn shapes_of(alloc: Global, avoiding: bool, words: &[&[u8]]) -> Result<Items<Sha
     Ok(shapes)
 }
 
-fn put_name(word: &[u8], names: &mut Items<Name>) -> Result<(), Trouble> {
-    let Some(name) = Name::read(word) else {
-        return Err(Trouble::Fault(Kind::Malformed));
-    };
-    names.push(name)?;
-    Ok(())
+/// Whether a piece is the place of a new object, or else that of an argument.
+fn is_place(new: bool, piece: Piece) -> bool
+    ensures { result ≡ is_place new (piece_said piece) }
+{
+    match piece {
+        Piece::New => new,
+        Piece::Argument => !new,
+        Piece::Word(_) => false,
+    }
 }
 
-/// Puts the names of the new objects last.
-fn put_new(pieces: &[Piece], words: &[&[u8]], names: &mut Items<Name>) -> Result<(), Trouble>
-    ensures { Moves result names.new (with_front names.old (names_of (new_words (map piece_said pieces.now) (texts words.now)))) }
+/// Whether such a place is there.
+fn is_place_at(new: bool, pieces: &[Piece], at: usize) -> bool
+    ensures { result ≡ option_map_or (λ p. is_place new (piece_said p)) (slice_get pieces.now at) false }
 {
-    for (piece, word) in pieces.iter().zip(words) {
-        if matches!(piece, Piece::New) {
-            put_name(word, names)?;
-        }
+    match pieces.get(at) {
+        None => false,
+        Some(piece) => is_place(new, *piece),
     }
-    Ok(())
 }
 
-/// Puts the names of the arguments last.
-fn put_arguments(pieces: &[Piece], words: &[&[u8]], names: &mut Items<Name>) -> Result<(), Trouble>
-    ensures { Moves result names.new (with_front names.old (names_of (argument_words (map piece_said pieces.now) (texts words.now)))) }
+/// The names at the places of the new objects, or else at those of the arguments.
+fn names_at(
+    alloc: Global,
+    new: bool,
+    pieces: &[Piece],
+    words: &[&[u8]],
+) -> Result<Items<Name>, Trouble>
+    ensures { Gives (λ n. n) result (names_of (words_at new (map piece_said pieces.now) (texts words.now))) }
 {
-    for (piece, word) in pieces.iter().zip(words) {
-        if matches!(piece, Piece::Argument) {
-            put_name(word, names)?;
+    let mut names = Items::empty(alloc);
+    for (i, word) in words.iter().enumerate() {
+        if !is_place_at(new, pieces, i) {
+            continue;
+        }
+        match Name::read(word) {
+            Some(name) => names.push(name)?,
+            None => return Err(Trouble::Fault(Kind::Malformed)),
         }
     }
-    Ok(())
+    Ok(names)
 }
 
 /// The words behind `avoid`, where that stands there.
@@ -123,10 +138,8 @@ fn let_named(
     let [first, ..] = shapes.items() else {
         return Err(Trouble::Fault(Kind::Malformed));
     };
-    let mut new = Items::empty(alloc);
-    put_new(pieces(*first), words, &mut new)?;
-    let mut args = Items::empty(alloc);
-    put_arguments(pieces(*first), words, &mut args)?;
+    let new = names_at(alloc, true, pieces(*first), words)?;
+    let args = names_at(alloc, false, pieces(*first), words)?;
     Ok(RawLet {
         shapes,
         new,

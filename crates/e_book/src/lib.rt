@@ -30,4 +30,7 @@ pub use theorem::Theorem;
 pub use words::{Words, collected};
 
 #[cfg(test)]
+mod let_tests;
+
+#[cfg(test)]
 mod tests;
