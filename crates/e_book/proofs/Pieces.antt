@@ -147,11 +147,13 @@ pub record Filled (s : Shape) (new args : List (List ℕ)) : Type 0 where
   pub arguments : length args ≡ count_arguments (pieces s)
 
 pub shapes_again : (s : Shape) (new args : List (List ℕ)) → Filled s new args → shapes_of false (filled (pieces s) new args) ≡ alike s
+unfolding shapes_of
 shapes_again s new args f =
     filter_same (is_line_of false (filled (pieces s) new args)) (λ t. similar (pieces t) (pieces s) && true) all_shapes
     (λ t. ap (λ b. b && true) (words_of_filled (pieces t) (pieces s) new args (own_words_of t) (own_words_of s) f.new_names f.argument_names f.made f.arguments)) ∙ alike_plain s
 
 pub avoiding_shapes_again : (s : Shape) (new args : List (List ℕ)) → Filled s new args → may_avoid s ≡ true → shapes_of true (filled (pieces s) new args) ≡ alike s
+unfolding shapes_of
 avoiding_shapes_again s new args f may =
     filter_same (is_line_of true (filled (pieces s) new args)) (λ t. similar (pieces t) (pieces s) && may_avoid t) all_shapes
     (λ t. ap (λ b. b && may_avoid t) (words_of_filled (pieces t) (pieces s) new args (own_words_of t) (own_words_of s) f.new_names f.argument_names f.made f.arguments)) ∙ alike_avoiding s may
