@@ -14,7 +14,7 @@ use crate::known::Known;
 use crate::lets::RawLet;
 use crate::literal::RawLit;
 use crate::scope::{
-    by_in, fresh, let_in, lit_in, names_of_sort, put_lits, put_names, qed_in, scope_of_names,
+    by_in, fresh, is_sort, let_in, lit_in, names_of_sort, put_lits, put_names, qed_in, scope_of_names,
 };
 use crate::steps::Steps;
 use crate::theorem::Theorem;
@@ -128,7 +128,8 @@ fn what_of(sort: Sort) -> What
 /// The limits of objects in scope: points, then lines, then circles.
 #[tactic(auto, unfolding(crate::specs::Steps::few_objects))]
 fn few_objects(names: &Names) -> Result<(), Trouble>
-    ensures { Gives (λ u. u) result (few_objects names.now) }
+    ensures value { Gives (λ u. u) result (few_objects names.now) }
+    ensures fits { IfOk result (λ u. FewNamed names.now) }
 {
     within(names.points.len(), MAX_POINTS, What::Points)?;
     within(names.lines.len(), MAX_LINES, What::Lines)?;
@@ -173,12 +174,13 @@ fn declare(names: &mut Names, sort: Sort, new: &[Name]) -> Result<(), Trouble>
 }
 
 /// How many objects of a sort there are.
+#[tactic(auto, using(crate::proofs::Counted::counting))]
 fn count(sorts: &[Sort], sort: Sort) -> usize
     ensures { result ≡ count_of (grown nothing sorts.now) sort }
 {
     let mut count = 0;
     for other in sorts {
-        if *other == sort {
+        if is_sort(*other, sort) {
             count += 1;
         }
     }
@@ -187,7 +189,8 @@ fn count(sorts: &[Sort], sort: Sort) -> usize
 
 /// The first of the names, at most so many.
 fn first_names(alloc: Global, names: &[Name], count: usize) -> Result<Items<Name>, AllocError>
-    ensures { IfOk result (λ n. n ≡ take count names.now) }
+    ensures value { IfOk result (λ n. n ≡ take count names.now) }
+    ensures few { IfOk result (λ n. length n ≤ length names.now) }
 {
     let first = if count < names.len() {
         &names[..count]
@@ -199,7 +202,9 @@ fn first_names(alloc: Global, names: &[Name], count: usize) -> Result<Items<Name
 
 /// Of the names of a statement those of its declared objects, which come first.
 fn declared_names(alloc: Global, declared: &[Sort], names: &Names) -> Result<Names, AllocError>
-    ensures { IfOk result (λ n. (given shown : List Lit) (made : List Sort) → n ≡ Naming.declared_names (record { declared = declared.now; given = given; made = made; shown = shown }) names.now) }
+    requires { FewNamed names.now }
+    ensures fits { IfOk result FewNamed }
+    ensures value { IfOk result (λ n. (given shown : List Lit) (made : List Sort) → n ≡ Naming.declared_names (record { declared = declared.now; given = given; made = made; shown = shown }) names.now) }
 {
     Ok(Names {
         points: first_names(alloc, names.points.items(), count(declared, Sort::Point))?,
@@ -278,11 +283,7 @@ impl Draft {
                 self.place = Place::Showing;
                 Ok(())
             }
-            Form::Proof => {
-                self.in_scope = declared_names(alloc, self.declared.items(), &self.names)?;
-                self.place = Place::Proving;
-                Ok(())
-            }
+            Form::Proof => self.begin_proof(alloc),
             Form::By(rule, args, lit) => self.cite(alloc, *rule, args.items(), lit),
             Form::Hence(lit) => {
                 let lit = lit_in(&self.in_scope, lit)?;
@@ -321,6 +322,18 @@ impl Draft {
         let sorts = repeated(alloc, sort, names.len())?;
         self.made.append(sorts.items())?;
         self.place = Place::Making;
+        Ok(())
+    }
+
+    /// The proof begins with the declared objects.
+    #[tactic(auto, unfolding(crate::specs::Steps::stepped))]
+    fn begin_proof(&mut self, alloc: Global) -> Result<(), Trouble>
+        requires { FitsScope self.old }
+        ensures value { Moves result self.new (stepped self.old Form.Proof) }
+        ensures fits { OnOk result (FitsScope self.new) }
+    {
+        self.in_scope = declared_names(alloc, self.declared.items(), &self.names)?;
+        self.place = Place::Proving;
         Ok(())
     }
 

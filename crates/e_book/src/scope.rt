@@ -105,7 +105,7 @@ fn number_of(names: &Names, sort: Sort, name: Name) -> Result<u16, Trouble>
     }
 }
 
-fn is_sort(a: Sort, b: Sort) -> bool
+pub(crate) fn is_sort(a: Sort, b: Sort) -> bool
     ensures { result ≡ same_sort a b }
 {
     match (a, b) {
