@@ -24,10 +24,11 @@ use Rattle.e_book.specs.Scope.{scope_of_names, fresh, used, right_sort, right_co
 use Rattle.e_book.specs.Canonical.{name_of_object, let_form}
 use Rattle.e_book.specs.HasSpelling.{AreNames}
 use Rattle.e_book.proofs.Differ.{both}
+use Rattle.e_book.proofs.Building.{GoodLet}
 use Rattle.e_book.proofs.Lookups.{InOrder, object_used, objects_named}
 use Rattle.e_construct.proofs.Sorts.{names_all_objects}
 use Rattle.e_book.proofs.Pieces.{alike, Filled}
-use Rattle.e_book.proofs.LetsAgain.{may_have, GoodLet, as_read}
+use Rattle.e_book.proofs.LetsAgain.{may_have, LetNamed, as_read}
 
 -- ---- what the arguments of a shape are
 
@@ -172,33 +173,26 @@ may_behind s sh names (o ∷ os) h = by_avoids (shape_row sh).avoids h where
 abbrev pub raw_let : Names → Construction → List (List ℕ) → RawLet
 raw_let ns form names = record { shapes = form.shape ∷ []; new = names; args = map (name_of_object ns) form.args; avoid = map (name_of_object ns) form.avoid }
 
--- what is known of a construction where it stands
-pub record Stands (ns : Names) (form : Construction) (names : List (List ℕ)) : Type 0 where
-  pub fitting : fits form (scope_of_names ns) ≡ true
-  pub named : AreNames names
-  pub free : fresh ns [] names ≡ Ok tt
-  pub count : length names ≡ length (made form)
-
-pub let_number_again : (ns : Names) (form : Construction) (names : List (List ℕ)) → InOrder ns → Stands ns form names → let_in ns (as_read (raw_let ns form names)) ≡ Ok form
+pub let_number_again : (ns : Names) (form : Construction) (names : List (List ℕ)) → InOrder ns → GoodLet ns form names → let_in ns (as_read (raw_let ns form names)) ≡ Ok form
 unfolding let_in
 let_number_again ns form names o h =
     let s = scope_of_names ns in
-    let p = both (are_of_sorts s (sorts_of (shape_row form.shape).args) form.args) (avoids_well s (shape_row form.shape).avoids form.avoid) h.fitting in
+    let p = both (are_of_sorts s (sorts_of (shape_row form.shape).args) form.args) (avoids_well s (shape_row form.shape).avoids form.avoid) h.fits in
     let args = arguments_read ns form.shape [] form.args o (of_sorts_in_scope s (sorts_of (shape_row form.shape).args) form.args p.0) (of_sorts_begin s (sorts_of (shape_row form.shape).args) form.args p.0) in
     let avoid = avoided_read ns form.avoid o (avoided_in_scope s (shape_row form.shape).avoids form.avoid p.1) in
-    let first = first_read form.shape s form.args form.avoid h.fitting in
+    let first = first_read form.shape s form.args form.avoid h.fits in
     let count : eqb (length names) (length (made form)) ≡ true = eq-eqb _ _ h.count in
     rw (h.free, args, avoid, first, count) refl
 
-pub let_good : (ns : Names) (form : Construction) (names : List (List ℕ)) → InOrder ns → Stands ns form names → GoodLet (raw_let ns form names)
-let_good ns form names o h =
+pub let_named : (ns : Names) (form : Construction) (names : List (List ℕ)) → InOrder ns → GoodLet ns form names → AreNames names → LetNamed (raw_let ns form names)
+let_named ns form names o h a =
     let s = scope_of_names ns in
-    let p = both (are_of_sorts s (sorts_of (shape_row form.shape).args) form.args) (avoids_well s (shape_row form.shape).avoids form.avoid) h.fitting in
+    let p = both (are_of_sorts s (sorts_of (shape_row form.shape).args) form.args) (avoids_well s (shape_row form.shape).avoids form.avoid) h.fits in
     record {
       shape = form.shape;
       alone = refl;
       names = record {
-        new_names = h.named;
+        new_names = a;
         argument_names = objects_named ns form.args o (of_sorts_in_scope s (sorts_of (shape_row form.shape).args) form.args p.0);
         made = h.count ∙ length-map (shape_row form.shape).made (λ o. o.sort) ∙ sym (names_all_objects form.shape).0;
         arguments = length-map form.args (name_of_object ns) ∙ of_sorts_length s (sorts_of (shape_row form.shape).args) form.args p.0 ∙ length-map (shape_row form.shape).args (λ o. o.sort) ∙ sym (names_all_objects form.shape).1;

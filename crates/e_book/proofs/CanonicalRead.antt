@@ -4,18 +4,16 @@ use Rattle.std.specs.List.{list_all}
 use Rattle.e_text.specs.Tokens.{tokens_of}
 use Rattle.e_text.specs.Lines.{Seen, numbered}
 use Rattle.e_text.specs.declared.line.LineFault.{LineFault}
-use Rattle.e_literal.specs.declared.object.Sort.{Sort}
-use Rattle.e_literal.specs.declared.object.Sort.TheVariants.{Point, Line, Circle}
 use Rattle.e_literal.specs.declared.object.Obj.{Obj}
 use Rattle.e_literal.specs.declared.object.Scope.{Scope}
 use Rattle.e_literal.specs.declared.literal.Lit.{Lit}
-use Rattle.e_literal.specs.Literal.{count_of, all_in_scope}
-use Rattle.e_literal.specs.Scopes.{nothing, with_one, grown, next_objects}
+use Rattle.e_literal.specs.Literal.{all_in_scope}
+use Rattle.e_literal.specs.Scopes.{nothing, grown}
 use Rattle.e_literal.specs.Use.{scope_of}
-use Rattle.e_construct.specs.Construct.{sorts_of}
 use Rattle.e_theorem.specs.Statements.{stated}
 use Rattle.e_deriv.specs.declared.names.Names.{Names}
 use Rattle.e_deriv.specs.declared.block.Step.{Step}
+use Rattle.e_deriv.specs.Naming.{first_names}
 use Rattle.e_deriv.specs.Script.{Script, Qed, steps_script, size}
 use Rattle.e_deriv.specs.Goal.{Goal, goal_of_statement, facts_of_statement}
 use Rattle.e_deriv.specs.Lines.{lines}
@@ -38,36 +36,21 @@ use Rattle.e_book.proofs.Differ.{both}
 use Rattle.e_book.proofs.Respelled.{GoodForm, as_read, form_again}
 use Rattle.e_book.proofs.LineWords.{words_again, not_skipped}
 use Rattle.e_book.proofs.Lookups.{InOrder, in_order}
-use Rattle.e_book.proofs.Declared.{form_step, Runs, runs_append, Few, taken, run_from, all_taken, grown_grows}
-use Rattle.e_book.proofs.Growing.{Below, taken_in_order, taken_scope, lit_of_taken}
+use Rattle.e_book.proofs.Declared.{form_step, Runs, runs_append, Few, run_from, all_first}
+use Rattle.e_book.proofs.Building.{sorts_again, declared_scope}
+use Rattle.e_book.proofs.Growing.{first_in_order, lit_of_first}
 use Rattle.e_book.proofs.HeadRead.{Plain, declaring, declared_lines, given_draft, making, made_lines, showing, run_title, run_all_given, run_all_shown}
 use Rattle.e_book.proofs.ScriptRead.{proving, closed, steps_of, objects_of, Taken, run_script, same_script}
 
 -- ---- the statement
 
--- the declared objects
-abbrev declared_scope : Entry → Scope
-declared_scope t = scope_of (stated t.statement)
-
-below : (t : Entry) → grown (declared_scope t) t.statement.made ≡ scope_of_names t.names → Below (declared_scope t) t.names
-below t e = record {
-  points = count Point;
-  lines = count Line;
-  circles = count Circle;
-} where
-  count : (sort : Sort) → count_of (declared_scope t) sort ≤ count_of (scope_of_names t.names) sort
-  count sort =
-      let grows = grown_grows (declared_scope t) t.statement.made sort in
-      let final : count_of (grown (declared_scope t) t.statement.made) sort ≡ count_of (scope_of_names t.names) sort = ap (λ (s : Scope). count_of s sort) e in
-      omega (arith, grows, final)
-
 -- given literals are spelled with the names of the declared objects alone
-given_forms_of : (s : Scope) (ns : Names) (ls : List Lit) → list_all (all_in_scope s) ls ≡ true → list_all is_diagram_lit ls ≡ true → map (given_form (taken s ns)) ls ≡ map (given_form ns) ls
+given_forms_of : (s : Scope) (ns : Names) (ls : List Lit) → list_all (all_in_scope s) ls ≡ true → list_all is_diagram_lit ls ≡ true → map (given_form (first_names s ns)) ls ≡ map (given_form ns) ls
 given_forms_of s ns [] h d = refl
 given_forms_of s ns (l ∷ ls) h d =
     let p = both (all_in_scope s l) (list_all (all_in_scope s) ls) h in
     let q = both (is_diagram_lit l) (list_all is_diagram_lit ls) d in
-    rw (lit_of_taken s ns l p.0 q.0, given_forms_of s ns ls p.1 q.1) refl
+    rw (lit_of_first s ns l p.0 q.0, given_forms_of s ns ls p.1 q.1) refl
 
 -- the draft behind the word proof
 abbrev started : Entry → Draft
@@ -81,10 +64,9 @@ run_head : (known : List Headed) (t : Entry) → HasSpelling known t → InOrder
 run_head known t h o =
     let ns = t.names in
     let st = t.statement in
-    let s = declared_scope t in
-    let dn = taken s ns in
+    let s : Scope = scope_of (stated t.statement) in
+    let dn = first_names s ns in
     let few : Few ns = record { points = h.fits.points; lines = h.fits.lines; circles = h.fits.circles } in
-    let b = below t h.fits.scope in
     let end : Option Draft = Some (proving (started t) (names_of_proof t) [] (length st.given)) in
     let titled : Option Draft = Some (begun t.title) in
     let declared : Option Draft = Some (declaring t.title dn st.declared) in
@@ -96,11 +78,11 @@ run_head known t h o =
     let f1 : List Form = map declare_form (grouped ns (declared_objects st)) ++ map (given_form ns) st.given in
     let run_declared : Runs known titled (map declare_form (grouped ns (declared_objects st))) declared =
     run_from known forms.Declare (declaring t.title) (declared_lines t.title) ns nothing [] st.declared st.made o few h.fits.scope in
-    let plain : Plain dn st.given = record { within = subst (λ (z : Scope). list_all (all_in_scope z) st.given ≡ true) (sym (taken_scope s ns b)) h.fits.given; diagram = h.given } in
+    let plain : Plain dn st.given = record { within = subst (λ (z : Scope). list_all (all_in_scope z) st.given ≡ true) (sym (declared_scope (stated st) ns h.fits.scope)) h.fits.given; diagram = h.given } in
     let run_given : Runs known declared (map (given_form ns) st.given) given =
     subst (λ (fs : List Form). Runs known declared fs given) (given_forms_of s ns st.given h.fits.given h.given)
-    (run_all_given known t.title dn st.declared st.given (taken_in_order s ns o) plain (omega (arith, h.fits.facts))) in
-    let whole : taken (grown s st.made) ns ≡ ns = ap (λ (z : Scope). taken z ns) h.fits.scope ∙ all_taken ns in
+    (run_all_given known t.title dn st.declared st.given (first_in_order s ns o) plain (omega (arith, h.fits.facts))) in
+    let whole : first_names (grown s st.made) ns ≡ ns = ap (λ (z : Scope). first_names z ns) h.fits.scope ∙ all_first ns in
     let run_made : Runs known given (map made_form (grouped ns (made_objects st))) made =
     subst (λ (m : Names). Runs known given (map made_form (grouped ns (made_objects st))) (Some (making t.title st.declared st.given m st.made))) whole
     (run_from known forms.Made (making t.title st.declared st.given) (made_lines t.title st.declared st.given) ns s [] st.made [] o few h.fits.scope) in
@@ -112,19 +94,15 @@ run_head known t h o =
 
 -- ---- the proof
 
-sorts_of_next : (s : Scope) (sorts : List Sort) → sorts_of (next_objects s sorts) ≡ sorts
-sorts_of_next s [] = refl
-sorts_of_next s (sort ∷ sorts) = ap (λ (l : List Sort). sort ∷ l) (sorts_of_next (with_one s sort) sorts)
-
 run_proof_lines : (known : List Headed) (t : Entry) → HasSpelling known t → InOrder t.names → Taken known (started t) (names_of_proof t) [] (length t.statement.given) t.script
 run_proof_lines known t h o =
-    let s = declared_scope t in
+    let s : Scope = scope_of (stated t.statement) in
     let facts : List Lit = facts_of_statement (stated t.statement) in
     let goal : Goal = goal_of_statement (stated t.statement) in
-    let scope : s ≡ scope_of_names (names_of_proof t) = sym (taken_scope s t.names (below t h.fits.scope)) in
+    let scope : s ≡ scope_of_names (names_of_proof t) = sym (declared_scope (stated t.statement) t.names h.fits.scope) in
     run_script known (started t) (names_of_proof t) [] (length t.statement.given) t.script facts goal (record {
-      order = taken_in_order s t.names o;
-      goal_sorts = sorts_of_next s t.statement.made;
+      order = first_in_order s t.names o;
+      goal_sorts = sorts_again s t.statement.made;
       plain = h.script;
       fitting = subst (λ (z : Scope). list_all fits (lines t.script z facts goal) ≡ true) scope h.fits.script;
       new_names = h.fits.new_names;

@@ -17,13 +17,14 @@ use Rattle.e_book.specs.declared.draft.Draft.{Draft}
 use Rattle.e_book.specs.Reading.{◌>>=◌}
 use Rattle.e_book.specs.Limits.{most_of, what_of, within}
 use Rattle.e_book.specs.Headed.{Headed}
-use Rattle.e_deriv.specs.Naming.{names_of_sort, with_names}
+use Rattle.e_deriv.specs.Naming.{names_of_sort, with_names, first_names}
 use Rattle.e_book.specs.Scope.{scope_of_names, has, is_taken, fresh}
 use Rattle.e_book.specs.Steps.{declared, step, begin}
 use Rattle.e_book.specs.Book.{is_done}
 use Rattle.e_book.specs.Canonical.{name_at, Group, group, grouped_before, grouped}
 use Rattle.e_book.specs.HasSpelling.{AreNames}
 use Rattle.e_book.proofs.Differ.{apart_at, has_not_in_front, not_before}
+use Rattle.e_book.proofs.Building.{grows}
 use Rattle.e_book.proofs.Respelled.{GoodForm, as_read}
 use Rattle.e_book.proofs.Lookups.{InOrder, named_at, sorts_same}
 
@@ -187,10 +188,6 @@ run_before known say at l ns sorts sort name (g ∷ gs) u n r = by_sort (same_so
 
 -- ---- all names
 
--- the names of the first objects of each sort
-abbrev pub taken : Scope → Names → Names
-taken s ns = record { points = take s.points ns.points; lines = take s.lines ns.lines; circles = take s.circles ns.circles }
-
 take_next : (xs : List (List ℕ)) (n : ℕ) → n < length xs → take n xs ++ name_at xs n ∷ [] ≡ take (suc n) xs
 take_next [] n lt = absurd (omega arith)
 take_next (x ∷ xs) zero lt = refl
@@ -199,12 +196,12 @@ take_next (x ∷ xs) (suc n) lt = ap (λ (l : List (List ℕ)). x ∷ l) (take_n
 take_one : (xs : List (List ℕ)) (n : ℕ) → n < length xs → take n xs ++ name_at xs n ∷ [] ≡ take (n + 1) xs
 take_one xs n lt = let k : suc n ≡ n + 1 = omega arith in take_next xs n lt ∙ ap (λ (i : ℕ). take i xs) k
 
-plus_taken : (ns : Names) (s : Scope) (sort : Sort) → count_of s sort < count_of (scope_of_names ns) sort → plus (taken s ns) sort (name_at (names_of_sort ns sort) (count_of s sort)) ≡ taken (with_one s sort) ns
-plus_taken ns s Point lt = ap (λ (l : List (List ℕ)). record { points = l; lines = take s.lines ns.lines; circles = take s.circles ns.circles }) (take_one ns.points s.points lt)
-plus_taken ns s Line lt = ap (λ (l : List (List ℕ)). record { points = take s.points ns.points; lines = l; circles = take s.circles ns.circles }) (take_one ns.lines s.lines lt)
-plus_taken ns s Circle lt = ap (λ (l : List (List ℕ)). record { points = take s.points ns.points; lines = take s.lines ns.lines; circles = l }) (take_one ns.circles s.circles lt)
+plus_first : (ns : Names) (s : Scope) (sort : Sort) → count_of s sort < count_of (scope_of_names ns) sort → plus (first_names s ns) sort (name_at (names_of_sort ns sort) (count_of s sort)) ≡ first_names (with_one s sort) ns
+plus_first ns s Point lt = ap (λ (l : List (List ℕ)). record { points = l; lines = take s.lines ns.lines; circles = take s.circles ns.circles }) (take_one ns.points s.points lt)
+plus_first ns s Line lt = ap (λ (l : List (List ℕ)). record { points = take s.points ns.points; lines = l; circles = take s.circles ns.circles }) (take_one ns.lines s.lines lt)
+plus_first ns s Circle lt = ap (λ (l : List (List ℕ)). record { points = take s.points ns.points; lines = take s.lines ns.lines; circles = l }) (take_one ns.circles s.circles lt)
 
-free_next : (ns : Names) (s : Scope) (sort : Sort) → InOrder ns → count_of s sort < count_of (scope_of_names ns) sort → Free (taken s ns) (name_at (names_of_sort ns sort) (count_of s sort))
+free_next : (ns : Names) (s : Scope) (sort : Sort) → InOrder ns → count_of s sort < count_of (scope_of_names ns) sort → Free (first_names s ns) (name_at (names_of_sort ns sort) (count_of s sort))
 free_next ns s Point o lt =
     let name = name_at ns.points s.points in
     (not_before ns.points s.points o.points lt, has_not_in_front ns.lines s.lines name (apart_at ns.lines ns.points s.points o.no_line_point lt), has_not_in_front ns.circles s.circles name (apart_at ns.circles ns.points s.points o.no_circle_point lt))
@@ -221,28 +218,13 @@ pub record Few (ns : Names) : Type 0 where
   pub lines : length ns.lines ≤ most_of Line
   pub circles : length ns.circles ≤ most_of Circle
 
-room_next : (ns : Names) (s : Scope) (sort : Sort) → Few ns → count_of s sort < count_of (scope_of_names ns) sort → length (names_of_sort (taken s ns) sort) + 1 ≤ most_of sort
+room_next : (ns : Names) (s : Scope) (sort : Sort) → Few ns → count_of s sort < count_of (scope_of_names ns) sort → length (names_of_sort (first_names s ns) sort) + 1 ≤ most_of sort
 room_next ns s Point f lt = omega (arith, lt, f.points, length-take-le s.points ns.points (omega (arith, lt)))
 room_next ns s Line f lt = omega (arith, lt, f.lines, length-take-le s.lines ns.lines (omega (arith, lt)))
 room_next ns s Circle f lt = omega (arith, lt, f.circles, length-take-le s.circles ns.circles (omega (arith, lt)))
 
-next : (ns : Names) (s : Scope) (sort : Sort) → InOrder ns → Few ns → count_of s sort < count_of (scope_of_names ns) sort → Next (taken s ns) sort (name_at (names_of_sort ns sort) (count_of s sort))
+next : (ns : Names) (s : Scope) (sort : Sort) → InOrder ns → Few ns → count_of s sort < count_of (scope_of_names ns) sort → Next (first_names s ns) sort (name_at (names_of_sort ns sort) (count_of s sort))
 next ns s sort o f lt = record { named = named_at ns sort (count_of s sort) o (lt-ltb _ _ lt); free = free_next ns s sort o lt; few = room_next ns s sort f lt }
-
-one_grows : (s : Scope) (x sort : Sort) → count_of s sort ≤ count_of (with_one s x) sort
-one_grows s Point Point = omega arith
-one_grows s Point Line = omega arith
-one_grows s Point Circle = omega arith
-one_grows s Line Point = omega arith
-one_grows s Line Line = omega arith
-one_grows s Line Circle = omega arith
-one_grows s Circle Point = omega arith
-one_grows s Circle Line = omega arith
-one_grows s Circle Circle = omega arith
-
-pub grown_grows : (s : Scope) (more : List Sort) (sort : Sort) → count_of s sort ≤ count_of (grown s more) sort
-grown_grows s [] sort = omega arith
-grown_grows s (x ∷ more) sort = omega (arith, one_grows s x sort, grown_grows (with_one s x) more sort)
 
 one_counts : (s : Scope) (sort : Sort) → count_of (with_one s sort) sort ≡ count_of s sort + 1
 one_counts s Point = refl
@@ -251,25 +233,25 @@ one_counts s Circle = refl
 
 -- the lines of the objects from some scope on, behind which more objects come
 pub run_from : (known : List Headed) (say : Sort → List (List ℕ) → Form) (at : Names → List Sort → Draft) (l : LinesOfNames say at) (ns : Names) (s : Scope) (before more after : List Sort) → InOrder ns → Few ns
-    → grown (grown s more) after ≡ scope_of_names ns → Runs known (Some (at (taken s ns) before)) (map (says say) (grouped ns (next_objects s more))) (Some (at (taken (grown s more) ns) (before ++ more)))
-run_from known say at l ns s before [] after o f e = ap (λ (x : List Sort). Some (at (taken s ns) x)) (sym (append-nil before))
+    → grown (grown s more) after ≡ scope_of_names ns → Runs known (Some (at (first_names s ns) before)) (map (says say) (grouped ns (next_objects s more))) (Some (at (first_names (grown s more) ns) (before ++ more)))
+run_from known say at l ns s before [] after o f e = ap (λ (x : List Sort). Some (at (first_names s ns) x)) (sym (append-nil before))
 run_from known say at l ns s before (sort ∷ more) after o f e =
-    let grows = grown_grows (with_one s sort) more sort in
-    let grows_on = grown_grows (grown (with_one s sort) more) after sort in
+    let first_grows = grows (with_one s sort) more sort in
+    let more_grows = grows (grown (with_one s sort) more) after sort in
     let final : count_of (grown (grown (with_one s sort) more) after) sort ≡ count_of (scope_of_names ns) sort = ap (λ (x : Scope). count_of x sort) e in
-    let lt : count_of s sort < count_of (scope_of_names ns) sort = omega (arith, grows, grows_on, final, one_counts s sort) in
+    let lt : count_of s sort < count_of (scope_of_names ns) sort = omega (arith, first_grows, more_grows, final, one_counts s sort) in
     let name : List ℕ = name_at (names_of_sort ns sort) (count_of s sort) in
     let gs : List Group = grouped ns (next_objects (with_one s sort) more) in
-    let u : Option Draft = Some (at (taken (grown (with_one s sort) more) ns) (before ++ sort ∷ more)) in
+    let u : Option Draft = Some (at (first_names (grown (with_one s sort) more) ns) (before ++ sort ∷ more)) in
     let rest = run_from known say at l ns (with_one s sort) (before ++ sort ∷ []) more after o f e in
-    let last : Runs known (Some (at (taken (with_one s sort) ns) (before ++ sort ∷ []))) (map (says say) gs) u =
-    subst (λ (x : List Sort). Runs known (Some (at (taken (with_one s sort) ns) (before ++ sort ∷ []))) (map (says say) gs) (Some (at (taken (grown (with_one s sort) more) ns) x))) (append_assoc before (sort ∷ []) more) rest in
-    let first : Runs known (Some (at (plus (taken s ns) sort name) (before ++ sort ∷ []))) (map (says say) gs) u =
-    subst (λ (x : Names). Runs known (Some (at x (before ++ sort ∷ []))) (map (says say) gs) u) (sym (plus_taken ns s sort lt)) last in
-    run_before known say at l (taken s ns) before sort name gs u (next ns s sort o f lt) first
+    let last : Runs known (Some (at (first_names (with_one s sort) ns) (before ++ sort ∷ []))) (map (says say) gs) u =
+    subst (λ (x : List Sort). Runs known (Some (at (first_names (with_one s sort) ns) (before ++ sort ∷ []))) (map (says say) gs) (Some (at (first_names (grown (with_one s sort) more) ns) x))) (append_assoc before (sort ∷ []) more) rest in
+    let first : Runs known (Some (at (plus (first_names s ns) sort name) (before ++ sort ∷ []))) (map (says say) gs) u =
+    subst (λ (x : Names). Runs known (Some (at x (before ++ sort ∷ []))) (map (says say) gs) u) (sym (plus_first ns s sort lt)) last in
+    run_before known say at l (first_names s ns) before sort name gs u (next ns s sort o f lt) first
 
-pub all_taken : (ns : Names) → taken (scope_of_names ns) ns ≡ ns
-all_taken ns =
+pub all_first : (ns : Names) → first_names (scope_of_names ns) ns ≡ ns
+all_first ns =
     ap (λ (l : List (List ℕ)). record { points = l; lines = take (length ns.lines) ns.lines; circles = take (length ns.circles) ns.circles }) (take_all (length ns.points) ns.points (omega arith))
     ∙ ap (λ (l : List (List ℕ)). record { points = ns.points; lines = l; circles = take (length ns.circles) ns.circles }) (take_all (length ns.lines) ns.lines (omega arith))
     ∙ ap (λ (l : List (List ℕ)). record { points = ns.points; lines = ns.lines; circles = l }) (take_all (length ns.circles) ns.circles (omega arith))

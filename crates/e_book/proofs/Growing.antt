@@ -1,5 +1,5 @@
 -- Names stay in order where some are left out and where new ones come into scope.
-use Rattle.std.proofs.Common.{◌≡◌, ℕ, zero, suc, ◌+◌, ◌≤◌, Bool, true, false, not, ◌&&◌, List, [], ◌∷◌, ◌++◌, length, take, Ok, refl, sym, ap, ◌∙◌, arith, length-append, length-take-le}
+use Rattle.std.proofs.Common.{◌≡◌, ℕ, zero, suc, Bool, true, false, not, ◌&&◌, List, [], ◌∷◌, ◌++◌, take, Ok, refl, sym, ap, ◌∙◌}
 use Rattle.std.specs.List.{list_all}
 use Rattle.std.proofs.lemmas.Bool.{not-true, ltb-true}
 use Rattle.std.proofs.lemmas.List.{get_or-take}
@@ -12,19 +12,18 @@ use Rattle.e_literal.specs.declared.literal.Atom.{Atom}
 use Rattle.e_literal.specs.declared.literal.Atom.TheVariants as atoms
 use Rattle.e_literal.specs.declared.literal.Lit.{Lit}
 use Rattle.e_literal.specs.Literal.{obj, is_in_scope, objects_of_atom, all_in_scope}
-use Rattle.e_literal.specs.Scopes.{with_one, grown}
 use Rattle.e_deriv.specs.declared.names.Names.{Names}
-use Rattle.e_deriv.specs.Naming.{names_of_sort, named}
+use Rattle.e_deriv.specs.Naming.{names_of_sort, named, first_names}
 use Rattle.e_book.specs.declared.literal.RawAtom.{RawAtom}
 use Rattle.e_book.specs.declared.literal.RawAtom.TheVariants as raw
-use Rattle.e_book.specs.Scope.{scope_of_names, has, is_taken, fresh}
+use Rattle.e_book.specs.Scope.{has, is_taken, fresh}
 use Rattle.e_book.specs.Fits.{are_distinct}
 use Rattle.e_book.specs.Canonical.{name_at, raw_atom, raw_of}
 use Rattle.e_book.specs.HasSpelling.{AreNames, is_diagram_atom, is_diagram_lit}
 use Rattle.e_book.proofs.Differ.{both, neither, Apart, Apart-sym, has_not_in_front}
 use Rattle.e_book.proofs.Distinct.{distinct_last, Untaken, untaken, passed}
 use Rattle.e_book.proofs.Lookups.{InOrder, ordered}
-use Rattle.e_book.proofs.Declared.{Free, plus, taken, same_fresh}
+use Rattle.e_book.proofs.Declared.{Free, plus, same_fresh}
 
 -- ---- fewer names
 
@@ -45,23 +44,11 @@ front_apart m zero others names h = tt
 front_apart m (suc n) others [] h = tt
 front_apart m (suc n) others (x ∷ names) h = (has_not_in_front others m x h.0, front_apart m n others names h.1)
 
-pub taken_in_order : (s : Scope) (ns : Names) → InOrder ns → InOrder (taken s ns)
-taken_in_order s ns o =
-    ordered (taken s ns) (front_names s.points ns.points o.point_names) (front_names s.lines ns.lines o.line_names) (front_names s.circles ns.circles o.circle_names)
+pub first_in_order : (s : Scope) (ns : Names) → InOrder ns → InOrder (first_names s ns)
+first_in_order s ns o =
+    ordered (first_names s ns) (front_names s.points ns.points o.point_names) (front_names s.lines ns.lines o.line_names) (front_names s.circles ns.circles o.circle_names)
     (front_distinct s.points ns.points o.points) (front_distinct s.lines ns.lines o.lines) (front_distinct s.circles ns.circles o.circles)
     (front_apart s.points s.lines ns.points ns.lines o.no_point_line) (front_apart s.points s.circles ns.points ns.circles o.no_point_circle) (front_apart s.lines s.circles ns.lines ns.circles o.no_line_circle)
-
--- no more objects of a sort than names
-pub record Below (s : Scope) (ns : Names) : Type 0 where
-  pub points : s.points ≤ length ns.points
-  pub lines : s.lines ≤ length ns.lines
-  pub circles : s.circles ≤ length ns.circles
-
-pub taken_scope : (s : Scope) (ns : Names) → Below s ns → scope_of_names (taken s ns) ≡ s
-taken_scope s ns b =
-    ap (λ (n : ℕ). record { points = n; lines = length (take s.lines ns.lines); circles = length (take s.circles ns.circles) }) (length-take-le s.points ns.points b.points)
-    ∙ ap (λ (n : ℕ). record { points = s.points; lines = n; circles = length (take s.circles ns.circles) }) (length-take-le s.lines ns.lines b.lines)
-    ∙ ap (λ (n : ℕ). record { points = s.points; lines = s.lines; circles = n }) (length-take-le s.circles ns.circles b.circles)
 
 -- ---- new names
 
@@ -95,17 +82,6 @@ named_in_order ns (sort ∷ sorts) (n ∷ names) o h e =
     let t = untaken ns [] n p.0 in
     named_in_order (plus ns sort n) sorts names (plus_in_order ns sort n o h.0 (t.points, t.lines, t.circles)) h.1 (sym (same_fresh ns sort n [] names) ∙ p.1)
 
-plus_scope : (ns : Names) (sort : Sort) (n : List ℕ) → scope_of_names (plus ns sort n) ≡ with_one (scope_of_names ns) sort
-plus_scope ns Point n = ap (λ (k : ℕ). record { points = k; lines = length ns.lines; circles = length ns.circles }) (length-append ns.points (n ∷ []))
-plus_scope ns Line n = ap (λ (k : ℕ). record { points = length ns.points; lines = k; circles = length ns.circles }) (length-append ns.lines (n ∷ []))
-plus_scope ns Circle n = ap (λ (k : ℕ). record { points = length ns.points; lines = length ns.lines; circles = k }) (length-append ns.circles (n ∷ []))
-
-pub named_scope : (ns : Names) (sorts : List Sort) (names : List (List ℕ)) → length names ≡ length sorts → scope_of_names (named ns sorts names) ≡ grown (scope_of_names ns) sorts
-named_scope ns [] [] e = refl
-named_scope ns [] (n ∷ names) e = absurd (omega (arith, e))
-named_scope ns (sort ∷ sorts) [] e = absurd (omega (arith, e))
-named_scope ns (sort ∷ sorts) (n ∷ names) e = named_scope (plus ns sort n) sorts names (omega (arith, e)) ∙ ap (λ (s : Scope). grown s sorts) (plus_scope ns sort n)
-
 -- ---- the names of the first objects
 
 two : (s : Scope) (a b : Obj) → list_all (is_in_scope s) (a ∷ b ∷ []) ≡ true → (is_in_scope s a ≡ true) × (is_in_scope s b ≡ true)
@@ -119,33 +95,33 @@ three s a b c h =
     let q = two s b c p.1 in
     (p.0, q.0, q.1)
 
-in_front : (s : Scope) (ns : Names) (sort : Sort) (i : ℕ) → is_in_scope s (obj sort i) ≡ true → name_at (names_of_sort (taken s ns) sort) i ≡ name_at (names_of_sort ns sort) i
+in_front : (s : Scope) (ns : Names) (sort : Sort) (i : ℕ) → is_in_scope s (obj sort i) ≡ true → name_at (names_of_sort (first_names s ns) sort) i ≡ name_at (names_of_sort ns sort) i
 in_front s ns Point i h = get_or-take s.points ns.points i [] (ltb-true i s.points h)
 in_front s ns Line i h = get_or-take s.lines ns.lines i [] (ltb-true i s.lines h)
 in_front s ns Circle i h = get_or-take s.circles ns.circles i [] (ltb-true i s.circles h)
 
-atom_of_taken : (s : Scope) (ns : Names) (a : Atom) → list_all (is_in_scope s) (objects_of_atom a) ≡ true → is_diagram_atom a ≡ true → raw_atom (taken s ns) a ≡ raw_atom ns a
-atom_of_taken s ns (atoms.On a l) h d = let t = two s (obj Point a) (obj Line l) h in rw (in_front s ns Point a t.0, in_front s ns Line l t.1) refl
-atom_of_taken s ns (atoms.OnC a c) h d = let t = two s (obj Point a) (obj Circle c) h in rw (in_front s ns Point a t.0, in_front s ns Circle c t.1) refl
-atom_of_taken s ns (atoms.Inside a c) h d = let t = two s (obj Point a) (obj Circle c) h in rw (in_front s ns Point a t.0, in_front s ns Circle c t.1) refl
-atom_of_taken s ns (atoms.Center a c) h d = let t = two s (obj Point a) (obj Circle c) h in rw (in_front s ns Point a t.0, in_front s ns Circle c t.1) refl
-atom_of_taken s ns (atoms.Between a b c) h d =
+atom_of_first : (s : Scope) (ns : Names) (a : Atom) → list_all (is_in_scope s) (objects_of_atom a) ≡ true → is_diagram_atom a ≡ true → raw_atom (first_names s ns) a ≡ raw_atom ns a
+atom_of_first s ns (atoms.On a l) h d = let t = two s (obj Point a) (obj Line l) h in rw (in_front s ns Point a t.0, in_front s ns Line l t.1) refl
+atom_of_first s ns (atoms.OnC a c) h d = let t = two s (obj Point a) (obj Circle c) h in rw (in_front s ns Point a t.0, in_front s ns Circle c t.1) refl
+atom_of_first s ns (atoms.Inside a c) h d = let t = two s (obj Point a) (obj Circle c) h in rw (in_front s ns Point a t.0, in_front s ns Circle c t.1) refl
+atom_of_first s ns (atoms.Center a c) h d = let t = two s (obj Point a) (obj Circle c) h in rw (in_front s ns Point a t.0, in_front s ns Circle c t.1) refl
+atom_of_first s ns (atoms.Between a b c) h d =
     let t = three s (obj Point a) (obj Point b) (obj Point c) h in
     ap (λ (x : List ℕ). raw.Between x (name_at (take s.points ns.points) b) (name_at (take s.points ns.points) c)) (in_front s ns Point a t.0)
     ∙ ap (λ (x : List ℕ). raw.Between (name_at ns.points a) x (name_at (take s.points ns.points) c)) (in_front s ns Point b t.1) ∙ ap (raw.Between (name_at ns.points a) (name_at ns.points b)) (in_front s ns Point c t.2)
-atom_of_taken s ns (atoms.Same a b l) h d =
+atom_of_first s ns (atoms.Same a b l) h d =
     let t = three s (obj Point a) (obj Point b) (obj Line l) h in
     ap (λ (x : List ℕ). raw.Same x (name_at (take s.points ns.points) b) (name_at (take s.lines ns.lines) l)) (in_front s ns Point a t.0)
     ∙ ap (λ (x : List ℕ). raw.Same (name_at ns.points a) x (name_at (take s.lines ns.lines) l)) (in_front s ns Point b t.1) ∙ ap (raw.Same (name_at ns.points a) (name_at ns.points b)) (in_front s ns Line l t.2)
-atom_of_taken s ns (atoms.MeetLL l m) h d = let t = two s (obj Line l) (obj Line m) h in ap (λ (x : List ℕ). raw.Meets x (name_at (take s.lines ns.lines) m)) (in_front s ns Line l t.0) ∙ ap (raw.Meets (name_at ns.lines l)) (in_front s ns Line m t.1)
-atom_of_taken s ns (atoms.MeetLC l c) h d = let t = two s (obj Line l) (obj Circle c) h in ap (λ (x : List ℕ). raw.Meets x (name_at (take s.circles ns.circles) c)) (in_front s ns Line l t.0) ∙ ap (raw.Meets (name_at ns.lines l)) (in_front s ns Circle c t.1)
-atom_of_taken s ns (atoms.MeetCC c e) h d = let t = two s (obj Circle c) (obj Circle e) h in ap (λ (x : List ℕ). raw.Meets x (name_at (take s.circles ns.circles) e)) (in_front s ns Circle c t.0) ∙ ap (raw.Meets (name_at ns.circles c)) (in_front s ns Circle e t.1)
-atom_of_taken s ns (atoms.EqP a b) h d = let t = two s (obj Point a) (obj Point b) h in ap (λ (x : List ℕ). raw.Equal x (name_at (take s.points ns.points) b)) (in_front s ns Point a t.0) ∙ ap (raw.Equal (name_at ns.points a)) (in_front s ns Point b t.1)
-atom_of_taken s ns (atoms.EqL l m) h d = let t = two s (obj Line l) (obj Line m) h in ap (λ (x : List ℕ). raw.Equal x (name_at (take s.lines ns.lines) m)) (in_front s ns Line l t.0) ∙ ap (raw.Equal (name_at ns.lines l)) (in_front s ns Line m t.1)
-atom_of_taken s ns (atoms.EqC c e) h d = let t = two s (obj Circle c) (obj Circle e) h in ap (λ (x : List ℕ). raw.Equal x (name_at (take s.circles ns.circles) e)) (in_front s ns Circle c t.0) ∙ ap (raw.Equal (name_at ns.circles c)) (in_front s ns Circle e t.1)
-atom_of_taken s ns (atoms.MagEq x y) h d = absurd cc
-atom_of_taken s ns (atoms.MagLt x y) h d = absurd cc
+atom_of_first s ns (atoms.MeetLL l m) h d = let t = two s (obj Line l) (obj Line m) h in ap (λ (x : List ℕ). raw.Meets x (name_at (take s.lines ns.lines) m)) (in_front s ns Line l t.0) ∙ ap (raw.Meets (name_at ns.lines l)) (in_front s ns Line m t.1)
+atom_of_first s ns (atoms.MeetLC l c) h d = let t = two s (obj Line l) (obj Circle c) h in ap (λ (x : List ℕ). raw.Meets x (name_at (take s.circles ns.circles) c)) (in_front s ns Line l t.0) ∙ ap (raw.Meets (name_at ns.lines l)) (in_front s ns Circle c t.1)
+atom_of_first s ns (atoms.MeetCC c e) h d = let t = two s (obj Circle c) (obj Circle e) h in ap (λ (x : List ℕ). raw.Meets x (name_at (take s.circles ns.circles) e)) (in_front s ns Circle c t.0) ∙ ap (raw.Meets (name_at ns.circles c)) (in_front s ns Circle e t.1)
+atom_of_first s ns (atoms.EqP a b) h d = let t = two s (obj Point a) (obj Point b) h in ap (λ (x : List ℕ). raw.Equal x (name_at (take s.points ns.points) b)) (in_front s ns Point a t.0) ∙ ap (raw.Equal (name_at ns.points a)) (in_front s ns Point b t.1)
+atom_of_first s ns (atoms.EqL l m) h d = let t = two s (obj Line l) (obj Line m) h in ap (λ (x : List ℕ). raw.Equal x (name_at (take s.lines ns.lines) m)) (in_front s ns Line l t.0) ∙ ap (raw.Equal (name_at ns.lines l)) (in_front s ns Line m t.1)
+atom_of_first s ns (atoms.EqC c e) h d = let t = two s (obj Circle c) (obj Circle e) h in ap (λ (x : List ℕ). raw.Equal x (name_at (take s.circles ns.circles) e)) (in_front s ns Circle c t.0) ∙ ap (raw.Equal (name_at ns.circles c)) (in_front s ns Circle e t.1)
+atom_of_first s ns (atoms.MagEq x y) h d = absurd cc
+atom_of_first s ns (atoms.MagLt x y) h d = absurd cc
 
 -- a literal over the first objects is spelled with their names alone
-pub lit_of_taken : (s : Scope) (ns : Names) (l : Lit) → all_in_scope s l ≡ true → is_diagram_lit l ≡ true → raw_of (taken s ns) l ≡ raw_of ns l
-lit_of_taken s ns l h d = ap (λ (a : RawAtom). record { neg = l.neg; atom = a }) (atom_of_taken s ns l.atom h d)
+pub lit_of_first : (s : Scope) (ns : Names) (l : Lit) → all_in_scope s l ≡ true → is_diagram_lit l ≡ true → raw_of (first_names s ns) l ≡ raw_of ns l
+lit_of_first s ns l h d = ap (λ (a : RawAtom). record { neg = l.neg; atom = a }) (atom_of_first s ns l.atom h d)

@@ -26,7 +26,7 @@ may_have [] s = true
 may_have (n ∷ ns) s = may_avoid s
 
 -- the line of a shape, with a name at each place
-pub record GoodLet (l : RawLet) : Type 0 where
+pub record LetNamed (l : RawLet) : Type 0 where
   pub shape : Shape
   pub alone : l.shapes ≡ shape ∷ []
   pub names : Filled shape l.new l.args
@@ -75,10 +75,10 @@ avoid_tokens : (ns : List (List ℕ)) → AreNames ns → AreTokens (avoid_words
 avoid_tokens [] h = tt
 avoid_tokens (n ∷ ns) h = (refl, names_tokens (n ∷ ns) h)
 
-let_line : (l : RawLet) (g : GoodLet l) → let_words l ≡ filled (pieces g.shape) l.new l.args ++ avoid_words l.avoid
+let_line : (l : RawLet) (g : LetNamed l) → let_words l ≡ filled (pieces g.shape) l.new l.args ++ avoid_words l.avoid
 let_line l g = ap (λ (ss : List Shape). filled (line_pieces ss) l.new l.args ++ avoid_words l.avoid) g.alone
 
-pub let_tokens : (l : RawLet) → GoodLet l → AreTokens (let_words l)
+pub let_tokens : (l : RawLet) → LetNamed l → AreTokens (let_words l)
 let_tokens l g =
     subst AreTokens (sym (let_line l g)) (append_tokens (filled (pieces g.shape) l.new l.args) (avoid_words l.avoid) (filled_tokens g.shape l.new l.args g.names) (avoid_tokens l.avoid g.avoided))
 
@@ -114,6 +114,6 @@ read_line s new args (n ∷ ns) f h may =
     ∙ ap (λ (r : Result (List (List ℕ)) Kind). r >>= λ avoid. let_named (shapes_of true front) front avoid) (some_names_again n ns h)
     ∙ ap (λ (ss : List Shape). let_named ss front (n ∷ ns)) (avoiding_shapes_again s new args f may) ∙ named_by_all s new args (n ∷ ns) f
 
-pub let_again : (l : RawLet) → GoodLet l → let_of (let_words l) ≡ Ok (as_read l)
+pub let_again : (l : RawLet) → LetNamed l → let_of (let_words l) ≡ Ok (as_read l)
 let_again l g =
     ap let_of (let_line l g) ∙ read_line g.shape l.new l.args l.avoid g.names g.avoided g.may ∙ ap (λ (ss : List Shape). Ok (raw (all_alike ss) l.new l.args l.avoid)) (sym g.alone)

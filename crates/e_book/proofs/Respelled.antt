@@ -21,7 +21,7 @@ use Rattle.e_book.specs.Canonical.{atom_words, signed_words, lit_words, sort_wor
 use Rattle.e_book.specs.HasSpelling.{AreNames}
 use Rattle.e_book.proofs.Differ.{name_differs}
 use Rattle.e_book.proofs.NamesAgain.{Without, named, titled, names_again, some_names_again, cut_again}
-use Rattle.e_book.proofs.LetsAgain.{GoodLet, as_read as let_as_read, let_again}
+use Rattle.e_book.proofs.LetsAgain.{LetNamed, as_read as let_as_read, let_again}
 
 -- ---- names are told from other words
 
@@ -168,7 +168,7 @@ GoodForm (forms.Show (l ∷ [])) = AtomNamed l.atom
 GoodForm (forms.Show (l ∷ m ∷ ls)) = ⊥
 GoodForm (forms.By r ns l) = (is_title r ≡ true) × AreNames ns × AtomNamed l.atom
 GoodForm (forms.Hence l) = AtomNamed l.atom
-GoodForm (forms.Let l) = GoodLet l
+GoodForm (forms.Let l) = LetNamed l
 GoodForm (forms.Qed ns) = AreNames ns
 GoodForm f = Unit {0}
 

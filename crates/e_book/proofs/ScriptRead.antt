@@ -38,8 +38,9 @@ use Rattle.e_book.proofs.Respelled.{as_read}
 use Rattle.e_book.proofs.Lookups.{InOrder, lit_number_again, lit_named, object_again, objects_named, sorts_same}
 use Rattle.e_book.proofs.Cited.{by_number_again, by_good}
 use Rattle.e_book.proofs.Declared.{Runs}
-use Rattle.e_book.proofs.Growing.{named_in_order, named_scope}
-use Rattle.e_book.proofs.Built.{of_sorts_in_scope, of_sorts_length, Stands, let_number_again, let_good}
+use Rattle.e_book.proofs.Building.{GoodLet, named_scope}
+use Rattle.e_book.proofs.Growing.{named_in_order}
+use Rattle.e_book.proofs.Built.{of_sorts_in_scope, of_sorts_length, let_number_again, let_named}
 use Rattle.e_book.proofs.HeadRead.{PlainLit}
 
 -- a draft in its proof, with these names in scope
@@ -80,7 +81,7 @@ step_hence d ns ss facts l o p few most =
     let place : ltb most_facts (facts + 1) ≡ false = le-ltb _ _ most in
     rw (lit_number_again ns l o p.within p.diagram, room, place) refl
 
-step_let : (d : Draft) (ns : Names) (ss : List Step) (facts : ℕ) (form : Construction) (names : List (List ℕ)) → InOrder ns → Stands ns form names → few_objects (named ns (made form) names) ≡ Ok tt
+step_let : (d : Draft) (ns : Names) (ss : List Step) (facts : ℕ) (form : Construction) (names : List (List ℕ)) → InOrder ns → GoodLet ns form names → few_objects (named ns (made form) names) ≡ Ok tt
     → length ss + 1 ≤ most_steps → facts + length (gives form (scope_of_names ns)) ≤ most_facts
     → step (proving d ns ss facts) (as_read (let_form ns form names)) ≡ Ok (proving d (named ns (made form) names) (ss ++ steps.Make form names [] ∷ []) (facts + length (gives form (scope_of_names ns))))
 unfolding step stepped built with_step
@@ -209,13 +210,14 @@ run_script known d ns ss facts (Make form names [] rest) given goal r =
     let p = both (list_all is_name names) (is_plain rest) r.plain in
     let facts_then = joined_all given (gives form s) in
     let q = both (fits_form form s) (list_all fits (lines rest (grown s (made form)) facts_then goal)) r.fitting in
-    let stands : Stands ns form names = record { fitting = q.0; named = list_names names p.0; free = r.new_names.0; count = r.new_names.1 } in
+    let good : GoodLet ns form names = record { fits = q.0; free = r.new_names.0; count = r.new_names.1 } in
+    let names_are = list_names names p.0 in
     let n : length (ss ++ steps.Make form names [] ∷ []) ≡ length ss + 1 = length-append ss (steps.Make form names [] ∷ []) in
-    let scope : grown s (made form) ≡ scope_of_names after = sym (named_scope ns (made form) names r.new_names.1) in
+    let scope : grown s (made form) ≡ scope_of_names after = named_scope ns (made form) names r.new_names.1 in
     let most : facts + (gifts + count_given (grown s (made form)) rest) ≤ most_facts = r.most in
     let less : facts + gifts + count_given (grown s (made form)) rest ≤ most_facts = omega (arith, most) in
     let next = run_script known d after (ss ++ steps.Make form names [] ∷ []) (facts + gifts) rest facts_then goal (record {
-      order = named_in_order ns (made form) names r.order stands.named stands.free;
+      order = named_in_order ns (made form) names r.order names_are r.new_names.0;
       goal_sorts = r.goal_sorts;
       plain = p.1;
       fitting = subst (λ (z : Scope). list_all fits (lines rest z facts_then goal) ≡ true) scope q.1;
@@ -228,8 +230,8 @@ run_script known d ns ss facts (Make form names [] rest) given goal r =
       given = next.given;
       runs = (
         proving d after (ss ++ steps.Make form names [] ∷ []) (facts + gifts),
-        let_good ns form names r.order stands,
-        step_let d ns ss facts form names r.order stands r.new_names.2 (omega (arith, r.few, at_least rest)) (omega (arith, less)),
+        let_named ns form names r.order good names_are,
+        step_let d ns ss facts form names r.order good r.new_names.2 (omega (arith, r.few, at_least rest)) (omega (arith, less)),
         refl,
         behind known d after ss (facts + gifts) (steps.Make form names []) rest next,
       );
