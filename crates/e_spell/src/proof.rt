@@ -99,7 +99,7 @@ fn put_close(out: &mut Vec<u8>, names: &Names, close: &Close) -> Result<(), Allo
 
 /// The lines from behind the word proof to the theorem's end, where these names are in scope before the first.
 pub(crate) fn put_proof(out: &mut Vec<u8>, names: Names, block: &Block) -> Result<(), AllocError>
-    ensures { OnOk result (out.new.items ≡ out.old.items ++ proof_text names.entry block.now) }
+    ensures { OnOk result (out.new.items ≡ out.old.items ++ proof_text names block.now) }
 {
     let mut names = names;
     put_steps(out, &mut names, &block.steps)?;

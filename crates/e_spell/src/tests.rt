@@ -29,7 +29,13 @@ fn name(token: &[u8]) -> Result<Name, Fail> {
 
 fn names(alloc: Global) -> Result<Names, Fail> {
     Ok(Names {
-        points: Items::new(vec![in alloc; name(b"a")?, name(b"b'")?, name(b"c")?, name(b"d")?, name(b"e")?]?),
+        points: Items::new(vec![in alloc;
+            name(b"a")?,
+            name(b"b'")?,
+            name(b"c")?,
+            name(b"d")?,
+            name(b"e")?,
+        ]?),
         lines: Items::new(vec![in alloc; name(b"L")?, name(b"M")?, name(b"N")?]?),
         circles: Items::new(vec![in alloc; name(b"C1")?, name(b"C2")?]?),
     })
