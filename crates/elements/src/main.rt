@@ -6,6 +6,8 @@ mod checker;
 mod input;
 pub mod laws;
 #[cfg(test)]
+mod let_tests;
+#[cfg(test)]
 mod limit_tests;
 mod output;
 mod runner;

@@ -48,7 +48,7 @@ fn lines(alloc: Global, text: &[u8]) -> Result<Vec<u8>, AllocError> {
 }
 
 /// Books, what is written of them, and the exit status. A slash ends a line.
-const BOOKS: [(&[u8], &[u8], u8); 20] = [
+const BOOKS: [(&[u8], &[u8], u8); 26] = [
     // one step, licensed, and without one premise
     (
         b"theorem T/points a b c d/given between a b c ; between b c d/show between a b d/proof/by b5 a b c d : between a b d/qed/end/",
@@ -145,6 +145,39 @@ const BOOKS: [(&[u8], &[u8], u8); 20] = [
         b"# a tab and no end\ntheorem\tT/points a/show a = a/proof/by eqr-p a : a = a/qed/end",
         b"derivation 1/theorem T/points a/show a = a/proof/by eqr-p a : a = a/qed/| fact/end/accepted 1/",
         0,
+    ),
+    // a point between two others is drawn, and put for the made one
+    (
+        b"theorem T/points a b/lines L/given a != b ; on a L ; on b L/made points c/show between a c b/proof/let c on L between a b/qed c/end/",
+        b"derivation 1/theorem T/points a b/lines L/given a != b/given on a L/given on b L/made points c/show between a c b/proof/let c on L between a b/| fact/| fact/| fact/qed c/| fact/end/accepted 1/",
+        0,
+    ),
+    (
+        b"theorem T/points a b/lines L M/given a != b ; on a L ; on b L/show a = a/proof/let c on L avoid M/qed/end/",
+        b"derivation 1/unlicensed T 1/| wanted L != M/",
+        1,
+    ),
+    (
+        b"theorem T/points a/show a = a/proof/let A circle a a/qed/end/",
+        b"derivation 1/unlicensed T 1/| wanted a != a/",
+        1,
+    ),
+    // a name of a made object is free in the proof, and one that is drawn is not
+    (
+        b"theorem T/points a/given a = a/made points b/show a = a/proof/let b point/let c point/let b point/qed c/end/",
+        b"derivation 1/fault 9 name-taken/",
+        2,
+    ),
+    // one name for each made object, of its sort
+    (
+        b"theorem T/points a/given a = a/made points b/show a = a/proof/qed/end/",
+        b"derivation 1/fault 7 malformed/",
+        2,
+    ),
+    (
+        b"theorem T/points a/lines L/given a = a/made points b/show a = a/proof/qed L/end/",
+        b"derivation 1/fault 8 wrong-sort/",
+        2,
     ),
 ];
 
