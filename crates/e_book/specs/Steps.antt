@@ -50,7 +50,7 @@ declared ns sort new = do
   few ← within (length (names_of_sort ns sort) + length new) (most_of sort) (what_of sort)
   Ok (with_names ns sort (names_of_sort ns sort ++ new))
 
--- so many objects may be in scope
+-- the limits of objects in scope: points, then lines, then circles
 unfoldable pub few_objects : Names → Result (Unit {0}) Kind
 few_objects ns = do
   points ← within (length ns.points) (most_of sorts.Point) limits.Points
@@ -103,6 +103,7 @@ pub record FewNamed (ns : Names) : Type 0 where
   pub lines : length ns.lines ≤ most_of sorts.Line
   pub circles : length ns.circles ≤ most_of sorts.Circle
 
+-- how many names there are
 abbrev pub count_names : Names → ℕ
 count_names ns = length ns.points + length ns.lines + length ns.circles
 
@@ -114,10 +115,10 @@ pub record FitsScope (d : Draft) : Type 0 where
   pub steps : length d.steps ≤ most_steps
   pub facts : d.facts ≤ most_facts
 
--- the first line of a theorem
 abbrev pub no_names : Names
 no_names = record { points = []; lines = []; circles = [] }
 
+-- a theorem of which only the title has come
 abbrev pub begun : List ℕ → Draft
 begun title = record { title = title; names = no_names; in_scope = no_names; declared = []; given = []; made = []; shown = []; steps = []; facts = 0; objects = []; place = Declaring }
 

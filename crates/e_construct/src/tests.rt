@@ -133,6 +133,30 @@ fn what_does_not_fit(rt: HostRuntime) -> Result<(), Fail> {
     Ok(())
 }
 
+/// The line of each shape in the order of the table, the sorts of its arguments, and whether it may avoid objects.
+const LINES: [(&str, &str, bool); 20] = [
+    ("+ point ", "", true),
+    ("+ on . ", "L", true),
+    ("+ on . between . . ", "Lbc", true),
+    ("+ on . beyond . from . ", "Lcb", true),
+    ("+ side . of . ", "Lb", true),
+    ("+ opposite . of . ", "Lb", true),
+    ("+ on . ", "A", true),
+    ("+ inside . ", "A", true),
+    ("+ outside . ", "A", true),
+    ("+ line . . ", "ab", false),
+    ("+ circle . . ", "ab", false),
+    ("+ meet . . ", "LM", false),
+    ("+ meet . . ", "LA", false),
+    ("+ + meet . . ", "LA", false),
+    ("+ meet . . between . . ", "LAbc", false),
+    ("+ meet . . beyond . from . ", "LAbc", false),
+    ("+ meet . . ", "AB", false),
+    ("+ + meet . . ", "AB", false),
+    ("+ meet . . side . of . centers . . ", "ABLbcd", false),
+    ("+ meet . . opposite . of . centers . . ", "ABLbcd", false),
+];
+
 /// A line with `+` for the name of a new object and `.` for that of an argument.
 fn spelled(rt: HostRuntime, shape: Shape) -> Result<String, Fail> {
     let mut line = String::new(rt.alloc());
@@ -150,30 +174,7 @@ fn spelled(rt: HostRuntime, shape: Shape) -> Result<String, Fail> {
 
 #[test]
 fn each_line(rt: HostRuntime) -> Result<(), Fail> {
-    // the line of each shape in the order of the table, the sorts of its arguments, and whether it may avoid objects
-    let cases: [(&'static str, &'static str, bool); 20] = [
-        ("+ point ", "", true),
-        ("+ on . ", "L", true),
-        ("+ on . between . . ", "Lbc", true),
-        ("+ on . beyond . from . ", "Lcb", true),
-        ("+ side . of . ", "Lb", true),
-        ("+ opposite . of . ", "Lb", true),
-        ("+ on . ", "A", true),
-        ("+ inside . ", "A", true),
-        ("+ outside . ", "A", true),
-        ("+ line . . ", "ab", false),
-        ("+ circle . . ", "ab", false),
-        ("+ meet . . ", "LM", false),
-        ("+ meet . . ", "LA", false),
-        ("+ + meet . . ", "LA", false),
-        ("+ meet . . between . . ", "LAbc", false),
-        ("+ meet . . beyond . from . ", "LAbc", false),
-        ("+ meet . . ", "AB", false),
-        ("+ + meet . . ", "AB", false),
-        ("+ meet . . side . of . centers . . ", "ABLbcd", false),
-        ("+ meet . . opposite . of . centers . . ", "ABLbcd", false),
-    ];
-    for (shape, (line, args, avoids)) in all_shapes().iter().zip(cases.iter()) {
+    for (shape, (line, args, avoids)) in all_shapes().iter().zip(&LINES) {
         assert_eq!(rt; spelled(rt, *shape)?.as_str(), *line);
         assert_eq!(rt; may_avoid(*shape), *avoids, "at {line}");
         assert!(rt; takes(*shape, objects(rt, "")?.items()), "at {line}");
