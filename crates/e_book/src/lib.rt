@@ -31,6 +31,5 @@ pub use words::{Words, collected};
 
 #[cfg(test)]
 mod let_tests;
-
 #[cfg(test)]
 mod tests;
