@@ -12,10 +12,8 @@ use Rattle.e_book.specs.Headed.{Headed, headed}
 use Rattle.e_book.specs.Entry.{Entry}
 use Rattle.e_book.specs.Book.{read_from}
 use Rattle.e_book.specs.Fits.{Fits}
-use Rattle.e_deriv.specs.Fitting.{IsFitting}
-use Rattle.e_deriv.specs.Naming.{names_lines, declared_names}
 use Rattle.e_literal.specs.declared.object.Scope.{Scope}
-use Rattle.std.specs.Prelude.{slice_get}
+use Rattle.e_deriv.specs.Fitting.{IsFitting, all_objects}
 use Rattle.elements.specs.Outcome.{Rest, IsLicensed, Takes, End, Ends, Begins, number_behind, IsOutcome, IsFront}
 use Rattle.elements.specs.Answers.{Derived, IsDerived, AllDerived, theorems_of, block_of}
 use Rattle.elements.specs.Endings.{EndsWith, BreaksOff, BreaksInside, BlocksAre, stop_ending}
@@ -27,6 +25,8 @@ use Rattle.e_prove.specs.Stops.{StopIs, HasNames}
 use Rattle.elements.specs.Outcome as ends
 use Rattle.e_deriv.specs.declared.stop.Wanted.{Wanted}
 use Rattle.e_deriv.specs.declared.names.Names.{Names}
+use Rattle.e_deriv.specs.Naming.{names_lines, declared_names}
+use Rattle.std.specs.Prelude.{slice_get}
 use Rattle.e_deriv.specs.Licensed.{IsFirstUnlicensed}
 use Rattle.e_book.specs.declared.fault.BookFault.{BookFault}
 
@@ -156,10 +156,13 @@ stopped lines old new known rest after t stops.NoMemory r e h read s k =
 -- what is read can be judged
 pub fitting : (known : List Headed) (t : Entry) → Fits known t → IsFitting (stated t.statement) t.script
 fitting known t f =
+    let points : (all_objects (stated t.statement)).points ≡ length t.names.points = ap (λ (s : Scope). s.points) f.scope in
+    let lines : (all_objects (stated t.statement)).lines ≡ length t.names.lines = ap (λ (s : Scope). s.lines) f.scope in
+    let circles : (all_objects (stated t.statement)).circles ≡ length t.names.circles = ap (λ (s : Scope). s.circles) f.scope in
     record {
       forms = f.script;
       short = f.steps;
-      points = omega (arith, ap (λ (s : Scope). s.points) f.scope, f.points);
-      lines = omega (arith, ap (λ (s : Scope). s.lines) f.scope, f.lines);
-      circles = omega (arith, ap (λ (s : Scope). s.circles) f.scope, f.circles);
+      points = omega (arith, points, f.points);
+      lines = omega (arith, lines, f.lines);
+      circles = omega (arith, circles, f.circles);
     }
