@@ -1,5 +1,5 @@
 -- The theorems taken so far, with their derivations and what was written.
-use Rattle.std.proofs.Common.{◌≡◌, ℕ, suc, ◌+◌, ◌<◌, ◌≤◌, List, [], ◌∷◌, ◌++◌, length, map, Option, Some, None, Result, Ok, Err, refl, sym, ap, subst, ◌∙◌, arith, append_assoc, length-append, take}
+use Rattle.std.proofs.Common.{◌≡◌, ℕ, suc, ◌+◌, ◌-◌, ◌<◌, ◌≤◌, List, [], ◌∷◌, ◌++◌, length, map, Option, Some, None, Result, Ok, Err, refl, sym, ap, subst, ◌∙◌, arith, append_assoc, length-append, take}
 use Rattle.std.specs.List.{flat_map}
 use Rattle.std.proofs.lemmas.List.{append-nil}
 use Rattle.std.proofs.lemmas.Grind.{flat_map-append}
@@ -25,6 +25,8 @@ use Rattle.e_prove.specs.Stops.{StopIs, HasNames}
 use Rattle.elements.specs.Outcome as ends
 use Rattle.e_deriv.specs.declared.stop.Wanted.{Wanted}
 use Rattle.e_deriv.specs.declared.names.Names.{Names}
+use Rattle.e_deriv.specs.Naming.{names_lines, declared_names}
+use Rattle.std.specs.Prelude.{slice_get}
 use Rattle.e_deriv.specs.Licensed.{IsFirstUnlicensed}
 use Rattle.e_book.specs.declared.fault.BookFault.{BookFault}
 
@@ -129,10 +131,11 @@ at_last known a b lines e is h = subst (λ (k : ℕ). read_from known k None lin
 -- the next theorem has a line that is not licensed
 pub stops_with : (lines : Rest) (old new : Option (List ℕ)) (known : List Headed) (rest after : Rest) (t : Entry) (step : ℕ) (wanted : Wanted) (names : Names)
     → History lines old known rest new → read_from known (number_behind lines) None rest ≡ Ok (Some (t, after))
-    → IsFirstUnlicensed (stated t.statement) t.script step wanted → names ≡ t.names
+    → IsFirstUnlicensed (stated t.statement) t.script step wanted
+    → Some names ≡ slice_get (names_lines (declared_names (stated t.statement) t.names) t.script) (step - 1)
     → EndsWith lines old new (ends.Unlicensed t.title step wanted names)
 stops_with lines old new known rest after t step wanted names h read first named =
-    ends_with lines old new known rest (ends.Unlicensed t.title step wanted names) h (t, after, read, record { titled = refl; first = first; named = sym named })
+    ends_with lines old new known rest (ends.Unlicensed t.title step wanted names) h (t, after, read, record { titled = refl; first = first; named = named })
 
 -- the bytes that were written are the block of this derivation
 pub spelled_as : (old new : Option (List ℕ)) (xs ys : List ℕ) (d : Derived) → xs ≡ ys → ys ≡ block_of d → Grew old new xs → Grew old new (block_of d)
@@ -144,7 +147,7 @@ front_spelled_as old new xs ys d e f g = subst (λ (l : List ℕ). GrewByFront o
 -- the next theorem stops, or memory ran out
 pub stopped : (lines : Rest) (old new : Option (List ℕ)) (known : List Headed) (rest after : Rest) (t : Entry) (stop : Stop) (r : Result Ending Broken)
     → r ≡ stop_ending t.title stop → History lines old known rest new → read_from known (number_behind lines) None rest ≡ Ok (Some (t, after))
-    → StopIs (stated t.statement) t.script stop → HasNames t.names stop → BlocksAre lines old new r
+    → StopIs (stated t.statement) t.script stop → HasNames (stated t.statement) t.names t.script stop → BlocksAre lines old new r
 stopped lines old new known rest after t (stops.Unlicensed step wanted names) r e h read s k =
     subst (BlocksAre lines old new) (sym e) (stops_with lines old new known rest after t step wanted names h read s k)
 stopped lines old new known rest after t stops.NoMemory r e h read s k =
