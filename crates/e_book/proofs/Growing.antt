@@ -1,5 +1,5 @@
 -- Names stay in order where some are left out and where new ones come into scope.
-use Rattle.std.proofs.Common.{◌≡◌, ℕ, zero, suc, Bool, true, false, not, ◌&&◌, List, [], ◌∷◌, ◌++◌, take, Ok, refl, sym, ap, ◌∙◌}
+use Rattle.std.proofs.Common.{◌≡◌, ℕ, zero, suc, true, false, not, ◌&&◌, List, [], ◌∷◌, ◌++◌, take, Ok, refl, sym, ap, ◌∙◌}
 use Rattle.std.specs.List.{list_all}
 use Rattle.std.proofs.lemmas.Bool.{not-true, ltb-true}
 use Rattle.std.proofs.lemmas.List.{get_or-take}
@@ -20,8 +20,8 @@ use Rattle.e_book.specs.Scope.{has, is_taken, fresh}
 use Rattle.e_book.specs.Fits.{are_distinct}
 use Rattle.e_book.specs.Canonical.{name_at, raw_atom, raw_of}
 use Rattle.e_book.specs.HasSpelling.{AreNames, is_diagram_atom, is_diagram_lit}
-use Rattle.e_book.proofs.Differ.{both, neither, Apart, Apart-sym, has_not_in_front}
-use Rattle.e_book.proofs.Distinct.{distinct_last, Untaken, untaken, passed}
+use Rattle.e_book.proofs.Differ.{both, Apart, Apart-sym, has_not_in_front}
+use Rattle.e_book.proofs.Distinct.{distinct_last, untaken, passed}
 use Rattle.e_book.proofs.Lookups.{InOrder, ordered}
 use Rattle.e_book.proofs.Declared.{Free, plus, same_fresh}
 

@@ -4,6 +4,7 @@ pub mod Placed
 pub mod Arguments
 pub mod SideBySide
 pub mod InScope
+pub mod Answered
 pub mod Citations
 pub mod Distinct
 pub mod Building

@@ -1,5 +1,5 @@
 -- The lines of a proof are read from their canonical spelling.
-use Rattle.std.proofs.Common.{◌≡◌, ℕ, ◌+◌, ◌≤◌, Bool, true, false, eqb, ltb, ◌&&◌, List, [], ◌∷◌, ◌++◌, length, map, Option, Some, None, Ok, refl, sym, ap, subst, ◌∙◌, arith, append_assoc, length-append}
+use Rattle.std.proofs.Common.{◌≡◌, ℕ, ◌+◌, ◌≤◌, true, false, eqb, ltb, ◌&&◌, List, [], ◌∷◌, ◌++◌, length, map, Some, None, Ok, refl, sym, ap, subst, ◌∙◌, arith, append_assoc, length-append}
 use Rattle.std.specs.List.{list_all}
 use Rattle.std.proofs.lemmas.Bool.{le-ltb, eq-eqb}
 use Rattle.std.proofs.lemmas.List.{append-nil, length-map}
@@ -22,13 +22,11 @@ use Rattle.e_deriv.specs.Script.{Script, Cite, Hence, Make, Qed, steps_script, s
 use Rattle.e_deriv.specs.Goal.{Goal}
 use Rattle.e_deriv.specs.Lines.{lines}
 use Rattle.e_deriv.specs.Steps.{is_citation, fits}
-use Rattle.e_book.specs.declared.form.Form.{Form}
-use Rattle.e_book.specs.declared.form.Form.TheVariants as forms
 use Rattle.e_book.specs.declared.draft.Place.TheVariants.{Proving, Closed}
 use Rattle.e_book.specs.declared.draft.Draft.{Draft}
 use Rattle.e_book.specs.Limits.{most_steps, most_facts}
 use Rattle.e_book.specs.Headed.{Headed}
-use Rattle.e_book.specs.Scope.{scope_of_names, fresh, object_as, objects_of_sorts, qed_in}
+use Rattle.e_book.specs.Scope.{scope_of_names, object_as, objects_of_sorts, qed_in}
 use Rattle.e_book.specs.Steps.{few_objects, with_step, built, shut, stepped, step}
 use Rattle.e_book.specs.Fits.{NewNamesFit, count_given}
 use Rattle.e_book.specs.Canonical.{name_of_object, by_form, hence_form, let_form, qed_form, script_forms}
