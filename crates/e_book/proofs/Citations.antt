@@ -33,13 +33,13 @@ same_is Point = refl
 same_is Line = refl
 same_is Circle = refl
 
-object_scope : (ns : Names) (sort : Sort) (name : List ℕ) (o : Obj) → object_as ns sort name ≡ Ok o → is_in_scope (scope_of_names ns) o ≡ true
+pub object_scope : (ns : Names) (sort : Sort) (name : List ℕ) (o : Obj) → object_as ns sort name ≡ Ok o → is_in_scope (scope_of_names ns) o ≡ true
 unfolding object_as
 object_scope ns sort name o e =
     let n = bind_ok (number_of ns sort name) (λ n. read_ok (obj sort n)) o e in
     subst (λ (x : Obj). is_in_scope (scope_of_names ns) x ≡ true) (ok_is (obj sort n.0) o n.2) (number_in_scope ns sort name n.0 n.1)
 
-object_sort : (ns : Names) (sort : Sort) (name : List ℕ) (o : Obj) → object_as ns sort name ≡ Ok o → same_sort o.sort sort ≡ true
+pub object_sort : (ns : Names) (sort : Sort) (name : List ℕ) (o : Obj) → object_as ns sort name ≡ Ok o → same_sort o.sort sort ≡ true
 unfolding object_as
 object_sort ns sort name o e =
     let n = bind_ok (number_of ns sort name) (λ n. read_ok (obj sort n)) o e in
@@ -115,7 +115,7 @@ variables_are : (o : Option Sig) (s : Sig) → variables_of o ≡ Ok s → o ≡
 variables_are None s e = absurd cc
 variables_are (Some x) s e = ap (λ (y : Sig). Some y) (ok_is x s e)
 
-counted : (b : Bool) (u : Unit {0}) → right_count b ≡ Ok u → b ≡ true
+pub counted : (b : Bool) (u : Unit {0}) → right_count b ≡ Ok u → b ≡ true
 counted true u e = refl
 counted false u e = absurd cc
 

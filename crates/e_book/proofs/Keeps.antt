@@ -6,11 +6,11 @@ use Rattle.std.proofs.lemmas.List.Folds.{list_all-append}
 use Rattle.std.specs.Prelude.{◌⊎◌}
 use Rattle.e_literal.specs.declared.object.Sort.{Sort}
 use Rattle.e_literal.specs.declared.object.Sort.TheVariants.{Point, Line, Circle}
+use Rattle.e_literal.specs.declared.object.Obj.{Obj}
 use Rattle.e_literal.specs.declared.object.Scope.{Scope}
 use Rattle.e_literal.specs.declared.literal.Lit.{Lit}
 use Rattle.e_literal.specs.Literal.{all_in_scope}
-use Rattle.e_literal.specs.Facts.{joined}
-use Rattle.e_literal.specs.Scopes.{nothing, with_one, grown}
+use Rattle.e_literal.specs.Scopes.{nothing, with_one, grown, are_of_sorts}
 use Rattle.e_text.specs.Tokens.{tokens_of}
 use Rattle.e_text.specs.Lines.{Seen}
 use Rattle.e_text.specs.declared.line.LineFault.{LineFault}
@@ -18,63 +18,82 @@ use Rattle.e_theorem.specs.Statements.{stated}
 use Rattle.e_deriv.specs.declared.names.Names.{Names}
 use Rattle.e_deriv.specs.declared.block.Step.{Step}
 use Rattle.e_deriv.specs.declared.block.Step.TheVariants as steps
-use Rattle.e_deriv.specs.Script.{Qed, steps_script, size}
-use Rattle.e_deriv.specs.Goal.{Goal, are_for, goal_of_statement, facts_of_statement}
+use Rattle.e_construct.specs.declared.construction.Construction.{Construction}
+use Rattle.e_construct.specs.Construct.{made, gives}
+use Rattle.e_deriv.specs.Script.{Qed, steps_script}
+use Rattle.e_deriv.specs.Goal.{goal_of_statement, facts_of_statement}
 use Rattle.e_deriv.specs.Lines.{lines}
-use Rattle.e_deriv.specs.Steps.{is_citation, fits}
+use Rattle.e_deriv.specs.Steps.{fits}
+use Rattle.e_deriv.specs.Naming.{names_of_sort, with_names, named, declared_names}
 use Rattle.e_book.specs.declared.fault.Kind.{Kind}
 use Rattle.e_book.specs.declared.fault.Kind.TheVariants.{Malformed, NameTaken, Limit}
 use Rattle.e_book.specs.declared.fault.BookFault.{BookFault}
 use Rattle.e_book.specs.declared.fault.What.{What}
 use Rattle.e_book.specs.declared.fault.What.TheVariants as limits
 use Rattle.e_book.specs.declared.literal.RawLit.{RawLit}
+use Rattle.e_book.specs.declared.lets.RawLet.{RawLet}
 use Rattle.e_book.specs.declared.form.Form.{Form}
 use Rattle.e_book.specs.declared.form.Form.TheVariants as forms
 use Rattle.e_book.specs.declared.draft.Place.{Place}
-use Rattle.e_book.specs.declared.draft.Place.TheVariants.{Declaring, Giving, Showing, Proving, Closed, Done}
+use Rattle.e_book.specs.declared.draft.Place.TheVariants.{Declaring, Giving, Making, Showing, Proving, Closed, Done}
 use Rattle.e_book.specs.declared.draft.Draft.{Draft}
 use Rattle.e_book.specs.Reading.{◌>>=◌, with_front}
 use Rattle.e_book.specs.Limits.{most_theorems, most_of, most_steps, most_facts, what_of, within}
 use Rattle.e_book.specs.Headed.{Headed, is_known}
-use Rattle.e_book.specs.Scope.{names_of_sort, with_names, fresh, lit_in, lits_in, by_in}
+use Rattle.e_book.specs.Scope.{fresh, lit_in, lits_in, by_in, let_in, qed_in}
 use Rattle.e_book.specs.Forms.{form_of}
-use Rattle.e_book.specs.Steps.{allowed, declared, fact_count, with_step, stepped, step, begin, begun}
+use Rattle.e_book.specs.Steps.{allowed, declared, few_objects, with_step, built, shut, stepped, step, begin, begun}
 use Rattle.e_book.specs.Entry.{Entry, entry_of_draft, statement_of_draft}
-use Rattle.e_book.specs.Fits.{scope_of_names, NamesDiffer, Fits}
+use Rattle.e_book.specs.Fits.{scope_of_names, NamesDiffer, count_given, Fits}
 use Rattle.e_book.specs.Book.{is_skipped, line_step, put_at, is_last, is_done, read_from}
 use Rattle.e_book.proofs.InScope.{bind_ok, ok_is, read_ok, lit_in_scope, each_all, each_length}
 use Rattle.e_book.proofs.Citations.{by_fits}
 use Rattle.e_book.proofs.Distinct.{still_differ}
+use Rattle.e_book.proofs.Building.{let_fits, qed_fits, objects_are_for, declared_scope, StepFits, after_step, given_by, StepsFit, after_steps, given_by_all, fit_more, after_more, given_more, lines_fit, names_fit, count_is, size_is}
 
--- the objects of a step are in scope
-abbrev pub step_fits : Scope → Step → Bool
-step_fits s (steps.Cite by) = is_citation s by
-step_fits s (steps.Hence lit cert) = all_in_scope s lit
+pub record FewNow (ns : Names) : Type 0 where
+  pub points : length ns.points ≤ most_of Point
+  pub lines : length ns.lines ≤ most_of Line
+  pub circles : length ns.circles ≤ most_of Circle
 
--- while objects are declared there is nothing else
-abbrev pub Empty : Place → List Lit → List Lit → List Step → Type 0
-Empty Declaring given shown steps = (given ≡ []) × (shown ≡ []) × (steps ≡ [])
-Empty place given shown steps = Unit {0}
+-- what has not come yet at a place
+abbrev pub Ahead : Place → List Lit → List Sort → List Lit → List Step → Type 0
+Ahead Declaring given made shown steps = (given ≡ []) × (made ≡ []) × (shown ≡ []) × (steps ≡ [])
+Ahead Giving given made shown steps = (made ≡ []) × (shown ≡ []) × (steps ≡ [])
+Ahead Making given made shown steps = (shown ≡ []) × (steps ≡ [])
+Ahead Showing given made shown steps = steps ≡ []
+Ahead place given made shown steps = Unit {0}
 
--- when the proof is closed, its close line was within the limit
-abbrev pub Shut : Place → ℕ → Type 0
-Shut Closed n = n + 1 ≤ most_steps
-Shut Done n = n + 1 ≤ most_steps
-Shut place n = Unit {0}
+-- in a proof the names in scope are these
+abbrev pub Scoped : Place → Names → Names → Type 0
+Scoped Proving names these = names ≡ these
+Scoped Closed names these = names ≡ these
+Scoped Done names these = names ≡ these
+Scoped place names these = Unit {0}
+
+-- a close was within the limit of steps, and its objects have the sorts of the made ones
+abbrev pub Shut : Place → ℕ → Scope → List Sort → List Obj → Type 0
+Shut Closed n s made objects = (n + 1 ≤ most_steps) × (are_of_sorts s made objects ≡ true)
+Shut Done n s made objects = (n + 1 ≤ most_steps) × (are_of_sorts s made objects ≡ true)
+Shut place n s made objects = Unit {0}
+
+-- the names with which the proof begins
+abbrev pub start : Draft → Names
+start d = declared_names (stated (statement_of_draft d)) d.names
 
 pub record Good (known : List Headed) (d : Draft) : Type 0 where
   pub new : is_known known d.title ≡ false
-  pub scope : grown nothing d.declared ≡ scope_of_names d.names
+  pub scope : grown (grown nothing d.declared) d.made ≡ scope_of_names d.names
   pub differ : NamesDiffer d.names
-  pub points : length d.names.points ≤ most_of Point
-  pub lines : length d.names.lines ≤ most_of Line
-  pub circles : length d.names.circles ≤ most_of Circle
-  pub given : list_all (all_in_scope (scope_of_names d.names)) d.given ≡ true
+  pub few : FewNow d.names
+  pub given : list_all (all_in_scope (grown nothing d.declared)) d.given ≡ true
   pub shown : list_all (all_in_scope (scope_of_names d.names)) d.shown ≡ true
-  pub steps : list_all (step_fits (scope_of_names d.names)) d.steps ≡ true
-  pub empty : Empty d.place d.given d.shown d.steps
-  pub facts : fact_count d ≤ most_facts
-  pub shut : Shut d.place (length d.steps)
+  pub steps : StepsFit (start d) d.steps
+  pub in_scope : Scoped d.place d.in_scope (after_steps (start d) d.steps)
+  pub facts : d.facts ≡ length d.given + given_by_all (start d) d.steps
+  pub within : d.facts ≤ most_facts
+  pub ahead : Ahead d.place d.given d.made d.shown d.steps
+  pub shut : Shut d.place (length d.steps) (scope_of_names d.in_scope) d.made d.objects
 
 refused : (b : Bool) (what : What) (u : Unit {0}) → b ≡ true → cond b (Err (Limit what)) (read_ok tt) ≡ Ok u → ⊥
 refused true what u t e = absurd cc
@@ -109,11 +128,6 @@ more_names ns Point new = ap (λ k. record { points = k; lines = length ns.lines
 more_names ns Line new = ap (λ k. record { points = length ns.points; lines = k; circles = length ns.circles }) (sym (length-append ns.lines new))
 more_names ns Circle new = ap (λ k. record { points = length ns.points; lines = length ns.lines; circles = k }) (sym (length-append ns.circles new))
 
-record FewNow (ns : Names) : Type 0 where
-  points : length ns.points ≤ most_of Point
-  lines : length ns.lines ≤ most_of Line
-  circles : length ns.circles ≤ most_of Circle
-
 few_now : (ns : Names) (sort : Sort) (new : List (List ℕ)) → FewNow ns → length (names_of_sort ns sort) + length new ≤ most_of sort → FewNow (with_names ns sort (names_of_sort ns sort ++ new))
 few_now ns Point new f le = record { points = omega (arith, le, length-append ns.points new); lines = f.lines; circles = f.circles }
 few_now ns Line new f le = record { points = f.points; lines = omega (arith, le, length-append ns.lines new); circles = f.circles }
@@ -122,39 +136,87 @@ few_now ns Circle new f le = record { points = f.points; lines = f.lines; circle
 nothing_at : {X : Type 0} (p : X → Bool) (xs : List X) → xs ≡ [] → list_all p xs ≡ true
 nothing_at {X} p xs e = subst (λ (l : List X). list_all p l ≡ true) (sym e) refl
 
+no_steps : (ns : Names) (ss : List Step) → ss ≡ [] → StepsFit ns ss
+no_steps ns ss e = subst (λ (l : List Step). StepsFit ns l) (sym e) tt
+
+none_given : (ns : Names) (ss : List Step) → ss ≡ [] → given_by_all ns ss ≡ 0
+none_given ns ss e = ap (given_by_all ns) e
+
+-- ---- the statement
+
 -- where objects may be declared
-declaring : (place : Place) (sort : Sort) (ns : List (List ℕ)) (given shown : List Lit) (ss : List Step) → allowed place (forms.Declare sort ns) ≡ true → Empty place given shown ss
-    → (place ≡ Declaring) × (given ≡ []) × (shown ≡ []) × (ss ≡ [])
-declaring Declaring sort ns given shown ss a e = (refl, e.0, e.1, e.2)
-declaring place sort ns given shown ss a e = absurd cc
+declaring : (place : Place) (sort : Sort) (ns : List (List ℕ)) (given : List Lit) (made : List Sort) (shown : List Lit) (ss : List Step) → allowed place (forms.Declare sort ns) ≡ true → Ahead place given made shown ss
+    → (place ≡ Declaring) × (given ≡ []) × (made ≡ []) × (shown ≡ []) × (ss ≡ [])
+declaring Declaring sort ns given made shown ss a e = (refl, e.0, e.1, e.2, e.3)
+declaring place sort ns given made shown ss a e = absurd cc
+
+-- where literals may be given
+giving : (place : Place) (raws : List RawLit) (given : List Lit) (made : List Sort) (shown : List Lit) (ss : List Step) → allowed place (forms.Given raws) ≡ true → Ahead place given made shown ss
+    → (made ≡ []) × (shown ≡ []) × (ss ≡ [])
+giving Declaring raws given made shown ss a e = (e.1, e.2, e.3)
+giving Giving raws given made shown ss a e = e
+giving place raws given made shown ss a e = absurd cc
+
+-- where objects may be made
+making : (place : Place) (sort : Sort) (ns : List (List ℕ)) (given : List Lit) (made : List Sort) (shown : List Lit) (ss : List Step) → allowed place (forms.Made sort ns) ≡ true → Ahead place given made shown ss
+    → (shown ≡ []) × (ss ≡ [])
+making Declaring sort ns given made shown ss a e = (e.2, e.3)
+making Giving sort ns given made shown ss a e = (e.1, e.2)
+making Making sort ns given made shown ss a e = e
+making place sort ns given made shown ss a e = absurd cc
+
+-- where literals may be shown
+showing : (place : Place) (raws : List RawLit) (given : List Lit) (made : List Sort) (shown : List Lit) (ss : List Step) → allowed place (forms.Show raws) ≡ true → Ahead place given made shown ss → ss ≡ []
+showing Declaring raws given made shown ss a e = e.3
+showing Giving raws given made shown ss a e = e.2
+showing Making raws given made shown ss a e = e.1
+showing Showing raws given made shown ss a e = e
+showing place raws given made shown ss a e = absurd cc
+
+-- where the proof may begin
+beginning : (place : Place) (given : List Lit) (made : List Sort) (shown : List Lit) (ss : List Step) → allowed place forms.Proof ≡ true → Ahead place given made shown ss → ss ≡ []
+beginning Showing given made shown ss a e = e
+beginning place given made shown ss a e = absurd cc
+
+-- more objects of a sort
+record Grown (ns : Names) (sort : Sort) (new : List (List ℕ)) (now : Names) : Type 0 where
+  is : with_names ns sort (names_of_sort ns sort ++ new) ≡ now
+  few : FewNow (with_names ns sort (names_of_sort ns sort ++ new))
+  differ : NamesDiffer (with_names ns sort (names_of_sort ns sort ++ new))
+
+grows : (ns : Names) (sort : Sort) (new : List (List ℕ)) (now : Names) → FewNow ns → NamesDiffer ns → declared ns sort new ≡ Ok now → Grown ns sort new now
+unfolding declared
+grows ns sort new now few differ h =
+    let next : Names = with_names ns sort (names_of_sort ns sort ++ new) in
+    let f = bind_ok (fresh ns [] new) (λ free. within (length (names_of_sort ns sort) + length new) (most_of sort) (what_of sort) >>= λ few. read_ok next) now h in
+    let w = bind_ok (within (length (names_of_sort ns sort) + length new) (most_of sort) (what_of sort)) (λ few. read_ok next) now f.2 in
+    record { is = ok_is next now w.2; few = few_now ns sort new few (within_ok _ _ _ w.0 w.1); differ = still_differ ns sort new f.0 differ f.1 }
 
 keeps_declare : (known : List Headed) (d e : Draft) (sort : Sort) (ns : List (List ℕ)) → Good known d → allowed d.place (forms.Declare sort ns) ≡ true → stepped d (forms.Declare sort ns) ≡ Ok e → Good known e
-unfolding stepped declared
+unfolding stepped
 keeps_declare known d e sort ns g a h =
     let now : Names = with_names d.names sort (names_of_sort d.names sort ++ ns) in
-    let x : Draft = record d { names = now; declared = d.declared ++ replicate (length ns) sort } in
-    let n = bind_ok (fresh d.names [] ns >>= λ free. within (length (names_of_sort d.names sort) + length ns) (most_of sort) (what_of sort) >>= λ few. read_ok now)
-    (λ names. read_ok (record d { names = names; declared = d.declared ++ replicate (length ns) sort })) e h in
-    let f = bind_ok (fresh d.names [] ns) (λ free. within (length (names_of_sort d.names sort) + length ns) (most_of sort) (what_of sort) >>= λ few. read_ok now) n.0 n.1 in
-    let w = bind_ok (within (length (names_of_sort d.names sort) + length ns) (most_of sort) (what_of sort)) (λ few. read_ok now) n.0 f.2 in
-    let le = within_ok _ _ _ w.0 w.1 in
-    let few = few_now d.names sort ns (record { points = g.points; lines = g.lines; circles = g.circles }) le in
-    let at = declaring d.place sort ns d.given d.shown d.steps a g.empty in
-    let names-is : now ≡ n.0 = ok_is now n.0 w.2 in
-    let x-is : x ≡ e = ap (λ (m : Names). record d { names = m; declared = d.declared ++ replicate (length ns) sort }) names-is ∙ ok_is (record d { names = n.0; declared = d.declared ++ replicate (length ns) sort }) e n.2 in
+    let more_sorts = replicate (length ns) sort in
+    let x : Draft = record d { names = now; declared = d.declared ++ more_sorts } in
+    let n = bind_ok (declared d.names sort ns) (λ names. read_ok (record d { names = names; declared = d.declared ++ more_sorts })) e h in
+    let w = grows d.names sort ns n.0 g.few g.differ n.1 in
+    let at = declaring d.place sort ns d.given d.made d.shown d.steps a g.ahead in
+    let none : (s : Scope) → grown s d.made ≡ s = λ s. ap (grown s) at.2 in
+    let was : grown nothing d.declared ≡ scope_of_names d.names = sym (none (grown nothing d.declared)) ∙ g.scope in
+    let x-is : x ≡ e = ap (λ (m : Names). record d { names = m; declared = d.declared ++ more_sorts }) w.is ∙ ok_is (record d { names = n.0; declared = d.declared ++ more_sorts }) e n.2 in
     subst (λ (y : Draft). Good known y) x-is (record {
       new = g.new;
-      scope = grown-append nothing d.declared (replicate (length ns) sort) ∙ ap (λ (s : Scope). grown s (replicate (length ns) sort)) g.scope ∙ grown-replicate (scope_of_names d.names) sort (length ns) ∙ more_names d.names sort ns;
-      differ = still_differ d.names sort ns f.0 g.differ f.1;
-      points = few.points;
-      lines = few.lines;
-      circles = few.circles;
-      given = nothing_at (all_in_scope (scope_of_names now)) d.given at.1;
-      shown = nothing_at (all_in_scope (scope_of_names now)) d.shown at.2;
-      steps = nothing_at (step_fits (scope_of_names now)) d.steps at.3;
-      empty = g.empty;
-      facts = g.facts;
-      shut = g.shut;
+      scope = none (grown nothing (d.declared ++ more_sorts)) ∙ grown-append nothing d.declared more_sorts ∙ ap (λ (s : Scope). grown s more_sorts) was ∙ grown-replicate (scope_of_names d.names) sort (length ns) ∙ more_names d.names sort ns;
+      differ = w.differ;
+      few = w.few;
+      given = nothing_at (all_in_scope (grown nothing (d.declared ++ more_sorts))) d.given at.1;
+      shown = nothing_at (all_in_scope (scope_of_names now)) d.shown at.3;
+      steps = no_steps (start x) d.steps at.4;
+      in_scope = subst (λ (p : Place). Scoped p d.in_scope (after_steps (start x) d.steps)) (sym at.0) tt;
+      facts = omega (arith, g.facts, none_given (start d) d.steps at.4, none_given (start x) d.steps at.4);
+      within = g.within;
+      ahead = g.ahead;
+      shut = subst (λ (p : Place). Shut p (length d.steps) (scope_of_names d.in_scope) d.made d.objects) (sym at.0) tt;
     })
 
 appended : {X : Type 0} (p : X → Bool) (xs ys : List X) → list_all p xs ≡ true → list_all p ys ≡ true → list_all p (xs ++ ys) ≡ true
@@ -163,88 +225,137 @@ appended p xs ys hx hy = list_all-append p xs ys ∙ rw (hx, hy) refl
 lits_within : (ns : Names) (raws : List RawLit) (ls : List Lit) → lits_in ns raws ≡ Ok ls → list_all (all_in_scope (scope_of_names ns)) ls ≡ true
 lits_within ns raws ls e = each_all (lit_in ns) (all_in_scope (scope_of_names ns)) (lit_in_scope ns) raws ls e
 
-keeps_given : (known : List Headed) (d e : Draft) (raws : List RawLit) → Good known d → stepped d (forms.Given raws) ≡ Ok e → Good known e
+keeps_given : (known : List Headed) (d e : Draft) (raws : List RawLit) → Good known d → allowed d.place (forms.Given raws) ≡ true → stepped d (forms.Given raws) ≡ Ok e → Good known e
 unfolding stepped
-keeps_given known d e raws g h =
-    let all = bind_ok (with_front d.given (lits_in d.names raws)) (λ ls. within (fact_count d + length raws) most_facts limits.Facts >>= λ few. read_ok (record d { given = ls; place = Giving })) e h in
+keeps_given known d e raws g a h =
+    let count = d.facts + length raws in
+    let all = bind_ok (with_front d.given (lits_in d.names raws)) (λ ls. within count most_facts limits.Facts >>= λ few. read_ok (record d { given = ls; facts = count; place = Giving })) e h in
     let ls = bind_ok (lits_in d.names raws) (λ xs. read_ok (d.given ++ xs)) all.0 all.1 in
-    let w = bind_ok (within (fact_count d + length raws) most_facts limits.Facts) (λ few. read_ok (record d { given = all.0; place = Giving })) e all.2 in
+    let w = bind_ok (within count most_facts limits.Facts) (λ few. read_ok (record d { given = all.0; facts = count; place = Giving })) e all.2 in
     let le = within_ok _ _ _ w.0 w.1 in
     let n = each_length (lit_in d.names) raws ls.0 ls.1 in
-    let x-is : record d { given = d.given ++ ls.0; place = Giving } ≡ e = ap (λ (l : List Lit). record d { given = l; place = Giving }) (ok_is (d.given ++ ls.0) all.0 ls.2) ∙ ok_is (record d { given = all.0; place = Giving }) e w.2 in
+    let at = giving d.place raws d.given d.made d.shown d.steps a g.ahead in
+    let was : scope_of_names d.names ≡ grown nothing d.declared = sym g.scope ∙ ap (grown (grown nothing d.declared)) at.0 in
+    let x : Draft = record d { given = d.given ++ ls.0; facts = count; place = Giving } in
+    let x-is : x ≡ e = ap (λ (l : List Lit). record d { given = l; facts = count; place = Giving }) (ok_is (d.given ++ ls.0) all.0 ls.2) ∙ ok_is (record d { given = all.0; facts = count; place = Giving }) e w.2 in
     subst (λ (y : Draft). Good known y) x-is (record {
       new = g.new;
       scope = g.scope;
       differ = g.differ;
-      points = g.points;
-      lines = g.lines;
-      circles = g.circles;
-      given = appended (all_in_scope (scope_of_names d.names)) d.given ls.0 g.given (lits_within d.names raws ls.0 ls.1);
+      few = g.few;
+      given = appended (all_in_scope (grown nothing d.declared)) d.given ls.0 g.given (subst (λ (s : Scope). list_all (all_in_scope s) ls.0 ≡ true) was (lits_within d.names raws ls.0 ls.1));
       shown = g.shown;
-      steps = g.steps;
-      empty = tt;
-      facts = omega (arith, le, n, length-append d.given ls.0);
+      steps = no_steps (start x) d.steps at.2;
+      in_scope = tt;
+      facts = omega (arith, g.facts, n, length-append d.given ls.0, none_given (start d) d.steps at.2, none_given (start x) d.steps at.2);
+      within = le;
+      ahead = at;
       shut = tt;
     })
 
-keeps_shown : (known : List Headed) (d e : Draft) (raws : List RawLit) → Good known d → stepped d (forms.Show raws) ≡ Ok e → Good known e
+keeps_made : (known : List Headed) (d e : Draft) (sort : Sort) (ns : List (List ℕ)) → Good known d → allowed d.place (forms.Made sort ns) ≡ true → stepped d (forms.Made sort ns) ≡ Ok e → Good known e
 unfolding stepped
-keeps_shown known d e raws g h =
+keeps_made known d e sort ns g a h =
+    let now : Names = with_names d.names sort (names_of_sort d.names sort ++ ns) in
+    let more_sorts = replicate (length ns) sort in
+    let x : Draft = record d { names = now; made = d.made ++ more_sorts; place = Making } in
+    let n = bind_ok (declared d.names sort ns) (λ names. read_ok (record d { names = names; made = d.made ++ more_sorts; place = Making })) e h in
+    let w = grows d.names sort ns n.0 g.few g.differ n.1 in
+    let at = making d.place sort ns d.given d.made d.shown d.steps a g.ahead in
+    let x-is : x ≡ e = ap (λ (m : Names). record d { names = m; made = d.made ++ more_sorts; place = Making }) w.is ∙ ok_is (record d { names = n.0; made = d.made ++ more_sorts; place = Making }) e n.2 in
+    subst (λ (y : Draft). Good known y) x-is (record {
+      new = g.new;
+      scope = grown-append (grown nothing d.declared) d.made more_sorts ∙ ap (λ (s : Scope). grown s more_sorts) g.scope ∙ grown-replicate (scope_of_names d.names) sort (length ns) ∙ more_names d.names sort ns;
+      differ = w.differ;
+      few = w.few;
+      given = g.given;
+      shown = nothing_at (all_in_scope (scope_of_names now)) d.shown at.0;
+      steps = no_steps (start x) d.steps at.1;
+      in_scope = tt;
+      facts = omega (arith, g.facts, none_given (start d) d.steps at.1, none_given (start x) d.steps at.1);
+      within = g.within;
+      ahead = at;
+      shut = tt;
+    })
+
+keeps_shown : (known : List Headed) (d e : Draft) (raws : List RawLit) → Good known d → allowed d.place (forms.Show raws) ≡ true → stepped d (forms.Show raws) ≡ Ok e → Good known e
+unfolding stepped
+keeps_shown known d e raws g a h =
     let all = bind_ok (with_front d.shown (lits_in d.names raws)) (λ ls. read_ok (record d { shown = ls; place = Showing })) e h in
     let ls = bind_ok (lits_in d.names raws) (λ xs. read_ok (d.shown ++ xs)) all.0 all.1 in
-    let x-is : record d { shown = d.shown ++ ls.0; place = Showing } ≡ e = ap (λ (l : List Lit). record d { shown = l; place = Showing }) (ok_is (d.shown ++ ls.0) all.0 ls.2) ∙ ok_is (record d { shown = all.0; place = Showing }) e all.2 in
+    let at = showing d.place raws d.given d.made d.shown d.steps a g.ahead in
+    let x : Draft = record d { shown = d.shown ++ ls.0; place = Showing } in
+    let x-is : x ≡ e = ap (λ (l : List Lit). record d { shown = l; place = Showing }) (ok_is (d.shown ++ ls.0) all.0 ls.2) ∙ ok_is (record d { shown = all.0; place = Showing }) e all.2 in
     subst (λ (y : Draft). Good known y) x-is (record {
       new = g.new;
       scope = g.scope;
       differ = g.differ;
-      points = g.points;
-      lines = g.lines;
-      circles = g.circles;
+      few = g.few;
       given = g.given;
       shown = appended (all_in_scope (scope_of_names d.names)) d.shown ls.0 g.shown (lits_within d.names raws ls.0 ls.1);
-      steps = g.steps;
-      empty = tt;
-      facts = g.facts;
+      steps = no_steps (start x) d.steps at;
+      in_scope = tt;
+      facts = omega (arith, g.facts, none_given (start d) d.steps at, none_given (start x) d.steps at);
+      within = g.within;
+      ahead = at;
       shut = tt;
     })
 
--- at another place, with nothing more
-moved : (known : List Headed) (d : Draft) (p : Place) → Good known d → Empty p d.given d.shown d.steps → Shut p (length d.steps) → Good known (record d { place = p })
-moved known d p g empty shut = record {
-  new = g.new;
-  scope = g.scope;
-  differ = g.differ;
-  points = g.points;
-  lines = g.lines;
-  circles = g.circles;
-  given = g.given;
-  shown = g.shown;
-  steps = g.steps;
-  empty = empty;
-  facts = g.facts;
-  shut = shut;
-}
+keeps_proof : (known : List Headed) (d e : Draft) → Good known d → allowed d.place forms.Proof ≡ true → stepped d forms.Proof ≡ Ok e → Good known e
+unfolding stepped
+keeps_proof known d e g a h =
+    let at = beginning d.place d.given d.made d.shown d.steps a g.ahead in
+    subst (λ (y : Draft). Good known y) (ok_is (record d { in_scope = start d; place = Proving }) e h) (record {
+      new = g.new;
+      scope = g.scope;
+      differ = g.differ;
+      few = g.few;
+      given = g.given;
+      shown = g.shown;
+      steps = g.steps;
+      in_scope = sym (ap (after_steps (start d)) at);
+      facts = g.facts;
+      within = g.within;
+      ahead = tt;
+      shut = tt;
+    })
 
-keeps_step : (known : List Headed) (d e : Draft) (s : Step) → Good known d → d.place ≡ Proving → step_fits (scope_of_names d.names) s ≡ true → with_step d s ≡ Ok e → Good known e
+-- ---- the proof
+
+-- the names in scope, and what comes with a place in the proof
+in_proof : (p : Place) (names these : Names) → p ≡ Proving → Scoped p names these → names ≡ these
+in_proof p names these e h = subst (λ (q : Place). Scoped q names these) e h
+
+nothing_ahead : (p : Place) (given : List Lit) (made : List Sort) (shown : List Lit) (ss : List Step) → p ≡ Proving → Ahead p given made shown ss
+nothing_ahead p given made shown ss e = subst (λ (q : Place). Ahead q given made shown ss) (sym e) tt
+
+not_shut : (p : Place) (n : ℕ) (s : Scope) (made : List Sort) (os : List Obj) → p ≡ Proving → Shut p n s made os
+not_shut p n s made os e = subst (λ (q : Place). Shut q n s made os) (sym e) tt
+
+keeps_step : (known : List Headed) (d e : Draft) (s : Step) (after : Names) (n : ℕ) → Good known d → d.place ≡ Proving → StepFits d.in_scope s → after ≡ after_step d.in_scope s → n ≡ given_by d.in_scope s → with_step (record d { in_scope = after }) s n ≡ Ok e
+    → Good known e
 unfolding with_step
-keeps_step known d e s g at fit h =
-    let x : Draft = record d { steps = d.steps ++ s ∷ [] } in
-    let a = bind_ok (within (length d.steps + 1) most_steps limits.Steps) (λ few. within (fact_count d + 1) most_facts limits.Facts >>= λ none. read_ok x) e h in
-    let b = bind_ok (within (fact_count d + 1) most_facts limits.Facts) (λ none. read_ok x) e a.2 in
-    let le = within_ok _ _ _ b.0 b.1 in
+keeps_step known d e s after n g at fit after-is n-is h =
+    let ss = d.steps ++ s ∷ [] in
+    let x : Draft = record d { in_scope = after; steps = ss; facts = d.facts + n } in
+    let a = bind_ok (within (length d.steps + 1) most_steps limits.Steps) (λ few. within (d.facts + n) most_facts limits.Facts >>= λ none. read_ok x) e h in
+    let b = bind_ok (within (d.facts + n) most_facts limits.Facts) (λ none. read_ok x) e a.2 in
+    let before : Names = start d in
+    let here : d.in_scope ≡ after_steps before d.steps = in_proof d.place d.in_scope (after_steps before d.steps) at g.in_scope in
+    let one : given_by d.in_scope s ≡ given_by (after_steps before d.steps) s = ap (λ (m : Names). given_by m s) here in
     subst (λ (y : Draft). Good known y) (ok_is x e b.2) (record {
       new = g.new;
       scope = g.scope;
       differ = g.differ;
-      points = g.points;
-      lines = g.lines;
-      circles = g.circles;
+      few = g.few;
       given = g.given;
       shown = g.shown;
-      steps = appended (step_fits (scope_of_names d.names)) d.steps (s ∷ []) g.steps (rw fit refl);
-      empty = subst (λ (p : Place). Empty p d.given d.shown (d.steps ++ s ∷ [])) (sym at) tt;
-      facts = omega (arith, le, length-append d.steps (s ∷ []));
-      shut = subst (λ (p : Place). Shut p (length (d.steps ++ s ∷ []))) (sym at) tt;
+      steps = fit_more before d.steps s g.steps (subst (λ (m : Names). StepFits m s) here fit);
+      in_scope = subst (λ (p : Place). Scoped p after (after_steps before ss)) (sym at) (after-is ∙ ap (λ (m : Names). after_step m s) here ∙ sym (after_more before d.steps s));
+      facts = omega (arith, g.facts, n-is, one, given_more before d.steps s);
+      within = within_ok _ _ _ b.0 b.1;
+      ahead = nothing_ahead d.place d.given d.made d.shown ss at;
+      shut = not_shut d.place (length ss) (scope_of_names after) d.made d.objects at;
     })
 
 proving_by : (p : Place) (r : List ℕ) (ns : List (List ℕ)) (l : RawLit) → allowed p (forms.By r ns l) ≡ true → p ≡ Proving
@@ -255,53 +366,114 @@ proving_hence : (p : Place) (l : RawLit) → allowed p (forms.Hence l) ≡ true 
 proving_hence Proving l a = refl
 proving_hence p l a = absurd cc
 
-closed : (p : Place) (n : ℕ) → allowed p forms.End ≡ true → Shut p n → n + 1 ≤ most_steps
-closed Closed n a s = s
-closed p n a s = absurd cc
+proving_let : (p : Place) (l : RawLet) → allowed p (forms.Let l) ≡ true → p ≡ Proving
+proving_let Proving l a = refl
+proving_let p l a = absurd cc
+
+proving_qed : (p : Place) (ns : List (List ℕ)) → allowed p (forms.Qed ns) ≡ true → p ≡ Proving
+proving_qed Proving ns a = refl
+proving_qed p ns a = absurd cc
 
 keeps_by : (known : List Headed) (d e : Draft) (r : List ℕ) (ns : List (List ℕ)) (l : RawLit) → Good known d → allowed d.place (forms.By r ns l) ≡ true → stepped d (forms.By r ns l) ≡ Ok e → Good known e
 unfolding stepped
 keeps_by known d e r ns l g a h =
-    let b = bind_ok (by_in d.names r ns l) (λ b. with_step d (steps.Cite b)) e h in
-    keeps_step known d e (steps.Cite b.0) g (proving_by d.place r ns l a) (by_fits d.names r ns l b.0 b.1) b.2
+    let b = bind_ok (by_in d.in_scope r ns l) (λ b. with_step d (steps.Cite b) 1) e h in
+    keeps_step known d e (steps.Cite b.0) d.in_scope 1 g (proving_by d.place r ns l a) (by_fits d.in_scope r ns l b.0 b.1) refl refl b.2
 
 keeps_hence : (known : List Headed) (d e : Draft) (l : RawLit) → Good known d → allowed d.place (forms.Hence l) ≡ true → stepped d (forms.Hence l) ≡ Ok e → Good known e
 unfolding stepped
 keeps_hence known d e l g a h =
-    let m = bind_ok (lit_in d.names l) (λ m. with_step d (steps.Hence m None)) e h in
-    keeps_step known d e (steps.Hence m.0 None) g (proving_hence d.place l a) (lit_in_scope d.names l m.0 m.1) m.2
+    let m = bind_ok (lit_in d.in_scope l) (λ m. with_step d (steps.Hence m None) 1) e h in
+    keeps_step known d e (steps.Hence m.0 None) d.in_scope 1 g (proving_hence d.place l a) (lit_in_scope d.in_scope l m.0 m.1) refl refl m.2
 
-keeps_qed : (known : List Headed) (d e : Draft) → Good known d → stepped d forms.Qed ≡ Ok e → Good known e
-unfolding stepped
-keeps_qed known d e g h =
-    let w = bind_ok (within (length d.steps + 1) most_steps limits.Steps) (λ few. read_ok (record d { place = Closed })) e h in
-    subst (λ (y : Draft). Good known y) (ok_is (record d { place = Closed }) e w.2) (moved known d Closed g tt (within_ok _ _ _ w.0 w.1))
+keeps_built : (known : List Headed) (d e : Draft) (l : RawLet) → Good known d → d.place ≡ Proving → built d l ≡ Ok e → Good known e
+unfolding built
+keeps_built known d e l g at h =
+    let s = scope_of_names d.in_scope in
+    let then : Construction → Result Draft Kind = λ f. with_step (record d { in_scope = named d.in_scope (made f) l.new }) (steps.Make f l.new []) (length (gives f s)) in
+    let f = bind_ok (let_in d.in_scope l) (λ f. few_objects (named d.in_scope (made f) l.new) >>= λ few. then f) e h in
+    let w = bind_ok (few_objects (named d.in_scope (made f.0) l.new)) (λ few. then f.0) e f.2 in
+    keeps_step known d e (steps.Make f.0 l.new []) (named d.in_scope (made f.0) l.new) (length (gives f.0 s)) g at (let_fits d.in_scope l f.0 f.1, w.1) refl refl w.2
 
-keeps_proof : (known : List Headed) (d e : Draft) → Good known d → stepped d forms.Proof ≡ Ok e → Good known e
-unfolding stepped
-keeps_proof known d e g h = subst (λ (y : Draft). Good known y) (ok_is (record d { place = Proving }) e h) (moved known d Proving g tt tt)
+keeps_shut : (known : List Headed) (d e : Draft) (ns : List (List ℕ)) → Good known d → d.place ≡ Proving → shut d ns ≡ Ok e → Good known e
+unfolding shut
+keeps_shut known d e ns g at h =
+    let os = bind_ok (qed_in d.in_scope d.made ns) (λ os. within (length d.steps + 1) most_steps limits.Steps >>= λ few. read_ok (record d { objects = os; place = Closed })) e h in
+    let x : Draft = record d { objects = os.0; place = Closed } in
+    let w = bind_ok (within (length d.steps + 1) most_steps limits.Steps) (λ few. read_ok x) e os.2 in
+    subst (λ (y : Draft). Good known y) (ok_is x e w.2) (record {
+      new = g.new;
+      scope = g.scope;
+      differ = g.differ;
+      few = g.few;
+      given = g.given;
+      shown = g.shown;
+      steps = g.steps;
+      in_scope = in_proof d.place d.in_scope (after_steps (start d) d.steps) at g.in_scope;
+      facts = g.facts;
+      within = g.within;
+      ahead = tt;
+      shut = (within_ok _ _ _ w.0 w.1, qed_fits d.in_scope d.made ns os.0 os.1);
+    })
+
+-- a closed proof
+record IsShut (d : Draft) (p : Place) : Type 0 where
+  in_scope : Scoped p d.in_scope (after_steps (start d) d.steps)
+  shut : Shut p (length d.steps) (scope_of_names d.in_scope) d.made d.objects
+
+closed : (d : Draft) (p : Place) → allowed p forms.End ≡ true → IsShut d p → IsShut d Done
+closed d Closed a s = record { in_scope = s.in_scope; shut = s.shut }
+closed d p a s = absurd cc
 
 keeps_end : (known : List Headed) (d e : Draft) → Good known d → allowed d.place forms.End ≡ true → stepped d forms.End ≡ Ok e → Good known e
 unfolding stepped
-keeps_end known d e g a h = subst (λ (y : Draft). Good known y) (ok_is (record d { place = Done }) e h) (moved known d Done g tt (closed d.place (length d.steps) a g.shut))
+keeps_end known d e g a h =
+    let c = closed d d.place a (record { in_scope = g.in_scope; shut = g.shut }) in
+    subst (λ (y : Draft). Good known y) (ok_is (record d { place = Done }) e h) (record {
+      new = g.new;
+      scope = g.scope;
+      differ = g.differ;
+      few = g.few;
+      given = g.given;
+      shown = g.shown;
+      steps = g.steps;
+      in_scope = c.in_scope;
+      facts = g.facts;
+      within = g.within;
+      ahead = tt;
+      shut = c.shut;
+    })
+
+-- ---- all lines
 
 no_title : (p : Place) (t : List ℕ) → allowed p (forms.Theorem t) ≡ true → ⊥
 no_title Declaring t a = absurd cc
 no_title Giving t a = absurd cc
+no_title Making t a = absurd cc
 no_title Showing t a = absurd cc
 no_title Proving t a = absurd cc
 no_title Closed t a = absurd cc
 no_title Done t a = absurd cc
 
+keeps_let : (known : List Headed) (d e : Draft) (l : RawLet) → Good known d → allowed d.place (forms.Let l) ≡ true → stepped d (forms.Let l) ≡ Ok e → Good known e
+unfolding stepped
+keeps_let known d e l g a h = keeps_built known d e l g (proving_let d.place l a) h
+
+keeps_qed : (known : List Headed) (d e : Draft) (ns : List (List ℕ)) → Good known d → allowed d.place (forms.Qed ns) ≡ true → stepped d (forms.Qed ns) ≡ Ok e → Good known e
+unfolding stepped
+keeps_qed known d e ns g a h = keeps_shut known d e ns g (proving_qed d.place ns a) h
+
 keeps_stepped : (known : List Headed) (d e : Draft) (f : Form) → Good known d → allowed d.place f ≡ true → stepped d f ≡ Ok e → Good known e
 keeps_stepped known d e (forms.Theorem t) g a h = absurd (no_title d.place t a)
 keeps_stepped known d e (forms.Declare sort ns) g a h = keeps_declare known d e sort ns g a h
-keeps_stepped known d e (forms.Given raws) g a h = keeps_given known d e raws g h
-keeps_stepped known d e (forms.Show raws) g a h = keeps_shown known d e raws g h
-keeps_stepped known d e forms.Proof g a h = keeps_proof known d e g h
+keeps_stepped known d e (forms.Given raws) g a h = keeps_given known d e raws g a h
+keeps_stepped known d e (forms.Made sort ns) g a h = keeps_made known d e sort ns g a h
+keeps_stepped known d e (forms.Show raws) g a h = keeps_shown known d e raws g a h
+keeps_stepped known d e forms.Proof g a h = keeps_proof known d e g a h
 keeps_stepped known d e (forms.By r ns l) g a h = keeps_by known d e r ns l g a h
 keeps_stepped known d e (forms.Hence l) g a h = keeps_hence known d e l g a h
-keeps_stepped known d e forms.Qed g a h = keeps_qed known d e g h
+keeps_stepped known d e (forms.Let l) g a h = keeps_let known d e l g a h
+keeps_stepped known d e (forms.Qed ns) g a h = keeps_qed known d e ns g a h
 keeps_stepped known d e forms.End g a h = keeps_end known d e g a h
 
 passes : (b : Bool) (x : Result Draft Kind) (y : Draft) → cond b x (Err Malformed) ≡ Ok y → (b ≡ true) × (x ≡ Ok y)
@@ -317,14 +489,14 @@ good_begun known t n = record {
   new = n;
   scope = refl;
   differ = record { points = refl; lines = refl; circles = refl; points_lines = refl; points_circles = refl; lines_circles = refl };
-  points = omega arith;
-  lines = omega arith;
-  circles = omega arith;
+  few = record { points = omega arith; lines = omega arith; circles = omega arith };
   given = refl;
   shown = refl;
-  steps = refl;
-  empty = (refl, refl, refl);
-  facts = omega arith;
+  steps = tt;
+  in_scope = tt;
+  facts = refl;
+  within = omega arith;
+  ahead = (refl, refl, refl, refl);
   shut = tt;
 }
 
@@ -349,50 +521,34 @@ unfolding line_step
 keeps_line known None words e g h = let f = bind_ok (form_of words) (λ f. begin known f) e h in keeps_begin known f.0 e f.2
 keeps_line known (Some d) words e g h = let f = bind_ok (form_of words) (λ f. step d f) e h in keeps known d e f.0 g f.2
 
-both : (a b : Bool) → (a && b) ≡ true → (a ≡ true) × (b ≡ true)
-both true b e = (refl, e)
-both false b e = absurd cc
-
--- the lines of a script whose steps fit
-lines_fit : (ss : List Step) (s : Scope) (facts : List Lit) (goal : Goal) → list_all (step_fits s) ss ≡ true → are_for goal s [] ≡ true → list_all fits (lines (steps_script ss (Qed [] [])) s facts goal) ≡ true
-unfolding lines
-lines_fit [] s facts goal h q = rw q refl
-lines_fit (steps.Cite by ∷ ss) s facts goal h q =
-    let p = both (is_citation s by) (list_all (step_fits s) ss) h in
-    rw (p.0, lines_fit ss s (joined facts by.lit) goal p.1 q) refl
-lines_fit (steps.Hence lit cert ∷ ss) s facts goal h q =
-    let p = both (all_in_scope s lit) (list_all (step_fits s) ss) h in
-    rw (p.0, lines_fit ss s (joined facts lit) goal p.1 q) refl
-
-size_of : (ss : List Step) → size (steps_script ss (Qed [] [])) ≡ length ss + 1
-unfolding size
-size_of [] = refl
-size_of (steps.Cite by ∷ ss) = ap (λ n. 1 + n) (size_of ss) ∙ omega arith
-size_of (steps.Hence lit cert ∷ ss) = ap (λ n. 1 + n) (size_of ss) ∙ omega arith
-
-last_shut : (p : Place) (n : ℕ) → is_last p ≡ true → Shut p n → n + 1 ≤ most_steps
-last_shut Done n a s = s
-last_shut p n a s = absurd cc
+-- a theorem whose last line has come
+last_shut : (d : Draft) (p : Place) → is_last p ≡ true → IsShut d p → IsShut d Done
+last_shut d Done a s = record { in_scope = s.in_scope; shut = s.shut }
+last_shut d p a s = absurd cc
 
 fits_read : (known : List Headed) (d : Draft) → Good known d → is_done d ≡ true → Fits known (entry_of_draft d)
 fits_read known d g a =
-    let s = scope_of_names d.names in
     let t = stated (statement_of_draft d) in
-    let n = size_of d.steps in
-    let few = last_shut d.place (length d.steps) a g.shut in
+    let ns : Names = start d in
+    let c = last_shut d d.place a (record { in_scope = g.in_scope; shut = g.shut }) in
+    let here : scope_of_names ns ≡ grown nothing d.declared = declared_scope t d.names g.scope in
+    let objects = objects_are_for (grown nothing d.declared) (scope_of_names (after_steps ns d.steps)) d.made d.shown d.objects (subst (λ (m : Names). are_of_sorts (scope_of_names m) d.made d.objects ≡ true) c.in_scope c.shut.1) in
+    let n = size_is d.steps d.objects in
+    let count = count_is ns d.steps d.objects g.steps in
+    let counted = ap (λ (z : Scope). count_given z (steps_script d.steps (Qed d.objects []))) here in
     record {
       new = g.new;
-      made = refl;
       scope = g.scope;
       differ = g.differ;
-      points = g.points;
-      lines = g.lines;
-      circles = g.circles;
+      points = g.few.points;
+      lines = g.few.lines;
+      circles = g.few.circles;
       given = g.given;
       shown = g.shown;
-      script = subst (λ (z : Scope). list_all fits (lines (steps_script d.steps (Qed [] [])) z (facts_of_statement t) (goal_of_statement t)) ≡ true) (sym g.scope) (lines_fit d.steps s (facts_of_statement t) (goal_of_statement t) g.steps refl);
-      steps = omega (arith, n, few);
-      facts = omega (arith, n, g.facts);
+      script = subst (λ (z : Scope). list_all fits (lines (steps_script d.steps (Qed d.objects [])) z (facts_of_statement t) (goal_of_statement t)) ≡ true) here (lines_fit ns d.steps (facts_of_statement t) (goal_of_statement t) d.objects g.steps objects);
+      new_names = names_fit ns d.steps d.objects g.steps;
+      steps = omega (arith, n, c.shut.0);
+      facts = omega (arith, g.facts, g.within, count, counted);
     }
 
 put_ok : (n : ℕ) (r : Result Draft Kind) (d : Draft) → put_at n r ≡ Ok d → r ≡ Ok d

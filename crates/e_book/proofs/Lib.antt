@@ -1,9 +1,13 @@
 pub mod Loops
 pub mod Texts
+pub mod Counted
+pub mod Placed
+pub mod Arguments
 pub mod SideBySide
 pub mod InScope
 pub mod Citations
 pub mod Distinct
+pub mod Building
 pub mod Keeps
 pub mod LineCount
 pub mod Differ

@@ -12,10 +12,16 @@ use Rattle.e_literal.specs.Scopes.{same_sort, nothing, next_objects}
 use Rattle.e_clause.specs.declared.cert.By.{By}
 use Rattle.e_clause.specs.Instance.{name_of}
 use Rattle.e_deriv.specs.declared.names.Names.{Names}
-use Rattle.e_deriv.specs.Script.{Script, Cite, Hence, Qed}
+use Rattle.e_construct.specs.declared.construction.Construction.{Construction}
+use Rattle.e_construct.specs.declared.construction.Shape.{Shape}
+use Rattle.e_construct.specs.Construct.{made}
+use Rattle.e_construct.specs.Lines.{Piece, New, Argument, Word, pieces, all_shapes}
+use Rattle.e_deriv.specs.Naming.{named, declared_names}
+use Rattle.e_deriv.specs.Script.{Script, Cite, Hence, Make, Qed}
 use Rattle.e_book.specs.declared.literal.RawLit.{RawLit}
 use Rattle.e_book.specs.declared.literal.RawAtom.{RawAtom}
 use Rattle.e_book.specs.declared.literal.RawAtom.TheVariants as raw
+use Rattle.e_book.specs.declared.lets.RawLet.{RawLet}
 use Rattle.e_book.specs.declared.form.Form.{Form}
 use Rattle.e_book.specs.declared.form.Form.TheVariants as forms
 use Rattle.e_book.specs.Scope.{names_of_sort}
@@ -72,15 +78,37 @@ sort_word sorts.Point = codes "points"
 sort_word sorts.Line = codes "lines"
 sort_word sorts.Circle = codes "circles"
 
+-- the words of a line, with these names for the new objects and the arguments
+abbrev pub filled : List Piece → List (List ℕ) → List (List ℕ) → List (List ℕ)
+filled [] new args = []
+filled (New ∷ ps) (n ∷ new) args = n ∷ filled ps new args
+filled (New ∷ ps) [] args = []
+filled (Argument ∷ ps) new (a ∷ args) = a ∷ filled ps new args
+filled (Argument ∷ ps) new [] = []
+filled (Word w ∷ ps) new args = w ∷ filled ps new args
+
+abbrev pub avoid_words : List (List ℕ) → List (List ℕ)
+avoid_words [] = []
+avoid_words (n ∷ ns) = codes "avoid" ∷ n ∷ ns
+
+abbrev pub line_words : List Shape → List (List ℕ) → List (List ℕ) → List (List ℕ)
+line_words [] new args = []
+line_words (s ∷ ss) new args = filled (pieces s) new args
+
+abbrev pub let_words : RawLet → List (List ℕ)
+let_words l = line_words l.shapes l.new l.args ++ avoid_words l.avoid
+
 abbrev pub form_words : Form → List (List ℕ)
 form_words (forms.Theorem t) = codes "theorem" ∷ t ∷ []
 form_words (forms.Declare sort ns) = sort_word sort ∷ ns
 form_words (forms.Given ls) = codes "given" ∷ lits_words ls
+form_words (forms.Made sort ns) = codes "made" ∷ sort_word sort ∷ ns
 form_words (forms.Show ls) = codes "show" ∷ lits_words ls
 form_words forms.Proof = codes "proof" ∷ []
 form_words (forms.By r ns l) = codes "by" ∷ r ∷ (ns ++ codes ":" ∷ lit_words l)
 form_words (forms.Hence l) = codes "hence" ∷ lit_words l
-form_words forms.Qed = codes "qed" ∷ []
+form_words (forms.Let l) = codes "let" ∷ let_words l
+form_words (forms.Qed ns) = codes "qed" ∷ ns
 form_words forms.End = codes "end" ∷ []
 
 -- a line without its end
@@ -130,6 +158,10 @@ by_form ns b = forms.By (rule_name b.rule) (map (name_of_object ns) b.args) (raw
 abbrev pub hence_form : Names → Lit → Form
 hence_form ns l = forms.Hence (raw_of ns l)
 
+abbrev pub let_form : Names → Construction → List (List ℕ) → Form
+let_form ns c new =
+    forms.Let (record { shapes = c.shape ∷ []; new = new; args = map (name_of_object ns) c.args; avoid = map (name_of_object ns) c.avoid })
+
 -- one more object before the lines that declare the next ones: on the same line where it is of their sort
 abbrev pub declared_before : Sort → List ℕ → List Form → List Form
 declared_before sort name [] = forms.Declare sort (name ∷ []) ∷ []
@@ -152,7 +184,7 @@ head_forms t =
     ++ (map (given_form t.names) t.statement.given ++ (map (show_form t.names) t.statement.shown ++ forms.Proof ∷ [])))
 
 abbrev pub qed_form : Names → List Obj → Form
-qed_form ns objects = forms.Qed
+qed_form ns objects = forms.Qed (map (name_of_object ns) objects)
 
 abbrev pub end_form : Form
 end_form = forms.End
@@ -161,12 +193,14 @@ end_form = forms.End
 abbrev pub form_here : Names → Script → Form
 form_here ns (Cite by rest) = by_form ns by
 form_here ns (Hence lit cert rest) = hence_form ns lit
+form_here ns (Make form names certs rest) = let_form ns form names
 form_here ns (Qed objects certs) = qed_form ns objects
 
 -- the forms of all its lines
 unfoldable pub script_forms : Names → Script → List Form
 script_forms ns (Cite by rest) = by_form ns by ∷ script_forms ns rest
 script_forms ns (Hence lit cert rest) = hence_form ns lit ∷ script_forms ns rest
+script_forms ns (Make form names certs rest) = let_form ns form names ∷ script_forms (named ns (made form) names) rest
 script_forms ns (Qed objects certs) = qed_form ns objects ∷ []
 
 -- the lines of a theorem, in order

@@ -18,8 +18,8 @@ entry_of t = record { title = t.title; names = t.names; statement = t.statement;
 
 -- what the lines of a draft state
 abbrev pub statement_of_draft : Draft → Statement
-statement_of_draft d = record { declared = d.declared; given = d.given; made = []; shown = d.shown }
+statement_of_draft d = record { declared = d.declared; given = d.given; made = d.made; shown = d.shown }
 
 -- the theorem that the lines of a draft make
 abbrev pub entry_of_draft : Draft → Entry
-entry_of_draft d = record { title = d.title; names = d.names; statement = statement_of_draft d; script = steps_script d.steps (Qed [] []) }
+entry_of_draft d = record { title = d.title; names = d.names; statement = statement_of_draft d; script = steps_script d.steps (Qed d.objects []) }

@@ -1,23 +1,25 @@
 -- What a theorem that is read is known to be: its objects are in scope, its names are theirs, it is within the limits.
-use Rattle.std.specs.Prelude.{◌≡◌, ℕ, ◌+◌, ◌≤◌, List, [], ◌∷◌, length, Bool, true, false, not, ◌&&◌, IsTrue}
+use Rattle.std.specs.Prelude.{◌≡◌, ℕ, ◌+◌, ◌≤◌, List, [], ◌∷◌, length, Bool, true, false, not, ◌&&◌, IsTrue, Ok}
 use Rattle.std.specs.List.{list_all}
 use Rattle.e_literal.specs.declared.object.Scope.{Scope}
 use Rattle.e_literal.specs.declared.object.Sort.TheVariants.{Point, Line, Circle}
 use Rattle.e_literal.specs.Literal.{all_in_scope}
+use Rattle.e_literal.specs.Scopes.{grown}
 use Rattle.e_literal.specs.Use.{scope_of}
+use Rattle.e_construct.specs.Construct.{made, gives}
 use Rattle.e_theorem.specs.Statements.{stated}
 use Rattle.e_deriv.specs.declared.names.Names.{Names}
-use Rattle.e_deriv.specs.Script.{size}
+use Rattle.e_deriv.specs.Script.{Script, Cite, Hence, Make, Qed, size}
 use Rattle.e_deriv.specs.Lines.{proof_lines}
 use Rattle.e_deriv.specs.Steps.{fits}
+use Rattle.e_deriv.specs.Naming.{named, declared_names}
+use Rattle.e_deriv.specs.Fitting.{all_objects}
 use Rattle.e_book.specs.Limits.{most_of, most_steps, most_facts}
 use Rattle.e_book.specs.Headed.{Headed, is_known}
-use Rattle.e_book.specs.Scope.{has}
+pub use Rattle.e_book.specs.Scope.{scope_of_names}
+use Rattle.e_book.specs.Scope.{has, fresh}
+use Rattle.e_book.specs.Steps.{few_objects}
 use Rattle.e_book.specs.Entry.{Entry}
-
--- the scope of the objects that have these names
-abbrev pub scope_of_names : Names → Scope
-scope_of_names ns = record { points = length ns.points; lines = length ns.lines; circles = length ns.circles }
 
 -- no two of the names are equal
 abbrev pub are_distinct : List (List ℕ) → Bool
@@ -37,22 +39,38 @@ pub record NamesDiffer (ns : Names) : Type 0 where
   pub points_circles : are_apart ns.points ns.circles ≡ true
   pub lines_circles : are_apart ns.lines ns.circles ≡ true
 
+-- at each construction none of the new names is in scope and no two are equal, there is one for each new object, and with
+-- them not too many objects are in scope
+unfoldable pub NewNamesFit : Names → Script → Type 0
+NewNamesFit ns (Cite by rest) = NewNamesFit ns rest
+NewNamesFit ns (Hence lit cert rest) = NewNamesFit ns rest
+NewNamesFit ns (Make form names certs rest) =
+    (fresh ns [] names ≡ Ok tt) × (length names ≡ length (made form))
+    × (few_objects (named ns (made form) names) ≡ Ok tt)
+    × NewNamesFit (named ns (made form) names) rest
+NewNamesFit ns (Qed objects certs) = Unit {0}
+
+-- how many literals the lines of a script give, repeats counted
+unfoldable pub count_given : Scope → Script → ℕ
+count_given s (Cite by rest) = 1 + count_given s rest
+count_given s (Hence lit cert rest) = 1 + count_given s rest
+count_given s (Make form names certs rest) = length (gives form s) + count_given (grown s (made form)) rest
+count_given s (Qed objects certs) = 0
+
 pub record Fits (known : List Headed) (t : Entry) : Type 0 where
   -- no earlier theorem has its title
   pub new : is_known known t.title ≡ false
-  -- nothing is made
-  pub made : t.statement.made ≡ []
-  -- one name for each declared object
-  pub scope : scope_of (stated t.statement) ≡ scope_of_names t.names
+  -- one name for each declared and each made object of the statement
+  pub scope : all_objects (stated t.statement) ≡ scope_of_names t.names
   pub differ : NamesDiffer t.names
   pub points : length t.names.points ≤ most_of Point
   pub lines : length t.names.lines ≤ most_of Line
   pub circles : length t.names.circles ≤ most_of Circle
-  -- the literals of the statement are over the declared objects
-  pub given : IsTrue (list_all (all_in_scope (scope_of_names t.names)) t.statement.given)
+  -- the given literals are over the declared objects, and the shown ones over these and the made ones
+  pub given : IsTrue (list_all (all_in_scope (scope_of (stated t.statement))) t.statement.given)
   pub shown : IsTrue (list_all (all_in_scope (scope_of_names t.names)) t.statement.shown)
-  -- each line of the script has a rule of diagrams and equality, objects of the right sorts, all in scope
+  -- each line of the script has objects of the right sorts, all in scope where it stands
   pub script : IsTrue (list_all fits (proof_lines (stated t.statement) t.script))
+  pub new_names : NewNamesFit (declared_names (stated t.statement) t.names) t.script
   pub steps : size t.script ≤ most_steps
-  -- each step line gives one fact, and the close none
-  pub facts : length t.statement.given + size t.script ≤ most_facts + 1
+  pub facts : length t.statement.given + count_given (scope_of (stated t.statement)) t.script ≤ most_facts

@@ -1,33 +1,37 @@
 -- The forms of lines, by their spelling alone.
 use Rattle.std.specs.Prelude.{ℕ, List, [], ◌∷◌, Result, Ok, Err, codes, if◌then◌else◌}
 use Rattle.std.specs.Str.{bytes_eq}
-use Rattle.e_text.specs.Names.{name_of}
 use Rattle.e_literal.specs.declared.object.Sort.{Sort}
 use Rattle.e_literal.specs.declared.object.Sort.TheVariants as sorts
 use Rattle.e_book.specs.declared.fault.Kind.{Kind}
 use Rattle.e_book.specs.declared.fault.Kind.TheVariants.{Malformed}
 use Rattle.e_book.specs.declared.form.Form.{Form}
-use Rattle.e_book.specs.declared.form.Form.TheVariants.{Theorem, Declare, Given, Show, Proof, By, Hence, Qed, End}
-use Rattle.e_book.specs.Reading.{◌>>=◌, each, cut_at, title_at, end_at, or_malformed}
+use Rattle.e_book.specs.declared.form.Form.TheVariants.{Theorem, Declare, Given, Made, Show, Proof, By, Hence, Let, Qed, End}
+use Rattle.e_book.specs.Reading.{◌>>=◌, cut_at, word_at, title_at, end_at}
+unfoldable pub use Rattle.e_book.specs.Reading.{names_of, not_empty, some_names}
 use Rattle.e_book.specs.Literals.{lit_of, lits_of}
-
-abbrev pub names_of : List (List ℕ) → Result (List (List ℕ)) Kind
-names_of words = each (λ w. or_malformed (name_of w)) words
-
-abbrev pub not_empty : List (List ℕ) → Result (List (List ℕ)) Kind
-not_empty [] = Err Malformed
-not_empty (n ∷ ns) = Ok (n ∷ ns)
-
-unfoldable pub some_names : List (List ℕ) → Result (List (List ℕ)) Kind
-some_names words = do
-  ns ← names_of words
-  not_empty ns
+use Rattle.e_book.specs.Lets.{let_of}
 
 -- objects of a sort
 unfoldable pub declare_of : Sort → List (List ℕ) → Result Form Kind
 declare_of sort words = do
   ns ← some_names words
   Ok (Declare sort ns)
+
+-- the sort whose objects a word declares
+unfoldable pub sort_of : List ℕ → Result Sort Kind
+sort_of w =
+    if bytes_eq w (codes "points") then Ok sorts.Point else
+    if bytes_eq w (codes "lines") then Ok sorts.Line else
+    if bytes_eq w (codes "circles") then Ok sorts.Circle else Err Malformed
+
+-- made objects of a sort
+unfoldable pub made_of : List (List ℕ) → Result Form Kind
+made_of words = do
+  w ← word_at words
+  sort ← sort_of w.0
+  ns ← some_names w.1
+  Ok (Made sort ns)
 
 -- a rule, names up to a colon, and a literal behind it
 unfoldable pub by_of : List (List ℕ) → Result Form Kind
@@ -56,11 +60,13 @@ form_named w ws =
     if bytes_eq w (codes "lines") then declare_of sorts.Line ws else
     if bytes_eq w (codes "circles") then declare_of sorts.Circle ws else
     if bytes_eq w (codes "given") then (lits_of ws >>= λ ls. Ok (Given ls)) else
+    if bytes_eq w (codes "made") then made_of ws else
     if bytes_eq w (codes "show") then (lits_of ws >>= λ ls. Ok (Show ls)) else
     if bytes_eq w (codes "proof") then bare ws Proof else
     if bytes_eq w (codes "by") then by_of ws else
     if bytes_eq w (codes "hence") then (lit_of ws >>= λ l. Ok (Hence l)) else
-    if bytes_eq w (codes "qed") then bare ws Qed else
+    if bytes_eq w (codes "let") then (let_of ws >>= λ l. Ok (Let l)) else
+    if bytes_eq w (codes "qed") then (names_of ws >>= λ ns. Ok (Qed ns)) else
     if bytes_eq w (codes "end") then bare ws End else Err Malformed
 
 unfoldable pub form_of : List (List ℕ) → Result Form Kind

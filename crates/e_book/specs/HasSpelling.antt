@@ -5,7 +5,7 @@ use Rattle.e_text.specs.Names.{is_name, is_title}
 use Rattle.e_literal.specs.declared.literal.Atom.{Atom}
 use Rattle.e_literal.specs.declared.literal.Atom.TheVariants.{MagEq, MagLt}
 use Rattle.e_literal.specs.declared.literal.Lit.{Lit}
-use Rattle.e_deriv.specs.Script.{Script, Cite, Hence, Qed}
+use Rattle.e_deriv.specs.Script.{Script, Cite, Hence, Make, Qed}
 use Rattle.e_book.specs.Limits.{most_theorems}
 use Rattle.e_book.specs.Headed.{Headed}
 use Rattle.e_book.specs.Entry.{Entry}
@@ -28,7 +28,8 @@ unfoldable pub is_plain : Script → Bool
 is_plain (Cite by rest) = is_diagram_lit by.lit && is_plain rest
 is_plain (Hence lit None rest) = is_diagram_lit lit && is_plain rest
 is_plain (Hence lit (Some cert) rest) = false
-is_plain (Qed [] []) = true
+is_plain (Make form names certs rest) = list_all is_name names && is_plain rest
+is_plain (Qed objects []) = true
 is_plain (Qed objects certs) = false
 
 pub record HasSpelling (known : List Headed) (t : Entry) : Type 0 where

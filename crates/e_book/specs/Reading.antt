@@ -77,3 +77,17 @@ each f (x ∷ xs) = f x >>= λ y. each f xs >>= λ ys. Ok (y ∷ ys)
 -- what is read, behind what was there
 abbrev pub with_front : {X : Type 0} → List X → Result (List X) Kind → Result (List X) Kind
 with_front front read = read >>= λ xs. Ok (front ++ xs)
+
+-- each word is a name
+abbrev pub names_of : List (List ℕ) → Result (List (List ℕ)) Kind
+names_of words = each (λ w. or_malformed (name_of w)) words
+
+abbrev pub not_empty : List (List ℕ) → Result (List (List ℕ)) Kind
+not_empty [] = Err Malformed
+not_empty (n ∷ ns) = Ok (n ∷ ns)
+
+-- at least one name
+unfoldable pub some_names : List (List ℕ) → Result (List (List ℕ)) Kind
+some_names words = do
+  ns ← names_of words
+  not_empty ns

@@ -5,6 +5,7 @@ use Rattle.std.specs.Str.{bytes_eq}
 use Rattle.e_literal.specs.declared.object.Sort.{Sort}
 use Rattle.e_literal.specs.declared.object.Sort.TheVariants as sorts
 use Rattle.e_literal.specs.declared.object.Obj.{Obj}
+use Rattle.e_literal.specs.declared.object.Scope.{Scope}
 use Rattle.e_literal.specs.declared.literal.Atom.{Atom}
 use Rattle.e_literal.specs.declared.literal.Atom.TheVariants as atoms
 use Rattle.e_literal.specs.declared.literal.Lit.{Lit}
@@ -15,31 +16,29 @@ use Rattle.e_clause.specs.declared.cert.By.{By}
 use Rattle.e_clause.specs.Instance.{place_of}
 use Rattle.e_clause.specs.Sigs.{sig_of}
 use Rattle.e_clause.specs.RuleKinds.{is_diagram_rule}
+use Rattle.e_construct.specs.declared.construction.Shape.{Shape}
+use Rattle.e_construct.specs.declared.construction.Construction.{Construction}
+use Rattle.e_construct.specs.Construct.{fits, made}
+use Rattle.e_construct.specs.Lines.{takes}
 use Rattle.e_deriv.specs.declared.names.Names.{Names}
+pub use Rattle.e_deriv.specs.Naming.{names_of_sort, with_names}
 use Rattle.e_book.specs.declared.fault.Kind.{Kind}
 use Rattle.e_book.specs.declared.fault.Kind.TheVariants.{Malformed, UnknownName, NameTaken, WrongSort}
 use Rattle.e_book.specs.declared.literal.RawLit.{RawLit}
 use Rattle.e_book.specs.declared.literal.RawAtom.{RawAtom}
 use Rattle.e_book.specs.declared.literal.RawAtom.TheVariants as raw
+use Rattle.e_book.specs.declared.lets.RawLet.{RawLet}
 use Rattle.e_book.specs.Reading.{◌>>=◌, each}
-
--- the names of the objects of a sort
-abbrev pub names_of_sort : Names → Sort → List (List ℕ)
-names_of_sort ns sorts.Point = ns.points
-names_of_sort ns sorts.Line = ns.lines
-names_of_sort ns sorts.Circle = ns.circles
-
--- with other names for the objects of a sort
-abbrev pub with_names : Names → Sort → List (List ℕ) → Names
-with_names ns sorts.Point new = record ns { points = new }
-with_names ns sorts.Line new = record ns { lines = new }
-with_names ns sorts.Circle new = record ns { circles = new }
 
 -- a number of 16 bits is enough for each object
 pub record FewNames (ns : Names) : Type 0 where
   pub points : length ns.points < 2 ^ 16
   pub lines : length ns.lines < 2 ^ 16
   pub circles : length ns.circles < 2 ^ 16
+
+-- the scope of the objects that have these names
+abbrev pub scope_of_names : Names → Scope
+scope_of_names ns = record { points = length ns.points; lines = length ns.lines; circles = length ns.circles }
 
 abbrev pub has : List (List ℕ) → List ℕ → Bool
 has names name = list_any (λ n. bytes_eq n name) names
@@ -161,3 +160,49 @@ by_in ns rule names lit = do
   args ← args_in ns s names
   l ← lit_in ns lit
   Ok (record { rule = r; args = args; lit = l })
+
+-- ---- constructions
+
+abbrev pub right_sort : Bool → Result (Unit {0}) Kind
+right_sort true = Ok tt
+right_sort false = Err WrongSort
+
+-- the arguments, behind those that were found: each has a sort that one of the shapes takes there, behind the earlier ones
+abbrev pub arguments_in : Names → List Shape → List Obj → List (List ℕ) → Result (List Obj) Kind
+arguments_in ns shapes found [] = Ok found
+arguments_in ns shapes found (name ∷ names) =
+    used ns name >>= λ o. right_sort (list_any (λ s. takes s (found ++ o ∷ [])) shapes) >>= λ right. arguments_in ns shapes (found ++ o ∷ []) names
+
+abbrev pub construction : Shape → List Obj → List Obj → Construction
+construction shape args avoid = record { shape = shape; args = args; avoid = avoid }
+
+-- the construction of the first shape that fits the objects. A line of a book has one: its shapes have as many arguments as
+-- the line, and the last argument has a sort that one of them takes behind the others.
+abbrev pub first_fitting : Scope → List Obj → List Obj → List Shape → Result Construction Kind
+first_fitting s args avoid [] = Err Malformed
+first_fitting s args avoid (shape ∷ shapes) =
+    if fits (construction shape args avoid) s then Ok (construction shape args avoid) else first_fitting s args avoid shapes
+
+-- the new names, then the arguments, then the avoided objects, as they stand on the line. No line of a book has another number
+-- of new names than objects that are made.
+unfoldable pub let_in : Names → RawLet → Result Construction Kind
+let_in ns l = do
+  free ← fresh ns [] l.new
+  args ← arguments_in ns l.shapes [] l.args
+  avoid ← each (used ns) l.avoid
+  form ← first_fitting (scope_of_names ns) args avoid l.shapes
+  right ← right_count (length l.new == length (made form))
+  Ok form
+
+-- ---- the close
+
+-- an object for each sort, in order
+abbrev pub objects_of_sorts : Names → List Sort → List (List ℕ) → Result (List Obj) Kind
+objects_of_sorts ns (sort ∷ sorts) (name ∷ names) = object_as ns sort name >>= λ o. objects_of_sorts ns sorts names >>= λ os. Ok (o ∷ os)
+objects_of_sorts ns _ _ = Ok []
+
+-- the objects behind qed: as many as the goal has made ones, and then each of the sort of its made one
+unfoldable pub qed_in : Names → List Sort → List (List ℕ) → Result (List Obj) Kind
+qed_in ns made names = do
+  right ← right_count (length names == length made)
+  objects_of_sorts ns made names

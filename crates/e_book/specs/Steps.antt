@@ -2,34 +2,44 @@
 use Rattle.std.specs.Prelude.{ℕ, ◌+◌, ◌≤◌, Bool, true, false, List, [], ◌∷◌, ◌++◌, length, replicate, None, Result, Ok, Err, if◌then◌else◌}
 use Rattle.e_literal.specs.declared.object.Sort.{Sort}
 use Rattle.e_literal.specs.declared.object.Sort.TheVariants as sorts
+use Rattle.e_construct.specs.Construct.{made, gives}
 use Rattle.e_deriv.specs.declared.names.Names.{Names}
+use Rattle.e_deriv.specs.Naming.{names_of_sort, with_names, named, declared_names}
 use Rattle.e_deriv.specs.declared.block.Step.{Step}
 use Rattle.e_deriv.specs.declared.block.Step.TheVariants as steps
 use Rattle.e_book.specs.declared.fault.Kind.{Kind}
 use Rattle.e_book.specs.declared.fault.Kind.TheVariants.{Malformed, NameTaken}
 use Rattle.e_book.specs.declared.fault.What.TheVariants as limits
+use Rattle.e_book.specs.declared.lets.RawLet.{RawLet}
 use Rattle.e_book.specs.declared.form.Form.{Form}
 use Rattle.e_book.specs.declared.form.Form.TheVariants as forms
 use Rattle.e_book.specs.declared.draft.Place.{Place}
-use Rattle.e_book.specs.declared.draft.Place.TheVariants.{Declaring, Giving, Showing, Proving, Closed, Done}
+use Rattle.e_book.specs.declared.draft.Place.TheVariants.{Declaring, Giving, Making, Showing, Proving, Closed, Done}
 use Rattle.e_book.specs.declared.draft.Draft.{Draft}
 use Rattle.e_book.specs.Reading.{◌>>=◌, with_front}
 use Rattle.e_book.specs.Limits.{most_theorems, most_of, most_steps, most_facts, what_of, within}
+use Rattle.e_theorem.specs.Statements.{stated}
 use Rattle.e_book.specs.Headed.{Headed, is_known}
-use Rattle.e_book.specs.Scope.{names_of_sort, with_names, fresh, lit_in, lits_in, by_in}
+use Rattle.e_book.specs.Entry.{statement_of_draft}
+use Rattle.e_book.specs.Scope.{scope_of_names, fresh, lit_in, lits_in, by_in, let_in, qed_in}
 
 -- which lines may come at a place
 abbrev pub allowed : Place → Form → Bool
 allowed Declaring (forms.Declare sort ns) = true
 allowed Declaring (forms.Given ls) = true
+allowed Declaring (forms.Made sort ns) = true
 allowed Declaring (forms.Show ls) = true
 allowed Giving (forms.Given ls) = true
+allowed Giving (forms.Made sort ns) = true
 allowed Giving (forms.Show ls) = true
+allowed Making (forms.Made sort ns) = true
+allowed Making (forms.Show ls) = true
 allowed Showing (forms.Show ls) = true
 allowed Showing forms.Proof = true
 allowed Proving (forms.By r ns l) = true
 allowed Proving (forms.Hence l) = true
-allowed Proving forms.Qed = true
+allowed Proving (forms.Let l) = true
+allowed Proving (forms.Qed ns) = true
 allowed Closed forms.End = true
 allowed place form = false
 
@@ -40,43 +50,71 @@ declared ns sort new = do
   few ← within (length (names_of_sort ns sort) + length new) (most_of sort) (what_of sort)
   Ok (with_names ns sort (names_of_sort ns sort ++ new))
 
--- the literals that are facts after the last line, repeats counted
-abbrev pub fact_count : Draft → ℕ
-fact_count d = length d.given + length d.steps
+-- so many objects may be in scope
+unfoldable pub few_objects : Names → Result (Unit {0}) Kind
+few_objects ns = do
+  points ← within (length ns.points) (most_of sorts.Point) limits.Points
+  lines ← within (length ns.lines) (most_of sorts.Line) limits.Lines
+  within (length ns.circles) (most_of sorts.Circle) limits.Circles
 
--- one more step line, and one more fact
-unfoldable pub with_step : Draft → Step → Result Draft Kind
-with_step d s = do
+-- one more step line, and so many more facts
+unfoldable pub with_step : Draft → Step → ℕ → Result Draft Kind
+with_step d s given = do
   few ← within (length d.steps + 1) most_steps limits.Steps
-  none ← within (fact_count d + 1) most_facts limits.Facts
-  Ok (record d { steps = d.steps ++ s ∷ [] })
+  none ← within (d.facts + given) most_facts limits.Facts
+  Ok (record d { steps = d.steps ++ s ∷ []; facts = d.facts + given })
+
+-- a construction: its names, then the limits of objects, of steps and of facts. Its new objects are in scope after it.
+unfoldable pub built : Draft → RawLet → Result Draft Kind
+built d raw = do
+  form ← let_in d.in_scope raw
+  let after = named d.in_scope (made form) raw.new
+  few ← few_objects after
+  with_step (record d { in_scope = after }) (steps.Make form raw.new []) (length (gives form (scope_of_names d.in_scope)))
+
+-- the close: its objects, then the limit of steps
+unfoldable pub shut : Draft → List (List ℕ) → Result Draft Kind
+shut d names = do
+  objects ← qed_in d.in_scope d.made names
+  few ← within (length d.steps + 1) most_steps limits.Steps
+  Ok (record d { objects = objects; place = Closed })
 
 unfoldable pub stepped : Draft → Form → Result Draft Kind
 stepped d (forms.Theorem t) = Err Malformed
 stepped d (forms.Declare sort ns) = declared d.names sort ns >>= λ names. Ok (record d { names = names; declared = d.declared ++ replicate (length ns) sort })
-stepped d (forms.Given raws) = with_front d.given (lits_in d.names raws) >>= λ ls. within (fact_count d + length raws) most_facts limits.Facts >>= λ few. Ok (record d { given = ls; place = Giving })
+stepped d (forms.Given raws) = with_front d.given (lits_in d.names raws) >>= λ ls. within (d.facts + length raws) most_facts limits.Facts >>= λ few. Ok (record d { given = ls; facts = d.facts + length raws; place = Giving })
+stepped d (forms.Made sort ns) = declared d.names sort ns >>= λ names. Ok (record d { names = names; made = d.made ++ replicate (length ns) sort; place = Making })
 stepped d (forms.Show raws) = with_front d.shown (lits_in d.names raws) >>= λ ls. Ok (record d { shown = ls; place = Showing })
-stepped d forms.Proof = Ok (record d { place = Proving })
-stepped d (forms.By r ns l) = by_in d.names r ns l >>= λ b. with_step d (steps.Cite b)
-stepped d (forms.Hence raw) = lit_in d.names raw >>= λ l. with_step d (steps.Hence l None)
-stepped d forms.Qed = within (length d.steps + 1) most_steps limits.Steps >>= λ few. Ok (record d { place = Closed })
+-- the proof begins with the declared objects, and the names of the made ones are free again
+stepped d forms.Proof = Ok (record d { in_scope = declared_names (stated (statement_of_draft d)) d.names; place = Proving })
+stepped d (forms.By r ns l) = by_in d.in_scope r ns l >>= λ b. with_step d (steps.Cite b) 1
+stepped d (forms.Hence raw) = lit_in d.in_scope raw >>= λ l. with_step d (steps.Hence l None) 1
+stepped d (forms.Let raw) = built d raw
+stepped d (forms.Qed ns) = shut d ns
 stepped d forms.End = Ok (record d { place = Done })
 
 -- a line at its place: its form there, then its names from left to right, then the limits
 unfoldable pub step : Draft → Form → Result Draft Kind
 step d form = if allowed d.place form then stepped d form else Err Malformed
 
--- the names in scope are few
+-- what the names and the counts are known to be: within the limits
+pub record FewNamed (ns : Names) : Type 0 where
+  pub points : length ns.points ≤ most_of sorts.Point
+  pub lines : length ns.lines ≤ most_of sorts.Line
+  pub circles : length ns.circles ≤ most_of sorts.Circle
+
 pub record FitsScope (d : Draft) : Type 0 where
-  pub points : length d.names.points ≤ most_of sorts.Point
-  pub lines : length d.names.lines ≤ most_of sorts.Line
-  pub circles : length d.names.circles ≤ most_of sorts.Circle
+  pub names : FewNamed d.names
+  pub in_scope : FewNamed d.in_scope
   pub steps : length d.steps ≤ most_steps
-  pub facts : fact_count d ≤ most_facts
+  pub facts : d.facts ≤ most_facts
 
 -- the first line of a theorem
+abbrev pub no_names : Names
+no_names = record { points = []; lines = []; circles = [] }
+
 abbrev pub begun : List ℕ → Draft
-begun title = record { title = title; names = record { points = []; lines = []; circles = [] }; declared = []; given = []; shown = []; steps = []; place = Declaring }
+begun title = record { title = title; names = no_names; in_scope = no_names; declared = []; given = []; made = []; shown = []; steps = []; facts = 0; objects = []; place = Declaring }
 
 -- a theorem begins with its title, which no earlier one has
 unfoldable pub begin : List Headed → Form → Result Draft Kind

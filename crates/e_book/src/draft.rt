@@ -1,18 +1,25 @@
 //! A theorem while its lines come.
-ghost use Rattle.std.specs.Prelude.{◌≡◌, ◌≤◌, ◌<◌, ◌+◌, ◌^◌, ◌++◌, List, [], length, replicate, IfOk, OnOk, Ok, Err};
+ghost use Rattle.std.specs.Prelude.{◌≡◌, ◌≤◌, ◌<◌, ◌+◌, ◌^◌, ◌++◌, List, [], length, replicate, take, IfOk, OnOk, Ok, Err};
+ghost use Rattle.e_literal.specs.Literal.{count_of};
+ghost use Rattle.e_literal.specs.Scopes.{grown, nothing};
+ghost use Rattle.e_deriv.specs.Naming;
 ghost use Rattle.e_book.specs.Reading.{Gives, Moves};
-ghost use Rattle.e_book.specs.Steps.{allowed};
+ghost use Rattle.e_book.specs.Scope.{names_of_sort, with_names};
+ghost use Rattle.e_book.specs.Steps.{allowed, declared, few_objects, no_names, FewNamed};
 ghost use Rattle.e_book.specs.Limits.{within, most_of, what_of};
 
 use crate::fault::{Kind, Trouble, What};
 use crate::form::Form;
 use crate::known::Known;
+use crate::lets::RawLet;
 use crate::literal::RawLit;
-use crate::scope::{by_in, fresh, lit_in, names_of_sort, put_lits};
+use crate::scope::{
+    by_in, fresh, is_sort, let_in, lit_in, names_of_sort, put_lits, put_names, qed_in, scope_of_names,
+};
 use crate::steps::Steps;
 use crate::theorem::Theorem;
 use e_deriv::{Names, Step};
-use e_literal::{Items, Lit, Sort};
+use e_literal::{Items, Lit, Obj, Sort};
 use e_text::{Name, Title};
 use e_theorem::Statement;
 use std::alloc::{AllocError, Global};
@@ -40,6 +47,7 @@ pub const MAX_FACTS: usize = 2_048;
 pub enum Place {
     Declaring,
     Giving,
+    Making,
     Showing,
     Proving,
     Closed,
@@ -50,11 +58,19 @@ pub enum Place {
 #[derive(Debug, Drop)]
 pub struct Draft {
     pub title: Title,
+    /// The names of the statement's objects: of the declared ones and, behind them, of the made ones.
     pub names: Names,
+    /// The names of the objects in scope in the proof, once it has begun.
+    pub in_scope: Names,
     pub declared: Items<Sort>,
     pub given: Items<Lit>,
+    pub made: Items<Sort>,
     pub shown: Items<Lit>,
     pub steps: Steps,
+    /// How many literals are facts, repeats counted.
+    pub facts: usize,
+    /// The objects behind `qed`.
+    pub objects: Items<Obj>,
     pub place: Place,
 }
 
@@ -65,11 +81,16 @@ fn allowed(place: Place, form: &Form) -> bool
         Form::Theorem(_) => false,
         Form::Declare(_, _) => matches!(place, Place::Declaring),
         Form::Given(_) => matches!(place, Place::Declaring | Place::Giving),
-        Form::Show(_) => matches!(place, Place::Declaring | Place::Giving | Place::Showing),
+        Form::Made(_, _) => matches!(place, Place::Declaring | Place::Giving | Place::Making),
+        Form::Show(_) => matches!(
+            place,
+            Place::Declaring | Place::Giving | Place::Making | Place::Showing
+        ),
         Form::Proof => matches!(place, Place::Showing),
         Form::By(..) => matches!(place, Place::Proving),
         Form::Hence(_) => matches!(place, Place::Proving),
-        Form::Qed => matches!(place, Place::Proving),
+        Form::Let(_) => matches!(place, Place::Proving),
+        Form::Qed(_) => matches!(place, Place::Proving),
         Form::End => matches!(place, Place::Closed),
     }
 }
@@ -104,6 +125,94 @@ fn what_of(sort: Sort) -> What
     }
 }
 
+/// The limits of objects in scope: points, then lines, then circles.
+#[tactic(auto, unfolding(crate::specs::Steps::few_objects))]
+fn few_objects(names: &Names) -> Result<(), Trouble>
+    ensures value { Gives (λ u. u) result (few_objects names.now) }
+    ensures fits { IfOk result (λ u. FewNamed names.now) }
+{
+    within(names.points.len(), MAX_POINTS, What::Points)?;
+    within(names.lines.len(), MAX_LINES, What::Lines)?;
+    within(names.circles.len(), MAX_CIRCLES, What::Circles)?;
+    Ok(())
+}
+
+fn no_names(alloc: Global) -> Names
+    ensures { result ≡ no_names }
+{
+    Names {
+        points: Items::empty(alloc),
+        lines: Items::empty(alloc),
+        circles: Items::empty(alloc),
+    }
+}
+
+/// Names put behind those of their sort.
+fn append_names(names: &mut Names, sort: Sort, new: &[Name]) -> Result<(), AllocError>
+    ensures { OnOk result (names.new ≡ with_names names.old sort (names_of_sort names.old sort ++ new.now)) }
+{
+    match sort {
+        Sort::Point => names.points.append(new),
+        Sort::Line => names.lines.append(new),
+        Sort::Circle => names.circles.append(new),
+    }
+}
+
+/// New objects of a sort: names that are free, and the limit of the sort.
+#[tactic(auto, unfolding(crate::specs::Steps::declared))]
+fn declare(names: &mut Names, sort: Sort, new: &[Name]) -> Result<(), Trouble>
+    requires { FewNamed names.old }
+    ensures value { Moves result names.new (declared names.old sort new.now) }
+    ensures fits { OnOk result (FewNamed names.new) }
+{
+    fresh(names, new)?;
+    if new.len() > most_of(sort) - names_of_sort(names, sort).len() {
+        return Err(Trouble::Fault(Kind::Limit(what_of(sort))));
+    }
+    append_names(names, sort, new)?;
+    Ok(())
+}
+
+/// How many objects of a sort there are.
+#[tactic(auto, using(crate::proofs::Counted::counting))]
+fn count(sorts: &[Sort], sort: Sort) -> usize
+    ensures { result ≡ count_of (grown nothing sorts.now) sort }
+{
+    let mut count = 0;
+    for other in sorts {
+        if is_sort(*other, sort) {
+            count += 1;
+        }
+    }
+    count
+}
+
+/// The first of the names, at most so many.
+fn first_names(alloc: Global, names: &[Name], count: usize) -> Result<Items<Name>, AllocError>
+    ensures value { IfOk result (λ n. n ≡ take count names.now) }
+    ensures few { IfOk result (λ n. length n ≤ length names.now) }
+{
+    let first = if count < names.len() {
+        &names[..count]
+    } else {
+        names
+    };
+    Ok(Items::new(Vec::from_slice(alloc, first)?))
+}
+
+/// Of the names of a statement those of its declared objects, which come first.
+fn declared_names(alloc: Global, declared: &[Sort], names: &Names) -> Result<Names, AllocError>
+    requires { FewNamed names.now }
+    ensures fits { IfOk result FewNamed }
+    ensures value { IfOk result (λ n. (given shown : List Lit) (made : List Sort) → n ≡ Naming.declared_names (record { declared = declared.now; given = given; made = made; shown = shown }) names.now) }
+{
+    Ok(Names {
+        points: first_names(alloc, names.points.items(), count(declared, Sort::Point))?,
+        lines: first_names(alloc, names.lines.items(), count(declared, Sort::Line))?,
+        circles: first_names(alloc, names.circles.items(), count(declared, Sort::Circle))?,
+    })
+}
+
 /// A sort, once for each of so many objects.
 fn repeated(alloc: Global, sort: Sort, count: usize) -> Result<Items<Sort>, AllocError>
     ensures { IfOk result (λ s. s ≡ replicate count sort) }
@@ -112,8 +221,7 @@ fn repeated(alloc: Global, sort: Sort, count: usize) -> Result<Items<Sort>, Allo
 }
 
 impl Draft {
-    ghost use Rattle.e_book.specs.Steps.{FitsScope, begin, step, stepped, with_step, declared, fact_count};
-    ghost use Rattle.e_book.specs.Scope.{with_names, names_of_sort};
+    ghost use Rattle.e_book.specs.Steps.{FitsScope, begin, step, stepped, with_step, built, shut};
     ghost use Rattle.e_book.specs.Entry.{entry_of, entry_of_draft};
 
     /// A theorem begun by its first line.
@@ -133,15 +241,15 @@ impl Draft {
         }
         Ok(Draft {
             title: *title,
-            names: Names {
-                points: Items::empty(alloc),
-                lines: Items::empty(alloc),
-                circles: Items::empty(alloc),
-            },
+            names: no_names(alloc),
+            in_scope: no_names(alloc),
             declared: Items::empty(alloc),
             given: Items::empty(alloc),
+            made: Items::empty(alloc),
             shown: Items::empty(alloc),
             steps: Steps::new(alloc),
+            facts: 0,
+            objects: Items::empty(alloc),
             place: Place::Declaring,
         })
     }
@@ -169,25 +277,20 @@ impl Draft {
             Form::Theorem(_) => Err(Trouble::Fault(Kind::Malformed)),
             Form::Declare(sort, names) => self.declare(alloc, *sort, names.items()),
             Form::Given(raw) => self.give(raw.items()),
+            Form::Made(sort, names) => self.make(alloc, *sort, names.items()),
             Form::Show(raw) => {
                 put_lits(&self.names, raw.items(), &mut self.shown)?;
                 self.place = Place::Showing;
                 Ok(())
             }
-            Form::Proof => {
-                self.place = Place::Proving;
-                Ok(())
-            }
+            Form::Proof => self.begin_proof(alloc),
             Form::By(rule, args, lit) => self.cite(alloc, *rule, args.items(), lit),
             Form::Hence(lit) => {
-                let lit = lit_in(&self.names, lit)?;
-                self.add_step(Step::Hence { lit, cert: None })
+                let lit = lit_in(&self.in_scope, lit)?;
+                self.add_step(Step::Hence { lit, cert: None }, 1)
             }
-            Form::Qed => {
-                within(self.steps.len() + 1, MAX_STEPS, What::Steps)?;
-                self.place = Place::Closed;
-                Ok(())
-            }
+            Form::Let(raw) => self.build(alloc, raw),
+            Form::Qed(names) => self.close(alloc, names.items()),
             Form::End => {
                 self.place = Place::Done;
                 Ok(())
@@ -195,31 +298,43 @@ impl Draft {
         }
     }
 
-    /// New objects of a sort: names that are free, and the limit of the sort.
-    #[tactic(auto, unfolding(crate::specs::Steps::stepped, crate::specs::Steps::declared))]
+    /// Declared objects.
+    #[tactic(auto, unfolding(crate::specs::Steps::stepped))]
     fn declare(&mut self, alloc: Global, sort: Sort, names: &[Name]) -> Result<(), Trouble>
         requires { FitsScope self.old }
         ensures value { Moves result self.new (stepped self.old (Form.Declare sort names.now)) }
         ensures fits { OnOk result (FitsScope self.new) }
     {
-        fresh(&self.names, names)?;
-        if names.len() > most_of(sort) - names_of_sort(&self.names, sort).len() {
-            return Err(Trouble::Fault(Kind::Limit(what_of(sort))));
-        }
-        self.put_names(sort, names)?;
+        declare(&mut self.names, sort, names)?;
         let sorts = repeated(alloc, sort, names.len())?;
         self.declared.append(sorts.items())?;
         Ok(())
     }
 
-    fn put_names(&mut self, sort: Sort, names: &[Name]) -> Result<(), AllocError>
-        ensures { OnOk result (self.new ≡ record self.old { names = with_names self.old.names sort (names_of_sort self.old.names sort ++ names.now) }) }
+    /// Made objects.
+    #[tactic(auto, unfolding(crate::specs::Steps::stepped))]
+    fn make(&mut self, alloc: Global, sort: Sort, names: &[Name]) -> Result<(), Trouble>
+        requires { FitsScope self.old }
+        ensures value { Moves result self.new (stepped self.old (Form.Made sort names.now)) }
+        ensures fits { OnOk result (FitsScope self.new) }
     {
-        match sort {
-            Sort::Point => self.names.points.append(names),
-            Sort::Line => self.names.lines.append(names),
-            Sort::Circle => self.names.circles.append(names),
-        }
+        declare(&mut self.names, sort, names)?;
+        let sorts = repeated(alloc, sort, names.len())?;
+        self.made.append(sorts.items())?;
+        self.place = Place::Making;
+        Ok(())
+    }
+
+    /// The proof begins with the declared objects.
+    #[tactic(auto, unfolding(crate::specs::Steps::stepped))]
+    fn begin_proof(&mut self, alloc: Global) -> Result<(), Trouble>
+        requires { FitsScope self.old }
+        ensures value { Moves result self.new (stepped self.old Form.Proof) }
+        ensures fits { OnOk result (FitsScope self.new) }
+    {
+        self.in_scope = declared_names(alloc, self.declared.items(), &self.names)?;
+        self.place = Place::Proving;
+        Ok(())
     }
 
     /// Given literals: their names, and then the limit of facts.
@@ -229,11 +344,11 @@ impl Draft {
         ensures value { Moves result self.new (stepped self.old (Form.Given raw.now)) }
         ensures fits { OnOk result (FitsScope self.new) }
     {
-        let facts = self.given.len() + self.steps.len();
         put_lits(&self.names, raw, &mut self.given)?;
-        if raw.len() > MAX_FACTS - facts {
+        if raw.len() > MAX_FACTS - self.facts {
             return Err(Trouble::Fault(Kind::Limit(What::Facts)));
         }
+        self.facts += raw.len();
         self.place = Place::Giving;
         Ok(())
     }
@@ -251,24 +366,56 @@ impl Draft {
         ensures value { Moves result self.new (stepped self.old (Form.By rule args.now lit.now)) }
         ensures fits { OnOk result (FitsScope self.new) }
     {
-        let by = by_in(alloc, &self.names, rule, args, lit)?;
-        self.add_step(Step::Cite(by))
+        let by = by_in(alloc, &self.in_scope, rule, args, lit)?;
+        self.add_step(Step::Cite(by), 1)
     }
 
-    /// A step: the limit of steps, and then that of facts.
-    #[tactic(auto, unfolding(crate::specs::Steps::with_step))]
-    fn add_step(&mut self, step: Step) -> Result<(), Trouble>
+    /// A construction: its names, and then the limits of objects, of steps and of facts. Its new objects are in scope
+    /// after it.
+    #[tactic(auto, unfolding(crate::specs::Steps::built))]
+    fn build(&mut self, alloc: Global, raw: &RawLet) -> Result<(), Trouble>
         requires { FitsScope self.old }
-        ensures value { Moves result self.new (with_step self.old step) }
+        ensures value { Moves result self.new (built self.old raw.now) }
+        ensures fits { OnOk result (FitsScope self.new) }
+    {
+        let form = let_in(alloc, &self.in_scope, raw)?;
+        let given = form.gives(alloc, scope_of_names(&self.in_scope))?;
+        put_names(&mut self.in_scope, form.made(), raw.new.items())?;
+        few_objects(&self.in_scope)?;
+        let step = Step::Make {
+            form,
+            names: Items::new(Vec::from_slice(alloc, raw.new.items())?),
+            certs: Items::empty(alloc),
+        };
+        self.add_step(step, given.len())
+    }
+
+    /// The close: its objects, and then the limit of steps.
+    #[tactic(auto, unfolding(crate::specs::Steps::shut))]
+    fn close(&mut self, alloc: Global, names: &[Name]) -> Result<(), Trouble>
+        requires { FitsScope self.old }
+        ensures value { Moves result self.new (shut self.old names.now) }
+        ensures fits { OnOk result (FitsScope self.new) }
+    {
+        self.objects = qed_in(alloc, &self.in_scope, self.made.items(), names)?;
+        within(self.steps.len() + 1, MAX_STEPS, What::Steps)?;
+        self.place = Place::Closed;
+        Ok(())
+    }
+
+    /// A step that gives so many facts: the limit of steps, and then that of facts.
+    #[tactic(auto, unfolding(crate::specs::Steps::with_step))]
+    fn add_step(&mut self, step: Step, given: usize) -> Result<(), Trouble>
+        requires { FitsScope self.old }
+        ensures value { Moves result self.new (with_step self.old step given) }
         ensures fits { OnOk result (FitsScope self.new) }
     {
         within(self.steps.len() + 1, MAX_STEPS, What::Steps)?;
-        within(
-            self.given.len() + self.steps.len() + 1,
-            MAX_FACTS,
-            What::Facts,
-        )?;
+        if given > MAX_FACTS - self.facts {
+            return Err(Trouble::Fault(Kind::Limit(What::Facts)));
+        }
         self.steps.push(step)?;
+        self.facts += given;
         Ok(())
     }
 
@@ -279,10 +426,14 @@ impl Draft {
         let Draft {
             title,
             names,
+            in_scope: _,
             declared,
             given,
+            made,
             shown,
             steps,
+            facts: _,
+            objects,
             place: _,
         } = self;
         Theorem {
@@ -291,10 +442,10 @@ impl Draft {
             statement: Statement {
                 declared,
                 given,
-                made: Items::empty(alloc),
+                made,
                 shown,
             },
-            block: steps.into_block(alloc),
+            block: steps.into_block(alloc, objects),
         }
     }
 }

@@ -1,11 +1,12 @@
 //! The forms of lines, told from their words by spelling alone.
 ghost use Rattle.std.specs.Prelude.{◌≡◌, List, length, IfOk, [], ◌∷◌, ◌==◌};
 ghost use Rattle.e_book.specs.Reading.{texts, Gives};
-ghost use Rattle.e_book.specs.Forms.{names_of, some_names, declare_of, by_of, form_of, form_named, theorem_of, bare};
+ghost use Rattle.e_book.specs.Forms.{declare_of, sort_of, made_of, by_of, form_of, form_named, theorem_of, bare};
 
 use crate::fault::{Kind, Trouble};
+use crate::lets::{RawLet, let_of};
 use crate::literal::{RawLit, lit_of, lits_of};
-use crate::words::{Words, cut};
+use crate::words::{Words, cut, names_of, some_names};
 use e_literal::{Items, Sort};
 use e_text::{Name, Title, is};
 use std::alloc::Global;
@@ -19,6 +20,8 @@ pub enum Form {
     Declare(Sort, Items<Name>),
     /// `given LITERALS`
     Given(Items<RawLit>),
+    /// `made points NAMES`, `made lines NAMES` or `made circles NAMES`
+    Made(Sort, Items<Name>),
     /// `show LITERALS`
     Show(Items<RawLit>),
     /// `proof`
@@ -27,34 +30,12 @@ pub enum Form {
     By(Title, Items<Name>, RawLit),
     /// `hence LITERAL`
     Hence(RawLit),
-    /// `qed`
-    Qed,
+    /// `let ..`, a construction
+    Let(RawLet),
+    /// `qed`, or `qed NAMES`
+    Qed(Items<Name>),
     /// `end`
     End,
-}
-
-fn names_of(alloc: Global, words: &[&[u8]]) -> Result<Items<Name>, Trouble>
-    ensures { Gives (λ n. n) result (names_of (texts words.now)) }
-{
-    let mut names = Items::empty(alloc);
-    for word in words {
-        match Name::read(word) {
-            Some(name) => names.push(name)?,
-            None => return Err(Trouble::Fault(Kind::Malformed)),
-        }
-    }
-    Ok(names)
-}
-
-#[tactic(auto, unfolding(crate::specs::Forms::some_names))]
-fn some_names(alloc: Global, words: &[&[u8]]) -> Result<Items<Name>, Trouble>
-    ensures { Gives (λ n. n) result (some_names (texts words.now)) }
-{
-    let names = names_of(alloc, words)?;
-    if names.is_empty() {
-        return Err(Trouble::Fault(Kind::Malformed));
-    }
-    Ok(names)
 }
 
 #[tactic(auto, unfolding(crate::specs::Forms::declare_of))]
@@ -63,6 +44,35 @@ fn declare_of(alloc: Global, sort: Sort, words: &[&[u8]]) -> Result<Form, Troubl
 {
     let names = some_names(alloc, words)?;
     Ok(Form::Declare(sort, names))
+}
+
+/// The sort whose objects a word declares.
+#[tactic(auto, unfolding(crate::specs::Forms::sort_of))]
+fn sort_of(word: &[u8]) -> Result<Sort, Trouble>
+    ensures { Gives (λ s. s) result (sort_of word.now) }
+{
+    if is(word, b"points") {
+        return Ok(Sort::Point);
+    }
+    if is(word, b"lines") {
+        return Ok(Sort::Line);
+    }
+    if is(word, b"circles") {
+        return Ok(Sort::Circle);
+    }
+    Err(Trouble::Fault(Kind::Malformed))
+}
+
+#[tactic(auto, unfolding(crate::specs::Forms::made_of, crate::specs::Reading::word_at))]
+fn made_of(alloc: Global, words: &[&[u8]]) -> Result<Form, Trouble>
+    ensures { Gives (λ f. f) result (made_of (texts words.now)) }
+{
+    let [word, rest @ ..] = words else {
+        return Err(Trouble::Fault(Kind::Malformed));
+    };
+    let sort = sort_of(word)?;
+    let names = some_names(alloc, rest)?;
+    Ok(Form::Made(sort, names))
 }
 
 #[tactic(auto, unfolding(crate::specs::Forms::by_of, crate::specs::Reading::title_at, crate::specs::Reading::word_at))]
@@ -121,6 +131,9 @@ fn form_named(alloc: Global, word: &[u8], rest: &[&[u8]]) -> Result<Form, Troubl
     if is(word, b"given") {
         return Ok(Form::Given(lits_of(alloc, rest)?));
     }
+    if is(word, b"made") {
+        return made_of(alloc, rest);
+    }
     if is(word, b"show") {
         return Ok(Form::Show(lits_of(alloc, rest)?));
     }
@@ -133,8 +146,11 @@ fn form_named(alloc: Global, word: &[u8], rest: &[&[u8]]) -> Result<Form, Troubl
     if is(word, b"hence") {
         return Ok(Form::Hence(lit_of(rest)?));
     }
+    if is(word, b"let") {
+        return Ok(Form::Let(let_of(alloc, rest)?));
+    }
     if is(word, b"qed") {
-        return bare(words, Form::Qed);
+        return Ok(Form::Qed(names_of(alloc, rest)?));
     }
     if is(word, b"end") {
         return bare(words, Form::End);

@@ -10,6 +10,7 @@ mod fault;
 mod form;
 mod known;
 mod laws;
+mod lets;
 mod literal;
 mod scope;
 mod steps;
@@ -22,10 +23,14 @@ pub use fault::{BookFault, Kind, Trouble, What};
 pub use form::{Form, form_of};
 pub use known::Known;
 pub use laws::{canonical_lines_are_read, read_theorems_have_a_spelling};
+pub use lets::RawLet;
 pub use literal::{RawAtom, RawLit};
 pub use steps::Steps;
 pub use theorem::Theorem;
 pub use words::{Words, collected};
+
+#[cfg(test)]
+mod let_tests;
 
 #[cfg(test)]
 mod tests;

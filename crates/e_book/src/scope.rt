@@ -1,18 +1,23 @@
 //! Names looked up among the objects in scope.
 ghost use Rattle.std.specs.Prelude.{◌≡◌, ◌≤◌, ◌<◌, ◌^◌, ◌+◌, List, [], length, OnOk};
+ghost use Rattle.e_deriv.specs.Naming.{named};
 ghost use Rattle.e_clause.specs.Instance;
 ghost use Rattle.e_clause.specs.Sigs.{sig_of};
 ghost use Rattle.e_literal.specs.Scopes.{same_sort};
-ghost use Rattle.e_book.specs.Reading.{Gives, Moves, with_front};
-ghost use Rattle.e_book.specs.Scope.{names_of_sort, object_in, object_of, used, number_at, number_of, on_sort, line_meets, meets_from, equal_at, atom_in, lit_in, lits_in, object_as, objects_as, is_taken, fresh, args_in, by_in, known_rule, FewNames};
+ghost use Rattle.std.specs.List.{list_any};
+ghost use Rattle.e_construct.specs.Lines;
+ghost use Rattle.e_book.specs.Reading.{Gives, Moves, each, with_front};
+ghost use Rattle.e_book.specs.Scope.{names_of_sort, object_in, object_of, used, number_at, number_of, on_sort, line_meets, meets_from, equal_at, atom_in, lit_in, lits_in, object_as, objects_as, is_taken, fresh, args_in, by_in, known_rule, FewNames, scope_of_names, arguments_in, first_fitting, let_in, objects_of_sorts, qed_in};
 
 use crate::fault::{Kind, Trouble};
+use crate::lets::RawLet;
 use crate::literal::{RawAtom, RawLit};
 use e_clause::{By, Rule, Sig};
+use e_construct::{Construction, Shape, takes};
 use e_deriv::Names;
-use e_literal::{Atom, Items, Lit, Obj, Sort};
+use e_literal::{Atom, Items, Lit, Obj, Scope, Sort};
 use e_text::{Name, Title, contains, place_of};
-use std::alloc::Global;
+use std::alloc::{AllocError, Global};
 
 pub(crate) fn names_of_sort(names: &Names, sort: Sort) -> &[Name]
     ensures { result.now ≡ names_of_sort names.now sort }
@@ -22,6 +27,32 @@ pub(crate) fn names_of_sort(names: &Names, sort: Sort) -> &[Name]
         Sort::Line => names.lines.items(),
         Sort::Circle => names.circles.items(),
     }
+}
+
+/// How many objects of each sort have names.
+pub(crate) fn scope_of_names(names: &Names) -> Scope
+    requires { FewNames names.now }
+    ensures { result ≡ scope_of_names names.now }
+{
+    Scope {
+        points: names.points.len() as u16,
+        lines: names.lines.len() as u16,
+        circles: names.circles.len() as u16,
+    }
+}
+
+/// New names, each behind those of its sort.
+pub(crate) fn put_names(names: &mut Names, sorts: &[Sort], new: &[Name]) -> Result<(), AllocError>
+    ensures { OnOk result (names.new ≡ named names.old sorts.now new.now) }
+{
+    for (sort, name) in sorts.iter().zip(new) {
+        match sort {
+            Sort::Point => names.points.push(*name)?,
+            Sort::Line => names.lines.push(*name)?,
+            Sort::Circle => names.circles.push(*name)?,
+        }
+    }
+    Ok(())
 }
 
 fn object_in(names: &Names, sort: Sort, name: Name) -> Option<Obj>
@@ -74,7 +105,7 @@ fn number_of(names: &Names, sort: Sort, name: Name) -> Result<u16, Trouble>
     }
 }
 
-fn is_sort(a: Sort, b: Sort) -> bool
+pub(crate) fn is_sort(a: Sort, b: Sort) -> bool
     ensures { result ≡ same_sort a b }
 {
     match (a, b) {
@@ -294,4 +325,118 @@ pub(crate) fn by_in(
     let args = args_in(alloc, names, sig, args)?;
     let lit = lit_in(names, lit)?;
     Ok(By { rule, args, lit })
+}
+
+/// The arguments of a construction: each has a sort that one of the shapes takes behind the earlier arguments.
+fn arguments_in(
+    alloc: Global,
+    names: &Names,
+    shapes: &[Shape],
+    of: &[Name],
+) -> Result<Items<Obj>, Trouble>
+    requires { FewNames names.now }
+    ensures { Gives (λ l. l) result (arguments_in names.now shapes.now [] of.now) }
+{
+    let mut found = Items::empty(alloc);
+    for name in of {
+        let object = used(names, *name)?;
+        found.push(object)?;
+        if !is_taken_by(shapes, found.items()) {
+            return Err(Trouble::Fault(Kind::WrongSort));
+        }
+    }
+    Ok(found)
+}
+
+/// Whether one of the shapes takes the objects as its first arguments.
+fn is_taken_by(shapes: &[Shape], objects: &[Obj]) -> bool
+    ensures { result ≡ list_any (λ s. Lines.takes s objects.now) shapes.now }
+{
+    shapes.iter().any(|shape| takes(*shape, objects))
+}
+
+fn objects_used(alloc: Global, names: &Names, of: &[Name]) -> Result<Items<Obj>, Trouble>
+    requires { FewNames names.now }
+    ensures { Gives (λ l. l) result (each (used names.now) of.now) }
+{
+    let mut found = Items::empty(alloc);
+    for name in of {
+        let object = used(names, *name)?;
+        found.push(object)?;
+    }
+    Ok(found)
+}
+
+/// The construction of the first of the shapes that fits.
+fn first_fitting(
+    scope: Scope,
+    args: Items<Obj>,
+    avoid: Items<Obj>,
+    shapes: &[Shape],
+) -> Result<Construction, Trouble>
+    ensures { Gives (λ f. f) result (first_fitting scope args avoid shapes.now) }
+{
+    let mut form = Construction {
+        shape: Shape::Free,
+        args,
+        avoid,
+    };
+    for shape in shapes {
+        form.shape = *shape;
+        if form.fits(scope) {
+            return Ok(form);
+        }
+    }
+    Err(Trouble::Fault(Kind::Malformed))
+}
+
+/// A construction: its new names, then its arguments, then what it avoids.
+#[tactic(auto, unfolding(crate::specs::Scope::let_in))]
+pub(crate) fn let_in(alloc: Global, names: &Names, raw: &RawLet) -> Result<Construction, Trouble>
+    requires { FewNames names.now }
+    ensures { Gives (λ f. f) result (let_in names.now raw.now) }
+{
+    fresh(names, raw.new.items())?;
+    let args = arguments_in(alloc, names, raw.shapes.items(), raw.args.items())?;
+    let avoid = objects_used(alloc, names, raw.avoid.items())?;
+    let form = first_fitting(scope_of_names(names), args, avoid, raw.shapes.items())?;
+    if raw.new.len() != form.made().len() {
+        return Err(Trouble::Fault(Kind::Malformed));
+    }
+    Ok(form)
+}
+
+/// An object for each sort.
+fn objects_of_sorts(
+    alloc: Global,
+    names: &Names,
+    sorts: &[Sort],
+    of: &[Name],
+) -> Result<Items<Obj>, Trouble>
+    requires { FewNames names.now }
+    ensures { Gives (λ l. l) result (objects_of_sorts names.now sorts.now of.now) }
+{
+    let mut found = Items::empty(alloc);
+    for (sort, name) in sorts.iter().zip(of) {
+        let object = object_as(names, *sort, *name)?;
+        found.push(object)?;
+    }
+    Ok(found)
+}
+
+/// The objects behind `qed`: as many as there are made ones, and then each of its sort.
+#[tactic(auto, unfolding(crate::specs::Scope::qed_in))]
+pub(crate) fn qed_in(
+    alloc: Global,
+    names: &Names,
+    made: &[Sort],
+    of: &[Name],
+) -> Result<Items<Obj>, Trouble>
+    requires { FewNames names.now }
+    ensures { Gives (λ l. l) result (qed_in names.now made.now of.now) }
+{
+    if of.len() != made.len() {
+        return Err(Trouble::Fault(Kind::Malformed));
+    }
+    objects_of_sorts(alloc, names, made, of)
 }

@@ -3,7 +3,7 @@ ghost use Rattle.std.specs.Prelude.{◌≡◌, ◌++◌, ◌∷◌, [], OnOk, le
 ghost use Rattle.e_deriv.specs.Script.{script_of, steps_script, Qed};
 
 use e_deriv::{Block, Close, Step};
-use e_literal::Items;
+use e_literal::{Items, Obj};
 use std::alloc::{AllocError, Global};
 use std::marker::Model;
 
@@ -47,15 +47,15 @@ impl Steps {
         Ok(())
     }
 
-    /// The block with these steps, ended by `qed` without objects.
-    pub fn into_block(self, alloc: Global) -> Block
-        ensures { script_of result ≡ steps_script self (Qed [] []) }
+    /// The block with these steps, ended by `qed` with these objects.
+    pub fn into_block(self, alloc: Global, objects: Items<Obj>) -> Block
+        ensures { script_of result ≡ steps_script self (Qed objects []) }
     {
         let Steps { steps } = self;
         Block {
             steps,
             close: Close::Qed {
-                objects: Items::empty(alloc),
+                objects,
                 certs: Items::empty(alloc),
             },
         }

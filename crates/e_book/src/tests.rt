@@ -8,7 +8,7 @@ use std::process::Abort;
 
 /// How many theorems a book has, or its first fault.
 #[tactic(auto, using(crate::proofs::LineCount::few_lines))]
-fn answer(alloc: Global, text: &[u8]) -> Result<u32, BookFault>
+pub(crate) fn answer(alloc: Global, text: &[u8]) -> Result<u32, BookFault>
     requires { length text.now < 2 ^ 20 }
 {
     let mut lines = Lines::new(text, 1_600, 4_194_304);

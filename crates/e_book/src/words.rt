@@ -4,9 +4,10 @@ ghost use Rattle.std.specs.Iterator.{YieldsFirst};
 ghost use Rattle.e_text.specs.Tokens.{tokens_of};
 ghost use Rattle.std.specs.List.{position_or_len};
 ghost use Rattle.std.specs.Str.{bytes_eq};
-ghost use Rattle.e_book.specs.Reading.{cut_at, texts, Gives, Reads, word_at, name_at, title_at, end_at};
+ghost use Rattle.e_book.specs.Reading.{cut_at, texts, Gives, Reads, word_at, name_at, title_at, end_at, names_of, some_names};
 
 use crate::fault::{Kind, Trouble};
+use e_literal::Items;
 use e_text::{Name, Title, is, tokens};
 use std::alloc::{AllocError, Global};
 use std::marker::Model;
@@ -42,6 +43,32 @@ pub fn cut<'b, 'a>(words: &'b [&'a [u8]], word: &[u8]) -> (&'b [&'a [u8]], &'b [
         [] => (part, rest, false),
         [_, after @ ..] => (part, after, true),
     }
+}
+
+/// Words that are names.
+pub(crate) fn names_of(alloc: Global, words: &[&[u8]]) -> Result<Items<Name>, Trouble>
+    ensures { Gives (λ n. n) result (names_of (texts words.now)) }
+{
+    let mut names = Items::empty(alloc);
+    for word in words {
+        match Name::read(word) {
+            Some(name) => names.push(name)?,
+            None => return Err(Trouble::Fault(Kind::Malformed)),
+        }
+    }
+    Ok(names)
+}
+
+/// At least one word, each a name.
+#[tactic(auto, unfolding(crate::specs::Reading::some_names))]
+pub(crate) fn some_names(alloc: Global, words: &[&[u8]]) -> Result<Items<Name>, Trouble>
+    ensures { Gives (λ n. n) result (some_names (texts words.now)) }
+{
+    let names = names_of(alloc, words)?;
+    if names.is_empty() {
+        return Err(Trouble::Fault(Kind::Malformed));
+    }
+    Ok(names)
 }
 
 /// The words of a line that are still to be read, seen as their texts.

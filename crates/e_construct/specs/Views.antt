@@ -13,7 +13,10 @@ use Rattle.e_construct.specs.declared.pattern.Avoids.{Avoids as CodeAvoids}
 use Rattle.e_construct.specs.declared.pattern.Avoids.TheVariants as avoids
 use Rattle.e_construct.specs.declared.pattern.Row.{Row}
 use Rattle.e_construct.specs.declared.naming.Naming.{Naming}
+use Rattle.e_construct.specs.declared.lines.Piece.{Piece as CodePiece}
+use Rattle.e_construct.specs.declared.lines.Piece.TheVariants as pieces
 use Rattle.e_construct.specs.Shapes.{ShapeRow, Avoids, NoObject, AnyObject, AnyApartFrom}
+use Rattle.e_construct.specs.Lines.{Piece, New, Argument, Word}
 
 abbrev pub atom_of : Relation → Atom
 atom_of (On x y) = atom.On x.num y.num
@@ -39,6 +42,11 @@ avoids_of (avoids.AnyApartFrom o) = AnyApartFrom o
 abbrev pub row_said : Row → ShapeRow
 row_said r =
     record { args = r.args.now; needs = map lit_of r.needs.now; made = r.made.now; gives = map lit_of r.gives.now; avoids = avoids_of r.avoids }
+
+abbrev pub piece_said : CodePiece → Piece
+piece_said pieces.New = New
+piece_said pieces.Argument = Argument
+piece_said (pieces.Word w) = Word w.now
 
 -- the objects for the variables: the arguments, and the new objects
 abbrev pub image_of : Naming → Obj → Option Obj

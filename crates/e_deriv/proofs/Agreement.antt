@@ -4,12 +4,14 @@ use Rattle.std.specs.Prelude.{IsTrue}
 use Rattle.std.specs.List.{list_all}
 use Rattle.e_literal.specs.declared.literal.Lit.{Lit}
 use Rattle.e_literal.specs.declared.object.Scope.{Scope}
-use Rattle.e_literal.specs.Facts.{joined}
+use Rattle.e_literal.specs.Facts.{joined, joined_all}
+use Rattle.e_literal.specs.Scopes.{grown}
 use Rattle.e_literal.specs.Use.{Stated, scope_of}
 use Rattle.e_clause.specs.Allowed.{Allowed, AllAllowed}
 use Rattle.e_clause.specs.Certify.{certify_all}
 use Rattle.e_clause.proofs.Sound.{all_allowed_of_certified}
-use Rattle.e_deriv.specs.Script.{Script, Cite, Hence, Qed, erased}
+use Rattle.e_construct.specs.Construct.{made, gives}
+use Rattle.e_deriv.specs.Script.{Script, Cite, Hence, Make, Qed, erased}
 use Rattle.e_deriv.specs.Goal.{Goal, facts_of_statement, goal_of_statement}
 use Rattle.e_deriv.specs.Lines.{Line, line, lines, proof_lines}
 use Rattle.e_deriv.specs.Steps.{fits, needs}
@@ -60,6 +62,13 @@ licensed_of_certified (Hence lit (Some cert) rest) s facts goal h =
       record { fits = q.form; allowed = all_allowed_of_certified s facts (needs x) (certs_of x.here) q.certs; beside = tt },
       licensed_of_certified rest s (joined facts lit) goal q.rest,
     )
+licensed_of_certified (Make form names certs rest) s facts goal h =
+    let x = line (Make form names certs rest) s facts goal in
+    let after = joined_all facts (gives form s) in
+    let q = parts_of x (lines rest (grown s (made form)) after goal) h in (
+      record { fits = q.form; allowed = all_allowed_of_certified s facts (needs x) certs q.certs; beside = tt },
+      licensed_of_certified rest (grown s (made form)) after goal q.rest,
+    )
 licensed_of_certified (Qed objects certs) s facts goal h =
     let x = line (Qed objects certs) s facts goal in
     let q = parts_of x [] h in
@@ -71,12 +80,16 @@ proves_of_licensed : (d : Script) (s : Scope) (facts : List Lit) (goal : Goal) �
 unfolding lines Proves
 proves_of_licensed (Cite by rest) s facts goal h = (h.0.fits, h.0.beside, proves_of_licensed rest s (joined facts by.lit) goal h.1)
 proves_of_licensed (Hence lit cert rest) s facts goal h = (h.0.fits, h.0.allowed.0, proves_of_licensed rest s (joined facts lit) goal h.1)
+proves_of_licensed (Make form names certs rest) s facts goal h =
+    (h.0.fits, h.0.allowed, proves_of_licensed rest (grown s (made form)) (joined_all facts (gives form s)) goal h.1)
 proves_of_licensed (Qed objects certs) s facts goal h = (h.0.fits, h.0.allowed)
 
 licensed_of_proves : (d : Script) (s : Scope) (facts : List Lit) (goal : Goal) → Proves s facts goal d → AllLicensed (lines d s facts goal)
 unfolding lines Proves
 licensed_of_proves (Cite by rest) s facts goal h = (record { fits = h.0; allowed = tt; beside = h.1 }, licensed_of_proves rest s (joined facts by.lit) goal h.2)
 licensed_of_proves (Hence lit cert rest) s facts goal h = (record { fits = h.0; allowed = (h.1, tt); beside = tt }, licensed_of_proves rest s (joined facts lit) goal h.2)
+licensed_of_proves (Make form names certs rest) s facts goal h =
+    (record { fits = h.0; allowed = h.1; beside = tt }, licensed_of_proves rest (grown s (made form)) (joined_all facts (gives form s)) goal h.2)
 licensed_of_proves (Qed objects certs) s facts goal h = (record { fits = h.0; allowed = h.1; beside = tt }, tt)
 
 -- ---- certificates change nothing of what is licensed
@@ -87,6 +100,8 @@ licensed_erased (Cite by rest) s facts goal h =
     (record { fits = h.0.fits; allowed = h.0.allowed; beside = h.0.beside }, licensed_erased rest s (joined facts by.lit) goal h.1)
 licensed_erased (Hence lit cert rest) s facts goal h =
     (record { fits = h.0.fits; allowed = h.0.allowed; beside = tt }, licensed_erased rest s (joined facts lit) goal h.1)
+licensed_erased (Make form names certs rest) s facts goal h =
+    (record { fits = h.0.fits; allowed = h.0.allowed; beside = tt }, licensed_erased rest (grown s (made form)) (joined_all facts (gives form s)) goal h.1)
 licensed_erased (Qed objects certs) s facts goal h = (record { fits = h.0.fits; allowed = h.0.allowed; beside = tt }, tt)
 
 licensed_of_erased : (d : Script) (s : Scope) (facts : List Lit) (goal : Goal) → AllLicensed (lines (erased d) s facts goal) → AllLicensed (lines d s facts goal)
@@ -95,6 +110,8 @@ licensed_of_erased (Cite by rest) s facts goal h =
     (record { fits = h.0.fits; allowed = h.0.allowed; beside = h.0.beside }, licensed_of_erased rest s (joined facts by.lit) goal h.1)
 licensed_of_erased (Hence lit cert rest) s facts goal h =
     (record { fits = h.0.fits; allowed = h.0.allowed; beside = tt }, licensed_of_erased rest s (joined facts lit) goal h.1)
+licensed_of_erased (Make form names certs rest) s facts goal h =
+    (record { fits = h.0.fits; allowed = h.0.allowed; beside = tt }, licensed_of_erased rest (grown s (made form)) (joined_all facts (gives form s)) goal h.1)
 licensed_of_erased (Qed objects certs) s facts goal h = (record { fits = h.0.fits; allowed = h.0.allowed; beside = tt }, tt)
 
 -- ---- the same of the proof of a statement

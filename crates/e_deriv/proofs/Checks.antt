@@ -1,7 +1,7 @@
--- A derivation at small size, and what it becomes with one premise less.
-use Rattle.std.proofs.Common.{◌≡◌, ℕ, List, [], ◌∷◌, refl, Some, None, Ok, Err, inl, inr}
+-- Derivations at small size, and what they become with one premise less.
+use Rattle.std.proofs.Common.{◌≡◌, ℕ, List, [], ◌∷◌, refl, sym, true≢false, Some, None, Ok, Err, inl, inr}
 use Rattle.std.specs.Prelude.{true, false}
-use Rattle.e_literal.specs.declared.object.Sort.TheVariants.{Point}
+use Rattle.e_literal.specs.declared.object.Sort.TheVariants.{Point, Line}
 use Rattle.e_literal.specs.declared.object.Obj.{Obj}
 use Rattle.e_literal.specs.declared.literal.Lit.{Lit}
 use Rattle.e_literal.specs.Literal.{obj}
@@ -12,15 +12,20 @@ use Rattle.e_clause.specs.declared.cert.Cert.TheVariants.{Plain}
 use Rattle.e_clause.specs.declared.cert.Part.TheVariants.{Fact}
 use Rattle.e_clause.specs.declared.cert.By.{By}
 use Rattle.e_clause.specs.Rows.{between}
+use Rattle.e_construct.specs.declared.construction.Construction.{Construction}
+use Rattle.e_construct.specs.declared.construction.Shape.TheVariants.{LineThrough, Within}
+use Rattle.e_construct.specs.Shapes.{shape_row, apart}
 use Rattle.e_clause.specs.Table.{table}
 use Rattle.e_clause.specs.Table.Incidence.{incidence}
 use Rattle.e_clause.specs.Instance.{Inst}
 use Rattle.e_deriv.specs.declared.stop.Wanted.TheVariants.{Literal}
-use Rattle.e_deriv.specs.Script.{Script, Cite, Hence, Qed, size, erased}
+use Rattle.e_deriv.specs.declared.names.Names.{Names}
+use Rattle.e_deriv.specs.Script.{Script, Cite, Hence, Make, Qed, size, erased}
 use Rattle.e_deriv.specs.Lines.{line, lines}
 use Rattle.e_deriv.specs.Goal.{goal_of_statement}
 use Rattle.e_deriv.specs.Licensed.{IsFirstUnlicensed}
 use Rattle.e_deriv.specs.Certified.{Certified, verdict}
+use Rattle.e_deriv.specs.Naming.{names_lines, declared_names}
 
 abbrev point : ℕ → Obj
 point n = obj Point n
@@ -68,4 +73,57 @@ one_less_stops =
       line = line (erased derivation) (record { points = 4; lines = 0; circles = 0 }) (between 0 1 2 ∷ []) (goal_of_statement one_less);
       context = record { place = 0; number = refl; at = refl; earlier = tt };
       lacks = (refl, refl);
+    }
+
+-- ---- of two points that differ: there is a point between them
+
+abbrev apart_points : List Lit
+apart_points = apart (point 0) (point 1) ∷ []
+
+abbrev halfway : List Lit → Stated
+halfway given = record { declared = Point ∷ Point ∷ []; given = given; made = Point ∷ []; shown = between 0 2 1 ∷ [] }
+
+abbrev line_through : Construction
+line_through = record { shape = LineThrough; args = point 0 ∷ point 1 ∷ []; avoid = [] }
+
+abbrev within : Construction
+within = record { shape = Within; args = obj Line 0 ∷ point 0 ∷ point 1 ∷ []; avoid = [] }
+
+-- the new line is `m`, and the point on it between the others `e`
+abbrev made_between : List Cert → List Cert → Script
+made_between first second =
+    Make line_through ((109 ∷ []) ∷ []) first (Make within ((101 ∷ []) ∷ []) second (Qed (point 2 ∷ []) (Plain Fact ∷ [])))
+
+abbrev made_derivation : Script
+made_derivation = made_between (Plain Fact ∷ []) (Plain Fact ∷ Plain Fact ∷ Plain Fact ∷ [])
+
+halfway_certified : Certified (halfway apart_points) made_derivation
+unfolding lines joined shape_row
+halfway_certified = refl
+
+-- a construction has one certificate for each of its needs
+one_less_certificate : verdict (halfway apart_points) (made_between (Plain Fact ∷ []) (Plain Fact ∷ Plain Fact ∷ [])) ≡ Err 2
+unfolding lines joined shape_row
+one_less_certificate = refl
+
+-- the points are `a` and `b`, and `c` is the statement's name of the point between them
+abbrev names_of_halfway : Names
+names_of_halfway = record { points = (97 ∷ []) ∷ (98 ∷ []) ∷ (99 ∷ []) ∷ []; lines = []; circles = [] }
+
+-- in the proof the name of the statement's made point is not in scope; each new name is in scope after its line
+three_names : names_lines (declared_names (halfway apart_points) names_of_halfway) made_derivation ≡
+    record { points = (97 ∷ []) ∷ (98 ∷ []) ∷ []; lines = []; circles = [] }
+    ∷ record { points = (97 ∷ []) ∷ (98 ∷ []) ∷ []; lines = (109 ∷ []) ∷ []; circles = [] }
+    ∷ record { points = (97 ∷ []) ∷ (98 ∷ []) ∷ (101 ∷ []) ∷ []; lines = (109 ∷ []) ∷ []; circles = [] } ∷ []
+unfolding names_lines shape_row
+three_names = refl
+
+-- where the points may be one the first line is not licensed, and it lacks that they differ
+equal_stops : IsFirstUnlicensed (halfway []) (erased made_derivation) 1 (Literal (apart (point 0) (point 1)))
+unfolding lines joined shape_row erased
+equal_stops =
+    record {
+      line = line (erased made_derivation) (record { points = 2; lines = 0; circles = 0 }) [] (goal_of_statement (halfway []));
+      context = record { place = 0; number = refl; at = refl; earlier = tt };
+      lacks = record { earlier = []; later = []; split = refl; allowed = tt; not_allowed = λ h. true≢false (sym h) };
     }

@@ -3,10 +3,11 @@ use Rattle.std.proofs.Common.{◌≡◌, ℕ, suc, ◌+◌, ◌<◌, List, [], �
 use Rattle.std.proofs.lemmas.Grind.{common_steps}
 use Rattle.e_literal.specs.declared.literal.Lit.{Lit}
 use Rattle.e_literal.specs.declared.object.Obj.{Obj}
+use Rattle.e_construct.specs.declared.construction.Construction.{Construction}
 use Rattle.e_clause.specs.declared.cert.By.{By}
 use Rattle.e_clause.specs.declared.cert.Cert.{Cert}
 use Rattle.e_deriv.specs.declared.block.Step.{Step}
-use Rattle.e_deriv.specs.Script.{Script, Cite, Hence, Qed, step_script, steps_script, size, erased}
+use Rattle.e_deriv.specs.Script.{Script, Cite, Hence, Make, Qed, step_script, steps_script, size, erased}
 
 pub size-Cite : (by : By) (rest : Script) → size (Cite by rest) ≡ 1 + size rest
 unfolding size
@@ -16,11 +17,15 @@ pub size-Hence : (lit : Lit) (cert : Option Cert) (rest : Script) → size (Henc
 unfolding size
 size-Hence lit cert rest = refl
 
+pub size-Make : (form : Construction) (names : List (List ℕ)) (certs : List Cert) (rest : Script) → size (Make form names certs rest) ≡ 1 + size rest
+unfolding size
+size-Make form names certs rest = refl
+
 pub size-Qed : (objects : List Obj) (certs : List Cert) → size (Qed objects certs) ≡ 1
 unfolding size
 size-Qed objects certs = refl
 
-pub ruleset sizes = (common_steps, size-Cite, size-Hence, size-Qed)
+pub ruleset sizes = (common_steps, size-Cite, size-Hence, size-Make, size-Qed)
 
 pub erased-Cite : (by : By) (rest : Script) → erased (Cite by rest) ≡ Cite by (erased rest)
 unfolding erased
@@ -30,6 +35,10 @@ pub erased-Hence : (lit : Lit) (cert : Option Cert) (rest : Script) → erased (
 unfolding erased
 erased-Hence lit cert rest = refl
 
+pub erased-Make : (form : Construction) (names : List (List ℕ)) (certs : List Cert) (rest : Script) → erased (Make form names certs rest) ≡ Make form names [] (erased rest)
+unfolding erased
+erased-Make form names certs rest = refl
+
 pub erased-Qed : (objects : List Obj) (certs : List Cert) → erased (Qed objects certs) ≡ Qed objects []
 unfolding erased
 erased-Qed objects certs = refl
@@ -38,7 +47,7 @@ pub steps_script-append : (xs ys : List Step) (rest : Script) → steps_script (
 steps_script-append [] ys rest = refl
 steps_script-append (x ∷ xs) ys rest = ap (step_script x) (steps_script-append xs ys rest)
 
-pub ruleset erasing = (common_steps, erased-Cite, erased-Hence, erased-Qed, steps_script-append)
+pub ruleset erasing = (common_steps, erased-Cite, erased-Hence, erased-Make, erased-Qed, steps_script-append)
 
 -- the step at this place, and what comes after it; the loop goes over `seen`
 pub steps_at : (items seen : List Step) (rest : Script) (i : ℕ) (s : Step) → seen ≡ items → i < length seen → s ≡ get_or seen i s →

@@ -8,7 +8,7 @@ use Rattle.e_literal.specs.Use.{Stated}
 use Rattle.e_clause.specs.Allowed.{Allowed, AllAllowed}
 use Rattle.e_deriv.specs.declared.stop.Wanted.{Wanted}
 use Rattle.e_deriv.specs.declared.stop.Wanted.TheVariants.{Literal}
-use Rattle.e_deriv.specs.Script.{Script, Cite, Hence, Qed, erased}
+use Rattle.e_deriv.specs.Script.{Script, Cite, Hence, Make, Qed, erased}
 use Rattle.e_deriv.specs.Goal.{Goal}
 use Rattle.e_deriv.specs.Lines.{Line, line, proof_lines}
 use Rattle.e_deriv.specs.Steps.{needs}
@@ -54,6 +54,7 @@ lacks_nothing : (here : Script) (s : Scope) (facts : List Lit) (goal : Goal) (w 
     Licensed (line here s facts goal) → ¬ Lacks (line here s facts goal) here w
 lacks_nothing (Cite by rest) s facts goal (Literal l) h k = true≢false (sym h.beside ∙ k.0)
 lacks_nothing (Hence lit cert rest) s facts goal (Literal l) h k = none_not_allowed s facts (needs (line (Hence lit cert rest) s facts goal)) l h.allowed k
+lacks_nothing (Make form names certs rest) s facts goal (Literal l) h k = none_not_allowed s facts (needs (line (Make form names certs rest) s facts goal)) l h.allowed k
 lacks_nothing (Qed objects certs) s facts goal (Literal l) h k = none_not_allowed s facts (needs (line (Qed objects certs) s facts goal)) l h.allowed k
 
 -- a line that is licensed lacks nothing
@@ -64,6 +65,7 @@ lacks_same : (here : Script) (s : Scope) (facts : List Lit) (goal : Goal) (v w :
     Lacks (line here s facts goal) here v → Lacks (line here s facts goal) here w → v ≡ w
 lacks_same (Cite by rest) s facts goal (Literal l) (Literal l') h k = ap Literal (h.1 ∙ sym k.1)
 lacks_same (Hence lit cert rest) s facts goal (Literal l) (Literal l') h k = ap Literal (one_not_allowed s facts (needs (line (Hence lit cert rest) s facts goal)) l l' h k)
+lacks_same (Make form names certs rest) s facts goal (Literal l) (Literal l') h k = ap Literal (one_not_allowed s facts (needs (line (Make form names certs rest) s facts goal)) l l' h k)
 lacks_same (Qed objects certs) s facts goal (Literal l) (Literal l') h k = ap Literal (one_not_allowed s facts (needs (line (Qed objects certs) s facts goal)) l l' h k)
 
 -- what a line lacks is one

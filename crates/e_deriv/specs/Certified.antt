@@ -5,7 +5,7 @@ use Rattle.e_literal.specs.declared.literal.Lit.{Lit}
 use Rattle.e_literal.specs.Use.{Stated}
 use Rattle.e_clause.specs.declared.cert.Cert.{Cert}
 use Rattle.e_clause.specs.Certify.{certify_all}
-use Rattle.e_deriv.specs.Script.{Script, Cite, Hence, Qed}
+use Rattle.e_deriv.specs.Script.{Script, Cite, Hence, Make, Qed}
 use Rattle.e_deriv.specs.Lines.{Line, proof_lines, first_failure}
 use Rattle.e_deriv.specs.Steps.{fits, needs, is_cited}
 
@@ -13,6 +13,7 @@ use Rattle.e_deriv.specs.Steps.{fits, needs, is_cited}
 abbrev pub certs_of : Script → List Cert
 certs_of (Hence lit (Some cert) rest) = cert ∷ []
 certs_of (Hence lit None rest) = []
+certs_of (Make form names certs rest) = certs
 certs_of (Qed objects certs) = certs
 certs_of (Cite by rest) = []
 

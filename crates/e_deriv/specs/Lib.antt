@@ -6,4 +6,5 @@ pub mod Proves
 pub mod Licensed
 pub mod Certified
 pub mod Fitting
+pub mod Naming
 pub mod Laws

@@ -6,7 +6,7 @@ use Rattle.e_literal.specs.Use.{Stated}
 use Rattle.e_clause.specs.Allowed.{Allowed, AllAllowed}
 use Rattle.e_deriv.specs.declared.stop.Wanted.{Wanted}
 use Rattle.e_deriv.specs.declared.stop.Wanted.TheVariants.{Literal}
-use Rattle.e_deriv.specs.Script.{Script, Cite, Hence, Qed}
+use Rattle.e_deriv.specs.Script.{Script, Cite, Hence, Make, Qed}
 use Rattle.e_deriv.specs.Lines.{Line, proof_lines}
 use Rattle.e_deriv.specs.Steps.{fits, needs, is_cited}
 
@@ -36,6 +36,7 @@ pub record IsFirstNotAllowed (scope : Scope) (facts : List Lit) (ls : List Lit) 
 abbrev pub Lacks : Line → Script → Wanted → Type 0
 Lacks x (Cite by rest) (Literal l) = IsFalse (is_cited x.facts by) × (l ≡ by.lit)
 Lacks x (Hence lit cert rest) (Literal l) = IsFirstNotAllowed x.scope x.facts (needs x) l
+Lacks x (Make form names certs rest) (Literal l) = IsFirstNotAllowed x.scope x.facts (needs x) l
 Lacks x (Qed objects certs) (Literal l) = IsFirstNotAllowed x.scope x.facts (needs x) l
 
 -- the line has number n from 1 on, of the statement's script, and all lines before it are licensed

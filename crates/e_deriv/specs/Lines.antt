@@ -2,9 +2,11 @@
 use Rattle.std.specs.Prelude.{ℕ, ◌+◌, List, [], ◌∷◌, Bool, Result, Ok, Err, if◌then◌else◌}
 use Rattle.e_literal.specs.declared.object.Scope.{Scope}
 use Rattle.e_literal.specs.declared.literal.Lit.{Lit}
-use Rattle.e_literal.specs.Facts.{joined}
+use Rattle.e_literal.specs.Facts.{joined, joined_all}
+use Rattle.e_literal.specs.Scopes.{grown}
 use Rattle.e_literal.specs.Use.{Stated, scope_of}
-use Rattle.e_deriv.specs.Script.{Script, Cite, Hence, Qed}
+use Rattle.e_construct.specs.Construct.{made, gives}
+use Rattle.e_deriv.specs.Script.{Script, Cite, Hence, Make, Qed}
 use Rattle.e_deriv.specs.Goal.{Goal, goal_of_statement, facts_of_statement}
 
 -- a line: the scope and the facts before it, the goal of its block, and the script from it on
@@ -20,6 +22,8 @@ line here s facts goal = record { scope = s; facts = facts; goal = goal; here = 
 unfoldable pub lines : Script → Scope → List Lit → Goal → List Line
 lines (Cite by rest) s facts goal = line (Cite by rest) s facts goal ∷ lines rest s (joined facts by.lit) goal
 lines (Hence lit cert rest) s facts goal = line (Hence lit cert rest) s facts goal ∷ lines rest s (joined facts lit) goal
+lines (Make form names certs rest) s facts goal =
+    line (Make form names certs rest) s facts goal ∷ lines rest (grown s (made form)) (joined_all facts (gives form s)) goal
 lines (Qed objects certs) s facts goal = line (Qed objects certs) s facts goal ∷ []
 
 -- the lines of a statement's proof

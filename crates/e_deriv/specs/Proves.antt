@@ -3,10 +3,12 @@ use Rattle.std.specs.Prelude.{List, IsTrue}
 use Rattle.e_literal.specs.declared.object.Scope.{Scope}
 use Rattle.e_literal.specs.declared.literal.Lit.{Lit}
 use Rattle.e_literal.specs.Literal.{all_in_scope}
-use Rattle.e_literal.specs.Facts.{joined}
+use Rattle.e_literal.specs.Facts.{joined, joined_all}
+use Rattle.e_literal.specs.Scopes.{grown}
 use Rattle.e_literal.specs.Use.{Stated, scope_of}
 use Rattle.e_clause.specs.Allowed.{Allowed, AllAllowed}
-use Rattle.e_deriv.specs.Script.{Script, Cite, Hence, Qed}
+use Rattle.e_construct.specs.Construct.{fits, needs, made, gives}
+use Rattle.e_deriv.specs.Script.{Script, Cite, Hence, Make, Qed}
 use Rattle.e_deriv.specs.Goal.{Goal, are_for, goal_with, goal_of_statement, facts_of_statement}
 use Rattle.e_deriv.specs.Steps.{is_citation, is_cited}
 
@@ -19,6 +21,10 @@ Proves s facts goal (Cite by rest) =
 Proves s facts goal (Hence lit cert rest) =
     IsTrue (all_in_scope s lit) × Allowed s facts lit
     × Proves s (joined facts lit) goal rest
+-- each literal that the construction needs is allowed; the new objects come into scope, and what it gives joins the facts
+Proves s facts goal (Make form names certs rest) =
+    IsTrue (fits form s) × AllAllowed s facts (needs form)
+    × Proves (grown s (made form)) (joined_all facts (gives form s)) goal rest
 -- each goal literal, with the objects for the made ones, is allowed
 Proves s facts goal (Qed objects certs) =
     IsTrue (are_for goal s objects) × AllAllowed s facts (goal_with goal objects)

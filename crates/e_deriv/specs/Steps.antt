@@ -9,7 +9,8 @@ use Rattle.e_literal.specs.Facts.{has, has_all, others}
 use Rattle.e_clause.specs.declared.cert.By.{By}
 use Rattle.e_clause.specs.Instance.{Inst}
 use Rattle.e_clause.specs.RuleKinds.{is_diagram_rule}
-use Rattle.e_deriv.specs.Script.{Script, Cite, Hence, Qed}
+use Rattle.e_construct.specs.Construct.{fits as fits_form, needs as needs_of_form}
+use Rattle.e_deriv.specs.Script.{Script, Cite, Hence, Make, Qed}
 use Rattle.e_deriv.specs.Goal.{Goal, are_for, goal_with}
 use Rattle.e_deriv.specs.Lines.{Line}
 
@@ -31,11 +32,13 @@ is_cited facts by = option_map_or (instance_gives facts by.lit) (Inst by.rule by
 abbrev pub fits_at : Script → Scope → Goal → Bool
 fits_at (Cite by rest) s goal = is_citation s by
 fits_at (Hence lit cert rest) s goal = all_in_scope s lit
+fits_at (Make form names certs rest) s goal = fits_form form s
 fits_at (Qed objects certs) s goal = are_for goal s objects
 
 -- the literals that the line needs, in order
 abbrev pub needs_at : Script → Goal → List Lit
 needs_at (Hence lit cert rest) goal = lit ∷ []
+needs_at (Make form names certs rest) goal = needs_of_form form
 needs_at (Qed objects certs) goal = goal_with goal objects
 needs_at (Cite by rest) goal = []
 

@@ -1,7 +1,9 @@
 //! Blocks, steps and closes.
 
 use e_clause::{By, Cert};
+use e_construct::Construction;
 use e_literal::{Items, Lit, Obj};
+use e_text::Name;
 
 /// Steps, and the close that ends them.
 ///
@@ -12,13 +14,23 @@ pub struct Block {
     pub close: Close,
 }
 
-/// A step, after which its literal is a fact.
+/// A step, after which what it gives are facts.
 #[derive(Debug, Drop)]
 pub enum Step {
     /// The literal is one of an instance of the rule, and the negation of each other one is a fact.
     Cite(By),
     /// The literal is allowed.
-    Hence { lit: Lit, cert: Option<Cert> },
+    Hence {
+        lit: Lit,
+        cert: Option<Cert>,
+    },
+    /// Each literal that the construction needs is allowed; the new objects, with these names, come into scope, and
+    /// what it gives are facts.
+    Make {
+        form: Construction,
+        names: Items<Name>,
+        certs: Items<Cert>,
+    },
 }
 
 /// The end of a block.

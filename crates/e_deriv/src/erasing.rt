@@ -4,7 +4,8 @@ ghost use Rattle.e_deriv.specs.Script.{Script, script_of, step_script, close_scr
 
 use crate::block::{Block, Close, Step};
 use e_clause::By;
-use e_literal::{Items, copy};
+use e_construct::Construction;
+use e_literal::{Items, Obj, copy};
 use std::alloc::{AllocError, Global};
 
 /// The script of a block: the same lines without their certificates.
@@ -30,6 +31,15 @@ fn erase_step(alloc: Global, step: &Step) -> Result<Step, AllocError>
         Step::Hence { lit, .. } => {
             let lit = copy(alloc, lit)?;
             Ok(Step::Hence { lit, cert: None })
+        }
+        Step::Make { form, names, .. } => {
+            let form = copy_construction(alloc, form)?;
+            let names = Vec::from_slice(alloc, names.items())?;
+            Ok(Step::Make {
+                form,
+                names: Items::new(names),
+                certs: Items::empty(alloc),
+            })
         }
     }
 }
@@ -59,4 +69,21 @@ pub fn copy_by(alloc: Global, by: &By) -> Result<By, AllocError>
         args: Items::new(args),
         lit: copy(alloc, &by.lit)?,
     })
+}
+
+/// An equal construction.
+pub fn copy_construction(alloc: Global, form: &Construction) -> Result<Construction, AllocError>
+    ensures { IfOk result (λ f. f ≡ form.now) }
+{
+    Ok(Construction {
+        shape: form.shape,
+        args: copy_objects(alloc, form.args.items())?,
+        avoid: copy_objects(alloc, form.avoid.items())?,
+    })
+}
+
+fn copy_objects(alloc: Global, objects: &[Obj]) -> Result<Items<Obj>, AllocError>
+    ensures { IfOk result (λ o. o ≡ objects.now) }
+{
+    Ok(Items::new(Vec::from_slice(alloc, objects)?))
 }

@@ -13,7 +13,7 @@ pub fn size(block: &Block) -> u32
     let mut lines = 0u32;
     for step in &block.steps {
         match step {
-            Step::Cite(_) | Step::Hence { .. } => lines += 1,
+            Step::Cite(_) | Step::Hence { .. } | Step::Make { .. } => lines += 1,
         }
     }
     match &block.close {

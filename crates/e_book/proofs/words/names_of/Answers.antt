@@ -3,10 +3,10 @@ use Rattle.e_text.specs.Names.{name_of}
 use Rattle.e_book.specs.declared.fault.Kind.TheVariants.{Malformed}
 use Rattle.e_book.specs.declared.fault.Trouble.TheVariants.{Fault}
 use Rattle.e_book.specs.Reading.{texts, or_malformed}
-use Rattle.e_book.specs.Forms.{names_of}
+use Rattle.e_book.specs.Reading.{names_of}
 use Rattle.e_book.proofs.Loops.{goes_on, fails, rest_at}
 use Rattle.e_book.proofs.Texts.{text_at, length-texts}
-use Rattle.e_book.proofs.form.names_of.Goals as goal
+use Rattle.e_book.proofs.words.names_of.Goals as goal
 
 pub returns-in-None : goal.returns-in-None
 returns-in-None c =

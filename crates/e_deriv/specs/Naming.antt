@@ -1,0 +1,38 @@
+-- The names of the objects in scope, before each line of a script.
+use Rattle.std.specs.Prelude.{ℕ, List, [], ◌∷◌, ◌++◌, take}
+use Rattle.e_literal.specs.declared.object.Sort.{Sort}
+use Rattle.e_literal.specs.declared.object.Sort.TheVariants as sorts
+use Rattle.e_literal.specs.Use.{Stated, scope_of}
+use Rattle.e_construct.specs.Construct.{made}
+use Rattle.e_deriv.specs.declared.names.Names.{Names}
+use Rattle.e_deriv.specs.Script.{Script, Cite, Hence, Make, Qed}
+
+-- the names of the objects of a sort
+abbrev pub names_of_sort : Names → Sort → List (List ℕ)
+names_of_sort ns sorts.Point = ns.points
+names_of_sort ns sorts.Line = ns.lines
+names_of_sort ns sorts.Circle = ns.circles
+
+-- with other names for the objects of a sort
+abbrev pub with_names : Names → Sort → List (List ℕ) → Names
+with_names ns sorts.Point new = record ns { points = new }
+with_names ns sorts.Line new = record ns { lines = new }
+with_names ns sorts.Circle new = record ns { circles = new }
+
+-- each new name behind those of its sort, in order
+abbrev pub named : Names → List Sort → List (List ℕ) → Names
+named ns (sort ∷ kinds) (name ∷ names) = named (with_names ns sort (names_of_sort ns sort ++ name ∷ [])) kinds names
+named ns _ _ = ns
+
+-- the names in scope before each line, in text order, where these are in scope before the first
+unfoldable pub names_lines : Names → Script → List Names
+names_lines ns (Cite by rest) = ns ∷ names_lines ns rest
+names_lines ns (Hence lit cert rest) = ns ∷ names_lines ns rest
+names_lines ns (Make form names certs rest) = ns ∷ names_lines (named ns (made form) names) rest
+names_lines ns (Qed objects certs) = ns ∷ []
+
+-- of the names of a statement's declared and made objects those of the declared ones, which come first
+abbrev pub declared_names : Stated → Names → Names
+declared_names t ns =
+    let s = scope_of t
+    in record { points = take s.points ns.points; lines = take s.lines ns.lines; circles = take s.circles ns.circles }
