@@ -100,7 +100,7 @@ qed_fits ns sorts names os e =
     let r = bind_ok (right_count (eqb (length names) (length sorts))) (λ right. objects_of_sorts ns sorts names) os e in
     of_sorts ns sorts names os (eqb-true (length names) (length sorts) (counted _ r.0 r.1)) r.2
 
-sorts_again : (s : Scope) (sorts : List Sort) → map (λ (o : Obj). o.sort) (next_objects s sorts) ≡ sorts
+pub sorts_again : (s : Scope) (sorts : List Sort) → map (λ (o : Obj). o.sort) (next_objects s sorts) ≡ sorts
 sorts_again s [] = refl
 sorts_again s (x ∷ sorts) = ap (λ (l : List Sort). x ∷ l) (sorts_again (with_one s x) sorts)
 
@@ -122,7 +122,7 @@ named_scope ns (s ∷ sorts) [] e = absurd (omega (arith, e))
 named_scope ns (s ∷ sorts) (n ∷ names) e =
     ap (λ (z : Scope). grown z sorts) (one_named ns s n) ∙ named_scope (with_names ns s (names_of_sort ns s ++ n ∷ [])) sorts names (omega (arith, e))
 
-grows : (s : Scope) (sorts : List Sort) (sort : Sort) → count_of s sort ≤ count_of (grown s sorts) sort
+pub grows : (s : Scope) (sorts : List Sort) (sort : Sort) → count_of s sort ≤ count_of (grown s sorts) sort
 grows s [] sort = omega arith
 grows s (x ∷ sorts) sort = let a = grows (with_one s x) sorts sort in let b = one s x sort in omega (arith, a, b)
   where

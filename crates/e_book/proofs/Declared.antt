@@ -1,5 +1,5 @@
--- The lines that declare objects, one name after another.
-use Rattle.std.proofs.Common.{◌≡◌, ℕ, zero, suc, ◌+◌, ◌<◌, ◌≤◌, Bool, true, false, cond, ltb, ◌||◌, List, [], ◌∷◌, ◌++◌, length, take, replicate, Option, Some, None, Result, Ok, Err, refl, sym, ap, subst, ◌∙◌, arith, append_assoc, length-append, length-take-le}
+-- The lines that declare objects or made ones, one name after another.
+use Rattle.std.proofs.Common.{◌≡◌, ℕ, zero, suc, ◌+◌, ◌<◌, ◌≤◌, Bool, true, false, cond, ltb, ◌||◌, List, [], ◌∷◌, ◌++◌, length, take, map, Option, Some, None, Result, Ok, Err, refl, sym, ap, subst, ◌∙◌, arith, append_assoc, length-append, length-take-le}
 use Rattle.std.specs.Str.{bytes_eq}
 use Rattle.std.proofs.lemmas.Bool.{le-ltb, lt-ltb}
 use Rattle.std.proofs.lemmas.List.{append-nil, take_all}
@@ -8,25 +8,24 @@ use Rattle.e_literal.specs.declared.object.Sort.{Sort}
 use Rattle.e_literal.specs.declared.object.Sort.TheVariants.{Point, Line, Circle}
 use Rattle.e_literal.specs.declared.object.Scope.{Scope}
 use Rattle.e_literal.specs.Literal.{count_of}
-use Rattle.e_literal.specs.Scopes.{same_sort, nothing, with_one, grown, next_objects}
+use Rattle.e_literal.specs.Scopes.{same_sort, with_one, grown, next_objects}
 use Rattle.e_deriv.specs.declared.names.Names.{Names}
 use Rattle.e_book.specs.declared.fault.Kind.{Kind}
 use Rattle.e_book.specs.declared.fault.Kind.TheVariants.{NameTaken}
 use Rattle.e_book.specs.declared.form.Form.{Form}
-use Rattle.e_book.specs.declared.form.Form.TheVariants as forms
-use Rattle.e_book.specs.declared.draft.Place.TheVariants.{Declaring}
 use Rattle.e_book.specs.declared.draft.Draft.{Draft}
 use Rattle.e_book.specs.Reading.{◌>>=◌}
 use Rattle.e_book.specs.Limits.{most_of, what_of, within}
 use Rattle.e_book.specs.Headed.{Headed}
-use Rattle.e_book.specs.Scope.{has, names_of_sort, with_names, is_taken, fresh}
-use Rattle.e_book.specs.Steps.{declared, stepped, step, begin}
+use Rattle.e_deriv.specs.Naming.{names_of_sort, with_names, first_names}
+use Rattle.e_book.specs.Scope.{scope_of_names, has, is_taken, fresh}
+use Rattle.e_book.specs.Steps.{declared, step, begin}
 use Rattle.e_book.specs.Book.{is_done}
-use Rattle.e_book.specs.Canonical.{name_at, declared_before, declare_forms}
-use Rattle.e_book.specs.Fits.{scope_of_names}
+use Rattle.e_book.specs.Canonical.{name_at, Group, group, grouped_before, grouped}
 use Rattle.e_book.specs.HasSpelling.{AreNames}
 use Rattle.e_book.proofs.Differ.{apart_at, has_not_in_front, not_before}
-use Rattle.e_book.proofs.Respelled.{GoodForm}
+use Rattle.e_book.proofs.Building.{grows}
+use Rattle.e_book.proofs.Respelled.{GoodForm, as_read}
 use Rattle.e_book.proofs.Lookups.{InOrder, named_at, sorts_same}
 
 -- a form at its place: the first of a theorem, or one more
@@ -34,34 +33,24 @@ abbrev pub form_step : List Headed → Option Draft → Form → Result Draft Ki
 form_step known None f = begin known f
 form_step known (Some d) f = step d f
 
--- forms that are taken one after another
+-- forms whose words are taken one after another
 abbrev pub Runs : List Headed → Option Draft → List Form → Option Draft → Type 0
 Runs known s [] u = s ≡ u
-Runs known s (f ∷ fs) u = (e : Draft) × GoodForm f × (form_step known s f ≡ Ok e) × (is_done e ≡ false) × Runs known (Some e) fs u
+Runs known s (f ∷ fs) u = (e : Draft) × GoodForm f × (form_step known s (as_read f) ≡ Ok e) × (is_done e ≡ false) × Runs known (Some e) fs u
 
 pub runs_append : (known : List Headed) (s m u : Option Draft) (fs gs : List Form) → Runs known s fs m → Runs known m gs u → Runs known s (fs ++ gs) u
 runs_append known s m u [] gs a b = subst (λ (x : Option Draft). Runs known x gs u) (sym a) b
 runs_append known s m u (f ∷ fs) gs a b = (a.0, a.1, a.2, a.3, runs_append known (Some a.0) m u fs gs a.4 b)
 
-abbrev pub declaring : List ℕ → Names → List Sort → Draft
-declaring t ns sorts = record { title = t; names = ns; declared = sorts; given = []; shown = []; steps = []; place = Declaring }
-
 -- with one name more
-abbrev plus : Names → Sort → List ℕ → Names
+abbrev pub plus : Names → Sort → List ℕ → Names
 plus ns sort name = with_names ns sort (names_of_sort ns sort ++ name ∷ [])
 
 -- no object has this name
-abbrev Free : Names → List ℕ → Type 0
+abbrev pub Free : Names → List ℕ → Type 0
 Free ns n = (has ns.points n ≡ false) × (has ns.lines n ≡ false) × (has ns.circles n ≡ false)
 
--- ---- one line for a name, or the name on the next line
-
-one_declared : (t : List ℕ) (ns : Names) (sorts : List Sort) (sort : Sort) (name : List ℕ) → Free ns name → length (names_of_sort ns sort) + 1 ≤ most_of sort
-    → step (declaring t ns sorts) (forms.Declare sort (name ∷ [])) ≡ Ok (declaring t (plus ns sort name) (sorts ++ sort ∷ []))
-unfolding step stepped declared
-one_declared t ns sorts sort name f few =
-    let room : ltb (most_of sort) (length (names_of_sort ns sort) + length (name ∷ [])) ≡ false = le-ltb _ _ (omega (arith, few)) in
-    rw (f.0, f.1, f.2, room) refl
+-- ---- a name on a line of its own, or on the next line
 
 or_false : (b : Bool) → (b || false) ≡ b
 or_false true = refl
@@ -104,7 +93,7 @@ same_taken ns Circle name seen m =
 abbrev taken_or : Bool → Result (Unit {0}) Kind → Result (Unit {0}) Kind
 taken_or b r = cond b (Err NameTaken) r
 
-same_fresh : (ns : Names) (sort : Sort) (name : List ℕ) (seen more : List (List ℕ)) → fresh ns (name ∷ seen) more ≡ fresh (plus ns sort name) seen more
+pub same_fresh : (ns : Names) (sort : Sort) (name : List ℕ) (seen more : List (List ℕ)) → fresh ns (name ∷ seen) more ≡ fresh (plus ns sort name) seen more
 same_fresh ns sort name seen [] = refl
 same_fresh ns sort name seen (m ∷ more) =
     ap (λ (b : Bool). taken_or b (fresh ns (name ∷ (seen ++ m ∷ [])) more)) (same_taken ns sort name seen m)
@@ -114,6 +103,12 @@ fresh_joined : (ns : Names) (sort : Sort) (name : List ℕ) (more : List (List �
 fresh_joined ns sort name more f =
     let one : fresh ns [] (name ∷ more) ≡ fresh ns (name ∷ []) more = rw (f.0, f.1, f.2) refl in
     one ∙ same_fresh ns sort name [] more
+
+pub declared_one : (ns : Names) (sort : Sort) (name : List ℕ) → Free ns name → length (names_of_sort ns sort) + 1 ≤ most_of sort → declared ns sort (name ∷ []) ≡ Ok (plus ns sort name)
+unfolding declared
+declared_one ns sort name f few =
+    let room : ltb (most_of sort) (length (names_of_sort ns sort) + length (name ∷ [])) ≡ false = le-ltb _ _ (omega (arith, few)) in
+    rw (f.0, f.1, f.2, room) refl
 
 abbrev answer : Result (Unit {0}) Kind → ℕ → Names → Sort → Result Names Kind
 answer f n new sort = f >>= λ free. within n (most_of sort) (what_of sort) >>= λ few. Ok new
@@ -125,7 +120,7 @@ same_answer f g m n v w sort a b c =
 one_less : (xs more : List (List ℕ)) (name : List ℕ) → length xs + length (name ∷ more) ≡ length (xs ++ name ∷ []) + length more
 one_less xs more name = omega (arith, length-append xs (name ∷ []))
 
-declared_joined : (ns : Names) (sort : Sort) (name : List ℕ) (more : List (List ℕ)) → Free ns name → declared ns sort (name ∷ more) ≡ declared (plus ns sort name) sort more
+pub declared_joined : (ns : Names) (sort : Sort) (name : List ℕ) (more : List (List ℕ)) → Free ns name → declared ns sort (name ∷ more) ≡ declared (plus ns sort name) sort more
 unfolding declared
 declared_joined ns Point name more f =
     same_answer (fresh ns [] (name ∷ more)) (fresh (plus ns Point name) [] more) (length ns.points + length (name ∷ more)) (length (ns.points ++ name ∷ []) + length more)
@@ -140,15 +135,18 @@ declared_joined ns Circle name more f =
     (record ns { circles = ns.circles ++ name ∷ more }) (record ns { circles = (ns.circles ++ name ∷ []) ++ more }) Circle (fresh_joined ns Circle name more f) (one_less ns.circles more name)
     (ap (λ (l : List (List ℕ)). record ns { circles = l }) (sym (append_assoc ns.circles (name ∷ []) more)))
 
-abbrev then_draft : List ℕ → Result Names Kind → List Sort → Result Draft Kind
-then_draft t r sorts = r >>= λ names. Ok (declaring t names sorts)
+-- ---- lines of names
 
-step_joined : (t : List ℕ) (ns : Names) (sorts : List Sort) (sort : Sort) (name : List ℕ) (more : List (List ℕ)) → Free ns name
-    → step (declaring t ns sorts) (forms.Declare sort (name ∷ more)) ≡ step (declaring t (plus ns sort name) (sorts ++ sort ∷ [])) (forms.Declare sort more)
-unfolding step stepped
-step_joined t ns sorts sort name more f =
-    ap (λ (r : Result Names Kind). then_draft t r (sorts ++ sort ∷ replicate (length more) sort)) (declared_joined ns sort name more f)
-    ∙ ap (λ (l : List Sort). then_draft t (declared (plus ns sort name) sort more) l) (sym (append_assoc sorts (sort ∷ []) (replicate (length more) sort)))
+-- a line with a name puts it behind those of its sort, and a line with more names does what a name and the others do
+pub record LinesOfNames (say : Sort → List (List ℕ) → Form) (at : Names → List Sort → Draft) : Type 0 where
+  pub good : (sort : Sort) (n : List ℕ) (more : List (List ℕ)) → AreNames (n ∷ more) → GoodForm (say sort (n ∷ more))
+  pub said : (sort : Sort) (names : List (List ℕ)) → GoodForm (say sort names) → AreNames names
+  pub read : (sort : Sort) (names : List (List ℕ)) → as_read (say sort names) ≡ say sort names
+  pub one : (ns : Names) (sorts : List Sort) (sort : Sort) (name : List ℕ) → Free ns name → length (names_of_sort ns sort) + 1 ≤ most_of sort
+    → step (at ns sorts) (say sort (name ∷ [])) ≡ Ok (at (plus ns sort name) (sorts ++ sort ∷ []))
+  pub split : (ns : Names) (sorts : List Sort) (sort : Sort) (name : List ℕ) (more : List (List ℕ)) → Free ns name
+    → step (at ns sorts) (say sort (name ∷ more)) ≡ step (at (plus ns sort name) (sorts ++ sort ∷ [])) (say sort more)
+  pub going : (ns : Names) (sorts : List Sort) → is_done (at ns sorts) ≡ false
 
 -- ---- one more name before the lines
 
@@ -158,38 +156,37 @@ record Next (ns : Names) (sort : Sort) (name : List ℕ) : Type 0 where
   free : Free ns name
   few : length (names_of_sort ns sort) + 1 ≤ most_of sort
 
-alone : (known : List Headed) (t : List ℕ) (ns : Names) (sorts : List Sort) (sort : Sort) (name : List ℕ) (fs : List Form) (u : Option Draft) → Next ns sort name
-    → Runs known (Some (declaring t (plus ns sort name) (sorts ++ sort ∷ []))) fs u → Runs known (Some (declaring t ns sorts)) (forms.Declare sort (name ∷ []) ∷ fs) u
-alone known t ns sorts sort name fs u n r = (declaring t (plus ns sort name) (sorts ++ sort ∷ []), (n.named, tt), one_declared t ns sorts sort name n.free n.few, refl, r)
+abbrev pub says : (Sort → List (List ℕ) → Form) → Group → Form
+says say g = say g.sort g.names
 
-names_in : (sort : Sort) (more : List (List ℕ)) → GoodForm (forms.Declare sort more) → AreNames more
-names_in sort [] h = absurd h
-names_in sort (n ∷ ns) h = h
+alone : (known : List Headed) (say : Sort → List (List ℕ) → Form) (at : Names → List Sort → Draft) (l : LinesOfNames say at) (ns : Names) (sorts : List Sort) (sort : Sort) (name : List ℕ) (fs : List Form) (u : Option Draft)
+    → Next ns sort name → Runs known (Some (at (plus ns sort name) (sorts ++ sort ∷ []))) fs u → Runs known (Some (at ns sorts)) (say sort (name ∷ []) ∷ fs) u
+alone known say at l ns sorts sort name fs u n r =
+    let now = at (plus ns sort name) (sorts ++ sort ∷ []) in
+    let taken : step (at ns sorts) (as_read (say sort (name ∷ []))) ≡ Ok now = ap (step (at ns sorts)) (l.read sort (name ∷ [])) ∙ l.one ns sorts sort name n.free n.few in
+    (now, l.good sort name [] (n.named, tt), taken, l.going (plus ns sort name) (sorts ++ sort ∷ []), r)
 
-together : (known : List Headed) (t : List ℕ) (ns : Names) (sorts : List Sort) (sort s : Sort) (name : List ℕ) (more : List (List ℕ)) (fs : List Form) (u : Option Draft) → Next ns sort name → sort ≡ s
-    → Runs known (Some (declaring t (plus ns sort name) (sorts ++ sort ∷ []))) (forms.Declare s more ∷ fs) u → Runs known (Some (declaring t ns sorts)) (forms.Declare s (name ∷ more) ∷ fs) u
-together known t ns sorts sort s name more fs u n e r =
-    let join : step (declaring t ns sorts) (forms.Declare s (name ∷ more)) ≡ step (declaring t (plus ns sort name) (sorts ++ sort ∷ [])) (forms.Declare s more) =
-    subst (λ (x : Sort). step (declaring t ns sorts) (forms.Declare x (name ∷ more)) ≡ step (declaring t (plus ns sort name) (sorts ++ sort ∷ [])) (forms.Declare x more)) e (step_joined t ns sorts sort name more n.free) in
-    (r.0, (n.named, names_in s more r.1), join ∙ r.2, r.3, r.4)
+together : (known : List Headed) (say : Sort → List (List ℕ) → Form) (at : Names → List Sort → Draft) (l : LinesOfNames say at) (ns : Names) (sorts : List Sort) (sort s : Sort) (name : List ℕ) (more : List (List ℕ)) (fs : List Form) (u : Option Draft)
+    → Next ns sort name → sort ≡ s → Runs known (Some (at (plus ns sort name) (sorts ++ sort ∷ []))) (say s more ∷ fs) u → Runs known (Some (at ns sorts)) (say s (name ∷ more) ∷ fs) u
+together known say at l ns sorts sort s name more fs u n e r =
+    let now = at (plus ns sort name) (sorts ++ sort ∷ []) in
+    let same : step (at ns sorts) (say s (name ∷ more)) ≡ step now (say s more) =
+    subst (λ (x : Sort). step (at ns sorts) (say x (name ∷ more)) ≡ step now (say x more)) e (l.split ns sorts sort name more n.free) in
+    let taken : step (at ns sorts) (as_read (say s (name ∷ more))) ≡ Ok r.0 = ap (step (at ns sorts)) (l.read s (name ∷ more)) ∙ same ∙ ap (step now) (sym (l.read s more)) ∙ r.2 in
+    (r.0, l.good s name more (n.named, l.said s more r.1), taken, r.3, r.4)
 
-by_sort : (b : Bool) (known : List Headed) (t : List ℕ) (ns : Names) (sorts : List Sort) (sort s : Sort) (name : List ℕ) (more : List (List ℕ)) (fs : List Form) (u : Option Draft) → Next ns sort name → same_sort sort s ≡ b
-    → Runs known (Some (declaring t (plus ns sort name) (sorts ++ sort ∷ []))) (forms.Declare s more ∷ fs) u
-    → Runs known (Some (declaring t ns sorts)) (cond b (forms.Declare s (name ∷ more) ∷ fs) (forms.Declare sort (name ∷ []) ∷ forms.Declare s more ∷ fs)) u
-by_sort true known t ns sorts sort s name more fs u n e r = together known t ns sorts sort s name more fs u n (sorts_same sort s e) r
-by_sort false known t ns sorts sort s name more fs u n e r = alone known t ns sorts sort name (forms.Declare s more ∷ fs) u n r
+by_sort : (b : Bool) (known : List Headed) (say : Sort → List (List ℕ) → Form) (at : Names → List Sort → Draft) (l : LinesOfNames say at) (ns : Names) (sorts : List Sort) (sort : Sort) (name : List ℕ) (g : Group) (gs : List Group) (u : Option Draft)
+    → Next ns sort name → same_sort sort g.sort ≡ b → Runs known (Some (at (plus ns sort name) (sorts ++ sort ∷ []))) (map (says say) (g ∷ gs)) u
+    → Runs known (Some (at ns sorts)) (map (says say) (cond b (group g.sort (name ∷ g.names) ∷ gs) (group sort (name ∷ []) ∷ g ∷ gs))) u
+by_sort true known say at l ns sorts sort name g gs u n e r = together known say at l ns sorts sort g.sort name g.names (map (says say) gs) u n (sorts_same sort g.sort e) r
+by_sort false known say at l ns sorts sort name g gs u n e r = alone known say at l ns sorts sort name (map (says say) (g ∷ gs)) u n r
 
-run_before : (known : List Headed) (t : List ℕ) (ns : Names) (sorts : List Sort) (sort : Sort) (name : List ℕ) (fs : List Form) (u : Option Draft) → Next ns sort name
-    → Runs known (Some (declaring t (plus ns sort name) (sorts ++ sort ∷ []))) fs u → Runs known (Some (declaring t ns sorts)) (declared_before sort name fs) u
-run_before known t ns sorts sort name [] u n r = alone known t ns sorts sort name [] u n r
-run_before known t ns sorts sort name (forms.Declare s more ∷ fs) u n r = by_sort (same_sort sort s) known t ns sorts sort s name more fs u n refl r
-run_before known t ns sorts sort name (f ∷ fs) u n r = alone known t ns sorts sort name (f ∷ fs) u n r
+run_before : (known : List Headed) (say : Sort → List (List ℕ) → Form) (at : Names → List Sort → Draft) (l : LinesOfNames say at) (ns : Names) (sorts : List Sort) (sort : Sort) (name : List ℕ) (gs : List Group) (u : Option Draft)
+    → Next ns sort name → Runs known (Some (at (plus ns sort name) (sorts ++ sort ∷ []))) (map (says say) gs) u → Runs known (Some (at ns sorts)) (map (says say) (grouped_before sort name gs)) u
+run_before known say at l ns sorts sort name [] u n r = alone known say at l ns sorts sort name [] u n r
+run_before known say at l ns sorts sort name (g ∷ gs) u n r = by_sort (same_sort sort g.sort) known say at l ns sorts sort name g gs u n refl r
 
 -- ---- all names
-
--- the names of the first objects of each sort
-abbrev pub taken : Scope → Names → Names
-taken s ns = record { points = take s.points ns.points; lines = take s.lines ns.lines; circles = take s.circles ns.circles }
 
 take_next : (xs : List (List ℕ)) (n : ℕ) → n < length xs → take n xs ++ name_at xs n ∷ [] ≡ take (suc n) xs
 take_next [] n lt = absurd (omega arith)
@@ -199,12 +196,12 @@ take_next (x ∷ xs) (suc n) lt = ap (λ (l : List (List ℕ)). x ∷ l) (take_n
 take_one : (xs : List (List ℕ)) (n : ℕ) → n < length xs → take n xs ++ name_at xs n ∷ [] ≡ take (n + 1) xs
 take_one xs n lt = let k : suc n ≡ n + 1 = omega arith in take_next xs n lt ∙ ap (λ (i : ℕ). take i xs) k
 
-plus_taken : (ns : Names) (s : Scope) (sort : Sort) → count_of s sort < count_of (scope_of_names ns) sort → plus (taken s ns) sort (name_at (names_of_sort ns sort) (count_of s sort)) ≡ taken (with_one s sort) ns
-plus_taken ns s Point lt = ap (λ (l : List (List ℕ)). record { points = l; lines = take s.lines ns.lines; circles = take s.circles ns.circles }) (take_one ns.points s.points lt)
-plus_taken ns s Line lt = ap (λ (l : List (List ℕ)). record { points = take s.points ns.points; lines = l; circles = take s.circles ns.circles }) (take_one ns.lines s.lines lt)
-plus_taken ns s Circle lt = ap (λ (l : List (List ℕ)). record { points = take s.points ns.points; lines = take s.lines ns.lines; circles = l }) (take_one ns.circles s.circles lt)
+plus_first : (ns : Names) (s : Scope) (sort : Sort) → count_of s sort < count_of (scope_of_names ns) sort → plus (first_names s ns) sort (name_at (names_of_sort ns sort) (count_of s sort)) ≡ first_names (with_one s sort) ns
+plus_first ns s Point lt = ap (λ (l : List (List ℕ)). record { points = l; lines = take s.lines ns.lines; circles = take s.circles ns.circles }) (take_one ns.points s.points lt)
+plus_first ns s Line lt = ap (λ (l : List (List ℕ)). record { points = take s.points ns.points; lines = l; circles = take s.circles ns.circles }) (take_one ns.lines s.lines lt)
+plus_first ns s Circle lt = ap (λ (l : List (List ℕ)). record { points = take s.points ns.points; lines = take s.lines ns.lines; circles = l }) (take_one ns.circles s.circles lt)
 
-free_next : (ns : Names) (s : Scope) (sort : Sort) → InOrder ns → count_of s sort < count_of (scope_of_names ns) sort → Free (taken s ns) (name_at (names_of_sort ns sort) (count_of s sort))
+free_next : (ns : Names) (s : Scope) (sort : Sort) → InOrder ns → count_of s sort < count_of (scope_of_names ns) sort → Free (first_names s ns) (name_at (names_of_sort ns sort) (count_of s sort))
 free_next ns s Point o lt =
     let name = name_at ns.points s.points in
     (not_before ns.points s.points o.points lt, has_not_in_front ns.lines s.lines name (apart_at ns.lines ns.points s.points o.no_line_point lt), has_not_in_front ns.circles s.circles name (apart_at ns.circles ns.points s.points o.no_circle_point lt))
@@ -221,67 +218,40 @@ pub record Few (ns : Names) : Type 0 where
   pub lines : length ns.lines ≤ most_of Line
   pub circles : length ns.circles ≤ most_of Circle
 
-room_next : (ns : Names) (s : Scope) (sort : Sort) → Few ns → count_of s sort < count_of (scope_of_names ns) sort → length (names_of_sort (taken s ns) sort) + 1 ≤ most_of sort
+room_next : (ns : Names) (s : Scope) (sort : Sort) → Few ns → count_of s sort < count_of (scope_of_names ns) sort → length (names_of_sort (first_names s ns) sort) + 1 ≤ most_of sort
 room_next ns s Point f lt = omega (arith, lt, f.points, length-take-le s.points ns.points (omega (arith, lt)))
 room_next ns s Line f lt = omega (arith, lt, f.lines, length-take-le s.lines ns.lines (omega (arith, lt)))
 room_next ns s Circle f lt = omega (arith, lt, f.circles, length-take-le s.circles ns.circles (omega (arith, lt)))
 
-next : (ns : Names) (s : Scope) (sort : Sort) → InOrder ns → Few ns → count_of s sort < count_of (scope_of_names ns) sort → Next (taken s ns) sort (name_at (names_of_sort ns sort) (count_of s sort))
+next : (ns : Names) (s : Scope) (sort : Sort) → InOrder ns → Few ns → count_of s sort < count_of (scope_of_names ns) sort → Next (first_names s ns) sort (name_at (names_of_sort ns sort) (count_of s sort))
 next ns s sort o f lt = record { named = named_at ns sort (count_of s sort) o (lt-ltb _ _ lt); free = free_next ns s sort o lt; few = room_next ns s sort f lt }
-
-one_grows : (s : Scope) (x sort : Sort) → count_of s sort ≤ count_of (with_one s x) sort
-one_grows s Point Point = omega arith
-one_grows s Point Line = omega arith
-one_grows s Point Circle = omega arith
-one_grows s Line Point = omega arith
-one_grows s Line Line = omega arith
-one_grows s Line Circle = omega arith
-one_grows s Circle Point = omega arith
-one_grows s Circle Line = omega arith
-one_grows s Circle Circle = omega arith
-
-grown_grows : (s : Scope) (more : List Sort) (sort : Sort) → count_of s sort ≤ count_of (grown s more) sort
-grown_grows s [] sort = omega arith
-grown_grows s (x ∷ more) sort = omega (arith, one_grows s x sort, grown_grows (with_one s x) more sort)
 
 one_counts : (s : Scope) (sort : Sort) → count_of (with_one s sort) sort ≡ count_of s sort + 1
 one_counts s Point = refl
 one_counts s Line = refl
 one_counts s Circle = refl
 
--- the lines of the objects from some scope on
-run_from : (known : List Headed) (t : List ℕ) (ns : Names) (s : Scope) (before more : List Sort) → InOrder ns → Few ns → grown s more ≡ scope_of_names ns
-    → Runs known (Some (declaring t (taken s ns) before)) (declare_forms ns (next_objects s more)) (Some (declaring t (taken (scope_of_names ns) ns) (before ++ more)))
-run_from known t ns s before [] o f e =
-    ap (λ (l : List Sort). Some (declaring t (taken s ns) l)) (sym (append-nil before)) ∙ ap (λ (x : Scope). Some (declaring t (taken x ns) (before ++ []))) e
-run_from known t ns s before (sort ∷ more) o f e =
-    let grows = grown_grows (with_one s sort) more sort in
-    let final : count_of (grown (with_one s sort) more) sort ≡ count_of (scope_of_names ns) sort = ap (λ (x : Scope). count_of x sort) e in
-    let lt : count_of s sort < count_of (scope_of_names ns) sort = omega (arith, grows, final, one_counts s sort) in
+-- the lines of the objects from some scope on, behind which more objects come
+pub run_from : (known : List Headed) (say : Sort → List (List ℕ) → Form) (at : Names → List Sort → Draft) (l : LinesOfNames say at) (ns : Names) (s : Scope) (before more after : List Sort) → InOrder ns → Few ns
+    → grown (grown s more) after ≡ scope_of_names ns → Runs known (Some (at (first_names s ns) before)) (map (says say) (grouped ns (next_objects s more))) (Some (at (first_names (grown s more) ns) (before ++ more)))
+run_from known say at l ns s before [] after o f e = ap (λ (x : List Sort). Some (at (first_names s ns) x)) (sym (append-nil before))
+run_from known say at l ns s before (sort ∷ more) after o f e =
+    let first_grows = grows (with_one s sort) more sort in
+    let more_grows = grows (grown (with_one s sort) more) after sort in
+    let final : count_of (grown (grown (with_one s sort) more) after) sort ≡ count_of (scope_of_names ns) sort = ap (λ (x : Scope). count_of x sort) e in
+    let lt : count_of s sort < count_of (scope_of_names ns) sort = omega (arith, first_grows, more_grows, final, one_counts s sort) in
     let name : List ℕ = name_at (names_of_sort ns sort) (count_of s sort) in
-    let fs : List Form = declare_forms ns (next_objects (with_one s sort) more) in
-    let u : Option Draft = Some (declaring t (taken (scope_of_names ns) ns) (before ++ sort ∷ more)) in
-    let rest = run_from known t ns (with_one s sort) (before ++ sort ∷ []) more o f e in
-    let last : Runs known (Some (declaring t (taken (with_one s sort) ns) (before ++ sort ∷ []))) fs u =
-    subst (λ (l : List Sort). Runs known (Some (declaring t (taken (with_one s sort) ns) (before ++ sort ∷ []))) fs (Some (declaring t (taken (scope_of_names ns) ns) l))) (append_assoc before (sort ∷ []) more) rest in
-    let first : Runs known (Some (declaring t (plus (taken s ns) sort name) (before ++ sort ∷ []))) fs u =
-    subst (λ (x : Names). Runs known (Some (declaring t x (before ++ sort ∷ []))) fs u) (sym (plus_taken ns s sort lt)) last in
-    run_before known t (taken s ns) before sort name fs u (next ns s sort o f lt) first
+    let gs : List Group = grouped ns (next_objects (with_one s sort) more) in
+    let u : Option Draft = Some (at (first_names (grown (with_one s sort) more) ns) (before ++ sort ∷ more)) in
+    let rest = run_from known say at l ns (with_one s sort) (before ++ sort ∷ []) more after o f e in
+    let last : Runs known (Some (at (first_names (with_one s sort) ns) (before ++ sort ∷ []))) (map (says say) gs) u =
+    subst (λ (x : List Sort). Runs known (Some (at (first_names (with_one s sort) ns) (before ++ sort ∷ []))) (map (says say) gs) (Some (at (first_names (grown (with_one s sort) more) ns) x))) (append_assoc before (sort ∷ []) more) rest in
+    let first : Runs known (Some (at (plus (first_names s ns) sort name) (before ++ sort ∷ []))) (map (says say) gs) u =
+    subst (λ (x : Names). Runs known (Some (at x (before ++ sort ∷ []))) (map (says say) gs) u) (sym (plus_first ns s sort lt)) last in
+    run_before known say at l (first_names s ns) before sort name gs u (next ns s sort o f lt) first
 
-all_taken : (ns : Names) → taken (scope_of_names ns) ns ≡ ns
-all_taken ns =
+pub all_first : (ns : Names) → first_names (scope_of_names ns) ns ≡ ns
+all_first ns =
     ap (λ (l : List (List ℕ)). record { points = l; lines = take (length ns.lines) ns.lines; circles = take (length ns.circles) ns.circles }) (take_all (length ns.points) ns.points (omega arith))
     ∙ ap (λ (l : List (List ℕ)). record { points = ns.points; lines = l; circles = take (length ns.circles) ns.circles }) (take_all (length ns.lines) ns.lines (omega arith))
     ∙ ap (λ (l : List (List ℕ)). record { points = ns.points; lines = ns.lines; circles = l }) (take_all (length ns.circles) ns.circles (omega arith))
-
-abbrev none : Names
-none = record { points = []; lines = []; circles = [] }
-
-none_taken : (ns : Names) → taken nothing ns ≡ none
-none_taken ns = refl
-
--- the lines of all declared objects
-pub run_declared : (known : List Headed) (t : List ℕ) (ns : Names) (sorts : List Sort) → InOrder ns → Few ns → grown nothing sorts ≡ scope_of_names ns
-    → Runs known (Some (declaring t none [])) (declare_forms ns (next_objects nothing sorts)) (Some (declaring t ns sorts))
-run_declared known t ns sorts o f e =
-    subst (λ (x : Names). Runs known (Some (declaring t none [])) (declare_forms ns (next_objects nothing sorts)) (Some (declaring t x sorts))) (all_taken ns) (run_from known t ns nothing [] sorts o f e)

@@ -33,6 +33,18 @@ turn_by true a b e h =
 turned : (a b : List ℕ) → bytes_eq a b ≡ false → bytes_eq b a ≡ false
 turned a b h = turn_by (bytes_eq b a) a b refl h
 
+-- ---- names are told from other words
+
+differs_by : (t : Bool) (w c : List ℕ) → bytes_eq w c ≡ t → is_name w ≡ true → is_name c ≡ false → t ≡ false
+differs_by false w c e h n = refl
+differs_by true w c e h n =
+    let s : w ≡ c = (bytes_eq-Decides w c).0 e in
+    sym h ∙ ap is_name s ∙ n
+
+-- a name is no other word
+pub name_differs : (w c : List ℕ) → is_name w ≡ true → is_name c ≡ false → bytes_eq w c ≡ false
+name_differs w c h n = differs_by (bytes_eq w c) w c refl h n
+
 -- ---- which names others do not have
 
 -- none of the names is among the others

@@ -37,7 +37,7 @@ is_not : (a : Bool) → not a ≡ true → a ≡ false
 is_not true e = absurd cc
 is_not false e = refl
 
-distinct_last : (xs : List (List ℕ)) (n : List ℕ) → are_distinct xs ≡ true → has xs n ≡ false → are_distinct (xs ++ n ∷ []) ≡ true
+pub distinct_last : (xs : List (List ℕ)) (n : List ℕ) → are_distinct xs ≡ true → has xs n ≡ false → are_distinct (xs ++ n ∷ []) ≡ true
 distinct_last [] n d h = refl
 distinct_last (x ∷ xs) n d h =
     let p = both (not (has xs x)) (are_distinct xs) d in
@@ -67,20 +67,20 @@ apart_behind xs zs (y ∷ ys) h k =
 apart_more : (xs ys zs : List (List ℕ)) → are_apart xs ys ≡ true → are_apart xs zs ≡ true → are_apart xs (ys ++ zs) ≡ true
 apart_more xs ys zs h k = list_all-append (λ n. not (has xs n)) ys zs ∙ rw (h, k) refl
 
-record Untaken (ns : Names) (seen : List (List ℕ)) (n : List ℕ) : Type 0 where
-  points : has ns.points n ≡ false
-  lines : has ns.lines n ≡ false
-  circles : has ns.circles n ≡ false
-  among : has seen n ≡ false
+pub record Untaken (ns : Names) (seen : List (List ℕ)) (n : List ℕ) : Type 0 where
+  pub points : has ns.points n ≡ false
+  pub lines : has ns.lines n ≡ false
+  pub circles : has ns.circles n ≡ false
+  pub among : has seen n ≡ false
 
-untaken : (ns : Names) (seen : List (List ℕ)) (n : List ℕ) → is_taken ns seen n ≡ false → Untaken ns seen n
+pub untaken : (ns : Names) (seen : List (List ℕ)) (n : List ℕ) → is_taken ns seen n ≡ false → Untaken ns seen n
 untaken ns seen n e =
     let p = neither (has ns.points n) (has ns.lines n || (has ns.circles n || has seen n)) e in
     let q = neither (has ns.lines n) (has ns.circles n || has seen n) p.1 in
     let r = neither (has ns.circles n) (has seen n) q.1 in
     record { points = p.0; lines = q.0; circles = r.0; among = r.1 }
 
-passed : (b : Bool) (x : Result (Unit {0}) Kind) (u : Unit {0}) → cond b (Err NameTaken) x ≡ Ok u → (b ≡ false) × (x ≡ Ok u)
+pub passed : (b : Bool) (x : Result (Unit {0}) Kind) (u : Unit {0}) → cond b (Err NameTaken) x ≡ Ok u → (b ≡ false) × (x ≡ Ok u)
 passed true x u e = absurd cc
 passed false x u e = (refl, e)
 

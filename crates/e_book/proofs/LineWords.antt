@@ -1,7 +1,7 @@
 -- The tokens of a canonical line are the words of its form.
-use Rattle.std.proofs.Common.{◌≡◌, ℕ, Bool, true, false, List, [], ◌∷◌, ◌++◌, refl, ap, ◌∙◌}
+use Rattle.std.proofs.Common.{◌≡◌, ℕ, Bool, true, false, List, [], ◌∷◌, ◌++◌, refl}
 use Rattle.std.specs.Prelude.{codes}
-use Rattle.e_text.specs.Tokens.{tokens_of, AreTokens, spaced as text_spaced, joined as text_joined}
+use Rattle.e_text.specs.Tokens.{tokens_of, AreTokens}
 use Rattle.e_text.proofs.TokenWords.{tokens_of-joined, is_token-name, is_token-title}
 use Rattle.e_literal.specs.declared.object.Sort.TheVariants as sorts
 use Rattle.e_book.specs.declared.literal.RawLit.{RawLit}
@@ -9,19 +9,10 @@ use Rattle.e_book.specs.declared.literal.RawAtom.{RawAtom}
 use Rattle.e_book.specs.declared.literal.RawAtom.TheVariants as raw
 use Rattle.e_book.specs.declared.form.Form.{Form}
 use Rattle.e_book.specs.declared.form.Form.TheVariants as forms
-use Rattle.e_book.specs.Canonical.{spaced, joined, atom_words, signed_words, lit_words, form_words, line_of}
+use Rattle.e_book.specs.Canonical.{atom_words, signed_words, lit_words, form_words, line_of}
 use Rattle.e_book.specs.Book.{is_skipped}
-use Rattle.e_book.specs.HasSpelling.{AreNames}
+use Rattle.e_book.proofs.LetsAgain.{names_tokens, append_tokens, let_tokens}
 use Rattle.e_book.proofs.Respelled.{AtomNamed, GoodForm}
-
--- the words of a line are put together as those of any text
-same_spaced : (ws : List (List ℕ)) → spaced ws ≡ text_spaced ws
-same_spaced [] = refl
-same_spaced (w ∷ ws) = ap (λ (l : List ℕ). 32 ∷ (w ++ l)) (same_spaced ws)
-
-same_joined : (ws : List (List ℕ)) → joined ws ≡ text_joined ws
-same_joined [] = refl
-same_joined (w ∷ ws) = ap (λ (l : List ℕ). w ++ l) (same_spaced ws)
 
 -- ---- the words of forms are tokens
 
@@ -47,14 +38,6 @@ signed_tokens true (raw.Equal x y) h = (is_token-name x h.0, (refl, (is_token-na
 lit_tokens : (l : RawLit) → AtomNamed l.atom → AreTokens (lit_words l)
 lit_tokens l h = signed_tokens l.neg l.atom h
 
-names_tokens : (ns : List (List ℕ)) → AreNames ns → AreTokens ns
-names_tokens [] h = tt
-names_tokens (n ∷ ns) h = (is_token-name n h.0, names_tokens ns h.1)
-
-append_tokens : (xs ys : List (List ℕ)) → AreTokens xs → AreTokens ys → AreTokens (xs ++ ys)
-append_tokens [] ys h k = k
-append_tokens (x ∷ xs) ys h k = (h.0, append_tokens xs ys h.1 k)
-
 form_tokens : (f : Form) → GoodForm f → AreTokens (form_words f)
 form_tokens (forms.Theorem t) h = (refl, (is_token-title t h, tt))
 form_tokens (forms.Declare sort []) h = absurd h
@@ -64,17 +47,22 @@ form_tokens (forms.Declare sorts.Circle (n ∷ ns)) h = (refl, names_tokens (n �
 form_tokens (forms.Given []) h = absurd h
 form_tokens (forms.Given (l ∷ [])) h = (refl, append_tokens (lit_words l) [] (lit_tokens l h) tt)
 form_tokens (forms.Given (l ∷ m ∷ ls)) h = absurd h
+form_tokens (forms.Made sort []) h = absurd h
+form_tokens (forms.Made sorts.Point (n ∷ ns)) h = (refl, (refl, names_tokens (n ∷ ns) h))
+form_tokens (forms.Made sorts.Line (n ∷ ns)) h = (refl, (refl, names_tokens (n ∷ ns) h))
+form_tokens (forms.Made sorts.Circle (n ∷ ns)) h = (refl, (refl, names_tokens (n ∷ ns) h))
 form_tokens (forms.Show []) h = absurd h
 form_tokens (forms.Show (l ∷ [])) h = (refl, append_tokens (lit_words l) [] (lit_tokens l h) tt)
 form_tokens (forms.Show (l ∷ m ∷ ls)) h = absurd h
 form_tokens forms.Proof h = (refl, tt)
 form_tokens (forms.By r ns l) h = (refl, (is_token-title r h.0, append_tokens ns (codes ":" ∷ lit_words l) (names_tokens ns h.1) (refl, lit_tokens l h.2)))
 form_tokens (forms.Hence l) h = (refl, lit_tokens l h)
-form_tokens forms.Qed h = (refl, tt)
+form_tokens (forms.Let l) h = (refl, let_tokens l h)
+form_tokens (forms.Qed ns) h = (refl, names_tokens ns h)
 form_tokens forms.End h = (refl, tt)
 
 pub words_again : (f : Form) → GoodForm f → tokens_of (line_of f) ≡ form_words f
-words_again f h = ap tokens_of (same_joined (form_words f)) ∙ tokens_of-joined (form_words f) (form_tokens f h)
+words_again f h = tokens_of-joined (form_words f) (form_tokens f h)
 
 pub not_skipped : (f : Form) → is_skipped (form_words f) ≡ false
 not_skipped (forms.Theorem t) = refl
@@ -82,9 +70,11 @@ not_skipped (forms.Declare sorts.Point ns) = refl
 not_skipped (forms.Declare sorts.Line ns) = refl
 not_skipped (forms.Declare sorts.Circle ns) = refl
 not_skipped (forms.Given ls) = refl
+not_skipped (forms.Made sort ns) = refl
 not_skipped (forms.Show ls) = refl
 not_skipped forms.Proof = refl
 not_skipped (forms.By r ns l) = refl
 not_skipped (forms.Hence l) = refl
-not_skipped forms.Qed = refl
+not_skipped (forms.Let l) = refl
+not_skipped (forms.Qed ns) = refl
 not_skipped forms.End = refl

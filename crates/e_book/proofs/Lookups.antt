@@ -14,9 +14,10 @@ use Rattle.e_literal.specs.Scopes.{same_sort}
 use Rattle.e_deriv.specs.declared.names.Names.{Names}
 use Rattle.e_book.specs.declared.fault.Kind.{Kind}
 use Rattle.e_book.specs.Reading.{◌>>=◌}
-use Rattle.e_book.specs.Scope.{names_of_sort, used, number_at, number_of, atom_in, lit_in, object_as, objects_as}
+use Rattle.e_deriv.specs.Naming.{names_of_sort}
+use Rattle.e_book.specs.Scope.{scope_of_names, used, number_at, number_of, atom_in, lit_in, object_as, objects_as}
 use Rattle.e_book.specs.Canonical.{name_at, name_of_object, raw_atom, raw_of}
-use Rattle.e_book.specs.Fits.{scope_of_names, are_distinct, NamesDiffer}
+use Rattle.e_book.specs.Fits.{are_distinct, NamesDiffer}
 use Rattle.e_book.specs.HasSpelling.{AreNames, is_diagram_atom, is_diagram_lit}
 use Rattle.e_book.proofs.Differ.{both, Apart, Apart-sym, apart, apart_at, there, not_there, name_there}
 use Rattle.e_book.proofs.Respelled.{AtomNamed}
@@ -36,25 +37,26 @@ pub record InOrder (ns : Names) : Type 0 where
   pub no_circle_point : Apart ns.circles ns.points
   pub no_circle_line : Apart ns.circles ns.lines
 
+pub ordered : (ns : Names) → AreNames ns.points → AreNames ns.lines → AreNames ns.circles → are_distinct ns.points ≡ true → are_distinct ns.lines ≡ true → are_distinct ns.circles ≡ true
+    → Apart ns.points ns.lines → Apart ns.points ns.circles → Apart ns.lines ns.circles → InOrder ns
+ordered ns hp hl hc dp dl dc pl pc lc = record {
+  point_names = hp;
+  line_names = hl;
+  circle_names = hc;
+  points = dp;
+  lines = dl;
+  circles = dc;
+  no_point_line = pl;
+  no_point_circle = pc;
+  no_line_circle = lc;
+  no_line_point = Apart-sym ns.points ns.lines pl;
+  no_circle_point = Apart-sym ns.points ns.circles pc;
+  no_circle_line = Apart-sym ns.lines ns.circles lc;
+}
+
 pub in_order : (ns : Names) → AreNames ns.points → AreNames ns.lines → AreNames ns.circles → NamesDiffer ns → InOrder ns
 in_order ns hp hl hc d =
-    let pl = apart ns.points ns.lines d.points_lines in
-    let pc = apart ns.points ns.circles d.points_circles in
-    let lc = apart ns.lines ns.circles d.lines_circles in
-    record {
-      point_names = hp;
-      line_names = hl;
-      circle_names = hc;
-      points = d.points;
-      lines = d.lines;
-      circles = d.circles;
-      no_point_line = pl;
-      no_point_circle = pc;
-      no_line_circle = lc;
-      no_line_point = Apart-sym ns.points ns.lines pl;
-      no_circle_point = Apart-sym ns.points ns.circles pc;
-      no_circle_line = Apart-sym ns.lines ns.circles lc;
-    }
+    ordered ns hp hl hc d.points d.lines d.circles (apart ns.points ns.lines d.points_lines) (apart ns.points ns.circles d.points_circles) (apart ns.lines ns.circles d.lines_circles)
 
 abbrev pub Within : Names → Sort → ℕ → Type 0
 Within ns sort n = ltb n (count_of (scope_of_names ns) sort) ≡ true
@@ -142,7 +144,10 @@ lit_named ns l s h d = atom_named ns l.atom s h d
 
 -- ---- objects
 
-object_again : (ns : Names) (o : Obj) → InOrder ns → is_in_scope (scope_of_names ns) o ≡ true → object_as ns o.sort (name_of_object ns o) ≡ Ok o
+pub object_used : (ns : Names) (o : Obj) → InOrder ns → is_in_scope (scope_of_names ns) o ≡ true → used ns (name_of_object ns o) ≡ Ok o
+object_used ns o s h = used_again ns o.sort o.num s h
+
+pub object_again : (ns : Names) (o : Obj) → InOrder ns → is_in_scope (scope_of_names ns) o ≡ true → object_as ns o.sort (name_of_object ns o) ≡ Ok o
 unfolding object_as
 object_again ns o s h = rw (number_again ns o.sort o.num s h) refl
 

@@ -6,14 +6,19 @@ use Rattle.std.proofs.lemmas.Bool.{cases_lt, lt-ltb}
 use Rattle.std.proofs.lemmas.List.Folds.{list_all-append}
 use Rattle.e_text.specs.Tokens.{tokens_of}
 use Rattle.e_text.specs.Lines.{Seen}
-use Rattle.e_text.specs.Names.{is_title}
+use Rattle.e_text.specs.Names.{is_name, is_title}
 use Rattle.e_text.specs.declared.line.LineFault.{LineFault}
 use Rattle.e_literal.specs.declared.object.Sort.{Sort}
 use Rattle.e_literal.specs.declared.object.Sort.TheVariants.{Point, Line, Circle}
+use Rattle.e_literal.specs.declared.object.Obj.{Obj}
 use Rattle.e_literal.specs.declared.literal.Lit.{Lit}
+use Rattle.e_construct.specs.declared.construction.Construction.{Construction}
+use Rattle.e_construct.specs.Construct.{made, gives}
+use Rattle.e_theorem.specs.Statements.{stated}
 use Rattle.e_deriv.specs.declared.names.Names.{Names}
 use Rattle.e_deriv.specs.declared.block.Step.{Step}
 use Rattle.e_deriv.specs.declared.block.Step.TheVariants as steps
+use Rattle.e_deriv.specs.Naming.{names_of_sort, with_names, named, declared_names}
 use Rattle.e_deriv.specs.Script.{Qed, steps_script}
 use Rattle.e_book.specs.declared.fault.Kind.{Kind}
 use Rattle.e_book.specs.declared.fault.Kind.TheVariants.{Malformed, NameTaken, Limit}
@@ -21,18 +26,19 @@ use Rattle.e_book.specs.declared.fault.BookFault.{BookFault}
 use Rattle.e_book.specs.declared.fault.What.{What}
 use Rattle.e_book.specs.declared.fault.What.TheVariants as limits
 use Rattle.e_book.specs.declared.literal.RawLit.{RawLit}
+use Rattle.e_book.specs.declared.lets.RawLet.{RawLet}
 use Rattle.e_book.specs.declared.form.Form.{Form}
 use Rattle.e_book.specs.declared.form.Form.TheVariants as forms
 use Rattle.e_book.specs.declared.draft.Place.{Place}
-use Rattle.e_book.specs.declared.draft.Place.TheVariants.{Declaring, Giving, Showing, Proving, Closed, Done}
+use Rattle.e_book.specs.declared.draft.Place.TheVariants.{Declaring, Giving, Making, Showing, Proving, Closed, Done}
 use Rattle.e_book.specs.declared.draft.Draft.{Draft}
 use Rattle.e_book.specs.Reading.{◌>>=◌, with_front}
 use Rattle.e_book.specs.Limits.{most_theorems, most_of, most_steps, most_facts, what_of, within}
 use Rattle.e_book.specs.Headed.{Headed, is_known}
-use Rattle.e_book.specs.Scope.{names_of_sort, with_names, fresh, lit_in, lits_in, by_in}
+use Rattle.e_book.specs.Scope.{scope_of_names, fresh, lit_in, lits_in, by_in, let_in, qed_in}
 use Rattle.e_book.specs.Forms.{form_of}
-use Rattle.e_book.specs.Steps.{allowed, declared, fact_count, with_step, stepped, step, begin, begun}
-use Rattle.e_book.specs.Entry.{Entry, entry_of_draft}
+use Rattle.e_book.specs.Steps.{allowed, declared, few_objects, with_step, built, shut, stepped, step, begin, begun}
+use Rattle.e_book.specs.Entry.{Entry, statement_of_draft, entry_of_draft}
 use Rattle.e_book.specs.Book.{is_skipped, line_step, put_at, is_last, is_done, read_from}
 use Rattle.e_book.specs.HasSpelling.{HasSpelling, AreNames, is_diagram_lit, is_plain}
 use Rattle.e_book.proofs.InScope.{bind_ok, ok_is, read_ok, each_all, each_length}
@@ -62,11 +68,14 @@ abbrev is_plain_step : Step → Bool
 is_plain_step (steps.Cite by) = is_diagram_lit by.lit
 is_plain_step (steps.Hence lit None) = is_diagram_lit lit
 is_plain_step (steps.Hence lit (Some cert)) = false
+is_plain_step (steps.Make form names []) = list_all is_name names
+is_plain_step (steps.Make form names (c ∷ cs)) = false
 
 -- from the first show line on there is a shown literal
 abbrev SomeShown : Place → List Lit → Type 0
 SomeShown Declaring shown = Unit {0}
 SomeShown Giving shown = Unit {0}
+SomeShown Making shown = Unit {0}
 SomeShown Showing shown = 0 < length shown
 SomeShown Proving shown = 0 < length shown
 SomeShown Closed shown = 0 < length shown
@@ -84,17 +93,21 @@ record Spelled (known : List Headed) (d : Draft) : Type 0 where
 appended : {X : Type 0} (p : X → Bool) (xs ys : List X) → list_all p xs ≡ true → list_all p ys ≡ true → list_all p (xs ++ ys) ≡ true
 appended p xs ys hx hy = list_all-append p xs ys ∙ rw (hx, hy) refl
 
+declared_is : (ns : Names) (sort : Sort) (new : List (List ℕ)) (names : Names) → declared ns sort new ≡ Ok names → with_names ns sort (names_of_sort ns sort ++ new) ≡ names
+unfolding declared
+declared_is ns sort new names e =
+    let now : Names = with_names ns sort (names_of_sort ns sort ++ new) in
+    let f = bind_ok (fresh ns [] new) (λ free. within (length (names_of_sort ns sort) + length new) (most_of sort) (what_of sort) >>= λ few. read_ok now) names e in
+    let w = bind_ok (within (length (names_of_sort ns sort) + length new) (most_of sort) (what_of sort)) (λ few. read_ok now) names f.2 in
+    ok_is now names w.2
+
 spelled_declare : (known : List Headed) (d e : Draft) (sort : Sort) (ns : List (List ℕ)) → Spelled known d → AreNames ns → stepped d (forms.Declare sort ns) ≡ Ok e → Spelled known e
-unfolding stepped declared
+unfolding stepped
 spelled_declare known d e sort ns g said h =
-    let now : Names = with_names d.names sort (names_of_sort d.names sort ++ ns) in
-    let x : Draft = record d { names = now; declared = d.declared ++ replicate (length ns) sort } in
-    let n = bind_ok (fresh d.names [] ns >>= λ free. within (length (names_of_sort d.names sort) + length ns) (most_of sort) (what_of sort) >>= λ few. read_ok now)
-    (λ names. read_ok (record d { names = names; declared = d.declared ++ replicate (length ns) sort })) e h in
-    let f = bind_ok (fresh d.names [] ns) (λ free. within (length (names_of_sort d.names sort) + length ns) (most_of sort) (what_of sort) >>= λ few. read_ok now) n.0 n.1 in
-    let w = bind_ok (within (length (names_of_sort d.names sort) + length ns) (most_of sort) (what_of sort)) (λ few. read_ok now) n.0 f.2 in
-    let x-is : x ≡ e = ap (λ (m : Names). record d { names = m; declared = d.declared ++ replicate (length ns) sort }) (ok_is now n.0 w.2) ∙ ok_is (record d { names = n.0; declared = d.declared ++ replicate (length ns) sort }) e n.2 in
-    subst (λ (y : Draft). Spelled known y) x-is
+    let then : Names → Draft = λ names. record d { names = names; declared = d.declared ++ replicate (length ns) sort } in
+    let n = bind_ok (declared d.names sort ns) (λ names. read_ok (then names)) e h in
+    let now = declared_is d.names sort ns n.0 n.1 in
+    subst (λ (y : Draft). Spelled known y) (ap then now ∙ ok_is (then n.0) e n.2)
     (record { few = g.few; title = g.title; naming = naming_more d.names sort ns g.naming said; given = g.given; shown = g.shown; some = g.some; plain = g.plain })
 
 lits_plain : (ns : Names) (raws : List RawLit) (ls : List Lit) → lits_in ns raws ≡ Ok ls → list_all is_diagram_lit ls ≡ true
@@ -103,12 +116,22 @@ lits_plain ns raws ls e = each_all (lit_in ns) is_diagram_lit (lit_plain ns) raw
 spelled_given : (known : List Headed) (d e : Draft) (raws : List RawLit) → Spelled known d → stepped d (forms.Given raws) ≡ Ok e → Spelled known e
 unfolding stepped
 spelled_given known d e raws g h =
-    let all = bind_ok (with_front d.given (lits_in d.names raws)) (λ ls. within (fact_count d + length raws) most_facts limits.Facts >>= λ few. read_ok (record d { given = ls; place = Giving })) e h in
+    let then : List Lit → Draft = λ ls. record d { given = ls; facts = d.facts + length raws; place = Giving } in
+    let all = bind_ok (with_front d.given (lits_in d.names raws)) (λ ls. within (d.facts + length raws) most_facts limits.Facts >>= λ few. read_ok (then ls)) e h in
     let ls = bind_ok (lits_in d.names raws) (λ xs. read_ok (d.given ++ xs)) all.0 all.1 in
-    let w = bind_ok (within (fact_count d + length raws) most_facts limits.Facts) (λ few. read_ok (record d { given = all.0; place = Giving })) e all.2 in
-    let x-is : record d { given = d.given ++ ls.0; place = Giving } ≡ e = ap (λ (l : List Lit). record d { given = l; place = Giving }) (ok_is (d.given ++ ls.0) all.0 ls.2) ∙ ok_is (record d { given = all.0; place = Giving }) e w.2 in
+    let w = bind_ok (within (d.facts + length raws) most_facts limits.Facts) (λ few. read_ok (then all.0)) e all.2 in
+    let x-is : then (d.given ++ ls.0) ≡ e = ap then (ok_is (d.given ++ ls.0) all.0 ls.2) ∙ ok_is (then all.0) e w.2 in
     subst (λ (y : Draft). Spelled known y) x-is
     (record { few = g.few; title = g.title; naming = g.naming; given = appended is_diagram_lit d.given ls.0 g.given (lits_plain d.names raws ls.0 ls.1); shown = g.shown; some = tt; plain = g.plain })
+
+spelled_made : (known : List Headed) (d e : Draft) (sort : Sort) (ns : List (List ℕ)) → Spelled known d → AreNames ns → stepped d (forms.Made sort ns) ≡ Ok e → Spelled known e
+unfolding stepped
+spelled_made known d e sort ns g said h =
+    let then : Names → Draft = λ names. record d { names = names; made = d.made ++ replicate (length ns) sort; place = Making } in
+    let n = bind_ok (declared d.names sort ns) (λ names. read_ok (then names)) e h in
+    let now = declared_is d.names sort ns n.0 n.1 in
+    subst (λ (y : Draft). Spelled known y) (ap then now ∙ ok_is (then n.0) e n.2)
+    (record { few = g.few; title = g.title; naming = naming_more d.names sort ns g.naming said; given = g.given; shown = g.shown; some = tt; plain = g.plain })
 
 spelled_shown : (known : List Headed) (d e : Draft) (raws : List RawLit) → Spelled known d → 0 < length raws → stepped d (forms.Show raws) ≡ Ok e → Spelled known e
 unfolding stepped
@@ -120,38 +143,55 @@ spelled_shown known d e raws g said h =
     subst (λ (y : Draft). Spelled known y) x-is
     (record { few = g.few; title = g.title; naming = g.naming; given = g.given; shown = appended is_diagram_lit d.shown ls.0 g.shown (lits_plain d.names raws ls.0 ls.1); some = omega (arith, n, said, length-append d.shown ls.0); plain = g.plain })
 
--- at another place, with nothing more
-moved : (known : List Headed) (d : Draft) (p : Place) → Spelled known d → SomeShown p d.shown → Spelled known (record d { place = p })
-moved known d p g some = record { few = g.few; title = g.title; naming = g.naming; given = g.given; shown = g.shown; some = some; plain = g.plain }
+-- at another place, with other names in scope and other objects behind qed
+moved : (known : List Headed) (d : Draft) (p : Place) (in_scope : Names) (objects : List Obj) → Spelled known d → SomeShown p d.shown → Spelled known (record d { in_scope = in_scope; objects = objects; place = p })
+moved known d p in_scope objects g some = record { few = g.few; title = g.title; naming = g.naming; given = g.given; shown = g.shown; some = some; plain = g.plain }
 
-spelled_step : (known : List Headed) (d e : Draft) (s : Step) → Spelled known d → is_plain_step s ≡ true → with_step d s ≡ Ok e → Spelled known e
+spelled_step : (known : List Headed) (d e : Draft) (s : Step) (n : ℕ) → Spelled known d → is_plain_step s ≡ true → with_step d s n ≡ Ok e → Spelled known e
 unfolding with_step
-spelled_step known d e s g p h =
-    let x : Draft = record d { steps = d.steps ++ s ∷ [] } in
-    let a = bind_ok (within (length d.steps + 1) most_steps limits.Steps) (λ few. within (fact_count d + 1) most_facts limits.Facts >>= λ none. read_ok x) e h in
-    let b = bind_ok (within (fact_count d + 1) most_facts limits.Facts) (λ none. read_ok x) e a.2 in
+spelled_step known d e s n g p h =
+    let x : Draft = record d { steps = d.steps ++ s ∷ []; facts = d.facts + n } in
+    let a = bind_ok (within (length d.steps + 1) most_steps limits.Steps) (λ few. within (d.facts + n) most_facts limits.Facts >>= λ none. read_ok x) e h in
+    let b = bind_ok (within (d.facts + n) most_facts limits.Facts) (λ none. read_ok x) e a.2 in
     subst (λ (y : Draft). Spelled known y) (ok_is x e b.2)
     (record { few = g.few; title = g.title; naming = g.naming; given = g.given; shown = g.shown; some = g.some; plain = appended is_plain_step d.steps (s ∷ []) g.plain (rw p refl) })
 
 spelled_by : (known : List Headed) (d e : Draft) (r : List ℕ) (ns : List (List ℕ)) (l : RawLit) → Spelled known d → stepped d (forms.By r ns l) ≡ Ok e → Spelled known e
 unfolding stepped
 spelled_by known d e r ns l g h =
-    let b = bind_ok (by_in d.names r ns l) (λ b. with_step d (steps.Cite b)) e h in
-    spelled_step known d e (steps.Cite b.0) g (by_plain d.names r ns l b.0 b.1) b.2
+    let b = bind_ok (by_in d.in_scope r ns l) (λ b. with_step d (steps.Cite b) 1) e h in
+    spelled_step known d e (steps.Cite b.0) 1 g (by_plain d.in_scope r ns l b.0 b.1) b.2
 
 spelled_hence : (known : List Headed) (d e : Draft) (l : RawLit) → Spelled known d → stepped d (forms.Hence l) ≡ Ok e → Spelled known e
 unfolding stepped
 spelled_hence known d e l g h =
-    let m = bind_ok (lit_in d.names l) (λ m. with_step d (steps.Hence m None)) e h in
-    spelled_step known d e (steps.Hence m.0 None) g (lit_plain d.names l m.0 m.1) m.2
+    let m = bind_ok (lit_in d.in_scope l) (λ m. with_step d (steps.Hence m None) 1) e h in
+    spelled_step known d e (steps.Hence m.0 None) 1 g (lit_plain d.in_scope l m.0 m.1) m.2
+
+names_listed : (ns : List (List ℕ)) → AreNames ns → list_all is_name ns ≡ true
+names_listed [] h = refl
+names_listed (n ∷ ns) h = rw (h.0, names_listed ns h.1) refl
+
+spelled_built : (known : List Headed) (d e : Draft) (l : RawLet) → Spelled known d → AreNames l.new → built d l ≡ Ok e → Spelled known e
+unfolding built
+spelled_built known d e l g said h =
+    let after : Construction → Names = λ form. named d.in_scope (made form) l.new in
+    let then : Construction → Result Draft Kind = λ form. with_step (record d { in_scope = after form }) (steps.Make form l.new []) (length (gives form (scope_of_names d.in_scope))) in
+    let f = bind_ok (let_in d.in_scope l) (λ form. few_objects (after form) >>= λ few. then form) e h in
+    let w = bind_ok (few_objects (after f.0)) (λ few. then f.0) e f.2 in
+    spelled_step known (record d { in_scope = after f.0 }) e (steps.Make f.0 l.new []) (length (gives f.0 (scope_of_names d.in_scope))) (moved known d d.place (after f.0) d.objects g g.some) (names_listed l.new said) w.2
+
+spelled_let : (known : List Headed) (d e : Draft) (l : RawLet) → Spelled known d → AreNames l.new → stepped d (forms.Let l) ≡ Ok e → Spelled known e
+unfolding stepped
+spelled_let known d e l g said h = spelled_built known d e l g said h
 
 at_proof : (p : Place) (shown : List Lit) → allowed p forms.Proof ≡ true → SomeShown p shown → 0 < length shown
 at_proof Showing shown a s = s
 at_proof p shown a s = absurd cc
 
-at_qed : (p : Place) (shown : List Lit) → allowed p forms.Qed ≡ true → SomeShown p shown → 0 < length shown
-at_qed Proving shown a s = s
-at_qed p shown a s = absurd cc
+at_qed : (p : Place) (shown : List Lit) (ns : List (List ℕ)) → allowed p (forms.Qed ns) ≡ true → SomeShown p shown → 0 < length shown
+at_qed Proving shown ns a s = s
+at_qed p shown ns a s = absurd cc
 
 at_close : (p : Place) (shown : List Lit) → allowed p forms.End ≡ true → SomeShown p shown → 0 < length shown
 at_close Closed shown a s = s
@@ -159,17 +199,25 @@ at_close p shown a s = absurd cc
 
 spelled_proof : (known : List Headed) (d e : Draft) → Spelled known d → allowed d.place forms.Proof ≡ true → stepped d forms.Proof ≡ Ok e → Spelled known e
 unfolding stepped
-spelled_proof known d e g a h = subst (λ (y : Draft). Spelled known y) (ok_is (record d { place = Proving }) e h) (moved known d Proving g (at_proof d.place d.shown a g.some))
+spelled_proof known d e g a h =
+    let names = declared_names (stated (statement_of_draft d)) d.names in
+    subst (λ (y : Draft). Spelled known y) (ok_is (record d { in_scope = names; place = Proving }) e h) (moved known d Proving names d.objects g (at_proof d.place d.shown a g.some))
 
-spelled_qed : (known : List Headed) (d e : Draft) → Spelled known d → allowed d.place forms.Qed ≡ true → stepped d forms.Qed ≡ Ok e → Spelled known e
+spelled_shut : (known : List Headed) (d e : Draft) (ns : List (List ℕ)) → Spelled known d → allowed d.place (forms.Qed ns) ≡ true → shut d ns ≡ Ok e → Spelled known e
+unfolding shut
+spelled_shut known d e ns g a h =
+    let then : List Obj → Draft = λ objects. record d { objects = objects; place = Closed } in
+    let o = bind_ok (qed_in d.in_scope d.made ns) (λ objects. within (length d.steps + 1) most_steps limits.Steps >>= λ few. read_ok (then objects)) e h in
+    let w = bind_ok (within (length d.steps + 1) most_steps limits.Steps) (λ few. read_ok (then o.0)) e o.2 in
+    subst (λ (y : Draft). Spelled known y) (ok_is (then o.0) e w.2) (moved known d Closed d.in_scope o.0 g (at_qed d.place d.shown ns a g.some))
+
+spelled_qed : (known : List Headed) (d e : Draft) (ns : List (List ℕ)) → Spelled known d → allowed d.place (forms.Qed ns) ≡ true → stepped d (forms.Qed ns) ≡ Ok e → Spelled known e
 unfolding stepped
-spelled_qed known d e g a h =
-    let w = bind_ok (within (length d.steps + 1) most_steps limits.Steps) (λ few. read_ok (record d { place = Closed })) e h in
-    subst (λ (y : Draft). Spelled known y) (ok_is (record d { place = Closed }) e w.2) (moved known d Closed g (at_qed d.place d.shown a g.some))
+spelled_qed known d e ns g a h = spelled_shut known d e ns g a h
 
 spelled_end : (known : List Headed) (d e : Draft) → Spelled known d → allowed d.place forms.End ≡ true → stepped d forms.End ≡ Ok e → Spelled known e
 unfolding stepped
-spelled_end known d e g a h = subst (λ (y : Draft). Spelled known y) (ok_is (record d { place = Done }) e h) (moved known d Done g (at_close d.place d.shown a g.some))
+spelled_end known d e g a h = subst (λ (y : Draft). Spelled known y) (ok_is (record d { place = Done }) e h) (moved known d Done d.in_scope d.objects g (at_close d.place d.shown a g.some))
 
 no_title : (d e : Draft) (t : List ℕ) → stepped d (forms.Theorem t) ≡ Ok e → ⊥
 unfolding stepped
@@ -179,11 +227,13 @@ spelled_stepped : (known : List Headed) (d e : Draft) (f : Form) → Spelled kno
 spelled_stepped known d e (forms.Theorem t) g s a h = absurd (no_title d e t h)
 spelled_stepped known d e (forms.Declare sort ns) g s a h = spelled_declare known d e sort ns g s h
 spelled_stepped known d e (forms.Given raws) g s a h = spelled_given known d e raws g h
+spelled_stepped known d e (forms.Made sort ns) g s a h = spelled_made known d e sort ns g s h
 spelled_stepped known d e (forms.Show raws) g s a h = spelled_shown known d e raws g s h
 spelled_stepped known d e forms.Proof g s a h = spelled_proof known d e g a h
 spelled_stepped known d e (forms.By r ns l) g s a h = spelled_by known d e r ns l g h
 spelled_stepped known d e (forms.Hence l) g s a h = spelled_hence known d e l g h
-spelled_stepped known d e forms.Qed g s a h = spelled_qed known d e g a h
+spelled_stepped known d e (forms.Let l) g s a h = spelled_let known d e l g s h
+spelled_stepped known d e (forms.Qed ns) g s a h = spelled_qed known d e ns g a h
 spelled_stepped known d e forms.End g s a h = spelled_end known d e g a h
 
 passes : (b : Bool) (x : Result Draft Kind) (y : Draft) → cond b x (Err Malformed) ≡ Ok y → (b ≡ true) × (x ≡ Ok y)
@@ -234,12 +284,14 @@ unfolding line_step
 spelled_line known None words e g h = let f = bind_ok (form_of words) (λ f. begin known f) e h in spelled_begin known f.0 e (form_said words f.0 f.1) f.2
 spelled_line known (Some d) words e g h = let f = bind_ok (form_of words) (λ f. step d f) e h in spelled_next known d e f.0 g (form_said words f.0 f.1) f.2
 
-plain_script : (ss : List Step) → list_all is_plain_step ss ≡ true → is_plain (steps_script ss (Qed [] [])) ≡ true
+plain_script : (ss : List Step) (objects : List Obj) → list_all is_plain_step ss ≡ true → is_plain (steps_script ss (Qed objects [])) ≡ true
 unfolding is_plain
-plain_script [] h = refl
-plain_script (steps.Cite by ∷ ss) h = let p = both (is_diagram_lit by.lit) (list_all is_plain_step ss) h in rw (p.0, plain_script ss p.1) refl
-plain_script (steps.Hence lit None ∷ ss) h = let p = both (is_diagram_lit lit) (list_all is_plain_step ss) h in rw (p.0, plain_script ss p.1) refl
-plain_script (steps.Hence lit (Some cert) ∷ ss) h = absurd cc
+plain_script [] objects h = refl
+plain_script (steps.Cite by ∷ ss) objects h = let p = both (is_diagram_lit by.lit) (list_all is_plain_step ss) h in rw (p.0, plain_script ss objects p.1) refl
+plain_script (steps.Hence lit None ∷ ss) objects h = let p = both (is_diagram_lit lit) (list_all is_plain_step ss) h in rw (p.0, plain_script ss objects p.1) refl
+plain_script (steps.Hence lit (Some cert) ∷ ss) objects h = absurd cc
+plain_script (steps.Make form names [] ∷ ss) objects h = let p = both (list_all is_name names) (list_all is_plain_step ss) h in rw (p.0, plain_script ss objects p.1) refl
+plain_script (steps.Make form names (c ∷ cs) ∷ ss) objects h = absurd cc
 
 -- what is known of a theorem beside that it fits
 record Named (known : List Headed) (t : Entry) : Type 0 where
@@ -255,8 +307,8 @@ at_last : (p : Place) (shown : List Lit) → is_last p ≡ true → SomeShown p 
 at_last Done shown a s = s
 at_last p shown a s = absurd cc
 
-named : (known : List Headed) (d : Draft) → Spelled known d → is_done d ≡ true → Named known (entry_of_draft d)
-named known d g a = record { few = g.few; title = g.title; naming = g.naming; given = g.given; shown = g.shown; some = at_last d.place d.shown a g.some; plain = plain_script d.steps g.plain }
+all_named : (known : List Headed) (d : Draft) → Spelled known d → is_done d ≡ true → Named known (entry_of_draft d)
+all_named known d g a = record { few = g.few; title = g.title; naming = g.naming; given = g.given; shown = g.shown; some = at_last d.place d.shown a g.some; plain = plain_script d.steps d.objects g.plain }
 
 put_ok : (n : ℕ) (r : Result Draft Kind) (d : Draft) → put_at n r ≡ Ok d → r ≡ Ok d
 put_ok n (Ok x) d e = cc
@@ -298,7 +350,7 @@ reading_names known last draft (Ok line ∷ lines) rest t g e =
           let d = bind_ok next then (pair t rest) s.1 in
           let good = spelled_line known draft words d.0 g (put_ok line.number (line_step known draft words) d.0 d.1) in
           elim (skip_or (is_done d.0) (answered (pair (entry_of_draft d.0) lines)) (read_from known last (Some d.0) lines) (answered (pair t rest)) d.2) [
-            | inl q ↦ subst (λ (x : Entry). Named known x) (first_is (entry_of_draft d.0) t lines rest q.1) (named known d.0 good q.0)
+            | inl q ↦ subst (λ (x : Entry). Named known x) (first_is (entry_of_draft d.0) t lines rest q.1) (all_named known d.0 good q.0)
             | inr q ↦ reading_names known last (Some d.0) lines rest t good q.1
           ]
     ]

@@ -1,13 +1,10 @@
 -- The words of a form are read as that form, and a line of them has these words.
-use Rattle.std.proofs.Common.{◌≡◌, ℕ, zero, suc, ◌+◌, ◌<◌, Bool, true, false, cond, ltb, List, [], ◌∷◌, ◌++◌, length, get_or, drop, Some, Result, Ok, Err, refl, sym, ap, ◌∙◌, arith, length-append}
+use Rattle.std.proofs.Common.{◌≡◌, ℕ, Bool, true, false, cond, List, [], ◌∷◌, ◌++◌, Result, Ok, Err, refl, ap, ◌∙◌}
 use Rattle.std.specs.Prelude.{codes}
-use Rattle.std.specs.List.{slice_split, position_or_len}
+use Rattle.std.specs.List.{slice_split}
 use Rattle.std.specs.Str.{bytes_eq}
-use Rattle.std.proofs.lemmas.Bool.{lt-ltb}
-use Rattle.std.proofs.lemmas.List.{take_at, drop_at, drop-drop, append-nil}
-use Rattle.std.proofs.lemmas.List.Sums.{position_or_len_is}
-use Rattle.std.proofs.lemmas.Slice.Eq.{bytes_eq-Decides}
-use Rattle.e_text.specs.Names.{is_name, is_title, name_of, title_of, is_statement_word, is_steps_word, is_relations_word, is_shapes_word, is_others_word}
+use Rattle.std.proofs.lemmas.List.{append-nil}
+use Rattle.e_text.specs.Names.{is_name, is_title, is_statement_word, is_steps_word, is_relations_word, is_shapes_word, is_others_word}
 use Rattle.e_literal.specs.declared.object.Sort.{Sort}
 use Rattle.e_literal.specs.declared.object.Sort.TheVariants as sorts
 use Rattle.e_book.specs.declared.fault.Kind.{Kind}
@@ -17,23 +14,16 @@ use Rattle.e_book.specs.declared.literal.RawAtom.{RawAtom}
 use Rattle.e_book.specs.declared.literal.RawAtom.TheVariants as raw
 use Rattle.e_book.specs.declared.form.Form.{Form}
 use Rattle.e_book.specs.declared.form.Form.TheVariants as forms
-use Rattle.e_book.specs.Reading.{◌>>=◌, each, word_at, name_at, title_at, end_at, cut_at}
+use Rattle.e_book.specs.Reading.{◌>>=◌, each, word_at, name_at, title_at, end_at, cut_at, names_of}
 use Rattle.e_book.specs.Literals.{two_names, three_names, equal_of, related, atom_of, is_differing, without_not, lit_of, is_semicolon, lits_of}
-use Rattle.e_book.specs.Forms.{names_of, some_names, declare_of, by_of, theorem_of, bare, form_named, form_of}
-use Rattle.e_book.specs.Canonical.{atom_words, signed_words, lit_words, form_words}
+use Rattle.e_book.specs.Forms.{declare_of, sort_of, made_of, by_of, theorem_of, bare, form_named, form_of}
+use Rattle.e_book.specs.Canonical.{atom_words, signed_words, lit_words, sort_word, form_words}
 use Rattle.e_book.specs.HasSpelling.{AreNames}
+use Rattle.e_book.proofs.Differ.{name_differs}
+use Rattle.e_book.proofs.NamesAgain.{Without, named, titled, names_again, some_names_again, cut_again}
+use Rattle.e_book.proofs.LetsAgain.{LetNamed, as_read as let_as_read, let_again}
 
 -- ---- names are told from other words
-
-differs_by : (t : Bool) (w c : List ℕ) → bytes_eq w c ≡ t → is_name w ≡ true → is_name c ≡ false → t ≡ false
-differs_by false w c e h n = refl
-differs_by true w c e h n =
-    let s : w ≡ c = (bytes_eq-Decides w c).0 e in
-    sym h ∙ ap is_name s ∙ n
-
--- a name is no other word
-name_differs : (w c : List ℕ) → is_name w ≡ true → is_name c ≡ false → bytes_eq w c ≡ false
-name_differs w c h n = differs_by (bytes_eq w c) w c refl h n
 
 no_not : is_name (codes "not") ≡ false
 unfolding is_statement_word is_steps_word is_relations_word is_shapes_word is_others_word
@@ -81,12 +71,6 @@ AtomNamed (raw.Between x y z) = (is_name x ≡ true) × (is_name y ≡ true) × 
 AtomNamed (raw.Same x y z) = (is_name x ≡ true) × (is_name y ≡ true) × (is_name z ≡ true)
 AtomNamed (raw.Meets x y) = (is_name x ≡ true) × (is_name y ≡ true)
 AtomNamed (raw.Equal x y) = (is_name x ≡ true) × (is_name y ≡ true)
-
-named : (w : List ℕ) → is_name w ≡ true → name_of w ≡ Some w
-named w e = rw e refl
-
-titled : (w : List ℕ) → is_title w ≡ true → title_of w ≡ Some w
-titled w e = rw e refl
 
 two_again : (x y : List ℕ) → is_name x ≡ true → is_name y ≡ true → two_names (x ∷ y ∷ []) ≡ Ok (x, y)
 unfolding two_names word_at name_at end_at
@@ -177,45 +161,36 @@ GoodForm (forms.Declare sort (n ∷ ns)) = AreNames (n ∷ ns)
 GoodForm (forms.Given []) = ⊥
 GoodForm (forms.Given (l ∷ [])) = AtomNamed l.atom
 GoodForm (forms.Given (l ∷ m ∷ ls)) = ⊥
+GoodForm (forms.Made sort []) = ⊥
+GoodForm (forms.Made sort (n ∷ ns)) = AreNames (n ∷ ns)
 GoodForm (forms.Show []) = ⊥
 GoodForm (forms.Show (l ∷ [])) = AtomNamed l.atom
 GoodForm (forms.Show (l ∷ m ∷ ls)) = ⊥
 GoodForm (forms.By r ns l) = (is_title r ≡ true) × AreNames ns × AtomNamed l.atom
 GoodForm (forms.Hence l) = AtomNamed l.atom
+GoodForm (forms.Let l) = LetNamed l
+GoodForm (forms.Qed ns) = AreNames ns
 GoodForm f = Unit {0}
 
-names_again : (ns : List (List ℕ)) → AreNames ns → names_of ns ≡ Ok ns
-names_again [] h = refl
-names_again (n ∷ ns) h = rw (named n h.0, names_again ns h.1) refl
+-- a form as its words are read
+abbrev pub as_read : Form → Form
+as_read (forms.Let l) = forms.Let (let_as_read l)
+as_read f = f
 
 declare_again : (sort : Sort) (n : List ℕ) (ns : List (List ℕ)) → AreNames (n ∷ ns) → declare_of sort (n ∷ ns) ≡ Ok (forms.Declare sort (n ∷ ns))
-unfolding declare_of some_names
-declare_again sort n ns h = rw (names_again (n ∷ ns) h) refl
+unfolding declare_of
+declare_again sort n ns h = rw (some_names_again n ns h) refl
 
-no_colon : (ns : List (List ℕ)) (k : ℕ) → AreNames ns → k < length ns → bytes_eq (get_or ns k []) (codes ":") ≡ false
-no_colon [] k h lt = absurd (omega arith)
-no_colon (n ∷ ns) zero h lt = name_differs n (codes ":") h.0 refl
-no_colon (n ∷ ns) (suc k) h lt = no_colon ns k h.1 (omega arith)
+-- no name is a colon
+no_colon : (ns : List (List ℕ)) → AreNames ns → Without (codes ":") ns
+no_colon [] h = tt
+no_colon (n ∷ ns) h = (name_differs n (codes ":") h.0 refl, no_colon ns h.1)
 
-get_front : (xs ys : List (List ℕ)) (k : ℕ) → k < length xs → get_or (xs ++ ys) k [] ≡ get_or xs k []
-get_front [] ys k lt = absurd (omega arith)
-get_front (x ∷ xs) ys zero lt = refl
-get_front (x ∷ xs) ys (suc k) lt = get_front xs ys k (omega arith)
-
-get_behind : (xs : List (List ℕ)) (y : List ℕ) (ys : List (List ℕ)) → get_or (xs ++ y ∷ ys) (length xs) [] ≡ y
-get_behind [] y ys = refl
-get_behind (x ∷ xs) y ys = get_behind xs y ys
-
-cut_again : (ns ws : List (List ℕ)) → AreNames ns → cut_at (codes ":") (ns ++ codes ":" ∷ ws) ≡ (ns, ws, true)
-cut_again ns ws h =
-    let all = ns ++ codes ":" ∷ ws in
-    let len : length all ≡ length ns + suc (length ws) = length-append ns (codes ":" ∷ ws) in
-    let at : position_or_len (λ w. bytes_eq w (codes ":")) all ≡ length ns = position_or_len_is (λ w. bytes_eq w (codes ":")) all (length ns) [] (omega arith)
-    (λ k lt. ap (λ w. bytes_eq w (codes ":")) (get_front ns (codes ":" ∷ ws) k lt) ∙ no_colon ns k h lt) (λ lt. ap (λ w. bytes_eq w (codes ":")) (get_behind ns (codes ":") ws)) in
-    let test : ltb (length ns) (length all) ≡ true = lt-ltb _ _ (omega arith) in
-    let front = take_at ns (codes ":" ∷ ws) (length ns) refl in
-    let back : drop (length ns + 1) all ≡ ws = sym (drop-drop 1 (length ns) all) ∙ ap (λ (xs : List (List ℕ)). drop 1 xs) (drop_at ns (codes ":" ∷ ws) (length ns) refl) in
-    rw (at, test, front, back) refl
+made_again : (sort : Sort) (n : List ℕ) (ns : List (List ℕ)) → AreNames (n ∷ ns) → made_of (sort_word sort ∷ n ∷ ns) ≡ Ok (forms.Made sort (n ∷ ns))
+unfolding made_of sort_of word_at
+made_again sorts.Point n ns h = rw (some_names_again n ns h) refl
+made_again sorts.Line n ns h = rw (some_names_again n ns h) refl
+made_again sorts.Circle n ns h = rw (some_names_again n ns h) refl
 
 abbrev by_rest : List ℕ → List (List ℕ) × List (List ℕ) × Bool → Result Form Kind
 by_rest r parts = cond parts.2 (names_of parts.0 >>= λ ns. lit_of parts.1 >>= λ l. Ok (forms.By r ns l)) (Err Malformed)
@@ -225,9 +200,9 @@ unfolding by_of title_at word_at
 by_again r ns l hr hns hl =
     let all = ns ++ codes ":" ∷ lit_words l in
     let one : by_of (r ∷ all) ≡ by_rest r (cut_at (codes ":") all) = rw (titled r hr) refl in
-    one ∙ ap (by_rest r) (cut_again ns (lit_words l) hns) ∙ rw (names_again ns hns, lit_again l hl) refl
+    one ∙ ap (by_rest r) (cut_again (codes ":") ns (lit_words l) (no_colon ns hns)) ∙ rw (names_again ns hns, lit_again l hl) refl
 
-pub form_again : (f : Form) → GoodForm f → form_of (form_words f) ≡ Ok f
+pub form_again : (f : Form) → GoodForm f → form_of (form_words f) ≡ Ok (as_read f)
 unfolding form_of form_named theorem_of bare title_at word_at end_at
 form_again (forms.Theorem t) h = rw (titled t h) refl
 form_again (forms.Declare sort []) h = absurd h
@@ -237,11 +212,14 @@ form_again (forms.Declare sorts.Circle (n ∷ ns)) h = declare_again sorts.Circl
 form_again (forms.Given []) h = absurd h
 form_again (forms.Given (l ∷ [])) h = rw (append-nil (lit_words l), lits_again l h) refl
 form_again (forms.Given (l ∷ m ∷ ls)) h = absurd h
+form_again (forms.Made sort []) h = absurd h
+form_again (forms.Made sort (n ∷ ns)) h = rw (made_again sort n ns h) refl
 form_again (forms.Show []) h = absurd h
 form_again (forms.Show (l ∷ [])) h = rw (append-nil (lit_words l), lits_again l h) refl
 form_again (forms.Show (l ∷ m ∷ ls)) h = absurd h
 form_again forms.Proof h = refl
 form_again (forms.By r ns l) h = by_again r ns l h.0 h.1 h.2
 form_again (forms.Hence l) h = rw (lit_again l h) refl
-form_again forms.Qed h = refl
+form_again (forms.Let l) h = rw (let_again l h) refl
+form_again (forms.Qed ns) h = rw (names_again ns h) refl
 form_again forms.End h = refl

@@ -13,17 +13,21 @@ use Rattle.e_literal.specs.declared.literal.Lit.{Lit}
 use Rattle.e_clause.specs.declared.cert.By.{By}
 use Rattle.e_clause.specs.Instance.{place_of}
 use Rattle.e_clause.specs.Sigs.{sig_of}
+use Rattle.e_construct.specs.declared.construction.Shape.{Shape}
+use Rattle.e_construct.specs.Lines.{pieces}
 use Rattle.e_deriv.specs.declared.names.Names.{Names}
 use Rattle.e_book.specs.declared.fault.Kind.{Kind}
 use Rattle.e_book.specs.declared.fault.Kind.TheVariants.{Malformed}
 use Rattle.e_book.specs.declared.literal.RawLit.{RawLit}
 use Rattle.e_book.specs.declared.literal.RawAtom.{RawAtom}
 use Rattle.e_book.specs.declared.literal.RawAtom.TheVariants as raw
+use Rattle.e_book.specs.declared.lets.RawLet.{RawLet}
 use Rattle.e_book.specs.declared.form.Form.{Form}
 use Rattle.e_book.specs.declared.form.Form.TheVariants as forms
-use Rattle.e_book.specs.Reading.{◌>>=◌, or_malformed, word_at, title_at, end_at, cut_at}
+use Rattle.e_book.specs.Reading.{◌>>=◌, or_malformed, word_at, title_at, end_at, cut_at, names_of, not_empty, some_names}
 use Rattle.e_book.specs.Literals.{lit_of, is_semicolon, lits_of}
-use Rattle.e_book.specs.Forms.{names_of, not_empty, some_names, declare_of, by_of, theorem_of, bare, form_named, form_of}
+use Rattle.e_book.specs.Lets.{new_words, argument_words, shapes_of, avoided_of, let_named, let_of}
+use Rattle.e_book.specs.Forms.{declare_of, sort_of, made_of, by_of, theorem_of, bare, form_named, form_of}
 use Rattle.e_book.specs.Scope.{used, number_of, on_sort, line_meets, meets_from, equal_at, atom_in, lit_in, args_in, by_in, known_rule, variables_of, right_count}
 use Rattle.e_book.specs.HasSpelling.{AreNames, is_diagram_atom, is_diagram_lit}
 use Rattle.e_book.proofs.InScope.{bind_ok, ok_is, read_ok, each_length}
@@ -34,6 +38,8 @@ use Rattle.e_book.proofs.InScope.{bind_ok, ok_is, read_ok, each_length}
 abbrev pub Said : Form → Type 0
 Said (forms.Theorem t) = is_title t ≡ true
 Said (forms.Declare sort ns) = AreNames ns
+Said (forms.Made sort ns) = AreNames ns
+Said (forms.Let l) = AreNames l.new
 Said (forms.Show raws) = 0 < length raws
 Said f = Unit {0}
 
@@ -66,6 +72,12 @@ not_empty_said : (ns ms : List (List ℕ)) → AreNames ns → not_empty ns ≡ 
 not_empty_said [] ms h e = absurd cc
 not_empty_said (n ∷ ns) ms h e = subst AreNames (ok_is (n ∷ ns) ms e) h
 
+some_names_said : (ws ns : List (List ℕ)) → some_names ws ≡ Ok ns → AreNames ns
+unfolding some_names
+some_names_said ws ns e =
+    let a = bind_ok (names_of ws) (λ ns. not_empty ns) ns e in
+    not_empty_said a.0 ns (names_said ws a.0 a.1) a.2
+
 theorem_said : (ws : List (List ℕ)) (f : Form) → theorem_of ws ≡ Ok f → Said f
 unfolding theorem_of
 theorem_said ws f e =
@@ -74,11 +86,39 @@ theorem_said ws f e =
     subst Said (ok_is (forms.Theorem a.0.0) f b.2) (title_said ws a.0 a.1)
 
 declare_said : (sort : Sort) (ws : List (List ℕ)) (f : Form) → declare_of sort ws ≡ Ok f → Said f
-unfolding declare_of some_names
+unfolding declare_of
 declare_said sort ws f e =
-    let a = bind_ok (names_of ws >>= λ ns. not_empty ns) (λ ns. read_ok (forms.Declare sort ns)) f e in
-    let b = bind_ok (names_of ws) (λ ns. not_empty ns) a.0 a.1 in
-    subst Said (ok_is (forms.Declare sort a.0) f a.2) (not_empty_said b.0 a.0 (names_said ws b.0 b.1) b.2)
+    let a = bind_ok (some_names ws) (λ ns. read_ok (forms.Declare sort ns)) f e in
+    subst Said (ok_is (forms.Declare sort a.0) f a.2) (some_names_said ws a.0 a.1)
+
+made_said : (ws : List (List ℕ)) (f : Form) → made_of ws ≡ Ok f → Said f
+unfolding made_of
+made_said ws f e =
+    let w = bind_ok (word_at ws) (λ w. sort_of w.0 >>= λ sort. some_names w.1 >>= λ ns. read_ok (forms.Made sort ns)) f e in
+    let s = bind_ok (sort_of w.0.0) (λ sort. some_names w.0.1 >>= λ ns. read_ok (forms.Made sort ns)) f w.2 in
+    let a = bind_ok (some_names w.0.1) (λ ns. read_ok (forms.Made s.0 ns)) f s.2 in
+    subst Said (ok_is (forms.Made s.0 a.0) f a.2) (some_names_said w.0.1 a.0 a.1)
+
+let_named_said : (shapes : List Shape) (words avoid : List (List ℕ)) (l : RawLet) → let_named shapes words avoid ≡ Ok l → AreNames l.new
+unfolding let_named
+let_named_said [] words avoid l e = absurd cc
+let_named_said (s ∷ ss) words avoid l e =
+    let made : List (List ℕ) → List (List ℕ) → RawLet = λ new args. record { shapes = s ∷ ss; new = new; args = args; avoid = avoid } in
+    let a = bind_ok (names_of (new_words (pieces s) words)) (λ new. names_of (argument_words (pieces s) words) >>= λ args. read_ok (made new args)) l e in
+    let b = bind_ok (names_of (argument_words (pieces s) words)) (λ args. read_ok (made a.0 args)) l a.2 in
+    subst (λ (x : RawLet). AreNames x.new) (ok_is (made a.0 b.0) l b.2) (names_said (new_words (pieces s) words) a.0 a.1)
+
+let_said : (ws : List (List ℕ)) (f : Form) → (let_of ws >>= λ l. read_ok (forms.Let l)) ≡ Ok f → Said f
+unfolding let_of
+let_said ws f e =
+    let parts = cut_at (codes "avoid") ws in
+    let rest : List (List ℕ) → Result RawLet Kind = λ avoid. let_named (shapes_of parts.2 parts.0) parts.0 avoid in
+    let a = bind_ok (avoided_of parts.2 parts.1 >>= rest) (λ l. read_ok (forms.Let l)) f e in
+    let b = bind_ok (avoided_of parts.2 parts.1) rest a.0 a.1 in
+    subst Said (ok_is (forms.Let a.0) f a.2) (let_named_said (shapes_of parts.2 parts.0) parts.0 b.0 a.0 b.2)
+
+qed_said : (ws : List (List ℕ)) (f : Form) → (names_of ws >>= λ ns. read_ok (forms.Qed ns)) ≡ Ok f → Said f
+qed_said ws f e = let a = bind_ok (names_of ws) (λ ns. read_ok (forms.Qed ns)) f e in subst Said (ok_is (forms.Qed a.0) f a.2) tt
 
 given_said : (ws : List (List ℕ)) (f : Form) → (lits_of ws >>= λ ls. read_ok (forms.Given ls)) ≡ Ok f → Said f
 given_said ws f e = let a = bind_ok (lits_of ws) (λ ls. read_ok (forms.Given ls)) f e in subst Said (ok_is (forms.Given a.0) f a.2) tt
@@ -122,13 +162,15 @@ either false x y f e hx hy = hy e
 named_said : (w : List ℕ) (ws : List (List ℕ)) (f : Form) → form_named w ws ≡ Ok f → Said f
 unfolding form_named
 named_said w ws f e =
-    let r12 : Result Form Kind = Err Malformed in
-    let r11 : Result Form Kind = cond (bytes_eq w (codes "end")) (bare ws forms.End) r12 in
-    let r10 : Result Form Kind = cond (bytes_eq w (codes "qed")) (bare ws forms.Qed) r11 in
-    let r9 : Result Form Kind = cond (bytes_eq w (codes "hence")) (lit_of ws >>= λ l. read_ok (forms.Hence l)) r10 in
-    let r8 : Result Form Kind = cond (bytes_eq w (codes "by")) (by_of ws) r9 in
-    let r7 : Result Form Kind = cond (bytes_eq w (codes "proof")) (bare ws forms.Proof) r8 in
-    let r6 : Result Form Kind = cond (bytes_eq w (codes "show")) (lits_of ws >>= λ ls. read_ok (forms.Show ls)) r7 in
+    let r14 : Result Form Kind = Err Malformed in
+    let r13 : Result Form Kind = cond (bytes_eq w (codes "end")) (bare ws forms.End) r14 in
+    let r12 : Result Form Kind = cond (bytes_eq w (codes "qed")) (names_of ws >>= λ ns. read_ok (forms.Qed ns)) r13 in
+    let r11 : Result Form Kind = cond (bytes_eq w (codes "let")) (let_of ws >>= λ l. read_ok (forms.Let l)) r12 in
+    let r10 : Result Form Kind = cond (bytes_eq w (codes "hence")) (lit_of ws >>= λ l. read_ok (forms.Hence l)) r11 in
+    let r9 : Result Form Kind = cond (bytes_eq w (codes "by")) (by_of ws) r10 in
+    let r8 : Result Form Kind = cond (bytes_eq w (codes "proof")) (bare ws forms.Proof) r9 in
+    let r7 : Result Form Kind = cond (bytes_eq w (codes "show")) (lits_of ws >>= λ ls. read_ok (forms.Show ls)) r8 in
+    let r6 : Result Form Kind = cond (bytes_eq w (codes "made")) (made_of ws) r7 in
     let r5 : Result Form Kind = cond (bytes_eq w (codes "given")) (lits_of ws >>= λ ls. read_ok (forms.Given ls)) r6 in
     let r4 : Result Form Kind = cond (bytes_eq w (codes "circles")) (declare_of Circle ws) r5 in
     let r3 : Result Form Kind = cond (bytes_eq w (codes "lines")) (declare_of Line ws) r4 in
@@ -138,12 +180,14 @@ named_said w ws f e =
     either (bytes_eq w (codes "lines")) (declare_of Line ws) r4 f e2 (declare_said Line ws f) (λ e3.
     either (bytes_eq w (codes "circles")) (declare_of Circle ws) r5 f e3 (declare_said Circle ws f) (λ e4.
     either (bytes_eq w (codes "given")) (lits_of ws >>= λ ls. read_ok (forms.Given ls)) r6 f e4 (given_said ws f) (λ e5.
-    either (bytes_eq w (codes "show")) (lits_of ws >>= λ ls. read_ok (forms.Show ls)) r7 f e5 (show_said ws f) (λ e6.
-    either (bytes_eq w (codes "proof")) (bare ws forms.Proof) r8 f e6 (bare_said ws forms.Proof f tt) (λ e7.
-    either (bytes_eq w (codes "by")) (by_of ws) r9 f e7 (by_said ws f) (λ e8.
-    either (bytes_eq w (codes "hence")) (lit_of ws >>= λ l. read_ok (forms.Hence l)) r10 f e8 (hence_said ws f) (λ e9.
-    either (bytes_eq w (codes "qed")) (bare ws forms.Qed) r11 f e9 (bare_said ws forms.Qed f tt) (λ e10.
-    either (bytes_eq w (codes "end")) (bare ws forms.End) r12 f e10 (bare_said ws forms.End f tt) (no_form f)))))))))))
+    either (bytes_eq w (codes "made")) (made_of ws) r7 f e5 (made_said ws f) (λ e6.
+    either (bytes_eq w (codes "show")) (lits_of ws >>= λ ls. read_ok (forms.Show ls)) r8 f e6 (show_said ws f) (λ e7.
+    either (bytes_eq w (codes "proof")) (bare ws forms.Proof) r9 f e7 (bare_said ws forms.Proof f tt) (λ e8.
+    either (bytes_eq w (codes "by")) (by_of ws) r10 f e8 (by_said ws f) (λ e9.
+    either (bytes_eq w (codes "hence")) (lit_of ws >>= λ l. read_ok (forms.Hence l)) r11 f e9 (hence_said ws f) (λ e10.
+    either (bytes_eq w (codes "let")) (let_of ws >>= λ l. read_ok (forms.Let l)) r12 f e10 (let_said ws f) (λ e11.
+    either (bytes_eq w (codes "qed")) (names_of ws >>= λ ns. read_ok (forms.Qed ns)) r13 f e11 (qed_said ws f) (λ e12.
+    either (bytes_eq w (codes "end")) (bare ws forms.End) r14 f e12 (bare_said ws forms.End f tt) (no_form f)))))))))))))
 
 pub form_said : (words : List (List ℕ)) (f : Form) → form_of words ≡ Ok f → Said f
 unfolding form_of

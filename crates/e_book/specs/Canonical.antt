@@ -2,6 +2,7 @@
 use Rattle.std.specs.Prelude.{ℕ, Bool, true, false, List, [], ◌∷◌, ◌++◌, map, codes, slice_index_or, if◌then◌else◌}
 use Rattle.std.specs.List.{flat_map}
 use Rattle.std.specs.Option.{option_map_or}
+use Rattle.e_text.specs.Tokens.{joined}
 use Rattle.e_literal.specs.declared.object.Sort.{Sort}
 use Rattle.e_literal.specs.declared.object.Sort.TheVariants as sorts
 use Rattle.e_literal.specs.declared.object.Obj.{Obj}
@@ -9,14 +10,17 @@ use Rattle.e_literal.specs.declared.literal.Atom.{Atom}
 use Rattle.e_literal.specs.declared.literal.Atom.TheVariants as atoms
 use Rattle.e_literal.specs.declared.literal.Lit.{Lit}
 use Rattle.e_literal.specs.Scopes.{same_sort, nothing, next_objects}
+use Rattle.e_literal.specs.Use.{scope_of}
 use Rattle.e_clause.specs.declared.cert.By.{By}
 use Rattle.e_clause.specs.Instance.{name_of}
-use Rattle.e_deriv.specs.declared.names.Names.{Names}
-use Rattle.e_construct.specs.declared.construction.Construction.{Construction}
 use Rattle.e_construct.specs.declared.construction.Shape.{Shape}
+use Rattle.e_construct.specs.declared.construction.Construction.{Construction}
 use Rattle.e_construct.specs.Construct.{made}
-use Rattle.e_construct.specs.Lines.{Piece, New, Argument, Word, pieces, all_shapes}
-use Rattle.e_deriv.specs.Naming.{named, declared_names}
+use Rattle.e_construct.specs.Lines.{Piece, New, Argument, Word, pieces}
+use Rattle.e_theorem.specs.declared.statement.Statement.{Statement}
+use Rattle.e_theorem.specs.Statements.{stated}
+use Rattle.e_deriv.specs.declared.names.Names.{Names}
+use Rattle.e_deriv.specs.Naming.{names_of_sort, named, declared_names}
 use Rattle.e_deriv.specs.Script.{Script, Cite, Hence, Make, Qed}
 use Rattle.e_book.specs.declared.literal.RawLit.{RawLit}
 use Rattle.e_book.specs.declared.literal.RawAtom.{RawAtom}
@@ -24,18 +28,7 @@ use Rattle.e_book.specs.declared.literal.RawAtom.TheVariants as raw
 use Rattle.e_book.specs.declared.lets.RawLet.{RawLet}
 use Rattle.e_book.specs.declared.form.Form.{Form}
 use Rattle.e_book.specs.declared.form.Form.TheVariants as forms
-use Rattle.e_book.specs.Scope.{names_of_sort}
 use Rattle.e_book.specs.Entry.{Entry}
-
--- words, each behind a space
-abbrev pub spaced : List (List ℕ) → List ℕ
-spaced [] = []
-spaced (w ∷ ws) = 32 ∷ (w ++ spaced ws)
-
--- words with one space between two
-abbrev pub joined : List (List ℕ) → List ℕ
-joined [] = []
-joined (w ∷ ws) = w ++ spaced ws
 
 abbrev pub atom_words : RawAtom → List (List ℕ)
 atom_words (raw.On x y) = codes "on" ∷ x ∷ y ∷ []
@@ -78,25 +71,27 @@ sort_word sorts.Point = codes "points"
 sort_word sorts.Line = codes "lines"
 sort_word sorts.Circle = codes "circles"
 
--- the words of a line, with these names for the new objects and the arguments
-abbrev pub filled : List Piece → List (List ℕ) → List (List ℕ) → List (List ℕ)
+-- the pieces of a line, with these names at the places of new objects and of arguments
+abbrev pub filled : List Piece → (new args : List (List ℕ)) → List (List ℕ)
 filled [] new args = []
-filled (New ∷ ps) (n ∷ new) args = n ∷ filled ps new args
-filled (New ∷ ps) [] args = []
-filled (Argument ∷ ps) new (a ∷ args) = a ∷ filled ps new args
-filled (Argument ∷ ps) new [] = []
 filled (Word w ∷ ps) new args = w ∷ filled ps new args
+filled (New ∷ ps) (n ∷ new) args = n ∷ filled ps new args
+filled (New ∷ ps) [] args = filled ps [] args
+filled (Argument ∷ ps) new (n ∷ args) = n ∷ filled ps new args
+filled (Argument ∷ ps) new [] = filled ps new []
 
+-- shapes that one line may have share their pieces
+abbrev pub line_pieces : List Shape → List Piece
+line_pieces [] = []
+line_pieces (s ∷ ss) = pieces s
+
+-- the objects that are avoided, if there are any
 abbrev pub avoid_words : List (List ℕ) → List (List ℕ)
 avoid_words [] = []
 avoid_words (n ∷ ns) = codes "avoid" ∷ n ∷ ns
 
-abbrev pub line_words : List Shape → List (List ℕ) → List (List ℕ) → List (List ℕ)
-line_words [] new args = []
-line_words (s ∷ ss) new args = filled (pieces s) new args
-
 abbrev pub let_words : RawLet → List (List ℕ)
-let_words l = line_words l.shapes l.new l.args ++ avoid_words l.avoid
+let_words l = filled (line_pieces l.shapes) l.new l.args ++ avoid_words l.avoid
 
 abbrev pub form_words : Form → List (List ℕ)
 form_words (forms.Theorem t) = codes "theorem" ∷ t ∷ []
@@ -158,30 +153,54 @@ by_form ns b = forms.By (rule_name b.rule) (map (name_of_object ns) b.args) (raw
 abbrev pub hence_form : Names → Lit → Form
 hence_form ns l = forms.Hence (raw_of ns l)
 
+-- the line of a construction, with names for the objects that it makes
 abbrev pub let_form : Names → Construction → List (List ℕ) → Form
-let_form ns c new =
-    forms.Let (record { shapes = c.shape ∷ []; new = new; args = map (name_of_object ns) c.args; avoid = map (name_of_object ns) c.avoid })
+let_form ns form names =
+    forms.Let (record { shapes = form.shape ∷ []; new = names; args = map (name_of_object ns) form.args; avoid = map (name_of_object ns) form.avoid })
 
--- one more object before the lines that declare the next ones: on the same line where it is of their sort
-abbrev pub declared_before : Sort → List ℕ → List Form → List Form
-declared_before sort name [] = forms.Declare sort (name ∷ []) ∷ []
-declared_before sort name (forms.Declare s ns ∷ fs) = if same_sort sort s then forms.Declare s (name ∷ ns) ∷ fs else forms.Declare sort (name ∷ []) ∷ forms.Declare s ns ∷ fs
-declared_before sort name (f ∷ fs) = forms.Declare sort (name ∷ []) ∷ f ∷ fs
+-- names of objects of one sort, for one line
+pub record Group : Type 0 where
+  pub sort : Sort
+  pub names : List (List ℕ)
 
--- the lines that declare objects, in order
-abbrev pub declare_forms : Names → List Obj → List Form
-declare_forms ns [] = []
-declare_forms ns (o ∷ os) = declared_before o.sort (name_of_object ns o) (declare_forms ns os)
+abbrev pub group : Sort → List (List ℕ) → Group
+group sort names = record { sort = sort; names = names }
+
+-- one more object before the groups of the next ones: in the first group where it is of that sort
+abbrev pub grouped_before : Sort → List ℕ → List Group → List Group
+grouped_before sort name [] = group sort (name ∷ []) ∷ []
+grouped_before sort name (g ∷ gs) = if same_sort sort g.sort then group g.sort (name ∷ g.names) ∷ gs else group sort (name ∷ []) ∷ g ∷ gs
+
+-- objects in order, neighbours of one sort in one group
+abbrev pub grouped : Names → List Obj → List Group
+grouped ns [] = []
+grouped ns (o ∷ os) = grouped_before o.sort (name_of_object ns o) (grouped ns os)
+
+abbrev pub declare_form : Group → Form
+declare_form g = forms.Declare g.sort g.names
+
+abbrev pub made_form : Group → Form
+made_form g = forms.Made g.sort g.names
 
 -- the declared objects of a statement, in order
-abbrev pub declared_objects : List Sort → List Obj
-declared_objects declared = next_objects nothing declared
+abbrev pub declared_objects : Statement → List Obj
+declared_objects t = next_objects nothing t.declared
 
--- from the title to the word proof: one line for each given literal, and one for each shown one
+-- its made objects, which take the next numbers
+abbrev pub made_objects : Statement → List Obj
+made_objects t = next_objects (scope_of (stated t)) t.made
+
+-- what is given: one line for each group of declared objects, and one for each given literal
+abbrev pub given_forms : Names → Statement → List Form
+given_forms ns t = map declare_form (grouped ns (declared_objects t)) ++ map (given_form ns) t.given
+
+-- what is shown: one line for each group of made objects, and one for each shown literal
+abbrev pub shown_forms : Names → Statement → List Form
+shown_forms ns t = map made_form (grouped ns (made_objects t)) ++ map (show_form ns) t.shown
+
+-- from the title to the word proof
 abbrev pub head_forms : Entry → List Form
-head_forms t =
-    forms.Theorem t.title ∷ (declare_forms t.names (declared_objects t.statement.declared)
-    ++ (map (given_form t.names) t.statement.given ++ (map (show_form t.names) t.statement.shown ++ forms.Proof ∷ [])))
+head_forms t = forms.Theorem t.title ∷ (given_forms t.names t.statement ++ (shown_forms t.names t.statement ++ forms.Proof ∷ []))
 
 abbrev pub qed_form : Names → List Obj → Form
 qed_form ns objects = forms.Qed (map (name_of_object ns) objects)
@@ -189,23 +208,21 @@ qed_form ns objects = forms.Qed (map (name_of_object ns) objects)
 abbrev pub end_form : Form
 end_form = forms.End
 
--- the form of a script's first line
-abbrev pub form_here : Names → Script → Form
-form_here ns (Cite by rest) = by_form ns by
-form_here ns (Hence lit cert rest) = hence_form ns lit
-form_here ns (Make form names certs rest) = let_form ns form names
-form_here ns (Qed objects certs) = qed_form ns objects
-
--- the forms of all its lines
+-- the forms of a script's lines, where these names are in scope before the first: those of new objects come into scope
+-- behind the line that makes them
 unfoldable pub script_forms : Names → Script → List Form
 script_forms ns (Cite by rest) = by_form ns by ∷ script_forms ns rest
 script_forms ns (Hence lit cert rest) = hence_form ns lit ∷ script_forms ns rest
 script_forms ns (Make form names certs rest) = let_form ns form names ∷ script_forms (named ns (made form) names) rest
 script_forms ns (Qed objects certs) = qed_form ns objects ∷ []
 
+-- the names that a theorem's proof begins with: those of the declared objects
+abbrev pub names_of_proof : Entry → Names
+names_of_proof t = declared_names (stated t.statement) t.names
+
 -- the lines of a theorem, in order
 abbrev pub forms_of : Entry → List Form
-forms_of t = head_forms t ++ (script_forms t.names t.script ++ end_form ∷ [])
+forms_of t = head_forms t ++ (script_forms (names_of_proof t) t.script ++ end_form ∷ [])
 
 -- lines, each ended by a line feed
 abbrev pub text_of : List (List ℕ) → List ℕ

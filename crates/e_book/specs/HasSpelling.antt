@@ -23,17 +23,19 @@ is_diagram_atom a = true
 abbrev pub is_diagram_lit : Lit → Bool
 is_diagram_lit l = is_diagram_atom l.atom
 
--- no line has a certificate, none speaks of magnitudes, and no object stands behind qed
+-- no line has a certificate, none speaks of magnitudes, and new objects have names
 unfoldable pub is_plain : Script → Bool
 is_plain (Cite by rest) = is_diagram_lit by.lit && is_plain rest
 is_plain (Hence lit None rest) = is_diagram_lit lit && is_plain rest
 is_plain (Hence lit (Some cert) rest) = false
-is_plain (Make form names certs rest) = list_all is_name names && is_plain rest
+is_plain (Make form names [] rest) = list_all is_name names && is_plain rest
+is_plain (Make form names certs rest) = false
 is_plain (Qed objects []) = true
 is_plain (Qed objects certs) = false
 
 pub record HasSpelling (known : List Headed) (t : Entry) : Type 0 where
-  -- objects in scope, names that differ, a rule with fitting arguments at each citation, and the limits of a theorem
+  -- objects in scope, names that differ, fitting arguments at each citation and construction, names of new objects that are
+  -- free, and the limits of a theorem
   pub fits : Fits known t
   pub few_theorems : length known < most_theorems
   pub title : is_title t.title ≡ true

@@ -3,14 +3,13 @@ use Rattle.std.proofs.Common.{◌≡◌, List, [], ◌∷◌, ◌++◌, refl, ap
 use Rattle.e_literal.specs.declared.object.Obj.{Obj}
 use Rattle.e_literal.specs.declared.map.Entry.{Entry}
 use Rattle.e_literal.specs.Rename.{image_in, same_obj, paired, renamed}
-use Rattle.std.proofs.Common.{ℕ, ◌+◌, ◌≤◌, arith, length, map}
-use Rattle.e_literal.specs.Scopes.{with_one, same_sort, are_of_sorts}
+use Rattle.std.proofs.Common.{◌≤◌, arith, length, map}
+use Rattle.e_literal.specs.Scopes.{same_sort, are_of_sorts}
 use Rattle.e_literal.specs.declared.literal.Lit.{Lit}
 use Rattle.e_construct.specs.Shapes.{ShapeRow}
 use Rattle.e_construct.specs.Construct.{of_sort, sorts_of, needs_of_avoided, argument, needs_of_row}
 use Rattle.e_literal.specs.declared.object.Scope.{Scope}
 use Rattle.e_literal.specs.declared.object.Sort.{Sort}
-use Rattle.e_literal.specs.declared.object.Sort.TheVariants.{Point, Line, Circle}
 use Rattle.std.proofs.lemmas.List.{append-nil}
 use Rattle.std.proofs.lemmas.Grind.{common_steps}
 
@@ -48,23 +47,6 @@ pub of_sort_no : (s : Sort) (o : Obj) (os : List Obj) → same_sort s o.sort ≡
 of_sort_no s o os h = ap (λ b. cond b (o ∷ of_sort s os) (of_sort s os)) h
 
 pub ruleset choosing = (common_steps, of_sort_yes, of_sort_no)
-
-pub points_grow : (s : Scope) (sort : Sort) → (with_one s sort).points ≤ s.points + 1
-points_grow s Point = omega arith
-points_grow s Line = omega arith
-points_grow s Circle = omega arith
-
-pub lines_grow : (s : Scope) (sort : Sort) → (with_one s sort).lines ≤ s.lines + 1
-lines_grow s Point = omega arith
-lines_grow s Line = omega arith
-lines_grow s Circle = omega arith
-
-pub circles_grow : (s : Scope) (sort : Sort) → (with_one s sort).circles ≤ s.circles + 1
-circles_grow s Point = omega arith
-circles_grow s Line = omega arith
-circles_grow s Circle = omega arith
-
-pub ruleset growing = (common_steps, points_grow, lines_grow, circles_grow)
 
 pub ruleset namings = (common_steps, image_in_first, image_in_second)
 

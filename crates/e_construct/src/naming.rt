@@ -1,15 +1,15 @@
 // The objects for the variables of a shape.
 
 ghost use Rattle.std.specs.Prelude.{◌≡◌, ◌<◌, ◌+◌, ◌^◌, ◌++◌, length, IfOk, false};
-ghost use Rattle.e_literal.specs.Literal.{count_of, is_in_scope};
-ghost use Rattle.e_literal.specs.Scopes.{are_of_sorts, with_one};
+ghost use Rattle.e_literal.specs.Literal.{is_in_scope};
+ghost use Rattle.e_literal.specs.Scopes.{are_of_sorts};
 ghost use Rattle.e_literal.specs.Rename.{image_in, paired, number_at, renamed, same_obj};
 ghost use Rattle.e_literal.specs.declared.object.Sort.TheVariants.{Point, Line, Circle};
 ghost use Rattle.e_construct.specs.Construct.{sorts_of};
 ghost use Rattle.e_construct.specs.Views.{atom_of, lit_of, image_of};
 
 use crate::pattern::{Pattern, Relation};
-use e_literal::{Atom, Lit, Obj, Scope, Sort};
+use e_literal::{Atom, Lit, Obj, Scope, Sort, count, with_one};
 use std::alloc::{AllocError, Global};
 
 /// The arguments in the places of their variables, and the new objects in the places of theirs.
@@ -122,7 +122,7 @@ fn same(x: Obj, y: Obj) -> bool
 }
 
 /// The objects that come next in the scope, one for each variable and of its sort.
-#[tactic(auto, using(crate::proofs::Images::growing))]
+#[tactic(auto, using(e_literal::proofs::Growing::growing))]
 pub fn next_objects(alloc: Global, scope: Scope, letters: &[Obj]) -> Result<Vec<Obj>, AllocError>
     requires points { scope.points + length letters.now < 2 ^ 16 }
     requires lines { scope.lines + length letters.now < 2 ^ 16 }
@@ -136,41 +136,9 @@ pub fn next_objects(alloc: Global, scope: Scope, letters: &[Obj]) -> Result<Vec<
             sort: letter.sort,
             num: count(scope, letter.sort),
         })?;
-        scope = grown(scope, letter.sort);
+        scope = with_one(scope, letter.sort);
     }
     Ok(objects)
-}
-
-fn count(scope: Scope, sort: Sort) -> u16
-    ensures { result ≡ count_of scope sort }
-{
-    match sort {
-        Sort::Point => scope.points,
-        Sort::Line => scope.lines,
-        Sort::Circle => scope.circles,
-    }
-}
-
-fn grown(scope: Scope, sort: Sort) -> Scope
-    requires points { scope.points + 1 < 2 ^ 16 }
-    requires lines { scope.lines + 1 < 2 ^ 16 }
-    requires circles { scope.circles + 1 < 2 ^ 16 }
-    ensures { result ≡ with_one scope sort }
-{
-    match sort {
-        Sort::Point => Scope {
-            points: scope.points + 1,
-            ..scope
-        },
-        Sort::Line => Scope {
-            lines: scope.lines + 1,
-            ..scope
-        },
-        Sort::Circle => Scope {
-            circles: scope.circles + 1,
-            ..scope
-        },
-    }
 }
 
 pub fn is_in_scope(scope: Scope, object: Obj) -> bool

@@ -2,6 +2,7 @@
 use Rattle.std.specs.Prelude.{ℕ, List, [], ◌∷◌, ◌++◌, take}
 use Rattle.e_literal.specs.declared.object.Sort.{Sort}
 use Rattle.e_literal.specs.declared.object.Sort.TheVariants as sorts
+use Rattle.e_literal.specs.declared.object.Scope.{Scope}
 use Rattle.e_literal.specs.Use.{Stated, scope_of}
 use Rattle.e_construct.specs.Construct.{made}
 use Rattle.e_deriv.specs.declared.names.Names.{Names}
@@ -31,8 +32,10 @@ names_lines ns (Hence lit cert rest) = ns ∷ names_lines ns rest
 names_lines ns (Make form names certs rest) = ns ∷ names_lines (named ns (made form) names) rest
 names_lines ns (Qed objects certs) = ns ∷ []
 
+-- the names of the objects of a scope, which are the first of each sort
+abbrev pub first_names : Scope → Names → Names
+first_names s ns = record { points = take s.points ns.points; lines = take s.lines ns.lines; circles = take s.circles ns.circles }
+
 -- of the names of a statement's declared and made objects those of the declared ones, which come first
 abbrev pub declared_names : Stated → Names → Names
-declared_names t ns =
-    let s = scope_of t
-    in record { points = take s.points ns.points; lines = take s.lines ns.lines; circles = take s.circles ns.circles }
+declared_names t ns = first_names (scope_of t) ns

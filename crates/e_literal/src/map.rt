@@ -1,9 +1,9 @@
 // Images of objects.
 
-ghost use Rattle.std.specs.Prelude.{◌≡◌, [], ◌∷◌, OnOk, OnErr, is_some};
+ghost use Rattle.std.specs.Prelude.{◌≡◌, [], ◌∷◌, OnOk, OnErr, IfOk, is_some, map};
 ghost use Rattle.e_literal.specs.Literal.{obj};
 ghost use Rattle.e_literal.specs.Scopes.{same_sort};
-ghost use Rattle.e_literal.specs.Rename.{image_in, number_at, same_obj};
+ghost use Rattle.e_literal.specs.Rename.{image_in, number_at, paired, same_obj};
 
 use crate::object::{Obj, Sort};
 use std::alloc::{AllocError, Global};
@@ -41,6 +41,23 @@ impl Map {
         Map {
             entries: Vec::new(alloc),
         }
+    }
+
+    /// The map that sends each object to the one in its place, and an object that stands twice to that of its first place.
+    ///
+    /// It fails only for want of memory.
+    pub fn paired(alloc: Global, from: &[Obj], to: &[Obj]) -> Result<Self, AllocError>
+        requires one_sort { map (λ o. o.sort) from.now ≡ map (λ o. o.sort) to.now }
+        ensures { IfOk result (λ m. m ≡ paired from.now to.now) }
+    {
+        let mut entries = Vec::new(alloc);
+        for (source, target) in from.iter().zip(to) {
+            entries.push(Entry {
+                source: *source,
+                target: *target,
+            })?;
+        }
+        Ok(Map { entries })
     }
 
     /// From now on `to` is the image of `from`, and each other object keeps its image.

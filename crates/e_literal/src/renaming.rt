@@ -21,8 +21,18 @@ pub fn rename(alloc: Global, lit: &Lit, map: &Map) -> Result<Option<Lit>, AllocE
     if !has_images(map, &lit.atom) {
         return Ok(None);
     }
+    let lit = renamed(alloc, lit, map)?;
+    Ok(Some(lit))
+}
+
+/// The literal with the image of each object for it, where an object without image stays.
+///
+/// It fails only for want of memory.
+pub fn renamed(alloc: Global, lit: &Lit, map: &Map) -> Result<Lit, AllocError>
+    ensures { IfOk result (λ r. r ≡ Rattle.e_literal.specs.Rename.renamed (image_in map.now) lit.now) }
+{
     let atom = renamed_atom(alloc, &lit.atom, map)?;
-    Ok(Some(Lit { neg: lit.neg, atom }))
+    Ok(Lit { neg: lit.neg, atom })
 }
 
 fn has_images(map: &Map, atom: &Atom) -> bool

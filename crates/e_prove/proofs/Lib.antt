@@ -1,3 +1,5 @@
+pub mod Licensing
+pub mod Contexts
 pub mod Judging
 pub mod Closing
 pub mod Proving

@@ -1,4 +1,5 @@
 pub mod Halts
+pub mod Contexts
 pub mod Judging
 pub mod Stops
 pub mod Laws

@@ -1,43 +1,73 @@
 //! Judging a close.
-ghost use Rattle.std.specs.Prelude.{List, IfOk, IfErr};
-ghost use Rattle.e_literal.specs.declared.object.Obj.{Obj};
+ghost use Rattle.std.specs.Prelude.{◌≡◌, List, IfOk, IfErr, IsTrue, map};
+ghost use Rattle.std.specs.List.{list_all};
+ghost use Rattle.e_literal.specs.Rename;
+ghost use Rattle.e_literal.specs.Rename.{image_in};
 ghost use Rattle.e_clause.specs.declared.cert.Cert.{Cert};
 ghost use Rattle.e_deriv.specs.declared.block.Close.TheVariants.{Qed};
-ghost use Rattle.e_deriv.specs.Goal.{goal_of};
+ghost use Rattle.e_deriv.specs.Goal.{are_for};
+ghost use Rattle.e_deriv.specs.Script.{close_script};
+ghost use Rattle.e_deriv.specs.Steps.{fits};
+ghost use Rattle.e_prove.specs.Contexts.{goal_said};
 ghost use Rattle.e_prove.specs.Halts.{HaltIs};
-ghost use Rattle.e_prove.specs.Judging.{IsClosed, CloseLacks};
+ghost use Rattle.e_prove.specs.Judging.{IsClosed, CloseLacks, lines_at};
 
-use crate::halt::{Halt, lacking};
-use crate::licence::licence;
+use crate::context::Context;
+use crate::halt::Halt;
+use crate::licence::licences;
 use e_deriv::Close;
-use e_facts::Facts;
-use e_literal::{Items, Lit, Obj};
-use std::alloc::Global;
+use e_literal::{Items, Lit, Map, Obj, renamed};
+use std::alloc::{AllocError, Global};
 
-/// Judges a close by the facts before it, and gives it with its certificates.
-pub fn judge_close(alloc: Global, close: &Close, goal: &[Lit], facts: &Facts) -> Result<Close, Halt>
-    ensures ok { IfOk result (λ d. IsClosed close.now facts.now (goal_of goal.now) d) }
-    ensures err { IfErr result (HaltIs (CloseLacks close.now facts.now (goal_of goal.now))) }
+/// What a block has to show: literals, and the made objects in them.
+#[derive(Clone, Copy, Debug)]
+pub struct Goal<'a> {
+    pub made: &'a [Obj],
+    pub shown: &'a [Lit],
+}
+
+/// Judges a close where it stands, and gives it with its certificates.
+#[tactic(auto, using(crate::proofs::Closing::objects_fit), unfolding(e_deriv::specs::Lines::lines))]
+pub fn judge_close(alloc: Global, close: &Close, goal: &Goal, context: &Context) -> Result<Close, Halt>
+    requires { IsTrue (list_all fits (lines_at (close_script close.now) context.now (goal_said goal.now))) }
+    ensures ok { IfOk result (λ d. IsClosed close.now context.now (goal_said goal.now) d) }
+    ensures err { IfErr result (HaltIs (CloseLacks close.now context.now (goal_said goal.now))) }
 {
     match close {
-        Close::Qed { objects, .. } => qed(alloc, objects.items(), goal, facts),
+        Close::Qed { objects, .. } => qed(alloc, objects.items(), goal, context),
     }
 }
 
-/// A qed: each literal of the goal is allowed.
-fn qed(alloc: Global, objects: &[Obj], goal: &[Lit], facts: &Facts) -> Result<Close, Halt>
-    ensures ok { IfOk result (λ d. (certs : List Cert) → IsClosed (Qed objects.now certs) facts.now (goal_of goal.now) d) }
-    ensures err { IfErr result (HaltIs (λ w. (certs : List Cert) → CloseLacks (Qed objects.now certs) facts.now (goal_of goal.now) w)) }
+/// A qed: each literal of the goal is allowed, with these objects for its made ones.
+fn qed(alloc: Global, objects: &[Obj], goal: &Goal, context: &Context) -> Result<Close, Halt>
+    requires { IsTrue (are_for (goal_said goal.now) context.now.scope objects.now) }
+    ensures ok { IfOk result (λ d. (certs : List Cert) → IsClosed (Qed objects.now certs) context.now (goal_said goal.now) d) }
+    ensures err { IfErr result (HaltIs (λ w. (certs : List Cert) → CloseLacks (Qed objects.now certs) context.now (goal_said goal.now) w)) }
 {
-    let mut certs = Vec::new(alloc);
-    for lit in goal {
-        match licence(facts, lit) {
-            Some(cert) => certs.push(cert)?,
-            None => return Err(lacking(alloc, lit)),
-        }
-    }
+    let wanted = goal_with(alloc, goal, objects)?;
+    let certs = licences(alloc, context, &wanted)?;
     Ok(Close::Qed {
         objects: Items::new(Vec::from_slice(alloc, objects)?),
         certs: Items::new(certs),
     })
+}
+
+/// The literals of the goal with these objects for its made ones.
+fn goal_with(alloc: Global, goal: &Goal, objects: &[Obj]) -> Result<Vec<Lit>, AllocError>
+    requires one_sort { map (λ o. o.sort) goal.now.made.now ≡ map (λ o. o.sort) objects.now }
+    ensures { IfOk result (λ lits. lits.items ≡ Rattle.e_deriv.specs.Goal.goal_with (goal_said goal.now) objects.now) }
+{
+    let images = Map::paired(alloc, goal.made, objects)?;
+    with_images(alloc, goal.shown, &images)
+}
+
+/// The literals with the images of their objects.
+fn with_images(alloc: Global, lits: &[Lit], images: &Map) -> Result<Vec<Lit>, AllocError>
+    ensures { IfOk result (λ ls. ls.items ≡ map (Rename.renamed (image_in images.now)) lits.now) }
+{
+    let mut with = Vec::new(alloc);
+    for lit in lits {
+        with.push(renamed(alloc, lit, images)?)?;
+    }
+    Ok(with)
 }

@@ -1,12 +1,12 @@
 //! Why judging halts at a line.
-ghost use Rattle.std.specs.Prelude.{◌≡◌, IfOk, IfErr};
+ghost use Rattle.std.specs.Prelude.{◌≡◌};
 ghost use Rattle.e_prove.specs.declared.halt.Halt.TheVariants.{NoMemory};
 ghost use Rattle.e_prove.specs.declared.halt.Halt.TheVariants.{Lacks};
 ghost use Rattle.e_deriv.specs.declared.stop.Wanted.TheVariants.{Literal};
 ghost use Rattle.e_prove.specs.Halts.{HaltIs, IsStopOf};
 
 use e_deriv::{Names, Stop, Wanted};
-use e_literal::{Items, Lit, copy};
+use e_literal::{Lit, copy};
 use std::alloc::{AllocError, AllocFailed, Global};
 
 /// What the line lacks, or want of memory.
@@ -43,28 +43,15 @@ pub fn lacking(alloc: Global, lit: &Lit) -> Halt
 }
 
 /// The stop at the line with this number, where these names are in scope.
-pub fn stop(alloc: Global, step: u32, halt: Halt, names: &Names) -> Stop
-    ensures { IsStopOf halt step names.now result }
+pub fn stop(step: u32, halt: Halt, names: Names) -> Stop
+    ensures { IsStopOf halt step names result }
 {
     match halt {
-        Halt::Lacks(wanted) => match copy_of_names(alloc, names) {
-            Ok(names) => Stop::Unlicensed {
-                step,
-                wanted,
-                names,
-            },
-            Err(_) => Stop::NoMemory,
+        Halt::Lacks(wanted) => Stop::Unlicensed {
+            step,
+            wanted,
+            names,
         },
         Halt::NoMemory => Stop::NoMemory,
     }
-}
-
-fn copy_of_names(alloc: Global, names: &Names) -> Result<Names, AllocError>
-    ensures { IfOk result (λ n. n ≡ names.now) }
-{
-    Ok(Names {
-        points: Items::new(Vec::from_slice(alloc, names.points.items())?),
-        lines: Items::new(Vec::from_slice(alloc, names.lines.items())?),
-        circles: Items::new(Vec::from_slice(alloc, names.circles.items())?),
-    })
 }

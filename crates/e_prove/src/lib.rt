@@ -2,6 +2,7 @@
 #![tactic(auto)]
 
 mod close;
+mod context;
 mod halt;
 mod laws;
 mod licence;

@@ -1,27 +1,45 @@
 //! Whether a literal is allowed by the facts, and a citation good.
-ghost use Rattle.std.specs.Prelude.{◌≡◌, IsTrue, IfSome, IfNone, IfOk, map};
-ghost use Rattle.e_literal.specs.declared.object.Scope.{Scope};
+ghost use Rattle.std.specs.Prelude.{◌≡◌, IsTrue, IfSome, IfNone, IfOk, IfErr, map};
 ghost use Rattle.e_literal.specs.Facts.{has, has_all, others};
 ghost use Rattle.e_literal.specs.Literal.{negation};
 ghost use Rattle.e_clause.specs.Allowed.{Allowed};
-ghost use Rattle.e_clause.specs.Certify.{certifies};
+ghost use Rattle.e_clause.specs.Certify.{certifies, certify_all};
 ghost use Rattle.e_deriv.specs.Steps.{instance_gives};
+ghost use Rattle.e_prove.specs.Halts.{HaltIs};
+ghost use Rattle.e_prove.specs.Judging.{LacksFirst};
 
+use crate::context::Context;
+use crate::halt::{Halt, lacking};
 use e_clause::{By, Cert, InstanceFault, Part, instance};
 use e_facts::Facts;
 use e_literal::{Lit, copy, negate, same};
 use std::alloc::{AllocError, Global};
 
 /// A certificate of the literal, exactly where it is allowed.
-pub fn licence(facts: &Facts, lit: &Lit) -> Option<Cert>
-    ensures some { IfSome result (λ c. (s : Scope) → IsTrue (certifies s facts.now lit.now c)) }
-    ensures none { IfNone result ((s : Scope) → ¬ Allowed s facts.now lit.now) }
+pub fn licence(context: &Context, lit: &Lit) -> Option<Cert>
+    ensures some { IfSome result (λ c. IsTrue (certifies context.now.scope context.now.facts lit.now c)) }
+    ensures none { IfNone result (¬ Allowed context.now.scope context.now.facts lit.now) }
 {
-    if facts.has(lit) {
+    if context.facts.has(lit) {
         Some(Cert::Plain(Part::Fact))
     } else {
         None
     }
+}
+
+/// A certificate of each literal, exactly where each is allowed; else the first that is not is lacking.
+pub fn licences(alloc: Global, context: &Context, lits: &[Lit]) -> Result<Vec<Cert>, Halt>
+    ensures ok { IfOk result (λ cs. IsTrue (certify_all context.now.scope context.now.facts lits.now cs.items)) }
+    ensures err { IfErr result (HaltIs (LacksFirst context.now lits.now)) }
+{
+    let mut certs = Vec::new(alloc);
+    for lit in lits {
+        match licence(context, lit) {
+            Some(cert) => certs.push(cert)?,
+            None => return Err(lacking(alloc, lit)),
+        }
+    }
+    Ok(certs)
 }
 
 /// Whether the cited instance gives the literal.

@@ -1,21 +1,20 @@
 //! The derivation of a theorem.
-ghost use Rattle.std.specs.Prelude.{◌≡◌, [], IfOk, IfErr};
-ghost use Rattle.e_literal.specs.Facts.{joined_all};
+ghost use Rattle.std.specs.Prelude.{◌≡◌, IfOk, IfErr};
 ghost use Rattle.e_theorem.specs.Statements.{stated};
 ghost use Rattle.e_deriv.specs.Script.{script_of, erased};
 ghost use Rattle.e_deriv.specs.Fitting.{IsFitting};
 ghost use Rattle.e_deriv.specs.Certified.{Certified};
 ghost use Rattle.e_prove.specs.Stops.{StopIs, HasNames};
 
-use crate::close::judge_close;
+use crate::close::{Goal, judge_close};
+use crate::context::Context;
 use crate::halt::stop;
 use crate::step::judge_step;
 use e_book::Theorem;
 use e_deriv::{Block, Names, Stop};
-use e_facts::Facts;
-use e_literal::{Lit, copy};
+use e_literal::next_objects;
 use e_theorem::Statement;
-use std::alloc::{AllocError, Global};
+use std::alloc::Global;
 
 /// The derivation of a theorem by its own script, from the statements before it: each line judged in order,
 /// with a certificate for each literal that it needs.
@@ -28,7 +27,7 @@ pub fn prove(alloc: Global, before: &[Statement], theorem: &Theorem) -> Result<B
     ensures certified { IfOk result (λ d. Certified (stated theorem.now.statement) (script_of d)) }
     ensures script { IfOk result (λ d. erased (script_of d) ≡ erased (script_of theorem.now.block)) }
     ensures stop { IfErr result (StopIs (stated theorem.now.statement) (script_of theorem.now.block)) }
-    ensures names { IfErr result (HasNames theorem.now.names) }
+    ensures names { IfErr result (HasNames (stated theorem.now.statement) theorem.now.names (script_of theorem.now.block)) }
 {
     // No step so far uses an earlier statement.
     let _ = before;
@@ -48,31 +47,25 @@ pub(crate) fn prove_parts(
     ensures certified { IfOk result (λ d. Certified (stated statement.now) (script_of d)) }
     ensures script { IfOk result (λ d. erased (script_of d) ≡ erased (script_of block.now)) }
     ensures stop { IfErr result (StopIs (stated statement.now) (script_of block.now)) }
-    ensures names { IfErr result (HasNames names.now) }
+    ensures names { IfErr result (HasNames (stated statement.now) names.now (script_of block.now)) }
 {
-    let mut facts = facts_of(alloc, statement.given.items())?;
+    let mut context = Context::first(alloc, statement, names)?;
+    let made = next_objects(alloc, context.scope, statement.made.items())?;
     let mut steps = Vec::new(alloc);
     let mut number = 1u32;
     for step in &block.steps {
-        match judge_step(alloc, step, &mut facts) {
+        match judge_step(alloc, step, &mut context) {
             Ok(derived) => steps.push(derived)?,
-            Err(halt) => return Err(stop(alloc, number, halt, names)),
+            Err(halt) => return Err(stop(number, halt, context.into_names())),
         }
         number += 1;
     }
-    match judge_close(alloc, &block.close, statement.shown.items(), &facts) {
+    let goal = Goal {
+        made: &made,
+        shown: statement.shown.items(),
+    };
+    match judge_close(alloc, &block.close, &goal, &context) {
         Ok(close) => Ok(Block { steps, close }),
-        Err(halt) => Err(stop(alloc, number, halt, names)),
+        Err(halt) => Err(stop(number, halt, context.into_names())),
     }
-}
-
-/// The literals, each put last unless one the same is there.
-fn facts_of(alloc: Global, lits: &[Lit]) -> Result<Facts, AllocError>
-    ensures { IfOk result (λ f. f ≡ joined_all [] lits.now) }
-{
-    let mut facts = Facts::new(alloc);
-    for lit in lits {
-        facts.add(copy(alloc, lit)?)?;
-    }
-    Ok(facts)
 }

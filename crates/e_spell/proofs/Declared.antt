@@ -1,64 +1,58 @@
--- The lines that declare objects, one object at a time.
-use Rattle.std.proofs.Common.{◌≡◌, ℕ, Bool, true, false, List, [], ◌∷◌, ◌++◌, map, refl, sym, ap, ◌∙◌, append_assoc}
+-- The lines of objects, one object at a time.
+use Rattle.std.proofs.Common.{◌≡◌, ℕ, Bool, true, false, List, [], ◌∷◌, ◌++◌, map, refl, sym, ap, subst, ◌∙◌, append_assoc}
 use Rattle.std.specs.Prelude.{Some, None, if◌then◌else◌}
+use Rattle.std.specs.List.{flat_map}
+use Rattle.e_text.specs.Tokens.{spaced}
 use Rattle.e_literal.specs.declared.object.Sort.{Sort}
 use Rattle.e_literal.specs.declared.object.Sort.TheVariants.{Point, Line, Circle}
 use Rattle.e_literal.specs.declared.object.Obj.{Obj}
 use Rattle.e_literal.specs.Scopes.{same_sort}
 use Rattle.e_deriv.specs.declared.names.Names.{Names}
 use Rattle.e_book.specs.declared.form.Form.{Form}
-use Rattle.e_book.specs.declared.form.Form.TheVariants as forms
-use Rattle.e_book.specs.Canonical.{spaced, line_of, sort_word, name_of_object, declared_before, declare_forms, text_of}
-use Rattle.e_spell.specs.Parts.{opening, declared_rest}
+use Rattle.e_book.specs.Canonical.{line_of, name_of_object, Group, group, grouped_before, grouped, declare_form, made_form, text_of}
+use Rattle.e_spell.specs.declared.declarations.Role.{Role}
+use Rattle.e_spell.specs.declared.declarations.Role.TheVariants.{Declared, Made}
+use Rattle.e_spell.specs.Parts.{role_words, opening, objects_rest, objects_text}
 
 -- the text of forms
 abbrev pub text : List Form → List ℕ
 text fs = text_of (map line_of fs)
 
+abbrev group_text : Role → Group → List ℕ
+group_text role g = role_words role g.sort ++ (spaced g.names ++ 10 ∷ [])
+
+abbrev groups_text : Role → List Group → List ℕ
+groups_text role gs = flat_map (group_text role) gs
+
 -- what follows the name of an object of this sort
-abbrev rest_after : Sort → List Form → List ℕ
-rest_after t [] = 10 ∷ []
-rest_after t (forms.Declare s ns ∷ fs) = if same_sort t s then spaced ns ++ (10 ∷ text fs) else 10 ∷ text (forms.Declare s ns ∷ fs)
-rest_after t (f ∷ fs) = 10 ∷ text (f ∷ fs)
+abbrev rest_after : Role → Sort → List Group → List ℕ
+rest_after role t [] = 10 ∷ []
+rest_after role t (g ∷ gs) = if same_sort t g.sort then spaced g.names ++ (10 ∷ groups_text role gs) else 10 ∷ groups_text role (g ∷ gs)
 
--- the object's own line, and what stands on it behind the object
-record Shape (u : Sort) (name : List ℕ) (fs : List Form) : Type 0 where
-  pub names : List (List ℕ)
-  pub rest : List Form
-  pub is : declared_before u name fs ≡ forms.Declare u (name ∷ names) ∷ rest
-  pub behind : rest_after u fs ≡ spaced names ++ (10 ∷ text rest)
+sorts_same : (a b : Sort) → same_sort a b ≡ true → a ≡ b
+sorts_same Point Point e = refl
+sorts_same Line Line e = refl
+sorts_same Circle Circle e = refl
+sorts_same a b e = absurd cc
 
-abbrev alone : (u : Sort) (name : List ℕ) (fs : List Form) → declared_before u name fs ≡ forms.Declare u (name ∷ []) ∷ fs → rest_after u fs ≡ 10 ∷ text fs → Shape u name fs
-alone u name fs is behind = record { names = []; rest = fs; is = is; behind = behind }
+-- an object alone in its group, and one before others of its sort
+group_of_one : (words name rest : List ℕ) → (words ++ (32 ∷ (name ++ []) ++ 10 ∷ [])) ++ rest ≡ (words ++ 32 ∷ name) ++ (10 ∷ rest)
+group_of_one words name rest = simp append_assoc
 
-shape : (u : Sort) (name : List ℕ) (fs : List Form) → Shape u name fs
-shape u name [] = alone u name [] refl refl
-shape Point name (forms.Declare Point ns ∷ fs) = record { names = ns; rest = fs; is = refl; behind = refl }
-shape Line name (forms.Declare Line ns ∷ fs) = record { names = ns; rest = fs; is = refl; behind = refl }
-shape Circle name (forms.Declare Circle ns ∷ fs) = record { names = ns; rest = fs; is = refl; behind = refl }
-shape Point name (forms.Declare Line ns ∷ fs) = alone Point name (forms.Declare Line ns ∷ fs) refl refl
-shape Point name (forms.Declare Circle ns ∷ fs) = alone Point name (forms.Declare Circle ns ∷ fs) refl refl
-shape Line name (forms.Declare Point ns ∷ fs) = alone Line name (forms.Declare Point ns ∷ fs) refl refl
-shape Line name (forms.Declare Circle ns ∷ fs) = alone Line name (forms.Declare Circle ns ∷ fs) refl refl
-shape Circle name (forms.Declare Point ns ∷ fs) = alone Circle name (forms.Declare Point ns ∷ fs) refl refl
-shape Circle name (forms.Declare Line ns ∷ fs) = alone Circle name (forms.Declare Line ns ∷ fs) refl refl
-shape u name (forms.Theorem x ∷ fs) = alone u name (forms.Theorem x ∷ fs) refl refl
-shape u name (forms.Given x ∷ fs) = alone u name (forms.Given x ∷ fs) refl refl
-shape u name (forms.Show x ∷ fs) = alone u name (forms.Show x ∷ fs) refl refl
-shape u name (forms.Proof ∷ fs) = alone u name (forms.Proof ∷ fs) refl refl
-shape u name (forms.By x y z ∷ fs) = alone u name (forms.By x y z ∷ fs) refl refl
-shape u name (forms.Hence x ∷ fs) = alone u name (forms.Hence x ∷ fs) refl refl
-shape u name (forms.Qed ∷ fs) = alone u name (forms.Qed ∷ fs) refl refl
-shape u name (forms.End ∷ fs) = alone u name (forms.End ∷ fs) refl refl
-
-regroup : (w name names rest : List ℕ) → ((w ++ 32 ∷ (name ++ names)) ++ 10 ∷ []) ++ rest ≡ (w ++ 32 ∷ name) ++ (names ++ (10 ∷ rest))
-regroup w name names rest = simp append_assoc
+group_of_more : (words name names rest : List ℕ) → (words ++ (32 ∷ (name ++ names) ++ 10 ∷ [])) ++ rest ≡ (words ++ 32 ∷ name) ++ (names ++ (10 ∷ rest))
+group_of_more words name names rest = simp append_assoc
 
 -- the first object of a line
-before : (u : Sort) (name : List ℕ) (fs : List Form) → text (declared_before u name fs) ≡ (sort_word u ++ 32 ∷ name) ++ rest_after u fs
-before u name fs =
-    let s = shape u name fs in
-    ap text s.is ∙ regroup (sort_word u) name (spaced s.names) (text s.rest) ∙ sym (ap (λ (x : List ℕ). (sort_word u ++ 32 ∷ name) ++ x) s.behind)
+before_by : (b : Bool) (role : Role) (u : Sort) (name : List ℕ) (g : Group) (gs : List Group) → same_sort u g.sort ≡ b
+    → groups_text role (if b then group g.sort (name ∷ g.names) ∷ gs else group u (name ∷ []) ∷ g ∷ gs)
+    ≡ (role_words role u ++ 32 ∷ name) ++ (if b then spaced g.names ++ (10 ∷ groups_text role gs) else 10 ∷ groups_text role (g ∷ gs))
+before_by true role u name g gs e =
+    ap (λ (s : Sort). groups_text role (group s (name ∷ g.names) ∷ gs)) (sym (sorts_same u g.sort e)) ∙ group_of_more (role_words role u) name (spaced g.names) (groups_text role gs)
+before_by false role u name g gs e = group_of_one (role_words role u) name (groups_text role (g ∷ gs))
+
+before : (role : Role) (u : Sort) (name : List ℕ) (gs : List Group) → groups_text role (grouped_before u name gs) ≡ (role_words role u ++ 32 ∷ name) ++ rest_after role u gs
+before role u name [] = group_of_one (role_words role u) name []
+before role u name (g ∷ gs) = before_by (same_sort u g.sort) role u name g gs refl
 
 either : (b : Bool) (x y other : List ℕ) → x ≡ y → (if b then x else other) ≡ (if b then y else other)
 either b x y other e = ap (λ (z : List ℕ). if b then z else other) e
@@ -67,23 +61,57 @@ cut : (b : Bool) (w name rest : List ℕ) → ((if b then [] else 10 ∷ w) ++ 3
 cut true w name rest = refl
 cut false w name rest = refl
 
+-- the group of an object, and what stands in it behind the object
+record First (role : Role) (u : Sort) (name : List ℕ) (gs : List Group) : Type 0 where
+  names : List (List ℕ)
+  rest : List Group
+  is : grouped_before u name gs ≡ group u (name ∷ names) ∷ rest
+  behind : rest_after role u gs ≡ spaced names ++ (10 ∷ groups_text role rest)
+
+first_by : (b : Bool) (role : Role) (u : Sort) (name : List ℕ) (g : Group) (gs : List Group) → same_sort u g.sort ≡ b → First role u name (g ∷ gs)
+first_by true role u name g gs e = record {
+  names = g.names;
+  rest = gs;
+  is = rw e (ap (λ (s : Sort). group s (name ∷ g.names) ∷ gs) (sym (sorts_same u g.sort e)));
+  behind = rw e refl;
+}
+first_by false role u name g gs e = record { names = []; rest = g ∷ gs; is = rw e refl; behind = rw e refl }
+
+first : (role : Role) (u : Sort) (name : List ℕ) (gs : List Group) → First role u name gs
+first role u name [] = record { names = []; rest = []; is = refl; behind = refl }
+first role u name (g ∷ gs) = first_by (same_sort u g.sort) role u name g gs refl
+
 -- an object behind another one
-behind : (t u : Sort) (name : List ℕ) (fs : List Form) → rest_after t (declared_before u name fs) ≡ (opening (Some t) u ++ 32 ∷ name) ++ rest_after u fs
-behind t u name fs =
-    let s = shape u name fs in
-    let line = text (forms.Declare u (name ∷ s.names) ∷ s.rest) in
-    let here = 32 ∷ (name ++ rest_after u fs) in
-    let same : 32 ∷ ((name ++ spaced s.names) ++ (10 ∷ text s.rest)) ≡ here = ap (λ (x : List ℕ). 32 ∷ x) (append_assoc name (spaced s.names) (10 ∷ text s.rest) ∙ sym (ap (λ (x : List ℕ). name ++ x) s.behind)) in
-    let own : line ≡ (sort_word u ++ 32 ∷ name) ++ rest_after u fs = sym (ap text s.is) ∙ before u name fs in
-    ap (rest_after t) s.is ∙ either (same_sort t u) (32 ∷ ((name ++ spaced s.names) ++ (10 ∷ text s.rest))) here (10 ∷ line) same
-    ∙ ap (λ (x : List ℕ). if same_sort t u then here else 10 ∷ x) own ∙ sym (cut (same_sort t u) (sort_word u) name (rest_after u fs))
+behind : (role : Role) (t u : Sort) (name : List ℕ) (gs : List Group) → rest_after role t (grouped_before u name gs) ≡ (opening role (Some t) u ++ 32 ∷ name) ++ rest_after role u gs
+behind role t u name gs =
+    let f = first role u name gs in
+    let line = groups_text role (group u (name ∷ f.names) ∷ f.rest) in
+    let here = 32 ∷ (name ++ rest_after role u gs) in
+    let same : 32 ∷ ((name ++ spaced f.names) ++ (10 ∷ groups_text role f.rest)) ≡ here = ap (λ (x : List ℕ). 32 ∷ x) (append_assoc name (spaced f.names) (10 ∷ groups_text role f.rest) ∙ sym (ap (λ (x : List ℕ). name ++ x) f.behind)) in
+    let own : line ≡ (role_words role u ++ 32 ∷ name) ++ rest_after role u gs = sym (ap (groups_text role) f.is) ∙ before role u name gs in
+    ap (rest_after role t) f.is ∙ either (same_sort t u) (32 ∷ ((name ++ spaced f.names) ++ (10 ∷ groups_text role f.rest))) here (10 ∷ line) same
+    ∙ ap (λ (x : List ℕ). if same_sort t u then here else 10 ∷ x) own ∙ sym (cut (same_sort t u) (role_words role u) name (rest_after role u gs))
 
-rest_text : (ns : Names) (t : Sort) (os : List Obj) → declared_rest ns (Some t) os ≡ rest_after t (declare_forms ns os)
-rest_text ns t [] = refl
-rest_text ns t (o ∷ os) =
-    ap (λ (x : List ℕ). (opening (Some t) o.sort ++ 32 ∷ name_of_object ns o) ++ x) (rest_text ns o.sort os) ∙ sym (behind t o.sort (name_of_object ns o) (declare_forms ns os))
+rest_text : (role : Role) (ns : Names) (t : Sort) (os : List Obj) → objects_rest role ns (Some t) os ≡ rest_after role t (grouped ns os)
+rest_text role ns t [] = refl
+rest_text role ns t (o ∷ os) =
+    ap (λ (x : List ℕ). (opening role (Some t) o.sort ++ 32 ∷ name_of_object ns o) ++ x) (rest_text role ns o.sort os) ∙ sym (behind role t o.sort (name_of_object ns o) (grouped ns os))
 
-pub declared_text : (ns : Names) (os : List Obj) → declared_rest ns None os ≡ text (declare_forms ns os)
-declared_text ns [] = refl
-declared_text ns (o ∷ os) =
-    ap (λ (x : List ℕ). (sort_word o.sort ++ 32 ∷ name_of_object ns o) ++ x) (rest_text ns o.sort os) ∙ sym (before o.sort (name_of_object ns o) (declare_forms ns os))
+groups_of : (role : Role) (ns : Names) (os : List Obj) → objects_text role ns os ≡ groups_text role (grouped ns os)
+groups_of role ns [] = refl
+groups_of role ns (o ∷ os) =
+    ap (λ (x : List ℕ). (role_words role o.sort ++ 32 ∷ name_of_object ns o) ++ x) (rest_text role ns o.sort os) ∙ sym (before role o.sort (name_of_object ns o) (grouped ns os))
+
+declared_groups : (gs : List Group) → groups_text Declared gs ≡ text (map declare_form gs)
+declared_groups [] = refl
+declared_groups (g ∷ gs) = ap (λ (x : List ℕ). group_text Declared g ++ x) (declared_groups gs) ∙ ap (λ (x : List ℕ). x ++ text (map declare_form gs)) (sym (append_assoc (role_words Declared g.sort) (spaced g.names) (10 ∷ [])))
+
+made_groups : (gs : List Group) → groups_text Made gs ≡ text (map made_form gs)
+made_groups [] = refl
+made_groups (g ∷ gs) = ap (λ (x : List ℕ). group_text Made g ++ x) (made_groups gs) ∙ ap (λ (x : List ℕ). x ++ text (map made_form gs)) (sym (append_assoc (role_words Made g.sort) (spaced g.names) (10 ∷ [])))
+
+pub declared_text : (ns : Names) (os : List Obj) → objects_text Declared ns os ≡ text (map declare_form (grouped ns os))
+declared_text ns os = groups_of Declared ns os ∙ declared_groups (grouped ns os)
+
+pub made_text : (ns : Names) (os : List Obj) → objects_text Made ns os ≡ text (map made_form (grouped ns os))
+made_text ns os = groups_of Made ns os ∙ made_groups (grouped ns os)

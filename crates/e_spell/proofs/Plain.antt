@@ -8,11 +8,13 @@ use Rattle.e_clause.specs.declared.cert.Part.TheVariants.{Fact}
 use Rattle.e_clause.specs.declared.cert.Cert.{Cert}
 use Rattle.e_clause.specs.declared.cert.Cert.TheVariants.{Plain}
 use Rattle.e_deriv.specs.declared.names.Names.{Names}
-use Rattle.e_deriv.specs.Script.{Script, Cite, Hence, Qed, erased}
+use Rattle.e_construct.specs.Construct.{made}
+use Rattle.e_deriv.specs.Naming.{named}
+use Rattle.e_deriv.specs.Script.{Script, Cite, Hence, Make, Qed, erased}
 use Rattle.e_book.specs.declared.form.Form.{Form}
 use Rattle.e_book.specs.declared.form.Form.TheVariants as forms
 use Rattle.e_book.specs.Entry.{Entry}
-use Rattle.e_book.specs.Canonical.{line_of, by_form, hence_form, head_forms, script_forms, end_form, forms_of}
+use Rattle.e_book.specs.Canonical.{line_of, by_form, hence_form, let_form, qed_form, head_forms, script_forms, names_of_proof, end_form, forms_of}
 use Rattle.e_spell.specs.Certificates.{certs_lines}
 use Rattle.e_spell.specs.Spelling.{script_lines, spelled_lines}
 use Rattle.e_spell.specs.Laws.{is_plain}
@@ -23,11 +25,13 @@ form_is_plain (forms.Declare Point ns) = refl
 form_is_plain (forms.Declare Line ns) = refl
 form_is_plain (forms.Declare Circle ns) = refl
 form_is_plain (forms.Given ls) = refl
+form_is_plain (forms.Made sort ns) = refl
 form_is_plain (forms.Show ls) = refl
 form_is_plain forms.Proof = refl
 form_is_plain (forms.By r ns l) = refl
 form_is_plain (forms.Hence l) = refl
-form_is_plain forms.Qed = refl
+form_is_plain (forms.Let l) = refl
+form_is_plain (forms.Qed ns) = refl
 form_is_plain forms.End = refl
 
 keep : (line : List ℕ) (lines : List (List ℕ)) → is_plain line ≡ true → filter is_plain (line ∷ lines) ≡ line ∷ filter is_plain lines
@@ -51,13 +55,17 @@ script_stays ns (Cite by rest) = ap (λ (x : List (List ℕ)). line_of (by_form 
 script_stays ns (Hence lit cert rest) =
     ap (λ (x : List (List ℕ)). line_of (hence_form ns lit) ∷ x)
     (filter-append is_plain (certs_lines ns (option_to_list cert)) (script_lines ns rest) ∙ ap (λ (x : List (List ℕ)). x ++ filter is_plain (script_lines ns rest)) (certs_go ns (option_to_list cert)) ∙ script_stays ns rest)
-script_stays ns (Qed objects cs) = ap (λ (x : List (List ℕ)). line_of forms.Qed ∷ x) (certs_go ns cs)
+script_stays ns (Make form names cs rest) =
+    ap (λ (x : List (List ℕ)). line_of (let_form ns form names) ∷ x)
+    (filter-append is_plain (certs_lines ns cs) (script_lines (named ns (made form) names) rest)
+    ∙ ap (λ (x : List (List ℕ)). x ++ filter is_plain (script_lines (named ns (made form) names) rest)) (certs_go ns cs) ∙ script_stays (named ns (made form) names) rest)
+script_stays ns (Qed objects cs) = ap (λ (x : List (List ℕ)). line_of (qed_form ns objects) ∷ x) (certs_go ns cs)
 
 pub plain_lines : (t : Entry) (d : Script) → erased d ≡ t.script → filter is_plain (spelled_lines t d) ≡ map line_of (forms_of t)
 plain_lines t d e =
     let end = line_of end_form ∷ [] in
-    filter-append is_plain (map line_of (head_forms t)) (script_lines t.names d ++ end)
-    ∙ ap (λ (x : List (List ℕ)). x ++ filter is_plain (script_lines t.names d ++ end)) (forms_stay (head_forms t))
+    filter-append is_plain (map line_of (head_forms t)) (script_lines (names_of_proof t) d ++ end)
+    ∙ ap (λ (x : List (List ℕ)). x ++ filter is_plain (script_lines (names_of_proof t) d ++ end)) (forms_stay (head_forms t))
     ∙ ap (λ (x : List (List ℕ)). map line_of (head_forms t) ++ x)
-    (filter-append is_plain (script_lines t.names d) end ∙ ap (λ (x : List (List ℕ)). x ++ end) (script_stays t.names d ∙ ap (λ (s : Script). map line_of (script_forms t.names s)) e) ∙ sym (lines_append (script_forms t.names t.script) (end_form ∷ [])))
-    ∙ sym (lines_append (head_forms t) (script_forms t.names t.script ++ end_form ∷ []))
+    (filter-append is_plain (script_lines (names_of_proof t) d) end ∙ ap (λ (x : List (List ℕ)). x ++ end) (script_stays (names_of_proof t) d ∙ ap (λ (s : Script). map line_of (script_forms (names_of_proof t) s)) e) ∙ sym (lines_append (script_forms (names_of_proof t) t.script) (end_form ∷ [])))
+    ∙ sym (lines_append (head_forms t) (script_forms (names_of_proof t) t.script ++ end_form ∷ []))

@@ -1,6 +1,6 @@
 -- Words behind spaces.
 use Rattle.std.proofs.Common.{◌≡◌, ℕ, List, [], ◌∷◌, ◌++◌, refl, sym, ap, ◌∙◌, append_assoc}
-use Rattle.e_book.specs.Canonical.{spaced}
+use Rattle.e_text.specs.Tokens.{spaced}
 
 pub spaced_append : (xs ys : List (List ℕ)) → spaced (xs ++ ys) ≡ spaced xs ++ spaced ys
 spaced_append [] ys = refl

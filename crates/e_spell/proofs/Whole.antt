@@ -7,9 +7,11 @@ use Rattle.std.proofs.lemmas.List.{append-nil}
 use Rattle.e_literal.specs.declared.literal.Lit.{Lit}
 use Rattle.e_clause.specs.declared.cert.Cert.{Cert}
 use Rattle.e_clause.specs.declared.cert.Cert.TheVariants.{Plain}
+use Rattle.e_construct.specs.Construct.{made}
 use Rattle.e_deriv.specs.declared.names.Names.{Names}
+use Rattle.e_deriv.specs.Naming.{named}
 use Rattle.e_deriv.specs.declared.block.Step.{Step}
-use Rattle.e_deriv.specs.declared.block.Step.TheVariants.{Cite as CiteStep, Hence as HenceStep}
+use Rattle.e_deriv.specs.declared.block.Step.TheVariants.{Cite as CiteStep, Hence as HenceStep, Make as MakeStep}
 use Rattle.e_deriv.specs.declared.block.Close.{Close}
 use Rattle.e_deriv.specs.declared.block.Close.TheVariants.{Qed as QedClose}
 use Rattle.e_deriv.specs.declared.block.Block.{Block}
@@ -18,11 +20,13 @@ use Rattle.e_theorem.specs.declared.statement.Statement.{Statement}
 use Rattle.e_book.specs.declared.form.Form.{Form}
 use Rattle.e_book.specs.declared.form.Form.TheVariants as forms
 use Rattle.e_book.specs.Entry.{Entry}
-use Rattle.e_book.specs.Canonical.{joined, spaced, line_of, lit_words, raw_of, given_form, show_form, declare_forms, declared_objects, head_forms, end_form, text_of}
+use Rattle.e_text.specs.Tokens.{joined, spaced}
+use Rattle.e_book.specs.Canonical.{line_of, lit_words, raw_of, name_of_object, given_form, show_form, grouped, declare_form, made_form, declared_objects, made_objects, given_forms, shown_forms, head_forms, names_of_proof, end_form, text_of}
+use Rattle.e_spell.specs.declared.declarations.Role.TheVariants.{Declared, Made}
 use Rattle.e_spell.specs.Certificates.{cert_lines, certs_lines}
 use Rattle.e_spell.specs.Spelling.{script_lines, spelled}
-use Rattle.e_spell.specs.Parts.{lits_text, lit_text, cert_text, certs_text, step_text, steps_text, close_text, proof_text, title_text, statement_text, head_text, block_text, declared_rest}
-use Rattle.e_spell.proofs.Declared.{text, declared_text}
+use Rattle.e_spell.specs.Parts.{lits_text, lit_text, cert_text, certs_text, construction_words, step_text, names_behind, names_after, steps_text, close_text, proof_text, objects_text, title_text, statement_text, head_text, block_text}
+use Rattle.e_spell.proofs.Declared.{text, declared_text, made_text}
 
 of_lines : (xs ys : List (List ℕ)) → text_of (xs ++ ys) ≡ text_of xs ++ text_of ys
 of_lines [] ys = refl
@@ -56,43 +60,62 @@ show_text ns (l ∷ ls) =
 title_line : (title : List ℕ) → title_text title ≡ line_of (forms.Theorem title) ++ 10 ∷ []
 title_line title = rw (append-nil title) (sym (append_assoc (codes "theorem") (32 ∷ title) (10 ∷ [])))
 
-of_literals : (ns : Names) (t : Statement) → statement_text ns t ≡ text (map (given_form ns) t.given ++ (map (show_form ns) t.shown ++ forms.Proof ∷ []))
-of_literals ns t =
-    ap (λ (x : List ℕ). x ++ (lits_text (codes "show") ns t.shown ++ (codes "proof" ++ 10 ∷ []))) (given_text ns t.given)
-    ∙ ap (λ (x : List ℕ). text (map (given_form ns) t.given) ++ x) (ap (λ (x : List ℕ). x ++ (codes "proof" ++ 10 ∷ [])) (show_text ns t.shown) ∙ sym (of_forms (map (show_form ns) t.shown) (forms.Proof ∷ [])))
-    ∙ sym (of_forms (map (given_form ns) t.given) (map (show_form ns) t.shown ++ forms.Proof ∷ []))
+-- what is given, and what is shown
+of_given : (ns : Names) (t : Statement) → objects_text Declared ns (declared_objects t) ++ lits_text (codes "given") ns t.given ≡ text (given_forms ns t)
+of_given ns t =
+    ap (λ (x : List ℕ). x ++ lits_text (codes "given") ns t.given) (declared_text ns (declared_objects t)) ∙ ap (λ (x : List ℕ). text (map declare_form (grouped ns (declared_objects t))) ++ x) (given_text ns t.given)
+    ∙ sym (of_forms (map declare_form (grouped ns (declared_objects t))) (map (given_form ns) t.given))
+
+of_shown : (ns : Names) (t : Statement) → objects_text Made ns (made_objects t) ++ lits_text (codes "show") ns t.shown ≡ text (shown_forms ns t)
+of_shown ns t =
+    ap (λ (x : List ℕ). x ++ lits_text (codes "show") ns t.shown) (made_text ns (made_objects t)) ∙ ap (λ (x : List ℕ). text (map made_form (grouped ns (made_objects t))) ++ x) (show_text ns t.shown)
+    ∙ sym (of_forms (map made_form (grouped ns (made_objects t))) (map (show_form ns) t.shown))
+
+of_statement : (ns : Names) (t : Statement) → statement_text ns t ++ (codes "proof" ++ 10 ∷ []) ≡ text (given_forms ns t ++ (shown_forms ns t ++ forms.Proof ∷ []))
+of_statement ns t =
+    let given = objects_text Declared ns (declared_objects t) in
+    let lits = lits_text (codes "given") ns t.given in
+    let shown = objects_text Made ns (made_objects t) ++ lits_text (codes "show") ns t.shown in
+    let end = codes "proof" ++ 10 ∷ [] in
+    ap (λ (x : List ℕ). x ++ end) (sym (append_assoc given lits shown)) ∙ append_assoc (given ++ lits) shown end ∙ ap (λ (x : List ℕ). x ++ (shown ++ end)) (of_given ns t)
+    ∙ ap (λ (x : List ℕ). text (given_forms ns t) ++ (x ++ end)) (of_shown ns t) ∙ ap (λ (x : List ℕ). text (given_forms ns t) ++ x) (sym (of_forms (shown_forms ns t) (forms.Proof ∷ [])))
+    ∙ sym (of_forms (given_forms ns t) (shown_forms ns t ++ forms.Proof ∷ []))
 
 of_head : (t : Entry) → head_text t.title t.names t.statement ≡ text (head_forms t)
 of_head t =
-    let objects = declared_objects t.statement.declared in
-    let behind = map (given_form t.names) t.statement.given ++ (map (show_form t.names) t.statement.shown ++ forms.Proof ∷ []) in
-    ap (λ (x : List ℕ). x ++ (declared_rest t.names None objects ++ statement_text t.names t.statement)) (title_line t.title)
-    ∙ ap (λ (x : List ℕ). (line_of (forms.Theorem t.title) ++ 10 ∷ []) ++ x)
-    (ap (λ (x : List ℕ). x ++ statement_text t.names t.statement) (declared_text t.names objects) ∙ ap (λ (x : List ℕ). text (declare_forms t.names objects) ++ x) (of_literals t.names t.statement) ∙ sym (of_forms (declare_forms t.names objects) behind))
+    ap (λ (x : List ℕ). x ++ (statement_text t.names t.statement ++ (codes "proof" ++ 10 ∷ []))) (title_line t.title)
+    ∙ ap (λ (x : List ℕ). (line_of (forms.Theorem t.title) ++ 10 ∷ []) ++ x) (of_statement t.names t.statement)
 
-of_step : (ns : Names) (s : Step) (rest : Script) → text_of (script_lines ns (step_script s rest)) ≡ step_text ns s ++ text_of (script_lines ns rest)
+of_step : (ns : Names) (s : Step) (rest : Script) → text_of (script_lines ns (step_script s rest)) ≡ step_text ns s ++ text_of (script_lines (names_behind ns s) rest)
 unfolding script_lines
 of_step ns (CiteStep by) rest = refl
 of_step ns (HenceStep lit cert) rest =
     ap (λ (t : List ℕ). lit_text (codes "hence") ns lit ++ t) (of_lines (certs_lines ns (option_to_list cert)) (script_lines ns rest) ∙ ap (λ (t : List ℕ). t ++ text_of (script_lines ns rest)) (of_certs ns (option_to_list cert)))
     ∙ sym (append_assoc (lit_text (codes "hence") ns lit) (certs_text ns (option_to_list cert)) (text_of (script_lines ns rest)))
+of_step ns (MakeStep form names certs) rest =
+    let words = spaced (construction_words ns form names) ++ 10 ∷ [] in
+    let after = script_lines (named ns (made form) names) rest in
+    ap (λ (t : List ℕ). codes "let" ++ (words ++ t)) (of_lines (certs_lines ns certs) after ∙ ap (λ (t : List ℕ). t ++ text_of after) (of_certs ns certs))
+    ∙ ap (λ (t : List ℕ). codes "let" ++ t) (sym (append_assoc words (certs_text ns certs) (text_of after)))
 
-of_steps : (ns : Names) (ss : List Step) (rest : Script) → text_of (script_lines ns (steps_script ss rest)) ≡ steps_text ns ss ++ text_of (script_lines ns rest)
+of_steps : (ns : Names) (ss : List Step) (rest : Script) → text_of (script_lines ns (steps_script ss rest)) ≡ steps_text ns ss ++ text_of (script_lines (names_after ns ss) rest)
 of_steps ns [] rest = refl
 of_steps ns (s ∷ ss) rest =
-    of_step ns s (steps_script ss rest) ∙ ap (λ (t : List ℕ). step_text ns s ++ t) (of_steps ns ss rest) ∙ sym (append_assoc (step_text ns s) (steps_text ns ss) (text_of (script_lines ns rest)))
+    of_step ns s (steps_script ss rest) ∙ ap (λ (t : List ℕ). step_text ns s ++ t) (of_steps (names_behind ns s) ss rest)
+    ∙ sym (append_assoc (step_text ns s) (steps_text (names_behind ns s) ss) (text_of (script_lines (names_after (names_behind ns s) ss) rest)))
 
 of_close : (ns : Names) (c : Close) → text_of (script_lines ns (close_script c)) ≡ close_text ns c
 unfolding script_lines
-of_close ns (QedClose objects cs) = ap (λ (t : List ℕ). (codes "qed" ++ 10 ∷ []) ++ t) (of_certs ns cs)
+of_close ns (QedClose objects cs) = ap (λ (t : List ℕ). codes "qed" ++ ((spaced (map (name_of_object ns) objects) ++ 10 ∷ []) ++ t)) (of_certs ns cs)
 
 of_proof : (ns : Names) (b : Block) → proof_text ns b ≡ text_of (script_lines ns (script_of b) ++ line_of end_form ∷ [])
 of_proof ns b =
     let end = line_of end_form ∷ [] in
-    sym (of_lines (script_lines ns (script_of b)) end ∙ ap (λ (t : List ℕ). t ++ text_of end) (of_steps ns b.steps.items (close_script b.close) ∙ ap (λ (t : List ℕ). steps_text ns b.steps.items ++ t) (of_close ns b.close))
-    ∙ append_assoc (steps_text ns b.steps.items) (close_text ns b.close) (text_of end))
+    let after = names_after ns b.steps.items in
+    sym (of_lines (script_lines ns (script_of b)) end ∙ ap (λ (t : List ℕ). t ++ text_of end) (of_steps ns b.steps.items (close_script b.close) ∙ ap (λ (t : List ℕ). steps_text ns b.steps.items ++ t) (of_close after b.close))
+    ∙ append_assoc (steps_text ns b.steps.items) (close_text after b.close) (text_of end))
 
 pub spelled_parts : (t : Entry) (b : Block) → block_text t b ≡ spelled t (script_of b)
 spelled_parts t b =
-    ap (λ (x : List ℕ). x ++ proof_text t.names b) (of_head t) ∙ ap (λ (x : List ℕ). text (head_forms t) ++ x) (of_proof t.names b)
-    ∙ sym (of_lines (map line_of (head_forms t)) (script_lines t.names (script_of b) ++ line_of end_form ∷ []))
+    ap (λ (x : List ℕ). x ++ proof_text (names_of_proof t) b) (of_head t) ∙ ap (λ (x : List ℕ). text (head_forms t) ++ x) (of_proof (names_of_proof t) b)
+    ∙ sym (of_lines (map line_of (head_forms t)) (script_lines (names_of_proof t) (script_of b) ++ line_of end_form ∷ []))

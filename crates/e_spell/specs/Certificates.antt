@@ -6,7 +6,7 @@ use Rattle.e_clause.specs.declared.cert.Part.TheVariants.{Fact}
 use Rattle.e_clause.specs.declared.cert.Cert.{Cert}
 use Rattle.e_clause.specs.declared.cert.Cert.TheVariants.{Plain}
 use Rattle.e_deriv.specs.declared.names.Names.{Names}
-use Rattle.e_book.specs.Canonical.{joined}
+use Rattle.e_text.specs.Tokens.{joined}
 
 -- each line of a certificate begins with the sign `|`
 abbrev pub part_lines : Names → Part → List (List (List ℕ))

@@ -7,20 +7,27 @@ use Rattle.e_literal.specs.declared.object.Sort.{Sort}
 use Rattle.e_literal.specs.declared.object.Obj.{Obj}
 use Rattle.e_literal.specs.declared.literal.Lit.{Lit}
 use Rattle.e_literal.specs.Scopes.{same_sort}
+use Rattle.e_construct.specs.declared.construction.Construction.{Construction}
+use Rattle.e_construct.specs.Construct.{made}
+use Rattle.e_construct.specs.Lines.{pieces}
 use Rattle.e_clause.specs.declared.cert.By.{By}
 use Rattle.e_clause.specs.declared.cert.Part.{Part}
 use Rattle.e_clause.specs.declared.cert.Cert.{Cert}
 use Rattle.e_clause.specs.declared.cert.Cert.TheVariants.{Plain}
 use Rattle.e_deriv.specs.declared.names.Names.{Names}
+use Rattle.e_deriv.specs.Naming.{named}
 use Rattle.e_deriv.specs.declared.block.Step.{Step}
-use Rattle.e_deriv.specs.declared.block.Step.TheVariants.{Cite as CiteStep, Hence as HenceStep}
+use Rattle.e_deriv.specs.declared.block.Step.TheVariants.{Cite as CiteStep, Hence as HenceStep, Make as MakeStep}
 use Rattle.e_deriv.specs.declared.block.Close.{Close}
 use Rattle.e_deriv.specs.declared.block.Close.TheVariants.{Qed as QedClose}
 use Rattle.e_deriv.specs.declared.block.Block.{Block}
 use Rattle.e_deriv.specs.declared.stop.Wanted.{Wanted}
 use Rattle.e_theorem.specs.declared.statement.Statement.{Statement}
 use Rattle.e_book.specs.Entry.{Entry}
-use Rattle.e_book.specs.Canonical.{joined, spaced, lit_words, raw_of, rule_name, name_of_object, sort_word, declared_objects, text_of}
+use Rattle.e_text.specs.Tokens.{joined, spaced}
+use Rattle.e_book.specs.Canonical.{lit_words, filled, avoid_words, raw_of, rule_name, name_of_object, sort_word, declared_objects, made_objects, names_of_proof, text_of}
+use Rattle.e_spell.specs.declared.declarations.Role.{Role}
+use Rattle.e_spell.specs.declared.declarations.Role.TheVariants.{Declared, Made}
 use Rattle.e_spell.specs.Certificates.{part_lines}
 use Rattle.e_spell.specs.Spelling.{wanted_words}
 
@@ -44,46 +51,74 @@ certs_text ns cs = flat_map (cert_text ns) cs
 abbrev pub citation_words : Names → By → List (List ℕ)
 citation_words ns b = rule_name b.rule ∷ (map (name_of_object ns) b.args ++ codes ":" ∷ lit_words (raw_of ns b.lit))
 
+-- a construction behind the first word of its line
+abbrev pub construction_words : Names → Construction → List (List ℕ) → List (List ℕ)
+construction_words ns form names =
+    filled (pieces form.shape) names (map (name_of_object ns) form.args) ++ avoid_words (map (name_of_object ns) form.avoid)
+
 abbrev pub step_text : Names → Step → List ℕ
 step_text ns (CiteStep by) = codes "by" ++ (spaced (citation_words ns by) ++ 10 ∷ [])
 step_text ns (HenceStep lit cert) = lit_text (codes "hence") ns lit ++ certs_text ns (option_to_list cert)
+step_text ns (MakeStep form names certs) = codes "let" ++ ((spaced (construction_words ns form names) ++ 10 ∷ []) ++ certs_text ns certs)
+
+-- the names in scope behind a step
+abbrev pub names_behind : Names → Step → Names
+names_behind ns (CiteStep by) = ns
+names_behind ns (HenceStep lit cert) = ns
+names_behind ns (MakeStep form names certs) = named ns (made form) names
+
+-- and behind several
+abbrev pub names_after : Names → List Step → Names
+names_after ns [] = ns
+names_after ns (s ∷ steps) = names_after (names_behind ns s) steps
 
 abbrev pub steps_text : Names → List Step → List ℕ
-steps_text ns steps = flat_map (step_text ns) steps
+steps_text ns [] = []
+steps_text ns (s ∷ steps) = step_text ns s ++ steps_text (names_behind ns s) steps
 
 abbrev pub close_text : Names → Close → List ℕ
-close_text ns (QedClose objects cs) = (codes "qed" ++ 10 ∷ []) ++ certs_text ns cs
+close_text ns (QedClose objects cs) = codes "qed" ++ ((spaced (map (name_of_object ns) objects) ++ 10 ∷ []) ++ certs_text ns cs)
 
 abbrev pub proof_text : Names → Block → List ℕ
-proof_text ns b = steps_text ns b.steps.items ++ (close_text ns b.close ++ (codes "end" ++ 10 ∷ []))
+proof_text ns b = steps_text ns b.steps.items ++ (close_text (names_after ns b.steps.items) b.close ++ (codes "end" ++ 10 ∷ []))
+
+-- the first words of a line of objects
+abbrev pub role_words : Role → Sort → List ℕ
+role_words Declared s = sort_word s
+role_words Made s = codes "made" ++ 32 ∷ sort_word s
 
 -- what stands before the name of an object, by the sort of the object before it: nothing on a line of that sort
-abbrev pub opening : Option Sort → Sort → List ℕ
-opening None s = sort_word s
-opening (Some t) s = if same_sort t s then [] else 10 ∷ sort_word s
+abbrev pub opening : Role → Option Sort → Sort → List ℕ
+opening role None s = role_words role s
+opening role (Some t) s = if same_sort t s then [] else 10 ∷ role_words role s
 
 -- the end of the last line, where there is one
 abbrev pub closing : Option Sort → List ℕ
 closing None = []
 closing (Some t) = 10 ∷ []
 
--- the lines that declare these objects, behind an object of this sort
-abbrev pub declared_rest : Names → Option Sort → List Obj → List ℕ
-declared_rest ns last [] = closing last
-declared_rest ns last (o ∷ os) = (opening last o.sort ++ 32 ∷ name_of_object ns o) ++ declared_rest ns (Some o.sort) os
+-- the lines of these objects, behind an object of this sort
+abbrev pub objects_rest : Role → Names → Option Sort → List Obj → List ℕ
+objects_rest role ns last [] = closing last
+objects_rest role ns last (o ∷ os) = (opening role last o.sort ++ 32 ∷ name_of_object ns o) ++ objects_rest role ns (Some o.sort) os
+
+abbrev pub objects_text : Role → Names → List Obj → List ℕ
+objects_text role ns os = objects_rest role ns None os
 
 abbrev pub title_text : List ℕ → List ℕ
 title_text title = codes "theorem" ++ 32 ∷ (title ++ 10 ∷ [])
 
 abbrev pub statement_text : Names → Statement → List ℕ
-statement_text ns t = lits_text (codes "given") ns t.given ++ (lits_text (codes "show") ns t.shown ++ (codes "proof" ++ 10 ∷ []))
+statement_text ns t =
+    objects_text Declared ns (declared_objects t) ++ (lits_text (codes "given") ns t.given
+    ++ (objects_text Made ns (made_objects t) ++ lits_text (codes "show") ns t.shown))
 
 abbrev pub head_text : List ℕ → Names → Statement → List ℕ
-head_text title ns t = title_text title ++ (declared_rest ns None (declared_objects t.declared) ++ statement_text ns t)
+head_text title ns t = title_text title ++ (statement_text ns t ++ (codes "proof" ++ 10 ∷ []))
 
 -- the spelling in its parts
 abbrev pub block_text : Entry → Block → List ℕ
-block_text t b = head_text t.title t.names t.statement ++ proof_text t.names b
+block_text t b = head_text t.title t.names t.statement ++ proof_text (names_of_proof t) b
 
 abbrev pub unlicensed_line : List ℕ → ℕ → List ℕ
 unlicensed_line title step = codes "unlicensed" ++ 32 ∷ (title ++ 32 ∷ (decimal step ++ 10 ∷ []))

@@ -7,20 +7,25 @@ use Rattle.e_deriv.specs.declared.stop.Wanted.{Wanted}
 use Rattle.e_deriv.specs.declared.stop.Wanted.TheVariants.{Literal}
 use Rattle.e_deriv.specs.declared.stop.Stop.{Stop}
 use Rattle.e_deriv.specs.declared.stop.Stop.TheVariants.{Unlicensed, NoMemory}
-use Rattle.e_deriv.specs.Script.{Script, Cite, Hence, Qed}
+use Rattle.e_construct.specs.Construct.{made}
+use Rattle.e_deriv.specs.Naming.{named}
+use Rattle.e_deriv.specs.Script.{Script, Cite, Hence, Make, Qed}
 use Rattle.e_book.specs.Entry.{Entry}
-use Rattle.e_book.specs.Canonical.{joined, line_of, lit_words, raw_of, by_form, hence_form, qed_form, end_form, head_forms, text_of}
+use Rattle.e_text.specs.Tokens.{joined}
+use Rattle.e_book.specs.Canonical.{line_of, lit_words, raw_of, by_form, hence_form, let_form, qed_form, end_form, head_forms, names_of_proof, text_of}
 use Rattle.e_spell.specs.Certificates.{certs_lines}
 
--- each line of a derivation, and below it one certificate for each literal that it needs
+-- each line of a derivation, and below it one certificate for each literal that it needs, where these names are in scope
+-- before the first: those of new objects come into scope behind the certificates of the line that makes them
 unfoldable pub script_lines : Names → Script → List (List ℕ)
 script_lines ns (Cite by rest) = line_of (by_form ns by) ∷ script_lines ns rest
 script_lines ns (Hence lit cert rest) = line_of (hence_form ns lit) ∷ (certs_lines ns (option_to_list cert) ++ script_lines ns rest)
+script_lines ns (Make form names certs rest) = line_of (let_form ns form names) ∷ (certs_lines ns certs ++ script_lines (named ns (made form) names) rest)
 script_lines ns (Qed objects certs) = line_of (qed_form ns objects) ∷ certs_lines ns certs
 
 -- the lines of a theorem with its derivation, in order
 abbrev pub spelled_lines : Entry → Script → List (List ℕ)
-spelled_lines t d = map line_of (head_forms t) ++ (script_lines t.names d ++ line_of end_form ∷ [])
+spelled_lines t d = map line_of (head_forms t) ++ (script_lines (names_of_proof t) d ++ line_of end_form ∷ [])
 
 abbrev pub spelled : Entry → Script → List ℕ
 spelled t d = text_of (spelled_lines t d)

@@ -2,10 +2,13 @@
 #![tactic(auto)]
 
 mod certificates;
+mod constructions;
+mod declarations;
 mod head;
 mod laws;
 mod literals;
 mod proof;
+mod scope;
 mod words;
 mod writer;
 

@@ -1,7 +1,8 @@
 //! Literals and objects by their names.
 ghost use Rattle.std.specs.Prelude.{◌≡◌, ◌++◌, ◌∷◌, [], codes, map, OnOk};
-ghost use Rattle.e_book.specs.Scope.{names_of_sort};
-ghost use Rattle.e_book.specs.Canonical.{spaced, atom_words, not_words, lit_words, raw_atom, raw_of, name_at, name_of_object};
+ghost use Rattle.e_deriv.specs.Naming.{names_of_sort};
+ghost use Rattle.e_text.specs.Tokens.{spaced};
+ghost use Rattle.e_book.specs.Canonical.{atom_words, not_words, lit_words, raw_atom, raw_of, name_at, name_of_object};
 ghost use Rattle.e_spell.specs.Parts.{lit_text, lits_text};
 
 use crate::words::{end_line, put, put_three, put_two};
@@ -20,21 +21,18 @@ fn name_at(names: &[Name], i: usize) -> &[u8]
     }
 }
 
-fn names_of_sort(names: &Names, sort: Sort) -> &[Name]
-    ensures { result.now ≡ names_of_sort names.now sort }
-{
-    match sort {
-        Sort::Point => names.points.items(),
-        Sort::Line => names.lines.items(),
-        Sort::Circle => names.circles.items(),
-    }
-}
-
 /// The name of the object of a sort with a number.
 pub(crate) fn name_of(names: &Names, sort: Sort, num: usize) -> &[u8]
     ensures { result.now ≡ name_at (names_of_sort names.now sort) num }
 {
-    name_at(names_of_sort(names, sort), num)
+    name_at(names.of_sort(sort), num)
+}
+
+/// The name of an object.
+pub(crate) fn name_of_object(names: &Names, object: Obj) -> &[u8]
+    ensures { result.now ≡ name_of_object names.now object }
+{
+    name_of(names, object.sort, object.num as usize)
 }
 
 fn point(names: &Names, i: u16) -> &[u8]
@@ -64,7 +62,7 @@ pub(crate) fn put_objects(
     ensures { OnOk result (out.new.items ≡ out.old.items ++ spaced (map (name_of_object names.now) objects.now)) }
 {
     for object in objects {
-        put(out, name_of(names, object.sort, object.num as usize))?;
+        put(out, name_of_object(names, *object))?;
     }
     Ok(())
 }

@@ -1,13 +1,17 @@
 //! The lines of a proof, each with its certificates below it.
-ghost use Rattle.std.specs.Prelude.{◌≡◌, ◌++◌, ◌∷◌, [], codes, OnOk};
-ghost use Rattle.e_book.specs.Canonical.{spaced, rule_name};
-ghost use Rattle.e_spell.specs.Parts.{citation_words, step_text, steps_text, close_text, proof_text};
+ghost use Rattle.std.specs.Prelude.{◌≡◌, ◌++◌, ◌∷◌, [], codes, map, OnOk};
+ghost use Rattle.e_text.specs.Tokens.{spaced};
+ghost use Rattle.e_book.specs.Canonical.{rule_name, name_of_object};
+ghost use Rattle.e_spell.specs.Parts.{citation_words, step_text, steps_text, names_after, close_text, proof_text};
 
 use crate::certificates::{put_cert_of, put_certs};
+use crate::constructions::put_let;
 use crate::literals::{put_literal, put_literal_line, put_objects};
+use crate::scope::name_new;
 use crate::words::{end_line, put, put_line};
 use e_clause::{By, Rule};
 use e_deriv::{Block, Close, Names, Step};
+use e_literal::Obj;
 use std::alloc::AllocError;
 
 /// The name of a rule in the table.
@@ -51,35 +55,55 @@ fn put_step(out: &mut Vec<u8>, names: &Names, step: &Step) -> Result<(), AllocEr
             put_literal_line(out, b"hence", names, lit)?;
             put_cert_of(out, names, cert)
         }
+        Step::Make {
+            form,
+            names: new,
+            certs,
+        } => {
+            put_let(out, names, form, new.items())?;
+            put_certs(out, names, certs.items())
+        }
     }
 }
 
-fn put_steps(out: &mut Vec<u8>, names: &Names, steps: &[Step]) -> Result<(), AllocError>
-    ensures { OnOk result (out.new.items ≡ out.old.items ++ steps_text names.now steps.now) }
+/// The steps, each with the names in scope before it: those of new objects come into scope behind the step.
+fn put_steps(out: &mut Vec<u8>, names: &mut Names, steps: &[Step]) -> Result<(), AllocError>
+    ensures text { OnOk result (out.new.items ≡ out.old.items ++ steps_text names.old steps.now) }
+    ensures names { OnOk result (names.new ≡ names_after names.old steps.now) }
 {
     for step in steps {
         put_step(out, names, step)?;
+        name_new(names, step)?;
     }
     Ok(())
+}
+
+fn put_qed(out: &mut Vec<u8>, names: &Names, objects: &[Obj]) -> Result<(), AllocError>
+    ensures { OnOk result (out.new.items ≡ out.old.items ++ (codes "qed" ++ (spaced (map (name_of_object names.now) objects.now) ++ 10 ∷ []))) }
+{
+    out.extend_from_slice(b"qed")?;
+    put_objects(out, names, objects)?;
+    end_line(out)
 }
 
 fn put_close(out: &mut Vec<u8>, names: &Names, close: &Close) -> Result<(), AllocError>
     ensures { OnOk result (out.new.items ≡ out.old.items ++ close_text names.now close.now) }
 {
     match close {
-        Close::Qed { certs, .. } => {
-            put_line(out, b"qed")?;
+        Close::Qed { objects, certs } => {
+            put_qed(out, names, objects.items())?;
             put_certs(out, names, certs.items())
         }
     }
 }
 
-/// The lines from behind the word proof to the theorem's end.
-pub(crate) fn put_proof(out: &mut Vec<u8>, names: &Names, block: &Block) -> Result<(), AllocError>
-    ensures { OnOk result (out.new.items ≡ out.old.items ++ proof_text names.now block.now) }
+/// The lines from behind the word proof to the theorem's end, where these names are in scope before the first.
+pub(crate) fn put_proof(out: &mut Vec<u8>, names: Names, block: &Block) -> Result<(), AllocError>
+    ensures { OnOk result (out.new.items ≡ out.old.items ++ proof_text names.entry block.now) }
 {
-    put_steps(out, names, &block.steps)?;
-    put_close(out, names, &block.close)?;
+    let mut names = names;
+    put_steps(out, &mut names, &block.steps)?;
+    put_close(out, &names, &block.close)?;
     put_line(out, b"end")?;
     Ok(())
 }

@@ -1,8 +1,9 @@
-//! A theorem with literals of every kind, spelled, and a stop.
+//! A theorem with literals of every kind, made objects and constructions, spelled, and a stop.
 
 use crate::{spell, spell_stop};
 use e_book::Theorem;
 use e_clause::{By, Cert, Part, Rule};
+use e_construct::{Construction, Shape};
 use e_deriv::{Block, Close, Names, Step, Stop, Wanted};
 use e_literal::{Atom, Items, Lit, Obj, Sort};
 use e_text::{Name, Title};
@@ -14,11 +15,12 @@ fn lit(neg: bool, atom: Atom) -> Lit {
     Lit { neg, atom }
 }
 
+fn object(sort: Sort, num: u16) -> Obj {
+    Obj { sort, num }
+}
+
 fn point(num: u16) -> Obj {
-    Obj {
-        sort: Sort::Point,
-        num,
-    }
+    object(Sort::Point, num)
 }
 
 fn name(token: &[u8]) -> Result<Name, Fail> {
@@ -27,13 +29,13 @@ fn name(token: &[u8]) -> Result<Name, Fail> {
 
 fn names(alloc: Global) -> Result<Names, Fail> {
     Ok(Names {
-        points: Items::new(vec![in alloc; name(b"a")?, name(b"b'")?, name(b"c")?]?),
-        lines: Items::new(vec![in alloc; name(b"L")?, name(b"M")?]?),
+        points: Items::new(vec![in alloc; name(b"a")?, name(b"b'")?, name(b"c")?, name(b"d")?, name(b"e")?]?),
+        lines: Items::new(vec![in alloc; name(b"L")?, name(b"M")?, name(b"N")?]?),
         circles: Items::new(vec![in alloc; name(b"C1")?, name(b"C2")?]?),
     })
 }
 
-// two points on one line of the text, then another sort, then points again
+// declared: two points on one line of the text, then another sort, then points again; made: two points and a line
 fn statement(alloc: Global) -> Result<Statement, Fail> {
     let declared = vec![in alloc;
         Sort::Point,
@@ -57,13 +59,71 @@ fn statement(alloc: Global) -> Result<Statement, Fail> {
         lit(false, Atom::EqP(0, 1)),
         lit(true, Atom::EqL(0, 1)),
     ]?;
-    let shown = vec![in alloc; lit(true, Atom::EqP(0, 1)), lit(false, Atom::EqC(1, 1))]?;
+    let made = vec![in alloc; Sort::Point, Sort::Point, Sort::Line]?;
+    let shown = vec![in alloc;
+        lit(true, Atom::EqP(0, 1)),
+        lit(false, Atom::EqC(1, 1)),
+        lit(false, Atom::On(4, 2)),
+    ]?;
     Ok(Statement {
         declared: Items::new(declared),
         given: Items::new(given),
-        made: Items::empty(alloc),
+        made: Items::new(made),
         shown: Items::new(shown),
     })
+}
+
+fn facts(alloc: Global, count: usize) -> Result<Items<Cert>, Fail> {
+    let mut certs = Items::empty(alloc);
+    for _ in 0..count {
+        certs.push(Cert::Plain(Part::Fact))?;
+    }
+    Ok(certs)
+}
+
+fn construction(
+    shape: Shape,
+    args: Vec<Obj>,
+    avoid: Vec<Obj>,
+    names: Vec<Name>,
+    certs: Items<Cert>,
+) -> Step {
+    Step::Make {
+        form: Construction {
+            shape,
+            args: Items::new(args),
+            avoid: Items::new(avoid),
+        },
+        names: Items::new(names),
+        certs,
+    }
+}
+
+// the names of made objects are free in the proof, and those of new objects are in scope behind their line
+fn constructions(alloc: Global) -> Result<Vec<Step>, Fail> {
+    let on = object(Sort::Line, 0);
+    let within = construction(
+        Shape::Within,
+        vec![in alloc; on, point(0), point(1)]?,
+        vec![in alloc;]?,
+        vec![in alloc; name(b"d")?]?,
+        facts(alloc, 3)?,
+    );
+    let avoiding = construction(
+        Shape::OnLine,
+        vec![in alloc; on]?,
+        vec![in alloc; object(Sort::Line, 1), point(3)]?,
+        vec![in alloc; name(b"q")?]?,
+        facts(alloc, 1)?,
+    );
+    let both = construction(
+        Shape::MeetBoth,
+        vec![in alloc; on, object(Sort::Circle, 0)]?,
+        vec![in alloc;]?,
+        vec![in alloc; name(b"r")?, name(b"s")?]?,
+        facts(alloc, 1)?,
+    );
+    Ok(vec![in alloc; within, avoiding, both]?)
 }
 
 fn derivation(alloc: Global) -> Result<Block, Fail> {
@@ -72,16 +132,20 @@ fn derivation(alloc: Global) -> Result<Block, Fail> {
         args: Items::new(vec![in alloc; point(0), point(1), point(2)]?),
         lit: lit(true, Atom::EqP(0, 1)),
     });
-    let hence = Step::Hence {
-        lit: lit(false, Atom::On(0, 1)),
+    let mut steps = vec![in alloc; cited]?;
+    for step in constructions(alloc)? {
+        steps.push(step)?;
+    }
+    steps.push(Step::Hence {
+        lit: lit(true, Atom::EqP(5, 6)),
         cert: Some(Cert::Plain(Part::Fact)),
-    };
-    let certs = vec![in alloc; Cert::Plain(Part::Fact), Cert::Plain(Part::Fact)]?;
+    })?;
+    let objects = vec![in alloc; point(3), point(4), object(Sort::Line, 0)]?;
     Ok(Block {
-        steps: vec![in alloc; cited, hence]?,
+        steps,
         close: Close::Qed {
-            objects: Items::empty(alloc),
-            certs: Items::new(certs),
+            objects: Items::new(objects),
+            certs: facts(alloc, 3)?,
         },
     })
 }
@@ -89,7 +153,9 @@ fn derivation(alloc: Global) -> Result<Block, Fail> {
 const SPELLED: &[u8] = b"theorem I.4-x\npoints a b'\nlines L M\ncircles C1\npoints c\ncircles C2\n\
 given on a M\ngiven not on b' C1\ngiven inside c C2\ngiven not center a C1\ngiven between a b' c\n\
 given not same-side a b' L\ngiven meets L M\ngiven not meets L C2\ngiven meets C1 C2\ngiven a = b'\ngiven L != M\n\
-show a != b'\nshow C2 = C2\nproof\nby b1b a b' c : a != b'\nhence on a M\n| fact\nqed\n| fact\n| fact\nend\n";
+made points d e\nmade lines N\nshow a != b'\nshow C2 = C2\nshow on e N\nproof\nby b1b a b' c : a != b'\n\
+let d on L between a b'\n| fact\n| fact\n| fact\nlet q on L avoid M d\n| fact\nlet r s meet L C1\n| fact\n\
+hence r != s\n| fact\nqed d q L\n| fact\n| fact\n| fact\nend\n";
 
 #[test]
 fn a_derivation_has_this_text(rt: HostRuntime) -> Result<(), Fail> {

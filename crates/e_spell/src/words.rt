@@ -1,6 +1,6 @@
 //! Words behind spaces, and the ends of lines.
 ghost use Rattle.std.specs.Prelude.{◌≡◌, ◌++◌, ◌∷◌, [], OnOk};
-ghost use Rattle.e_book.specs.Canonical.{spaced};
+ghost use Rattle.e_text.specs.Tokens.{spaced};
 
 use std::alloc::AllocError;
 

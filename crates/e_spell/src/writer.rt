@@ -8,6 +8,7 @@ ghost use Rattle.e_spell.specs.Spelling.{spelled, unlicensed_text, stop_text, Is
 use crate::head::put_head;
 use crate::literals::put_literal;
 use crate::proof::put_proof;
+use crate::scope::first_names;
 use crate::words::{end_line, put};
 use e_book::Theorem;
 use e_deriv::{Block, Names, Stop, Wanted};
@@ -15,11 +16,17 @@ use e_text::Title;
 use itoa::Buffer;
 use std::alloc::{AllocError, Global};
 
-fn put_block(out: &mut Vec<u8>, theorem: &Theorem, deriv: &Block) -> Result<(), AllocError>
+fn put_block(
+    alloc: Global,
+    out: &mut Vec<u8>,
+    theorem: &Theorem,
+    deriv: &Block,
+) -> Result<(), AllocError>
     ensures { OnOk result (out.new.items ≡ out.old.items ++ block_text (entry_of theorem.now) deriv.now) }
 {
-    put_head(out, theorem.title, &theorem.names, &theorem.statement)?;
-    put_proof(out, &theorem.names, deriv)?;
+    let declared = put_head(out, theorem.title, &theorem.names, &theorem.statement)?;
+    let names = first_names(alloc, &theorem.names, declared)?;
+    put_proof(out, names, deriv)?;
     Ok(())
 }
 
@@ -32,7 +39,7 @@ pub fn spell(alloc: Global, theorem: &Theorem, deriv: &Block) -> Result<Vec<u8>,
     ensures { IfOk result (λ v. v.items ≡ spelled (entry_of theorem.now) (script_of deriv.now)) }
 {
     let mut out = Vec::new(alloc);
-    put_block(&mut out, theorem, deriv)?;
+    put_block(alloc, &mut out, theorem, deriv)?;
     Ok(out)
 }
 

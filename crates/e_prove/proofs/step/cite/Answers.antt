@@ -5,5 +5,6 @@ use Rattle.e_prove.proofs.step.cite.Goals as goal
 
 pub returns-clause-ok : goal.returns-clause-ok
 returns-clause-ok c =
-    judged_cite c.args.by.now c.in_ok-derived.derived c.args.facts.now c.add.new.self c.in_ok-derived.ensures
-    (sym c.in_ok-is_cited.ensures ∙ c.if-not-branch.false) (c.in_ok-add.ensures.joined ∙ ap (joined c.args.facts.now) c.in_ok-copy.ensures)
+    let x = c.args.context.now in
+    judged_cite c.args.by.now c.in_ok-derived.derived x _ c.in_ok-derived.ensures (sym c.in_ok-is_cited.ensures ∙ c.if-not-branch.false)
+    (ap (λ facts. record x { facts = facts }) (c.in_ok-add.ensures.joined ∙ ap (joined x.facts) c.in_ok-copy.ensures))

@@ -1,0 +1,236 @@
+-- The lines of a statement are read from their canonical spelling.
+use Rattle.std.proofs.Common.{◌≡◌, ℕ, ◌+◌, ◌<◌, ◌≤◌, Bool, true, false, cond, ltb, List, [], ◌∷◌, ◌++◌, length, map, replicate, Some, None, Option, Result, Ok, Err, refl, sym, ap, subst, ◌∙◌, arith, append_assoc, length-append}
+use Rattle.std.specs.List.{list_all}
+use Rattle.std.proofs.lemmas.Bool.{le-ltb}
+use Rattle.std.proofs.lemmas.List.{append-nil}
+use Rattle.e_text.specs.Names.{is_title}
+use Rattle.e_literal.specs.declared.object.Sort.{Sort}
+use Rattle.e_literal.specs.declared.object.Scope.{Scope}
+use Rattle.e_literal.specs.declared.literal.Lit.{Lit}
+use Rattle.e_literal.specs.Literal.{all_in_scope}
+use Rattle.e_deriv.specs.declared.names.Names.{Names}
+use Rattle.e_deriv.specs.Naming.{names_of_sort}
+use Rattle.e_book.specs.declared.fault.Kind.{Kind}
+use Rattle.e_book.specs.declared.fault.Kind.TheVariants.{Malformed}
+use Rattle.e_book.specs.declared.form.Form.{Form}
+use Rattle.e_book.specs.declared.form.Form.TheVariants as forms
+use Rattle.e_book.specs.declared.draft.Place.{Place}
+use Rattle.e_book.specs.declared.draft.Place.TheVariants.{Declaring, Giving, Making, Showing}
+use Rattle.e_book.specs.declared.draft.Draft.{Draft}
+use Rattle.e_book.specs.Reading.{◌>>=◌}
+use Rattle.e_book.specs.Limits.{most_of, most_theorems, most_facts}
+use Rattle.e_book.specs.Headed.{Headed, is_known}
+use Rattle.e_book.specs.Scope.{scope_of_names}
+use Rattle.e_book.specs.Steps.{allowed, declared, stepped, step, begin, begun, no_names}
+use Rattle.e_book.specs.Book.{is_done}
+use Rattle.e_book.specs.Canonical.{raw_of, given_form, show_form}
+use Rattle.e_book.specs.HasSpelling.{AreNames, is_diagram_lit}
+use Rattle.e_book.proofs.Differ.{both}
+use Rattle.e_book.proofs.Respelled.{GoodForm}
+use Rattle.e_book.proofs.Lookups.{InOrder, lit_number_again, lit_named}
+use Rattle.e_book.proofs.Declared.{Runs, LinesOfNames, Free, plus, declared_one, declared_joined}
+
+-- a draft before the word proof
+abbrev pub stating : List ℕ → Names → List Sort → List Lit → List Sort → List Lit → ℕ → Place → Draft
+stating t ns sorts given made shown facts place =
+    record { title = t; names = ns; in_scope = no_names; declared = sorts; given = given; made = made; shown = shown; steps = []; facts = facts; objects = []; place = place }
+
+-- literals over the objects in scope that canonical lines can spell
+pub record Plain (ns : Names) (ls : List Lit) : Type 0 where
+  pub within : list_all (all_in_scope (scope_of_names ns)) ls ≡ true
+  pub diagram : list_all is_diagram_lit ls ≡ true
+
+pub record PlainLit (ns : Names) (l : Lit) : Type 0 where
+  pub within : all_in_scope (scope_of_names ns) l ≡ true
+  pub diagram : is_diagram_lit l ≡ true
+
+plain_first : (ns : Names) (l : Lit) (ls : List Lit) → Plain ns (l ∷ ls) → PlainLit ns l × Plain ns ls
+plain_first ns l ls p =
+    let a = both (all_in_scope (scope_of_names ns) l) (list_all (all_in_scope (scope_of_names ns)) ls) p.within in
+    let b = both (is_diagram_lit l) (list_all is_diagram_lit ls) p.diagram in
+    (record { within = a.0; diagram = b.0 }, record { within = a.1; diagram = b.1 })
+
+-- ---- the title
+
+pub run_title : (known : List Headed) (t : List ℕ) → is_title t ≡ true → is_known known t ≡ false → length known < most_theorems → Runs known None (forms.Theorem t ∷ []) (Some (begun t))
+unfolding begin
+run_title known t h new few =
+    let room : ltb most_theorems (length known + 1) ≡ false = le-ltb _ _ (omega (arith, few)) in
+    (begun t, h, rw (new, room) refl, refl, refl)
+
+-- ---- declared objects
+
+abbrev pub declaring : List ℕ → Names → List Sort → Draft
+declaring t ns sorts = stating t ns sorts [] [] [] 0 Declaring
+
+declared_names : (sort : Sort) (names : List (List ℕ)) → GoodForm (forms.Declare sort names) → AreNames names
+declared_names sort [] h = absurd h
+declared_names sort (n ∷ ns) h = h
+
+abbrev then_declaring : List ℕ → List Sort → Result Names Kind → Result Draft Kind
+then_declaring t sorts r = r >>= λ ns. Ok (declaring t ns sorts)
+
+one_declared : (t : List ℕ) (ns : Names) (sorts : List Sort) (sort : Sort) (name : List ℕ) → Free ns name → length (names_of_sort ns sort) + 1 ≤ most_of sort
+    → step (declaring t ns sorts) (forms.Declare sort (name ∷ [])) ≡ Ok (declaring t (plus ns sort name) (sorts ++ sort ∷ []))
+unfolding step stepped
+one_declared t ns sorts sort name f few = ap (then_declaring t (sorts ++ sort ∷ [])) (declared_one ns sort name f few)
+
+split_declared : (t : List ℕ) (ns : Names) (sorts : List Sort) (sort : Sort) (name : List ℕ) (more : List (List ℕ)) → Free ns name
+    → step (declaring t ns sorts) (forms.Declare sort (name ∷ more)) ≡ step (declaring t (plus ns sort name) (sorts ++ sort ∷ [])) (forms.Declare sort more)
+unfolding step stepped
+split_declared t ns sorts sort name more f =
+    ap (then_declaring t (sorts ++ sort ∷ replicate (length more) sort)) (declared_joined ns sort name more f)
+    ∙ ap (λ (l : List Sort). then_declaring t l (declared (plus ns sort name) sort more)) (sym (append_assoc sorts (sort ∷ []) (replicate (length more) sort)))
+
+pub declared_lines : (t : List ℕ) → LinesOfNames forms.Declare (declaring t)
+declared_lines t = record {
+  good = λ sort n more h. h;
+  said = declared_names;
+  read = λ sort names. refl;
+  one = one_declared t;
+  split = split_declared t;
+  going = λ ns sorts. refl;
+}
+
+-- ---- given literals
+
+step_given : (t : List ℕ) (ns : Names) (sorts : List Sort) (given : List Lit) (place : Place) (l : Lit) → InOrder ns → PlainLit ns l → length given + 1 ≤ most_facts → allowed place (given_form ns l) ≡ true
+    → step (stating t ns sorts given [] [] (length given) place) (given_form ns l) ≡ Ok (stating t ns sorts (given ++ l ∷ []) [] [] (length (given ++ l ∷ [])) Giving)
+unfolding step stepped
+step_given t ns sorts given place l o p few a =
+    let room : ltb most_facts (length given + length (raw_of ns l ∷ [])) ≡ false = le-ltb _ _ (omega (arith, few)) in
+    rw (a, lit_number_again ns l o p.within p.diagram, room) (ap (λ (n : ℕ). Ok (stating t ns sorts (given ++ l ∷ []) [] [] n Giving)) (sym (length-append given (l ∷ []))))
+
+abbrev giving : List ℕ → Names → List Sort → List Lit → Draft
+giving t ns sorts given = stating t ns sorts given [] [] (length given) Giving
+
+run_given : (known : List Headed) (t : List ℕ) (ns : Names) (sorts : List Sort) (given more : List Lit) → InOrder ns → Plain ns more → length given + length more ≤ most_facts
+    → Runs known (Some (giving t ns sorts given)) (map (given_form ns) more) (Some (giving t ns sorts (given ++ more)))
+run_given known t ns sorts given [] o p few = ap (λ (g : List Lit). Some (giving t ns sorts g)) (sym (append-nil given))
+run_given known t ns sorts given (l ∷ more) o p few =
+    let q = plain_first ns l more p in (
+      giving t ns sorts (given ++ l ∷ []),
+      lit_named ns l o q.0.within q.0.diagram,
+      step_given t ns sorts given Giving l o q.0 (omega (arith, few)) refl,
+      refl,
+      subst (λ (g : List Lit). Runs known (Some (giving t ns sorts (given ++ l ∷ []))) (map (given_form ns) more) (Some (giving t ns sorts g))) (append_assoc given (l ∷ []) more)
+          (run_given known t ns sorts (given ++ l ∷ []) more o q.1 (omega (arith, few, length-append given (l ∷ [])))),
+    )
+
+abbrev after_given : List Lit → Place
+after_given [] = Declaring
+after_given (l ∷ ls) = Giving
+
+-- a draft behind its given lines
+abbrev pub given_draft : List ℕ → Names → List Sort → List Lit → Draft
+given_draft t ns sorts given = stating t ns sorts given [] [] (length given) (after_given given)
+
+pub run_all_given : (known : List Headed) (t : List ℕ) (ns : Names) (sorts : List Sort) (given : List Lit) → InOrder ns → Plain ns given → length given ≤ most_facts
+    → Runs known (Some (declaring t ns sorts)) (map (given_form ns) given) (Some (given_draft t ns sorts given))
+run_all_given known t ns sorts [] o p few = refl
+run_all_given known t ns sorts (l ∷ more) o p few =
+    let q = plain_first ns l more p in (
+      giving t ns sorts (l ∷ []),
+      lit_named ns l o q.0.within q.0.diagram,
+      step_given t ns sorts [] Declaring l o q.0 (omega (arith, few)) refl,
+      refl,
+      run_given known t ns sorts (l ∷ []) more o q.1 (omega (arith, few)),
+    )
+
+-- ---- made objects
+
+abbrev after_made : List Lit → List Sort → Place
+after_made given [] = after_given given
+after_made given (sort ∷ sorts) = Making
+
+-- a draft behind its made lines
+abbrev pub making : List ℕ → List Sort → List Lit → Names → List Sort → Draft
+making t sorts given ns made = stating t ns sorts given made [] (length given) (after_made given made)
+
+may_make : (given : List Lit) (made : List Sort) (sort : Sort) (names : List (List ℕ)) → allowed (after_made given made) (forms.Made sort names) ≡ true
+may_make [] [] sort names = refl
+may_make (l ∷ given) [] sort names = refl
+may_make given (s ∷ made) sort names = refl
+
+some_made : (given : List Lit) (made : List Sort) (sort : Sort) → after_made given (made ++ sort ∷ []) ≡ Making
+some_made given [] sort = refl
+some_made given (s ∷ made) sort = refl
+
+made_going : (given : List Lit) (made : List Sort) (d : Draft) → is_done (record d { place = after_made given made }) ≡ false
+made_going [] [] d = refl
+made_going (l ∷ given) [] d = refl
+made_going given (s ∷ made) d = refl
+
+abbrev then_making : List ℕ → List Sort → List Lit → List Sort → Result Names Kind → Result Draft Kind
+then_making t sorts given made r = r >>= λ ns. Ok (stating t ns sorts given made [] (length given) Making)
+
+one_made : (t : List ℕ) (sorts : List Sort) (given : List Lit) (ns : Names) (made : List Sort) (sort : Sort) (name : List ℕ) → Free ns name → length (names_of_sort ns sort) + 1 ≤ most_of sort
+    → step (making t sorts given ns made) (forms.Made sort (name ∷ [])) ≡ Ok (making t sorts given (plus ns sort name) (made ++ sort ∷ []))
+unfolding step stepped
+one_made t sorts given ns made sort name f few =
+    rw (may_make given made sort (name ∷ []))
+    (ap (then_making t sorts given (made ++ sort ∷ [])) (declared_one ns sort name f few)
+    ∙ ap (λ (p : Place). Ok (stating t (plus ns sort name) sorts given (made ++ sort ∷ []) [] (length given) p)) (sym (some_made given made sort)))
+
+split_made : (t : List ℕ) (sorts : List Sort) (given : List Lit) (ns : Names) (made : List Sort) (sort : Sort) (name : List ℕ) (more : List (List ℕ)) → Free ns name
+    → step (making t sorts given ns made) (forms.Made sort (name ∷ more)) ≡ step (making t sorts given (plus ns sort name) (made ++ sort ∷ [])) (forms.Made sort more)
+unfolding step stepped
+split_made t sorts given ns made sort name more f =
+    rw (may_make given made sort (name ∷ more), may_make given (made ++ sort ∷ []) sort more)
+    (ap (then_making t sorts given (made ++ sort ∷ replicate (length more) sort)) (declared_joined ns sort name more f)
+    ∙ ap (λ (l : List Sort). then_making t sorts given l (declared (plus ns sort name) sort more)) (sym (append_assoc made (sort ∷ []) (replicate (length more) sort))))
+
+made_names : (sort : Sort) (names : List (List ℕ)) → GoodForm (forms.Made sort names) → AreNames names
+made_names sort [] h = absurd h
+made_names sort (n ∷ ns) h = h
+
+pub made_lines : (t : List ℕ) (sorts : List Sort) (given : List Lit) → LinesOfNames forms.Made (making t sorts given)
+made_lines t sorts given = record {
+  good = λ sort n more h. h;
+  said = made_names;
+  read = λ sort names. refl;
+  one = one_made t sorts given;
+  split = split_made t sorts given;
+  going = λ ns made. made_going given made (making t sorts given ns made);
+}
+
+-- ---- shown literals
+
+-- a draft behind its shown lines
+abbrev pub showing : List ℕ → Names → List Sort → List Lit → List Sort → List Lit → Draft
+showing t ns sorts given made shown = stating t ns sorts given made shown (length given) Showing
+
+step_show : (t : List ℕ) (ns : Names) (sorts : List Sort) (given : List Lit) (made : List Sort) (shown : List Lit) (place : Place) (l : Lit) → InOrder ns → PlainLit ns l → allowed place (show_form ns l) ≡ true
+    → step (stating t ns sorts given made shown (length given) place) (show_form ns l) ≡ Ok (showing t ns sorts given made (shown ++ l ∷ []))
+unfolding step stepped
+step_show t ns sorts given made shown place l o p a = rw (a, lit_number_again ns l o p.within p.diagram) refl
+
+run_shown : (known : List Headed) (t : List ℕ) (ns : Names) (sorts : List Sort) (given : List Lit) (made : List Sort) (shown more : List Lit) → InOrder ns → Plain ns more
+    → Runs known (Some (showing t ns sorts given made shown)) (map (show_form ns) more) (Some (showing t ns sorts given made (shown ++ more)))
+run_shown known t ns sorts given made shown [] o p = ap (λ (g : List Lit). Some (showing t ns sorts given made g)) (sym (append-nil shown))
+run_shown known t ns sorts given made shown (l ∷ more) o p =
+    let q = plain_first ns l more p in (
+      showing t ns sorts given made (shown ++ l ∷ []),
+      lit_named ns l o q.0.within q.0.diagram,
+      step_show t ns sorts given made shown Showing l o q.0 refl,
+      refl,
+      subst (λ (g : List Lit). Runs known (Some (showing t ns sorts given made (shown ++ l ∷ []))) (map (show_form ns) more) (Some (showing t ns sorts given made g))) (append_assoc shown (l ∷ []) more)
+          (run_shown known t ns sorts given made (shown ++ l ∷ []) more o q.1),
+    )
+
+may_show : (ns : Names) (given : List Lit) (made : List Sort) (l : Lit) → allowed (after_made given made) (show_form ns l) ≡ true
+may_show ns [] [] l = refl
+may_show ns (g ∷ given) [] l = refl
+may_show ns given (s ∷ made) l = refl
+
+pub run_all_shown : (known : List Headed) (t : List ℕ) (ns : Names) (sorts : List Sort) (given : List Lit) (made : List Sort) (shown : List Lit) → InOrder ns → Plain ns shown → 0 < length shown
+    → Runs known (Some (making t sorts given ns made)) (map (show_form ns) shown) (Some (showing t ns sorts given made shown))
+run_all_shown known t ns sorts given made [] o p some = absurd (omega (arith, some))
+run_all_shown known t ns sorts given made (l ∷ more) o p some =
+    let q = plain_first ns l more p in (
+      showing t ns sorts given made (l ∷ []),
+      lit_named ns l o q.0.within q.0.diagram,
+      step_show t ns sorts given made [] (after_made given made) l o q.0 (may_show ns given made l),
+      refl,
+      run_shown known t ns sorts given made (l ∷ []) more o q.1,
+    )

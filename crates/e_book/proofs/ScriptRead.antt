@@ -1,0 +1,264 @@
+-- The lines of a proof are read from their canonical spelling.
+use Rattle.std.proofs.Common.{◌≡◌, ℕ, ◌+◌, ◌≤◌, Bool, true, false, eqb, ltb, ◌&&◌, List, [], ◌∷◌, ◌++◌, length, map, Option, Some, None, Ok, refl, sym, ap, subst, ◌∙◌, arith, append_assoc, length-append}
+use Rattle.std.specs.List.{list_all}
+use Rattle.std.proofs.lemmas.Bool.{le-ltb, eq-eqb}
+use Rattle.std.proofs.lemmas.List.{append-nil, length-map}
+use Rattle.e_text.specs.Names.{is_name}
+use Rattle.e_literal.specs.declared.object.Sort.{Sort}
+use Rattle.e_literal.specs.declared.object.Obj.{Obj}
+use Rattle.e_literal.specs.declared.object.Scope.{Scope}
+use Rattle.e_literal.specs.declared.literal.Lit.{Lit}
+use Rattle.e_literal.specs.Literal.{is_in_scope, all_in_scope}
+use Rattle.e_literal.specs.Scopes.{same_sort, grown, are_of_sorts}
+use Rattle.e_literal.specs.Facts.{joined, joined_all}
+use Rattle.e_clause.specs.declared.cert.By.{By}
+use Rattle.e_construct.specs.declared.construction.Construction.{Construction}
+use Rattle.e_construct.specs.Construct.{sorts_of, made, gives, fits as fits_form}
+use Rattle.e_deriv.specs.declared.names.Names.{Names}
+use Rattle.e_deriv.specs.declared.block.Step.{Step}
+use Rattle.e_deriv.specs.declared.block.Step.TheVariants as steps
+use Rattle.e_deriv.specs.Naming.{named}
+use Rattle.e_deriv.specs.Script.{Script, Cite, Hence, Make, Qed, steps_script, size}
+use Rattle.e_deriv.specs.Goal.{Goal}
+use Rattle.e_deriv.specs.Lines.{lines}
+use Rattle.e_deriv.specs.Steps.{is_citation, fits}
+use Rattle.e_book.specs.declared.form.Form.{Form}
+use Rattle.e_book.specs.declared.form.Form.TheVariants as forms
+use Rattle.e_book.specs.declared.draft.Place.TheVariants.{Proving, Closed}
+use Rattle.e_book.specs.declared.draft.Draft.{Draft}
+use Rattle.e_book.specs.Limits.{most_steps, most_facts}
+use Rattle.e_book.specs.Headed.{Headed}
+use Rattle.e_book.specs.Scope.{scope_of_names, fresh, object_as, objects_of_sorts, qed_in}
+use Rattle.e_book.specs.Steps.{few_objects, with_step, built, shut, stepped, step}
+use Rattle.e_book.specs.Fits.{NewNamesFit, count_given}
+use Rattle.e_book.specs.Canonical.{name_of_object, by_form, hence_form, let_form, qed_form, script_forms}
+use Rattle.e_book.specs.HasSpelling.{AreNames, is_diagram_lit, is_plain}
+use Rattle.e_book.proofs.Differ.{both}
+use Rattle.e_book.proofs.Respelled.{as_read}
+use Rattle.e_book.proofs.Lookups.{InOrder, lit_number_again, lit_named, object_again, objects_named, sorts_same}
+use Rattle.e_book.proofs.Cited.{by_number_again, by_good}
+use Rattle.e_book.proofs.Declared.{Runs}
+use Rattle.e_book.proofs.Building.{GoodLet, named_scope}
+use Rattle.e_book.proofs.Growing.{named_in_order}
+use Rattle.e_book.proofs.Built.{of_sorts_in_scope, of_sorts_length, let_number_again, let_named}
+use Rattle.e_book.proofs.HeadRead.{PlainLit}
+
+-- a draft in its proof, with these names in scope
+abbrev pub proving : Draft → Names → List Step → ℕ → Draft
+proving d ns ss facts = record d { in_scope = ns; steps = ss; facts = facts; place = Proving }
+
+-- and behind its close
+abbrev pub closed : Draft → Names → List Step → ℕ → List Obj → Draft
+closed d ns ss facts objects = record d { in_scope = ns; steps = ss; facts = facts; objects = objects; place = Closed }
+
+abbrev pub steps_of : Script → List Step
+steps_of (Cite by rest) = steps.Cite by ∷ steps_of rest
+steps_of (Hence lit cert rest) = steps.Hence lit cert ∷ steps_of rest
+steps_of (Make form names certs rest) = steps.Make form names certs ∷ steps_of rest
+steps_of (Qed objects certs) = []
+
+abbrev pub objects_of : Script → List Obj
+objects_of (Cite by rest) = objects_of rest
+objects_of (Hence lit cert rest) = objects_of rest
+objects_of (Make form names certs rest) = objects_of rest
+objects_of (Qed objects certs) = objects
+
+-- ---- one line
+
+step_cite : (d : Draft) (ns : Names) (ss : List Step) (facts : ℕ) (b : By) → InOrder ns → is_citation (scope_of_names ns) b ≡ true → is_diagram_lit b.lit ≡ true → length ss + 1 ≤ most_steps → facts + 1 ≤ most_facts
+    → step (proving d ns ss facts) (by_form ns b) ≡ Ok (proving d ns (ss ++ steps.Cite b ∷ []) (facts + 1))
+unfolding step stepped with_step
+step_cite d ns ss facts b o h p few most =
+    let room : ltb most_steps (length ss + 1) ≡ false = le-ltb _ _ few in
+    let place : ltb most_facts (facts + 1) ≡ false = le-ltb _ _ most in
+    rw (by_number_again ns b o h p, room, place) refl
+
+step_hence : (d : Draft) (ns : Names) (ss : List Step) (facts : ℕ) (l : Lit) → InOrder ns → PlainLit ns l → length ss + 1 ≤ most_steps → facts + 1 ≤ most_facts
+    → step (proving d ns ss facts) (hence_form ns l) ≡ Ok (proving d ns (ss ++ steps.Hence l None ∷ []) (facts + 1))
+unfolding step stepped with_step
+step_hence d ns ss facts l o p few most =
+    let room : ltb most_steps (length ss + 1) ≡ false = le-ltb _ _ few in
+    let place : ltb most_facts (facts + 1) ≡ false = le-ltb _ _ most in
+    rw (lit_number_again ns l o p.within p.diagram, room, place) refl
+
+step_let : (d : Draft) (ns : Names) (ss : List Step) (facts : ℕ) (form : Construction) (names : List (List ℕ)) → InOrder ns → GoodLet ns form names → few_objects (named ns (made form) names) ≡ Ok tt
+    → length ss + 1 ≤ most_steps → facts + length (gives form (scope_of_names ns)) ≤ most_facts
+    → step (proving d ns ss facts) (as_read (let_form ns form names)) ≡ Ok (proving d (named ns (made form) names) (ss ++ steps.Make form names [] ∷ []) (facts + length (gives form (scope_of_names ns))))
+unfolding step stepped built with_step
+step_let d ns ss facts form names o h fit few most =
+    let room : ltb most_steps (length ss + 1) ≡ false = le-ltb _ _ few in
+    let place : ltb most_facts (facts + length (gives form (scope_of_names ns))) ≡ false = le-ltb _ _ most in
+    rw (let_number_again ns form names o h, fit, room, place) refl
+
+objects_read : (ns : Names) (sorts : List Sort) (os : List Obj) → InOrder ns → are_of_sorts (scope_of_names ns) sorts os ≡ true → objects_of_sorts ns sorts (map (name_of_object ns) os) ≡ Ok os
+objects_read ns [] [] o h = refl
+objects_read ns [] (x ∷ os) o h = absurd cc
+objects_read ns (sort ∷ sorts) [] o h = absurd cc
+objects_read ns (sort ∷ sorts) (x ∷ os) o h =
+    let p = both (same_sort sort x.sort) (is_in_scope (scope_of_names ns) x && are_of_sorts (scope_of_names ns) sorts os) h in
+    let q = both (is_in_scope (scope_of_names ns) x) (are_of_sorts (scope_of_names ns) sorts os) p.1 in
+    let one : object_as ns sort (name_of_object ns x) ≡ Ok x = subst (λ (t : Sort). object_as ns t (name_of_object ns x) ≡ Ok x) (sym (sorts_same sort x.sort p.0)) (object_again ns x o q.0) in
+    rw (one, objects_read ns sorts os o q.1) refl
+
+qed_read : (ns : Names) (sorts : List Sort) (os : List Obj) → InOrder ns → are_of_sorts (scope_of_names ns) sorts os ≡ true → qed_in ns sorts (map (name_of_object ns) os) ≡ Ok os
+unfolding qed_in
+qed_read ns sorts os o h =
+    let count : eqb (length (map (name_of_object ns) os)) (length sorts) ≡ true = eq-eqb _ _ (length-map os (name_of_object ns) ∙ of_sorts_length (scope_of_names ns) sorts os h) in
+    rw count (objects_read ns sorts os o h)
+
+step_qed : (d : Draft) (ns : Names) (ss : List Step) (facts : ℕ) (os : List Obj) → InOrder ns → are_of_sorts (scope_of_names ns) d.made os ≡ true → length ss + 1 ≤ most_steps
+    → step (proving d ns ss facts) (qed_form ns os) ≡ Ok (closed d ns ss facts os)
+unfolding step stepped shut
+step_qed d ns ss facts os o h few =
+    let room : ltb most_steps (length ss + 1) ≡ false = le-ltb _ _ few in
+    rw (qed_read ns d.made os o h, room) refl
+
+-- ---- all lines
+
+at_least : (x : Script) → 1 ≤ size x
+unfolding size
+at_least (Cite b r) = omega arith
+at_least (Hence l c r) = omega arith
+at_least (Make f ns cs r) = omega arith
+at_least (Qed os cs) = omega arith
+
+list_names : (ns : List (List ℕ)) → list_all is_name ns ≡ true → AreNames ns
+list_names [] h = tt
+list_names (n ∷ ns) h = let p = both (is_name n) (list_all is_name ns) h in (p.0, list_names ns p.1)
+
+-- what is known of a script where these names are in scope
+pub record Ready (d : Draft) (ns : Names) (ss : List Step) (facts : ℕ) (script : Script) (given : List Lit) (goal : Goal) : Type 0 where
+  pub order : InOrder ns
+  pub goal_sorts : sorts_of goal.made ≡ d.made
+  pub plain : is_plain script ≡ true
+  pub fitting : list_all fits (lines script (scope_of_names ns) given goal) ≡ true
+  pub new_names : NewNamesFit ns script
+  pub few : length ss + size script ≤ most_steps
+  pub most : facts + count_given (scope_of_names ns) script ≤ most_facts
+
+-- its lines are taken, and the draft behind them
+pub record Taken (known : List Headed) (d : Draft) (ns : Names) (ss : List Step) (facts : ℕ) (script : Script) : Type 0 where
+  pub in_scope : Names
+  pub given : ℕ
+  pub runs : Runs known (Some (proving d ns ss facts)) (script_forms ns script) (Some (closed d in_scope (ss ++ steps_of script) given (objects_of script)))
+
+-- a line with a certificate is not plain
+no_cert : false ≡ true → ⊥
+no_cert e = absurd cc
+
+-- one more step, and what comes behind it
+behind : (known : List Headed) (d : Draft) (ns : Names) (ss : List Step) (facts : ℕ) (s : Step) (rest : Script) (t : Taken known d ns (ss ++ s ∷ []) facts rest)
+    → Runs known (Some (proving d ns (ss ++ s ∷ []) facts)) (script_forms ns rest) (Some (closed d t.in_scope (ss ++ s ∷ steps_of rest) t.given (objects_of rest)))
+behind known d ns ss facts s rest t =
+    subst (λ (l : List Step). Runs known (Some (proving d ns (ss ++ s ∷ []) facts)) (script_forms ns rest) (Some (closed d t.in_scope l t.given (objects_of rest)))) (append_assoc ss (s ∷ []) (steps_of rest)) t.runs
+
+pub run_script : (known : List Headed) (d : Draft) (ns : Names) (ss : List Step) (facts : ℕ) (script : Script) (given : List Lit) (goal : Goal) → Ready d ns ss facts script given goal → Taken known d ns ss facts script
+unfolding script_forms is_plain lines size NewNamesFit count_given
+run_script known d ns ss facts (Cite by rest) given goal r =
+    let p = both (is_diagram_lit by.lit) (is_plain rest) r.plain in
+    let q = both (is_citation (scope_of_names ns) by) (list_all fits (lines rest (scope_of_names ns) (joined given by.lit) goal)) r.fitting in
+    let n : length (ss ++ steps.Cite by ∷ []) ≡ length ss + 1 = length-append ss (steps.Cite by ∷ []) in
+    let next = run_script known d ns (ss ++ steps.Cite by ∷ []) (facts + 1) rest (joined given by.lit) goal (record {
+      order = r.order;
+      goal_sorts = r.goal_sorts;
+      plain = p.1;
+      fitting = q.1;
+      new_names = r.new_names;
+      few = omega (arith, r.few, n);
+      most = omega (arith, r.most);
+    }) in
+    record {
+      in_scope = next.in_scope;
+      given = next.given;
+      runs = (
+        proving d ns (ss ++ steps.Cite by ∷ []) (facts + 1),
+        by_good ns by r.order q.0 p.0,
+        step_cite d ns ss facts by r.order q.0 p.0 (omega (arith, r.few)) (omega (arith, r.most)),
+        refl,
+        behind known d ns ss (facts + 1) (steps.Cite by) rest next,
+      );
+    }
+run_script known d ns ss facts (Hence lit None rest) given goal r =
+    let p = both (is_diagram_lit lit) (is_plain rest) r.plain in
+    let q = both (all_in_scope (scope_of_names ns) lit) (list_all fits (lines rest (scope_of_names ns) (joined given lit) goal)) r.fitting in
+    let n : length (ss ++ steps.Hence lit None ∷ []) ≡ length ss + 1 = length-append ss (steps.Hence lit None ∷ []) in
+    let next = run_script known d ns (ss ++ steps.Hence lit None ∷ []) (facts + 1) rest (joined given lit) goal (record {
+      order = r.order;
+      goal_sorts = r.goal_sorts;
+      plain = p.1;
+      fitting = q.1;
+      new_names = r.new_names;
+      few = omega (arith, r.few, n);
+      most = omega (arith, r.most);
+    }) in
+    record {
+      in_scope = next.in_scope;
+      given = next.given;
+      runs = (
+        proving d ns (ss ++ steps.Hence lit None ∷ []) (facts + 1),
+        lit_named ns lit r.order q.0 p.0,
+        step_hence d ns ss facts lit r.order (record { within = q.0; diagram = p.0 }) (omega (arith, r.few)) (omega (arith, r.most)),
+        refl,
+        behind known d ns ss (facts + 1) (steps.Hence lit None) rest next,
+      );
+    }
+run_script known d ns ss facts (Hence lit (Some cert) rest) given goal r = absurd (no_cert r.plain)
+run_script known d ns ss facts (Make form names [] rest) given goal r =
+    let s = scope_of_names ns in
+    let after = named ns (made form) names in
+    let gifts = length (gives form s) in
+    let p = both (list_all is_name names) (is_plain rest) r.plain in
+    let facts_then = joined_all given (gives form s) in
+    let q = both (fits_form form s) (list_all fits (lines rest (grown s (made form)) facts_then goal)) r.fitting in
+    let good : GoodLet ns form names = record { fits = q.0; free = r.new_names.0; count = r.new_names.1 } in
+    let names_are = list_names names p.0 in
+    let n : length (ss ++ steps.Make form names [] ∷ []) ≡ length ss + 1 = length-append ss (steps.Make form names [] ∷ []) in
+    let scope : grown s (made form) ≡ scope_of_names after = named_scope ns (made form) names r.new_names.1 in
+    let most : facts + (gifts + count_given (grown s (made form)) rest) ≤ most_facts = r.most in
+    let less : facts + gifts + count_given (grown s (made form)) rest ≤ most_facts = omega (arith, most) in
+    let next = run_script known d after (ss ++ steps.Make form names [] ∷ []) (facts + gifts) rest facts_then goal (record {
+      order = named_in_order ns (made form) names r.order names_are r.new_names.0;
+      goal_sorts = r.goal_sorts;
+      plain = p.1;
+      fitting = subst (λ (z : Scope). list_all fits (lines rest z facts_then goal) ≡ true) scope q.1;
+      new_names = r.new_names.3;
+      few = omega (arith, r.few, n);
+      most = subst (λ (z : Scope). facts + gifts + count_given z rest ≤ most_facts) scope less;
+    }) in
+    record {
+      in_scope = next.in_scope;
+      given = next.given;
+      runs = (
+        proving d after (ss ++ steps.Make form names [] ∷ []) (facts + gifts),
+        let_named ns form names r.order good names_are,
+        step_let d ns ss facts form names r.order good r.new_names.2 (omega (arith, r.few, at_least rest)) (omega (arith, less)),
+        refl,
+        behind known d after ss (facts + gifts) (steps.Make form names []) rest next,
+      );
+    }
+run_script known d ns ss facts (Make form names (c ∷ cs) rest) given goal r = absurd (no_cert r.plain)
+run_script known d ns ss facts (Qed os []) given goal r =
+    let q = both (are_of_sorts (scope_of_names ns) (sorts_of goal.made) os) true r.fitting in
+    let h : are_of_sorts (scope_of_names ns) d.made os ≡ true = subst (λ (l : List Sort). are_of_sorts (scope_of_names ns) l os ≡ true) r.goal_sorts q.0 in
+    record {
+      in_scope = ns;
+      given = facts;
+      runs = (
+        closed d ns ss facts os,
+        objects_named ns os r.order (of_sorts_in_scope (scope_of_names ns) d.made os h),
+        step_qed d ns ss facts os r.order h (omega (arith, r.few)),
+        refl,
+        ap (λ (l : List Step). Some (closed d ns l facts os)) (sym (append-nil ss)),
+      );
+    }
+run_script known d ns ss facts (Qed os (c ∷ cs)) given goal r = absurd (no_cert r.plain)
+
+pub same_script : (script : Script) → is_plain script ≡ true → steps_script (steps_of script) (Qed (objects_of script) []) ≡ script
+unfolding is_plain
+same_script (Cite by rest) p = ap (λ (s : Script). Cite by s) (same_script rest (both (is_diagram_lit by.lit) (is_plain rest) p).1)
+same_script (Hence lit None rest) p = ap (λ (s : Script). Hence lit None s) (same_script rest (both (is_diagram_lit lit) (is_plain rest) p).1)
+same_script (Hence lit (Some cert) rest) p = absurd cc
+same_script (Make form names [] rest) p = ap (λ (s : Script). Make form names [] s) (same_script rest (both (list_all is_name names) (is_plain rest) p).1)
+same_script (Make form names (c ∷ cs) rest) p = absurd cc
+same_script (Qed os []) p = refl
+same_script (Qed os (c ∷ cs)) p = absurd cc

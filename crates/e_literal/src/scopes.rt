@@ -1,0 +1,77 @@
+// Scopes that grow: new objects take the next numbers of their sort.
+
+ghost use Rattle.std.specs.Prelude.{◌≡◌, ◌<◌, ◌+◌, ◌^◌, length, IfOk};
+ghost use Rattle.e_literal.specs.Literal.{count_of};
+ghost use Rattle.e_literal.specs.Scopes;
+
+use crate::object::{Obj, Scope, Sort};
+use std::alloc::{AllocError, Global};
+
+/// How many objects of the sort are in scope.
+pub fn count(scope: Scope, sort: Sort) -> u16
+    ensures { result ≡ count_of scope sort }
+{
+    match sort {
+        Sort::Point => scope.points,
+        Sort::Line => scope.lines,
+        Sort::Circle => scope.circles,
+    }
+}
+
+/// The scope with one more object of the sort.
+pub fn with_one(scope: Scope, sort: Sort) -> Scope
+    requires { count_of scope sort + 1 < 2 ^ 16 }
+    ensures { result ≡ Scopes.with_one scope sort }
+{
+    match sort {
+        Sort::Point => Scope {
+            points: scope.points + 1,
+            ..scope
+        },
+        Sort::Line => Scope {
+            lines: scope.lines + 1,
+            ..scope
+        },
+        Sort::Circle => Scope {
+            circles: scope.circles + 1,
+            ..scope
+        },
+    }
+}
+
+/// The scope with one more object for each sort of the list.
+#[tactic(auto, using(crate::proofs::Growing::growing))]
+pub fn grown(scope: Scope, sorts: &[Sort]) -> Scope
+    requires points { scope.points + length sorts.now < 2 ^ 16 }
+    requires lines { scope.lines + length sorts.now < 2 ^ 16 }
+    requires circles { scope.circles + length sorts.now < 2 ^ 16 }
+    ensures { result ≡ Scopes.grown scope sorts.now }
+{
+    let mut scope = scope;
+    for sort in sorts {
+        scope = with_one(scope, *sort);
+    }
+    scope
+}
+
+/// The objects that come next, one for each sort of the list.
+///
+/// It fails only for want of memory.
+#[tactic(auto, using(crate::proofs::Growing::growing))]
+pub fn next_objects(alloc: Global, scope: Scope, sorts: &[Sort]) -> Result<Vec<Obj>, AllocError>
+    requires points { scope.points + length sorts.now < 2 ^ 16 }
+    requires lines { scope.lines + length sorts.now < 2 ^ 16 }
+    requires circles { scope.circles + length sorts.now < 2 ^ 16 }
+    ensures { IfOk result (λ objects. objects.items ≡ Scopes.next_objects scope sorts.now) }
+{
+    let mut scope = scope;
+    let mut objects = Vec::new(alloc);
+    for sort in sorts {
+        objects.push(Obj {
+            sort: *sort,
+            num: count(scope, *sort),
+        })?;
+        scope = with_one(scope, *sort);
+    }
+    Ok(objects)
+}

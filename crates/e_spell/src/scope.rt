@@ -1,0 +1,55 @@
+//! The names of the objects in scope while the lines of a proof are written.
+ghost use Rattle.std.specs.Prelude.{◌≡◌, take, IfOk, OnOk};
+ghost use Rattle.e_deriv.specs.Naming.{first_names, named};
+ghost use Rattle.e_spell.specs.Counts.{scope_of_counts};
+ghost use Rattle.e_spell.specs.Parts.{names_behind};
+
+use crate::declarations::Counts;
+use e_deriv::{Names, Step};
+use e_literal::{Items, Sort};
+use e_text::Name;
+use std::alloc::{AllocError, Global};
+
+fn first_of(alloc: Global, names: &[Name], count: usize) -> Result<Items<Name>, AllocError>
+    ensures { IfOk result (λ n. n ≡ take count names.now) }
+{
+    let end = names.len().min(count);
+    Ok(Items::new(Vec::from_slice(alloc, &names[..end])?))
+}
+
+/// Equal names of the first objects of each sort.
+pub(crate) fn first_names(
+    alloc: Global,
+    names: &Names,
+    counts: Counts,
+) -> Result<Names, AllocError>
+    ensures { IfOk result (λ n. n ≡ first_names (scope_of_counts counts) names.now) }
+{
+    Ok(Names {
+        points: first_of(alloc, names.points.items(), counts.points)?,
+        lines: first_of(alloc, names.lines.items(), counts.lines)?,
+        circles: first_of(alloc, names.circles.items(), counts.circles)?,
+    })
+}
+
+/// Puts each name last among those of its sort.
+fn name_all(names: &mut Names, sorts: &[Sort], new: &[Name]) -> Result<(), AllocError>
+    ensures { OnOk result (names.new ≡ named names.old sorts.now new.now) }
+{
+    for (sort, name) in sorts.iter().zip(new) {
+        names.push(*sort, *name)?;
+    }
+    Ok(())
+}
+
+/// The names of the objects that a step makes come into scope.
+pub(crate) fn name_new(names: &mut Names, step: &Step) -> Result<(), AllocError>
+    ensures { OnOk result (names.new ≡ names_behind names.old step.now) }
+{
+    match step {
+        Step::Cite(_) | Step::Hence { .. } => Ok(()),
+        Step::Make {
+            form, names: new, ..
+        } => name_all(names, form.made(), new.items()),
+    }
+}
