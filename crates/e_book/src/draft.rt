@@ -15,7 +15,8 @@ use crate::lets::RawLet;
 use crate::limits::{few_monos, terms_with};
 use crate::literal::RawLit;
 use crate::scope::{
-    by_in, fresh, is_sort, let_in, lit_in, names_of_sort, put_lits, put_names, qed_in, scope_of_names,
+    by_in, fresh, is_sort, let_in, lit_in, names_of_sort, put_lits, put_names, qed_in,
+    scope_of_names,
 };
 use crate::steps::Steps;
 use crate::theorem::Theorem;

@@ -35,6 +35,7 @@ pub use words::{Words, collected};
 
 #[cfg(test)]
 mod let_tests;
-
+#[cfg(test)]
+mod sum_tests;
 #[cfg(test)]
 mod tests;

@@ -129,12 +129,7 @@ fn equal_sides(alloc: Global, left: &[&[u8]], right: &[&[u8]]) -> Result<RawAtom
 }
 
 #[tactic(auto, unfolding(crate::specs::Literals::sides_of))]
-fn sides_of(
-    alloc: Global,
-    sign: Sign,
-    left: &[&[u8]],
-    right: &[&[u8]],
-) -> Result<RawAtom, Trouble>
+fn sides_of(alloc: Global, sign: Sign, left: &[&[u8]], right: &[&[u8]]) -> Result<RawAtom, Trouble>
     ensures { Gives (λ a. a) result (sides_of sign (texts left.now) (texts right.now)) }
 {
     match sign {

@@ -93,12 +93,7 @@ fn mono_in(names: &Names, kind: Magnitude, mono: &RawMono) -> Result<Mono, Troub
     })
 }
 
-fn sum_in(
-    alloc: Global,
-    names: &Names,
-    kind: Magnitude,
-    sum: &[RawMono],
-) -> Result<Form, Trouble>
+fn sum_in(alloc: Global, names: &Names, kind: Magnitude, sum: &[RawMono]) -> Result<Form, Trouble>
     requires { FewNames names.now }
     ensures { Gives (λ f. f) result (each (mono_in names.now kind) sum.now) }
 {
