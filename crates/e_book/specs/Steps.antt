@@ -89,12 +89,16 @@ few_monos raws = do
   short ← or_limit (are_short raws) limits.Monomials
   or_limit (are_small raws) limits.Coefficient
 
+-- so many monomials and those of the literals, or the limit of all
+abbrev pub terms_behind : ℕ → List RawLit → Result ℕ Kind
+terms_behind n raws = within (n + count_monos raws) most_terms limits.Terms >>= λ few. Ok (n + count_monos raws)
+
 -- the limits of literals that become facts, behind that of facts
 unfoldable pub with_terms : Draft → List RawLit → Result Draft Kind
 with_terms d raws = do
   few ← few_monos raws
-  none ← within (d.terms + count_monos raws) most_terms limits.Terms
-  Ok (record d { terms = d.terms + count_monos raws })
+  n ← terms_behind d.terms raws
+  Ok (record d { terms = n })
 
 -- a construction: its names, then the limits of objects, of steps and of facts. Its new objects are in scope after it.
 unfoldable pub built : Draft → RawLet → Result Draft Kind

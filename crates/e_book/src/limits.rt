@@ -1,11 +1,10 @@
 //! The limits of literals that are written.
-ghost use Rattle.std.specs.Prelude.{◌≡◌, ◌≤◌, ◌+◌, length, nat_le, Ok, List};
+ghost use Rattle.std.specs.Prelude.{◌≡◌, ◌≤◌, length, nat_le};
 ghost use Rattle.std.specs.List.{list_all};
-ghost use Rattle.e_book.specs.declared.fault.What.TheVariants as limits;
-ghost use Rattle.e_book.specs.Reading.{◌>>=◌, Gives};
+ghost use Rattle.e_book.specs.Reading.{Gives};
 ghost use Rattle.e_book.specs.Literals.{monos_of};
-ghost use Rattle.e_book.specs.Limits.{most_monomials, most_coefficient, most_terms, within};
-ghost use Rattle.e_book.specs.Steps.{are_short, are_small, count_monos, few_monos};
+ghost use Rattle.e_book.specs.Limits.{most_coefficient, most_terms};
+ghost use Rattle.e_book.specs.Steps.{are_short, are_small, few_monos, terms_behind};
 
 use crate::fault::{Kind, Trouble, What};
 use crate::literal::{RawAtom, RawLit};
@@ -77,7 +76,7 @@ pub(crate) fn few_monos(lits: &[RawLit]) -> Result<(), Trouble>
 /// So many monomials and those of the literals, or the limit of all.
 pub(crate) fn terms_with(before: usize, lits: &[RawLit]) -> Result<usize, Trouble>
     requires { before ≤ most_terms }
-    ensures { Gives (λ n. n) result (within (before + count_monos lits.now) most_terms limits.Terms >>= λ few. Ok (before + count_monos lits.now)) }
+    ensures { Gives (λ n. n) result (terms_behind before lits.now) }
 {
     let mut terms = before;
     for lit in lits {

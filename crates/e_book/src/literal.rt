@@ -1,5 +1,5 @@
 //! The forms of literals, told from their words by spelling alone.
-ghost use Rattle.std.specs.Prelude.{◌≡◌, ◌≤◌, ◌<◌, List, drop, length, IfSome, IfNone};
+ghost use Rattle.std.specs.Prelude.{◌≡◌, ◌∷◌, ◌≤◌, List, length};
 ghost use Rattle.std.specs.List.{position_or_len};
 ghost use Rattle.e_book.specs.Reading.{texts, Gives, Moves, with_front};
 ghost use Rattle.e_book.specs.Literals.{sign_of, is_sign, object_of, sums_of, sides_of, equal_sides, negation_of, sign_first, compared, related, signed_of, lit_of, is_diagram_raw, diagram_lit_of, lits_of};
@@ -75,13 +75,19 @@ fn sign_of(word: &[u8]) -> Option<Sign>
     None
 }
 
+fn is_sign(word: &[u8]) -> bool
+    ensures { result ≡ is_sign word.now }
+{
+    sign_of(word).is_some()
+}
+
 /// The place of the first sign, or the number of words.
 fn place_of_sign(words: &[&[u8]]) -> usize
     ensures place { result ≡ position_or_len is_sign (texts words.now) }
     ensures within { result ≤ length words.now }
 {
     for (i, word) in words.iter().enumerate() {
-        if sign_of(word).is_some() {
+        if is_sign(word) {
             return i;
         }
     }

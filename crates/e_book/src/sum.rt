@@ -1,8 +1,9 @@
 //! The forms of sums, told from their words by spelling alone.
-ghost use Rattle.std.specs.Prelude.{◌≡◌, List};
+ghost use Rattle.std.specs.Prelude.{◌≡◌, true};
 ghost use Rattle.e_book.specs.Reading.{texts, Gives, Moves, with_front, each};
 ghost use Rattle.e_book.specs.Sums.{term_named, term_of, coefficient_of, counted_term, mono_of, is_plus, is_zero, sum_of};
 ghost use Rattle.std.specs.List.{slice_split};
+ghost use Rattle.e_text.specs.Numerals.{is_numeral};
 
 use crate::fault::{Kind, Trouble};
 use crate::words::{Words, place_of, three_names, two_names};
@@ -70,7 +71,7 @@ fn term_of(words: &[&[u8]]) -> Result<RawTerm, Trouble>
 
 /// The value of a numeral, or one more than a coefficient may be.
 fn coefficient_of(word: &[u8]) -> u32
-    requires { Rattle.e_text.specs.Numerals.is_numeral word.now ≡ true }
+    requires { is_numeral word.now ≡ true }
     ensures { result ≡ coefficient_of word.now }
 {
     match number(word) {
@@ -82,7 +83,7 @@ fn coefficient_of(word: &[u8]) -> u32
 /// A term behind a numeral.
 #[tactic(auto, unfolding(crate::specs::Sums::counted_term))]
 fn counted_term(word: &[u8], rest: &[&[u8]]) -> Result<RawMono, Trouble>
-    requires { Rattle.e_text.specs.Numerals.is_numeral word.now ≡ true }
+    requires { is_numeral word.now ≡ true }
     ensures { Gives (λ m. m) result (counted_term word.now (texts rest.now)) }
 {
     if is(word, b"0") {
