@@ -143,9 +143,9 @@ pub record LinesOfNames (say : Sort → List (List ℕ) → Form) (at : Names �
   pub said : (sort : Sort) (names : List (List ℕ)) → GoodForm (say sort names) → AreNames names
   pub read : (sort : Sort) (names : List (List ℕ)) → as_read (say sort names) ≡ say sort names
   pub one : (ns : Names) (sorts : List Sort) (sort : Sort) (name : List ℕ) → Free ns name → length (names_of_sort ns sort) + 1 ≤ most_of sort
-    → step (at ns sorts) (say sort (name ∷ [])) ≡ Ok (at (plus ns sort name) (sorts ++ sort ∷ []))
+      → step (at ns sorts) (say sort (name ∷ [])) ≡ Ok (at (plus ns sort name) (sorts ++ sort ∷ []))
   pub split : (ns : Names) (sorts : List Sort) (sort : Sort) (name : List ℕ) (more : List (List ℕ)) → Free ns name
-    → step (at ns sorts) (say sort (name ∷ more)) ≡ step (at (plus ns sort name) (sorts ++ sort ∷ [])) (say sort more)
+      → step (at ns sorts) (say sort (name ∷ more)) ≡ step (at (plus ns sort name) (sorts ++ sort ∷ [])) (say sort more)
   pub going : (ns : Names) (sorts : List Sort) → is_done (at ns sorts) ≡ false
 
 -- ---- one more name before the lines

@@ -1,6 +1,5 @@
 pub mod Loops
 pub mod Texts
-pub mod Counted
 pub mod Placed
 pub mod Arguments
 pub mod SideBySide

@@ -139,9 +139,14 @@ pub record FewNamed (ns : Names) : Type 0 where
   pub lines : length ns.lines ≤ most_of sorts.Line
   pub circles : length ns.circles ≤ most_of sorts.Circle
 
+abbrev pub count_names : Names → ℕ
+count_names ns = length ns.points + length ns.lines + length ns.circles
+
 pub record FitsScope (d : Draft) : Type 0 where
   pub names : FewNamed d.names
   pub in_scope : FewNamed d.in_scope
+  -- no more objects are declared than have names
+  pub declared : length d.declared ≤ count_names d.names
   pub steps : length d.steps ≤ most_steps
   pub facts : d.facts ≤ most_facts
   pub terms : d.terms ≤ most_terms

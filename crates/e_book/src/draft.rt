@@ -1,11 +1,8 @@
 //! A theorem while its lines come.
-ghost use Rattle.std.specs.Prelude.{◌≡◌, ◌≤◌, ◌<◌, ◌+◌, ◌^◌, ◌++◌, List, [], length, replicate, take, IfOk, OnOk, Ok, Err};
-ghost use Rattle.e_literal.specs.Literal.{count_of};
-ghost use Rattle.e_literal.specs.Scopes.{grown, nothing};
-ghost use Rattle.e_deriv.specs.Naming;
+ghost use Rattle.std.specs.Prelude.{◌≡◌, ◌≤◌, ◌<◌, ◌+◌, ◌^◌, ◌++◌, List, [], length, replicate, IfOk, OnOk, Ok, Err};
 ghost use Rattle.e_book.specs.Reading.{Gives, Moves};
 ghost use Rattle.e_book.specs.Scope.{names_of_sort, with_names};
-ghost use Rattle.e_book.specs.Steps.{allowed, declared, few_objects, no_names, FewNamed};
+ghost use Rattle.e_book.specs.Steps.{allowed, declared, few_objects, no_names, count_names, FewNamed};
 ghost use Rattle.e_book.specs.Limits.{within, most_of, what_of};
 
 use crate::fault::{Kind, Trouble, What};
@@ -14,14 +11,11 @@ use crate::known::Known;
 use crate::lets::RawLet;
 use crate::limits::{few_monos, terms_with};
 use crate::literal::RawLit;
-use crate::scope::{
-    by_in, fresh, is_sort, let_in, lit_in, names_of_sort, put_lits, put_names, qed_in,
-    scope_of_names,
-};
+use crate::scope::{by_in, fresh, let_in, lit_in, put_lits, put_names, qed_in, scope_of_names};
 use crate::steps::Steps;
 use crate::theorem::Theorem;
 use e_deriv::{Names, Step};
-use e_literal::{Items, Lit, Obj, Sort};
+use e_literal::{Items, Lit, Obj, Scope, Sort, grown};
 use e_text::{Name, Title};
 use e_theorem::Statement;
 use std::alloc::{AllocError, Global};
@@ -154,7 +148,8 @@ fn no_names(alloc: Global) -> Names
 
 /// Names put behind those of their sort.
 fn append_names(names: &mut Names, sort: Sort, new: &[Name]) -> Result<(), AllocError>
-    ensures { OnOk result (names.new ≡ with_names names.old sort (names_of_sort names.old sort ++ new.now)) }
+    ensures count { OnOk result (count_names names.new ≡ count_names names.old + length new.now) }
+    ensures value { OnOk result (names.new ≡ with_names names.old sort (names_of_sort names.old sort ++ new.now)) }
 {
     match sort {
         Sort::Point => names.points.append(new),
@@ -167,55 +162,16 @@ fn append_names(names: &mut Names, sort: Sort, new: &[Name]) -> Result<(), Alloc
 #[tactic(auto, unfolding(crate::specs::Steps::declared))]
 fn declare(names: &mut Names, sort: Sort, new: &[Name]) -> Result<(), Trouble>
     requires { FewNamed names.old }
+    ensures count { OnOk result (count_names names.new ≡ count_names names.old + length new.now) }
     ensures value { Moves result names.new (declared names.old sort new.now) }
     ensures fits { OnOk result (FewNamed names.new) }
 {
     fresh(names, new)?;
-    if new.len() > most_of(sort) - names_of_sort(names, sort).len() {
+    if new.len() > most_of(sort) - names.of_sort(sort).len() {
         return Err(Trouble::Fault(Kind::Limit(what_of(sort))));
     }
     append_names(names, sort, new)?;
     Ok(())
-}
-
-/// How many objects of a sort there are.
-#[tactic(auto, using(crate::proofs::Counted::counting))]
-fn count(sorts: &[Sort], sort: Sort) -> usize
-    ensures { result ≡ count_of (grown nothing sorts.now) sort }
-{
-    let mut count = 0;
-    for other in sorts {
-        if is_sort(*other, sort) {
-            count += 1;
-        }
-    }
-    count
-}
-
-/// The first of the names, at most so many.
-fn first_names(alloc: Global, names: &[Name], count: usize) -> Result<Items<Name>, AllocError>
-    ensures value { IfOk result (λ n. n ≡ take count names.now) }
-    ensures few { IfOk result (λ n. length n ≤ length names.now) }
-{
-    let first = if count < names.len() {
-        &names[..count]
-    } else {
-        names
-    };
-    Ok(Items::new(Vec::from_slice(alloc, first)?))
-}
-
-/// Of the names of a statement those of its declared objects, which come first.
-fn declared_names(alloc: Global, declared: &[Sort], names: &Names) -> Result<Names, AllocError>
-    requires { FewNamed names.now }
-    ensures fits { IfOk result FewNamed }
-    ensures value { IfOk result (λ n. (given shown : List Lit) (made : List Sort) → n ≡ Naming.declared_names (record { declared = declared.now; given = given; made = made; shown = shown }) names.now) }
-{
-    Ok(Names {
-        points: first_names(alloc, names.points.items(), count(declared, Sort::Point))?,
-        lines: first_names(alloc, names.lines.items(), count(declared, Sort::Line))?,
-        circles: first_names(alloc, names.circles.items(), count(declared, Sort::Circle))?,
-    })
 }
 
 /// A sort, once for each of so many objects.
@@ -336,7 +292,13 @@ impl Draft {
         ensures value { Moves result self.new (stepped self.old Form.Proof) }
         ensures fits { OnOk result (FitsScope self.new) }
     {
-        self.in_scope = declared_names(alloc, self.declared.items(), &self.names)?;
+        let nothing = Scope {
+            points: 0,
+            lines: 0,
+            circles: 0,
+        };
+        let scope = grown(nothing, self.declared.items());
+        self.in_scope = self.names.first(alloc, scope)?;
         self.place = Place::Proving;
         Ok(())
     }

@@ -10,7 +10,8 @@ use std::test::Fail;
 const HEAD: &str = "theorem T\npoints a b\nlines L M\ncircles A B\nshow a = a\nproof\n";
 
 /// Before the first line of a proof with a made point and a made line, which is line 9.
-const MADE: &str = "theorem T\npoints a b\nlines L\ncircles A\nmade points m\nmade lines N\nshow on m N\nproof\n";
+const MADE: &str =
+    "theorem T\npoints a b\nlines L\ncircles A\nmade points m\nmade lines N\nshow on m N\nproof\n";
 
 /// Before the line behind `circles`, which is line 5.
 const DECLARED: &str = "theorem T\npoints a\nlines L\ncircles A\n";
@@ -270,7 +271,13 @@ fn each_wrong_line(rt: HostRuntime) -> Result<(), Fail> {
 }
 
 /// The lines end a book.
-fn expect_good(rt: &impl Abort, alloc: Global, head: &str, lines: &str, close: &str) -> Result<(), Fail> {
+fn expect_good(
+    rt: &impl Abort,
+    alloc: Global,
+    head: &str,
+    lines: &str,
+    close: &str,
+) -> Result<(), Fail> {
     let text = format!(in alloc; "{head}{lines}{close}\nend\n")?;
     assert!(rt; text.len() < 1_000_000);
     assert_eq!(rt; answer(alloc, text.as_bytes()), Ok(1), "{lines}");
@@ -336,8 +343,22 @@ fn limits(rt: HostRuntime) -> Result<(), Fail> {
         }
     }
     for (word, letter, count, line, made, what) in [
-        ("lines", "L", 24, "let N line a b", "made lines N", What::Lines),
-        ("circles", "A", 16, "let C circle a b", "made circles C", What::Circles),
+        (
+            "lines",
+            "L",
+            24,
+            "let N line a b",
+            "made lines N",
+            What::Lines,
+        ),
+        (
+            "circles",
+            "A",
+            16,
+            "let C circle a b",
+            "made circles C",
+            What::Circles,
+        ),
     ] {
         let objects = numbered(alloc, word, letter, count)?;
         let proof = format!(in alloc; "theorem T\npoints a b\n{objects}show a = a\nproof\n")?;
@@ -346,7 +367,13 @@ fn limits(rt: HostRuntime) -> Result<(), Fail> {
         expect(&rt, alloc, &stated, made, Kind::Limit(what))?;
     }
     let points = numbered(alloc, "theorem T\npoints", "a", 39)?;
-    expect(&rt, alloc, &points, "made points m n", Kind::Limit(What::Points))?;
+    expect(
+        &rt,
+        alloc,
+        &points,
+        "made points m n",
+        Kind::Limit(What::Points),
+    )?;
     let made = format!(in alloc; "{points}made points m\nshow m = m\nproof\n")?;
     expect_good(&rt, alloc, &made, "let p point\n", "qed p")
 }
@@ -360,14 +387,50 @@ fn limits_of_steps_and_facts(rt: HostRuntime) -> Result<(), Fail> {
     let rest = "show a = a\nproof\n";
     let head = format!(in alloc; "{start}{rest}")?;
     expect_good(&rt, alloc, &head, "let p q meet L A\n", "qed")?;
-    expect(&rt, alloc, &head, "let p q meet L A\nlet r on L", Kind::Limit(What::Facts))?;
-    expect(&rt, alloc, &head, "let r on L\nlet p q meet L A", Kind::Limit(What::Facts))?;
-    expect(&rt, alloc, &head, "let r on L avoid a a a a a", Kind::Limit(What::Facts))?;
+    expect(
+        &rt,
+        alloc,
+        &head,
+        "let p q meet L A\nlet r on L",
+        Kind::Limit(What::Facts),
+    )?;
+    expect(
+        &rt,
+        alloc,
+        &head,
+        "let r on L\nlet p q meet L A",
+        Kind::Limit(What::Facts),
+    )?;
+    expect(
+        &rt,
+        alloc,
+        &head,
+        "let r on L avoid a a a a a",
+        Kind::Limit(What::Facts),
+    )?;
     let head = format!(in alloc; "{start}given a = a\n{rest}")?;
-    expect(&rt, alloc, &head, "let p q meet L A", Kind::Limit(What::Facts))?;
+    expect(
+        &rt,
+        alloc,
+        &head,
+        "let p q meet L A",
+        Kind::Limit(What::Facts),
+    )?;
     let steps = repeated(alloc, "hence a = a\n", 1_023)?;
     let head = format!(in alloc; "theorem T\npoints a\nshow a = a\nproof\n{steps}")?;
     expect_good(&rt, alloc, &head, "", "qed")?;
-    expect(&rt, alloc, &head, "let p point\nqed", Kind::Limit(What::Steps))?;
-    expect(&rt, alloc, &head, "let p point\nlet q point", Kind::Limit(What::Steps))
+    expect(
+        &rt,
+        alloc,
+        &head,
+        "let p point\nqed",
+        Kind::Limit(What::Steps),
+    )?;
+    expect(
+        &rt,
+        alloc,
+        &head,
+        "let p point\nlet q point",
+        Kind::Limit(What::Steps),
+    )
 }

@@ -7,7 +7,7 @@ ghost use Rattle.e_literal.specs.Scopes.{same_sort};
 ghost use Rattle.std.specs.List.{list_any};
 ghost use Rattle.e_construct.specs.Lines;
 ghost use Rattle.e_book.specs.Reading.{Gives, Moves, each, with_front};
-ghost use Rattle.e_book.specs.Scope.{names_of_sort, object_in, object_of, used, number_at, number_of, on_sort, line_meets, meets_from, equal_at, atom_in, negated_in, lit_in, lits_in, object_as, objects_as, is_taken, fresh, args_in, by_in, known_rule, FewNames, scope_of_names, arguments_in, first_fitting, let_in, objects_of_sorts, qed_in};
+ghost use Rattle.e_book.specs.Scope.{object_in, object_of, used, number_at, number_of, on_sort, line_meets, meets_from, equal_at, atom_in, negated_in, lit_in, lits_in, object_as, objects_as, is_taken, fresh, args_in, by_in, known_rule, FewNames, scope_of_names, arguments_in, first_fitting, let_in, objects_of_sorts, qed_in};
 
 use crate::fault::{Kind, Trouble};
 use crate::lets::RawLet;
@@ -19,16 +19,6 @@ use e_deriv::Names;
 use e_literal::{Atom, Items, Lit, Obj, Scope, Sort};
 use e_text::{Name, Title, contains, place_of};
 use std::alloc::{AllocError, Global};
-
-pub(crate) fn names_of_sort(names: &Names, sort: Sort) -> &[Name]
-    ensures { result.now ≡ names_of_sort names.now sort }
-{
-    match sort {
-        Sort::Point => names.points.items(),
-        Sort::Line => names.lines.items(),
-        Sort::Circle => names.circles.items(),
-    }
-}
 
 /// How many objects of each sort have names.
 pub(crate) fn scope_of_names(names: &Names) -> Scope
@@ -47,11 +37,7 @@ pub(crate) fn put_names(names: &mut Names, sorts: &[Sort], new: &[Name]) -> Resu
     ensures { OnOk result (names.new ≡ named names.old sorts.now new.now) }
 {
     for (sort, name) in sorts.iter().zip(new) {
-        match sort {
-            Sort::Point => names.points.push(*name)?,
-            Sort::Line => names.lines.push(*name)?,
-            Sort::Circle => names.circles.push(*name)?,
-        }
+        names.push(*sort, *name)?;
     }
     Ok(())
 }
@@ -60,7 +46,7 @@ fn object_in(names: &Names, sort: Sort, name: Name) -> Option<Obj>
     requires { FewNames names.now }
     ensures { result ≡ object_in names.now sort name }
 {
-    match place_of(names_of_sort(names, sort), name) {
+    match place_of(names.of_sort(sort), name) {
         Some(i) => Some(Obj {
             sort,
             num: i as u16,
@@ -106,7 +92,7 @@ pub(crate) fn number_of(names: &Names, sort: Sort, name: Name) -> Result<u16, Tr
     }
 }
 
-pub(crate) fn is_sort(a: Sort, b: Sort) -> bool
+fn is_sort(a: Sort, b: Sort) -> bool
     ensures { result ≡ same_sort a b }
 {
     match (a, b) {

@@ -132,3 +132,78 @@ fn what_does_not_fit(rt: HostRuntime) -> Result<(), Fail> {
     }
     Ok(())
 }
+
+/// A line with `+` for the name of a new object and `.` for that of an argument.
+fn spelled(rt: HostRuntime, shape: Shape) -> Result<String, Fail> {
+    let mut line = String::new(rt.alloc());
+    for piece in pieces(shape) {
+        let word = match piece {
+            Piece::New => "+",
+            Piece::Argument => ".",
+            Piece::Word(word) => str::from_utf8(word).unwrap_or("no text"),
+        };
+        line.push_str(word)?;
+        line.push_str(" ")?;
+    }
+    Ok(line)
+}
+
+#[test]
+fn each_line(rt: HostRuntime) -> Result<(), Fail> {
+    // the line of each shape in the order of the table, the sorts of its arguments, and whether it may avoid objects
+    let cases: [(&'static str, &'static str, bool); 20] = [
+        ("+ point ", "", true),
+        ("+ on . ", "L", true),
+        ("+ on . between . . ", "Lbc", true),
+        ("+ on . beyond . from . ", "Lcb", true),
+        ("+ side . of . ", "Lb", true),
+        ("+ opposite . of . ", "Lb", true),
+        ("+ on . ", "A", true),
+        ("+ inside . ", "A", true),
+        ("+ outside . ", "A", true),
+        ("+ line . . ", "ab", false),
+        ("+ circle . . ", "ab", false),
+        ("+ meet . . ", "LM", false),
+        ("+ meet . . ", "LA", false),
+        ("+ + meet . . ", "LA", false),
+        ("+ meet . . between . . ", "LAbc", false),
+        ("+ meet . . beyond . from . ", "LAbc", false),
+        ("+ meet . . ", "AB", false),
+        ("+ + meet . . ", "AB", false),
+        ("+ meet . . side . of . centers . . ", "ABLbcd", false),
+        ("+ meet . . opposite . of . centers . . ", "ABLbcd", false),
+    ];
+    for (shape, (line, args, avoids)) in all_shapes().iter().zip(cases.iter()) {
+        assert_eq!(rt; spelled(rt, *shape)?.as_str(), *line);
+        assert_eq!(rt; may_avoid(*shape), *avoids, "at {line}");
+        assert!(rt; takes(*shape, objects(rt, "")?.items()), "at {line}");
+        assert!(rt; takes(*shape, objects(rt, args)?.items()), "at {line}");
+    }
+    assert_eq!(rt; all_shapes().len(), 20);
+    Ok(())
+}
+
+#[test]
+fn what_is_taken(rt: HostRuntime) -> Result<(), Fail> {
+    for (shape, args, taken) in [
+        (Shape::Within, "L", true),
+        (Shape::Within, "La", true),
+        (Shape::Within, "Lad", true),
+        (Shape::Within, "A", false),
+        (Shape::Within, "a", false),
+        (Shape::Within, "LA", false),
+        (Shape::Within, "LaM", false),
+        (Shape::Within, "Labc", false),
+        (Shape::Free, "a", false),
+        (Shape::MeetOne, "A", false),
+        (Shape::CirclesSide, "AALabc", true),
+        (Shape::CirclesSide, "AALabA", false),
+    ] {
+        assert_eq!(rt;
+            takes(shape, objects(rt, args)?.items()),
+            taken,
+            "at {args}"
+        );
+    }
+    Ok(())
+}

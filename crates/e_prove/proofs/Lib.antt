@@ -4,3 +4,4 @@ pub mod Judging
 pub mod Closing
 pub mod Proving
 pub mod Answering
+pub mod Fitting

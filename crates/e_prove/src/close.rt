@@ -28,7 +28,12 @@ pub struct Goal<'a> {
 
 /// Judges a close where it stands, and gives it with its certificates.
 #[tactic(auto, using(crate::proofs::Closing::objects_fit), unfolding(e_deriv::specs::Lines::lines))]
-pub fn judge_close(alloc: Global, close: &Close, goal: &Goal, context: &Context) -> Result<Close, Halt>
+pub fn judge_close(
+    alloc: Global,
+    close: &Close,
+    goal: &Goal,
+    context: &Context,
+) -> Result<Close, Halt>
     requires { IsTrue (list_all fits (lines_at (close_script close.now) context.now (goal_said goal.now))) }
     ensures ok { IfOk result (λ d. IsClosed close.now context.now (goal_said goal.now) d) }
     ensures err { IfErr result (HaltIs (CloseLacks close.now context.now (goal_said goal.now))) }

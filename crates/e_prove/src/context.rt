@@ -47,7 +47,8 @@ impl Context {
         self.names
     }
 
-    /// New objects of these sorts come into scope, with these names.
+    /// New objects of these sorts come into scope, with these names. It fails only for want of memory; nothing is said of
+    /// what holds then.
     pub fn grow(&mut self, sorts: &[Sort], names: &[Name]) -> Result<(), AllocError>
         requires points { self.old.scope.points + length sorts.now < 2 ^ 16 }
         requires lines { self.old.scope.lines + length sorts.now < 2 ^ 16 }
@@ -58,7 +59,7 @@ impl Context {
         name_all(&mut self.names, sorts, names)
     }
 
-    /// The literals join the facts, one after the other.
+    /// The literals join the facts, one after the other. It fails only for want of memory; nothing is said of what holds then.
     pub fn join(&mut self, lits: Vec<Lit>) -> Result<(), AllocError>
         ensures { OnOk result (self.new ≡ record self.old { facts = joined_all self.old.facts lits.items }) }
     {
@@ -76,6 +77,7 @@ fn name_all(names: &mut Names, sorts: &[Sort], new: &[Name]) -> Result<(), Alloc
     Ok(())
 }
 
+/// Adds each literal unless one the same is there.
 fn join_all(facts: &mut Facts, lits: Vec<Lit>) -> Result<(), AllocError>
     ensures { OnOk result (facts.new ≡ joined_all facts.old lits.items) }
 {

@@ -65,7 +65,12 @@ fn hence(alloc: Global, lit: &Lit, context: &mut Context) -> Result<Step, Halt>
 }
 
 /// A construction: each literal that it needs is allowed.
-fn make(alloc: Global, form: &Construction, names: &[Name], context: &mut Context) -> Result<Step, Halt>
+fn make(
+    alloc: Global,
+    form: &Construction,
+    names: &[Name],
+    context: &mut Context,
+) -> Result<Step, Halt>
     requires { HasRoom context.old.scope }
     ensures ok { IfOk result (λ d. (certs : List Cert) → IsJudged (Make form.now names.now certs) context.old d context.new) }
     ensures err { IfErr result (HaltIs (λ w. (certs : List Cert) → StepLacks (Make form.now names.now certs) context.old w)) }

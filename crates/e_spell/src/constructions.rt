@@ -23,21 +23,28 @@ fn put_pieces(
 ) -> Result<(), AllocError>
     ensures { OnOk result (out.new.items ≡ out.old.items ++ spaced (filled (map piece_said pieces.now) new.now (map (name_of_object names.now) args.now))) }
 {
-    match (pieces, new, args) {
-        ([], _, _) => Ok(()),
-        ([Piece::Word(word), pieces @ ..], _, _) => {
+    let [piece, pieces @ ..] = pieces else {
+        return Ok(());
+    };
+    match *piece {
+        Piece::Word(word) => {
             put(out, word)?;
             put_pieces(out, names, pieces, new, args)
         }
-        ([Piece::New, pieces @ ..], [name, new @ ..], _) => {
-            put(out, name.bytes())?;
-            put_pieces(out, names, pieces, new, args)
-        }
-        ([Piece::Argument, pieces @ ..], _, [object, args @ ..]) => {
-            put(out, name_of_object(names, *object))?;
-            put_pieces(out, names, pieces, new, args)
-        }
-        ([_, pieces @ ..], _, _) => put_pieces(out, names, pieces, new, args),
+        Piece::New => match new {
+            [] => put_pieces(out, names, pieces, new, args),
+            [name, new @ ..] => {
+                put(out, name.bytes())?;
+                put_pieces(out, names, pieces, new, args)
+            }
+        },
+        Piece::Argument => match args {
+            [] => put_pieces(out, names, pieces, new, args),
+            [object, args @ ..] => {
+                put(out, name_of_object(names, *object))?;
+                put_pieces(out, names, pieces, new, args)
+            }
+        },
     }
 }
 
@@ -53,7 +60,6 @@ fn put_avoided(out: &mut Vec<u8>, names: &Names, avoid: &[Obj]) -> Result<(), Al
 }
 
 /// A construction, with names for the objects that it makes.
-#[tactic(auto, using(crate::proofs::Spaced::spaced_append))]
 fn put_construction(
     out: &mut Vec<u8>,
     names: &Names,
@@ -63,7 +69,8 @@ fn put_construction(
     ensures { OnOk result (out.new.items ≡ out.old.items ++ spaced (construction_words names.now form.now new.now)) }
 {
     put_pieces(out, names, pieces(form.shape), new, form.args.items())?;
-    put_avoided(out, names, form.avoid.items())
+    put_avoided(out, names, form.avoid.items())?;
+    Ok(())
 }
 
 /// The line of a construction.

@@ -2,16 +2,18 @@
 ghost use Rattle.std.specs.Prelude.{◌≡◌, ◌++◌, ◌∷◌, [], codes, map, OnOk};
 ghost use Rattle.e_text.specs.Tokens.{spaced};
 ghost use Rattle.e_book.specs.Canonical.{rule_name, name_of_object};
-ghost use Rattle.e_spell.specs.Parts.{citation_words, step_text, steps_text, names_after, close_text, proof_text};
+ghost use Rattle.e_spell.specs.Parts.{citation_words, construction_words, certs_text, step_text, steps_text, names_after, close_text, proof_text};
 
 use crate::certificates::{put_cert_of, put_certs};
 use crate::constructions::put_let;
 use crate::literals::{put_literal, put_literal_line, put_objects};
 use crate::scope::name_new;
 use crate::words::{end_line, put, put_line};
-use e_clause::{By, Rule};
+use e_clause::{By, Cert, Rule};
+use e_construct::Construction;
 use e_deriv::{Block, Close, Names, Step};
 use e_literal::Obj;
+use e_text::Name;
 use std::alloc::AllocError;
 
 /// The name of a rule in the table.
@@ -46,6 +48,20 @@ fn put_by(out: &mut Vec<u8>, names: &Names, by: &By) -> Result<(), AllocError>
     end_line(out)
 }
 
+/// A construction, and a certificate for each literal that it needs, with the names in scope before it.
+fn put_made(
+    out: &mut Vec<u8>,
+    names: &Names,
+    form: &Construction,
+    new: &[Name],
+    certs: &[Cert],
+) -> Result<(), AllocError>
+    ensures { OnOk result (out.new.items ≡ out.old.items ++ (codes "let" ++ ((spaced (construction_words names.now form.now new.now) ++ 10 ∷ []) ++ certs_text names.now certs.now))) }
+{
+    put_let(out, names, form, new)?;
+    put_certs(out, names, certs)
+}
+
 fn put_step(out: &mut Vec<u8>, names: &Names, step: &Step) -> Result<(), AllocError>
     ensures { OnOk result (out.new.items ≡ out.old.items ++ step_text names.now step.now) }
 {
@@ -59,10 +75,7 @@ fn put_step(out: &mut Vec<u8>, names: &Names, step: &Step) -> Result<(), AllocEr
             form,
             names: new,
             certs,
-        } => {
-            put_let(out, names, form, new.items())?;
-            put_certs(out, names, certs.items())
-        }
+        } => put_made(out, names, form, new.items(), certs.items()),
     }
 }
 
@@ -99,7 +112,7 @@ fn put_close(out: &mut Vec<u8>, names: &Names, close: &Close) -> Result<(), Allo
 
 /// The lines from behind the word proof to the theorem's end, where these names are in scope before the first.
 pub(crate) fn put_proof(out: &mut Vec<u8>, names: Names, block: &Block) -> Result<(), AllocError>
-    ensures { OnOk result (out.new.items ≡ out.old.items ++ proof_text names.entry block.now) }
+    ensures { OnOk result (out.new.items ≡ out.old.items ++ proof_text names block.now) }
 {
     let mut names = names;
     put_steps(out, &mut names, &block.steps)?;

@@ -18,11 +18,7 @@ fn first_of(alloc: Global, names: &[Name], count: usize) -> Result<Items<Name>, 
 }
 
 /// Equal names of the first objects of each sort.
-pub(crate) fn first_names(
-    alloc: Global,
-    names: &Names,
-    counts: Counts,
-) -> Result<Names, AllocError>
+pub(crate) fn first_names(alloc: Global, names: &Names, counts: Counts) -> Result<Names, AllocError>
     ensures { IfOk result (λ n. n ≡ first_names (scope_of_counts counts) names.now) }
 {
     Ok(Names {
@@ -49,7 +45,9 @@ pub(crate) fn name_new(names: &mut Names, step: &Step) -> Result<(), AllocError>
     match step {
         Step::Cite(_) | Step::Hence { .. } => Ok(()),
         Step::Make {
-            form, names: new, ..
+            form,
+            names: new,
+            ..
         } => name_all(names, form.made(), new.items()),
     }
 }

@@ -29,7 +29,13 @@ fn name(token: &[u8]) -> Result<Name, Fail> {
 
 fn names(alloc: Global) -> Result<Names, Fail> {
     Ok(Names {
-        points: Items::new(vec![in alloc; name(b"a")?, name(b"b'")?, name(b"c")?, name(b"d")?, name(b"e")?]?),
+        points: Items::new(vec![in alloc;
+            name(b"a")?,
+            name(b"b'")?,
+            name(b"c")?,
+            name(b"d")?,
+            name(b"e")?,
+        ]?),
         lines: Items::new(vec![in alloc; name(b"L")?, name(b"M")?, name(b"N")?]?),
         circles: Items::new(vec![in alloc; name(b"C1")?, name(b"C2")?]?),
     })
@@ -99,31 +105,36 @@ fn construction(
     }
 }
 
-// the names of made objects are free in the proof, and those of new objects are in scope behind their line
-fn constructions(alloc: Global) -> Result<Vec<Step>, Fail> {
-    let on = object(Sort::Line, 0);
-    let within = construction(
+// the name of a made object is free in the proof
+fn between(alloc: Global) -> Result<Step, Fail> {
+    Ok(construction(
         Shape::Within,
-        vec![in alloc; on, point(0), point(1)]?,
+        vec![in alloc; object(Sort::Line, 0), point(0), point(1)]?,
         vec![in alloc;]?,
         vec![in alloc; name(b"d")?]?,
         facts(alloc, 3)?,
-    );
-    let avoiding = construction(
+    ))
+}
+
+// the new point before is in scope
+fn avoiding(alloc: Global) -> Result<Step, Fail> {
+    Ok(construction(
         Shape::OnLine,
-        vec![in alloc; on]?,
+        vec![in alloc; object(Sort::Line, 0)]?,
         vec![in alloc; object(Sort::Line, 1), point(3)]?,
         vec![in alloc; name(b"q")?]?,
         facts(alloc, 1)?,
-    );
-    let both = construction(
+    ))
+}
+
+fn two_points(alloc: Global) -> Result<Step, Fail> {
+    Ok(construction(
         Shape::MeetBoth,
-        vec![in alloc; on, object(Sort::Circle, 0)]?,
+        vec![in alloc; object(Sort::Line, 0), object(Sort::Circle, 0)]?,
         vec![in alloc;]?,
         vec![in alloc; name(b"r")?, name(b"s")?]?,
         facts(alloc, 1)?,
-    );
-    Ok(vec![in alloc; within, avoiding, both]?)
+    ))
 }
 
 fn derivation(alloc: Global) -> Result<Block, Fail> {
@@ -132,14 +143,17 @@ fn derivation(alloc: Global) -> Result<Block, Fail> {
         args: Items::new(vec![in alloc; point(0), point(1), point(2)]?),
         lit: lit(true, Atom::EqP(0, 1)),
     });
-    let mut steps = vec![in alloc; cited]?;
-    for step in constructions(alloc)? {
-        steps.push(step)?;
-    }
-    steps.push(Step::Hence {
+    let hence = Step::Hence {
         lit: lit(true, Atom::EqP(5, 6)),
         cert: Some(Cert::Plain(Part::Fact)),
-    })?;
+    };
+    let steps = vec![in alloc;
+        cited,
+        between(alloc)?,
+        avoiding(alloc)?,
+        two_points(alloc)?,
+        hence,
+    ]?;
     let objects = vec![in alloc; point(3), point(4), object(Sort::Line, 0)]?;
     Ok(Block {
         steps,

@@ -1,5 +1,5 @@
 -- The theorems taken so far, with their derivations and what was written.
-use Rattle.std.proofs.Common.{◌≡◌, ℕ, suc, ◌+◌, ◌<◌, ◌≤◌, List, [], ◌∷◌, ◌++◌, length, map, Option, Some, None, Result, Ok, Err, refl, sym, ap, subst, ◌∙◌, arith, append_assoc, length-append, take}
+use Rattle.std.proofs.Common.{◌≡◌, ℕ, suc, ◌+◌, ◌-◌, ◌<◌, ◌≤◌, List, [], ◌∷◌, ◌++◌, length, map, Option, Some, None, Result, Ok, Err, refl, sym, ap, subst, ◌∙◌, arith, append_assoc, length-append, take}
 use Rattle.std.specs.List.{flat_map}
 use Rattle.std.proofs.lemmas.List.{append-nil}
 use Rattle.std.proofs.lemmas.Grind.{flat_map-append}
@@ -12,7 +12,8 @@ use Rattle.e_book.specs.Headed.{Headed, headed}
 use Rattle.e_book.specs.Entry.{Entry}
 use Rattle.e_book.specs.Book.{read_from}
 use Rattle.e_book.specs.Fits.{Fits}
-use Rattle.e_deriv.specs.Fitting.{IsFitting}
+use Rattle.e_literal.specs.declared.object.Scope.{Scope}
+use Rattle.e_deriv.specs.Fitting.{IsFitting, all_objects}
 use Rattle.elements.specs.Outcome.{Rest, IsLicensed, Takes, End, Ends, Begins, number_behind, IsOutcome, IsFront}
 use Rattle.elements.specs.Answers.{Derived, IsDerived, AllDerived, theorems_of, block_of}
 use Rattle.elements.specs.Endings.{EndsWith, BreaksOff, BreaksInside, BlocksAre, stop_ending}
@@ -24,6 +25,8 @@ use Rattle.e_prove.specs.Stops.{StopIs, HasNames}
 use Rattle.elements.specs.Outcome as ends
 use Rattle.e_deriv.specs.declared.stop.Wanted.{Wanted}
 use Rattle.e_deriv.specs.declared.names.Names.{Names}
+use Rattle.e_deriv.specs.Naming.{names_lines, declared_names}
+use Rattle.std.specs.Prelude.{slice_get}
 use Rattle.e_deriv.specs.Licensed.{IsFirstUnlicensed}
 use Rattle.e_book.specs.declared.fault.BookFault.{BookFault}
 
@@ -128,10 +131,11 @@ at_last known a b lines e is h = subst (λ (k : ℕ). read_from known k None lin
 -- the next theorem has a line that is not licensed
 pub stops_with : (lines : Rest) (old new : Option (List ℕ)) (known : List Headed) (rest after : Rest) (t : Entry) (step : ℕ) (wanted : Wanted) (names : Names)
     → History lines old known rest new → read_from known (number_behind lines) None rest ≡ Ok (Some (t, after))
-    → IsFirstUnlicensed (stated t.statement) t.script step wanted → names ≡ t.names
+    → IsFirstUnlicensed (stated t.statement) t.script step wanted
+    → Some names ≡ slice_get (names_lines (declared_names (stated t.statement) t.names) t.script) (step - 1)
     → EndsWith lines old new (ends.Unlicensed t.title step wanted names)
 stops_with lines old new known rest after t step wanted names h read first named =
-    ends_with lines old new known rest (ends.Unlicensed t.title step wanted names) h (t, after, read, record { titled = refl; first = first; named = sym named })
+    ends_with lines old new known rest (ends.Unlicensed t.title step wanted names) h (t, after, read, record { titled = refl; first = first; named = named })
 
 -- the bytes that were written are the block of this derivation
 pub spelled_as : (old new : Option (List ℕ)) (xs ys : List ℕ) (d : Derived) → xs ≡ ys → ys ≡ block_of d → Grew old new xs → Grew old new (block_of d)
@@ -143,7 +147,7 @@ front_spelled_as old new xs ys d e f g = subst (λ (l : List ℕ). GrewByFront o
 -- the next theorem stops, or memory ran out
 pub stopped : (lines : Rest) (old new : Option (List ℕ)) (known : List Headed) (rest after : Rest) (t : Entry) (stop : Stop) (r : Result Ending Broken)
     → r ≡ stop_ending t.title stop → History lines old known rest new → read_from known (number_behind lines) None rest ≡ Ok (Some (t, after))
-    → StopIs (stated t.statement) t.script stop → HasNames t.names stop → BlocksAre lines old new r
+    → StopIs (stated t.statement) t.script stop → HasNames (stated t.statement) t.names t.script stop → BlocksAre lines old new r
 stopped lines old new known rest after t (stops.Unlicensed step wanted names) r e h read s k =
     subst (BlocksAre lines old new) (sym e) (stops_with lines old new known rest after t step wanted names h read s k)
 stopped lines old new known rest after t stops.NoMemory r e h read s k =
@@ -151,4 +155,14 @@ stopped lines old new known rest after t stops.NoMemory r e h read s k =
 
 -- what is read can be judged
 pub fitting : (known : List Headed) (t : Entry) → Fits known t → IsFitting (stated t.statement) t.script
-fitting known t f = record { nothing_made = f.made; forms = f.script; short = f.steps }
+fitting known t f =
+    let points : (all_objects (stated t.statement)).points ≡ length t.names.points = ap (λ (s : Scope). s.points) f.scope in
+    let lines : (all_objects (stated t.statement)).lines ≡ length t.names.lines = ap (λ (s : Scope). s.lines) f.scope in
+    let circles : (all_objects (stated t.statement)).circles ≡ length t.names.circles = ap (λ (s : Scope). s.circles) f.scope in
+    record {
+      forms = f.script;
+      short = f.steps;
+      points = omega (arith, points, f.points);
+      lines = omega (arith, lines, f.lines);
+      circles = omega (arith, circles, f.circles);
+    }

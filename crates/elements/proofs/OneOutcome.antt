@@ -1,8 +1,10 @@
 -- A book has one outcome.
-use Rattle.std.proofs.Common.{◌≡◌, ℕ, List, [], ◌∷◌, ◌++◌, length, Option, Some, None, Result, Ok, Err, refl, sym, ap, subst, ◌∙◌}
+use Rattle.std.proofs.Common.{◌≡◌, ℕ, ◌-◌, List, [], ◌∷◌, ◌++◌, length, Option, Some, None, Result, Ok, Err, refl, sym, ap, subst, ◌∙◌}
+use Rattle.std.specs.Prelude.{slice_get}
 use Rattle.e_theorem.specs.Statements.{stated}
 use Rattle.e_deriv.specs.declared.stop.Wanted.{Wanted}
 use Rattle.e_deriv.specs.declared.names.Names.{Names}
+use Rattle.e_deriv.specs.Naming.{names_lines, declared_names}
 use Rattle.e_deriv.specs.Licensed.{IsFirstUnlicensed}
 use Rattle.e_deriv.proofs.Stops.{one_stop, no_stop_of_licensed}
 use Rattle.e_book.specs.declared.fault.BookFault.{BookFault}
@@ -42,12 +44,16 @@ none_not_faulty f e = cc
 same_faulty : (f g : BookFault) → faulty f ≡ faulty g → f ≡ g
 same_faulty f g e = cc
 
+same_some : (x y : Names) → Some x ≡ Some y → x ≡ y
+same_some x y e = cc
+
 -- two stops of one theorem are one
 one_stop_at : (t : Entry) (p q : List ℕ) (n m : ℕ) (v w : Wanted) (x y : Names) → StopsAt t p n v x → StopsAt t q m w y → Unlicensed p n v x ≡ Unlicensed q m w y
 one_stop_at t p q n m v w x y h k =
     let s = one_stop (stated t.statement) t.script n m v w h.first k.first in
     let e : p ≡ q = sym h.titled ∙ k.titled in
-    let f : x ≡ y = sym h.named ∙ k.named in
+    let names = names_lines (declared_names (stated t.statement) t.names) t.script in
+    let f : x ≡ y = same_some x y (h.named ∙ ap (λ (i : ℕ). slice_get names (i - 1)) s.0 ∙ sym k.named) in
     ap (λ (l : List ℕ). Unlicensed l n v x) e ∙ ap (λ (i : ℕ). Unlicensed q i v x) s.0 ∙ ap (λ (z : Wanted). Unlicensed q m z x) s.1 ∙ ap (λ (z : Names). Unlicensed q m w z) f
 
 stop_of_same : (t u : Entry) (title : List ℕ) (step : ℕ) (wanted : Wanted) (names : Names) → t ≡ u → StopsAt t title step wanted names → StopsAt u title step wanted names

@@ -1,11 +1,12 @@
 -- The outcome of a book: its theorems are taken one after another, up to the first fault or the first unlicensed line.
-use Rattle.std.specs.Prelude.{◌≡◌, ℕ, ◌+◌, List, [], ◌∷◌, ◌++◌, length, Option, Some, None, Result, Ok, Err}
+use Rattle.std.specs.Prelude.{◌≡◌, ℕ, ◌+◌, ◌-◌, slice_get, List, [], ◌∷◌, ◌++◌, length, Option, Some, None, Result, Ok, Err}
 use Rattle.e_text.specs.Lines.{Seen, lines_of}
 use Rattle.e_text.specs.declared.line.LineFault.{LineFault}
 use Rattle.e_theorem.specs.Statements.{stated}
 use Rattle.e_deriv.specs.declared.stop.Wanted.{Wanted}
 use Rattle.e_deriv.specs.declared.names.Names.{Names}
 use Rattle.e_deriv.specs.Lines.{proof_lines}
+use Rattle.e_deriv.specs.Naming.{names_lines, declared_names}
 use Rattle.e_deriv.specs.Licensed.{AllLicensed, IsFirstUnlicensed}
 use Rattle.e_book.specs.declared.fault.BookFault.{BookFault}
 use Rattle.e_book.specs.Headed.{Headed, headed}
@@ -38,7 +39,7 @@ pub data End : Type 0 where
 pub record StopsAt (t : Entry) (title : List ℕ) (step : ℕ) (wanted : Wanted) (names : Names) : Type 0 where
   pub titled : t.title ≡ title
   pub first : IsFirstUnlicensed (stated t.statement) t.script step wanted
-  pub named : t.names ≡ names
+  pub named : Some names ≡ slice_get (names_lines (declared_names (stated t.statement) t.names) t.script) (step - 1)
 
 -- with this known, these lines end so
 abbrev pub Ends : ℕ → List Headed → Rest → End → Type 0

@@ -41,7 +41,7 @@ fn block(alloc: Global, before: &[Statement], theorem: &Theorem) -> Result<Vec<u
     requires { IsFitting (stated theorem.now.statement) (script_of theorem.now.block) }
     ensures block { IfOk result (λ v. HasBlock (entry_of theorem.now) v.items) }
     ensures stop { IfErr result (StopIs (stated theorem.now.statement) (script_of theorem.now.block)) }
-    ensures names { IfErr result (HasNames theorem.now.names) }
+    ensures names { IfErr result (HasNames (stated theorem.now.statement) theorem.now.names (script_of theorem.now.block)) }
 {
     let derivation = prove(alloc, before, theorem)?;
     Ok(spell(alloc, theorem, &derivation)?)

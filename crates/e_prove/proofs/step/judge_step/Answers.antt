@@ -13,6 +13,6 @@ pub returns-in-Make-clause-ok : goal.returns-in-Make-clause-ok
 returns-in-Make-clause-ok c =
     ok_map _ _ c.make.result
     (λ d h.
-      subst (λ s. IsJudged s c.args.context.now d c.make.new.context) (sym c.in-Make.is)
-      (subst (λ ns. IsJudged (Make c.in-Make.form ns c.in-Make.certs) c.args.context.now d c.make.new.context) c.items.ensures (h c.in-Make.certs)))
+    subst (λ s. IsJudged s c.args.context.now d c.make.new.context) (sym c.in-Make.is)
+    (subst (λ ns. IsJudged (Make c.in-Make.form ns c.in-Make.certs) c.args.context.now d c.make.new.context) c.items.ensures (h c.in-Make.certs)))
     c.make.ensures.ok

@@ -6,5 +6,5 @@ use Rattle.e_spell.proofs.declarations.put_objects_of.Given as goal
 
 abbrev pub invariant-loop-sort : goal.invariant-loop-sort
 invariant-loop-sort l =
-    AtMostMore l.before l.counts l.sort-index × (grown (scope_of_counts l.counts) (drop l.sort-index l.sorts) ≡ grown (scope_of_counts l.before) l.sorts)
-    × (l.out.items ++ objects_rest l.role l.names l.last (next_objects (scope_of_counts l.counts) (drop l.sort-index l.sorts)) ≡ l.initial.out.items ++ objects_text l.role l.names (next_objects (scope_of_counts l.before) l.sorts))
+    AtMostMore l.fn.before l.counts l.sort-index × (grown (scope_of_counts l.counts) (drop l.sort-index l.sorts) ≡ grown (scope_of_counts l.fn.before) l.sorts)
+    × (l.out.items ++ objects_rest l.role l.names l.last (next_objects (scope_of_counts l.counts) (drop l.sort-index l.sorts)) ≡ l.initial.out.items ++ objects_text l.role l.names (next_objects (scope_of_counts l.fn.before) l.sorts))

@@ -1,6 +1,9 @@
-use Rattle.std.proofs.Common.{◌≡◌, drop, length}
+use Rattle.std.proofs.Common.{◌≡◌}
+use Rattle.std.specs.Slice.Iter.{iter_rest}
+use Rattle.std.specs.Iterator.Adapters.{zip_first, zip_second}
 use Rattle.e_deriv.specs.Naming.{named}
 use Rattle.e_spell.proofs.scope.name_all.Given as goal
 
 abbrev pub invariant-loop-sort : goal.invariant-loop-sort
-invariant-loop-sort l = named l.names (drop (length l.yielded) l.sorts) (drop (length l.yielded) l.new) ≡ named l.initial.names l.sorts l.new
+invariant-loop-sort l =
+    named l.names (iter_rest (zip_first l.sort-iterator)) (iter_rest (zip_second l.sort-iterator)) ≡ named l.fn.names l.sorts l.new
