@@ -13,6 +13,8 @@ pub mod Differ
 pub mod NamesAgain
 pub mod Pieces
 pub mod LetsAgain
+pub mod SumsAgain
+pub mod LitsAgain
 pub mod Respelled
 pub mod LineWords
 pub mod Lookups
