@@ -50,7 +50,7 @@ given_forms_of s ns [] h d = refl
 given_forms_of s ns (l ∷ ls) h d =
     let p = both (all_in_scope s l) (list_all (all_in_scope s) ls) h in
     let q = both (is_diagram_lit l) (list_all is_diagram_lit ls) d in
-    rw (lit_of_first s ns l p.0 q.0, given_forms_of s ns ls p.1 q.1) refl
+    rw (lit_of_first s ns l p.0, given_forms_of s ns ls p.1 q.1) refl
 
 -- the draft behind the word proof
 abbrev started : Entry → Draft

@@ -18,6 +18,9 @@ pub mod LitsAgain
 pub mod Respelled
 pub mod LineWords
 pub mod Lookups
+pub mod GoodSums
+pub mod LitLookups
+pub mod ShortLits
 pub mod RuleNames
 pub mod Cited
 pub mod Declared
