@@ -4,9 +4,13 @@ pub mod Placed
 pub mod Arguments
 pub mod SideBySide
 pub mod InScope
+pub mod SaidLits
 pub mod Citations
 pub mod Distinct
 pub mod Building
+pub mod Bounds
+pub mod WellRead
+pub mod KeptSums
 pub mod Keeps
 pub mod LineCount
 pub mod Differ
