@@ -495,9 +495,9 @@ passes true x y e = (refl, e)
 passes false x y e = absurd cc
 
 -- all that is known of a draft
-record Known (known : List Headed) (d : Draft) : Type 0 where
-  good : Good known d
-  sums : GoodSums d
+pub record Known (known : List Headed) (d : Draft) : Type 0 where
+  pub good : Good known d
+  pub sums : GoodSums d
 
 keeps : (known : List Headed) (d e : Draft) (f : Form) → Known known d → Said f → step d f ≡ Ok e → Known known e
 unfolding step

@@ -281,7 +281,7 @@ plain_script : (ss : List Step) (objects : List Obj) → list_all is_plain_step 
 unfolding is_plain
 plain_script [] objects h = refl
 plain_script (steps.Cite by ∷ ss) objects h = let p = both (is_diagram_lit by.lit) (list_all is_plain_step ss) h in rw (p.0, plain_script ss objects p.1) refl
-plain_script (steps.Hence lit None ∷ ss) objects h = let p = both (is_diagram_lit lit) (list_all is_plain_step ss) h in rw (p.0, plain_script ss objects p.1) refl
+plain_script (steps.Hence lit None ∷ ss) objects h = plain_script ss objects h
 plain_script (steps.Hence lit (Some cert) ∷ ss) objects h = absurd cc
 plain_script (steps.Make form names [] ∷ ss) objects h = let p = both (list_all is_name names) (list_all is_plain_step ss) h in rw (p.0, plain_script ss objects p.1) refl
 plain_script (steps.Make form names (c ∷ cs) ∷ ss) objects h = absurd cc
@@ -291,8 +291,6 @@ record Named (known : List Headed) (t : Entry) : Type 0 where
   few : length known < most_theorems
   title : is_title t.title ≡ true
   naming : Naming t.names
-  given : list_all is_diagram_lit t.statement.given ≡ true
-  shown : list_all is_diagram_lit t.statement.shown ≡ true
   some : 0 < length t.statement.shown
   plain : is_plain t.script ≡ true
 
@@ -359,8 +357,6 @@ read_is_spelled known last t lines rest e =
       point_names = n.naming.point_names;
       line_names = n.naming.line_names;
       circle_names = n.naming.circle_names;
-      given = n.given;
-      shown = n.shown;
       some_shown = n.some;
       script = n.plain;
     }
