@@ -1,5 +1,5 @@
 -- What the constructions and the close of a draft are known to be, and so the script that its steps make.
-use Rattle.std.proofs.Common.{◌≡◌, ℕ, ◌+◌, ◌≤◌, Bool, true, false, cond, eqb, ◌&&◌, inl, inr, List, [], ◌∷◌, ◌++◌, length, take, Result, Ok, Err, refl, sym, ap, subst, ◌∙◌, arith, length-append}
+use Rattle.std.proofs.Common.{◌≡◌, ℕ, ◌+◌, ◌≤◌, Bool, true, false, cond, eqb, ◌&&◌, inl, inr, List, [], ◌∷◌, ◌++◌, length, Result, Ok, refl, sym, ap, subst, ◌∙◌, arith, length-append}
 use Rattle.std.specs.Prelude.{◌⊎◌, map}
 use Rattle.std.specs.List.{list_all}
 use Rattle.std.proofs.lemmas.Bool.{eqb-true}
@@ -9,7 +9,7 @@ use Rattle.e_literal.specs.declared.object.Sort.TheVariants.{Point, Line, Circle
 use Rattle.e_literal.specs.declared.object.Obj.{Obj}
 use Rattle.e_literal.specs.declared.object.Scope.{Scope}
 use Rattle.e_literal.specs.declared.literal.Lit.{Lit}
-use Rattle.e_literal.specs.Literal.{obj, count_of, is_in_scope, all_in_scope}
+use Rattle.e_literal.specs.Literal.{count_of, all_in_scope}
 use Rattle.e_literal.specs.Facts.{joined, joined_all}
 use Rattle.e_literal.specs.Scopes.{same_sort, with_one, grown, next_objects, are_of_sorts}
 use Rattle.e_literal.specs.Use.{Stated, scope_of}
@@ -28,7 +28,7 @@ use Rattle.e_deriv.specs.Fitting.{all_objects}
 use Rattle.e_book.specs.declared.fault.Kind.{Kind}
 use Rattle.e_book.specs.declared.lets.RawLet.{RawLet}
 use Rattle.e_book.specs.Reading.{◌>>=◌, each}
-use Rattle.e_book.specs.Scope.{scope_of_names, used, number_of, object_as, fresh, right_count, construction, arguments_in, first_fitting, let_in, objects_of_sorts, qed_in}
+use Rattle.e_book.specs.Scope.{scope_of_names, used, object_as, fresh, right_count, construction, arguments_in, first_fitting, let_in, objects_of_sorts, qed_in}
 use Rattle.e_book.specs.Steps.{few_objects}
 use Rattle.e_book.specs.Fits.{NewNamesFit, count_given}
 use Rattle.e_book.proofs.InScope.{bind_ok, ok_is, read_ok}

@@ -1,9 +1,8 @@
 -- The words of a construction in scope are read as that construction.
-use Rattle.std.proofs.Common.{◌≡◌, ℕ, ◌+◌, Bool, true, false, cond, eqb, ◌&&◌, ◌||◌, List, [], ◌∷◌, ◌++◌, length, map, Result, Ok, Err, refl, sym, ap, subst, ◌∙◌, arith, append_assoc}
+use Rattle.std.proofs.Common.{◌≡◌, ℕ, Bool, true, false, eqb, ◌&&◌, ◌||◌, List, [], ◌∷◌, ◌++◌, length, map, Ok, refl, sym, ap, ◌∙◌, arith, append_assoc}
 use Rattle.std.specs.List.{list_all, list_any}
 use Rattle.std.proofs.lemmas.Bool.{eqb-true, eq-eqb}
 use Rattle.std.proofs.lemmas.List.{length-map, append-nil}
-use Rattle.e_text.specs.Names.{is_name}
 use Rattle.e_literal.specs.declared.object.Sort.{Sort}
 use Rattle.e_literal.specs.declared.object.Sort.TheVariants.{Point, Line, Circle}
 use Rattle.e_literal.specs.declared.object.Obj.{Obj}
@@ -15,19 +14,18 @@ use Rattle.e_construct.specs.declared.construction.Shape.TheVariants.{OnLine, On
 use Rattle.e_construct.specs.declared.construction.Construction.{Construction}
 use Rattle.e_construct.specs.Shapes.{Avoids, NoObject, AnyObject, AnyApartFrom, shape_row}
 use Rattle.e_construct.specs.Construct.{sorts_of, avoids_well, fits, made}
-use Rattle.e_construct.specs.Lines.{are_avoided, may_avoid, begin_with, takes, pieces}
+use Rattle.e_construct.specs.Lines.{are_avoided, begin_with, takes}
 use Rattle.e_deriv.specs.declared.names.Names.{Names}
-use Rattle.e_book.specs.declared.fault.Kind.{Kind}
 use Rattle.e_book.specs.declared.lets.RawLet.{RawLet}
-use Rattle.e_book.specs.Reading.{◌>>=◌, each}
-use Rattle.e_book.specs.Scope.{scope_of_names, fresh, used, right_sort, right_count, arguments_in, construction, first_fitting, let_in}
-use Rattle.e_book.specs.Canonical.{name_of_object, let_form}
+use Rattle.e_book.specs.Reading.{each}
+use Rattle.e_book.specs.Scope.{scope_of_names, used, arguments_in, construction, first_fitting, let_in}
+use Rattle.e_book.specs.Canonical.{name_of_object}
 use Rattle.e_book.specs.HasSpelling.{AreNames}
 use Rattle.e_book.proofs.Differ.{both}
 use Rattle.e_book.proofs.Building.{GoodLet}
 use Rattle.e_book.proofs.Lookups.{InOrder, object_used, objects_named}
 use Rattle.e_construct.proofs.Sorts.{names_all_objects}
-use Rattle.e_book.proofs.Pieces.{alike, Filled}
+use Rattle.e_book.proofs.Pieces.{alike}
 use Rattle.e_book.proofs.LetsAgain.{may_have, LetNamed, as_read}
 
 -- ---- what the arguments of a shape are

@@ -1,5 +1,5 @@
 -- A theorem is read from its canonical lines.
-use Rattle.std.proofs.Common.{◌≡◌, ℕ, ◌+◌, ◌≤◌, Bool, true, false, cond, List, [], ◌∷◌, ◌++◌, length, map, Option, Some, None, Result, Ok, Err, refl, sym, ap, subst, ◌∙◌, arith, append_assoc}
+use Rattle.std.proofs.Common.{◌≡◌, ℕ, ◌+◌, ◌≤◌, true, cond, List, [], ◌∷◌, ◌++◌, length, map, Option, Some, None, Result, Ok, Err, refl, sym, ap, subst, ◌∙◌, arith, append_assoc}
 use Rattle.std.specs.List.{list_all}
 use Rattle.e_text.specs.Tokens.{tokens_of}
 use Rattle.e_text.specs.Lines.{Seen, numbered}
@@ -14,20 +14,20 @@ use Rattle.e_theorem.specs.Statements.{stated}
 use Rattle.e_deriv.specs.declared.names.Names.{Names}
 use Rattle.e_deriv.specs.declared.block.Step.{Step}
 use Rattle.e_deriv.specs.Naming.{first_names}
-use Rattle.e_deriv.specs.Script.{Script, Qed, steps_script, size}
+use Rattle.e_deriv.specs.Script.{Script, Qed, steps_script}
 use Rattle.e_deriv.specs.Goal.{Goal, goal_of_statement, facts_of_statement}
 use Rattle.e_deriv.specs.Lines.{lines}
 use Rattle.e_deriv.specs.Steps.{fits}
 use Rattle.e_book.specs.declared.fault.BookFault.{BookFault}
 use Rattle.e_book.specs.declared.form.Form.{Form}
 use Rattle.e_book.specs.declared.form.Form.TheVariants as forms
-use Rattle.e_book.specs.declared.draft.Place.TheVariants.{Proving, Done}
+use Rattle.e_book.specs.declared.draft.Place.TheVariants.{Done}
 use Rattle.e_book.specs.declared.draft.Draft.{Draft}
 use Rattle.e_book.specs.Headed.{Headed}
 use Rattle.e_book.specs.Scope.{scope_of_names}
-use Rattle.e_book.specs.Steps.{stepped, step, begun, no_names}
+use Rattle.e_book.specs.Steps.{stepped, step, begun}
 use Rattle.e_book.specs.Entry.{Entry, entry_of_draft}
-use Rattle.e_book.specs.Fits.{NewNamesFit, count_given}
+use Rattle.e_book.specs.Fits.{count_given}
 use Rattle.e_book.specs.Book.{line_step, is_done, read_from}
 use Rattle.e_book.specs.Fits.{count_monomials}
 use Rattle.e_book.specs.Canonical.{form_words, line_of, given_form, show_form, declare_form, made_form, grouped, declared_objects, made_objects, head_forms, script_forms, names_of_proof, forms_of}

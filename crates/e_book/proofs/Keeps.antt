@@ -1,9 +1,6 @@
 -- Each line keeps what is known of a draft, and so of the theorem that is read.
-use Rattle.std.proofs.Common.{◌≡◌, ℕ, zero, suc, ◌+◌, ◌≤◌, Bool, true, false, cond, ltb, ◌&&◌, inl, inr, List, [], ◌∷◌, ◌++◌, length, replicate, Option, Some, None, Result, Ok, Err, refl, sym, ap, subst, ◌∙◌, arith, length-append}
+use Rattle.std.proofs.Common.{◌≡◌, ℕ, zero, suc, ◌+◌, ◌≤◌, Bool, true, false, cond, inl, inr, List, [], ◌∷◌, ◌++◌, length, replicate, Option, Some, None, Result, Ok, Err, refl, sym, ap, subst, ◌∙◌, arith, length-append}
 use Rattle.std.specs.List.{list_all}
-use Rattle.std.proofs.lemmas.Bool.{cases_lt, lt-ltb}
-use Rattle.std.proofs.lemmas.List.Folds.{list_all-append}
-use Rattle.std.specs.Prelude.{◌⊎◌}
 use Rattle.e_literal.specs.declared.object.Sort.{Sort}
 use Rattle.e_literal.specs.declared.object.Sort.TheVariants.{Point, Line, Circle}
 use Rattle.e_literal.specs.declared.object.Obj.{Obj}
@@ -26,9 +23,7 @@ use Rattle.e_deriv.specs.Lines.{lines}
 use Rattle.e_deriv.specs.Steps.{fits}
 use Rattle.e_deriv.specs.Naming.{names_of_sort, with_names, named, declared_names}
 use Rattle.e_book.specs.declared.fault.Kind.{Kind}
-use Rattle.e_book.specs.declared.fault.Kind.TheVariants.{Malformed, NameTaken, Limit}
 use Rattle.e_book.specs.declared.fault.BookFault.{BookFault}
-use Rattle.e_book.specs.declared.fault.What.{What}
 use Rattle.e_book.specs.declared.fault.What.TheVariants as limits
 use Rattle.e_book.specs.declared.literal.RawLit.{RawLit}
 use Rattle.e_book.specs.declared.lets.RawLet.{RawLet}
@@ -46,7 +41,7 @@ use Rattle.e_book.specs.Steps.{count_monos, few_monos, with_terms, allowed, decl
 use Rattle.e_book.specs.Entry.{Entry, entry_of_draft, statement_of_draft}
 use Rattle.e_book.specs.Fits.{scope_of_names, NamesDiffer, count_given, Fits}
 use Rattle.e_book.specs.Book.{is_skipped, line_step, put_at, is_last, is_done, read_from}
-use Rattle.e_book.proofs.Bounds.{within_ok}
+use Rattle.e_book.proofs.Answered.{within_ok, appended, passes, untaken, put_ok, answered, pair, first_is, skip_or, Answer}
 use Rattle.e_book.proofs.InScope.{bind_ok, ok_is, read_ok, lit_in_scope, each_all, each_length}
 use Rattle.e_book.proofs.SaidForms.{Said, form_said}
 use Rattle.e_book.proofs.KeptSums.{terms_added, GoodSums, sums_kept, good_script, monomials_are}
@@ -210,9 +205,6 @@ keeps_declare known d e sort ns g a h =
       ahead = g.ahead;
       shut = subst (λ (p : Place). Shut p (length d.steps) (scope_of_names d.in_scope) d.made d.objects) (sym at.0) tt;
     })
-
-appended : {X : Type 0} (p : X → Bool) (xs ys : List X) → list_all p xs ≡ true → list_all p ys ≡ true → list_all p (xs ++ ys) ≡ true
-appended p xs ys hx hy = list_all-append p xs ys ∙ rw (hx, hy) refl
 
 lits_within : (ns : Names) (raws : List RawLit) (ls : List Lit) → lits_in ns raws ≡ Ok ls → list_all (all_in_scope (scope_of_names ns)) ls ≡ true
 lits_within ns raws ls e = each_all (lit_in ns) (all_in_scope (scope_of_names ns)) (lit_in_scope ns) raws ls e
@@ -490,10 +482,6 @@ keeps_stepped known d e (forms.Let l) g a h = keeps_let known d e l g a h
 keeps_stepped known d e (forms.Qed ns) g a h = keeps_qed known d e ns g a h
 keeps_stepped known d e forms.End g a h = keeps_end known d e g a h
 
-passes : (b : Bool) (x : Result Draft Kind) (y : Draft) → cond b x (Err Malformed) ≡ Ok y → (b ≡ true) × (x ≡ Ok y)
-passes true x y e = (refl, e)
-passes false x y e = absurd cc
-
 -- all that is known of a draft
 pub record Known (known : List Headed) (d : Draft) : Type 0 where
   pub good : Good known d
@@ -520,10 +508,6 @@ good_begun known t n = record {
   ahead = (refl, refl, refl, refl);
   shut = tt;
 }
-
-untaken : (b : Bool) (x : Result Draft Kind) (y : Draft) → cond b (Err NameTaken) x ≡ Ok y → (b ≡ false) × (x ≡ Ok y)
-untaken true x y e = absurd cc
-untaken false x y e = (refl, e)
 
 sums_begun : (t : List ℕ) → GoodSums (begun t)
 sums_begun t = record { given = refl; shown = refl; steps = refl; terms = refl; within = omega arith }
@@ -580,32 +564,6 @@ fits_read known d known_of a =
       good_script = good_script d.steps d.objects sums.steps;
       terms = omega (arith, sums.terms, sums.within, monomials_are d.steps d.objects);
     }
-
-put_ok : (n : ℕ) (r : Result Draft Kind) (d : Draft) → put_at n r ≡ Ok d → r ≡ Ok d
-put_ok n (Ok x) d e = cc
-put_ok n (Err k) d e = absurd cc
-
-abbrev Answer : Type 0
-Answer = Option (Entry × List (Result Seen LineFault))
-
-abbrev answered : Answer → Result Answer BookFault
-answered x = Ok x
-
-abbrev pair : Entry → List (Result Seen LineFault) → Answer
-pair t rest = Some (t, rest)
-
-first_is : (t u : Entry) (ts us : List (Result Seen LineFault)) → answered (pair t ts) ≡ answered (pair u us) → t ≡ u
-first_is t u ts us e = ap (λ (a : Answer). entry_in t a) (answer_is (pair t ts) (pair u us) e) where
-  entry_in : Entry → Answer → Entry
-  entry_in t None = t
-  entry_in t (Some p) = p.0
-
-  answer_is : (a b : Answer) → answered a ≡ answered b → a ≡ b
-  answer_is a b e = cc
-
-skip_or : (b : Bool) (x y z : Result Answer BookFault) → cond b x y ≡ z → ((b ≡ true) × (x ≡ z)) ⊎ ((b ≡ false) × (y ≡ z))
-skip_or true x y z e = inl (refl, e)
-skip_or false x y z e = inr (refl, e)
 
 -- a theorem that is read fits
 pub reading_fits : (known : List Headed) (last : ℕ) (draft : Option Draft) (lines rest : List (Result Seen LineFault)) (t : Entry) → GoodSoFar known draft → read_from known last draft lines ≡ answered (pair t rest) → Fits known t

@@ -33,7 +33,7 @@ use Rattle.e_book.specs.Steps.{are_short, are_small, count_monos, or_limit, few_
 use Rattle.e_book.specs.Entry.{statement_of_draft}
 use Rattle.e_book.specs.Fits.{has_good_literals, monomials, count_monomials, monomials_given}
 use Rattle.e_book.proofs.Differ.{both}
-use Rattle.e_book.proofs.Bounds.{within_ok}
+use Rattle.e_book.proofs.Answered.{within_ok}
 use Rattle.e_book.proofs.InScope.{bind_ok, ok_is, read_ok}
 use Rattle.e_book.proofs.SaidForms.{Said}
 use Rattle.e_book.proofs.WellRead.{good_lits, lits_count}

@@ -1,7 +1,6 @@
 -- The words of a construction are read as the shapes that have its line, with its names.
-use Rattle.std.proofs.Common.{◌≡◌, ℕ, Bool, true, false, not, List, [], ◌∷◌, ◌++◌, length, Result, Ok, refl, sym, ap, subst, ◌∙◌}
+use Rattle.std.proofs.Common.{◌≡◌, ℕ, Bool, true, false, not, List, [], ◌∷◌, ◌++◌, Result, Ok, refl, sym, ap, subst, ◌∙◌}
 use Rattle.std.specs.Prelude.{codes}
-use Rattle.std.specs.List.{AllByRecursion}
 use Rattle.std.specs.Str.{bytes_eq}
 use Rattle.std.proofs.lemmas.Bool.{not-true}
 use Rattle.std.proofs.lemmas.List.{append-nil}
@@ -9,16 +8,16 @@ use Rattle.e_text.specs.Names.{is_name, is_statement_word, is_steps_word, is_rel
 use Rattle.e_text.specs.Tokens.{is_token, AreTokens}
 use Rattle.e_text.proofs.TokenWords.{is_token-name}
 use Rattle.e_construct.specs.declared.construction.Shape.{Shape}
-use Rattle.e_construct.specs.Lines.{Piece, pieces, may_avoid, count_new, count_arguments}
+use Rattle.e_construct.specs.Lines.{Piece, pieces, may_avoid}
 use Rattle.e_book.specs.declared.fault.Kind.{Kind}
 use Rattle.e_book.specs.declared.lets.RawLet.{RawLet}
-use Rattle.e_book.specs.Reading.{◌>>=◌, cut_at, names_of}
+use Rattle.e_book.specs.Reading.{◌>>=◌, cut_at}
 use Rattle.e_book.specs.Lets.{new_words, argument_words, shapes_of, avoided_of, let_named, let_of}
 use Rattle.e_book.specs.Canonical.{filled, line_pieces, avoid_words, let_words}
 use Rattle.e_book.specs.HasSpelling.{AreNames}
 use Rattle.e_book.proofs.Differ.{both, name_differs}
 use Rattle.e_book.proofs.NamesAgain.{Without, names_again, some_names_again, cut_again, uncut_again}
-use Rattle.e_book.proofs.Pieces.{is_own_word, own_words_of, all_filled, new_again, arguments_again, alike, Filled, shapes_again, avoiding_shapes_again, First, first_alike}
+use Rattle.e_book.proofs.Pieces.{is_own_word, own_words_of, all_filled, new_again, arguments_again, alike, Filled, shapes_again, avoiding_shapes_again, first_alike}
 
 -- names behind the word avoid stand only where a shape may avoid something
 abbrev pub may_have : List (List ℕ) → Shape → Bool

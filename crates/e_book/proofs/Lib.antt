@@ -5,10 +5,10 @@ pub mod Arguments
 pub mod SideBySide
 pub mod InScope
 pub mod SaidLits
+pub mod Answered
 pub mod Citations
 pub mod Distinct
 pub mod Building
-pub mod Bounds
 pub mod WellRead
 pub mod KeptSums
 pub mod Keeps

@@ -1,5 +1,5 @@
 -- The tokens of a canonical line are the words of its form.
-use Rattle.std.proofs.Common.{◌≡◌, ℕ, Bool, true, false, List, [], ◌∷◌, ◌++◌, refl}
+use Rattle.std.proofs.Common.{◌≡◌, Bool, true, false, [], ◌∷◌, refl}
 use Rattle.std.specs.Prelude.{codes}
 use Rattle.e_text.specs.Tokens.{tokens_of, AreTokens}
 use Rattle.e_text.proofs.TokenWords.{tokens_of-joined, is_token-name, is_token-title}

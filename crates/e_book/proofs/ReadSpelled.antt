@@ -1,9 +1,6 @@
 -- A theorem that is read has a spelling.
-use Rattle.std.proofs.Common.{◌≡◌, ℕ, ◌+◌, ◌<◌, ◌≤◌, Bool, true, false, cond, ltb, inl, inr, List, [], ◌∷◌, ◌++◌, length, replicate, Option, Some, None, Result, Ok, Err, refl, ap, subst, ◌∙◌, arith, length-append}
-use Rattle.std.specs.Prelude.{◌⊎◌}
+use Rattle.std.proofs.Common.{◌≡◌, ℕ, ◌+◌, ◌<◌, Bool, true, false, cond, inl, inr, List, [], ◌∷◌, ◌++◌, length, replicate, Option, Some, None, Result, Ok, Err, refl, ap, subst, ◌∙◌, arith, length-append}
 use Rattle.std.specs.List.{list_all}
-use Rattle.std.proofs.lemmas.Bool.{cases_lt, lt-ltb}
-use Rattle.std.proofs.lemmas.List.Folds.{list_all-append}
 use Rattle.e_text.specs.Tokens.{tokens_of}
 use Rattle.e_text.specs.Lines.{Seen}
 use Rattle.e_text.specs.Names.{is_name, is_title}
@@ -21,9 +18,7 @@ use Rattle.e_deriv.specs.declared.block.Step.TheVariants as steps
 use Rattle.e_deriv.specs.Naming.{names_of_sort, with_names, named, declared_names}
 use Rattle.e_deriv.specs.Script.{Qed, steps_script}
 use Rattle.e_book.specs.declared.fault.Kind.{Kind}
-use Rattle.e_book.specs.declared.fault.Kind.TheVariants.{Malformed, NameTaken, Limit}
 use Rattle.e_book.specs.declared.fault.BookFault.{BookFault}
-use Rattle.e_book.specs.declared.fault.What.{What}
 use Rattle.e_book.specs.declared.fault.What.TheVariants as limits
 use Rattle.e_book.specs.declared.literal.RawLit.{RawLit}
 use Rattle.e_book.specs.declared.lets.RawLet.{RawLet}
@@ -42,7 +37,7 @@ use Rattle.e_book.specs.Steps.{count_monos, few_monos, with_terms, allowed, decl
 use Rattle.e_book.specs.Entry.{Entry, statement_of_draft, entry_of_draft}
 use Rattle.e_book.specs.Book.{is_skipped, line_step, put_at, is_last, is_done, read_from}
 use Rattle.e_book.specs.HasSpelling.{HasSpelling, AreNames, is_diagram_lit, is_plain}
-use Rattle.e_book.proofs.Bounds.{within_ok}
+use Rattle.e_book.proofs.Answered.{within_ok, appended, passes, untaken, put_ok, answered, pair, first_is, skip_or, Answer}
 use Rattle.e_book.proofs.InScope.{bind_ok, ok_is, read_ok, each_all, each_length}
 use Rattle.e_book.proofs.Keeps.{reading_fits}
 use Rattle.e_book.proofs.Differ.{both}
@@ -90,9 +85,6 @@ record Spelled (known : List Headed) (d : Draft) : Type 0 where
   naming : Naming d.names
   some : SomeShown d.place d.shown
   plain : list_all is_plain_step d.steps ≡ true
-
-appended : {X : Type 0} (p : X → Bool) (xs ys : List X) → list_all p xs ≡ true → list_all p ys ≡ true → list_all p (xs ++ ys) ≡ true
-appended p xs ys hx hy = list_all-append p xs ys ∙ rw (hx, hy) refl
 
 declared_is : (ns : Names) (sort : Sort) (new : List (List ℕ)) (names : Names) → declared ns sort new ≡ Ok names → with_names ns sort (names_of_sort ns sort ++ new) ≡ names
 unfolding declared
@@ -240,19 +232,11 @@ spelled_stepped known d e (forms.Let l) g s a h = spelled_let known d e l g s h
 spelled_stepped known d e (forms.Qed ns) g s a h = spelled_qed known d e ns g a h
 spelled_stepped known d e forms.End g s a h = spelled_end known d e g a h
 
-passes : (b : Bool) (x : Result Draft Kind) (y : Draft) → cond b x (Err Malformed) ≡ Ok y → (b ≡ true) × (x ≡ Ok y)
-passes true x y e = (refl, e)
-passes false x y e = absurd cc
-
 spelled_next : (known : List Headed) (d e : Draft) (f : Form) → Spelled known d → Said f → step d f ≡ Ok e → Spelled known e
 unfolding step
 spelled_next known d e f g s h = let p = passes (allowed d.place f) (stepped d f) e h in spelled_stepped known d e f g s p.0 p.1
 
 -- ---- the first line
-
-untaken : (b : Bool) (x : Result Draft Kind) (y : Draft) → cond b (Err NameTaken) x ≡ Ok y → (b ≡ false) × (x ≡ Ok y)
-untaken true x y e = absurd cc
-untaken false x y e = (refl, e)
 
 no_names : Naming (record { points = []; lines = []; circles = [] })
 no_names = record { point_names = tt; line_names = tt; circle_names = tt }
@@ -300,32 +284,6 @@ at_last p shown a s = absurd cc
 
 all_named : (known : List Headed) (d : Draft) → Spelled known d → is_done d ≡ true → Named known (entry_of_draft d)
 all_named known d g a = record { few = g.few; title = g.title; naming = g.naming; some = at_last d.place d.shown a g.some; plain = plain_script d.steps d.objects g.plain }
-
-put_ok : (n : ℕ) (r : Result Draft Kind) (d : Draft) → put_at n r ≡ Ok d → r ≡ Ok d
-put_ok n (Ok x) d e = cc
-put_ok n (Err k) d e = absurd cc
-
-abbrev Answer : Type 0
-Answer = Option (Entry × List (Result Seen LineFault))
-
-abbrev answered : Answer → Result Answer BookFault
-answered x = Ok x
-
-abbrev pair : Entry → List (Result Seen LineFault) → Answer
-pair t rest = Some (t, rest)
-
-first_is : (t u : Entry) (ts us : List (Result Seen LineFault)) → answered (pair t ts) ≡ answered (pair u us) → t ≡ u
-first_is t u ts us e = ap (λ (a : Answer). entry_in t a) (answer_is (pair t ts) (pair u us) e) where
-  entry_in : Entry → Answer → Entry
-  entry_in t None = t
-  entry_in t (Some p) = p.0
-
-  answer_is : (a b : Answer) → answered a ≡ answered b → a ≡ b
-  answer_is a b e = cc
-
-skip_or : (b : Bool) (x y z : Result Answer BookFault) → cond b x y ≡ z → ((b ≡ true) × (x ≡ z)) ⊎ ((b ≡ false) × (y ≡ z))
-skip_or true x y z e = inl (refl, e)
-skip_or false x y z e = inr (refl, e)
 
 reading_names : (known : List Headed) (last : ℕ) (draft : Option Draft) (lines rest : List (Result Seen LineFault)) (t : Entry) → SpelledSoFar known draft → read_from known last draft lines ≡ answered (pair t rest) → Named known t
 reading_names known last None [] rest t g e = absurd cc

@@ -123,7 +123,7 @@ filled (New ∷ ps) [] args = filled ps [] args
 filled (Argument ∷ ps) new (n ∷ args) = n ∷ filled ps new args
 filled (Argument ∷ ps) new [] = filled ps new []
 
--- shapes that one line may have share their pieces
+-- the pieces of a line: those of the first of its shapes, which all have the same
 abbrev pub line_pieces : List Shape → List Piece
 line_pieces [] = []
 line_pieces (s ∷ ss) = pieces s
@@ -213,7 +213,8 @@ by_form ns b = forms.By (rule_name b.rule) (map (name_of_object ns) b.args) (raw
 abbrev pub hence_form : Names → Lit → Form
 hence_form ns l = forms.Hence (raw_of ns l)
 
--- the line of a construction, with names for the objects that it makes
+-- the line of a construction, with names for the objects that it makes. Its words are those of other shapes too where these
+-- have the same line: the sorts of the arguments tell them apart.
 abbrev pub let_form : Names → Construction → List (List ℕ) → Form
 let_form ns form names =
     forms.Let (record { shapes = form.shape ∷ []; new = names; args = map (name_of_object ns) form.args; avoid = map (name_of_object ns) form.avoid })

@@ -1,6 +1,4 @@
-use Rattle.std.proofs.Common.{sym}
-use Rattle.e_book.specs.Reading.{texts, cut_at}
-use Rattle.e_book.specs.Lets.{let_of, let_named, shapes_of}
+use Rattle.e_book.specs.Reading.{texts}
 use Rattle.e_book.proofs.Placed.{let_parts}
 use Rattle.e_book.proofs.lets.let_of.Goals as goal
 

@@ -3,7 +3,7 @@ use Rattle.e_construct.specs.Views.{piece_said}
 use Rattle.e_text.specs.Names.{name_of}
 use Rattle.e_book.specs.declared.fault.Kind.TheVariants.{Malformed}
 use Rattle.e_book.specs.declared.fault.Trouble.TheVariants.{Fault}
-use Rattle.e_book.specs.Reading.{texts, or_malformed, names_of, with_front}
+use Rattle.e_book.specs.Reading.{texts, or_malformed, names_of}
 use Rattle.e_book.specs.Lets.{words_at}
 use Rattle.e_book.proofs.Loops.{goes_on, fails, is_done}
 use Rattle.e_book.proofs.Texts.{text_at, length-texts}

@@ -1,5 +1,4 @@
-use Rattle.std.proofs.Common.{◌+◌, [], ◌∷◌, ◌++◌, drop, get_or, sym, ap, subst, ◌≡◌, ◌∙◌, List}
-use Rattle.e_literal.specs.declared.object.Obj.{Obj}
+use Rattle.std.proofs.Common.{◌+◌, [], drop, get_or, sym, ap, ◌∙◌}
 use Rattle.e_book.specs.Scope.{arguments_in, used}
 use Rattle.e_book.proofs.Loops.{rest_at}
 use Rattle.e_book.proofs.Arguments.{argument_taken, argument_refused, one_takes}

@@ -1,12 +1,10 @@
-use Rattle.std.proofs.Common.{sym, ap, ◌∙◌, [], ◌++◌, Result, List, Ok}
+use Rattle.std.proofs.Common.{sym, ap, ◌∙◌, List, Ok}
 use Rattle.std.proofs.lemmas.List.{append-nil}
 use Rattle.std.specs.Slice.Iter.{iter_rest}
 use Rattle.std.specs.Iterator.Adapters.{zip_first, zip_second}
 use Rattle.std.proofs.lemmas.Slice.Zip.{either_empty_from_Zip}
 use Rattle.e_literal.specs.declared.object.Obj.{Obj}
-use Rattle.e_book.specs.declared.fault.Kind.{Kind}
 use Rattle.e_book.specs.Reading.{with_front}
-use Rattle.e_book.specs.Scope.{objects_of_sorts}
 use Rattle.e_book.proofs.Arguments.{none_of_sorts}
 use Rattle.e_book.proofs.scope.objects_of_sorts.Goals as goal
 

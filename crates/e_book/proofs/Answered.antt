@@ -1,0 +1,70 @@
+-- What is known where reading goes on: which test was passed, and what the answer was.
+use Rattle.std.proofs.Common.{◌≡◌, ℕ, ◌≤◌, Bool, true, false, cond, ltb, inl, inr, List, ◌++◌, Option, Some, None, Result, Ok, Err, refl, ap, ◌∙◌, arith}
+use Rattle.std.specs.Prelude.{◌⊎◌}
+use Rattle.std.specs.List.{list_all}
+use Rattle.std.proofs.lemmas.Bool.{cases_lt, lt-ltb}
+use Rattle.std.proofs.lemmas.List.Folds.{list_all-append}
+use Rattle.e_text.specs.Lines.{Seen}
+use Rattle.e_text.specs.declared.line.LineFault.{LineFault}
+use Rattle.e_book.specs.declared.fault.Kind.{Kind}
+use Rattle.e_book.specs.declared.fault.Kind.TheVariants.{Malformed, NameTaken, Limit}
+use Rattle.e_book.specs.declared.fault.BookFault.{BookFault}
+use Rattle.e_book.specs.declared.fault.What.{What}
+use Rattle.e_book.specs.declared.draft.Draft.{Draft}
+use Rattle.e_book.specs.Limits.{within}
+use Rattle.e_book.specs.Entry.{Entry}
+use Rattle.e_book.specs.Book.{put_at}
+use Rattle.e_book.proofs.InScope.{read_ok}
+
+refused : (b : Bool) (what : What) (u : Unit {0}) → b ≡ true → cond b (Err (Limit what)) (read_ok tt) ≡ Ok u → ⊥
+refused true what u t e = absurd cc
+refused false what u t e = absurd cc
+
+pub within_ok : (n most : ℕ) (what : What) (u : Unit {0}) → within n most what ≡ Ok u → n ≤ most
+within_ok n most what u e =
+    elim (cases_lt most n) [
+      | inl lt ↦ absurd (refused (ltb most n) what u (lt-ltb most n lt) e)
+      | inr ge ↦ omega (arith, ge)
+    ]
+
+-- what holds of the old and of the new holds of all
+pub appended : {X : Type 0} (p : X → Bool) (xs ys : List X) → list_all p xs ≡ true → list_all p ys ≡ true → list_all p (xs ++ ys) ≡ true
+appended p xs ys hx hy = list_all-append p xs ys ∙ rw (hx, hy) refl
+
+-- ---- a test that was passed
+
+pub passes : (b : Bool) (x : Result Draft Kind) (y : Draft) → cond b x (Err Malformed) ≡ Ok y → (b ≡ true) × (x ≡ Ok y)
+passes true x y e = (refl, e)
+passes false x y e = absurd cc
+
+pub untaken : (b : Bool) (x : Result Draft Kind) (y : Draft) → cond b (Err NameTaken) x ≡ Ok y → (b ≡ false) × (x ≡ Ok y)
+untaken true x y e = absurd cc
+untaken false x y e = (refl, e)
+
+-- ---- an answer
+
+pub put_ok : (n : ℕ) (r : Result Draft Kind) (d : Draft) → put_at n r ≡ Ok d → r ≡ Ok d
+put_ok n (Ok x) d e = cc
+put_ok n (Err k) d e = absurd cc
+
+abbrev pub Answer : Type 0
+Answer = Option (Entry × List (Result Seen LineFault))
+
+abbrev pub answered : Answer → Result Answer BookFault
+answered x = Ok x
+
+abbrev pub pair : Entry → List (Result Seen LineFault) → Answer
+pair t rest = Some (t, rest)
+
+pub first_is : (t u : Entry) (ts us : List (Result Seen LineFault)) → answered (pair t ts) ≡ answered (pair u us) → t ≡ u
+first_is t u ts us e = ap (λ (a : Answer). entry_in t a) (answer_is (pair t ts) (pair u us) e) where
+  entry_in : Entry → Answer → Entry
+  entry_in t None = t
+  entry_in t (Some p) = p.0
+
+  answer_is : (a b : Answer) → answered a ≡ answered b → a ≡ b
+  answer_is a b e = cc
+
+pub skip_or : (b : Bool) (x y z : Result Answer BookFault) → cond b x y ≡ z → ((b ≡ true) × (x ≡ z)) ⊎ ((b ≡ false) × (y ≡ z))
+skip_or true x y z e = inl (refl, e)
+skip_or false x y z e = inr (refl, e)
