@@ -29,8 +29,9 @@ use Rattle.e_book.specs.Steps.{stepped, step, begun}
 use Rattle.e_book.specs.Entry.{Entry, entry_of_draft}
 use Rattle.e_book.specs.Fits.{count_given}
 use Rattle.e_book.specs.Book.{line_step, is_done, read_from}
+use Rattle.e_book.specs.Fits.{count_monomials}
 use Rattle.e_book.specs.Canonical.{form_words, line_of, given_form, show_form, declare_form, made_form, grouped, declared_objects, made_objects, head_forms, script_forms, names_of_proof, forms_of}
-use Rattle.e_book.specs.HasSpelling.{HasSpelling, is_diagram_lit}
+use Rattle.e_book.specs.HasSpelling.{HasSpelling}
 use Rattle.e_book.specs.Laws.{Shows}
 use Rattle.e_book.proofs.Differ.{both}
 use Rattle.e_book.proofs.Respelled.{GoodForm, as_read, form_again}
@@ -45,29 +46,28 @@ use Rattle.e_book.proofs.ScriptRead.{proving, closed, steps_of, objects_of, Take
 -- ---- the statement
 
 -- given literals are spelled with the names of the declared objects alone
-given_forms_of : (s : Scope) (ns : Names) (ls : List Lit) → list_all (all_in_scope s) ls ≡ true → list_all is_diagram_lit ls ≡ true → map (given_form (first_names s ns)) ls ≡ map (given_form ns) ls
-given_forms_of s ns [] h d = refl
-given_forms_of s ns (l ∷ ls) h d =
+given_forms_of : (s : Scope) (ns : Names) (ls : List Lit) → list_all (all_in_scope s) ls ≡ true → map (given_form (first_names s ns)) ls ≡ map (given_form ns) ls
+given_forms_of s ns [] h = refl
+given_forms_of s ns (l ∷ ls) h =
     let p = both (all_in_scope s l) (list_all (all_in_scope s) ls) h in
-    let q = both (is_diagram_lit l) (list_all is_diagram_lit ls) d in
-    rw (lit_of_first s ns l p.0 q.0, given_forms_of s ns ls p.1 q.1) refl
+    rw (lit_of_first s ns l p.0, given_forms_of s ns ls p.1) refl
 
 -- the draft behind the word proof
 abbrev started : Entry → Draft
 started t = showing t.title t.names t.statement.declared t.statement.given t.statement.made t.statement.shown
 
-run_proof : (known : List Headed) (t : Entry) → Runs known (Some (started t)) (forms.Proof ∷ []) (Some (proving (started t) (names_of_proof t) [] (length t.statement.given)))
+run_proof : (known : List Headed) (t : Entry) → Runs known (Some (started t)) (forms.Proof ∷ []) (Some (proving (started t) (names_of_proof t) [] (length t.statement.given) (count_monomials t.statement.given)))
 unfolding step stepped
-run_proof known t = (proving (started t) (names_of_proof t) [] (length t.statement.given), tt, refl, refl, refl)
+run_proof known t = (proving (started t) (names_of_proof t) [] (length t.statement.given) (count_monomials t.statement.given), tt, refl, refl, refl)
 
-run_head : (known : List Headed) (t : Entry) → HasSpelling known t → InOrder t.names → Runs known None (head_forms t) (Some (proving (started t) (names_of_proof t) [] (length t.statement.given)))
+run_head : (known : List Headed) (t : Entry) → HasSpelling known t → InOrder t.names → Runs known None (head_forms t) (Some (proving (started t) (names_of_proof t) [] (length t.statement.given) (count_monomials t.statement.given)))
 run_head known t h o =
     let ns = t.names in
     let st = t.statement in
     let s : Scope = scope_of (stated t.statement) in
     let dn = first_names s ns in
     let few : Few ns = record { points = h.fits.points; lines = h.fits.lines; circles = h.fits.circles } in
-    let end : Option Draft = Some (proving (started t) (names_of_proof t) [] (length st.given)) in
+    let end : Option Draft = Some (proving (started t) (names_of_proof t) [] (length st.given) (count_monomials st.given)) in
     let titled : Option Draft = Some (begun t.title) in
     let declared : Option Draft = Some (declaring t.title dn st.declared) in
     let given : Option Draft = Some (given_draft t.title dn st.declared st.given) in
@@ -78,15 +78,15 @@ run_head known t h o =
     let f1 : List Form = map declare_form (grouped ns (declared_objects st)) ++ map (given_form ns) st.given in
     let run_declared : Runs known titled (map declare_form (grouped ns (declared_objects st))) declared =
     run_from known forms.Declare (declaring t.title) (declared_lines t.title) ns nothing [] st.declared st.made o few h.fits.scope in
-    let plain : Plain dn st.given = record { within = subst (λ (z : Scope). list_all (all_in_scope z) st.given ≡ true) (sym (declared_scope (stated st) ns h.fits.scope)) h.fits.given; diagram = h.given } in
+    let plain : Plain dn st.given = record { within = subst (λ (z : Scope). list_all (all_in_scope z) st.given ≡ true) (sym (declared_scope (stated st) ns h.fits.scope)) h.fits.given; good = h.fits.good_given } in
     let run_given : Runs known declared (map (given_form ns) st.given) given =
-    subst (λ (fs : List Form). Runs known declared fs given) (given_forms_of s ns st.given h.fits.given h.given)
-    (run_all_given known t.title dn st.declared st.given (first_in_order s ns o) plain (omega (arith, h.fits.facts))) in
+    subst (λ (fs : List Form). Runs known declared fs given) (given_forms_of s ns st.given h.fits.given)
+    (run_all_given known t.title dn st.declared st.given (first_in_order s ns o) plain (omega (arith, h.fits.facts)) (omega (arith, h.fits.terms))) in
     let whole : first_names (grown s st.made) ns ≡ ns = ap (λ (z : Scope). first_names z ns) h.fits.scope ∙ all_first ns in
     let run_made : Runs known given (map made_form (grouped ns (made_objects st))) made =
     subst (λ (m : Names). Runs known given (map made_form (grouped ns (made_objects st))) (Some (making t.title st.declared st.given m st.made))) whole
     (run_from known forms.Made (making t.title st.declared st.given) (made_lines t.title st.declared st.given) ns s [] st.made [] o few h.fits.scope) in
-    let run_shown : Runs known made (map (show_form ns) st.shown) (Some (started t)) = run_all_shown known t.title ns st.declared st.given st.made st.shown o (record { within = h.fits.shown; diagram = h.shown }) h.some_shown in
+    let run_shown : Runs known made (map (show_form ns) st.shown) (Some (started t)) = run_all_shown known t.title ns st.declared st.given st.made st.shown o (record { within = h.fits.shown; good = h.fits.good_shown }) h.some_shown in
     let stating : Runs known titled f1 given = runs_append known titled declared given (map declare_form (grouped ns (declared_objects st))) (map (given_form ns) st.given) run_declared run_given in
     let showing : Runs known given f3 (Some (started t)) = runs_append known given made (Some (started t)) (map made_form (grouped ns (made_objects st))) (map (show_form ns) st.shown) run_made run_shown in
     runs_append known None titled end (forms.Theorem t.title ∷ []) (f1 ++ f2) (run_title known t.title h.title h.fits.new h.few_theorems)
@@ -94,13 +94,13 @@ run_head known t h o =
 
 -- ---- the proof
 
-run_proof_lines : (known : List Headed) (t : Entry) → HasSpelling known t → InOrder t.names → Taken known (started t) (names_of_proof t) [] (length t.statement.given) t.script
+run_proof_lines : (known : List Headed) (t : Entry) → HasSpelling known t → InOrder t.names → Taken known (started t) (names_of_proof t) [] (length t.statement.given) (count_monomials t.statement.given) t.script
 run_proof_lines known t h o =
     let s : Scope = scope_of (stated t.statement) in
     let facts : List Lit = facts_of_statement (stated t.statement) in
     let goal : Goal = goal_of_statement (stated t.statement) in
     let scope : s ≡ scope_of_names (names_of_proof t) = sym (declared_scope (stated t.statement) t.names h.fits.scope) in
-    run_script known (started t) (names_of_proof t) [] (length t.statement.given) t.script facts goal (record {
+    run_script known (started t) (names_of_proof t) [] (length t.statement.given) (count_monomials t.statement.given) t.script facts goal (record {
       order = first_in_order s t.names o;
       goal_sorts = sorts_again s t.statement.made;
       plain = h.script;
@@ -108,6 +108,8 @@ run_proof_lines known t h o =
       new_names = h.fits.new_names;
       few = omega (arith, h.fits.steps);
       most = subst (λ (z : Scope). length t.statement.given + count_given z t.script ≤ 2048) scope h.fits.facts;
+      good = h.fits.good_script;
+      short = h.fits.terms;
     })
 
 -- all lines but the last
@@ -149,17 +151,17 @@ answered t rest = Ok (Some (t, rest))
 
 -- ---- the whole
 
-step_end : (d : Draft) (ns : Names) (ss : List Step) (facts : ℕ) (os : List Obj) → step (closed d ns ss facts os) forms.End ≡ Ok (record (closed d ns ss facts os) { place = Done })
+step_end : (d : Draft) (ns : Names) (ss : List Step) (facts terms : ℕ) (os : List Obj) → step (closed d ns ss facts terms os) forms.End ≡ Ok (record (closed d ns ss facts terms os) { place = Done })
 unfolding step stepped
-step_end d ns ss facts os = refl
+step_end d ns ss facts terms os = refl
 
-end_read : (known : List Headed) (last : ℕ) (t : Entry) (ns : Names) (facts : ℕ) (all rest : List (Result Seen LineFault)) → steps_script (steps_of t.script) (Qed (objects_of t.script) []) ≡ t.script → Shows all (line_of forms.End ∷ []) rest
-    → read_from known last (Some (closed (started t) ns (steps_of t.script) facts (objects_of t.script))) all ≡ answered t rest
-end_read known last t ns facts [] rest same sh = absurd sh
-end_read known last t ns facts (Err x ∷ all) rest same sh = absurd sh
-end_read known last t ns facts (Ok l ∷ all) rest same sh =
-    let d = closed (started t) ns (steps_of t.script) facts (objects_of t.script) in
-    one_read known last (Some d) l all forms.End (record d { place = Done }) sh.0 tt (step_end (started t) ns (steps_of t.script) facts (objects_of t.script))
+end_read : (known : List Headed) (last : ℕ) (t : Entry) (ns : Names) (facts terms : ℕ) (all rest : List (Result Seen LineFault)) → steps_script (steps_of t.script) (Qed (objects_of t.script) []) ≡ t.script → Shows all (line_of forms.End ∷ []) rest
+    → read_from known last (Some (closed (started t) ns (steps_of t.script) facts terms (objects_of t.script))) all ≡ answered t rest
+end_read known last t ns facts terms [] rest same sh = absurd sh
+end_read known last t ns facts terms (Err x ∷ all) rest same sh = absurd sh
+end_read known last t ns facts terms (Ok l ∷ all) rest same sh =
+    let d = closed (started t) ns (steps_of t.script) facts terms (objects_of t.script) in
+    one_read known last (Some d) l all forms.End (record d { place = Done }) sh.0 tt (step_end (started t) ns (steps_of t.script) facts terms (objects_of t.script))
     ∙ ap (λ (s : Script). answered (record t { script = s }) all) same ∙ ap (λ (ls : List (Result Seen LineFault)). answered t ls) sh.1
 
 pub canonical_lines_read : (known : List Headed) (last : ℕ) (t : Entry) (all rest : List (Result Seen LineFault)) → HasSpelling known t → Shows all (map line_of (forms_of t)) rest
@@ -167,13 +169,13 @@ pub canonical_lines_read : (known : List Headed) (last : ℕ) (t : Entry) (all r
 canonical_lines_read known last t all rest h sh =
     let o = in_order t.names h.point_names h.line_names h.circle_names h.fits.differ in
     let proof = run_proof_lines known t h o in
-    let d = closed (started t) proof.in_scope (steps_of t.script) proof.given (objects_of t.script) in
+    let d = closed (started t) proof.in_scope (steps_of t.script) proof.given proof.written (objects_of t.script) in
     let runs : Runs known None (front t) (Some d) =
-    runs_append known None (Some (proving (started t) (names_of_proof t) [] (length t.statement.given))) (Some d) (head_forms t) (script_forms (names_of_proof t) t.script) (run_head known t h o) proof.runs in
+    runs_append known None (Some (proving (started t) (names_of_proof t) [] (length t.statement.given) (count_monomials t.statement.given))) (Some d) (head_forms t) (script_forms (names_of_proof t) t.script) (run_head known t h o) proof.runs in
     let whole : forms_of t ≡ front t ++ forms.End ∷ [] = sym (append_assoc (head_forms t) (script_forms (names_of_proof t) t.script) (forms.End ∷ [])) in
     let shown : Shows all (map line_of (front t ++ forms.End ∷ [])) rest = subst (λ (fs : List Form). Shows all (map line_of fs) rest) whole sh in
     let l = reads_runs known last None (Some d) (front t) (forms.End ∷ []) all rest runs shown in
-    l.same ∙ end_read known last t proof.in_scope proof.given l.ahead rest (same_script t.script h.script) l.shown
+    l.same ∙ end_read known last t proof.in_scope proof.given proof.written l.ahead rest (same_script t.script h.script) l.shown
 
 -- lines with their numbers, as they stand in a text
 shows_numbered : (first : ℕ) (texts : List (List ℕ)) (rest : List (Result Seen LineFault)) → Shows (numbered first texts ++ rest) texts rest

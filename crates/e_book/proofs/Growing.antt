@@ -1,27 +1,34 @@
 -- Names stay in order where some are left out and where new ones come into scope.
-use Rattle.std.proofs.Common.{◌≡◌, ℕ, zero, suc, true, false, not, ◌&&◌, List, [], ◌∷◌, ◌++◌, take, Ok, refl, sym, ap, ◌∙◌}
+use Rattle.std.proofs.Common.{◌≡◌, ℕ, zero, suc, Bool, true, false, not, ◌&&◌, List, [], ◌∷◌, ◌++◌, take, Ok, refl, sym, ap, ap₂, ◌∙◌}
 use Rattle.std.specs.List.{list_all}
 use Rattle.std.proofs.lemmas.Bool.{not-true, ltb-true}
 use Rattle.std.proofs.lemmas.List.{get_or-take}
+use Rattle.std.proofs.lemmas.List.Folds.{list_all-append}
 use Rattle.e_text.specs.Names.{is_name}
 use Rattle.e_literal.specs.declared.object.Sort.{Sort}
 use Rattle.e_literal.specs.declared.object.Sort.TheVariants.{Point, Line, Circle}
 use Rattle.e_literal.specs.declared.object.Scope.{Scope}
 use Rattle.e_literal.specs.declared.object.Obj.{Obj}
+use Rattle.e_literal.specs.declared.object.Term.{Term}
+use Rattle.e_literal.specs.declared.object.Term.TheVariants as terms
+use Rattle.e_literal.specs.declared.object.Mono.{Mono}
 use Rattle.e_literal.specs.declared.literal.Atom.{Atom}
 use Rattle.e_literal.specs.declared.literal.Atom.TheVariants as atoms
 use Rattle.e_literal.specs.declared.literal.Lit.{Lit}
-use Rattle.e_literal.specs.Literal.{obj, is_in_scope, objects_of_atom, all_in_scope}
+use Rattle.e_literal.specs.Literal.{obj, is_in_scope, objects_of_term, objects_of_sum, objects_of_atom, all_in_scope}
 use Rattle.e_deriv.specs.declared.names.Names.{Names}
 use Rattle.e_deriv.specs.Naming.{names_of_sort, named, first_names}
+use Rattle.e_book.specs.declared.sum.RawTerm.{RawTerm}
+use Rattle.e_book.specs.declared.sum.RawTerm.TheVariants as rawterms
+use Rattle.e_book.specs.declared.sum.RawMono.{RawMono}
 use Rattle.e_book.specs.declared.literal.RawAtom.{RawAtom}
 use Rattle.e_book.specs.declared.literal.RawAtom.TheVariants as raw
 use Rattle.e_book.specs.Scope.{has, is_taken, fresh}
 use Rattle.e_book.specs.Fits.{are_distinct}
-use Rattle.e_book.specs.Canonical.{name_at, raw_atom, raw_of}
-use Rattle.e_book.specs.HasSpelling.{AreNames, is_diagram_atom, is_diagram_lit}
-use Rattle.e_book.proofs.Differ.{both, Apart, Apart-sym, has_not_in_front}
-use Rattle.e_book.proofs.Distinct.{distinct_last, untaken, passed}
+use Rattle.e_book.specs.Canonical.{name_at, raw_term, raw_sum, raw_atom, raw_signed, raw_of}
+use Rattle.e_book.specs.HasSpelling.{AreNames}
+use Rattle.e_book.proofs.Differ.{both, neither, Apart, Apart-sym, has_not_in_front}
+use Rattle.e_book.proofs.Distinct.{distinct_last, Untaken, untaken, passed}
 use Rattle.e_book.proofs.Lookups.{InOrder, ordered}
 use Rattle.e_book.proofs.Declared.{Free, plus, same_fresh}
 
@@ -100,28 +107,65 @@ in_front s ns Point i h = get_or-take s.points ns.points i [] (ltb-true i s.poin
 in_front s ns Line i h = get_or-take s.lines ns.lines i [] (ltb-true i s.lines h)
 in_front s ns Circle i h = get_or-take s.circles ns.circles i [] (ltb-true i s.circles h)
 
-atom_of_first : (s : Scope) (ns : Names) (a : Atom) → list_all (is_in_scope s) (objects_of_atom a) ≡ true → is_diagram_atom a ≡ true → raw_atom (first_names s ns) a ≡ raw_atom ns a
-atom_of_first s ns (atoms.On a l) h d = let t = two s (obj Point a) (obj Line l) h in rw (in_front s ns Point a t.0, in_front s ns Line l t.1) refl
-atom_of_first s ns (atoms.OnC a c) h d = let t = two s (obj Point a) (obj Circle c) h in rw (in_front s ns Point a t.0, in_front s ns Circle c t.1) refl
-atom_of_first s ns (atoms.Inside a c) h d = let t = two s (obj Point a) (obj Circle c) h in rw (in_front s ns Point a t.0, in_front s ns Circle c t.1) refl
-atom_of_first s ns (atoms.Center a c) h d = let t = two s (obj Point a) (obj Circle c) h in rw (in_front s ns Point a t.0, in_front s ns Circle c t.1) refl
-atom_of_first s ns (atoms.Between a b c) h d =
+-- ---- sums over the first objects
+
+point_of_first : (s : Scope) (ns : Names) (a : ℕ) → is_in_scope s (obj Point a) ≡ true → name_at (take s.points ns.points) a ≡ name_at ns.points a
+point_of_first s ns a h = in_front s ns Point a h
+
+term_of_first : (s : Scope) (ns : Names) (t : Term) → list_all (is_in_scope s) (objects_of_term t) ≡ true → raw_term (first_names s ns) t ≡ raw_term ns t
+term_of_first s ns (terms.Seg a b) h = let t = two s (obj Point a) (obj Point b) h in ap₂ rawterms.Seg (point_of_first s ns a t.0) (point_of_first s ns b t.1)
+term_of_first s ns (terms.Ang a b c) h =
+    let t = three s (obj Point a) (obj Point b) (obj Point c) h in
+    let n = take s.points ns.points in
+    ap (λ (x : List ℕ). rawterms.Ang x (name_at n b) (name_at n c)) (point_of_first s ns a t.0)
+    ∙ ap (λ (x : List ℕ). rawterms.Ang (name_at ns.points a) x (name_at n c)) (point_of_first s ns b t.1) ∙ ap (rawterms.Ang (name_at ns.points a) (name_at ns.points b)) (point_of_first s ns c t.2)
+term_of_first s ns (terms.Area a b c) h =
+    let t = three s (obj Point a) (obj Point b) (obj Point c) h in
+    let n = take s.points ns.points in
+    ap (λ (x : List ℕ). rawterms.Area x (name_at n b) (name_at n c)) (point_of_first s ns a t.0)
+    ∙ ap (λ (x : List ℕ). rawterms.Area (name_at ns.points a) x (name_at n c)) (point_of_first s ns b t.1) ∙ ap (rawterms.Area (name_at ns.points a) (name_at ns.points b)) (point_of_first s ns c t.2)
+term_of_first s ns terms.Right h = refl
+
+sum_of_first : (s : Scope) (ns : Names) (ms : List Mono) → list_all (is_in_scope s) (objects_of_sum ms) ≡ true → raw_sum (first_names s ns) ms ≡ raw_sum ns ms
+sum_of_first s ns [] h = refl
+sum_of_first s ns (m ∷ ms) h =
+    let p = both (list_all (is_in_scope s) (objects_of_term m.term)) (list_all (is_in_scope s) (objects_of_sum ms)) (sym (list_all-append (is_in_scope s) (objects_of_term m.term) (objects_of_sum ms)) ∙ h) in
+    ap₂ (λ (t : RawTerm) (rs : List RawMono). record { coeff = m.coeff; term = t } ∷ rs) (term_of_first s ns m.term p.0) (sum_of_first s ns ms p.1)
+
+sides : (s : Scope) (x y : List Mono) → list_all (is_in_scope s) (objects_of_sum x ++ objects_of_sum y) ≡ true
+    → (list_all (is_in_scope s) (objects_of_sum x) ≡ true) × (list_all (is_in_scope s) (objects_of_sum y) ≡ true)
+sides s x y h = both (list_all (is_in_scope s) (objects_of_sum x)) (list_all (is_in_scope s) (objects_of_sum y)) (sym (list_all-append (is_in_scope s) (objects_of_sum x) (objects_of_sum y)) ∙ h)
+
+-- ---- literals over the first objects
+
+atom_of_first : (s : Scope) (ns : Names) (a : Atom) → list_all (is_in_scope s) (objects_of_atom a) ≡ true → raw_atom (first_names s ns) a ≡ raw_atom ns a
+atom_of_first s ns (atoms.On a l) h = let t = two s (obj Point a) (obj Line l) h in rw (in_front s ns Point a t.0, in_front s ns Line l t.1) refl
+atom_of_first s ns (atoms.OnC a c) h = let t = two s (obj Point a) (obj Circle c) h in rw (in_front s ns Point a t.0, in_front s ns Circle c t.1) refl
+atom_of_first s ns (atoms.Inside a c) h = let t = two s (obj Point a) (obj Circle c) h in rw (in_front s ns Point a t.0, in_front s ns Circle c t.1) refl
+atom_of_first s ns (atoms.Center a c) h = let t = two s (obj Point a) (obj Circle c) h in rw (in_front s ns Point a t.0, in_front s ns Circle c t.1) refl
+atom_of_first s ns (atoms.Between a b c) h =
     let t = three s (obj Point a) (obj Point b) (obj Point c) h in
     ap (λ (x : List ℕ). raw.Between x (name_at (take s.points ns.points) b) (name_at (take s.points ns.points) c)) (in_front s ns Point a t.0)
     ∙ ap (λ (x : List ℕ). raw.Between (name_at ns.points a) x (name_at (take s.points ns.points) c)) (in_front s ns Point b t.1) ∙ ap (raw.Between (name_at ns.points a) (name_at ns.points b)) (in_front s ns Point c t.2)
-atom_of_first s ns (atoms.Same a b l) h d =
+atom_of_first s ns (atoms.Same a b l) h =
     let t = three s (obj Point a) (obj Point b) (obj Line l) h in
     ap (λ (x : List ℕ). raw.Same x (name_at (take s.points ns.points) b) (name_at (take s.lines ns.lines) l)) (in_front s ns Point a t.0)
     ∙ ap (λ (x : List ℕ). raw.Same (name_at ns.points a) x (name_at (take s.lines ns.lines) l)) (in_front s ns Point b t.1) ∙ ap (raw.Same (name_at ns.points a) (name_at ns.points b)) (in_front s ns Line l t.2)
-atom_of_first s ns (atoms.MeetLL l m) h d = let t = two s (obj Line l) (obj Line m) h in ap (λ (x : List ℕ). raw.Meets x (name_at (take s.lines ns.lines) m)) (in_front s ns Line l t.0) ∙ ap (raw.Meets (name_at ns.lines l)) (in_front s ns Line m t.1)
-atom_of_first s ns (atoms.MeetLC l c) h d = let t = two s (obj Line l) (obj Circle c) h in ap (λ (x : List ℕ). raw.Meets x (name_at (take s.circles ns.circles) c)) (in_front s ns Line l t.0) ∙ ap (raw.Meets (name_at ns.lines l)) (in_front s ns Circle c t.1)
-atom_of_first s ns (atoms.MeetCC c e) h d = let t = two s (obj Circle c) (obj Circle e) h in ap (λ (x : List ℕ). raw.Meets x (name_at (take s.circles ns.circles) e)) (in_front s ns Circle c t.0) ∙ ap (raw.Meets (name_at ns.circles c)) (in_front s ns Circle e t.1)
-atom_of_first s ns (atoms.EqP a b) h d = let t = two s (obj Point a) (obj Point b) h in ap (λ (x : List ℕ). raw.Equal x (name_at (take s.points ns.points) b)) (in_front s ns Point a t.0) ∙ ap (raw.Equal (name_at ns.points a)) (in_front s ns Point b t.1)
-atom_of_first s ns (atoms.EqL l m) h d = let t = two s (obj Line l) (obj Line m) h in ap (λ (x : List ℕ). raw.Equal x (name_at (take s.lines ns.lines) m)) (in_front s ns Line l t.0) ∙ ap (raw.Equal (name_at ns.lines l)) (in_front s ns Line m t.1)
-atom_of_first s ns (atoms.EqC c e) h d = let t = two s (obj Circle c) (obj Circle e) h in ap (λ (x : List ℕ). raw.Equal x (name_at (take s.circles ns.circles) e)) (in_front s ns Circle c t.0) ∙ ap (raw.Equal (name_at ns.circles c)) (in_front s ns Circle e t.1)
-atom_of_first s ns (atoms.MagEq x y) h d = absurd cc
-atom_of_first s ns (atoms.MagLt x y) h d = absurd cc
+atom_of_first s ns (atoms.MeetLL l m) h = let t = two s (obj Line l) (obj Line m) h in ap (λ (x : List ℕ). raw.Meets x (name_at (take s.lines ns.lines) m)) (in_front s ns Line l t.0) ∙ ap (raw.Meets (name_at ns.lines l)) (in_front s ns Line m t.1)
+atom_of_first s ns (atoms.MeetLC l c) h = let t = two s (obj Line l) (obj Circle c) h in ap (λ (x : List ℕ). raw.Meets x (name_at (take s.circles ns.circles) c)) (in_front s ns Line l t.0) ∙ ap (raw.Meets (name_at ns.lines l)) (in_front s ns Circle c t.1)
+atom_of_first s ns (atoms.MeetCC c e) h = let t = two s (obj Circle c) (obj Circle e) h in ap (λ (x : List ℕ). raw.Meets x (name_at (take s.circles ns.circles) e)) (in_front s ns Circle c t.0) ∙ ap (raw.Meets (name_at ns.circles c)) (in_front s ns Circle e t.1)
+atom_of_first s ns (atoms.EqP a b) h = let t = two s (obj Point a) (obj Point b) h in ap (λ (x : List ℕ). raw.Equal x (name_at (take s.points ns.points) b)) (in_front s ns Point a t.0) ∙ ap (raw.Equal (name_at ns.points a)) (in_front s ns Point b t.1)
+atom_of_first s ns (atoms.EqL l m) h = let t = two s (obj Line l) (obj Line m) h in ap (λ (x : List ℕ). raw.Equal x (name_at (take s.lines ns.lines) m)) (in_front s ns Line l t.0) ∙ ap (raw.Equal (name_at ns.lines l)) (in_front s ns Line m t.1)
+atom_of_first s ns (atoms.EqC c e) h = let t = two s (obj Circle c) (obj Circle e) h in ap (λ (x : List ℕ). raw.Equal x (name_at (take s.circles ns.circles) e)) (in_front s ns Circle c t.0) ∙ ap (raw.Equal (name_at ns.circles c)) (in_front s ns Circle e t.1)
+atom_of_first s ns (atoms.MagEq x y) h = let p = sides s x y h in ap₂ raw.SumsEqual (sum_of_first s ns x p.0) (sum_of_first s ns y p.1)
+atom_of_first s ns (atoms.MagLt x y) h = let p = sides s x y h in ap₂ raw.SumsLess (sum_of_first s ns x p.0) (sum_of_first s ns y p.1)
+
+signed_of_first : (s : Scope) (ns : Names) (neg : Bool) (a : Atom) → list_all (is_in_scope s) (objects_of_atom a) ≡ true → raw_signed (first_names s ns) neg a ≡ raw_signed ns neg a
+signed_of_first s ns true (atoms.MagLt x y) h =
+    let p = sides s x y h in ap₂ (λ u v. record { neg = false; atom = raw.SumsAtMost u v }) (sum_of_first s ns y p.1) (sum_of_first s ns x p.0)
+signed_of_first s ns false a h = ap (λ (r : RawAtom). record { neg = false; atom = r }) (atom_of_first s ns a h)
+signed_of_first s ns true a h = ap (λ (r : RawAtom). record { neg = true; atom = r }) (atom_of_first s ns a h)
 
 -- a literal over the first objects is spelled with their names alone
-pub lit_of_first : (s : Scope) (ns : Names) (l : Lit) → all_in_scope s l ≡ true → is_diagram_lit l ≡ true → raw_of (first_names s ns) l ≡ raw_of ns l
-lit_of_first s ns l h d = ap (λ (a : RawAtom). record { neg = l.neg; atom = a }) (atom_of_first s ns l.atom h d)
+pub lit_of_first : (s : Scope) (ns : Names) (l : Lit) → all_in_scope s l ≡ true → raw_of (first_names s ns) l ≡ raw_of ns l
+lit_of_first s ns l h = signed_of_first s ns l.neg l.atom h

@@ -1,5 +1,5 @@
 -- The lines of a statement are read from their canonical spelling.
-use Rattle.std.proofs.Common.{◌≡◌, ℕ, ◌+◌, ◌<◌, ◌≤◌, true, false, ltb, List, [], ◌∷◌, ◌++◌, length, map, replicate, Some, None, Result, Ok, refl, sym, ap, subst, ◌∙◌, arith, append_assoc, length-append}
+use Rattle.std.proofs.Common.{◌≡◌, ℕ, ◌+◌, ◌<◌, ◌≤◌, Bool, true, false, cond, ltb, List, [], ◌∷◌, ◌++◌, length, map, replicate, Some, None, Option, Result, Ok, Err, refl, sym, ap, ap₂, subst, ◌∙◌, arith, append_assoc, length-append}
 use Rattle.std.specs.List.{list_all}
 use Rattle.std.proofs.lemmas.Bool.{le-ltb}
 use Rattle.std.proofs.lemmas.List.{append-nil}
@@ -7,6 +7,7 @@ use Rattle.e_text.specs.Names.{is_title}
 use Rattle.e_literal.specs.declared.object.Sort.{Sort}
 use Rattle.e_literal.specs.declared.literal.Lit.{Lit}
 use Rattle.e_literal.specs.Literal.{all_in_scope}
+use Rattle.e_literal.specs.WellFormed.{is_well_formed}
 use Rattle.e_deriv.specs.declared.names.Names.{Names}
 use Rattle.e_deriv.specs.Naming.{names_of_sort}
 use Rattle.e_book.specs.declared.fault.Kind.{Kind}
@@ -15,37 +16,40 @@ use Rattle.e_book.specs.declared.draft.Place.{Place}
 use Rattle.e_book.specs.declared.draft.Place.TheVariants.{Declaring, Giving, Making, Showing}
 use Rattle.e_book.specs.declared.draft.Draft.{Draft}
 use Rattle.e_book.specs.Reading.{◌>>=◌}
-use Rattle.e_book.specs.Limits.{most_of, most_theorems, most_facts}
+use Rattle.e_book.specs.Limits.{most_of, most_theorems, most_facts, most_terms}
 use Rattle.e_book.specs.Headed.{Headed, is_known}
 use Rattle.e_book.specs.Scope.{scope_of_names}
-use Rattle.e_book.specs.Steps.{allowed, declared, stepped, step, begin, begun, no_names}
+use Rattle.e_book.specs.Steps.{count_monos, with_terms, allowed, declared, stepped, step, begin, begun, no_names}
+use Rattle.e_book.specs.Fits.{monomials, count_monomials}
 use Rattle.e_book.specs.Book.{is_done}
 use Rattle.e_book.specs.Canonical.{raw_of, given_form, show_form}
-use Rattle.e_book.specs.HasSpelling.{AreNames, is_diagram_lit}
+use Rattle.e_book.specs.HasSpelling.{AreNames}
 use Rattle.e_book.proofs.Differ.{both}
 use Rattle.e_book.proofs.Respelled.{GoodForm}
-use Rattle.e_book.proofs.Lookups.{InOrder, lit_number_again, lit_named}
+use Rattle.e_book.proofs.Lookups.{InOrder}
+use Rattle.e_book.proofs.LitLookups.{lit_number_again, lit_named}
+use Rattle.e_book.proofs.ShortLits.{few_again, count_again, count_more, count_first}
 use Rattle.e_book.proofs.Declared.{Runs, LinesOfNames, Free, plus, declared_one, declared_joined}
 
 -- a draft before the word proof
-abbrev pub stating : List ℕ → Names → List Sort → List Lit → List Sort → List Lit → ℕ → Place → Draft
-stating t ns sorts given made shown facts place =
-    record { title = t; names = ns; in_scope = no_names; declared = sorts; given = given; made = made; shown = shown; steps = []; facts = facts; objects = []; place = place }
+abbrev pub stating : List ℕ → Names → List Sort → List Lit → List Sort → List Lit → ℕ → ℕ → Place → Draft
+stating t ns sorts given made shown facts terms place =
+    record { title = t; names = ns; in_scope = no_names; declared = sorts; given = given; made = made; shown = shown; steps = []; facts = facts; terms = terms; objects = []; place = place }
 
 -- literals over the objects in scope that canonical lines can spell
 pub record Plain (ns : Names) (ls : List Lit) : Type 0 where
   pub within : list_all (all_in_scope (scope_of_names ns)) ls ≡ true
-  pub diagram : list_all is_diagram_lit ls ≡ true
+  pub good : list_all is_well_formed ls ≡ true
 
 pub record PlainLit (ns : Names) (l : Lit) : Type 0 where
   pub within : all_in_scope (scope_of_names ns) l ≡ true
-  pub diagram : is_diagram_lit l ≡ true
+  pub good : is_well_formed l ≡ true
 
 plain_first : (ns : Names) (l : Lit) (ls : List Lit) → Plain ns (l ∷ ls) → PlainLit ns l × Plain ns ls
 plain_first ns l ls p =
     let a = both (all_in_scope (scope_of_names ns) l) (list_all (all_in_scope (scope_of_names ns)) ls) p.within in
-    let b = both (is_diagram_lit l) (list_all is_diagram_lit ls) p.diagram in
-    (record { within = a.0; diagram = b.0 }, record { within = a.1; diagram = b.1 })
+    let b = both (is_well_formed l) (list_all is_well_formed ls) p.good in
+    (record { within = a.0; good = b.0 }, record { within = a.1; good = b.1 })
 
 -- ---- the title
 
@@ -58,7 +62,7 @@ run_title known t h new few =
 -- ---- declared objects
 
 abbrev pub declaring : List ℕ → Names → List Sort → Draft
-declaring t ns sorts = stating t ns sorts [] [] [] 0 Declaring
+declaring t ns sorts = stating t ns sorts [] [] [] 0 0 Declaring
 
 declared_names : (sort : Sort) (names : List (List ℕ)) → GoodForm (forms.Declare sort names) → AreNames names
 declared_names sort [] h = absurd h
@@ -91,27 +95,36 @@ declared_lines t = record {
 
 -- ---- given literals
 
-step_given : (t : List ℕ) (ns : Names) (sorts : List Sort) (given : List Lit) (place : Place) (l : Lit) → InOrder ns → PlainLit ns l → length given + 1 ≤ most_facts → allowed place (given_form ns l) ≡ true
-    → step (stating t ns sorts given [] [] (length given) place) (given_form ns l) ≡ Ok (stating t ns sorts (given ++ l ∷ []) [] [] (length (given ++ l ∷ [])) Giving)
-unfolding step stepped
-step_given t ns sorts given place l o p few a =
+stating_more : (t : List ℕ) (ns : Names) (sorts : List Sort) (given : List Lit) (l : Lit)
+    → stating t ns sorts (given ++ l ∷ []) [] [] (length given + 1) (count_monomials given + count_monos (raw_of ns l ∷ [])) Giving
+        ≡ stating t ns sorts (given ++ l ∷ []) [] [] (length (given ++ l ∷ [])) (count_monomials (given ++ l ∷ [])) Giving
+stating_more t ns sorts given l =
+    ap₂ (λ (m n : ℕ). stating t ns sorts (given ++ l ∷ []) [] [] m n Giving) (sym (length-append given (l ∷ [])))
+    (ap (λ (n : ℕ). count_monomials given + n) (count_again ns l) ∙ sym (count_more given l))
+
+step_given : (t : List ℕ) (ns : Names) (sorts : List Sort) (given : List Lit) (place : Place) (l : Lit) → InOrder ns → PlainLit ns l → length given + 1 ≤ most_facts → count_monomials given + monomials l.atom ≤ most_terms
+    → allowed place (given_form ns l) ≡ true
+    → step (stating t ns sorts given [] [] (length given) (count_monomials given) place) (given_form ns l) ≡ Ok (stating t ns sorts (given ++ l ∷ []) [] [] (length (given ++ l ∷ [])) (count_monomials (given ++ l ∷ [])) Giving)
+unfolding step stepped with_terms
+step_given t ns sorts given place l o p few short a =
     let room : ltb most_facts (length given + length (raw_of ns l ∷ [])) ≡ false = le-ltb _ _ (omega (arith, few)) in
-    rw (a, lit_number_again ns l o p.within p.diagram, room) (ap (λ (n : ℕ). Ok (stating t ns sorts (given ++ l ∷ []) [] [] n Giving)) (sym (length-append given (l ∷ []))))
+    let terms : ltb most_terms (count_monomials given + count_monos (raw_of ns l ∷ [])) ≡ false = le-ltb _ _ (omega (arith, short, count_again ns l)) in
+    rw (a, lit_number_again ns l o p.within p.good, room, few_again ns l p.good, terms) (ap (λ (d : Draft). Ok d) (stating_more t ns sorts given l))
 
 abbrev giving : List ℕ → Names → List Sort → List Lit → Draft
-giving t ns sorts given = stating t ns sorts given [] [] (length given) Giving
+giving t ns sorts given = stating t ns sorts given [] [] (length given) (count_monomials given) Giving
 
-run_given : (known : List Headed) (t : List ℕ) (ns : Names) (sorts : List Sort) (given more : List Lit) → InOrder ns → Plain ns more → length given + length more ≤ most_facts
+run_given : (known : List Headed) (t : List ℕ) (ns : Names) (sorts : List Sort) (given more : List Lit) → InOrder ns → Plain ns more → length given + length more ≤ most_facts → count_monomials given + count_monomials more ≤ most_terms
     → Runs known (Some (giving t ns sorts given)) (map (given_form ns) more) (Some (giving t ns sorts (given ++ more)))
-run_given known t ns sorts given [] o p few = ap (λ (g : List Lit). Some (giving t ns sorts g)) (sym (append-nil given))
-run_given known t ns sorts given (l ∷ more) o p few =
+run_given known t ns sorts given [] o p few short = ap (λ (g : List Lit). Some (giving t ns sorts g)) (sym (append-nil given))
+run_given known t ns sorts given (l ∷ more) o p few short =
     let q = plain_first ns l more p in (
       giving t ns sorts (given ++ l ∷ []),
-      lit_named ns l o q.0.within q.0.diagram,
-      step_given t ns sorts given Giving l o q.0 (omega (arith, few)) refl,
+      lit_named ns l o q.0.within q.0.good,
+      step_given t ns sorts given Giving l o q.0 (omega (arith, few)) (omega (arith, short, count_first l more)) refl,
       refl,
       subst (λ (g : List Lit). Runs known (Some (giving t ns sorts (given ++ l ∷ []))) (map (given_form ns) more) (Some (giving t ns sorts g))) (append_assoc given (l ∷ []) more)
-          (run_given known t ns sorts (given ++ l ∷ []) more o q.1 (omega (arith, few, length-append given (l ∷ [])))),
+          (run_given known t ns sorts (given ++ l ∷ []) more o q.1 (omega (arith, few, length-append given (l ∷ []))) (omega (arith, short, count_first l more, count_more given l))),
     )
 
 abbrev after_given : List Lit → Place
@@ -120,18 +133,18 @@ after_given (l ∷ ls) = Giving
 
 -- a draft behind its given lines
 abbrev pub given_draft : List ℕ → Names → List Sort → List Lit → Draft
-given_draft t ns sorts given = stating t ns sorts given [] [] (length given) (after_given given)
+given_draft t ns sorts given = stating t ns sorts given [] [] (length given) (count_monomials given) (after_given given)
 
-pub run_all_given : (known : List Headed) (t : List ℕ) (ns : Names) (sorts : List Sort) (given : List Lit) → InOrder ns → Plain ns given → length given ≤ most_facts
+pub run_all_given : (known : List Headed) (t : List ℕ) (ns : Names) (sorts : List Sort) (given : List Lit) → InOrder ns → Plain ns given → length given ≤ most_facts → count_monomials given ≤ most_terms
     → Runs known (Some (declaring t ns sorts)) (map (given_form ns) given) (Some (given_draft t ns sorts given))
-run_all_given known t ns sorts [] o p few = refl
-run_all_given known t ns sorts (l ∷ more) o p few =
+run_all_given known t ns sorts [] o p few short = refl
+run_all_given known t ns sorts (l ∷ more) o p few short =
     let q = plain_first ns l more p in (
       giving t ns sorts (l ∷ []),
-      lit_named ns l o q.0.within q.0.diagram,
-      step_given t ns sorts [] Declaring l o q.0 (omega (arith, few)) refl,
+      lit_named ns l o q.0.within q.0.good,
+      step_given t ns sorts [] Declaring l o q.0 (omega (arith, few)) (omega (arith, short, count_first l more)) refl,
       refl,
-      run_given known t ns sorts (l ∷ []) more o q.1 (omega (arith, few)),
+      run_given known t ns sorts (l ∷ []) more o q.1 (omega (arith, few)) (omega (arith, short, count_first l more, count_first l [])),
     )
 
 -- ---- made objects
@@ -142,7 +155,7 @@ after_made given (sort ∷ sorts) = Making
 
 -- a draft behind its made lines
 abbrev pub making : List ℕ → List Sort → List Lit → Names → List Sort → Draft
-making t sorts given ns made = stating t ns sorts given made [] (length given) (after_made given made)
+making t sorts given ns made = stating t ns sorts given made [] (length given) (count_monomials given) (after_made given made)
 
 may_make : (given : List Lit) (made : List Sort) (sort : Sort) (names : List (List ℕ)) → allowed (after_made given made) (forms.Made sort names) ≡ true
 may_make [] [] sort names = refl
@@ -159,7 +172,7 @@ made_going (l ∷ given) [] d = refl
 made_going given (s ∷ made) d = refl
 
 abbrev then_making : List ℕ → List Sort → List Lit → List Sort → Result Names Kind → Result Draft Kind
-then_making t sorts given made r = r >>= λ ns. Ok (stating t ns sorts given made [] (length given) Making)
+then_making t sorts given made r = r >>= λ ns. Ok (stating t ns sorts given made [] (length given) (count_monomials given) Making)
 
 one_made : (t : List ℕ) (sorts : List Sort) (given : List Lit) (ns : Names) (made : List Sort) (sort : Sort) (name : List ℕ) → Free ns name → length (names_of_sort ns sort) + 1 ≤ most_of sort
     → step (making t sorts given ns made) (forms.Made sort (name ∷ [])) ≡ Ok (making t sorts given (plus ns sort name) (made ++ sort ∷ []))
@@ -167,7 +180,7 @@ unfolding step stepped
 one_made t sorts given ns made sort name f few =
     rw (may_make given made sort (name ∷ []))
     (ap (then_making t sorts given (made ++ sort ∷ [])) (declared_one ns sort name f few)
-    ∙ ap (λ (p : Place). Ok (stating t (plus ns sort name) sorts given (made ++ sort ∷ []) [] (length given) p)) (sym (some_made given made sort)))
+    ∙ ap (λ (p : Place). Ok (stating t (plus ns sort name) sorts given (made ++ sort ∷ []) [] (length given) (count_monomials given) p)) (sym (some_made given made sort)))
 
 split_made : (t : List ℕ) (sorts : List Sort) (given : List Lit) (ns : Names) (made : List Sort) (sort : Sort) (name : List ℕ) (more : List (List ℕ)) → Free ns name
     → step (making t sorts given ns made) (forms.Made sort (name ∷ more)) ≡ step (making t sorts given (plus ns sort name) (made ++ sort ∷ [])) (forms.Made sort more)
@@ -195,12 +208,12 @@ made_lines t sorts given = record {
 
 -- a draft behind its shown lines
 abbrev pub showing : List ℕ → Names → List Sort → List Lit → List Sort → List Lit → Draft
-showing t ns sorts given made shown = stating t ns sorts given made shown (length given) Showing
+showing t ns sorts given made shown = stating t ns sorts given made shown (length given) (count_monomials given) Showing
 
 step_show : (t : List ℕ) (ns : Names) (sorts : List Sort) (given : List Lit) (made : List Sort) (shown : List Lit) (place : Place) (l : Lit) → InOrder ns → PlainLit ns l → allowed place (show_form ns l) ≡ true
-    → step (stating t ns sorts given made shown (length given) place) (show_form ns l) ≡ Ok (showing t ns sorts given made (shown ++ l ∷ []))
+    → step (stating t ns sorts given made shown (length given) (count_monomials given) place) (show_form ns l) ≡ Ok (showing t ns sorts given made (shown ++ l ∷ []))
 unfolding step stepped
-step_show t ns sorts given made shown place l o p a = rw (a, lit_number_again ns l o p.within p.diagram) refl
+step_show t ns sorts given made shown place l o p a = rw (a, lit_number_again ns l o p.within p.good, few_again ns l p.good) refl
 
 run_shown : (known : List Headed) (t : List ℕ) (ns : Names) (sorts : List Sort) (given : List Lit) (made : List Sort) (shown more : List Lit) → InOrder ns → Plain ns more
     → Runs known (Some (showing t ns sorts given made shown)) (map (show_form ns) more) (Some (showing t ns sorts given made (shown ++ more)))
@@ -208,7 +221,7 @@ run_shown known t ns sorts given made shown [] o p = ap (λ (g : List Lit). Some
 run_shown known t ns sorts given made shown (l ∷ more) o p =
     let q = plain_first ns l more p in (
       showing t ns sorts given made (shown ++ l ∷ []),
-      lit_named ns l o q.0.within q.0.diagram,
+      lit_named ns l o q.0.within q.0.good,
       step_show t ns sorts given made shown Showing l o q.0 refl,
       refl,
       subst (λ (g : List Lit). Runs known (Some (showing t ns sorts given made (shown ++ l ∷ []))) (map (show_form ns) more) (Some (showing t ns sorts given made g))) (append_assoc shown (l ∷ []) more)
@@ -226,7 +239,7 @@ run_all_shown known t ns sorts given made [] o p some = absurd (omega (arith, so
 run_all_shown known t ns sorts given made (l ∷ more) o p some =
     let q = plain_first ns l more p in (
       showing t ns sorts given made (l ∷ []),
-      lit_named ns l o q.0.within q.0.diagram,
+      lit_named ns l o q.0.within q.0.good,
       step_show t ns sorts given made [] (after_made given made) l o q.0 (may_show ns given made l),
       refl,
       run_shown known t ns sorts given made (l ∷ []) more o q.1,

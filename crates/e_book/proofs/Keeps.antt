@@ -37,12 +37,14 @@ use Rattle.e_book.specs.Limits.{most_theorems, most_of, most_steps, most_facts, 
 use Rattle.e_book.specs.Headed.{Headed, is_known}
 use Rattle.e_book.specs.Scope.{fresh, lit_in, lits_in, by_in, let_in, qed_in}
 use Rattle.e_book.specs.Forms.{form_of}
-use Rattle.e_book.specs.Steps.{allowed, declared, few_objects, with_step, built, shut, stepped, step, begin, begun}
+use Rattle.e_book.specs.Steps.{count_monos, few_monos, with_terms, allowed, declared, few_objects, with_step, built, shut, stepped, step, begin, begun}
 use Rattle.e_book.specs.Entry.{Entry, entry_of_draft, statement_of_draft}
 use Rattle.e_book.specs.Fits.{scope_of_names, NamesDiffer, count_given, Fits}
 use Rattle.e_book.specs.Book.{is_skipped, line_step, put_at, is_last, is_done, read_from}
 use Rattle.e_book.proofs.Answered.{within_ok, appended, passes, untaken, put_ok, answered, pair, first_is, skip_or, Answer}
 use Rattle.e_book.proofs.InScope.{bind_ok, ok_is, read_ok, lit_in_scope, each_all, each_length}
+use Rattle.e_book.proofs.SaidForms.{Said, form_said}
+use Rattle.e_book.proofs.KeptSums.{terms_added, GoodSums, sums_kept, good_script, monomials_are}
 use Rattle.e_book.proofs.Citations.{by_fits}
 use Rattle.e_book.proofs.Distinct.{still_differ}
 use Rattle.e_book.proofs.Building.{let_fits, qed_fits, objects_are_for, declared_scope, StepFits, after_step, given_by, StepsFit, after_steps, given_by_all, fit_more, after_more, given_more, lines_fit, names_fit, count_is, size_is}
@@ -207,20 +209,40 @@ keeps_declare known d e sort ns g a h =
 lits_within : (ns : Names) (raws : List RawLit) (ls : List Lit) → lits_in ns raws ≡ Ok ls → list_all (all_in_scope (scope_of_names ns)) ls ≡ true
 lits_within ns raws ls e = each_all (lit_in ns) (all_in_scope (scope_of_names ns)) (lit_in_scope ns) raws ls e
 
+-- with another count of monomials
+counted : (known : List Headed) (d : Draft) (n : ℕ) → Good known d → Good known (record d { terms = n })
+counted known d n g = record {
+  new = g.new;
+  scope = g.scope;
+  differ = g.differ;
+  few = g.few;
+  given = g.given;
+  shown = g.shown;
+  steps = g.steps;
+  in_scope = g.in_scope;
+  facts = g.facts;
+  within = g.within;
+  ahead = g.ahead;
+  shut = g.shut;
+}
+
+keeps_terms : (known : List Headed) (d e : Draft) (raws : List RawLit) → Good known d → with_terms d raws ≡ Ok e → Good known e
+keeps_terms known d e raws g h = let t = terms_added d e raws h in subst (λ (y : Draft). Good known y) t.is (counted known d (d.terms + count_monos raws) g)
+
 keeps_given : (known : List Headed) (d e : Draft) (raws : List RawLit) → Good known d → allowed d.place (forms.Given raws) ≡ true → stepped d (forms.Given raws) ≡ Ok e → Good known e
 unfolding stepped
 keeps_given known d e raws g a h =
     let count = d.facts + length raws in
-    let all = bind_ok (with_front d.given (lits_in d.names raws)) (λ ls. within count most_facts limits.Facts >>= λ few. read_ok (record d { given = ls; facts = count; place = Giving })) e h in
+    let all = bind_ok (with_front d.given (lits_in d.names raws)) (λ ls. within count most_facts limits.Facts >>= λ few. with_terms (record d { given = ls; facts = count; place = Giving }) raws) e h in
     let ls = bind_ok (lits_in d.names raws) (λ xs. read_ok (d.given ++ xs)) all.0 all.1 in
-    let w = bind_ok (within count most_facts limits.Facts) (λ few. read_ok (record d { given = all.0; facts = count; place = Giving })) e all.2 in
+    let w = bind_ok (within count most_facts limits.Facts) (λ few. with_terms (record d { given = all.0; facts = count; place = Giving }) raws) e all.2 in
     let le = within_ok _ _ _ w.0 w.1 in
     let n = each_length (lit_in d.names) raws ls.0 ls.1 in
     let at = giving d.place raws d.given d.made d.shown d.steps a g.ahead in
     let was : scope_of_names d.names ≡ grown nothing d.declared = sym g.scope ∙ ap (grown (grown nothing d.declared)) at.0 in
     let x : Draft = record d { given = d.given ++ ls.0; facts = count; place = Giving } in
-    let x-is : x ≡ e = ap (λ (l : List Lit). record d { given = l; facts = count; place = Giving }) (ok_is (d.given ++ ls.0) all.0 ls.2) ∙ ok_is (record d { given = all.0; facts = count; place = Giving }) e w.2 in
-    subst (λ (y : Draft). Good known y) x-is (record {
+    let x-is : x ≡ record d { given = all.0; facts = count; place = Giving } = ap (λ (l : List Lit). record d { given = l; facts = count; place = Giving }) (ok_is (d.given ++ ls.0) all.0 ls.2) in
+    keeps_terms known x e raws (record {
       new = g.new;
       scope = g.scope;
       differ = g.differ;
@@ -233,7 +255,7 @@ keeps_given known d e raws g a h =
       within = le;
       ahead = at;
       shut = tt;
-    })
+    }) (ap (λ (y : Draft). with_terms y raws) x-is ∙ w.2)
 
 keeps_made : (known : List Headed) (d e : Draft) (sort : Sort) (ns : List (List ℕ)) → Good known d → allowed d.place (forms.Made sort ns) ≡ true → stepped d (forms.Made sort ns) ≡ Ok e → Good known e
 unfolding stepped
@@ -263,11 +285,12 @@ keeps_made known d e sort ns g a h =
 keeps_shown : (known : List Headed) (d e : Draft) (raws : List RawLit) → Good known d → allowed d.place (forms.Show raws) ≡ true → stepped d (forms.Show raws) ≡ Ok e → Good known e
 unfolding stepped
 keeps_shown known d e raws g a h =
-    let all = bind_ok (with_front d.shown (lits_in d.names raws)) (λ ls. read_ok (record d { shown = ls; place = Showing })) e h in
+    let all = bind_ok (with_front d.shown (lits_in d.names raws)) (λ ls. few_monos raws >>= λ few. read_ok (record d { shown = ls; place = Showing })) e h in
     let ls = bind_ok (lits_in d.names raws) (λ xs. read_ok (d.shown ++ xs)) all.0 all.1 in
+    let f = bind_ok (few_monos raws) (λ few. read_ok (record d { shown = all.0; place = Showing })) e all.2 in
     let at = showing d.place raws d.given d.made d.shown d.steps a g.ahead in
     let x : Draft = record d { shown = d.shown ++ ls.0; place = Showing } in
-    let x-is : x ≡ e = ap (λ (l : List Lit). record d { shown = l; place = Showing }) (ok_is (d.shown ++ ls.0) all.0 ls.2) ∙ ok_is (record d { shown = all.0; place = Showing }) e all.2 in
+    let x-is : x ≡ e = ap (λ (l : List Lit). record d { shown = l; place = Showing }) (ok_is (d.shown ++ ls.0) all.0 ls.2) ∙ ok_is (record d { shown = all.0; place = Showing }) e f.2 in
     subst (λ (y : Draft). Good known y) x-is (record {
       new = g.new;
       scope = g.scope;
@@ -365,8 +388,9 @@ keeps_by known d e r ns l g a h =
 keeps_hence : (known : List Headed) (d e : Draft) (l : RawLit) → Good known d → allowed d.place (forms.Hence l) ≡ true → stepped d (forms.Hence l) ≡ Ok e → Good known e
 unfolding stepped
 keeps_hence known d e l g a h =
-    let m = bind_ok (lit_in d.in_scope l) (λ m. with_step d (steps.Hence m None) 1) e h in
-    keeps_step known d e (steps.Hence m.0 None) d.in_scope 1 g (proving_hence d.place l a) (lit_in_scope d.in_scope l m.0 m.1) refl refl m.2
+    let m = bind_ok (lit_in d.in_scope l) (λ m. with_step d (steps.Hence m None) 1 >>= λ x. with_terms x (l ∷ [])) e h in
+    let x = bind_ok (with_step d (steps.Hence m.0 None) 1) (λ x. with_terms x (l ∷ [])) e m.2 in
+    keeps_terms known x.0 e (l ∷ []) (keeps_step known d x.0 (steps.Hence m.0 None) d.in_scope 1 g (proving_hence d.place l a) (lit_in_scope d.in_scope l m.0 m.1) refl refl x.1) x.2
 
 keeps_built : (known : List Headed) (d e : Draft) (l : RawLet) → Good known d → d.place ≡ Proving → built d l ≡ Ok e → Good known e
 unfolding built
@@ -458,9 +482,16 @@ keeps_stepped known d e (forms.Let l) g a h = keeps_let known d e l g a h
 keeps_stepped known d e (forms.Qed ns) g a h = keeps_qed known d e ns g a h
 keeps_stepped known d e forms.End g a h = keeps_end known d e g a h
 
-keeps : (known : List Headed) (d e : Draft) (f : Form) → Good known d → step d f ≡ Ok e → Good known e
+-- all that is known of a draft
+pub record Known (known : List Headed) (d : Draft) : Type 0 where
+  pub good : Good known d
+  pub sums : GoodSums d
+
+keeps : (known : List Headed) (d e : Draft) (f : Form) → Known known d → Said f → step d f ≡ Ok e → Known known e
 unfolding step
-keeps known d e f g h = let p = passes (allowed d.place f) (stepped d f) e h in keeps_stepped known d e f g p.0 p.1
+keeps known d e f g said h =
+    let p = passes (allowed d.place f) (stepped d f) e h in
+    record { good = keeps_stepped known d e f g.good p.0 p.1; sums = sums_kept d e f g.sums said p.1 }
 
 good_begun : (known : List Headed) (t : List ℕ) → is_known known t ≡ false → Good known (begun t)
 good_begun known t n = record {
@@ -478,30 +509,35 @@ good_begun known t n = record {
   shut = tt;
 }
 
-keeps_begin : (known : List Headed) (f : Form) (e : Draft) → begin known f ≡ Ok e → Good known e
+sums_begun : (t : List ℕ) → GoodSums (begun t)
+sums_begun t = record { given = refl; shown = refl; steps = refl; terms = refl; within = omega arith }
+
+keeps_begin : (known : List Headed) (f : Form) (e : Draft) → begin known f ≡ Ok e → Known known e
 unfolding begin
 keeps_begin known (forms.Theorem t) e h =
     let n = untaken (is_known known t) (within (length known + 1) most_theorems limits.Theorems >>= λ few. read_ok (begun t)) e h in
     let w = bind_ok (within (length known + 1) most_theorems limits.Theorems) (λ few. read_ok (begun t)) e n.1 in
-    subst (λ (y : Draft). Good known y) (ok_is (begun t) e w.2) (good_begun known t n.0)
+    subst (λ (y : Draft). Known known y) (ok_is (begun t) e w.2) (record { good = good_begun known t n.0; sums = sums_begun t })
 keeps_begin known f e h = absurd cc
 
 abbrev GoodSoFar : List Headed → Option Draft → Type 0
 GoodSoFar known None = Unit {0}
-GoodSoFar known (Some d) = Good known d
+GoodSoFar known (Some d) = Known known d
 
-keeps_line : (known : List Headed) (draft : Option Draft) (words : List (List ℕ)) (e : Draft) → GoodSoFar known draft → line_step known draft words ≡ Ok e → Good known e
+keeps_line : (known : List Headed) (draft : Option Draft) (words : List (List ℕ)) (e : Draft) → GoodSoFar known draft → line_step known draft words ≡ Ok e → Known known e
 unfolding line_step
 keeps_line known None words e g h = let f = bind_ok (form_of words) (λ f. begin known f) e h in keeps_begin known f.0 e f.2
-keeps_line known (Some d) words e g h = let f = bind_ok (form_of words) (λ f. step d f) e h in keeps known d e f.0 g f.2
+keeps_line known (Some d) words e g h = let f = bind_ok (form_of words) (λ f. step d f) e h in keeps known d e f.0 g (form_said words f.0 f.1) f.2
 
 -- a theorem whose last line has come
 last_shut : (d : Draft) (p : Place) → is_last p ≡ true → IsShut d p → IsShut d Done
 last_shut d Done a s = record { in_scope = s.in_scope; shut = s.shut }
 last_shut d p a s = absurd cc
 
-fits_read : (known : List Headed) (d : Draft) → Good known d → is_done d ≡ true → Fits known (entry_of_draft d)
-fits_read known d g a =
+fits_read : (known : List Headed) (d : Draft) → Known known d → is_done d ≡ true → Fits known (entry_of_draft d)
+fits_read known d known_of a =
+    let g = known_of.good in
+    let sums = known_of.sums in
     let t = stated (statement_of_draft d) in
     let ns : Names = start d in
     let c = last_shut d d.place a (record { in_scope = g.in_scope; shut = g.shut }) in
@@ -523,6 +559,10 @@ fits_read known d g a =
       new_names = names_fit ns d.steps d.objects g.steps;
       steps = omega (arith, n, c.shut.0);
       facts = omega (arith, g.facts, g.within, count, counted);
+      good_given = sums.given;
+      good_shown = sums.shown;
+      good_script = good_script d.steps d.objects sums.steps;
+      terms = omega (arith, sums.terms, sums.within, monomials_are d.steps d.objects);
     }
 
 -- a theorem that is read fits

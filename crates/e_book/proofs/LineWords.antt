@@ -12,31 +12,10 @@ use Rattle.e_book.specs.declared.form.Form.TheVariants as forms
 use Rattle.e_book.specs.Canonical.{atom_words, signed_words, lit_words, form_words, line_of}
 use Rattle.e_book.specs.Book.{is_skipped}
 use Rattle.e_book.proofs.LetsAgain.{names_tokens, append_tokens, let_tokens}
-use Rattle.e_book.proofs.Respelled.{AtomNamed, GoodForm}
+use Rattle.e_book.proofs.LitsAgain.{lit_tokens}
+use Rattle.e_book.proofs.Respelled.{GoodForm}
 
 -- ---- the words of forms are tokens
-
-atom_tokens : (a : RawAtom) → AtomNamed a → AreTokens (atom_words a)
-atom_tokens (raw.On x y) h = (refl, (is_token-name x h.0, (is_token-name y h.1, tt)))
-atom_tokens (raw.Inside x y) h = (refl, (is_token-name x h.0, (is_token-name y h.1, tt)))
-atom_tokens (raw.Center x y) h = (refl, (is_token-name x h.0, (is_token-name y h.1, tt)))
-atom_tokens (raw.Between x y z) h = (refl, (is_token-name x h.0, (is_token-name y h.1, (is_token-name z h.2, tt))))
-atom_tokens (raw.Same x y z) h = (refl, (is_token-name x h.0, (is_token-name y h.1, (is_token-name z h.2, tt))))
-atom_tokens (raw.Meets x y) h = (refl, (is_token-name x h.0, (is_token-name y h.1, tt)))
-atom_tokens (raw.Equal x y) h = (is_token-name x h.0, (refl, (is_token-name y h.1, tt)))
-
-signed_tokens : (neg : Bool) (a : RawAtom) → AtomNamed a → AreTokens (signed_words neg a)
-signed_tokens false a h = atom_tokens a h
-signed_tokens true (raw.On x y) h = (refl, atom_tokens (raw.On x y) h)
-signed_tokens true (raw.Inside x y) h = (refl, atom_tokens (raw.Inside x y) h)
-signed_tokens true (raw.Center x y) h = (refl, atom_tokens (raw.Center x y) h)
-signed_tokens true (raw.Between x y z) h = (refl, atom_tokens (raw.Between x y z) h)
-signed_tokens true (raw.Same x y z) h = (refl, atom_tokens (raw.Same x y z) h)
-signed_tokens true (raw.Meets x y) h = (refl, atom_tokens (raw.Meets x y) h)
-signed_tokens true (raw.Equal x y) h = (is_token-name x h.0, (refl, (is_token-name y h.1, tt)))
-
-lit_tokens : (l : RawLit) → AtomNamed l.atom → AreTokens (lit_words l)
-lit_tokens l h = signed_tokens l.neg l.atom h
 
 form_tokens : (f : Form) → GoodForm f → AreTokens (form_words f)
 form_tokens (forms.Theorem t) h = (refl, (is_token-title t h, tt))

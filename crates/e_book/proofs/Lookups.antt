@@ -15,12 +15,11 @@ use Rattle.e_deriv.specs.declared.names.Names.{Names}
 use Rattle.e_book.specs.declared.fault.Kind.{Kind}
 use Rattle.e_book.specs.Reading.{◌>>=◌}
 use Rattle.e_deriv.specs.Naming.{names_of_sort}
-use Rattle.e_book.specs.Scope.{scope_of_names, used, number_at, number_of, atom_in, lit_in, object_as, objects_as}
-use Rattle.e_book.specs.Canonical.{name_at, name_of_object, raw_atom, raw_of}
+use Rattle.e_book.specs.Scope.{scope_of_names, used, number_at, number_of, object_as, objects_as}
+use Rattle.e_book.specs.Canonical.{name_at, name_of_object}
 use Rattle.e_book.specs.Fits.{are_distinct, NamesDiffer}
-use Rattle.e_book.specs.HasSpelling.{AreNames, is_diagram_atom, is_diagram_lit}
+use Rattle.e_book.specs.HasSpelling.{AreNames}
 use Rattle.e_book.proofs.Differ.{both, Apart, Apart-sym, apart, apart_at, there, not_there, name_there}
-use Rattle.e_book.proofs.Respelled.{AtomNamed}
 
 -- the names in scope are names, and each stands once
 pub record InOrder (ns : Names) : Type 0 where
@@ -83,64 +82,6 @@ pub named_at : (ns : Names) (sort : Sort) (i : ℕ) → InOrder ns → Within ns
 named_at ns Point i s h = name_there ns.points i s.point_names (ltb-true i (length ns.points) h)
 named_at ns Line i s h = name_there ns.lines i s.line_names (ltb-true i (length ns.lines) h)
 named_at ns Circle i s h = name_there ns.circles i s.circle_names (ltb-true i (length ns.circles) h)
-
--- ---- literals
-
-abbrev AtomWithin : Names → Atom → Type 0
-AtomWithin ns a = list_all (is_in_scope (scope_of_names ns)) (objects_of_atom a) ≡ true
-
-two : (ns : Names) (a b : Obj) → list_all (is_in_scope (scope_of_names ns)) (a ∷ b ∷ []) ≡ true → Within ns a.sort a.num × Within ns b.sort b.num
-two ns a b h =
-    let s = scope_of_names ns in
-    let p = both (is_in_scope s a) (is_in_scope s b && true) h in
-    (p.0, (both (is_in_scope s b) true p.1).0)
-
-three : (ns : Names) (a b c : Obj) → list_all (is_in_scope (scope_of_names ns)) (a ∷ b ∷ c ∷ []) ≡ true → Within ns a.sort a.num × Within ns b.sort b.num × Within ns c.sort c.num
-three ns a b c h =
-    let s = scope_of_names ns in
-    let p = both (is_in_scope s a) (is_in_scope s b && (is_in_scope s c && true)) h in
-    let q = two ns b c p.1 in
-    (p.0, q.0, q.1)
-
-pub atom_number_again : (ns : Names) (a : Atom) → InOrder ns → AtomWithin ns a → is_diagram_atom a ≡ true → atom_in ns (raw_atom ns a) ≡ Ok a
-unfolding atom_in
-atom_number_again ns (atoms.On a l) s h d = let t = two ns (obj Point a) (obj Line l) h in rw (number_again ns Point a s t.0, used_again ns Line l s t.1) refl
-atom_number_again ns (atoms.OnC a c) s h d = let t = two ns (obj Point a) (obj Circle c) h in rw (number_again ns Point a s t.0, used_again ns Circle c s t.1) refl
-atom_number_again ns (atoms.Inside a c) s h d = let t = two ns (obj Point a) (obj Circle c) h in rw (number_again ns Point a s t.0, number_again ns Circle c s t.1) refl
-atom_number_again ns (atoms.Center a c) s h d = let t = two ns (obj Point a) (obj Circle c) h in rw (number_again ns Point a s t.0, number_again ns Circle c s t.1) refl
-atom_number_again ns (atoms.Between a b c) s h d = let t = three ns (obj Point a) (obj Point b) (obj Point c) h in rw (number_again ns Point a s t.0, number_again ns Point b s t.1, number_again ns Point c s t.2) refl
-atom_number_again ns (atoms.Same a b l) s h d = let t = three ns (obj Point a) (obj Point b) (obj Line l) h in rw (number_again ns Point a s t.0, number_again ns Point b s t.1, number_again ns Line l s t.2) refl
-atom_number_again ns (atoms.MeetLL l m) s h d = let t = two ns (obj Line l) (obj Line m) h in rw (used_again ns Line l s t.0, used_again ns Line m s t.1) refl
-atom_number_again ns (atoms.MeetLC l c) s h d = let t = two ns (obj Line l) (obj Circle c) h in rw (used_again ns Line l s t.0, used_again ns Circle c s t.1) refl
-atom_number_again ns (atoms.MeetCC c e) s h d = let t = two ns (obj Circle c) (obj Circle e) h in rw (used_again ns Circle c s t.0, number_again ns Circle e s t.1) refl
-atom_number_again ns (atoms.EqP a b) s h d = let t = two ns (obj Point a) (obj Point b) h in rw (used_again ns Point a s t.0, number_again ns Point b s t.1) refl
-atom_number_again ns (atoms.EqL l m) s h d = let t = two ns (obj Line l) (obj Line m) h in rw (used_again ns Line l s t.0, number_again ns Line m s t.1) refl
-atom_number_again ns (atoms.EqC c e) s h d = let t = two ns (obj Circle c) (obj Circle e) h in rw (used_again ns Circle c s t.0, number_again ns Circle e s t.1) refl
-atom_number_again ns (atoms.MagEq x y) s h d = absurd cc
-atom_number_again ns (atoms.MagLt x y) s h d = absurd cc
-
-pub lit_number_again : (ns : Names) (l : Lit) → InOrder ns → all_in_scope (scope_of_names ns) l ≡ true → is_diagram_lit l ≡ true → lit_in ns (raw_of ns l) ≡ Ok l
-unfolding lit_in
-lit_number_again ns l s h d = rw (atom_number_again ns l.atom s h d) refl
-
-atom_named : (ns : Names) (a : Atom) → InOrder ns → AtomWithin ns a → is_diagram_atom a ≡ true → AtomNamed (raw_atom ns a)
-atom_named ns (atoms.On a l) s h d = let t = two ns (obj Point a) (obj Line l) h in (named_at ns Point a s t.0, named_at ns Line l s t.1)
-atom_named ns (atoms.OnC a c) s h d = let t = two ns (obj Point a) (obj Circle c) h in (named_at ns Point a s t.0, named_at ns Circle c s t.1)
-atom_named ns (atoms.Inside a c) s h d = let t = two ns (obj Point a) (obj Circle c) h in (named_at ns Point a s t.0, named_at ns Circle c s t.1)
-atom_named ns (atoms.Center a c) s h d = let t = two ns (obj Point a) (obj Circle c) h in (named_at ns Point a s t.0, named_at ns Circle c s t.1)
-atom_named ns (atoms.Between a b c) s h d = let t = three ns (obj Point a) (obj Point b) (obj Point c) h in (named_at ns Point a s t.0, named_at ns Point b s t.1, named_at ns Point c s t.2)
-atom_named ns (atoms.Same a b l) s h d = let t = three ns (obj Point a) (obj Point b) (obj Line l) h in (named_at ns Point a s t.0, named_at ns Point b s t.1, named_at ns Line l s t.2)
-atom_named ns (atoms.MeetLL l m) s h d = let t = two ns (obj Line l) (obj Line m) h in (named_at ns Line l s t.0, named_at ns Line m s t.1)
-atom_named ns (atoms.MeetLC l c) s h d = let t = two ns (obj Line l) (obj Circle c) h in (named_at ns Line l s t.0, named_at ns Circle c s t.1)
-atom_named ns (atoms.MeetCC c e) s h d = let t = two ns (obj Circle c) (obj Circle e) h in (named_at ns Circle c s t.0, named_at ns Circle e s t.1)
-atom_named ns (atoms.EqP a b) s h d = let t = two ns (obj Point a) (obj Point b) h in (named_at ns Point a s t.0, named_at ns Point b s t.1)
-atom_named ns (atoms.EqL l m) s h d = let t = two ns (obj Line l) (obj Line m) h in (named_at ns Line l s t.0, named_at ns Line m s t.1)
-atom_named ns (atoms.EqC c e) s h d = let t = two ns (obj Circle c) (obj Circle e) h in (named_at ns Circle c s t.0, named_at ns Circle e s t.1)
-atom_named ns (atoms.MagEq x y) s h d = absurd cc
-atom_named ns (atoms.MagLt x y) s h d = absurd cc
-
-pub lit_named : (ns : Names) (l : Lit) → InOrder ns → all_in_scope (scope_of_names ns) l ≡ true → is_diagram_lit l ≡ true → AtomNamed (raw_of ns l).atom
-lit_named ns l s h d = atom_named ns l.atom s h d
 
 -- ---- objects
 

@@ -1,5 +1,5 @@
 -- Names are read again, and words are cut where they were put together.
-use Rattle.std.proofs.Common.{◌≡◌, ℕ, zero, suc, ◌+◌, ◌<◌, true, false, ltb, List, [], ◌∷◌, ◌++◌, length, get_or, drop, Some, Ok, refl, sym, ap, ◌∙◌, arith, length-append}
+use Rattle.std.proofs.Common.{◌≡◌, ℕ, zero, suc, ◌+◌, ◌<◌, Bool, true, false, ltb, List, [], ◌∷◌, ◌++◌, length, get_or, drop, Some, Ok, refl, sym, ap, ◌∙◌, arith, length-append}
 use Rattle.std.specs.List.{position_or_len, AllByRecursion}
 use Rattle.std.specs.Str.{bytes_eq}
 use Rattle.std.proofs.lemmas.Bool.{lt-ltb, le-ltb}
@@ -43,6 +43,18 @@ get_front (x ∷ xs) ys (suc k) lt = get_front xs ys k (omega arith)
 get_behind : (xs : List (List ℕ)) (y : List ℕ) (ys : List (List ℕ)) → get_or (xs ++ y ∷ ys) (length xs) [] ≡ y
 get_behind [] y ys = refl
 get_behind (x ∷ xs) y ys = get_behind xs y ys
+
+-- where the first word stands that passes
+none_at : (p : List ℕ → Bool) (ws : List (List ℕ)) (k : ℕ) → AllByRecursion (λ w. p w ≡ false) ws → k < length ws → p (get_or ws k []) ≡ false
+none_at p [] k h lt = absurd (omega arith)
+none_at p (w ∷ ws) zero h lt = h.0
+none_at p (w ∷ ws) (suc k) h lt = none_at p ws k h.1 (omega arith)
+
+pub first_place : (p : List ℕ → Bool) (front : List (List ℕ)) (word : List ℕ) (ws : List (List ℕ)) → AllByRecursion (λ w. p w ≡ false) front → p word ≡ true
+    → position_or_len p (front ++ word ∷ ws) ≡ length front
+first_place p front word ws h is =
+    let len : length (front ++ word ∷ ws) ≡ length front + suc (length ws) = length-append front (word ∷ ws) in
+    position_or_len_is p (front ++ word ∷ ws) (length front) [] (omega arith) (λ k lt. ap p (get_front front (word ∷ ws) k lt) ∙ none_at p front k h lt) (λ lt. ap p (get_behind front word ws) ∙ is)
 
 -- a cut at a word that stands once
 pub cut_again : (word : List ℕ) (front ws : List (List ℕ)) → Without word front → cut_at word (front ++ word ∷ ws) ≡ (front, ws, true)

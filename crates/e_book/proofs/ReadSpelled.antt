@@ -28,11 +28,12 @@ use Rattle.e_book.specs.declared.draft.Place.{Place}
 use Rattle.e_book.specs.declared.draft.Place.TheVariants.{Declaring, Giving, Making, Showing, Proving, Closed, Done}
 use Rattle.e_book.specs.declared.draft.Draft.{Draft}
 use Rattle.e_book.specs.Reading.{◌>>=◌, with_front}
+use Rattle.e_book.specs.Literals.{is_diagram_raw}
 use Rattle.e_book.specs.Limits.{most_theorems, most_of, most_steps, most_facts, what_of, within}
 use Rattle.e_book.specs.Headed.{Headed, is_known}
 use Rattle.e_book.specs.Scope.{scope_of_names, fresh, lit_in, lits_in, by_in, let_in, qed_in}
 use Rattle.e_book.specs.Forms.{form_of}
-use Rattle.e_book.specs.Steps.{allowed, declared, few_objects, with_step, built, shut, stepped, step, begin, begun}
+use Rattle.e_book.specs.Steps.{count_monos, few_monos, with_terms, allowed, declared, few_objects, with_step, built, shut, stepped, step, begin, begun}
 use Rattle.e_book.specs.Entry.{Entry, statement_of_draft, entry_of_draft}
 use Rattle.e_book.specs.Book.{is_skipped, line_step, put_at, is_last, is_done, read_from}
 use Rattle.e_book.specs.HasSpelling.{HasSpelling, AreNames, is_diagram_lit, is_plain}
@@ -40,7 +41,8 @@ use Rattle.e_book.proofs.Answered.{within_ok, appended, passes, untaken, put_ok,
 use Rattle.e_book.proofs.InScope.{bind_ok, ok_is, read_ok, each_all, each_length}
 use Rattle.e_book.proofs.Keeps.{reading_fits}
 use Rattle.e_book.proofs.Differ.{both}
-use Rattle.e_book.proofs.SaidForms.{Said, form_said, lit_plain, by_plain}
+use Rattle.e_book.proofs.SaidForms.{Said, form_said, by_plain}
+use Rattle.e_book.proofs.KeptSums.{terms_added}
 
 -- ---- names
 
@@ -62,7 +64,7 @@ naming_more ns Circle new g h = record { point_names = g.point_names; line_names
 
 abbrev is_plain_step : Step → Bool
 is_plain_step (steps.Cite by) = is_diagram_lit by.lit
-is_plain_step (steps.Hence lit None) = is_diagram_lit lit
+is_plain_step (steps.Hence lit None) = true
 is_plain_step (steps.Hence lit (Some cert)) = false
 is_plain_step (steps.Make form names []) = list_all is_name names
 is_plain_step (steps.Make form names (c ∷ cs)) = false
@@ -81,8 +83,6 @@ record Spelled (known : List Headed) (d : Draft) : Type 0 where
   few : length known < most_theorems
   title : is_title d.title ≡ true
   naming : Naming d.names
-  given : list_all is_diagram_lit d.given ≡ true
-  shown : list_all is_diagram_lit d.shown ≡ true
   some : SomeShown d.place d.shown
   plain : list_all is_plain_step d.steps ≡ true
 
@@ -101,21 +101,22 @@ spelled_declare known d e sort ns g said h =
     let n = bind_ok (declared d.names sort ns) (λ names. read_ok (then names)) e h in
     let now = declared_is d.names sort ns n.0 n.1 in
     subst (λ (y : Draft). Spelled known y) (ap then now ∙ ok_is (then n.0) e n.2)
-    (record { few = g.few; title = g.title; naming = naming_more d.names sort ns g.naming said; given = g.given; shown = g.shown; some = g.some; plain = g.plain })
+    (record { few = g.few; title = g.title; naming = naming_more d.names sort ns g.naming said; some = g.some; plain = g.plain })
 
-lits_plain : (ns : Names) (raws : List RawLit) (ls : List Lit) → lits_in ns raws ≡ Ok ls → list_all is_diagram_lit ls ≡ true
-lits_plain ns raws ls e = each_all (lit_in ns) is_diagram_lit (lit_plain ns) raws ls e
+-- with another count of monomials
+counted : (known : List Headed) (d : Draft) (n : ℕ) → Spelled known d → Spelled known (record d { terms = n })
+counted known d n g = record { few = g.few; title = g.title; naming = g.naming; some = g.some; plain = g.plain }
+
+spelled_terms : (known : List Headed) (d e : Draft) (raws : List RawLit) → Spelled known d → with_terms d raws ≡ Ok e → Spelled known e
+spelled_terms known d e raws g h = let t = terms_added d e raws h in subst (λ (y : Draft). Spelled known y) t.is (counted known d (d.terms + count_monos raws) g)
 
 spelled_given : (known : List Headed) (d e : Draft) (raws : List RawLit) → Spelled known d → stepped d (forms.Given raws) ≡ Ok e → Spelled known e
 unfolding stepped
 spelled_given known d e raws g h =
     let then : List Lit → Draft = λ ls. record d { given = ls; facts = d.facts + length raws; place = Giving } in
-    let all = bind_ok (with_front d.given (lits_in d.names raws)) (λ ls. within (d.facts + length raws) most_facts limits.Facts >>= λ few. read_ok (then ls)) e h in
-    let ls = bind_ok (lits_in d.names raws) (λ xs. read_ok (d.given ++ xs)) all.0 all.1 in
-    let w = bind_ok (within (d.facts + length raws) most_facts limits.Facts) (λ few. read_ok (then all.0)) e all.2 in
-    let x-is : then (d.given ++ ls.0) ≡ e = ap then (ok_is (d.given ++ ls.0) all.0 ls.2) ∙ ok_is (then all.0) e w.2 in
-    subst (λ (y : Draft). Spelled known y) x-is
-    (record { few = g.few; title = g.title; naming = g.naming; given = appended is_diagram_lit d.given ls.0 g.given (lits_plain d.names raws ls.0 ls.1); shown = g.shown; some = tt; plain = g.plain })
+    let all = bind_ok (with_front d.given (lits_in d.names raws)) (λ ls. within (d.facts + length raws) most_facts limits.Facts >>= λ few. with_terms (then ls) raws) e h in
+    let w = bind_ok (within (d.facts + length raws) most_facts limits.Facts) (λ few. with_terms (then all.0) raws) e all.2 in
+    spelled_terms known (then all.0) e raws (record { few = g.few; title = g.title; naming = g.naming; some = tt; plain = g.plain }) w.2
 
 spelled_made : (known : List Headed) (d e : Draft) (sort : Sort) (ns : List (List ℕ)) → Spelled known d → AreNames ns → stepped d (forms.Made sort ns) ≡ Ok e → Spelled known e
 unfolding stepped
@@ -124,21 +125,22 @@ spelled_made known d e sort ns g said h =
     let n = bind_ok (declared d.names sort ns) (λ names. read_ok (then names)) e h in
     let now = declared_is d.names sort ns n.0 n.1 in
     subst (λ (y : Draft). Spelled known y) (ap then now ∙ ok_is (then n.0) e n.2)
-    (record { few = g.few; title = g.title; naming = naming_more d.names sort ns g.naming said; given = g.given; shown = g.shown; some = tt; plain = g.plain })
+    (record { few = g.few; title = g.title; naming = naming_more d.names sort ns g.naming said; some = tt; plain = g.plain })
 
 spelled_shown : (known : List Headed) (d e : Draft) (raws : List RawLit) → Spelled known d → 0 < length raws → stepped d (forms.Show raws) ≡ Ok e → Spelled known e
 unfolding stepped
 spelled_shown known d e raws g said h =
-    let all = bind_ok (with_front d.shown (lits_in d.names raws)) (λ ls. read_ok (record d { shown = ls; place = Showing })) e h in
+    let then : List Lit → Draft = λ ls. record d { shown = ls; place = Showing } in
+    let all = bind_ok (with_front d.shown (lits_in d.names raws)) (λ ls. few_monos raws >>= λ few. read_ok (then ls)) e h in
     let ls = bind_ok (lits_in d.names raws) (λ xs. read_ok (d.shown ++ xs)) all.0 all.1 in
+    let f = bind_ok (few_monos raws) (λ few. read_ok (then all.0)) e all.2 in
     let n = each_length (lit_in d.names) raws ls.0 ls.1 in
-    let x-is : record d { shown = d.shown ++ ls.0; place = Showing } ≡ e = ap (λ (l : List Lit). record d { shown = l; place = Showing }) (ok_is (d.shown ++ ls.0) all.0 ls.2) ∙ ok_is (record d { shown = all.0; place = Showing }) e all.2 in
-    subst (λ (y : Draft). Spelled known y) x-is
-    (record { few = g.few; title = g.title; naming = g.naming; given = g.given; shown = appended is_diagram_lit d.shown ls.0 g.shown (lits_plain d.names raws ls.0 ls.1); some = omega (arith, n, said, length-append d.shown ls.0); plain = g.plain })
+    let x-is : then (d.shown ++ ls.0) ≡ e = ap then (ok_is (d.shown ++ ls.0) all.0 ls.2) ∙ ok_is (then all.0) e f.2 in
+    subst (λ (y : Draft). Spelled known y) x-is (record { few = g.few; title = g.title; naming = g.naming; some = omega (arith, n, said, length-append d.shown ls.0); plain = g.plain })
 
 -- at another place, with other names in scope and other objects behind qed
 moved : (known : List Headed) (d : Draft) (p : Place) (in_scope : Names) (objects : List Obj) → Spelled known d → SomeShown p d.shown → Spelled known (record d { in_scope = in_scope; objects = objects; place = p })
-moved known d p in_scope objects g some = record { few = g.few; title = g.title; naming = g.naming; given = g.given; shown = g.shown; some = some; plain = g.plain }
+moved known d p in_scope objects g some = record { few = g.few; title = g.title; naming = g.naming; some = some; plain = g.plain }
 
 spelled_step : (known : List Headed) (d e : Draft) (s : Step) (n : ℕ) → Spelled known d → is_plain_step s ≡ true → with_step d s n ≡ Ok e → Spelled known e
 unfolding with_step
@@ -147,19 +149,20 @@ spelled_step known d e s n g p h =
     let a = bind_ok (within (length d.steps + 1) most_steps limits.Steps) (λ few. within (d.facts + n) most_facts limits.Facts >>= λ none. read_ok x) e h in
     let b = bind_ok (within (d.facts + n) most_facts limits.Facts) (λ none. read_ok x) e a.2 in
     subst (λ (y : Draft). Spelled known y) (ok_is x e b.2)
-    (record { few = g.few; title = g.title; naming = g.naming; given = g.given; shown = g.shown; some = g.some; plain = appended is_plain_step d.steps (s ∷ []) g.plain (rw p refl) })
+    (record { few = g.few; title = g.title; naming = g.naming; some = g.some; plain = appended is_plain_step d.steps (s ∷ []) g.plain (rw p refl) })
 
-spelled_by : (known : List Headed) (d e : Draft) (r : List ℕ) (ns : List (List ℕ)) (l : RawLit) → Spelled known d → stepped d (forms.By r ns l) ≡ Ok e → Spelled known e
+spelled_by : (known : List Headed) (d e : Draft) (r : List ℕ) (ns : List (List ℕ)) (l : RawLit) → Spelled known d → is_diagram_raw l.atom ≡ true → stepped d (forms.By r ns l) ≡ Ok e → Spelled known e
 unfolding stepped
-spelled_by known d e r ns l g h =
+spelled_by known d e r ns l g said h =
     let b = bind_ok (by_in d.in_scope r ns l) (λ b. with_step d (steps.Cite b) 1) e h in
-    spelled_step known d e (steps.Cite b.0) 1 g (by_plain d.in_scope r ns l b.0 b.1) b.2
+    spelled_step known d e (steps.Cite b.0) 1 g (by_plain d.in_scope r ns l b.0 said b.1) b.2
 
 spelled_hence : (known : List Headed) (d e : Draft) (l : RawLit) → Spelled known d → stepped d (forms.Hence l) ≡ Ok e → Spelled known e
 unfolding stepped
 spelled_hence known d e l g h =
-    let m = bind_ok (lit_in d.in_scope l) (λ m. with_step d (steps.Hence m None) 1) e h in
-    spelled_step known d e (steps.Hence m.0 None) 1 g (lit_plain d.in_scope l m.0 m.1) m.2
+    let m = bind_ok (lit_in d.in_scope l) (λ m. with_step d (steps.Hence m None) 1 >>= λ x. with_terms x (l ∷ [])) e h in
+    let x = bind_ok (with_step d (steps.Hence m.0 None) 1) (λ x. with_terms x (l ∷ [])) e m.2 in
+    spelled_terms known x.0 e (l ∷ []) (spelled_step known d x.0 (steps.Hence m.0 None) 1 g refl x.1) x.2
 
 names_listed : (ns : List (List ℕ)) → AreNames ns → list_all is_name ns ≡ true
 names_listed [] h = refl
@@ -221,9 +224,9 @@ spelled_stepped known d e (forms.Theorem t) g s a h = absurd (no_title d e t h)
 spelled_stepped known d e (forms.Declare sort ns) g s a h = spelled_declare known d e sort ns g s h
 spelled_stepped known d e (forms.Given raws) g s a h = spelled_given known d e raws g h
 spelled_stepped known d e (forms.Made sort ns) g s a h = spelled_made known d e sort ns g s h
-spelled_stepped known d e (forms.Show raws) g s a h = spelled_shown known d e raws g s h
+spelled_stepped known d e (forms.Show raws) g s a h = spelled_shown known d e raws g s.0 h
 spelled_stepped known d e forms.Proof g s a h = spelled_proof known d e g a h
-spelled_stepped known d e (forms.By r ns l) g s a h = spelled_by known d e r ns l g h
+spelled_stepped known d e (forms.By r ns l) g s a h = spelled_by known d e r ns l g s h
 spelled_stepped known d e (forms.Hence l) g s a h = spelled_hence known d e l g h
 spelled_stepped known d e (forms.Let l) g s a h = spelled_let known d e l g s h
 spelled_stepped known d e (forms.Qed ns) g s a h = spelled_qed known d e ns g a h
@@ -244,7 +247,7 @@ spelled_begin known (forms.Theorem t) e s h =
     let n = untaken (is_known known t) (within (length known + 1) most_theorems limits.Theorems >>= λ few. read_ok (begun t)) e h in
     let w = bind_ok (within (length known + 1) most_theorems limits.Theorems) (λ few. read_ok (begun t)) e n.1 in
     let few = within_ok (length known + 1) most_theorems limits.Theorems w.0 w.1 in
-    subst (λ (y : Draft). Spelled known y) (ok_is (begun t) e w.2) (record { few = omega (arith, few); title = s; naming = no_names; given = refl; shown = refl; some = tt; plain = refl })
+    subst (λ (y : Draft). Spelled known y) (ok_is (begun t) e w.2) (record { few = omega (arith, few); title = s; naming = no_names; some = tt; plain = refl })
 spelled_begin known f e s h = absurd cc
 
 -- ---- the whole
@@ -262,7 +265,7 @@ plain_script : (ss : List Step) (objects : List Obj) → list_all is_plain_step 
 unfolding is_plain
 plain_script [] objects h = refl
 plain_script (steps.Cite by ∷ ss) objects h = let p = both (is_diagram_lit by.lit) (list_all is_plain_step ss) h in rw (p.0, plain_script ss objects p.1) refl
-plain_script (steps.Hence lit None ∷ ss) objects h = let p = both (is_diagram_lit lit) (list_all is_plain_step ss) h in rw (p.0, plain_script ss objects p.1) refl
+plain_script (steps.Hence lit None ∷ ss) objects h = plain_script ss objects h
 plain_script (steps.Hence lit (Some cert) ∷ ss) objects h = absurd cc
 plain_script (steps.Make form names [] ∷ ss) objects h = let p = both (list_all is_name names) (list_all is_plain_step ss) h in rw (p.0, plain_script ss objects p.1) refl
 plain_script (steps.Make form names (c ∷ cs) ∷ ss) objects h = absurd cc
@@ -272,8 +275,6 @@ record Named (known : List Headed) (t : Entry) : Type 0 where
   few : length known < most_theorems
   title : is_title t.title ≡ true
   naming : Naming t.names
-  given : list_all is_diagram_lit t.statement.given ≡ true
-  shown : list_all is_diagram_lit t.statement.shown ≡ true
   some : 0 < length t.statement.shown
   plain : is_plain t.script ≡ true
 
@@ -282,7 +283,7 @@ at_last Done shown a s = s
 at_last p shown a s = absurd cc
 
 all_named : (known : List Headed) (d : Draft) → Spelled known d → is_done d ≡ true → Named known (entry_of_draft d)
-all_named known d g a = record { few = g.few; title = g.title; naming = g.naming; given = g.given; shown = g.shown; some = at_last d.place d.shown a g.some; plain = plain_script d.steps d.objects g.plain }
+all_named known d g a = record { few = g.few; title = g.title; naming = g.naming; some = at_last d.place d.shown a g.some; plain = plain_script d.steps d.objects g.plain }
 
 reading_names : (known : List Headed) (last : ℕ) (draft : Option Draft) (lines rest : List (Result Seen LineFault)) (t : Entry) → SpelledSoFar known draft → read_from known last draft lines ≡ answered (pair t rest) → Named known t
 reading_names known last None [] rest t g e = absurd cc
@@ -314,8 +315,6 @@ read_is_spelled known last t lines rest e =
       point_names = n.naming.point_names;
       line_names = n.naming.line_names;
       circle_names = n.naming.circle_names;
-      given = n.given;
-      shown = n.shown;
       some_shown = n.some;
       script = n.plain;
     }

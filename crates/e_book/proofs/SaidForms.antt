@@ -25,12 +25,13 @@ use Rattle.e_book.specs.declared.lets.RawLet.{RawLet}
 use Rattle.e_book.specs.declared.form.Form.{Form}
 use Rattle.e_book.specs.declared.form.Form.TheVariants as forms
 use Rattle.e_book.specs.Reading.{◌>>=◌, or_malformed, word_at, title_at, end_at, cut_at, names_of, not_empty, some_names}
-use Rattle.e_book.specs.Literals.{lit_of, is_semicolon, lits_of}
+use Rattle.e_book.specs.Literals.{lit_of, is_diagram_raw, diagram_lit_of, is_semicolon, lits_of}
 use Rattle.e_book.specs.Lets.{new_words, argument_words, shapes_of, avoided_of, let_named, let_of}
 use Rattle.e_book.specs.Forms.{declare_of, sort_of, made_of, by_of, theorem_of, bare, form_named, form_of}
-use Rattle.e_book.specs.Scope.{used, number_of, on_sort, line_meets, meets_from, equal_at, atom_in, lit_in, args_in, by_in, known_rule, variables_of, right_count}
+use Rattle.e_book.specs.Scope.{used, number_of, on_sort, line_meets, meets_from, equal_at, atom_in, negated_in, lit_in, args_in, by_in, known_rule, variables_of, right_count}
 use Rattle.e_book.specs.HasSpelling.{AreNames, is_diagram_atom, is_diagram_lit}
 use Rattle.e_book.proofs.InScope.{bind_ok, ok_is, read_ok, each_length}
+use Rattle.e_book.proofs.SaidLits.{AtomSaid, LitsSaid, lit_said, lits_said, diagram_said}
 
 -- ---- forms
 
@@ -40,7 +41,10 @@ Said (forms.Theorem t) = is_title t ≡ true
 Said (forms.Declare sort ns) = AreNames ns
 Said (forms.Made sort ns) = AreNames ns
 Said (forms.Let l) = AreNames l.new
-Said (forms.Show raws) = 0 < length raws
+Said (forms.Given raws) = LitsSaid raws
+Said (forms.Show raws) = (0 < length raws) × LitsSaid raws
+Said (forms.By r ns l) = is_diagram_raw l.atom ≡ true
+Said (forms.Hence l) = AtomSaid l.atom
 Said f = Unit {0}
 
 kept : (b : Bool) (w n : List ℕ) → or_malformed (cond b (Some w) None) ≡ read_ok n → (b ≡ true) × (w ≡ n)
@@ -121,14 +125,14 @@ qed_said : (ws : List (List ℕ)) (f : Form) → (names_of ws >>= λ ns. read_ok
 qed_said ws f e = let a = bind_ok (names_of ws) (λ ns. read_ok (forms.Qed ns)) f e in subst Said (ok_is (forms.Qed a.0) f a.2) tt
 
 given_said : (ws : List (List ℕ)) (f : Form) → (lits_of ws >>= λ ls. read_ok (forms.Given ls)) ≡ Ok f → Said f
-given_said ws f e = let a = bind_ok (lits_of ws) (λ ls. read_ok (forms.Given ls)) f e in subst Said (ok_is (forms.Given a.0) f a.2) tt
+given_said ws f e = let a = bind_ok (lits_of ws) (λ ls. read_ok (forms.Given ls)) f e in subst Said (ok_is (forms.Given a.0) f a.2) (lits_said ws a.0 a.1)
 
 show_said : (ws : List (List ℕ)) (f : Form) → (lits_of ws >>= λ ls. read_ok (forms.Show ls)) ≡ Ok f → Said f
 show_said ws f e =
     let a = bind_ok (lits_of ws) (λ ls. read_ok (forms.Show ls)) f e in
     let n = each_length lit_of (slice_split is_semicolon ws) a.0 a.1 in
     let some : 0 < length a.0 = omega (arith, n, length-slice_split is_semicolon ws) in
-    subst Said (ok_is (forms.Show a.0) f a.2) some
+    subst Said (ok_is (forms.Show a.0) f a.2) (some, lits_said ws a.0 a.1)
 
 bare_said : (ws : List (List ℕ)) (g f : Form) → Said g → bare ws g ≡ Ok f → Said f
 unfolding bare
@@ -141,16 +145,16 @@ found false x f e = absurd cc
 by_said : (ws : List (List ℕ)) (f : Form) → by_of ws ≡ Ok f → Said f
 unfolding by_of
 by_said ws f e =
-    let rest : List ℕ × List (List ℕ) → Result Form Kind = λ r. cond (cut_at (codes ":") r.1).2 (names_of (cut_at (codes ":") r.1).0 >>= λ ns. lit_of (cut_at (codes ":") r.1).1 >>= λ l. read_ok (forms.By r.0 ns l)) (Err Malformed) in
+    let rest : List ℕ × List (List ℕ) → Result Form Kind = λ r. cond (cut_at (codes ":") r.1).2 (names_of (cut_at (codes ":") r.1).0 >>= λ ns. diagram_lit_of (cut_at (codes ":") r.1).1 >>= λ l. read_ok (forms.By r.0 ns l)) (Err Malformed) in
     let a = bind_ok (title_at ws) rest f e in
     let parts = cut_at (codes ":") a.0.1 in
-    let b = found parts.2 (names_of parts.0 >>= λ ns. lit_of parts.1 >>= λ l. read_ok (forms.By a.0.0 ns l)) f a.2 in
-    let c = bind_ok (names_of parts.0) (λ ns. lit_of parts.1 >>= λ l. read_ok (forms.By a.0.0 ns l)) f b in
-    let d = bind_ok (lit_of parts.1) (λ l. read_ok (forms.By a.0.0 c.0 l)) f c.2 in
-    subst Said (ok_is (forms.By a.0.0 c.0 d.0) f d.2) tt
+    let b = found parts.2 (names_of parts.0 >>= λ ns. diagram_lit_of parts.1 >>= λ l. read_ok (forms.By a.0.0 ns l)) f a.2 in
+    let c = bind_ok (names_of parts.0) (λ ns. diagram_lit_of parts.1 >>= λ l. read_ok (forms.By a.0.0 ns l)) f b in
+    let d = bind_ok (diagram_lit_of parts.1) (λ l. read_ok (forms.By a.0.0 c.0 l)) f c.2 in
+    subst Said (ok_is (forms.By a.0.0 c.0 d.0) f d.2) (diagram_said parts.1 d.0 d.1)
 
 hence_said : (ws : List (List ℕ)) (f : Form) → (lit_of ws >>= λ l. read_ok (forms.Hence l)) ≡ Ok f → Said f
-hence_said ws f e = let a = bind_ok (lit_of ws) (λ l. read_ok (forms.Hence l)) f e in subst Said (ok_is (forms.Hence a.0) f a.2) tt
+hence_said ws f e = let a = bind_ok (lit_of ws) (λ l. read_ok (forms.Hence l)) f e in subst Said (ok_is (forms.Hence a.0) f a.2) (lit_said ws a.0 a.1)
 
 no_form : (f : Form) → Err Malformed ≡ read_ok f → Said f
 no_form f e = absurd cc
@@ -196,7 +200,7 @@ form_said (w ∷ ws) f e = named_said w ws f e
 
 -- ---- literals
 
-abbrev Plain : Atom → Type 0
+abbrev pub Plain : Atom → Type 0
 Plain a = is_diagram_atom a ≡ true
 
 to : (x a : Atom) → Plain x → read_ok x ≡ Ok a → Plain a
@@ -222,50 +226,53 @@ equal_plain Point m n = refl
 equal_plain Line m n = refl
 equal_plain Circle m n = refl
 
-atom_plain : (ns : Names) (r : RawAtom) (a : Atom) → atom_in ns r ≡ Ok a → Plain a
+pub atom_plain : (ns : Names) (r : RawAtom) (a : Atom) → is_diagram_raw r ≡ true → atom_in ns r ≡ Ok a → Plain a
 unfolding atom_in
-atom_plain ns (raw.On x y) a e =
+atom_plain ns (raw.On x y) a d e =
     let p = bind_ok (number_of ns Point x) (λ p. used ns y >>= λ o. on_sort p o.sort o.num) a e in
     let o = bind_ok (used ns y) (λ o. on_sort p.0 o.sort o.num) a p.2 in
     on_plain p.0 o.0.sort o.0.num a o.2
-atom_plain ns (raw.Inside x y) a e =
+atom_plain ns (raw.Inside x y) a d e =
     let p = bind_ok (number_of ns Point x) (λ p. number_of ns Circle y >>= λ c. read_ok (atoms.Inside p c)) a e in
     let c = bind_ok (number_of ns Circle y) (λ c. read_ok (atoms.Inside p.0 c)) a p.2 in
     to (atoms.Inside p.0 c.0) a refl c.2
-atom_plain ns (raw.Center x y) a e =
+atom_plain ns (raw.Center x y) a d e =
     let p = bind_ok (number_of ns Point x) (λ p. number_of ns Circle y >>= λ c. read_ok (atoms.Center p c)) a e in
     let c = bind_ok (number_of ns Circle y) (λ c. read_ok (atoms.Center p.0 c)) a p.2 in
     to (atoms.Center p.0 c.0) a refl c.2
-atom_plain ns (raw.Between x y z) a e =
+atom_plain ns (raw.Between x y z) a d e =
     let p = bind_ok (number_of ns Point x) (λ p. number_of ns Point y >>= λ q. number_of ns Point z >>= λ r. read_ok (atoms.Between p q r)) a e in
     let q = bind_ok (number_of ns Point y) (λ q. number_of ns Point z >>= λ r. read_ok (atoms.Between p.0 q r)) a p.2 in
     let r = bind_ok (number_of ns Point z) (λ r. read_ok (atoms.Between p.0 q.0 r)) a q.2 in
     to (atoms.Between p.0 q.0 r.0) a refl r.2
-atom_plain ns (raw.Same x y z) a e =
+atom_plain ns (raw.Same x y z) a d e =
     let p = bind_ok (number_of ns Point x) (λ p. number_of ns Point y >>= λ q. number_of ns Line z >>= λ r. read_ok (atoms.Same p q r)) a e in
     let q = bind_ok (number_of ns Point y) (λ q. number_of ns Line z >>= λ r. read_ok (atoms.Same p.0 q r)) a p.2 in
     let r = bind_ok (number_of ns Line z) (λ r. read_ok (atoms.Same p.0 q.0 r)) a q.2 in
     to (atoms.Same p.0 q.0 r.0) a refl r.2
-atom_plain ns (raw.Meets x y) a e =
+atom_plain ns (raw.Meets x y) a d e =
     let o = bind_ok (used ns x) (λ o. meets_from ns o.sort o.num y) a e in
     meets_plain ns o.0.sort o.0.num y a o.2
-atom_plain ns (raw.Equal x y) a e =
+atom_plain ns (raw.Equal x y) a d e =
     let o = bind_ok (used ns x) (λ o. number_of ns o.sort y >>= λ n. read_ok (equal_at o.sort o.num n)) a e in
     let n = bind_ok (number_of ns o.0.sort y) (λ n. read_ok (equal_at o.0.sort o.0.num n)) a o.2 in
     to (equal_at o.0.sort o.0.num n.0) a (equal_plain o.0.sort o.0.num n.0) n.2
+atom_plain ns (raw.SumsEqual x y) a d e = absurd cc
+atom_plain ns (raw.SumsLess x y) a d e = absurd cc
+atom_plain ns (raw.SumsAtMost x y) a d e = absurd cc
 
-pub lit_plain : (ns : Names) (r : RawLit) (l : Lit) → lit_in ns r ≡ Ok l → is_diagram_lit l ≡ true
+lit_plain : (ns : Names) (r : RawLit) (l : Lit) → is_diagram_raw r.atom ≡ true → lit_in ns r ≡ Ok l → is_diagram_lit l ≡ true
 unfolding lit_in
-lit_plain ns r l e =
-    let a = bind_ok (atom_in ns r.atom) (λ a. read_ok (record { neg = r.neg; atom = a })) l e in
-    subst (λ (x : Lit). is_diagram_lit x ≡ true) (ok_is (record { neg = r.neg; atom = a.0 }) l a.2) (atom_plain ns r.atom a.0 a.1)
+lit_plain ns r l d e =
+    let a = bind_ok (atom_in ns r.atom) (λ a. read_ok (record { neg = negated_in r.atom r.neg; atom = a })) l e in
+    subst (λ (x : Lit). is_diagram_lit x ≡ true) (ok_is (record { neg = negated_in r.atom r.neg; atom = a.0 }) l a.2) (atom_plain ns r.atom a.0 d a.1)
 
-pub by_plain : (ns : Names) (rule : List ℕ) (names : List (List ℕ)) (lit : RawLit) (b : By) → by_in ns rule names lit ≡ Ok b → is_diagram_lit b.lit ≡ true
+pub by_plain : (ns : Names) (rule : List ℕ) (names : List (List ℕ)) (lit : RawLit) (b : By) → is_diagram_raw lit.atom ≡ true → by_in ns rule names lit ≡ Ok b → is_diagram_lit b.lit ≡ true
 unfolding by_in
-by_plain ns rule names lit b e =
+by_plain ns rule names lit b d e =
     let r = bind_ok (known_rule (place_of rule)) (λ r. variables_of (sig_of r) >>= λ s. right_count (eqb (length names) (s.points + s.lines + s.circles)) >>= λ right. args_in ns s names >>= λ args. lit_in ns lit >>= λ l. read_ok (record { rule = r; args = args; lit = l })) b e in
     let s = bind_ok (variables_of (sig_of r.0)) (λ s. right_count (eqb (length names) (s.points + s.lines + s.circles)) >>= λ right. args_in ns s names >>= λ args. lit_in ns lit >>= λ l. read_ok (record { rule = r.0; args = args; lit = l })) b r.2 in
     let t = bind_ok (right_count (eqb (length names) (s.0.points + s.0.lines + s.0.circles))) (λ right. args_in ns s.0 names >>= λ args. lit_in ns lit >>= λ l. read_ok (record { rule = r.0; args = args; lit = l })) b s.2 in
     let a = bind_ok (args_in ns s.0 names) (λ args. lit_in ns lit >>= λ l. read_ok (record { rule = r.0; args = args; lit = l })) b t.2 in
     let l = bind_ok (lit_in ns lit) (λ l. read_ok (record { rule = r.0; args = a.0; lit = l })) b a.2 in
-    subst (λ (x : By). is_diagram_lit x.lit ≡ true) (ok_is (record { rule = r.0; args = a.0; lit = l.0 }) b l.2) (lit_plain ns lit l.0 l.1)
+    subst (λ (x : By). is_diagram_lit x.lit ≡ true) (ok_is (record { rule = r.0; args = a.0; lit = l.0 }) b l.2) (lit_plain ns lit l.0 d l.1)

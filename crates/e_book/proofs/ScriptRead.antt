@@ -9,6 +9,7 @@ use Rattle.e_literal.specs.declared.object.Obj.{Obj}
 use Rattle.e_literal.specs.declared.object.Scope.{Scope}
 use Rattle.e_literal.specs.declared.literal.Lit.{Lit}
 use Rattle.e_literal.specs.Literal.{is_in_scope, all_in_scope}
+use Rattle.e_literal.specs.WellFormed.{is_well_formed}
 use Rattle.e_literal.specs.Scopes.{same_sort, grown, are_of_sorts}
 use Rattle.e_literal.specs.Facts.{joined, joined_all}
 use Rattle.e_clause.specs.declared.cert.By.{By}
@@ -24,16 +25,18 @@ use Rattle.e_deriv.specs.Lines.{lines}
 use Rattle.e_deriv.specs.Steps.{is_citation, fits}
 use Rattle.e_book.specs.declared.draft.Place.TheVariants.{Proving, Closed}
 use Rattle.e_book.specs.declared.draft.Draft.{Draft}
-use Rattle.e_book.specs.Limits.{most_steps, most_facts}
+use Rattle.e_book.specs.Limits.{most_steps, most_facts, most_terms}
 use Rattle.e_book.specs.Headed.{Headed}
-use Rattle.e_book.specs.Scope.{scope_of_names, object_as, objects_of_sorts, qed_in}
-use Rattle.e_book.specs.Steps.{few_objects, with_step, built, shut, stepped, step}
-use Rattle.e_book.specs.Fits.{NewNamesFit, count_given}
-use Rattle.e_book.specs.Canonical.{name_of_object, by_form, hence_form, let_form, qed_form, script_forms}
+use Rattle.e_book.specs.Scope.{scope_of_names, fresh, object_as, objects_of_sorts, qed_in}
+use Rattle.e_book.specs.Steps.{count_monos, few_objects, with_step, with_terms, built, shut, stepped, step}
+use Rattle.e_book.specs.Fits.{NewNamesFit, count_given, has_good_literals, monomials, monomials_given}
+use Rattle.e_book.specs.Canonical.{raw_of, name_of_object, by_form, hence_form, let_form, qed_form, script_forms}
 use Rattle.e_book.specs.HasSpelling.{AreNames, is_diagram_lit, is_plain}
 use Rattle.e_book.proofs.Differ.{both}
 use Rattle.e_book.proofs.Respelled.{as_read}
-use Rattle.e_book.proofs.Lookups.{InOrder, lit_number_again, lit_named, object_again, objects_named, sorts_same}
+use Rattle.e_book.proofs.Lookups.{InOrder, object_again, objects_named, sorts_same}
+use Rattle.e_book.proofs.LitLookups.{lit_number_again, lit_named}
+use Rattle.e_book.proofs.ShortLits.{few_again, count_again}
 use Rattle.e_book.proofs.Cited.{by_number_again, by_good}
 use Rattle.e_book.proofs.Declared.{Runs}
 use Rattle.e_book.proofs.Building.{GoodLet, named_scope}
@@ -42,12 +45,12 @@ use Rattle.e_book.proofs.Built.{of_sorts_in_scope, of_sorts_length, let_number_a
 use Rattle.e_book.proofs.HeadRead.{PlainLit}
 
 -- a draft in its proof, with these names in scope
-abbrev pub proving : Draft → Names → List Step → ℕ → Draft
-proving d ns ss facts = record d { in_scope = ns; steps = ss; facts = facts; place = Proving }
+abbrev pub proving : Draft → Names → List Step → ℕ → ℕ → Draft
+proving d ns ss facts terms = record d { in_scope = ns; steps = ss; facts = facts; terms = terms; place = Proving }
 
 -- and behind its close
-abbrev pub closed : Draft → Names → List Step → ℕ → List Obj → Draft
-closed d ns ss facts objects = record d { in_scope = ns; steps = ss; facts = facts; objects = objects; place = Closed }
+abbrev pub closed : Draft → Names → List Step → ℕ → ℕ → List Obj → Draft
+closed d ns ss facts terms objects = record d { in_scope = ns; steps = ss; facts = facts; terms = terms; objects = objects; place = Closed }
 
 abbrev pub steps_of : Script → List Step
 steps_of (Cite by rest) = steps.Cite by ∷ steps_of rest
@@ -63,27 +66,28 @@ objects_of (Qed objects certs) = objects
 
 -- ---- one line
 
-step_cite : (d : Draft) (ns : Names) (ss : List Step) (facts : ℕ) (b : By) → InOrder ns → is_citation (scope_of_names ns) b ≡ true → is_diagram_lit b.lit ≡ true → length ss + 1 ≤ most_steps → facts + 1 ≤ most_facts
-    → step (proving d ns ss facts) (by_form ns b) ≡ Ok (proving d ns (ss ++ steps.Cite b ∷ []) (facts + 1))
+step_cite : (d : Draft) (ns : Names) (ss : List Step) (facts terms : ℕ) (b : By) → InOrder ns → is_citation (scope_of_names ns) b ≡ true → is_diagram_lit b.lit ≡ true → length ss + 1 ≤ most_steps → facts + 1 ≤ most_facts
+    → step (proving d ns ss facts terms) (by_form ns b) ≡ Ok (proving d ns (ss ++ steps.Cite b ∷ []) (facts + 1) terms)
 unfolding step stepped with_step
-step_cite d ns ss facts b o h p few most =
+step_cite d ns ss facts terms b o h p few most =
     let room : ltb most_steps (length ss + 1) ≡ false = le-ltb _ _ few in
     let place : ltb most_facts (facts + 1) ≡ false = le-ltb _ _ most in
     rw (by_number_again ns b o h p, room, place) refl
 
-step_hence : (d : Draft) (ns : Names) (ss : List Step) (facts : ℕ) (l : Lit) → InOrder ns → PlainLit ns l → length ss + 1 ≤ most_steps → facts + 1 ≤ most_facts
-    → step (proving d ns ss facts) (hence_form ns l) ≡ Ok (proving d ns (ss ++ steps.Hence l None ∷ []) (facts + 1))
-unfolding step stepped with_step
-step_hence d ns ss facts l o p few most =
+step_hence : (d : Draft) (ns : Names) (ss : List Step) (facts terms : ℕ) (l : Lit) → InOrder ns → PlainLit ns l → length ss + 1 ≤ most_steps → facts + 1 ≤ most_facts → terms + monomials l.atom ≤ most_terms
+    → step (proving d ns ss facts terms) (hence_form ns l) ≡ Ok (proving d ns (ss ++ steps.Hence l None ∷ []) (facts + 1) (terms + monomials l.atom))
+unfolding step stepped with_step with_terms
+step_hence d ns ss facts terms l o p few most short =
     let room : ltb most_steps (length ss + 1) ≡ false = le-ltb _ _ few in
     let place : ltb most_facts (facts + 1) ≡ false = le-ltb _ _ most in
-    rw (lit_number_again ns l o p.within p.diagram, room, place) refl
+    let more : ltb most_terms (terms + count_monos (raw_of ns l ∷ [])) ≡ false = le-ltb _ _ (omega (arith, short, count_again ns l)) in
+    rw (lit_number_again ns l o p.within p.good, room, place, few_again ns l p.good, more) (ap (λ (n : ℕ). Ok (proving d ns (ss ++ steps.Hence l None ∷ []) (facts + 1) (terms + n))) (count_again ns l))
 
-step_let : (d : Draft) (ns : Names) (ss : List Step) (facts : ℕ) (form : Construction) (names : List (List ℕ)) → InOrder ns → GoodLet ns form names → few_objects (named ns (made form) names) ≡ Ok tt
+step_let : (d : Draft) (ns : Names) (ss : List Step) (facts terms : ℕ) (form : Construction) (names : List (List ℕ)) → InOrder ns → GoodLet ns form names → few_objects (named ns (made form) names) ≡ Ok tt
     → length ss + 1 ≤ most_steps → facts + length (gives form (scope_of_names ns)) ≤ most_facts
-    → step (proving d ns ss facts) (as_read (let_form ns form names)) ≡ Ok (proving d (named ns (made form) names) (ss ++ steps.Make form names [] ∷ []) (facts + length (gives form (scope_of_names ns))))
+    → step (proving d ns ss facts terms) (as_read (let_form ns form names)) ≡ Ok (proving d (named ns (made form) names) (ss ++ steps.Make form names [] ∷ []) (facts + length (gives form (scope_of_names ns))) terms)
 unfolding step stepped built with_step
-step_let d ns ss facts form names o h fit few most =
+step_let d ns ss facts terms form names o h fit few most =
     let room : ltb most_steps (length ss + 1) ≡ false = le-ltb _ _ few in
     let place : ltb most_facts (facts + length (gives form (scope_of_names ns))) ≡ false = le-ltb _ _ most in
     rw (let_number_again ns form names o h, fit, room, place) refl
@@ -104,10 +108,10 @@ qed_read ns sorts os o h =
     let count : eqb (length (map (name_of_object ns) os)) (length sorts) ≡ true = eq-eqb _ _ (length-map os (name_of_object ns) ∙ of_sorts_length (scope_of_names ns) sorts os h) in
     rw count (objects_read ns sorts os o h)
 
-step_qed : (d : Draft) (ns : Names) (ss : List Step) (facts : ℕ) (os : List Obj) → InOrder ns → are_of_sorts (scope_of_names ns) d.made os ≡ true → length ss + 1 ≤ most_steps
-    → step (proving d ns ss facts) (qed_form ns os) ≡ Ok (closed d ns ss facts os)
+step_qed : (d : Draft) (ns : Names) (ss : List Step) (facts terms : ℕ) (os : List Obj) → InOrder ns → are_of_sorts (scope_of_names ns) d.made os ≡ true → length ss + 1 ≤ most_steps
+    → step (proving d ns ss facts terms) (qed_form ns os) ≡ Ok (closed d ns ss facts terms os)
 unfolding step stepped shut
-step_qed d ns ss facts os o h few =
+step_qed d ns ss facts terms os o h few =
     let room : ltb most_steps (length ss + 1) ≡ false = le-ltb _ _ few in
     rw (qed_read ns d.made os o h, room) refl
 
@@ -125,7 +129,7 @@ list_names [] h = tt
 list_names (n ∷ ns) h = let p = both (is_name n) (list_all is_name ns) h in (p.0, list_names ns p.1)
 
 -- what is known of a script where these names are in scope
-pub record Ready (d : Draft) (ns : Names) (ss : List Step) (facts : ℕ) (script : Script) (given : List Lit) (goal : Goal) : Type 0 where
+pub record Ready (d : Draft) (ns : Names) (ss : List Step) (facts terms : ℕ) (script : Script) (given : List Lit) (goal : Goal) : Type 0 where
   pub order : InOrder ns
   pub goal_sorts : sorts_of goal.made ≡ d.made
   pub plain : is_plain script ≡ true
@@ -133,30 +137,33 @@ pub record Ready (d : Draft) (ns : Names) (ss : List Step) (facts : ℕ) (script
   pub new_names : NewNamesFit ns script
   pub few : length ss + size script ≤ most_steps
   pub most : facts + count_given (scope_of_names ns) script ≤ most_facts
+  pub good : has_good_literals script ≡ true
+  pub short : terms + monomials_given script ≤ most_terms
 
 -- its lines are taken, and the draft behind them
-pub record Taken (known : List Headed) (d : Draft) (ns : Names) (ss : List Step) (facts : ℕ) (script : Script) : Type 0 where
+pub record Taken (known : List Headed) (d : Draft) (ns : Names) (ss : List Step) (facts terms : ℕ) (script : Script) : Type 0 where
   pub in_scope : Names
   pub given : ℕ
-  pub runs : Runs known (Some (proving d ns ss facts)) (script_forms ns script) (Some (closed d in_scope (ss ++ steps_of script) given (objects_of script)))
+  pub written : ℕ
+  pub runs : Runs known (Some (proving d ns ss facts terms)) (script_forms ns script) (Some (closed d in_scope (ss ++ steps_of script) given written (objects_of script)))
 
 -- a line with a certificate is not plain
 no_cert : false ≡ true → ⊥
 no_cert e = absurd cc
 
 -- one more step, and what comes behind it
-behind : (known : List Headed) (d : Draft) (ns : Names) (ss : List Step) (facts : ℕ) (s : Step) (rest : Script) (t : Taken known d ns (ss ++ s ∷ []) facts rest)
-    → Runs known (Some (proving d ns (ss ++ s ∷ []) facts)) (script_forms ns rest) (Some (closed d t.in_scope (ss ++ s ∷ steps_of rest) t.given (objects_of rest)))
-behind known d ns ss facts s rest t =
-    subst (λ (l : List Step). Runs known (Some (proving d ns (ss ++ s ∷ []) facts)) (script_forms ns rest) (Some (closed d t.in_scope l t.given (objects_of rest)))) (append_assoc ss (s ∷ []) (steps_of rest)) t.runs
+behind : (known : List Headed) (d : Draft) (ns : Names) (ss : List Step) (facts terms : ℕ) (s : Step) (rest : Script) (t : Taken known d ns (ss ++ s ∷ []) facts terms rest)
+    → Runs known (Some (proving d ns (ss ++ s ∷ []) facts terms)) (script_forms ns rest) (Some (closed d t.in_scope (ss ++ s ∷ steps_of rest) t.given t.written (objects_of rest)))
+behind known d ns ss facts terms s rest t =
+    subst (λ (l : List Step). Runs known (Some (proving d ns (ss ++ s ∷ []) facts terms)) (script_forms ns rest) (Some (closed d t.in_scope l t.given t.written (objects_of rest)))) (append_assoc ss (s ∷ []) (steps_of rest)) t.runs
 
-pub run_script : (known : List Headed) (d : Draft) (ns : Names) (ss : List Step) (facts : ℕ) (script : Script) (given : List Lit) (goal : Goal) → Ready d ns ss facts script given goal → Taken known d ns ss facts script
-unfolding script_forms is_plain lines size NewNamesFit count_given
-run_script known d ns ss facts (Cite by rest) given goal r =
+pub run_script : (known : List Headed) (d : Draft) (ns : Names) (ss : List Step) (facts terms : ℕ) (script : Script) (given : List Lit) (goal : Goal) → Ready d ns ss facts terms script given goal → Taken known d ns ss facts terms script
+unfolding script_forms is_plain lines size NewNamesFit count_given has_good_literals monomials_given
+run_script known d ns ss facts terms (Cite by rest) given goal r =
     let p = both (is_diagram_lit by.lit) (is_plain rest) r.plain in
     let q = both (is_citation (scope_of_names ns) by) (list_all fits (lines rest (scope_of_names ns) (joined given by.lit) goal)) r.fitting in
     let n : length (ss ++ steps.Cite by ∷ []) ≡ length ss + 1 = length-append ss (steps.Cite by ∷ []) in
-    let next = run_script known d ns (ss ++ steps.Cite by ∷ []) (facts + 1) rest (joined given by.lit) goal (record {
+    let next = run_script known d ns (ss ++ steps.Cite by ∷ []) (facts + 1) terms rest (joined given by.lit) goal (record {
       order = r.order;
       goal_sorts = r.goal_sorts;
       plain = p.1;
@@ -164,44 +171,50 @@ run_script known d ns ss facts (Cite by rest) given goal r =
       new_names = r.new_names;
       few = omega (arith, r.few, n);
       most = omega (arith, r.most);
+      good = r.good;
+      short = r.short;
     }) in
     record {
       in_scope = next.in_scope;
       given = next.given;
+      written = next.written;
       runs = (
-        proving d ns (ss ++ steps.Cite by ∷ []) (facts + 1),
+        proving d ns (ss ++ steps.Cite by ∷ []) (facts + 1) terms,
         by_good ns by r.order q.0 p.0,
-        step_cite d ns ss facts by r.order q.0 p.0 (omega (arith, r.few)) (omega (arith, r.most)),
+        step_cite d ns ss facts terms by r.order q.0 p.0 (omega (arith, r.few)) (omega (arith, r.most)),
         refl,
-        behind known d ns ss (facts + 1) (steps.Cite by) rest next,
+        behind known d ns ss (facts + 1) terms (steps.Cite by) rest next,
       );
     }
-run_script known d ns ss facts (Hence lit None rest) given goal r =
-    let p = both (is_diagram_lit lit) (is_plain rest) r.plain in
+run_script known d ns ss facts terms (Hence lit None rest) given goal r =
+    let p = both (is_well_formed lit) (has_good_literals rest) r.good in
     let q = both (all_in_scope (scope_of_names ns) lit) (list_all fits (lines rest (scope_of_names ns) (joined given lit) goal)) r.fitting in
     let n : length (ss ++ steps.Hence lit None ∷ []) ≡ length ss + 1 = length-append ss (steps.Hence lit None ∷ []) in
-    let next = run_script known d ns (ss ++ steps.Hence lit None ∷ []) (facts + 1) rest (joined given lit) goal (record {
+    let next = run_script known d ns (ss ++ steps.Hence lit None ∷ []) (facts + 1) (terms + monomials lit.atom) rest (joined given lit) goal (record {
       order = r.order;
       goal_sorts = r.goal_sorts;
-      plain = p.1;
+      plain = r.plain;
       fitting = q.1;
       new_names = r.new_names;
       few = omega (arith, r.few, n);
       most = omega (arith, r.most);
+      good = p.1;
+      short = omega (arith, r.short);
     }) in
     record {
       in_scope = next.in_scope;
       given = next.given;
+      written = next.written;
       runs = (
-        proving d ns (ss ++ steps.Hence lit None ∷ []) (facts + 1),
+        proving d ns (ss ++ steps.Hence lit None ∷ []) (facts + 1) (terms + monomials lit.atom),
         lit_named ns lit r.order q.0 p.0,
-        step_hence d ns ss facts lit r.order (record { within = q.0; diagram = p.0 }) (omega (arith, r.few)) (omega (arith, r.most)),
+        step_hence d ns ss facts terms lit r.order (record { within = q.0; good = p.0 }) (omega (arith, r.few)) (omega (arith, r.most)) (omega (arith, r.short)),
         refl,
-        behind known d ns ss (facts + 1) (steps.Hence lit None) rest next,
+        behind known d ns ss (facts + 1) (terms + monomials lit.atom) (steps.Hence lit None) rest next,
       );
     }
-run_script known d ns ss facts (Hence lit (Some cert) rest) given goal r = absurd (no_cert r.plain)
-run_script known d ns ss facts (Make form names [] rest) given goal r =
+run_script known d ns ss facts terms (Hence lit (Some cert) rest) given goal r = absurd (no_cert r.plain)
+run_script known d ns ss facts terms (Make form names [] rest) given goal r =
     let s = scope_of_names ns in
     let after = named ns (made form) names in
     let gifts = length (gives form s) in
@@ -214,7 +227,7 @@ run_script known d ns ss facts (Make form names [] rest) given goal r =
     let scope : grown s (made form) ≡ scope_of_names after = named_scope ns (made form) names r.new_names.1 in
     let most : facts + (gifts + count_given (grown s (made form)) rest) ≤ most_facts = r.most in
     let less : facts + gifts + count_given (grown s (made form)) rest ≤ most_facts = omega (arith, most) in
-    let next = run_script known d after (ss ++ steps.Make form names [] ∷ []) (facts + gifts) rest facts_then goal (record {
+    let next = run_script known d after (ss ++ steps.Make form names [] ∷ []) (facts + gifts) terms rest facts_then goal (record {
       order = named_in_order ns (made form) names r.order names_are r.new_names.0;
       goal_sorts = r.goal_sorts;
       plain = p.1;
@@ -222,39 +235,43 @@ run_script known d ns ss facts (Make form names [] rest) given goal r =
       new_names = r.new_names.3;
       few = omega (arith, r.few, n);
       most = subst (λ (z : Scope). facts + gifts + count_given z rest ≤ most_facts) scope less;
+      good = r.good;
+      short = r.short;
     }) in
     record {
       in_scope = next.in_scope;
       given = next.given;
+      written = next.written;
       runs = (
-        proving d after (ss ++ steps.Make form names [] ∷ []) (facts + gifts),
+        proving d after (ss ++ steps.Make form names [] ∷ []) (facts + gifts) terms,
         let_named ns form names r.order good names_are,
-        step_let d ns ss facts form names r.order good r.new_names.2 (omega (arith, r.few, at_least rest)) (omega (arith, less)),
+        step_let d ns ss facts terms form names r.order good r.new_names.2 (omega (arith, r.few, at_least rest)) (omega (arith, less)),
         refl,
-        behind known d after ss (facts + gifts) (steps.Make form names []) rest next,
+        behind known d after ss (facts + gifts) terms (steps.Make form names []) rest next,
       );
     }
-run_script known d ns ss facts (Make form names (c ∷ cs) rest) given goal r = absurd (no_cert r.plain)
-run_script known d ns ss facts (Qed os []) given goal r =
+run_script known d ns ss facts terms (Make form names (c ∷ cs) rest) given goal r = absurd (no_cert r.plain)
+run_script known d ns ss facts terms (Qed os []) given goal r =
     let q = both (are_of_sorts (scope_of_names ns) (sorts_of goal.made) os) true r.fitting in
     let h : are_of_sorts (scope_of_names ns) d.made os ≡ true = subst (λ (l : List Sort). are_of_sorts (scope_of_names ns) l os ≡ true) r.goal_sorts q.0 in
     record {
       in_scope = ns;
       given = facts;
+      written = terms;
       runs = (
-        closed d ns ss facts os,
+        closed d ns ss facts terms os,
         objects_named ns os r.order (of_sorts_in_scope (scope_of_names ns) d.made os h),
-        step_qed d ns ss facts os r.order h (omega (arith, r.few)),
+        step_qed d ns ss facts terms os r.order h (omega (arith, r.few)),
         refl,
-        ap (λ (l : List Step). Some (closed d ns l facts os)) (sym (append-nil ss)),
+        ap (λ (l : List Step). Some (closed d ns l facts terms os)) (sym (append-nil ss)),
       );
     }
-run_script known d ns ss facts (Qed os (c ∷ cs)) given goal r = absurd (no_cert r.plain)
+run_script known d ns ss facts terms (Qed os (c ∷ cs)) given goal r = absurd (no_cert r.plain)
 
 pub same_script : (script : Script) → is_plain script ≡ true → steps_script (steps_of script) (Qed (objects_of script) []) ≡ script
 unfolding is_plain
 same_script (Cite by rest) p = ap (λ (s : Script). Cite by s) (same_script rest (both (is_diagram_lit by.lit) (is_plain rest) p).1)
-same_script (Hence lit None rest) p = ap (λ (s : Script). Hence lit None s) (same_script rest (both (is_diagram_lit lit) (is_plain rest) p).1)
+same_script (Hence lit None rest) p = ap (λ (s : Script). Hence lit None s) (same_script rest p)
 same_script (Hence lit (Some cert) rest) p = absurd cc
 same_script (Make form names [] rest) p = ap (λ (s : Script). Make form names [] s) (same_script rest (both (list_all is_name names) (is_plain rest) p).1)
 same_script (Make form names (c ∷ cs) rest) p = absurd cc

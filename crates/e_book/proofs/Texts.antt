@@ -1,5 +1,5 @@
 -- The texts of words.
-use Rattle.std.proofs.Common.{◌≡◌, ℕ, ◌+◌, ◌-◌, ◌<◌, ◌≤◌, true, List, [], ◌∷◌, length, get_or, take, drop, refl, sym, ap, ◌∙◌, arith, length-drop, Bor}
+use Rattle.std.proofs.Common.{◌≡◌, ℕ, ◌+◌, ◌-◌, ◌<◌, ◌≤◌, Bool, true, List, [], ◌∷◌, length, get_or, take, drop, refl, sym, ap, ◌∙◌, arith, length-drop, Bor}
 use Rattle.std.specs.List.{position_or_len}
 use Rattle.std.specs.Str.{bytes_eq}
 use Rattle.std.proofs.Math.ListN.{get_or-map}
@@ -24,11 +24,17 @@ cut_at-found word words part rest end at lt part-is rest-is =
     let e : take (length rest - 1) (drop 1 rest) ≡ drop (end + 1) words = whole ∙ ap (λ (xs : List (Bor (List ℕ))). drop 1 xs) rest-is ∙ drop-drop 1 end words in
     rw (e, part-is, ← at, test, take-map (λ (w : Bor (List ℕ)). w.now) end words, drop-map (λ (w : Bor (List ℕ)). w.now) (end + 1) words) refl
 
+-- the words up to the next one of this word are the first of the parts that are left
+pub part_at : (c : List ℕ) (words : List (Bor (List ℕ))) (at n : ℕ) → at ≤ length words → n ≡ position_or_len (λ w. bytes_eq w c) (texts (take (length words - at) (drop at words)))
+    → parts_from (λ w. bytes_eq w c) at (texts words) ≡ texts (take (at + n - at) (drop at words)) ∷ parts_from (λ w. bytes_eq w c) (at + n + 1) (texts words)
+part_at c words at n le n-is =
+    let is_it : List ℕ → Bool = λ w. bytes_eq w c in
+    let whole : take (length words - at) (drop at words) ≡ drop at words = take_all _ _ (omega (arith, length-drop at words)) in
+    let e : n ≡ position_or_len is_it (drop at (texts words)) = n-is ∙ ap (λ (xs : List (Bor (List ℕ))). position_or_len is_it (texts xs)) whole ∙ ap (position_or_len is_it) (sym (drop-map (λ (w : Bor (List ℕ)). w.now) at words)) in
+    let p = parts_at is_it (texts words) [] at (at + n) (omega (arith, length-texts words)) (ap (λ k. at + k) e) in
+    p ∙ rw (drop-map (λ (w : Bor (List ℕ)). w.now) at words, take-map (λ (w : Bor (List ℕ)). w.now) (at + n - at) (drop at words)) refl
+
 -- the words up to the next semicolon are the first of the parts that are left
 pub part_of : (words : List (Bor (List ℕ))) (at n : ℕ) → at ≤ length words → n ≡ position_or_len (λ w. bytes_eq w (codes ";")) (texts (take (length words - at) (drop at words)))
     → parts_from is_semicolon at (texts words) ≡ texts (take (at + n - at) (drop at words)) ∷ parts_from is_semicolon (at + n + 1) (texts words)
-part_of words at n le n-is =
-    let whole : take (length words - at) (drop at words) ≡ drop at words = take_all _ _ (omega (arith, length-drop at words)) in
-    let e : n ≡ position_or_len is_semicolon (drop at (texts words)) = n-is ∙ ap (λ (xs : List (Bor (List ℕ))). position_or_len is_semicolon (texts xs)) whole ∙ ap (position_or_len is_semicolon) (sym (drop-map (λ (w : Bor (List ℕ)). w.now) at words)) in
-    let p = parts_at is_semicolon (texts words) [] at (at + n) (omega (arith, length-texts words)) (ap (λ k. at + k) e) in
-    p ∙ rw (drop-map (λ (w : Bor (List ℕ)). w.now) at words, take-map (λ (w : Bor (List ℕ)). w.now) (at + n - at) (drop at words)) refl
+part_of words at n le n-is = part_at (codes ";") words at n le n-is

@@ -1,11 +1,14 @@
 -- The canonical spelling: the words of each form, and the lines of each theorem, in order.
-use Rattle.std.specs.Prelude.{ℕ, Bool, true, false, List, [], ◌∷◌, ◌++◌, map, codes, slice_index_or, if◌then◌else◌}
+use Rattle.std.specs.Prelude.{ℕ, Bool, true, false, List, [], ◌∷◌, ◌++◌, map, codes, decimal, ◌==◌, slice_index_or, if◌then◌else◌}
 use Rattle.std.specs.List.{flat_map}
 use Rattle.std.specs.Option.{option_map_or}
 use Rattle.e_text.specs.Tokens.{joined}
 use Rattle.e_literal.specs.declared.object.Sort.{Sort}
 use Rattle.e_literal.specs.declared.object.Sort.TheVariants as sorts
 use Rattle.e_literal.specs.declared.object.Obj.{Obj}
+use Rattle.e_literal.specs.declared.object.Term.{Term}
+use Rattle.e_literal.specs.declared.object.Term.TheVariants as terms
+use Rattle.e_literal.specs.declared.object.Mono.{Mono}
 use Rattle.e_literal.specs.declared.literal.Atom.{Atom}
 use Rattle.e_literal.specs.declared.literal.Atom.TheVariants as atoms
 use Rattle.e_literal.specs.declared.literal.Lit.{Lit}
@@ -22,6 +25,9 @@ use Rattle.e_theorem.specs.Statements.{stated}
 use Rattle.e_deriv.specs.declared.names.Names.{Names}
 use Rattle.e_deriv.specs.Naming.{names_of_sort, named, declared_names}
 use Rattle.e_deriv.specs.Script.{Script, Cite, Hence, Make, Qed}
+use Rattle.e_book.specs.declared.sum.RawTerm.{RawTerm}
+use Rattle.e_book.specs.declared.sum.RawTerm.TheVariants as rawterms
+use Rattle.e_book.specs.declared.sum.RawMono.{RawMono}
 use Rattle.e_book.specs.declared.literal.RawLit.{RawLit}
 use Rattle.e_book.specs.declared.literal.RawAtom.{RawAtom}
 use Rattle.e_book.specs.declared.literal.RawAtom.TheVariants as raw
@@ -29,6 +35,37 @@ use Rattle.e_book.specs.declared.lets.RawLet.{RawLet}
 use Rattle.e_book.specs.declared.form.Form.{Form}
 use Rattle.e_book.specs.declared.form.Form.TheVariants as forms
 use Rattle.e_book.specs.Entry.{Entry}
+
+-- ---- sums
+
+abbrev pub term_words : RawTerm → List (List ℕ)
+term_words (rawterms.Seg x y) = codes "seg" ∷ x ∷ y ∷ []
+term_words (rawterms.Ang x y z) = codes "ang" ∷ x ∷ y ∷ z ∷ []
+term_words (rawterms.Area x y z) = codes "area" ∷ x ∷ y ∷ z ∷ []
+term_words rawterms.Right = codes "right" ∷ []
+
+-- the coefficient 1 is not written
+abbrev pub coefficient_words : ℕ → List (List ℕ)
+coefficient_words n = if n == 1 then [] else decimal n ∷ []
+
+abbrev pub mono_words : RawMono → List (List ℕ)
+mono_words m = coefficient_words m.coeff ++ term_words m.term
+
+-- more monomials, each behind a plus
+abbrev pub more_monos : List RawMono → List (List ℕ)
+more_monos [] = []
+more_monos (m ∷ ms) = codes "+" ∷ (mono_words m ++ more_monos ms)
+
+-- monomials with a plus between two, and 0 for none
+abbrev pub sum_words : List RawMono → List (List ℕ)
+sum_words [] = codes "0" ∷ []
+sum_words (m ∷ ms) = mono_words m ++ more_monos ms
+
+-- two sums with a sign between them
+abbrev pub sums_words : List RawMono → List ℕ → List RawMono → List (List ℕ)
+sums_words x sign y = sum_words x ++ sign ∷ sum_words y
+
+-- ---- literals
 
 abbrev pub atom_words : RawAtom → List (List ℕ)
 atom_words (raw.On x y) = codes "on" ∷ x ∷ y ∷ []
@@ -38,16 +75,22 @@ atom_words (raw.Between x y z) = codes "between" ∷ x ∷ y ∷ z ∷ []
 atom_words (raw.Same x y z) = codes "same-side" ∷ x ∷ y ∷ z ∷ []
 atom_words (raw.Meets x y) = codes "meets" ∷ x ∷ y ∷ []
 atom_words (raw.Equal x y) = x ∷ codes "=" ∷ y ∷ []
+atom_words (raw.SumsEqual x y) = sums_words x (codes "=") y
+atom_words (raw.SumsLess x y) = sums_words x (codes "<") y
+atom_words (raw.SumsAtMost x y) = sums_words x (codes "<=") y
 
 -- an equality is negated by its sign, and any other atom by a word before it
 abbrev pub not_words : RawAtom → List (List ℕ)
 not_words (raw.Equal x y) = x ∷ codes "!=" ∷ y ∷ []
+not_words (raw.SumsEqual x y) = sums_words x (codes "!=") y
 not_words (raw.On x y) = codes "not" ∷ atom_words (raw.On x y)
 not_words (raw.Inside x y) = codes "not" ∷ atom_words (raw.Inside x y)
 not_words (raw.Center x y) = codes "not" ∷ atom_words (raw.Center x y)
 not_words (raw.Between x y z) = codes "not" ∷ atom_words (raw.Between x y z)
 not_words (raw.Same x y z) = codes "not" ∷ atom_words (raw.Same x y z)
 not_words (raw.Meets x y) = codes "not" ∷ atom_words (raw.Meets x y)
+not_words (raw.SumsLess x y) = codes "not" ∷ atom_words (raw.SumsLess x y)
+not_words (raw.SumsAtMost x y) = codes "not" ∷ atom_words (raw.SumsAtMost x y)
 
 abbrev pub signed_words : Bool → RawAtom → List (List ℕ)
 signed_words true a = not_words a
@@ -117,7 +160,19 @@ name_at names i = slice_index_or names i []
 abbrev pub name_of_object : Names → Obj → List ℕ
 name_of_object ns o = name_at (names_of_sort ns o.sort) o.num
 
--- an atom with the names of its objects. Metric atoms are spelled otherwise; no book has one yet.
+abbrev pub raw_term : Names → Term → RawTerm
+raw_term ns (terms.Seg a b) = rawterms.Seg (name_at ns.points a) (name_at ns.points b)
+raw_term ns (terms.Ang a b c) = rawterms.Ang (name_at ns.points a) (name_at ns.points b) (name_at ns.points c)
+raw_term ns (terms.Area a b c) = rawterms.Area (name_at ns.points a) (name_at ns.points b) (name_at ns.points c)
+raw_term ns terms.Right = rawterms.Right
+
+abbrev pub raw_mono : Names → Mono → RawMono
+raw_mono ns m = record { coeff = m.coeff; term = raw_term ns m.term }
+
+abbrev pub raw_sum : Names → List Mono → List RawMono
+raw_sum ns ms = map (raw_mono ns) ms
+
+-- an atom with the names of its objects
 abbrev pub raw_atom : Names → Atom → RawAtom
 raw_atom ns (atoms.On a l) = raw.On (name_at ns.points a) (name_at ns.lines l)
 raw_atom ns (atoms.OnC a c) = raw.On (name_at ns.points a) (name_at ns.circles c)
@@ -131,11 +186,16 @@ raw_atom ns (atoms.MeetCC c d) = raw.Meets (name_at ns.circles c) (name_at ns.ci
 raw_atom ns (atoms.EqP a b) = raw.Equal (name_at ns.points a) (name_at ns.points b)
 raw_atom ns (atoms.EqL l m) = raw.Equal (name_at ns.lines l) (name_at ns.lines m)
 raw_atom ns (atoms.EqC c d) = raw.Equal (name_at ns.circles c) (name_at ns.circles d)
-raw_atom ns (atoms.MagEq x y) = raw.Equal [] []
-raw_atom ns (atoms.MagLt x y) = raw.Equal [] []
+raw_atom ns (atoms.MagEq x y) = raw.SumsEqual (raw_sum ns x) (raw_sum ns y)
+raw_atom ns (atoms.MagLt x y) = raw.SumsLess (raw_sum ns x) (raw_sum ns y)
+
+-- the negation of X < Y is written Y <= X
+abbrev pub raw_signed : Names → Bool → Atom → RawLit
+raw_signed ns true (atoms.MagLt x y) = record { neg = false; atom = raw.SumsAtMost (raw_sum ns y) (raw_sum ns x) }
+raw_signed ns neg a = record { neg = neg; atom = raw_atom ns a }
 
 abbrev pub raw_of : Names → Lit → RawLit
-raw_of ns l = record { neg = l.neg; atom = raw_atom ns l.atom }
+raw_of ns l = raw_signed ns l.neg l.atom
 
 -- the name of a rule
 abbrev pub rule_name : ℕ → List ℕ

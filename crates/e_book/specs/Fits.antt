@@ -1,9 +1,13 @@
 -- What a theorem that is read is known to be: its objects are in scope, its names are theirs, it is within the limits.
-use Rattle.std.specs.Prelude.{◌≡◌, ℕ, ◌+◌, ◌≤◌, List, [], ◌∷◌, length, Bool, true, false, not, ◌&&◌, IsTrue, Ok}
+use Rattle.std.specs.Prelude.{◌≡◌, ℕ, ◌+◌, ◌≤◌, List, [], ◌∷◌, ◌++◌, length, sum_by, Bool, true, false, not, ◌&&◌, IsTrue, Ok}
 use Rattle.std.specs.List.{list_all}
 use Rattle.e_literal.specs.declared.object.Scope.{Scope}
 use Rattle.e_literal.specs.declared.object.Sort.TheVariants.{Point, Line, Circle}
+use Rattle.e_literal.specs.declared.literal.Atom.{Atom}
+use Rattle.e_literal.specs.declared.literal.Atom.TheVariants as atoms
+use Rattle.e_literal.specs.declared.literal.Lit.{Lit}
 use Rattle.e_literal.specs.Literal.{all_in_scope}
+use Rattle.e_literal.specs.WellFormed.{is_well_formed}
 use Rattle.e_literal.specs.Scopes.{grown}
 use Rattle.e_literal.specs.Use.{scope_of}
 use Rattle.e_construct.specs.Construct.{made, gives}
@@ -14,7 +18,7 @@ use Rattle.e_deriv.specs.Lines.{proof_lines}
 use Rattle.e_deriv.specs.Steps.{fits}
 use Rattle.e_deriv.specs.Naming.{named, declared_names}
 use Rattle.e_deriv.specs.Fitting.{all_objects}
-use Rattle.e_book.specs.Limits.{most_of, most_steps, most_facts}
+use Rattle.e_book.specs.Limits.{most_of, most_steps, most_facts, most_terms}
 use Rattle.e_book.specs.Headed.{Headed, is_known}
 pub use Rattle.e_book.specs.Scope.{scope_of_names}
 use Rattle.e_book.specs.Scope.{has, fresh}
@@ -57,6 +61,29 @@ count_given s (Hence lit cert rest) = 1 + count_given s rest
 count_given s (Make form names certs rest) = length (gives form s) + count_given (grown s (made form)) rest
 count_given s (Qed objects certs) = 0
 
+-- the literals of a script are well formed
+unfoldable pub has_good_literals : Script → Bool
+has_good_literals (Cite by rest) = has_good_literals rest
+has_good_literals (Hence lit cert rest) = is_well_formed lit && has_good_literals rest
+has_good_literals (Make form names certs rest) = has_good_literals rest
+has_good_literals (Qed objects certs) = true
+
+-- how many monomials an atom has
+abbrev pub monomials : Atom → ℕ
+monomials (atoms.MagEq x y) = length (x ++ y)
+monomials (atoms.MagLt x y) = length (x ++ y)
+monomials a = 0
+
+abbrev pub count_monomials : List Lit → ℕ
+count_monomials ls = sum_by (λ l. monomials l.atom) ls
+
+-- how many monomials the literals have that the lines of a script give; only hence gives metric ones
+unfoldable pub monomials_given : Script → ℕ
+monomials_given (Cite by rest) = monomials_given rest
+monomials_given (Hence lit cert rest) = monomials lit.atom + monomials_given rest
+monomials_given (Make form names certs rest) = monomials_given rest
+monomials_given (Qed objects certs) = 0
+
 pub record Fits (known : List Headed) (t : Entry) : Type 0 where
   -- no earlier theorem has its title
   pub new : is_known known t.title ≡ false
@@ -69,8 +96,13 @@ pub record Fits (known : List Headed) (t : Entry) : Type 0 where
   -- the given literals are over the declared objects, and the shown ones over these and the made ones
   pub given : IsTrue (list_all (all_in_scope (scope_of (stated t.statement))) t.statement.given)
   pub shown : IsTrue (list_all (all_in_scope (scope_of_names t.names)) t.statement.shown)
+  -- sums have terms of one kind, not too many, with coefficients that are not too large
+  pub good_given : IsTrue (list_all is_well_formed t.statement.given)
+  pub good_shown : IsTrue (list_all is_well_formed t.statement.shown)
+  pub good_script : IsTrue (has_good_literals t.script)
   -- each line of the script has objects of the right sorts, all in scope where it stands
   pub script : IsTrue (list_all fits (proof_lines (stated t.statement) t.script))
   pub new_names : NewNamesFit (declared_names (stated t.statement) t.names) t.script
   pub steps : size t.script ≤ most_steps
   pub facts : length t.statement.given + count_given (scope_of (stated t.statement)) t.script ≤ most_facts
+  pub terms : count_monomials t.statement.given + monomials_given t.script ≤ most_terms

@@ -9,7 +9,7 @@ use Rattle.e_book.specs.declared.form.Form.{Form}
 use Rattle.e_book.specs.declared.form.Form.TheVariants.{Theorem, Declare, Given, Made, Show, Proof, By, Hence, Let, Qed, End}
 use Rattle.e_book.specs.Reading.{◌>>=◌, cut_at, word_at, title_at, end_at}
 unfoldable pub use Rattle.e_book.specs.Reading.{names_of, not_empty, some_names}
-use Rattle.e_book.specs.Literals.{lit_of, lits_of}
+use Rattle.e_book.specs.Literals.{lit_of, diagram_lit_of, lits_of}
 use Rattle.e_book.specs.Lets.{let_of}
 
 -- objects of a sort
@@ -33,12 +33,12 @@ made_of words = do
   ns ← some_names w.1
   Ok (Made sort ns)
 
--- a rule, names up to a colon, and a literal behind it
+-- a rule, names up to a colon, and a literal of diagrams or of equal objects behind it
 unfoldable pub by_of : List (List ℕ) → Result Form Kind
 by_of words = do
   r ← title_at words
   let parts = cut_at (codes ":") r.1
-  if parts.2 then (names_of parts.0 >>= λ ns. lit_of parts.1 >>= λ l. Ok (By r.0 ns l)) else Err Malformed
+  if parts.2 then (names_of parts.0 >>= λ ns. diagram_lit_of parts.1 >>= λ l. Ok (By r.0 ns l)) else Err Malformed
 
 unfoldable pub theorem_of : List (List ℕ) → Result Form Kind
 theorem_of words = do

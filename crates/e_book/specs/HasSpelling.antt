@@ -14,7 +14,7 @@ use Rattle.e_book.specs.Fits.{Fits}
 abbrev pub AreNames : List (List ℕ) → Type 0
 AreNames names = AllByRecursion (λ n. is_name n ≡ true) names
 
--- an atom of diagrams or equality of objects: no book has metric ones yet
+-- an atom of diagrams or of equal objects
 abbrev pub is_diagram_atom : Atom → Bool
 is_diagram_atom (MagEq x y) = false
 is_diagram_atom (MagLt x y) = false
@@ -23,10 +23,10 @@ is_diagram_atom a = true
 abbrev pub is_diagram_lit : Lit → Bool
 is_diagram_lit l = is_diagram_atom l.atom
 
--- no line has a certificate, none speaks of magnitudes, and new objects have names
+-- no line has a certificate, no citation speaks of magnitudes, and new objects have names
 unfoldable pub is_plain : Script → Bool
 is_plain (Cite by rest) = is_diagram_lit by.lit && is_plain rest
-is_plain (Hence lit None rest) = is_diagram_lit lit && is_plain rest
+is_plain (Hence lit None rest) = is_plain rest
 is_plain (Hence lit (Some cert) rest) = false
 is_plain (Make form names [] rest) = list_all is_name names && is_plain rest
 is_plain (Make form names certs rest) = false
@@ -42,7 +42,5 @@ pub record HasSpelling (known : List Headed) (t : Entry) : Type 0 where
   pub point_names : AreNames t.names.points
   pub line_names : AreNames t.names.lines
   pub circle_names : AreNames t.names.circles
-  pub given : list_all is_diagram_lit t.statement.given ≡ true
-  pub shown : list_all is_diagram_lit t.statement.shown ≡ true
   pub some_shown : 0 < length t.statement.shown
   pub script : is_plain t.script ≡ true

@@ -25,6 +25,18 @@ most_steps = 1024
 abbrev pub most_facts : ℕ
 most_facts = 2048
 
+-- monomials of a literal, as it is written
+abbrev pub most_monomials : ℕ
+most_monomials = 32
+
+-- a coefficient
+abbrev pub most_coefficient : ℕ
+most_coefficient = 1000000
+
+-- monomials of the literals that are facts, repeats counted
+abbrev pub most_terms : ℕ
+most_terms = 1024
+
 abbrev pub what_of : Sort → What
 what_of sorts.Point = limits.Points
 what_of sorts.Line = limits.Lines

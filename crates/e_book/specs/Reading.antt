@@ -91,3 +91,19 @@ unfoldable pub some_names : List (List ℕ) → Result (List (List ℕ)) Kind
 some_names words = do
   ns ← names_of words
   not_empty ns
+
+-- all the words are two names
+unfoldable pub two_names : List (List ℕ) → Result (List ℕ × List ℕ) Kind
+two_names words = do
+  x ← name_at words
+  y ← name_at x.1
+  none ← end_at y.1
+  Ok (x.0, y.0)
+
+unfoldable pub three_names : List (List ℕ) → Result (List ℕ × List ℕ × List ℕ) Kind
+three_names words = do
+  x ← name_at words
+  y ← name_at x.1
+  z ← name_at y.1
+  none ← end_at z.1
+  Ok (x.0, y.0, z.0)

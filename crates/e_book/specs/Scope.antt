@@ -1,16 +1,22 @@
 -- Names resolved to the objects in scope, from left to right.
-use Rattle.std.specs.Prelude.{ℕ, ◌+◌, ◌<◌, ◌^◌, Bool, true, false, ◌||◌, ◌==◌, List, [], ◌∷◌, ◌++◌, length, take, drop, Option, Some, None, Result, Ok, Err, if◌then◌else◌}
+use Rattle.std.specs.Prelude.{ℕ, ◌+◌, ◌<◌, ◌^◌, Bool, true, false, not, ◌||◌, ◌==◌, List, [], ◌∷◌, ◌++◌, length, take, drop, Option, Some, None, Result, Ok, Err, if◌then◌else◌}
 use Rattle.std.specs.List.{position, list_any}
 use Rattle.std.specs.Str.{bytes_eq}
 use Rattle.e_literal.specs.declared.object.Sort.{Sort}
 use Rattle.e_literal.specs.declared.object.Sort.TheVariants as sorts
 use Rattle.e_literal.specs.declared.object.Obj.{Obj}
 use Rattle.e_literal.specs.declared.object.Scope.{Scope}
+use Rattle.e_literal.specs.declared.object.Kind.{Kind as Magnitude}
+use Rattle.e_literal.specs.declared.object.Kind.TheVariants as magnitudes
+use Rattle.e_literal.specs.declared.object.Term.{Term}
+use Rattle.e_literal.specs.declared.object.Term.TheVariants as terms
+use Rattle.e_literal.specs.declared.object.Mono.{Mono}
 use Rattle.e_literal.specs.declared.literal.Atom.{Atom}
 use Rattle.e_literal.specs.declared.literal.Atom.TheVariants as atoms
 use Rattle.e_literal.specs.declared.literal.Lit.{Lit}
 use Rattle.e_literal.specs.Literal.{obj}
 use Rattle.e_literal.specs.Scopes.{same_sort}
+use Rattle.e_literal.specs.WellFormed.{same_kind}
 use Rattle.e_clause.specs.declared.rule.Sig.{Sig}
 use Rattle.e_clause.specs.declared.cert.By.{By}
 use Rattle.e_clause.specs.Instance.{place_of}
@@ -24,6 +30,9 @@ use Rattle.e_deriv.specs.declared.names.Names.{Names}
 pub use Rattle.e_deriv.specs.Naming.{names_of_sort, with_names}
 use Rattle.e_book.specs.declared.fault.Kind.{Kind}
 use Rattle.e_book.specs.declared.fault.Kind.TheVariants.{Malformed, UnknownName, NameTaken, WrongSort}
+use Rattle.e_book.specs.declared.sum.RawTerm.{RawTerm}
+use Rattle.e_book.specs.declared.sum.RawTerm.TheVariants as rawterms
+use Rattle.e_book.specs.declared.sum.RawMono.{RawMono}
 use Rattle.e_book.specs.declared.literal.RawLit.{RawLit}
 use Rattle.e_book.specs.declared.literal.RawAtom.{RawAtom}
 use Rattle.e_book.specs.declared.literal.RawAtom.TheVariants as raw
@@ -73,6 +82,42 @@ number_at sort o = if same_sort o.sort sort then Ok o.num else Err WrongSort
 unfoldable pub number_of : Names → Sort → List ℕ → Result ℕ Kind
 number_of ns sort name = used ns name >>= λ o. number_at sort o
 
+-- ---- sums
+
+unfoldable pub term_in : Names → RawTerm → Result Term Kind
+term_in ns (rawterms.Seg x y) = number_of ns sorts.Point x >>= λ a. number_of ns sorts.Point y >>= λ b. Ok (terms.Seg a b)
+term_in ns (rawterms.Ang x y z) =
+    number_of ns sorts.Point x >>= λ a. number_of ns sorts.Point y >>= λ b. number_of ns sorts.Point z >>= λ c. Ok (terms.Ang a b c)
+term_in ns (rawterms.Area x y z) =
+    number_of ns sorts.Point x >>= λ a. number_of ns sorts.Point y >>= λ b. number_of ns sorts.Point z >>= λ c. Ok (terms.Area a b c)
+term_in ns rawterms.Right = Ok terms.Right
+
+abbrev pub kind_of_raw : RawTerm → Magnitude
+kind_of_raw (rawterms.Seg x y) = magnitudes.Segment
+kind_of_raw (rawterms.Ang x y z) = magnitudes.Angle
+kind_of_raw (rawterms.Area x y z) = magnitudes.Area
+kind_of_raw rawterms.Right = magnitudes.Angle
+
+-- the kind of the first term, from left to right
+abbrev pub first_kind : List RawMono → List RawMono → Magnitude
+first_kind (m ∷ xs) ys = kind_of_raw m.term
+first_kind [] (m ∷ ys) = kind_of_raw m.term
+first_kind [] [] = magnitudes.Segment
+
+-- a term of this kind, and then its points
+unfoldable pub mono_in : Names → Magnitude → RawMono → Result Mono Kind
+mono_in ns kind m =
+    if same_kind (kind_of_raw m.term) kind then (term_in ns m.term >>= λ t. Ok (record { coeff = m.coeff; term = t })) else Err WrongSort
+
+-- all terms have the kind of the first one
+unfoldable pub sums_in : Names → List RawMono → List RawMono → Result (List Mono × List Mono) Kind
+sums_in ns x y = do
+  a ← each (mono_in ns (first_kind x y)) x
+  b ← each (mono_in ns (first_kind x y)) y
+  Ok (a, b)
+
+-- ---- literals
+
 -- a point on an object of this sort
 abbrev pub on_sort : ℕ → Sort → ℕ → Result Atom Kind
 on_sort a sorts.Point n = Err WrongSort
@@ -107,9 +152,17 @@ atom_in ns (raw.Same x y z) =
     number_of ns sorts.Point x >>= λ a. number_of ns sorts.Point y >>= λ b. number_of ns sorts.Line z >>= λ l. Ok (atoms.Same a b l)
 atom_in ns (raw.Meets x y) = used ns x >>= λ o. meets_from ns o.sort o.num y
 atom_in ns (raw.Equal x y) = used ns x >>= λ o. number_of ns o.sort y >>= λ n. Ok (equal_at o.sort o.num n)
+atom_in ns (raw.SumsEqual x y) = sums_in ns x y >>= λ p. Ok (atoms.MagEq p.0 p.1)
+atom_in ns (raw.SumsLess x y) = sums_in ns x y >>= λ p. Ok (atoms.MagLt p.0 p.1)
+atom_in ns (raw.SumsAtMost x y) = sums_in ns x y >>= λ p. Ok (atoms.MagLt p.1 p.0)
+
+-- a sum at most another is the negation of the other being less
+abbrev pub negated_in : RawAtom → Bool → Bool
+negated_in (raw.SumsAtMost x y) neg = not neg
+negated_in a neg = neg
 
 unfoldable pub lit_in : Names → RawLit → Result Lit Kind
-lit_in ns l = atom_in ns l.atom >>= λ a. Ok (record { neg = l.neg; atom = a })
+lit_in ns l = atom_in ns l.atom >>= λ a. Ok (record { neg = negated_in l.atom l.neg; atom = a })
 
 abbrev pub lits_in : Names → List RawLit → Result (List Lit) Kind
 lits_in ns raws = each (lit_in ns) raws

@@ -9,6 +9,7 @@ use crate::fault::{Kind, Trouble, What};
 use crate::form::Form;
 use crate::known::Known;
 use crate::lets::RawLet;
+use crate::limits::{few_monos, terms_with};
 use crate::literal::RawLit;
 use crate::scope::{by_in, fresh, let_in, lit_in, put_lits, put_names, qed_in, scope_of_names};
 use crate::steps::Steps;
@@ -18,6 +19,7 @@ use e_literal::{Items, Lit, Obj, Scope, Sort, grown};
 use e_text::{Name, Title};
 use e_theorem::Statement;
 use std::alloc::{AllocError, Global};
+use std::slice;
 
 /// How many theorems a book may have.
 pub const MAX_THEOREMS: usize = 500;
@@ -64,6 +66,8 @@ pub struct Draft {
     pub steps: Steps,
     /// How many literals are facts, repeats counted.
     pub facts: usize,
+    /// How many monomials they have.
+    pub terms: usize,
     /// The objects behind `qed`.
     pub objects: Items<Obj>,
     pub place: Place,
@@ -178,7 +182,7 @@ fn repeated(alloc: Global, sort: Sort, count: usize) -> Result<Items<Sort>, Allo
 }
 
 impl Draft {
-    ghost use Rattle.e_book.specs.Steps.{FitsScope, begin, step, stepped, with_step, built, shut};
+    ghost use Rattle.e_book.specs.Steps.{FitsScope, begin, step, stepped, with_step, with_terms, built, shut};
     ghost use Rattle.e_book.specs.Entry.{entry_of, entry_of_draft};
 
     /// A theorem begun by its first line.
@@ -206,6 +210,7 @@ impl Draft {
             shown: Items::empty(alloc),
             steps: Steps::new(alloc),
             facts: 0,
+            terms: 0,
             objects: Items::empty(alloc),
             place: Place::Declaring,
         })
@@ -233,19 +238,17 @@ impl Draft {
         match form {
             Form::Theorem(_) => Err(Trouble::Fault(Kind::Malformed)),
             Form::Declare(sort, names) => self.declare(alloc, *sort, names.items()),
-            Form::Given(raw) => self.give(raw.items()),
+            Form::Given(raw) => self.give(alloc, raw.items()),
             Form::Made(sort, names) => self.make(alloc, *sort, names.items()),
             Form::Show(raw) => {
-                put_lits(&self.names, raw.items(), &mut self.shown)?;
+                put_lits(alloc, &self.names, raw.items(), &mut self.shown)?;
+                few_monos(raw.items())?;
                 self.place = Place::Showing;
                 Ok(())
             }
             Form::Proof => self.begin_proof(alloc),
             Form::By(rule, args, lit) => self.cite(alloc, *rule, args.items(), lit),
-            Form::Hence(lit) => {
-                let lit = lit_in(&self.in_scope, lit)?;
-                self.add_step(Step::Hence { lit, cert: None }, 1)
-            }
+            Form::Hence(raw) => self.infer(alloc, raw),
             Form::Let(raw) => self.build(alloc, raw),
             Form::Qed(names) => self.close(alloc, names.items()),
             Form::End => {
@@ -300,20 +303,32 @@ impl Draft {
         Ok(())
     }
 
-    /// Given literals: their names, and then the limit of facts.
+    /// Given literals: their names, and then the limits of facts and of monomials.
     #[tactic(auto, unfolding(crate::specs::Steps::stepped))]
-    fn give(&mut self, raw: &[RawLit]) -> Result<(), Trouble>
+    fn give(&mut self, alloc: Global, raw: &[RawLit]) -> Result<(), Trouble>
         requires { FitsScope self.old }
         ensures value { Moves result self.new (stepped self.old (Form.Given raw.now)) }
         ensures fits { OnOk result (FitsScope self.new) }
     {
-        put_lits(&self.names, raw, &mut self.given)?;
+        put_lits(alloc, &self.names, raw, &mut self.given)?;
         if raw.len() > MAX_FACTS - self.facts {
             return Err(Trouble::Fault(Kind::Limit(What::Facts)));
         }
         self.facts += raw.len();
         self.place = Place::Giving;
-        Ok(())
+        self.add_terms(raw)
+    }
+
+    /// A literal that is to be allowed: its names, and then the limits.
+    #[tactic(auto, unfolding(crate::specs::Steps::stepped))]
+    fn infer(&mut self, alloc: Global, raw: &RawLit) -> Result<(), Trouble>
+        requires { FitsScope self.old }
+        ensures value { Moves result self.new (stepped self.old (Form.Hence raw.now)) }
+        ensures fits { OnOk result (FitsScope self.new) }
+    {
+        let lit = lit_in(alloc, &self.in_scope, raw)?;
+        self.add_step(Step::Hence { lit, cert: None }, 1)?;
+        self.add_terms(slice::from_ref(raw))
     }
 
     /// A citation: its rule, names and literal, and then the limits.
@@ -382,6 +397,18 @@ impl Draft {
         Ok(())
     }
 
+    /// The monomials of literals that become facts: the limits of each literal, and then that of all.
+    #[tactic(auto, unfolding(crate::specs::Steps::with_terms))]
+    fn add_terms(&mut self, raw: &[RawLit]) -> Result<(), Trouble>
+        requires { FitsScope self.old }
+        ensures value { Moves result self.new (with_terms self.old raw.now) }
+        ensures fits { OnOk result (FitsScope self.new) }
+    {
+        few_monos(raw)?;
+        self.terms = terms_with(self.terms, raw)?;
+        Ok(())
+    }
+
     /// The theorem that the lines make.
     pub fn into_theorem(self, alloc: Global) -> Theorem
         ensures { entry_of result ≡ entry_of_draft self }
@@ -396,6 +423,7 @@ impl Draft {
             shown,
             steps,
             facts: _,
+            terms: _,
             objects,
             place: _,
         } = self;

@@ -5,7 +5,7 @@ ghost use Rattle.e_book.specs.Forms.{declare_of, sort_of, made_of, by_of, form_o
 
 use crate::fault::{Kind, Trouble};
 use crate::lets::{RawLet, let_of};
-use crate::literal::{RawLit, lit_of, lits_of};
+use crate::literal::{RawLit, diagram_lit_of, lit_of, lits_of};
 use crate::words::{Words, cut, names_of, some_names};
 use e_literal::{Items, Sort};
 use e_text::{Name, Title, is};
@@ -90,7 +90,7 @@ fn by_of(alloc: Global, words: &[&[u8]]) -> Result<Form, Trouble>
         return Err(Trouble::Fault(Kind::Malformed));
     }
     let names = names_of(alloc, names)?;
-    let lit = lit_of(lit)?;
+    let lit = diagram_lit_of(alloc, lit)?;
     Ok(Form::By(rule, names, lit))
 }
 
@@ -144,7 +144,7 @@ fn form_named(alloc: Global, word: &[u8], rest: &[&[u8]]) -> Result<Form, Troubl
         return by_of(alloc, rest);
     }
     if is(word, b"hence") {
-        return Ok(Form::Hence(lit_of(rest)?));
+        return Ok(Form::Hence(lit_of(alloc, rest)?));
     }
     if is(word, b"let") {
         return Ok(Form::Let(let_of(alloc, rest)?));

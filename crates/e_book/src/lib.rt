@@ -11,9 +11,12 @@ mod form;
 mod known;
 mod laws;
 mod lets;
+mod limits;
 mod literal;
 mod scope;
 mod steps;
+mod sum;
+mod terms;
 mod theorem;
 mod words;
 
@@ -26,10 +29,14 @@ pub use laws::{canonical_lines_are_read, read_theorems_have_a_spelling};
 pub use lets::RawLet;
 pub use literal::{RawAtom, RawLit};
 pub use steps::Steps;
+pub use sum::{RawMono, RawTerm};
 pub use theorem::Theorem;
 pub use words::{Words, collected};
 
 #[cfg(test)]
 mod let_tests;
+#[cfg(test)]
+mod sum_tests;
+
 #[cfg(test)]
 mod tests;

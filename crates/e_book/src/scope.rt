@@ -7,11 +7,12 @@ ghost use Rattle.e_literal.specs.Scopes.{same_sort};
 ghost use Rattle.std.specs.List.{list_any};
 ghost use Rattle.e_construct.specs.Lines;
 ghost use Rattle.e_book.specs.Reading.{Gives, Moves, each, with_front};
-ghost use Rattle.e_book.specs.Scope.{object_in, object_of, used, number_at, number_of, on_sort, line_meets, meets_from, equal_at, atom_in, lit_in, lits_in, object_as, objects_as, is_taken, fresh, args_in, by_in, known_rule, FewNames, scope_of_names, arguments_in, first_fitting, let_in, objects_of_sorts, qed_in};
+ghost use Rattle.e_book.specs.Scope.{object_in, object_of, used, number_at, number_of, on_sort, line_meets, meets_from, equal_at, atom_in, negated_in, lit_in, lits_in, object_as, objects_as, is_taken, fresh, args_in, by_in, known_rule, FewNames, scope_of_names, arguments_in, first_fitting, let_in, objects_of_sorts, qed_in};
 
 use crate::fault::{Kind, Trouble};
 use crate::lets::RawLet;
 use crate::literal::{RawAtom, RawLit};
+use crate::terms::{Sides, sums_in};
 use e_clause::{By, Rule, Sig};
 use e_construct::{Construction, Shape, takes};
 use e_deriv::Names;
@@ -79,7 +80,7 @@ fn used(names: &Names, name: Name) -> Result<Obj, Trouble>
 
 /// The number of the object of this sort.
 #[tactic(auto, unfolding(crate::specs::Scope::number_of))]
-fn number_of(names: &Names, sort: Sort, name: Name) -> Result<u16, Trouble>
+pub(crate) fn number_of(names: &Names, sort: Sort, name: Name) -> Result<u16, Trouble>
     requires { FewNames names.now }
     ensures { Gives (λ n. n) result (number_of names.now sort name) }
 {
@@ -151,7 +152,7 @@ fn equal_at(sort: Sort, first: u16, second: u16) -> Atom
 }
 
 #[tactic(auto, unfolding(crate::specs::Scope::atom_in))]
-fn atom_in(names: &Names, atom: &RawAtom) -> Result<Atom, Trouble>
+fn atom_in(alloc: Global, names: &Names, atom: &RawAtom) -> Result<Atom, Trouble>
     requires { FewNames names.now }
     ensures { Gives (λ a. a) result (atom_in names.now atom.now) }
 {
@@ -192,27 +193,55 @@ fn atom_in(names: &Names, atom: &RawAtom) -> Result<Atom, Trouble>
             let second = number_of(names, first.sort, *y)?;
             Ok(equal_at(first.sort, first.num, second))
         }
+        RawAtom::SumsEqual(x, y) => {
+            let Sides { left, right } = sums_in(alloc, names, x.items(), y.items())?;
+            Ok(Atom::MagEq(left, right))
+        }
+        RawAtom::SumsLess(x, y) => {
+            let Sides { left, right } = sums_in(alloc, names, x.items(), y.items())?;
+            Ok(Atom::MagLt(left, right))
+        }
+        RawAtom::SumsAtMost(x, y) => {
+            let Sides { left, right } = sums_in(alloc, names, x.items(), y.items())?;
+            Ok(Atom::MagLt(right, left))
+        }
+    }
+}
+
+/// Whether it is a negation: a sum at most another is the negation of the other being less.
+fn negated_in(atom: &RawAtom, neg: bool) -> bool
+    ensures { result ≡ negated_in atom.now neg }
+{
+    match atom {
+        RawAtom::SumsAtMost(_, _) => !neg,
+        _ => neg,
     }
 }
 
 /// The literal with the objects that its names stand for; the leftmost fault.
 #[tactic(auto, unfolding(crate::specs::Scope::lit_in))]
-pub(crate) fn lit_in(names: &Names, lit: &RawLit) -> Result<Lit, Trouble>
+pub(crate) fn lit_in(alloc: Global, names: &Names, lit: &RawLit) -> Result<Lit, Trouble>
     requires { FewNames names.now }
     ensures { Gives (λ l. l) result (lit_in names.now lit.now) }
 {
-    let atom = atom_in(names, &lit.atom)?;
-    Ok(Lit { neg: lit.neg, atom })
+    let atom = atom_in(alloc, names, &lit.atom)?;
+    let neg = negated_in(&lit.atom, lit.neg);
+    Ok(Lit { neg, atom })
 }
 
 /// Puts the literals with their objects last; the leftmost fault.
-pub(crate) fn put_lits(names: &Names, raw: &[RawLit], lits: &mut Items<Lit>) -> Result<(), Trouble>
+pub(crate) fn put_lits(
+    alloc: Global,
+    names: &Names,
+    raw: &[RawLit],
+    lits: &mut Items<Lit>,
+) -> Result<(), Trouble>
     requires { FewNames names.now }
     ensures value { Moves result lits.new (with_front lits.old (lits_in names.now raw.now)) }
     ensures count { OnOk result (length lits.new ≡ length lits.old + length raw.now) }
 {
     for lit in raw {
-        let lit = lit_in(names, lit)?;
+        let lit = lit_in(alloc, names, lit)?;
         lits.push(lit)?;
     }
     Ok(())
@@ -309,7 +338,7 @@ pub(crate) fn by_in(
         return Err(Trouble::Fault(Kind::Malformed));
     }
     let args = args_in(alloc, names, sig, args)?;
-    let lit = lit_in(names, lit)?;
+    let lit = lit_in(alloc, names, lit)?;
     Ok(By { rule, args, lit })
 }
 

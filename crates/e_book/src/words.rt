@@ -4,7 +4,7 @@ ghost use Rattle.std.specs.Iterator.{YieldsFirst};
 ghost use Rattle.e_text.specs.Tokens.{tokens_of};
 ghost use Rattle.std.specs.List.{position_or_len};
 ghost use Rattle.std.specs.Str.{bytes_eq};
-ghost use Rattle.e_book.specs.Reading.{cut_at, texts, Gives, Reads, word_at, name_at, title_at, end_at, names_of, some_names};
+ghost use Rattle.e_book.specs.Reading.{cut_at, texts, Gives, Reads, word_at, name_at, title_at, end_at, names_of, some_names, two_names, three_names};
 
 use crate::fault::{Kind, Trouble};
 use e_literal::Items;
@@ -140,4 +140,29 @@ impl<'b, 'a> Words<'b, 'a> {
             Err(Trouble::Fault(Kind::Malformed))
         }
     }
+}
+
+/// All the words are two names.
+#[tactic(auto, unfolding(crate::specs::Reading::two_names))]
+pub(crate) fn two_names(words: &[&[u8]]) -> Result<(Name, Name), Trouble>
+    ensures { Gives (λ p. (p.0, p.1)) result (two_names (texts words.now)) }
+{
+    let mut words = Words::new(words);
+    let first = words.name()?;
+    let second = words.name()?;
+    words.end()?;
+    Ok((first, second))
+}
+
+/// All the words are three names.
+#[tactic(auto, unfolding(crate::specs::Reading::three_names))]
+pub(crate) fn three_names(words: &[&[u8]]) -> Result<(Name, Name, Name), Trouble>
+    ensures { Gives (λ p. (p.0, p.1, p.2)) result (three_names (texts words.now)) }
+{
+    let mut words = Words::new(words);
+    let first = words.name()?;
+    let second = words.name()?;
+    let third = words.name()?;
+    words.end()?;
+    Ok((first, second, third))
 }

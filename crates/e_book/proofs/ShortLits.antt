@@ -1,0 +1,88 @@
+-- A literal that is well formed is within the limits, as it is spelled.
+use Rattle.std.proofs.Common.{◌≡◌, ℕ, ◌+◌, ◌≤◌, Bool, true, false, leb, ltb, ◌&&◌, List, [], ◌∷◌, ◌++◌, length, map, Ok, refl, sym, ap, ◌∙◌, arith, length-append}
+use Rattle.std.specs.Prelude.{sum_by}
+use Rattle.std.specs.List.{list_all}
+use Rattle.std.proofs.lemmas.Bool.{leb-true, le-leb}
+use Rattle.std.proofs.lemmas.List.{length-map}
+use Rattle.std.proofs.lemmas.List.Folds.{list_all-append}
+use Rattle.std.proofs.lemmas.List.Sums.{sum_by-append}
+use Rattle.e_literal.specs.declared.object.Kind.{Kind as Magnitude}
+use Rattle.e_literal.specs.declared.object.Mono.{Mono}
+use Rattle.e_literal.specs.declared.literal.Atom.{Atom}
+use Rattle.e_literal.specs.declared.literal.Atom.TheVariants as atoms
+use Rattle.e_literal.specs.declared.literal.Lit.{Lit}
+use Rattle.e_literal.specs.Literal.{kind_of_term, kind_of_sums}
+use Rattle.e_literal.specs.WellFormed.{same_kind, is_good_coefficient, is_good_atom, is_well_formed}
+use Rattle.e_deriv.specs.declared.names.Names.{Names}
+use Rattle.e_book.specs.declared.sum.RawMono.{RawMono}
+use Rattle.e_book.specs.declared.literal.RawLit.{RawLit}
+use Rattle.e_book.specs.declared.literal.RawAtom.{RawAtom}
+use Rattle.e_book.specs.Limits.{most_monomials, most_coefficient}
+use Rattle.e_book.specs.Reading.{◌>>=◌}
+use Rattle.e_book.specs.Literals.{monos_of}
+use Rattle.e_book.specs.Steps.{count_monos, few_monos}
+use Rattle.e_book.specs.Fits.{monomials, count_monomials}
+use Rattle.e_book.specs.Canonical.{raw_mono, raw_sum, raw_atom, raw_signed, raw_of}
+use Rattle.e_book.proofs.Differ.{both}
+use Rattle.e_book.proofs.GoodSums.{is_good_mono, AreGood, GoodSums, good_sums, turned}
+
+abbrev is_small : List RawMono → Bool
+is_small ms = list_all (λ m. leb m.coeff most_coefficient) ms
+
+small_sum : (ns : Names) (k : Magnitude) (ms : List Mono) → AreGood k ms → is_small (raw_sum ns ms) ≡ true
+small_sum ns k [] g = refl
+small_sum ns k (m ∷ ms) g =
+    let p = both (is_good_mono k m) (list_all (is_good_mono k) ms) g in
+    let q = both (same_kind (kind_of_term m.term) k) (is_good_coefficient m.coeff) p.0 in
+    let c = both (leb 1 m.coeff) (leb m.coeff most_coefficient) q.1 in
+    rw (c.1, small_sum ns k ms p.1) refl
+
+-- a literal's monomials as they are spelled
+record Short (ms : List RawMono) : Type 0 where
+  short : leb (length ms) most_monomials ≡ true
+  small : is_small ms ≡ true
+
+short_sums : (ns : Names) (k : Magnitude) (x y : List Mono) → GoodSums k x y → Short (raw_sum ns x ++ raw_sum ns y)
+short_sums ns k x y g = record {
+  short = le-leb _ _ (omega (arith, g.short, length-append (raw_sum ns x) (raw_sum ns y), length-map x (raw_mono ns), length-map y (raw_mono ns)));
+  small = list_all-append (λ m. leb m.coeff most_coefficient) (raw_sum ns x) (raw_sum ns y) ∙ rw (small_sum ns k x g.left, small_sum ns k y g.right) refl;
+}
+
+short_none : Short []
+short_none = record { short = refl; small = refl }
+
+short_lit : (ns : Names) (neg : Bool) (a : Atom) → is_good_atom a ≡ true → Short (monos_of (raw_signed ns neg a).atom)
+short_lit ns true (atoms.MagEq x y) h = short_sums ns (kind_of_sums x y) x y (good_sums x y h)
+short_lit ns false (atoms.MagEq x y) h = short_sums ns (kind_of_sums x y) x y (good_sums x y h)
+short_lit ns true (atoms.MagLt x y) h = short_sums ns (kind_of_sums x y) y x (turned (kind_of_sums x y) x y (good_sums x y h))
+short_lit ns false (atoms.MagLt x y) h = short_sums ns (kind_of_sums x y) x y (good_sums x y h)
+short_lit ns true a h = short_none
+short_lit ns false a h = short_none
+
+pub few_again : (ns : Names) (l : Lit) → is_well_formed l ≡ true → few_monos (raw_of ns l ∷ []) ≡ Ok tt
+unfolding few_monos
+few_again ns l h = let s = short_lit ns l.neg l.atom h in rw (s.short, s.small) refl
+
+same_count : (ns : Names) (x y : List Mono) → length (raw_sum ns x ++ raw_sum ns y) ≡ length (x ++ y)
+same_count ns x y = omega (arith, length-append (raw_sum ns x) (raw_sum ns y), length-append x y, length-map x (raw_mono ns), length-map y (raw_mono ns))
+
+turned_count : (ns : Names) (x y : List Mono) → length (raw_sum ns y ++ raw_sum ns x) ≡ length (x ++ y)
+turned_count ns x y = omega (arith, length-append (raw_sum ns y) (raw_sum ns x), length-append x y, length-map x (raw_mono ns), length-map y (raw_mono ns))
+
+signed_count : (ns : Names) (neg : Bool) (a : Atom) → length (monos_of (raw_signed ns neg a).atom) ≡ monomials a
+signed_count ns true (atoms.MagEq x y) = same_count ns x y
+signed_count ns false (atoms.MagEq x y) = same_count ns x y
+signed_count ns true (atoms.MagLt x y) = turned_count ns x y
+signed_count ns false (atoms.MagLt x y) = same_count ns x y
+signed_count ns true a = refl
+signed_count ns false a = refl
+
+-- one literal has as many monomials as its spelling
+pub count_again : (ns : Names) (l : Lit) → count_monos (raw_of ns l ∷ []) ≡ monomials l.atom
+count_again ns l = let n = signed_count ns l.neg l.atom in omega (arith, n)
+
+pub count_more : (ls : List Lit) (l : Lit) → count_monomials (ls ++ l ∷ []) ≡ count_monomials ls + monomials l.atom
+count_more ls l = sum_by-append (λ (m : Lit). monomials m.atom) ls (l ∷ []) ∙ omega arith
+
+pub count_first : (l : Lit) (ls : List Lit) → count_monomials (l ∷ ls) ≡ monomials l.atom + count_monomials ls
+count_first l ls = sum_by-append (λ (m : Lit). monomials m.atom) (l ∷ []) ls ∙ omega arith

@@ -1,0 +1,10 @@
+use Rattle.std.proofs.Common.{◌≡◌, ◌+◌, ◌≤◌, drop}
+use Rattle.e_book.specs.Limits.{most_terms}
+use Rattle.e_book.specs.Steps.{count_monos}
+use Rattle.e_book.proofs.limits.terms_with.Given as goal
+
+abbrev pub invariant-loop-lit : goal.invariant-loop-lit
+invariant-loop-lit l = record {
+  count : l.terms + count_monos (drop l.lit-index l.lits) ≡ l.before + count_monos l.lits;
+  within : l.terms ≤ most_terms;
+}
