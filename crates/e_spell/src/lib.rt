@@ -9,6 +9,7 @@ mod laws;
 mod literals;
 mod proof;
 mod scope;
+mod sums;
 mod words;
 mod writer;
 

@@ -1,10 +1,11 @@
 //! Literals and objects by their names.
-ghost use Rattle.std.specs.Prelude.{◌≡◌, ◌++◌, ◌∷◌, [], codes, map, OnOk};
+ghost use Rattle.std.specs.Prelude.{◌≡◌, ◌++◌, ◌∷◌, [], codes, map, true, OnOk};
 ghost use Rattle.e_deriv.specs.Naming.{names_of_sort};
 ghost use Rattle.e_text.specs.Tokens.{spaced};
-ghost use Rattle.e_book.specs.Canonical.{atom_words, not_words, lit_words, raw_atom, raw_of, name_at, name_of_object};
+ghost use Rattle.e_book.specs.Canonical.{atom_words, lit_words, raw_atom, raw_signed, raw_of, name_at, name_of_object};
 ghost use Rattle.e_spell.specs.Parts.{lit_text, lits_text};
 
+use crate::sums::put_sums;
 use crate::words::{end_line, put, put_three, put_two};
 use e_deriv::Names;
 use e_literal::{Atom, Lit, Obj, Sort};
@@ -35,7 +36,7 @@ pub(crate) fn name_of_object(names: &Names, object: Obj) -> &[u8]
     name_of(names, object.sort, object.num as usize)
 }
 
-fn point(names: &Names, i: u16) -> &[u8]
+pub(crate) fn point(names: &Names, i: u16) -> &[u8]
     ensures { result.now ≡ name_at names.now.points i }
 {
     name_at(names.points.items(), i as usize)
@@ -68,14 +69,19 @@ pub(crate) fn put_objects(
 }
 
 /// A word and two names.
-fn put_relation(out: &mut Vec<u8>, word: &[u8], x: &[u8], y: &[u8]) -> Result<(), AllocError>
+pub(crate) fn put_relation(
+    out: &mut Vec<u8>,
+    word: &[u8],
+    x: &[u8],
+    y: &[u8],
+) -> Result<(), AllocError>
     ensures { OnOk result (out.new.items ≡ out.old.items ++ spaced (word.now ∷ x.now ∷ y.now ∷ [])) }
 {
     put_three(out, word, x, y)
 }
 
 /// A word and three names.
-fn put_relation_of_three(
+pub(crate) fn put_relation_of_three(
     out: &mut Vec<u8>,
     word: &[u8],
     x: &[u8],
@@ -116,19 +122,22 @@ fn put_atom(out: &mut Vec<u8>, names: &Names, atom: &Atom) -> Result<(), AllocEr
         Atom::EqP(a, b) => put_relation(out, point(names, *a), b"=", point(names, *b)),
         Atom::EqL(l, m) => put_relation(out, line(names, *l), b"=", line(names, *m)),
         Atom::EqC(c, d) => put_relation(out, circle(names, *c), b"=", circle(names, *d)),
-        Atom::MagEq(_, _) | Atom::MagLt(_, _) => put_relation(out, b"", b"=", b""),
+        Atom::MagEq(x, y) => put_sums(out, names, x.items(), b"=", y.items()),
+        Atom::MagLt(x, y) => put_sums(out, names, x.items(), b"<", y.items()),
     }
 }
 
-/// The negation of an atom: an equality by its sign, any other atom by a word before it.
+/// The negation of an atom: a comparison by its sign, any other atom by a word before it. For sums, what is not less is
+/// turned: the sides change places.
 fn put_not(out: &mut Vec<u8>, names: &Names, atom: &Atom) -> Result<(), AllocError>
-    ensures { OnOk result (out.new.items ≡ out.old.items ++ spaced (not_words (raw_atom names.now atom.now))) }
+    ensures { OnOk result (out.new.items ≡ out.old.items ++ spaced (lit_words (raw_signed names.now true atom.now))) }
 {
     match atom {
         Atom::EqP(a, b) => put_relation(out, point(names, *a), b"!=", point(names, *b)),
         Atom::EqL(l, m) => put_relation(out, line(names, *l), b"!=", line(names, *m)),
         Atom::EqC(c, d) => put_relation(out, circle(names, *c), b"!=", circle(names, *d)),
-        Atom::MagEq(_, _) | Atom::MagLt(_, _) => put_relation(out, b"", b"!=", b""),
+        Atom::MagEq(x, y) => put_sums(out, names, x.items(), b"!=", y.items()),
+        Atom::MagLt(x, y) => put_sums(out, names, y.items(), b"<=", x.items()),
         _ => {
             put(out, b"not")?;
             put_atom(out, names, atom)

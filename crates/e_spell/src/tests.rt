@@ -5,7 +5,7 @@ use e_book::Theorem;
 use e_clause::{By, Cert, Part, Rule};
 use e_construct::{Construction, Shape};
 use e_deriv::{Block, Close, Names, Step, Stop, Wanted};
-use e_literal::{Atom, Items, Lit, Obj, Sort};
+use e_literal::{Atom, Form, Items, Lit, Mono, Obj, Sort, Term};
 use e_text::{Name, Title};
 use e_theorem::Statement;
 use std::alloc::Global;
@@ -41,6 +41,30 @@ fn names(alloc: Global) -> Result<Names, Fail> {
     })
 }
 
+fn mono(coeff: u32, term: Term) -> Mono {
+    Mono { coeff, term }
+}
+
+// a coefficient 1 is not written, a sum of none is 0, and what is not less is written with the sides in the other order
+fn comparisons(alloc: Global) -> Result<Vec<Lit>, Fail> {
+    let angles = vec![in alloc;
+        mono(1, Term::Ang(0, 1, 2)),
+        mono(20, Term::Ang(2, 1, 0)),
+        mono(1, Term::Right),
+    ]?;
+    let many = vec![in alloc; mono(1_000_000, Term::Right)]?;
+    let areas = vec![in alloc; mono(2, Term::Area(0, 1, 2))]?;
+    let lengths = vec![in alloc; mono(1, Term::Seg(0, 1)), mono(3, Term::Seg(1, 1))]?;
+    let one = vec![in alloc; mono(1, Term::Seg(2, 0))]?;
+    let other = vec![in alloc; mono(1, Term::Seg(0, 2))]?;
+    Ok(vec![in alloc;
+        lit(false, Atom::MagLt(Form::new(angles), Form::new(many))),
+        lit(false, Atom::MagEq(Form::new(vec![in alloc;]?), Form::new(areas))),
+        lit(true, Atom::MagLt(Form::new(lengths), Form::new(vec![in alloc;]?))),
+        lit(true, Atom::MagEq(Form::new(one), Form::new(other))),
+    ]?)
+}
+
 // declared: two points on one line of the text, then another sort, then points again; made: two points and a line
 fn statement(alloc: Global) -> Result<Statement, Fail> {
     let declared = vec![in alloc;
@@ -52,7 +76,7 @@ fn statement(alloc: Global) -> Result<Statement, Fail> {
         Sort::Point,
         Sort::Circle,
     ]?;
-    let given = vec![in alloc;
+    let mut given = vec![in alloc;
         lit(false, Atom::On(0, 1)),
         lit(true, Atom::OnC(1, 0)),
         lit(false, Atom::Inside(2, 1)),
@@ -65,6 +89,9 @@ fn statement(alloc: Global) -> Result<Statement, Fail> {
         lit(false, Atom::EqP(0, 1)),
         lit(true, Atom::EqL(0, 1)),
     ]?;
+    for comparison in comparisons(alloc)? {
+        given.push(comparison)?;
+    }
     let made = vec![in alloc; Sort::Point, Sort::Point, Sort::Line]?;
     let shown = vec![in alloc;
         lit(true, Atom::EqP(0, 1)),
@@ -167,6 +194,8 @@ fn derivation(alloc: Global) -> Result<Block, Fail> {
 const SPELLED: &[u8] = b"theorem I.4-x\npoints a b'\nlines L M\ncircles C1\npoints c\ncircles C2\n\
 given on a M\ngiven not on b' C1\ngiven inside c C2\ngiven not center a C1\ngiven between a b' c\n\
 given not same-side a b' L\ngiven meets L M\ngiven not meets L C2\ngiven meets C1 C2\ngiven a = b'\ngiven L != M\n\
+given ang a b' c + 20 ang c b' a + right < 1000000 right\ngiven 0 = 2 area a b' c\n\
+given 0 <= seg a b' + 3 seg b' b'\ngiven seg c a != seg a c\n\
 made points d e\nmade lines N\nshow a != b'\nshow C2 = C2\nshow on e N\nproof\nby b1b a b' c : a != b'\n\
 let d on L between a b'\n| fact\n| fact\n| fact\nlet q on L avoid M d\n| fact\nlet r s meet L C1\n| fact\n\
 hence r != s\n| fact\nqed d q L\n| fact\n| fact\n| fact\nend\n";

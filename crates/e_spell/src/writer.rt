@@ -1,5 +1,5 @@
 //! Derivations and stops as texts.
-ghost use Rattle.std.specs.Prelude.{◌≡◌, ◌++◌, ◌∷◌, decimal, IfOk, OnOk};
+ghost use Rattle.std.specs.Prelude.{◌≡◌, ◌++◌, IfOk, OnOk};
 ghost use Rattle.e_deriv.specs.Script.{script_of};
 ghost use Rattle.e_book.specs.Entry.{entry_of};
 ghost use Rattle.e_spell.specs.Parts.{block_text, unlicensed_line, wanted_line};
@@ -9,11 +9,10 @@ use crate::head::put_head;
 use crate::literals::put_literal;
 use crate::proof::put_proof;
 use crate::scope::first_names;
-use crate::words::{end_line, put};
+use crate::words::{end_line, put, put_number};
 use e_book::Theorem;
 use e_deriv::{Block, Names, Stop, Wanted};
 use e_text::Title;
-use itoa::Buffer;
 use std::alloc::{AllocError, Global};
 
 fn put_block(
@@ -41,14 +40,6 @@ pub fn spell(alloc: Global, theorem: &Theorem, deriv: &Block) -> Result<Vec<u8>,
     let mut out = Vec::new(alloc);
     put_block(alloc, &mut out, theorem, deriv)?;
     Ok(out)
-}
-
-/// A number behind a space.
-fn put_number(out: &mut Vec<u8>, number: u32) -> Result<(), AllocError>
-    ensures { OnOk result (out.new.items ≡ out.old.items ++ 32 ∷ decimal number) }
-{
-    let mut digits = Buffer::new();
-    put(out, digits.format(number).as_bytes())
 }
 
 fn put_place(out: &mut Vec<u8>, title: Title, step: u32) -> Result<(), AllocError>
