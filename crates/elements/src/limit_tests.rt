@@ -236,6 +236,77 @@ const FACTS: [Repeated; 4] = [
     },
 ];
 
+/// Monomials of a literal: 32. Coefficients: 1,000,000. Monomials of the facts: 1,024.
+const MAGNITUDES: [Repeated; 8] = [
+    Repeated {
+        head: b"theorem T/points a b/given seg a b",
+        piece: b" + seg b a",
+        count: 31,
+        tail: b" = 0/show a = a/proof/hence 32 seg a b = 0/",
+        last: b"fault 7 unended/",
+        exit: 2,
+    },
+    Repeated {
+        head: b"theorem T/points a b/given seg a b",
+        piece: b" + seg b a",
+        count: 32,
+        tail: b" = 0/",
+        last: b"fault 3 limit monomials/",
+        exit: 2,
+    },
+    // after a name that is not known
+    Repeated {
+        head: b"theorem T/points a b/given 0 = seg a b",
+        piece: b" + seg b a",
+        count: 32,
+        tail: b" ; on q q/",
+        last: b"fault 3 unknown-name/",
+        exit: 2,
+    },
+    // a coefficient: 1,000,000
+    Repeated {
+        head: b"theorem T/points a b/given ",
+        piece: b"9",
+        count: 200,
+        tail: b" seg a b = 0/",
+        last: b"fault 3 limit coefficient/",
+        exit: 2,
+    },
+    Repeated {
+        head: b"theorem T/points a b/given 1",
+        piece: b"0",
+        count: 6,
+        tail: b" seg a b = 0/",
+        last: b"fault 4 unended/",
+        exit: 2,
+    },
+    Repeated {
+        head: b"theorem T/points a b/given on a q ; 1",
+        piece: b"0",
+        count: 7,
+        tail: b" seg a b = 0/",
+        last: b"fault 3 unknown-name/",
+        exit: 2,
+    },
+    // monomials of the facts: 1,024
+    Repeated {
+        head: b"theorem T/points a/",
+        piece: b"given right + right + right + right + right + right + right + right = 0/",
+        count: 128,
+        tail: b"show right + right + right + right + right + right + right + right = 0/proof/qed/end/",
+        last: b"accepted 1/",
+        exit: 0,
+    },
+    Repeated {
+        head: b"theorem T/points a/",
+        piece: b"given right + right + right + right + right + right + right + right = 0/",
+        count: 129,
+        tail: b"",
+        last: b"fault 131 limit terms/",
+        exit: 2,
+    },
+];
+
 /// Texts with other ends of lines, and the last line of the answer. A slash ends a line with a line feed.
 const ENDS: [(&[u8], &[u8]); 6] = [
     (
@@ -342,6 +413,12 @@ fn a_theorem_has_its_steps(rt: HostRuntime) -> Result<(), Fail> {
 #[test]
 fn a_theorem_has_its_facts(rt: HostRuntime) -> Result<(), Fail> {
     assert!(rt; all_end_so(rt.alloc(), &FACTS)?);
+    Ok(())
+}
+
+#[test]
+fn magnitudes_have_their_limits(rt: HostRuntime) -> Result<(), Fail> {
+    assert!(rt; all_end_so(rt.alloc(), &MAGNITUDES)?);
     Ok(())
 }
 

@@ -48,7 +48,7 @@ fn lines(alloc: Global, text: &[u8]) -> Result<Vec<u8>, AllocError> {
 }
 
 /// Books, what is written of them, and the exit status. A slash ends a line.
-const BOOKS: [(&[u8], &[u8], u8); 26] = [
+const BOOKS: [(&[u8], &[u8], u8); 31] = [
     // one step, licensed, and without one premise
     (
         b"theorem T/points a b c d/given between a b c ; between b c d/show between a b d/proof/by b5 a b c d : between a b d/qed/end/",
@@ -177,6 +177,32 @@ const BOOKS: [(&[u8], &[u8], u8); 26] = [
     (
         b"theorem T/points a/lines L/given a = a/made points b/show a = a/proof/qed L/end/",
         b"derivation 1/fault 8 wrong-sort/",
+        2,
+    ),
+    // metric literals are compared by their normal forms, and kept as they are written
+    (
+        b"theorem T/points a b c d/given 1 seg a b = seg c d/show seg c d = seg b a/proof/hence seg d c = seg b a/hence 0 = 2 seg a b + seg c d + not a/",
+        b"derivation 1/fault 7 malformed/",
+        2,
+    ),
+    (
+        b"theorem T/points a b c d/given 1 seg a b = seg c d ; not seg a b < 2 seg a c + 0/",
+        b"derivation 1/fault 3 malformed/",
+        2,
+    ),
+    (
+        b"theorem T/points a b c d/given 1 seg a b = seg c d ; not seg a b < 2 seg a c/show seg c d = seg b a/proof/hence seg d c = seg b a/hence seg a c + seg c a <= seg b a/qed/end/",
+        b"derivation 1/theorem T/points a b c d/given seg a b = seg c d/given 2 seg a c <= seg a b/show seg c d = seg b a/proof/hence seg d c = seg b a/| fact/hence seg a c + seg c a <= seg b a/| fact/qed/| fact/end/accepted 1/",
+        0,
+    ),
+    (
+        b"theorem T/points a b/given seg a b + ang a b a = 0/",
+        b"derivation 1/fault 3 wrong-sort/",
+        2,
+    ),
+    (
+        b"theorem T/points a b/given 0 seg a b = 0/",
+        b"derivation 1/fault 3 malformed/",
         2,
     ),
 ];
