@@ -97,7 +97,7 @@ declared_lines t = record {
 
 stating_more : (t : List ℕ) (ns : Names) (sorts : List Sort) (given : List Lit) (l : Lit)
     → stating t ns sorts (given ++ l ∷ []) [] [] (length given + 1) (count_monomials given + count_monos (raw_of ns l ∷ [])) Giving
-        ≡ stating t ns sorts (given ++ l ∷ []) [] [] (length (given ++ l ∷ [])) (count_monomials (given ++ l ∷ [])) Giving
+    ≡ stating t ns sorts (given ++ l ∷ []) [] [] (length (given ++ l ∷ [])) (count_monomials (given ++ l ∷ [])) Giving
 stating_more t ns sorts given l =
     ap₂ (λ (m n : ℕ). stating t ns sorts (given ++ l ∷ []) [] [] m n Giving) (sym (length-append given (l ∷ [])))
     (ap (λ (n : ℕ). count_monomials given + n) (count_again ns l) ∙ sym (count_more given l))

@@ -37,6 +37,5 @@ pub use words::{Words, collected};
 mod let_tests;
 #[cfg(test)]
 mod sum_tests;
-
 #[cfg(test)]
 mod tests;

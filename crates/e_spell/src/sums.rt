@@ -73,12 +73,7 @@ fn put_sum(out: &mut Vec<u8>, names: &Names, sum: &[Mono]) -> Result<(), AllocEr
 }
 
 /// A sum behind a sign.
-fn put_side(
-    out: &mut Vec<u8>,
-    names: &Names,
-    sign: &[u8],
-    sum: &[Mono],
-) -> Result<(), AllocError>
+fn put_side(out: &mut Vec<u8>, names: &Names, sign: &[u8], sum: &[Mono]) -> Result<(), AllocError>
     ensures { OnOk result (out.new.items ≡ out.old.items ++ spaced (sign.now ∷ sum_words (raw_sum names.now sum.now))) }
 {
     put(out, sign)?;

@@ -59,8 +59,14 @@ fn comparisons(alloc: Global) -> Result<Vec<Lit>, Fail> {
     let other = vec![in alloc; mono(1, Term::Seg(0, 2))]?;
     Ok(vec![in alloc;
         lit(false, Atom::MagLt(Form::new(angles), Form::new(many))),
-        lit(false, Atom::MagEq(Form::new(vec![in alloc;]?), Form::new(areas))),
-        lit(true, Atom::MagLt(Form::new(lengths), Form::new(vec![in alloc;]?))),
+        lit(
+            false,
+            Atom::MagEq(Form::new(vec![in alloc;]?), Form::new(areas))
+        ),
+        lit(
+            true,
+            Atom::MagLt(Form::new(lengths), Form::new(vec![in alloc;]?))
+        ),
         lit(true, Atom::MagEq(Form::new(one), Form::new(other))),
     ]?)
 }
