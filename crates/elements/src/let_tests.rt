@@ -194,17 +194,20 @@ fn answered(alloc: Global, book: &[u8], last: &[u8]) -> Result<(u8, bool), Alloc
     Ok((exit_code(&status), sink.bytes().ends_with(last)))
 }
 
-/// Whether the shape is refused without each of its needs, which may stand there twice.
+/// Whether the shape is refused without each of its needs, or stays accepted where the need stands there twice.
 fn needs_each(alloc: Global, shape: Shape) -> Result<bool, AllocError> {
     let (_, needs, _) = shape;
     for (i, need) in needs.iter().enumerate() {
         let book = drawing(alloc, shape, i, b"d = d")?;
-        let mut wanted = Vec::new(alloc);
-        put_line(&mut wanted, b"unlicensed T 1\n| wanted ", need)?;
         let twice = needs.iter().filter(|other| *other == need).count() > 1;
-        let right = if twice { (0, true) } else { (1, true) };
-        let last: &[u8] = if twice { b"accepted 1\n" } else { &wanted };
-        if answered(alloc, &book, last)? != right {
+        let mut wanted = Vec::new(alloc);
+        if twice {
+            put_line(&mut wanted, b"accepted ", b"1")?;
+        } else {
+            put_line(&mut wanted, b"unlicensed T 1\n| wanted ", need)?;
+        }
+        let exit = if twice { 0 } else { 1 };
+        if answered(alloc, &book, &wanted)? != (exit, true) {
             return Ok(false);
         }
     }
