@@ -19,7 +19,7 @@ use Rattle.e_construct.specs.Construct.{fits, made, gives}
 use Rattle.e_deriv.specs.declared.names.Names.{Names}
 use Rattle.e_deriv.specs.declared.block.Step.{Step}
 use Rattle.e_deriv.specs.declared.block.Step.TheVariants as steps
-use Rattle.e_deriv.specs.Script.{Qed, steps_script, size}
+use Rattle.e_deriv.specs.Script.{steps_script, size}
 use Rattle.e_deriv.specs.Goal.{Goal, are_for}
 use Rattle.e_deriv.specs.Lines.{lines}
 use Rattle.e_deriv.specs.Steps.{is_citation, fits as line_fits}
@@ -27,9 +27,12 @@ use Rattle.e_deriv.specs.Naming.{names_of_sort, with_names, named, declared_name
 use Rattle.e_deriv.specs.Fitting.{all_objects}
 use Rattle.e_book.specs.declared.fault.Kind.{Kind}
 use Rattle.e_book.specs.declared.lets.RawLet.{RawLet}
+use Rattle.e_book.specs.declared.steps.CloseLine.{CloseLine}
+use Rattle.e_book.specs.declared.steps.CloseLine.TheVariants as closes
 use Rattle.e_book.specs.Reading.{◌>>=◌, each}
 use Rattle.e_book.specs.Scope.{scope_of_names, used, object_as, fresh, right_count, construction, arguments_in, first_fitting, let_in, objects_of_sorts, qed_in}
 use Rattle.e_book.specs.Steps.{few_objects}
+use Rattle.e_book.specs.Entry.{script_of_close}
 use Rattle.e_book.specs.Fits.{NewNamesFit, count_given}
 use Rattle.e_book.proofs.InScope.{bind_ok, ok_is, read_ok}
 use Rattle.e_book.proofs.Citations.{object_scope, object_sort, counted}
@@ -105,8 +108,22 @@ sorts_again s [] = refl
 sorts_again s (x ∷ sorts) = ap (λ (l : List Sort). x ∷ l) (sorts_again (with_one s x) sorts)
 
 -- the objects are for the made objects of a goal
-pub objects_are_for : (s t : Scope) (sorts : List Sort) (shown : List Lit) (os : List Obj) → are_of_sorts t sorts os ≡ true → are_for (record { made = next_objects s sorts; shown = shown }) t os ≡ true
+objects_are_for : (s t : Scope) (sorts : List Sort) (shown : List Lit) (os : List Obj) → are_of_sorts t sorts os ≡ true → are_for (record { made = next_objects s sorts; shown = shown }) t os ≡ true
 objects_are_for s t sorts shown os e = ap (λ (l : List Sort). are_of_sorts t l os) (sorts_again s sorts) ∙ e
+
+-- the objects behind qed are of these sorts and in scope
+abbrev pub ClosesFor : Scope → List Sort → CloseLine → Type 0
+ClosesFor s sorts (closes.Qed os) = are_of_sorts s sorts os ≡ true
+ClosesFor s sorts closes.Contradiction = Unit {0}
+
+-- the objects behind qed are for a goal
+abbrev pub CloseFits : Goal → Scope → CloseLine → Type 0
+CloseFits goal s (closes.Qed os) = are_for goal s os ≡ true
+CloseFits goal s closes.Contradiction = Unit {0}
+
+pub close_fits : (s t : Scope) (sorts : List Sort) (shown : List Lit) (close : CloseLine) → ClosesFor t sorts close → CloseFits (record { made = next_objects s sorts; shown = shown }) t close
+close_fits s t sorts shown (closes.Qed os) h = objects_are_for s t sorts shown os h
+close_fits s t sorts shown closes.Contradiction h = tt
 
 -- ---- names and scopes
 
@@ -203,36 +220,40 @@ given_more ns (x ∷ ss) s = let h = given_more (after_step ns x) ss s in omega 
 both : (a b : Bool) → a ≡ true → b ≡ true → (a && b) ≡ true
 both a b h k = rw (h, k) refl
 
-pub lines_fit : (ns : Names) (ss : List Step) (facts : List Lit) (goal : Goal) (os : List Obj) → StepsFit ns ss → are_for goal (scope_of_names (after_steps ns ss)) os ≡ true
-    → list_all line_fits (lines (steps_script ss (Qed os [])) (scope_of_names ns) facts goal) ≡ true
+pub lines_fit : (ns : Names) (ss : List Step) (facts : List Lit) (goal : Goal) (close : CloseLine) → StepsFit ns ss → CloseFits goal (scope_of_names (after_steps ns ss)) close
+    → list_all line_fits (lines (steps_script ss (script_of_close close)) (scope_of_names ns) facts goal) ≡ true
 unfolding lines
-lines_fit ns [] facts goal os h q = both _ _ q refl
-lines_fit ns (steps.Cite by ∷ ss) facts goal os h q = both _ _ h.0 (lines_fit ns ss (joined facts by.lit) goal os h.1 q)
-lines_fit ns (steps.Hence lit cert ∷ ss) facts goal os h q = both _ _ h.0 (lines_fit ns ss (joined facts lit) goal os h.1 q)
-lines_fit ns (steps.Make form names certs ∷ ss) facts goal os h q =
+lines_fit ns [] facts goal (closes.Qed os) h q = both _ _ q refl
+lines_fit ns [] facts goal closes.Contradiction h q = refl
+lines_fit ns (steps.Cite by ∷ ss) facts goal close h q = both _ _ h.0 (lines_fit ns ss (joined facts by.lit) goal close h.1 q)
+lines_fit ns (steps.Hence lit cert ∷ ss) facts goal close h q = both _ _ h.0 (lines_fit ns ss (joined facts lit) goal close h.1 q)
+lines_fit ns (steps.Make form names certs ∷ ss) facts goal close h q =
     let more = joined_all facts (gives form (scope_of_names ns)) in
-    let rest = lines_fit (named ns (made form) names) ss more goal os h.1 q in
-    both _ _ h.0.0.fits (subst (λ (z : Scope). list_all line_fits (lines (steps_script ss (Qed os [])) z more goal) ≡ true) (sym (named_scope ns (made form) names h.0.0.count)) rest)
+    let rest = lines_fit (named ns (made form) names) ss more goal close h.1 q in
+    both _ _ h.0.0.fits (subst (λ (z : Scope). list_all line_fits (lines (steps_script ss (script_of_close close)) z more goal) ≡ true) (sym (named_scope ns (made form) names h.0.0.count)) rest)
 
-pub names_fit : (ns : Names) (ss : List Step) (os : List Obj) → StepsFit ns ss → NewNamesFit ns (steps_script ss (Qed os []))
+pub names_fit : (ns : Names) (ss : List Step) (close : CloseLine) → StepsFit ns ss → NewNamesFit ns (steps_script ss (script_of_close close))
 unfolding NewNamesFit
-names_fit ns [] os h = tt
-names_fit ns (steps.Cite by ∷ ss) os h = names_fit ns ss os h.1
-names_fit ns (steps.Hence lit cert ∷ ss) os h = names_fit ns ss os h.1
-names_fit ns (steps.Make form names certs ∷ ss) os h = (h.0.0.free, h.0.0.count, h.0.1, names_fit (named ns (made form) names) ss os h.1)
+names_fit ns [] (closes.Qed os) h = tt
+names_fit ns [] closes.Contradiction h = tt
+names_fit ns (steps.Cite by ∷ ss) close h = names_fit ns ss close h.1
+names_fit ns (steps.Hence lit cert ∷ ss) close h = names_fit ns ss close h.1
+names_fit ns (steps.Make form names certs ∷ ss) close h = (h.0.0.free, h.0.0.count, h.0.1, names_fit (named ns (made form) names) ss close h.1)
 
-pub count_is : (ns : Names) (ss : List Step) (os : List Obj) → StepsFit ns ss → count_given (scope_of_names ns) (steps_script ss (Qed os [])) ≡ given_by_all ns ss
+pub count_is : (ns : Names) (ss : List Step) (close : CloseLine) → StepsFit ns ss → count_given (scope_of_names ns) (steps_script ss (script_of_close close)) ≡ given_by_all ns ss
 unfolding count_given
-count_is ns [] os h = refl
-count_is ns (steps.Cite by ∷ ss) os h = ap (λ n. 1 + n) (count_is ns ss os h.1)
-count_is ns (steps.Hence lit cert ∷ ss) os h = ap (λ n. 1 + n) (count_is ns ss os h.1)
-count_is ns (steps.Make form names certs ∷ ss) os h =
+count_is ns [] (closes.Qed os) h = refl
+count_is ns [] closes.Contradiction h = refl
+count_is ns (steps.Cite by ∷ ss) close h = ap (λ n. 1 + n) (count_is ns ss close h.1)
+count_is ns (steps.Hence lit cert ∷ ss) close h = ap (λ n. 1 + n) (count_is ns ss close h.1)
+count_is ns (steps.Make form names certs ∷ ss) close h =
     ap (λ n. length (gives form (scope_of_names ns)) + n)
-    (ap (λ (z : Scope). count_given z (steps_script ss (Qed os []))) (named_scope ns (made form) names h.0.0.count) ∙ count_is (named ns (made form) names) ss os h.1)
+    (ap (λ (z : Scope). count_given z (steps_script ss (script_of_close close))) (named_scope ns (made form) names h.0.0.count) ∙ count_is (named ns (made form) names) ss close h.1)
 
-pub size_is : (ss : List Step) (os : List Obj) → size (steps_script ss (Qed os [])) ≡ length ss + 1
+pub size_is : (ss : List Step) (close : CloseLine) → size (steps_script ss (script_of_close close)) ≡ length ss + 1
 unfolding size
-size_is [] os = refl
-size_is (steps.Cite by ∷ ss) os = ap (λ n. 1 + n) (size_is ss os) ∙ omega arith
-size_is (steps.Hence lit cert ∷ ss) os = ap (λ n. 1 + n) (size_is ss os) ∙ omega arith
-size_is (steps.Make form names certs ∷ ss) os = ap (λ n. 1 + n) (size_is ss os) ∙ omega arith
+size_is [] (closes.Qed os) = refl
+size_is [] closes.Contradiction = refl
+size_is (steps.Cite by ∷ ss) close = ap (λ n. 1 + n) (size_is ss close) ∙ omega arith
+size_is (steps.Hence lit cert ∷ ss) close = ap (λ n. 1 + n) (size_is ss close) ∙ omega arith
+size_is (steps.Make form names certs ∷ ss) close = ap (λ n. 1 + n) (size_is ss close) ∙ omega arith

@@ -4,7 +4,6 @@ use Rattle.std.specs.List.{list_all}
 use Rattle.e_text.specs.Tokens.{tokens_of}
 use Rattle.e_text.specs.Lines.{Seen, numbered}
 use Rattle.e_text.specs.declared.line.LineFault.{LineFault}
-use Rattle.e_literal.specs.declared.object.Obj.{Obj}
 use Rattle.e_literal.specs.declared.object.Scope.{Scope}
 use Rattle.e_literal.specs.declared.literal.Lit.{Lit}
 use Rattle.e_literal.specs.Literal.{all_in_scope}
@@ -14,19 +13,20 @@ use Rattle.e_theorem.specs.Statements.{stated}
 use Rattle.e_deriv.specs.declared.names.Names.{Names}
 use Rattle.e_deriv.specs.declared.block.Step.{Step}
 use Rattle.e_deriv.specs.Naming.{first_names}
-use Rattle.e_deriv.specs.Script.{Script, Qed, steps_script}
+use Rattle.e_deriv.specs.Script.{Script, steps_script}
 use Rattle.e_deriv.specs.Goal.{Goal, goal_of_statement, facts_of_statement}
 use Rattle.e_deriv.specs.Lines.{lines}
 use Rattle.e_deriv.specs.Steps.{fits}
 use Rattle.e_book.specs.declared.fault.BookFault.{BookFault}
 use Rattle.e_book.specs.declared.form.Form.{Form}
 use Rattle.e_book.specs.declared.form.Form.TheVariants as forms
+use Rattle.e_book.specs.declared.steps.CloseLine.{CloseLine}
 use Rattle.e_book.specs.declared.draft.Place.TheVariants.{Done}
 use Rattle.e_book.specs.declared.draft.Draft.{Draft}
 use Rattle.e_book.specs.Headed.{Headed}
 use Rattle.e_book.specs.Scope.{scope_of_names}
 use Rattle.e_book.specs.Steps.{stepped, step, begun}
-use Rattle.e_book.specs.Entry.{Entry, entry_of_draft}
+use Rattle.e_book.specs.Entry.{Entry, script_of_close, entry_of_draft}
 use Rattle.e_book.specs.Fits.{count_given}
 use Rattle.e_book.specs.Book.{line_step, is_done, read_from}
 use Rattle.e_book.specs.Fits.{count_monomials}
@@ -41,7 +41,7 @@ use Rattle.e_book.proofs.Declared.{form_step, Runs, runs_append, Few, run_from, 
 use Rattle.e_book.proofs.Building.{sorts_again, declared_scope}
 use Rattle.e_book.proofs.Growing.{first_in_order, lit_of_first}
 use Rattle.e_book.proofs.HeadRead.{Plain, declaring, declared_lines, given_draft, making, made_lines, showing, run_title, run_all_given, run_all_shown}
-use Rattle.e_book.proofs.ScriptRead.{proving, closed, steps_of, objects_of, Taken, run_script, same_script}
+use Rattle.e_book.proofs.ScriptRead.{proving, closed, steps_of, close_of, Taken, run_script, same_script}
 
 -- ---- the statement
 
@@ -151,17 +151,17 @@ answered t rest = Ok (Some (t, rest))
 
 -- ---- the whole
 
-step_end : (d : Draft) (ns : Names) (ss : List Step) (facts terms : ℕ) (os : List Obj) → step (closed d ns ss facts terms os) forms.End ≡ Ok (record (closed d ns ss facts terms os) { place = Done })
+step_end : (d : Draft) (ns : Names) (ss : List Step) (facts terms : ℕ) (close : CloseLine) → step (closed d ns ss facts terms close) forms.End ≡ Ok (record (closed d ns ss facts terms close) { place = Done })
 unfolding step stepped
-step_end d ns ss facts terms os = refl
+step_end d ns ss facts terms close = refl
 
-end_read : (known : List Headed) (last : ℕ) (t : Entry) (ns : Names) (facts terms : ℕ) (all rest : List (Result Seen LineFault)) → steps_script (steps_of t.script) (Qed (objects_of t.script) []) ≡ t.script → Shows all (line_of forms.End ∷ []) rest
-    → read_from known last (Some (closed (started t) ns (steps_of t.script) facts terms (objects_of t.script))) all ≡ answered t rest
+end_read : (known : List Headed) (last : ℕ) (t : Entry) (ns : Names) (facts terms : ℕ) (all rest : List (Result Seen LineFault)) → steps_script (steps_of t.script) (script_of_close (close_of t.script)) ≡ t.script → Shows all (line_of forms.End ∷ []) rest
+    → read_from known last (Some (closed (started t) ns (steps_of t.script) facts terms (close_of t.script))) all ≡ answered t rest
 end_read known last t ns facts terms [] rest same sh = absurd sh
 end_read known last t ns facts terms (Err x ∷ all) rest same sh = absurd sh
 end_read known last t ns facts terms (Ok l ∷ all) rest same sh =
-    let d = closed (started t) ns (steps_of t.script) facts terms (objects_of t.script) in
-    one_read known last (Some d) l all forms.End (record d { place = Done }) sh.0 tt (step_end (started t) ns (steps_of t.script) facts terms (objects_of t.script))
+    let d = closed (started t) ns (steps_of t.script) facts terms (close_of t.script) in
+    one_read known last (Some d) l all forms.End (record d { place = Done }) sh.0 tt (step_end (started t) ns (steps_of t.script) facts terms (close_of t.script))
     ∙ ap (λ (s : Script). answered (record t { script = s }) all) same ∙ ap (λ (ls : List (Result Seen LineFault)). answered t ls) sh.1
 
 pub canonical_lines_read : (known : List Headed) (last : ℕ) (t : Entry) (all rest : List (Result Seen LineFault)) → HasSpelling known t → Shows all (map line_of (forms_of t)) rest
@@ -169,7 +169,7 @@ pub canonical_lines_read : (known : List Headed) (last : ℕ) (t : Entry) (all r
 canonical_lines_read known last t all rest h sh =
     let o = in_order t.names h.point_names h.line_names h.circle_names h.fits.differ in
     let proof = run_proof_lines known t h o in
-    let d = closed (started t) proof.in_scope (steps_of t.script) proof.given proof.written (objects_of t.script) in
+    let d = closed (started t) proof.in_scope (steps_of t.script) proof.given proof.written (close_of t.script) in
     let runs : Runs known None (front t) (Some d) =
     runs_append known None (Some (proving (started t) (names_of_proof t) [] (length t.statement.given) (count_monomials t.statement.given))) (Some d) (head_forms t) (script_forms (names_of_proof t) t.script) (run_head known t h o) proof.runs in
     let whole : forms_of t ≡ front t ++ forms.End ∷ [] = sym (append_assoc (head_forms t) (script_forms (names_of_proof t) t.script) (forms.End ∷ [])) in

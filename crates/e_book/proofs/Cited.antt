@@ -22,7 +22,7 @@ use Rattle.e_deriv.specs.Steps.{is_citation}
 use Rattle.e_book.specs.Scope.{objects_as, args_in, by_in, known_rule, variables_of}
 use Rattle.e_book.specs.Canonical.{name_of_object, raw_of, rule_name, by_form}
 use Rattle.e_book.specs.Fits.{scope_of_names}
-use Rattle.e_book.specs.HasSpelling.{is_diagram_lit}
+use Rattle.e_book.specs.Fits.{is_diagram_lit}
 use Rattle.e_book.proofs.Differ.{both}
 use Rattle.e_book.proofs.Respelled.{GoodForm}
 use Rattle.e_book.proofs.Lookups.{InOrder, objects_again, objects_named}

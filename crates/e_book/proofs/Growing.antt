@@ -27,8 +27,8 @@ use Rattle.e_book.specs.Scope.{has, is_taken, fresh}
 use Rattle.e_book.specs.Fits.{are_distinct}
 use Rattle.e_book.specs.Canonical.{name_at, raw_term, raw_sum, raw_atom, raw_signed, raw_of}
 use Rattle.e_book.specs.HasSpelling.{AreNames}
-use Rattle.e_book.proofs.Differ.{both, neither, Apart, Apart-sym, has_not_in_front}
-use Rattle.e_book.proofs.Distinct.{distinct_last, Untaken, untaken, passed}
+use Rattle.e_book.proofs.Differ.{both, Apart, Apart-sym, has_not_in_front}
+use Rattle.e_book.proofs.Distinct.{distinct_last, untaken, passed}
 use Rattle.e_book.proofs.Lookups.{InOrder, ordered}
 use Rattle.e_book.proofs.Declared.{Free, plus, same_fresh}
 

@@ -1,5 +1,5 @@
 -- The lines of a statement are read from their canonical spelling.
-use Rattle.std.proofs.Common.{◌≡◌, ℕ, ◌+◌, ◌<◌, ◌≤◌, Bool, true, false, cond, ltb, List, [], ◌∷◌, ◌++◌, length, map, replicate, Some, None, Option, Result, Ok, Err, refl, sym, ap, ap₂, subst, ◌∙◌, arith, append_assoc, length-append}
+use Rattle.std.proofs.Common.{◌≡◌, ℕ, ◌+◌, ◌<◌, ◌≤◌, true, false, ltb, List, [], ◌∷◌, ◌++◌, length, map, replicate, Some, None, Result, Ok, refl, sym, ap, ap₂, subst, ◌∙◌, arith, append_assoc, length-append}
 use Rattle.std.specs.List.{list_all}
 use Rattle.std.proofs.lemmas.Bool.{le-ltb}
 use Rattle.std.proofs.lemmas.List.{append-nil}
@@ -12,6 +12,7 @@ use Rattle.e_deriv.specs.declared.names.Names.{Names}
 use Rattle.e_deriv.specs.Naming.{names_of_sort}
 use Rattle.e_book.specs.declared.fault.Kind.{Kind}
 use Rattle.e_book.specs.declared.form.Form.TheVariants as forms
+use Rattle.e_book.specs.declared.steps.CloseLine.TheVariants as closes
 use Rattle.e_book.specs.declared.draft.Place.{Place}
 use Rattle.e_book.specs.declared.draft.Place.TheVariants.{Declaring, Giving, Making, Showing}
 use Rattle.e_book.specs.declared.draft.Draft.{Draft}
@@ -34,7 +35,7 @@ use Rattle.e_book.proofs.Declared.{Runs, LinesOfNames, Free, plus, declared_one,
 -- a draft before the word proof
 abbrev pub stating : List ℕ → Names → List Sort → List Lit → List Sort → List Lit → ℕ → ℕ → Place → Draft
 stating t ns sorts given made shown facts terms place =
-    record { title = t; names = ns; in_scope = no_names; declared = sorts; given = given; made = made; shown = shown; steps = []; facts = facts; terms = terms; objects = []; place = place }
+    record { title = t; names = ns; in_scope = no_names; declared = sorts; given = given; made = made; shown = shown; steps = []; facts = facts; terms = terms; close = closes.Qed []; place = place }
 
 -- literals over the objects in scope that canonical lines can spell
 pub record Plain (ns : Names) (ls : List Lit) : Type 0 where

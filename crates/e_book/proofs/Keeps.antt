@@ -3,11 +3,10 @@ use Rattle.std.proofs.Common.{◌≡◌, ℕ, zero, suc, ◌+◌, ◌≤◌, Boo
 use Rattle.std.specs.List.{list_all}
 use Rattle.e_literal.specs.declared.object.Sort.{Sort}
 use Rattle.e_literal.specs.declared.object.Sort.TheVariants.{Point, Line, Circle}
-use Rattle.e_literal.specs.declared.object.Obj.{Obj}
 use Rattle.e_literal.specs.declared.object.Scope.{Scope}
 use Rattle.e_literal.specs.declared.literal.Lit.{Lit}
 use Rattle.e_literal.specs.Literal.{all_in_scope}
-use Rattle.e_literal.specs.Scopes.{nothing, with_one, grown, are_of_sorts}
+use Rattle.e_literal.specs.Scopes.{nothing, with_one, grown}
 use Rattle.e_text.specs.Tokens.{tokens_of}
 use Rattle.e_text.specs.Lines.{Seen}
 use Rattle.e_text.specs.declared.line.LineFault.{LineFault}
@@ -17,7 +16,7 @@ use Rattle.e_deriv.specs.declared.block.Step.{Step}
 use Rattle.e_deriv.specs.declared.block.Step.TheVariants as steps
 use Rattle.e_construct.specs.declared.construction.Construction.{Construction}
 use Rattle.e_construct.specs.Construct.{made, gives}
-use Rattle.e_deriv.specs.Script.{Qed, steps_script}
+use Rattle.e_deriv.specs.Script.{steps_script}
 use Rattle.e_deriv.specs.Goal.{goal_of_statement, facts_of_statement}
 use Rattle.e_deriv.specs.Lines.{lines}
 use Rattle.e_deriv.specs.Steps.{fits}
@@ -29,6 +28,8 @@ use Rattle.e_book.specs.declared.literal.RawLit.{RawLit}
 use Rattle.e_book.specs.declared.lets.RawLet.{RawLet}
 use Rattle.e_book.specs.declared.form.Form.{Form}
 use Rattle.e_book.specs.declared.form.Form.TheVariants as forms
+use Rattle.e_book.specs.declared.steps.CloseLine.{CloseLine}
+use Rattle.e_book.specs.declared.steps.CloseLine.TheVariants as closes
 use Rattle.e_book.specs.declared.draft.Place.{Place}
 use Rattle.e_book.specs.declared.draft.Place.TheVariants.{Declaring, Giving, Making, Showing, Proving, Closed, Done}
 use Rattle.e_book.specs.declared.draft.Draft.{Draft}
@@ -38,7 +39,7 @@ use Rattle.e_book.specs.Headed.{Headed, is_known}
 use Rattle.e_book.specs.Scope.{fresh, lit_in, lits_in, by_in, let_in, qed_in}
 use Rattle.e_book.specs.Forms.{form_of}
 use Rattle.e_book.specs.Steps.{count_monos, few_monos, with_terms, allowed, declared, few_objects, with_step, built, shut, stepped, step, begin, begun}
-use Rattle.e_book.specs.Entry.{Entry, entry_of_draft, statement_of_draft}
+use Rattle.e_book.specs.Entry.{Entry, script_of_close, entry_of_draft, statement_of_draft}
 use Rattle.e_book.specs.Fits.{scope_of_names, NamesDiffer, count_given, Fits}
 use Rattle.e_book.specs.Book.{is_skipped, line_step, put_at, is_last, is_done, read_from}
 use Rattle.e_book.proofs.Answered.{within_ok, appended, passes, untaken, put_ok, answered, pair, first_is, skip_or, Answer}
@@ -47,7 +48,7 @@ use Rattle.e_book.proofs.SaidForms.{Said, form_said}
 use Rattle.e_book.proofs.KeptSums.{terms_added, GoodSums, sums_kept, good_script, monomials_are}
 use Rattle.e_book.proofs.Citations.{by_fits}
 use Rattle.e_book.proofs.Distinct.{still_differ}
-use Rattle.e_book.proofs.Building.{let_fits, qed_fits, objects_are_for, declared_scope, StepFits, after_step, given_by, StepsFit, after_steps, given_by_all, fit_more, after_more, given_more, lines_fit, names_fit, count_is, size_is}
+use Rattle.e_book.proofs.Building.{let_fits, qed_fits, ClosesFor, close_fits, declared_scope, StepFits, after_step, given_by, StepsFit, after_steps, given_by_all, fit_more, after_more, given_more, lines_fit, names_fit, count_is, size_is}
 
 pub record FewNow (ns : Names) : Type 0 where
   pub points : length ns.points ≤ most_of Point
@@ -70,10 +71,10 @@ Scoped Done names these = names ≡ these
 Scoped place names these = Unit {0}
 
 -- a close was within the limit of steps, and its objects have the sorts of the made ones
-abbrev pub Shut : Place → ℕ → Scope → List Sort → List Obj → Type 0
-Shut Closed n s made objects = (n + 1 ≤ most_steps) × (are_of_sorts s made objects ≡ true)
-Shut Done n s made objects = (n + 1 ≤ most_steps) × (are_of_sorts s made objects ≡ true)
-Shut place n s made objects = Unit {0}
+abbrev pub Shut : Place → ℕ → Scope → List Sort → CloseLine → Type 0
+Shut Closed n s made close = (n + 1 ≤ most_steps) × ClosesFor s made close
+Shut Done n s made close = (n + 1 ≤ most_steps) × ClosesFor s made close
+Shut place n s made close = Unit {0}
 
 -- the names with which the proof begins
 abbrev pub start : Draft → Names
@@ -91,7 +92,7 @@ pub record Good (known : List Headed) (d : Draft) : Type 0 where
   pub facts : d.facts ≡ length d.given + given_by_all (start d) d.steps
   pub within : d.facts ≤ most_facts
   pub ahead : Ahead d.place d.given d.made d.shown d.steps
-  pub shut : Shut d.place (length d.steps) (scope_of_names d.in_scope) d.made d.objects
+  pub shut : Shut d.place (length d.steps) (scope_of_names d.in_scope) d.made d.close
 
 grown-append : (s : Scope) (xs ys : List Sort) → grown s (xs ++ ys) ≡ grown (grown s xs) ys
 grown-append s [] ys = refl
@@ -203,7 +204,7 @@ keeps_declare known d e sort ns g a h =
       facts = omega (arith, g.facts, none_given (start d) d.steps at.4, none_given (start x) d.steps at.4);
       within = g.within;
       ahead = g.ahead;
-      shut = subst (λ (p : Place). Shut p (length d.steps) (scope_of_names d.in_scope) d.made d.objects) (sym at.0) tt;
+      shut = subst (λ (p : Place). Shut p (length d.steps) (scope_of_names d.in_scope) d.made d.close) (sym at.0) tt;
     })
 
 lits_within : (ns : Names) (raws : List RawLit) (ls : List Lit) → lits_in ns raws ≡ Ok ls → list_all (all_in_scope (scope_of_names ns)) ls ≡ true
@@ -334,8 +335,8 @@ in_proof p names these e h = subst (λ (q : Place). Scoped q names these) e h
 nothing_ahead : (p : Place) (given : List Lit) (made : List Sort) (shown : List Lit) (ss : List Step) → p ≡ Proving → Ahead p given made shown ss
 nothing_ahead p given made shown ss e = subst (λ (q : Place). Ahead q given made shown ss) (sym e) tt
 
-not_shut : (p : Place) (n : ℕ) (s : Scope) (made : List Sort) (os : List Obj) → p ≡ Proving → Shut p n s made os
-not_shut p n s made os e = subst (λ (q : Place). Shut q n s made os) (sym e) tt
+not_shut : (p : Place) (n : ℕ) (s : Scope) (made : List Sort) (close : CloseLine) → p ≡ Proving → Shut p n s made close
+not_shut p n s made close e = subst (λ (q : Place). Shut q n s made close) (sym e) tt
 
 keeps_step : (known : List Headed) (d e : Draft) (s : Step) (after : Names) (n : ℕ) → Good known d → d.place ≡ Proving → StepFits d.in_scope s → after ≡ after_step d.in_scope s → n ≡ given_by d.in_scope s → with_step (record d { in_scope = after }) s n ≡ Ok e
     → Good known e
@@ -360,7 +361,7 @@ keeps_step known d e s after n g at fit after-is n-is h =
       facts = omega (arith, g.facts, n-is, one, given_more before d.steps s);
       within = within_ok _ _ _ b.0 b.1;
       ahead = nothing_ahead d.place d.given d.made d.shown ss at;
-      shut = not_shut d.place (length ss) (scope_of_names after) d.made d.objects at;
+      shut = not_shut d.place (length ss) (scope_of_names after) d.made d.close at;
     })
 
 proving_by : (p : Place) (r : List ℕ) (ns : List (List ℕ)) (l : RawLit) → allowed p (forms.By r ns l) ≡ true → p ≡ Proving
@@ -378,6 +379,10 @@ proving_let p l a = absurd cc
 proving_qed : (p : Place) (ns : List (List ℕ)) → allowed p (forms.Qed ns) ≡ true → p ≡ Proving
 proving_qed Proving ns a = refl
 proving_qed p ns a = absurd cc
+
+proving_contradiction : (p : Place) → allowed p forms.Contradiction ≡ true → p ≡ Proving
+proving_contradiction Proving a = refl
+proving_contradiction p a = absurd cc
 
 keeps_by : (known : List Headed) (d e : Draft) (r : List ℕ) (ns : List (List ℕ)) (l : RawLit) → Good known d → allowed d.place (forms.By r ns l) ≡ true → stepped d (forms.By r ns l) ≡ Ok e → Good known e
 unfolding stepped
@@ -401,12 +406,11 @@ keeps_built known d e l g at h =
     let w = bind_ok (few_objects (named d.in_scope (made f.0) l.new)) (λ few. then f.0) e f.2 in
     keeps_step known d e (steps.Make f.0 l.new []) (named d.in_scope (made f.0) l.new) (length (gives f.0 s)) g at (let_fits d.in_scope l f.0 f.1, w.1) refl refl w.2
 
-keeps_shut : (known : List Headed) (d e : Draft) (ns : List (List ℕ)) → Good known d → d.place ≡ Proving → shut d ns ≡ Ok e → Good known e
+keeps_shut : (known : List Headed) (d e : Draft) (close : CloseLine) → Good known d → d.place ≡ Proving → ClosesFor (scope_of_names d.in_scope) d.made close → shut d close ≡ Ok e → Good known e
 unfolding shut
-keeps_shut known d e ns g at h =
-    let os = bind_ok (qed_in d.in_scope d.made ns) (λ os. within (length d.steps + 1) most_steps limits.Steps >>= λ few. read_ok (record d { objects = os; place = Closed })) e h in
-    let x : Draft = record d { objects = os.0; place = Closed } in
-    let w = bind_ok (within (length d.steps + 1) most_steps limits.Steps) (λ few. read_ok x) e os.2 in
+keeps_shut known d e close g at fit h =
+    let x : Draft = record d { close = close; place = Closed } in
+    let w = bind_ok (within (length d.steps + 1) most_steps limits.Steps) (λ few. read_ok x) e h in
     subst (λ (y : Draft). Good known y) (ok_is x e w.2) (record {
       new = g.new;
       scope = g.scope;
@@ -419,13 +423,13 @@ keeps_shut known d e ns g at h =
       facts = g.facts;
       within = g.within;
       ahead = tt;
-      shut = (within_ok _ _ _ w.0 w.1, qed_fits d.in_scope d.made ns os.0 os.1);
+      shut = (within_ok _ _ _ w.0 w.1, fit);
     })
 
 -- a closed proof
 record IsShut (d : Draft) (p : Place) : Type 0 where
   in_scope : Scoped p d.in_scope (after_steps (start d) d.steps)
-  shut : Shut p (length d.steps) (scope_of_names d.in_scope) d.made d.objects
+  shut : Shut p (length d.steps) (scope_of_names d.in_scope) d.made d.close
 
 closed : (d : Draft) (p : Place) → allowed p forms.End ≡ true → IsShut d p → IsShut d Done
 closed d Closed a s = record { in_scope = s.in_scope; shut = s.shut }
@@ -467,7 +471,13 @@ keeps_let known d e l g a h = keeps_built known d e l g (proving_let d.place l a
 
 keeps_qed : (known : List Headed) (d e : Draft) (ns : List (List ℕ)) → Good known d → allowed d.place (forms.Qed ns) ≡ true → stepped d (forms.Qed ns) ≡ Ok e → Good known e
 unfolding stepped
-keeps_qed known d e ns g a h = keeps_shut known d e ns g (proving_qed d.place ns a) h
+keeps_qed known d e ns g a h =
+    let os = bind_ok (qed_in d.in_scope d.made ns) (λ os. shut d (closes.Qed os)) e h in
+    keeps_shut known d e (closes.Qed os.0) g (proving_qed d.place ns a) (qed_fits d.in_scope d.made ns os.0 os.1) os.2
+
+keeps_contradiction : (known : List Headed) (d e : Draft) → Good known d → allowed d.place forms.Contradiction ≡ true → stepped d forms.Contradiction ≡ Ok e → Good known e
+unfolding stepped
+keeps_contradiction known d e g a h = keeps_shut known d e closes.Contradiction g (proving_contradiction d.place a) tt h
 
 keeps_stepped : (known : List Headed) (d e : Draft) (f : Form) → Good known d → allowed d.place f ≡ true → stepped d f ≡ Ok e → Good known e
 keeps_stepped known d e (forms.Theorem t) g a h = absurd (no_title d.place t a)
@@ -480,6 +490,7 @@ keeps_stepped known d e (forms.By r ns l) g a h = keeps_by known d e r ns l g a 
 keeps_stepped known d e (forms.Hence l) g a h = keeps_hence known d e l g a h
 keeps_stepped known d e (forms.Let l) g a h = keeps_let known d e l g a h
 keeps_stepped known d e (forms.Qed ns) g a h = keeps_qed known d e ns g a h
+keeps_stepped known d e forms.Contradiction g a h = keeps_contradiction known d e g a h
 keeps_stepped known d e forms.End g a h = keeps_end known d e g a h
 
 -- all that is known of a draft
@@ -542,10 +553,10 @@ fits_read known d known_of a =
     let ns : Names = start d in
     let c = last_shut d d.place a (record { in_scope = g.in_scope; shut = g.shut }) in
     let here : scope_of_names ns ≡ grown nothing d.declared = declared_scope t d.names g.scope in
-    let objects = objects_are_for (grown nothing d.declared) (scope_of_names (after_steps ns d.steps)) d.made d.shown d.objects (subst (λ (m : Names). are_of_sorts (scope_of_names m) d.made d.objects ≡ true) c.in_scope c.shut.1) in
-    let n = size_is d.steps d.objects in
-    let count = count_is ns d.steps d.objects g.steps in
-    let counted = ap (λ (z : Scope). count_given z (steps_script d.steps (Qed d.objects []))) here in
+    let close = close_fits (grown nothing d.declared) (scope_of_names (after_steps ns d.steps)) d.made d.shown d.close (subst (λ (m : Names). ClosesFor (scope_of_names m) d.made d.close) c.in_scope c.shut.1) in
+    let n = size_is d.steps d.close in
+    let count = count_is ns d.steps d.close g.steps in
+    let counted = ap (λ (z : Scope). count_given z (steps_script d.steps (script_of_close d.close))) here in
     record {
       new = g.new;
       scope = g.scope;
@@ -555,14 +566,14 @@ fits_read known d known_of a =
       circles = g.few.circles;
       given = g.given;
       shown = g.shown;
-      script = subst (λ (z : Scope). list_all fits (lines (steps_script d.steps (Qed d.objects [])) z (facts_of_statement t) (goal_of_statement t)) ≡ true) here (lines_fit ns d.steps (facts_of_statement t) (goal_of_statement t) d.objects g.steps objects);
-      new_names = names_fit ns d.steps d.objects g.steps;
+      script = subst (λ (z : Scope). list_all fits (lines (steps_script d.steps (script_of_close d.close)) z (facts_of_statement t) (goal_of_statement t)) ≡ true) here (lines_fit ns d.steps (facts_of_statement t) (goal_of_statement t) d.close g.steps close);
+      new_names = names_fit ns d.steps d.close g.steps;
       steps = omega (arith, n, c.shut.0);
       facts = omega (arith, g.facts, g.within, count, counted);
       good_given = sums.given;
       good_shown = sums.shown;
-      good_script = good_script d.steps d.objects sums.steps;
-      terms = omega (arith, sums.terms, sums.within, monomials_are d.steps d.objects);
+      good_script = good_script d.steps d.close sums.steps;
+      terms = omega (arith, sums.terms, sums.within, monomials_are d.steps d.close);
     }
 
 -- a theorem that is read fits

@@ -1,10 +1,9 @@
 -- Each line keeps what is known of the sums of a draft.
-use Rattle.std.proofs.Common.{◌≡◌, ℕ, ◌+◌, ◌≤◌, Bool, true, false, cond, ◌&&◌, List, [], ◌∷◌, ◌++◌, length, replicate, Some, None, Result, Ok, Err, refl, sym, ap, subst, ◌∙◌, arith}
+use Rattle.std.proofs.Common.{◌≡◌, ℕ, ◌+◌, ◌≤◌, Bool, true, false, List, [], ◌∷◌, ◌++◌, length, replicate, None, Result, Ok, refl, sym, ap, subst, ◌∙◌, arith}
 use Rattle.std.specs.List.{list_all}
 use Rattle.std.proofs.lemmas.List.Folds.{list_all-append}
 use Rattle.std.proofs.lemmas.List.Sums.{sum_by-append}
 use Rattle.e_literal.specs.declared.object.Sort.{Sort}
-use Rattle.e_literal.specs.declared.object.Obj.{Obj}
 use Rattle.e_literal.specs.declared.literal.Lit.{Lit}
 use Rattle.e_literal.specs.WellFormed.{is_well_formed}
 use Rattle.e_theorem.specs.Statements.{stated}
@@ -14,34 +13,34 @@ use Rattle.e_deriv.specs.declared.names.Names.{Names}
 use Rattle.e_deriv.specs.declared.block.Step.{Step}
 use Rattle.e_deriv.specs.declared.block.Step.TheVariants as steps
 use Rattle.e_deriv.specs.Naming.{named, declared_names}
-use Rattle.e_deriv.specs.Script.{Qed, steps_script}
+use Rattle.e_deriv.specs.Script.{steps_script}
 use Rattle.e_book.specs.declared.fault.Kind.{Kind}
-use Rattle.e_book.specs.declared.fault.Kind.TheVariants.{Malformed, Limit}
 use Rattle.e_book.specs.declared.fault.What.{What}
 use Rattle.e_book.specs.declared.fault.What.TheVariants as limits
 use Rattle.e_book.specs.declared.literal.RawLit.{RawLit}
 use Rattle.e_book.specs.declared.lets.RawLet.{RawLet}
 use Rattle.e_book.specs.declared.form.Form.{Form}
 use Rattle.e_book.specs.declared.form.Form.TheVariants as forms
+use Rattle.e_book.specs.declared.steps.CloseLine.{CloseLine}
+use Rattle.e_book.specs.declared.steps.CloseLine.TheVariants as closes
 use Rattle.e_book.specs.declared.draft.Place.TheVariants.{Giving, Making, Showing, Proving, Closed, Done}
 use Rattle.e_book.specs.declared.draft.Draft.{Draft}
 use Rattle.e_book.specs.Reading.{◌>>=◌, with_front}
-use Rattle.e_book.specs.Literals.{monos_of}
 use Rattle.e_book.specs.Limits.{most_steps, most_facts, most_terms, within}
 use Rattle.e_book.specs.Scope.{scope_of_names, lit_in, lits_in, by_in, let_in, qed_in}
 use Rattle.e_book.specs.Steps.{are_short, are_small, count_monos, or_limit, few_monos, terms_behind, with_terms, declared, few_objects, with_step, built, shut, stepped}
-use Rattle.e_book.specs.Entry.{statement_of_draft}
-use Rattle.e_book.specs.Fits.{has_good_literals, monomials, count_monomials, monomials_given}
+use Rattle.e_book.specs.Entry.{script_of_close, statement_of_draft}
+use Rattle.e_book.specs.Fits.{is_diagram_lit, has_good_literals, monomials, count_monomials, monomials_given}
 use Rattle.e_book.proofs.Differ.{both}
 use Rattle.e_book.proofs.Answered.{within_ok}
 use Rattle.e_book.proofs.InScope.{bind_ok, ok_is, read_ok}
-use Rattle.e_book.proofs.SaidForms.{Said}
+use Rattle.e_book.proofs.SaidForms.{Said, by_plain}
 use Rattle.e_book.proofs.WellRead.{good_lits, lits_count}
 
 -- ---- what is known
 
 abbrev is_good_step : Step → Bool
-is_good_step (steps.Cite by) = true
+is_good_step (steps.Cite by) = is_diagram_lit by.lit
 is_good_step (steps.Hence lit cert) = is_well_formed lit
 is_good_step (steps.Make form names certs) = true
 
@@ -203,11 +202,11 @@ unfolding stepped
 proof_kept d e g h =
     same_as d (record d { in_scope = declared_names (stated (statement_of_draft d)) d.names; place = Proving }) e g (record { given = refl; shown = refl; steps = refl; terms = refl }) h
 
-by_kept : (d e : Draft) (r : List ℕ) (ns : List (List ℕ)) (l : RawLit) → GoodSums d → stepped d (forms.By r ns l) ≡ Ok e → GoodSums e
+by_kept : (d e : Draft) (r : List ℕ) (ns : List (List ℕ)) (l : RawLit) → GoodSums d → Said (forms.By r ns l) → stepped d (forms.By r ns l) ≡ Ok e → GoodSums e
 unfolding stepped
-by_kept d e r ns l g h =
+by_kept d e r ns l g said h =
     let b = bind_ok (by_in d.in_scope r ns l) (λ b. with_step d (steps.Cite b) 1) e h in
-    step_kept d d e (steps.Cite b.0) 1 g (itself d) refl refl b.2
+    step_kept d d e (steps.Cite b.0) 1 g (itself d) (by_plain d.in_scope r ns l b.0 said b.1) refl b.2
 
 one_lit : (ns : Names) (r : RawLit) (l : Lit) → lit_in ns r ≡ Ok l → lits_in ns (r ∷ []) ≡ Ok (l ∷ [])
 one_lit ns r l e = rw e refl
@@ -245,17 +244,22 @@ let_kept : (d e : Draft) (l : RawLet) → GoodSums d → stepped d (forms.Let l)
 unfolding stepped
 let_kept d e l g h = built_kept d e l g h
 
-shut_kept : (d e : Draft) (ns : List (List ℕ)) → GoodSums d → shut d ns ≡ Ok e → GoodSums e
+shut_kept : (d e : Draft) (close : CloseLine) → GoodSums d → shut d close ≡ Ok e → GoodSums e
 unfolding shut
-shut_kept d e ns g h =
-    let then : List Obj → Draft = λ objects. record d { objects = objects; place = Closed } in
-    let o = bind_ok (qed_in d.in_scope d.made ns) (λ objects. within (length d.steps + 1) most_steps limits.Steps >>= λ few. read_ok (then objects)) e h in
-    let w = bind_ok (within (length d.steps + 1) most_steps limits.Steps) (λ few. read_ok (then o.0)) e o.2 in
-    same_as d (then o.0) e g (record { given = refl; shown = refl; steps = refl; terms = refl }) w.2
+shut_kept d e close g h =
+    let x : Draft = record d { close = close; place = Closed } in
+    let w = bind_ok (within (length d.steps + 1) most_steps limits.Steps) (λ few. read_ok x) e h in
+    same_as d x e g (record { given = refl; shown = refl; steps = refl; terms = refl }) w.2
 
 qed_kept : (d e : Draft) (ns : List (List ℕ)) → GoodSums d → stepped d (forms.Qed ns) ≡ Ok e → GoodSums e
 unfolding stepped
-qed_kept d e ns g h = shut_kept d e ns g h
+qed_kept d e ns g h =
+    let os = bind_ok (qed_in d.in_scope d.made ns) (λ os. shut d (closes.Qed os)) e h in
+    shut_kept d e (closes.Qed os.0) g os.2
+
+contradiction_kept : (d e : Draft) → GoodSums d → stepped d forms.Contradiction ≡ Ok e → GoodSums e
+unfolding stepped
+contradiction_kept d e g h = shut_kept d e closes.Contradiction g h
 
 end_kept : (d e : Draft) → GoodSums d → stepped d forms.End ≡ Ok e → GoodSums e
 unfolding stepped
@@ -272,24 +276,27 @@ sums_kept d e (forms.Given raws) g s h = given_kept d e raws g s h
 sums_kept d e (forms.Made sort ns) g s h = made_kept d e sort ns g h
 sums_kept d e (forms.Show raws) g s h = shown_kept d e raws g s h
 sums_kept d e forms.Proof g s h = proof_kept d e g h
-sums_kept d e (forms.By r ns l) g s h = by_kept d e r ns l g h
+sums_kept d e (forms.By r ns l) g s h = by_kept d e r ns l g s h
 sums_kept d e (forms.Hence l) g s h = hence_kept d e l g s h
 sums_kept d e (forms.Let l) g s h = let_kept d e l g h
 sums_kept d e (forms.Qed ns) g s h = qed_kept d e ns g h
+sums_kept d e forms.Contradiction g s h = contradiction_kept d e g h
 sums_kept d e forms.End g s h = end_kept d e g h
 
 -- ---- the script of the steps
 
-pub good_script : (ss : List Step) (os : List Obj) → list_all is_good_step ss ≡ true → has_good_literals (steps_script ss (Qed os [])) ≡ true
+pub good_script : (ss : List Step) (close : CloseLine) → list_all is_good_step ss ≡ true → has_good_literals (steps_script ss (script_of_close close)) ≡ true
 unfolding has_good_literals
-good_script [] os h = refl
-good_script (steps.Cite by ∷ ss) os h = good_script ss os h
-good_script (steps.Hence lit cert ∷ ss) os h = let p = both (is_well_formed lit) (list_all is_good_step ss) h in rw (p.0, good_script ss os p.1) refl
-good_script (steps.Make form names certs ∷ ss) os h = good_script ss os h
+good_script [] (closes.Qed os) h = refl
+good_script [] closes.Contradiction h = refl
+good_script (steps.Cite by ∷ ss) close h = let p = both (is_diagram_lit by.lit) (list_all is_good_step ss) h in rw (p.0, good_script ss close p.1) refl
+good_script (steps.Hence lit cert ∷ ss) close h = let p = both (is_well_formed lit) (list_all is_good_step ss) h in rw (p.0, good_script ss close p.1) refl
+good_script (steps.Make form names certs ∷ ss) close h = good_script ss close h
 
-pub monomials_are : (ss : List Step) (os : List Obj) → monomials_given (steps_script ss (Qed os [])) ≡ monomials_by_all ss
+pub monomials_are : (ss : List Step) (close : CloseLine) → monomials_given (steps_script ss (script_of_close close)) ≡ monomials_by_all ss
 unfolding monomials_given
-monomials_are [] os = refl
-monomials_are (steps.Cite by ∷ ss) os = let h = monomials_are ss os in omega (arith, h)
-monomials_are (steps.Hence lit cert ∷ ss) os = ap (λ n. monomials lit.atom + n) (monomials_are ss os)
-monomials_are (steps.Make form names certs ∷ ss) os = let h = monomials_are ss os in omega (arith, h)
+monomials_are [] (closes.Qed os) = refl
+monomials_are [] closes.Contradiction = refl
+monomials_are (steps.Cite by ∷ ss) close = let h = monomials_are ss close in omega (arith, h)
+monomials_are (steps.Hence lit cert ∷ ss) close = ap (λ n. monomials lit.atom + n) (monomials_are ss close)
+monomials_are (steps.Make form names certs ∷ ss) close = let h = monomials_are ss close in omega (arith, h)

@@ -12,6 +12,9 @@ pub mod Building
 pub mod WellRead
 pub mod KeptSums
 pub mod Keeps
+pub mod Renaming
+pub mod Constructed
+pub mod GoodLines
 pub mod LineCount
 pub mod Differ
 pub mod NamesAgain

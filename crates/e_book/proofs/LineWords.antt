@@ -1,15 +1,12 @@
 -- The tokens of a canonical line are the words of its form.
-use Rattle.std.proofs.Common.{◌≡◌, Bool, true, false, [], ◌∷◌, refl}
+use Rattle.std.proofs.Common.{◌≡◌, false, [], ◌∷◌, refl}
 use Rattle.std.specs.Prelude.{codes}
 use Rattle.e_text.specs.Tokens.{tokens_of, AreTokens}
-use Rattle.e_text.proofs.TokenWords.{tokens_of-joined, is_token-name, is_token-title}
+use Rattle.e_text.proofs.TokenWords.{tokens_of-joined, is_token-title}
 use Rattle.e_literal.specs.declared.object.Sort.TheVariants as sorts
-use Rattle.e_book.specs.declared.literal.RawLit.{RawLit}
-use Rattle.e_book.specs.declared.literal.RawAtom.{RawAtom}
-use Rattle.e_book.specs.declared.literal.RawAtom.TheVariants as raw
 use Rattle.e_book.specs.declared.form.Form.{Form}
 use Rattle.e_book.specs.declared.form.Form.TheVariants as forms
-use Rattle.e_book.specs.Canonical.{atom_words, signed_words, lit_words, form_words, line_of}
+use Rattle.e_book.specs.Canonical.{lit_words, form_words, line_of}
 use Rattle.e_book.specs.Book.{is_skipped}
 use Rattle.e_book.proofs.LetsAgain.{names_tokens, append_tokens, let_tokens}
 use Rattle.e_book.proofs.LitsAgain.{lit_tokens}
@@ -38,6 +35,7 @@ form_tokens (forms.By r ns l) h = (refl, (is_token-title r h.0, append_tokens ns
 form_tokens (forms.Hence l) h = (refl, lit_tokens l h)
 form_tokens (forms.Let l) h = (refl, let_tokens l h)
 form_tokens (forms.Qed ns) h = (refl, names_tokens ns h)
+form_tokens forms.Contradiction h = (refl, tt)
 form_tokens forms.End h = (refl, tt)
 
 pub words_again : (f : Form) → GoodForm f → tokens_of (line_of f) ≡ form_words f
@@ -56,4 +54,5 @@ not_skipped (forms.By r ns l) = refl
 not_skipped (forms.Hence l) = refl
 not_skipped (forms.Let l) = refl
 not_skipped (forms.Qed ns) = refl
+not_skipped forms.Contradiction = refl
 not_skipped forms.End = refl

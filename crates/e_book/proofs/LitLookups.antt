@@ -1,12 +1,11 @@
 -- A literal with the names of its objects is read as that literal.
-use Rattle.std.proofs.Common.{◌≡◌, ℕ, ◌+◌, ◌≤◌, Bool, true, false, eqb, leb, ◌&&◌, List, [], ◌∷◌, ◌++◌, length, map, Result, Ok, refl, sym, ap, subst, ◌∙◌, arith}
+use Rattle.std.proofs.Common.{◌≡◌, ℕ, ◌+◌, ◌≤◌, Bool, true, false, leb, ◌&&◌, List, [], ◌∷◌, length, Ok, refl, sym, ap, ◌∙◌, arith}
 use Rattle.std.specs.Prelude.{◌==◌}
 use Rattle.std.specs.List.{list_all}
 use Rattle.std.proofs.lemmas.Bool.{leb-true}
 use Rattle.std.proofs.lemmas.Bool.Decides.{nat_tests}
 use Rattle.std.proofs.lemmas.List.{length-map}
 use Rattle.std.proofs.lemmas.List.Folds.{list_all-append}
-use Rattle.e_text.specs.Names.{is_name}
 use Rattle.e_literal.specs.declared.object.Sort.TheVariants.{Point, Line, Circle}
 use Rattle.e_literal.specs.declared.object.Obj.{Obj}
 use Rattle.e_literal.specs.declared.object.Kind.{Kind as Magnitude}
@@ -19,20 +18,17 @@ use Rattle.e_literal.specs.declared.literal.Lit.{Lit}
 use Rattle.e_literal.specs.Literal.{obj, is_in_scope, kind_of_term, kind_of_sums, objects_of_term, objects_of_sum, objects_of_atom, all_in_scope}
 use Rattle.e_literal.specs.WellFormed.{same_kind, is_good_coefficient, is_good_atom, is_well_formed}
 use Rattle.e_deriv.specs.declared.names.Names.{Names}
-use Rattle.e_book.specs.declared.fault.Kind.{Kind}
-use Rattle.e_book.specs.declared.sum.RawTerm.{RawTerm}
-use Rattle.e_book.specs.declared.sum.RawMono.{RawMono}
 use Rattle.e_book.specs.declared.literal.RawAtom.TheVariants as raw
 use Rattle.e_book.specs.Literals.{is_diagram_raw}
 use Rattle.e_book.specs.Limits.{most_coefficient}
-use Rattle.e_book.specs.Reading.{◌>>=◌, each}
-use Rattle.e_book.specs.Scope.{scope_of_names, number_of, term_in, kind_of_raw, first_kind, mono_in, sums_in, atom_in, lit_in}
-use Rattle.e_book.specs.Canonical.{name_at, raw_term, raw_mono, raw_sum, raw_atom, raw_signed, raw_of}
-use Rattle.e_book.specs.HasSpelling.{is_diagram_atom, is_diagram_lit}
+use Rattle.e_book.specs.Reading.{each}
+use Rattle.e_book.specs.Scope.{scope_of_names, term_in, kind_of_raw, first_kind, mono_in, sums_in, atom_in, lit_in}
+use Rattle.e_book.specs.Canonical.{raw_term, raw_mono, raw_sum, raw_atom, raw_signed, raw_of}
+use Rattle.e_book.specs.Fits.{is_diagram_atom, is_diagram_lit}
 use Rattle.e_book.proofs.Differ.{both}
-use Rattle.e_book.proofs.SumsAgain.{TermNamed, MonoNamed, SumNamed}
-use Rattle.e_book.proofs.LitsAgain.{SidesNamed, AtomNamed, MaySign, LitNamed}
-use Rattle.e_book.proofs.GoodSums.{same_itself, kinds_same, is_good_mono, AreGood, GoodSums, good_sums, kind_is, turned}
+use Rattle.e_book.proofs.SumsAgain.{TermNamed, SumNamed}
+use Rattle.e_book.proofs.LitsAgain.{SidesNamed, AtomNamed, LitNamed}
+use Rattle.e_book.proofs.GoodSums.{is_good_mono, AreGood, GoodSums, good_sums, kind_is, turned}
 use Rattle.e_book.proofs.Lookups.{InOrder, Within, used_again, number_again, named_at}
 
 -- ---- objects of a literal

@@ -1,7 +1,7 @@
 -- The words of a literal are read as that literal.
-use Rattle.std.proofs.Common.{◌≡◌, ℕ, Bool, true, false, cond, eqb, ◌&&◌, List, [], ◌∷◌, ◌++◌, length, take, drop, Option, Some, None, is_some, Result, Ok, Err, refl, sym, ap, ap₂, subst, ◌∙◌}
+use Rattle.std.proofs.Common.{◌≡◌, ℕ, Bool, true, false, ◌&&◌, List, [], ◌∷◌, ◌++◌, length, Some, is_some, Ok, refl, sym, ap, ◌∙◌}
 use Rattle.std.specs.Prelude.{codes, ◌==◌}
-use Rattle.std.specs.List.{slice_split, position_or_len, AllByRecursion}
+use Rattle.std.specs.List.{position_or_len, AllByRecursion}
 use Rattle.std.specs.Str.{bytes_eq}
 use Rattle.std.proofs.lemmas.List.{take_at, drop_at}
 use Rattle.std.proofs.lemmas.List.Elements.{All-from_recursion}
@@ -9,16 +9,15 @@ use Rattle.std.proofs.lemmas.List.Splits.{slice_split_none}
 use Rattle.e_text.specs.Names.{is_name, is_statement_word, is_steps_word, is_relations_word, is_shapes_word, is_others_word}
 use Rattle.e_text.specs.Tokens.{AreTokens}
 use Rattle.e_text.proofs.TokenWords.{is_token-name}
-use Rattle.e_book.specs.declared.fault.Kind.{Kind}
 use Rattle.e_book.specs.declared.sum.RawMono.{RawMono}
 use Rattle.e_book.specs.declared.literal.Sign.{Sign}
 use Rattle.e_book.specs.declared.literal.Sign.TheVariants as signs
 use Rattle.e_book.specs.declared.literal.RawLit.{RawLit}
 use Rattle.e_book.specs.declared.literal.RawAtom.{RawAtom}
 use Rattle.e_book.specs.declared.literal.RawAtom.TheVariants as raw
-use Rattle.e_book.specs.Reading.{◌>>=◌, each}
-use Rattle.e_book.specs.Literals.{sign_of, is_sign, object_of, sums_of, equal_sides, sides_of, negation_of, sign_first, compared, signed, related, signed_of, lit_of, is_diagram_raw, diagram_lit_of, is_semicolon, lits_of}
-use Rattle.e_book.specs.Canonical.{sum_words, sums_words, atom_words, not_words, signed_words, lit_words}
+use Rattle.e_book.specs.Reading.{each}
+use Rattle.e_book.specs.Literals.{sign_of, is_sign, object_of, sums_of, equal_sides, sides_of, negation_of, compared, signed, related, signed_of, lit_of, is_diagram_raw, diagram_lit_of, is_semicolon, lits_of}
+use Rattle.e_book.specs.Canonical.{sum_words, sums_words, atom_words, signed_words, lit_words}
 use Rattle.e_book.proofs.NamesAgain.{Without, named, first_place}
 use Rattle.e_book.proofs.LetsAgain.{append_tokens}
 use Rattle.e_book.proofs.SumsAgain.{is_mono_word, mono_word_differs, SumNamed, sum_tokens, two_again, three_again, sum_again, sum_no_object, Begins, sum_begins, sum_all}

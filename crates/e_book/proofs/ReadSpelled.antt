@@ -7,7 +7,6 @@ use Rattle.e_text.specs.Names.{is_name, is_title}
 use Rattle.e_text.specs.declared.line.LineFault.{LineFault}
 use Rattle.e_literal.specs.declared.object.Sort.{Sort}
 use Rattle.e_literal.specs.declared.object.Sort.TheVariants.{Point, Line, Circle}
-use Rattle.e_literal.specs.declared.object.Obj.{Obj}
 use Rattle.e_literal.specs.declared.literal.Lit.{Lit}
 use Rattle.e_construct.specs.declared.construction.Construction.{Construction}
 use Rattle.e_construct.specs.Construct.{made, gives}
@@ -16,7 +15,7 @@ use Rattle.e_deriv.specs.declared.names.Names.{Names}
 use Rattle.e_deriv.specs.declared.block.Step.{Step}
 use Rattle.e_deriv.specs.declared.block.Step.TheVariants as steps
 use Rattle.e_deriv.specs.Naming.{names_of_sort, with_names, named, declared_names}
-use Rattle.e_deriv.specs.Script.{Qed, steps_script}
+use Rattle.e_deriv.specs.Script.{steps_script}
 use Rattle.e_book.specs.declared.fault.Kind.{Kind}
 use Rattle.e_book.specs.declared.fault.BookFault.{BookFault}
 use Rattle.e_book.specs.declared.fault.What.TheVariants as limits
@@ -24,24 +23,25 @@ use Rattle.e_book.specs.declared.literal.RawLit.{RawLit}
 use Rattle.e_book.specs.declared.lets.RawLet.{RawLet}
 use Rattle.e_book.specs.declared.form.Form.{Form}
 use Rattle.e_book.specs.declared.form.Form.TheVariants as forms
+use Rattle.e_book.specs.declared.steps.CloseLine.{CloseLine}
+use Rattle.e_book.specs.declared.steps.CloseLine.TheVariants as closes
 use Rattle.e_book.specs.declared.draft.Place.{Place}
 use Rattle.e_book.specs.declared.draft.Place.TheVariants.{Declaring, Giving, Making, Showing, Proving, Closed, Done}
 use Rattle.e_book.specs.declared.draft.Draft.{Draft}
 use Rattle.e_book.specs.Reading.{◌>>=◌, with_front}
-use Rattle.e_book.specs.Literals.{is_diagram_raw}
 use Rattle.e_book.specs.Limits.{most_theorems, most_of, most_steps, most_facts, what_of, within}
 use Rattle.e_book.specs.Headed.{Headed, is_known}
 use Rattle.e_book.specs.Scope.{scope_of_names, fresh, lit_in, lits_in, by_in, let_in, qed_in}
 use Rattle.e_book.specs.Forms.{form_of}
 use Rattle.e_book.specs.Steps.{count_monos, few_monos, with_terms, allowed, declared, few_objects, with_step, built, shut, stepped, step, begin, begun}
-use Rattle.e_book.specs.Entry.{Entry, statement_of_draft, entry_of_draft}
+use Rattle.e_book.specs.Entry.{Entry, script_of_close, statement_of_draft, entry_of_draft}
 use Rattle.e_book.specs.Book.{is_skipped, line_step, put_at, is_last, is_done, read_from}
-use Rattle.e_book.specs.HasSpelling.{HasSpelling, AreNames, is_diagram_lit, is_plain}
+use Rattle.e_book.specs.HasSpelling.{HasSpelling, AreNames, is_plain}
 use Rattle.e_book.proofs.Answered.{within_ok, appended, passes, untaken, put_ok, answered, pair, first_is, skip_or, Answer}
-use Rattle.e_book.proofs.InScope.{bind_ok, ok_is, read_ok, each_all, each_length}
+use Rattle.e_book.proofs.InScope.{bind_ok, ok_is, read_ok, each_length}
 use Rattle.e_book.proofs.Keeps.{reading_fits}
 use Rattle.e_book.proofs.Differ.{both}
-use Rattle.e_book.proofs.SaidForms.{Said, form_said, by_plain}
+use Rattle.e_book.proofs.SaidForms.{Said, form_said}
 use Rattle.e_book.proofs.KeptSums.{terms_added}
 
 -- ---- names
@@ -63,7 +63,7 @@ naming_more ns Circle new g h = record { point_names = g.point_names; line_names
 -- ---- what each line keeps
 
 abbrev is_plain_step : Step → Bool
-is_plain_step (steps.Cite by) = is_diagram_lit by.lit
+is_plain_step (steps.Cite by) = true
 is_plain_step (steps.Hence lit None) = true
 is_plain_step (steps.Hence lit (Some cert)) = false
 is_plain_step (steps.Make form names []) = list_all is_name names
@@ -138,9 +138,9 @@ spelled_shown known d e raws g said h =
     let x-is : then (d.shown ++ ls.0) ≡ e = ap then (ok_is (d.shown ++ ls.0) all.0 ls.2) ∙ ok_is (then all.0) e f.2 in
     subst (λ (y : Draft). Spelled known y) x-is (record { few = g.few; title = g.title; naming = g.naming; some = omega (arith, n, said, length-append d.shown ls.0); plain = g.plain })
 
--- at another place, with other names in scope and other objects behind qed
-moved : (known : List Headed) (d : Draft) (p : Place) (in_scope : Names) (objects : List Obj) → Spelled known d → SomeShown p d.shown → Spelled known (record d { in_scope = in_scope; objects = objects; place = p })
-moved known d p in_scope objects g some = record { few = g.few; title = g.title; naming = g.naming; some = some; plain = g.plain }
+-- at another place, with other names in scope and another close
+moved : (known : List Headed) (d : Draft) (p : Place) (in_scope : Names) (close : CloseLine) → Spelled known d → SomeShown p d.shown → Spelled known (record d { in_scope = in_scope; close = close; place = p })
+moved known d p in_scope close g some = record { few = g.few; title = g.title; naming = g.naming; some = some; plain = g.plain }
 
 spelled_step : (known : List Headed) (d e : Draft) (s : Step) (n : ℕ) → Spelled known d → is_plain_step s ≡ true → with_step d s n ≡ Ok e → Spelled known e
 unfolding with_step
@@ -151,11 +151,11 @@ spelled_step known d e s n g p h =
     subst (λ (y : Draft). Spelled known y) (ok_is x e b.2)
     (record { few = g.few; title = g.title; naming = g.naming; some = g.some; plain = appended is_plain_step d.steps (s ∷ []) g.plain (rw p refl) })
 
-spelled_by : (known : List Headed) (d e : Draft) (r : List ℕ) (ns : List (List ℕ)) (l : RawLit) → Spelled known d → is_diagram_raw l.atom ≡ true → stepped d (forms.By r ns l) ≡ Ok e → Spelled known e
+spelled_by : (known : List Headed) (d e : Draft) (r : List ℕ) (ns : List (List ℕ)) (l : RawLit) → Spelled known d → stepped d (forms.By r ns l) ≡ Ok e → Spelled known e
 unfolding stepped
-spelled_by known d e r ns l g said h =
+spelled_by known d e r ns l g h =
     let b = bind_ok (by_in d.in_scope r ns l) (λ b. with_step d (steps.Cite b) 1) e h in
-    spelled_step known d e (steps.Cite b.0) 1 g (by_plain d.in_scope r ns l b.0 said b.1) b.2
+    spelled_step known d e (steps.Cite b.0) 1 g refl b.2
 
 spelled_hence : (known : List Headed) (d e : Draft) (l : RawLit) → Spelled known d → stepped d (forms.Hence l) ≡ Ok e → Spelled known e
 unfolding stepped
@@ -175,7 +175,7 @@ spelled_built known d e l g said h =
     let then : Construction → Result Draft Kind = λ form. with_step (record d { in_scope = after form }) (steps.Make form l.new []) (length (gives form (scope_of_names d.in_scope))) in
     let f = bind_ok (let_in d.in_scope l) (λ form. few_objects (after form) >>= λ few. then form) e h in
     let w = bind_ok (few_objects (after f.0)) (λ few. then f.0) e f.2 in
-    spelled_step known (record d { in_scope = after f.0 }) e (steps.Make f.0 l.new []) (length (gives f.0 (scope_of_names d.in_scope))) (moved known d d.place (after f.0) d.objects g g.some) (names_listed l.new said) w.2
+    spelled_step known (record d { in_scope = after f.0 }) e (steps.Make f.0 l.new []) (length (gives f.0 (scope_of_names d.in_scope))) (moved known d d.place (after f.0) d.close g g.some) (names_listed l.new said) w.2
 
 spelled_let : (known : List Headed) (d e : Draft) (l : RawLet) → Spelled known d → AreNames l.new → stepped d (forms.Let l) ≡ Ok e → Spelled known e
 unfolding stepped
@@ -189,6 +189,10 @@ at_qed : (p : Place) (shown : List Lit) (ns : List (List ℕ)) → allowed p (fo
 at_qed Proving shown ns a s = s
 at_qed p shown ns a s = absurd cc
 
+at_contradiction : (p : Place) (shown : List Lit) → allowed p forms.Contradiction ≡ true → SomeShown p shown → 0 < length shown
+at_contradiction Proving shown a s = s
+at_contradiction p shown a s = absurd cc
+
 at_close : (p : Place) (shown : List Lit) → allowed p forms.End ≡ true → SomeShown p shown → 0 < length shown
 at_close Closed shown a s = s
 at_close p shown a s = absurd cc
@@ -197,23 +201,28 @@ spelled_proof : (known : List Headed) (d e : Draft) → Spelled known d → allo
 unfolding stepped
 spelled_proof known d e g a h =
     let names = declared_names (stated (statement_of_draft d)) d.names in
-    subst (λ (y : Draft). Spelled known y) (ok_is (record d { in_scope = names; place = Proving }) e h) (moved known d Proving names d.objects g (at_proof d.place d.shown a g.some))
+    subst (λ (y : Draft). Spelled known y) (ok_is (record d { in_scope = names; place = Proving }) e h) (moved known d Proving names d.close g (at_proof d.place d.shown a g.some))
 
-spelled_shut : (known : List Headed) (d e : Draft) (ns : List (List ℕ)) → Spelled known d → allowed d.place (forms.Qed ns) ≡ true → shut d ns ≡ Ok e → Spelled known e
+spelled_shut : (known : List Headed) (d e : Draft) (close : CloseLine) → Spelled known d → 0 < length d.shown → shut d close ≡ Ok e → Spelled known e
 unfolding shut
-spelled_shut known d e ns g a h =
-    let then : List Obj → Draft = λ objects. record d { objects = objects; place = Closed } in
-    let o = bind_ok (qed_in d.in_scope d.made ns) (λ objects. within (length d.steps + 1) most_steps limits.Steps >>= λ few. read_ok (then objects)) e h in
-    let w = bind_ok (within (length d.steps + 1) most_steps limits.Steps) (λ few. read_ok (then o.0)) e o.2 in
-    subst (λ (y : Draft). Spelled known y) (ok_is (then o.0) e w.2) (moved known d Closed d.in_scope o.0 g (at_qed d.place d.shown ns a g.some))
+spelled_shut known d e close g some h =
+    let x : Draft = record d { close = close; place = Closed } in
+    let w = bind_ok (within (length d.steps + 1) most_steps limits.Steps) (λ few. read_ok x) e h in
+    subst (λ (y : Draft). Spelled known y) (ok_is x e w.2) (moved known d Closed d.in_scope close g some)
 
 spelled_qed : (known : List Headed) (d e : Draft) (ns : List (List ℕ)) → Spelled known d → allowed d.place (forms.Qed ns) ≡ true → stepped d (forms.Qed ns) ≡ Ok e → Spelled known e
 unfolding stepped
-spelled_qed known d e ns g a h = spelled_shut known d e ns g a h
+spelled_qed known d e ns g a h =
+    let os = bind_ok (qed_in d.in_scope d.made ns) (λ os. shut d (closes.Qed os)) e h in
+    spelled_shut known d e (closes.Qed os.0) g (at_qed d.place d.shown ns a g.some) os.2
+
+spelled_contradiction : (known : List Headed) (d e : Draft) → Spelled known d → allowed d.place forms.Contradiction ≡ true → stepped d forms.Contradiction ≡ Ok e → Spelled known e
+unfolding stepped
+spelled_contradiction known d e g a h = spelled_shut known d e closes.Contradiction g (at_contradiction d.place d.shown a g.some) h
 
 spelled_end : (known : List Headed) (d e : Draft) → Spelled known d → allowed d.place forms.End ≡ true → stepped d forms.End ≡ Ok e → Spelled known e
 unfolding stepped
-spelled_end known d e g a h = subst (λ (y : Draft). Spelled known y) (ok_is (record d { place = Done }) e h) (moved known d Done d.in_scope d.objects g (at_close d.place d.shown a g.some))
+spelled_end known d e g a h = subst (λ (y : Draft). Spelled known y) (ok_is (record d { place = Done }) e h) (moved known d Done d.in_scope d.close g (at_close d.place d.shown a g.some))
 
 no_title : (d e : Draft) (t : List ℕ) → stepped d (forms.Theorem t) ≡ Ok e → ⊥
 unfolding stepped
@@ -226,10 +235,11 @@ spelled_stepped known d e (forms.Given raws) g s a h = spelled_given known d e r
 spelled_stepped known d e (forms.Made sort ns) g s a h = spelled_made known d e sort ns g s h
 spelled_stepped known d e (forms.Show raws) g s a h = spelled_shown known d e raws g s.0 h
 spelled_stepped known d e forms.Proof g s a h = spelled_proof known d e g a h
-spelled_stepped known d e (forms.By r ns l) g s a h = spelled_by known d e r ns l g s h
+spelled_stepped known d e (forms.By r ns l) g s a h = spelled_by known d e r ns l g h
 spelled_stepped known d e (forms.Hence l) g s a h = spelled_hence known d e l g h
 spelled_stepped known d e (forms.Let l) g s a h = spelled_let known d e l g s h
 spelled_stepped known d e (forms.Qed ns) g s a h = spelled_qed known d e ns g a h
+spelled_stepped known d e forms.Contradiction g s a h = spelled_contradiction known d e g a h
 spelled_stepped known d e forms.End g s a h = spelled_end known d e g a h
 
 spelled_next : (known : List Headed) (d e : Draft) (f : Form) → Spelled known d → Said f → step d f ≡ Ok e → Spelled known e
@@ -261,14 +271,15 @@ unfolding line_step
 spelled_line known None words e g h = let f = bind_ok (form_of words) (λ f. begin known f) e h in spelled_begin known f.0 e (form_said words f.0 f.1) f.2
 spelled_line known (Some d) words e g h = let f = bind_ok (form_of words) (λ f. step d f) e h in spelled_next known d e f.0 g (form_said words f.0 f.1) f.2
 
-plain_script : (ss : List Step) (objects : List Obj) → list_all is_plain_step ss ≡ true → is_plain (steps_script ss (Qed objects [])) ≡ true
+plain_script : (ss : List Step) (close : CloseLine) → list_all is_plain_step ss ≡ true → is_plain (steps_script ss (script_of_close close)) ≡ true
 unfolding is_plain
-plain_script [] objects h = refl
-plain_script (steps.Cite by ∷ ss) objects h = let p = both (is_diagram_lit by.lit) (list_all is_plain_step ss) h in rw (p.0, plain_script ss objects p.1) refl
-plain_script (steps.Hence lit None ∷ ss) objects h = plain_script ss objects h
-plain_script (steps.Hence lit (Some cert) ∷ ss) objects h = absurd cc
-plain_script (steps.Make form names [] ∷ ss) objects h = let p = both (list_all is_name names) (list_all is_plain_step ss) h in rw (p.0, plain_script ss objects p.1) refl
-plain_script (steps.Make form names (c ∷ cs) ∷ ss) objects h = absurd cc
+plain_script [] (closes.Qed os) h = refl
+plain_script [] closes.Contradiction h = refl
+plain_script (steps.Cite by ∷ ss) close h = plain_script ss close h
+plain_script (steps.Hence lit None ∷ ss) close h = plain_script ss close h
+plain_script (steps.Hence lit (Some cert) ∷ ss) close h = absurd cc
+plain_script (steps.Make form names [] ∷ ss) close h = let p = both (list_all is_name names) (list_all is_plain_step ss) h in rw (p.0, plain_script ss close p.1) refl
+plain_script (steps.Make form names (c ∷ cs) ∷ ss) close h = absurd cc
 
 -- what is known of a theorem beside that it fits
 record Named (known : List Headed) (t : Entry) : Type 0 where
@@ -283,7 +294,7 @@ at_last Done shown a s = s
 at_last p shown a s = absurd cc
 
 all_named : (known : List Headed) (d : Draft) → Spelled known d → is_done d ≡ true → Named known (entry_of_draft d)
-all_named known d g a = record { few = g.few; title = g.title; naming = g.naming; some = at_last d.place d.shown a g.some; plain = plain_script d.steps d.objects g.plain }
+all_named known d g a = record { few = g.few; title = g.title; naming = g.naming; some = at_last d.place d.shown a g.some; plain = plain_script d.steps d.close g.plain }
 
 reading_names : (known : List Headed) (last : ℕ) (draft : Option Draft) (lines rest : List (Result Seen LineFault)) (t : Entry) → SpelledSoFar known draft → read_from known last draft lines ≡ answered (pair t rest) → Named known t
 reading_names known last None [] rest t g e = absurd cc

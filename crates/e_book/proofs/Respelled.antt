@@ -1,26 +1,22 @@
 -- The words of a form are read as that form, and a line of them has these words.
-use Rattle.std.proofs.Common.{◌≡◌, ℕ, Bool, true, false, cond, List, [], ◌∷◌, ◌++◌, Result, Ok, Err, refl, ap, ◌∙◌}
+use Rattle.std.proofs.Common.{◌≡◌, ℕ, Bool, true, cond, List, [], ◌∷◌, ◌++◌, Result, Ok, Err, refl, ap, ◌∙◌}
 use Rattle.std.specs.Prelude.{codes}
-use Rattle.std.specs.List.{slice_split}
-use Rattle.std.specs.Str.{bytes_eq}
 use Rattle.std.proofs.lemmas.List.{append-nil}
-use Rattle.e_text.specs.Names.{is_name, is_title, is_statement_word, is_steps_word, is_relations_word, is_shapes_word, is_others_word}
+use Rattle.e_text.specs.Names.{is_title}
 use Rattle.e_literal.specs.declared.object.Sort.{Sort}
 use Rattle.e_literal.specs.declared.object.Sort.TheVariants as sorts
 use Rattle.e_book.specs.declared.fault.Kind.{Kind}
 use Rattle.e_book.specs.declared.fault.Kind.TheVariants.{Malformed}
 use Rattle.e_book.specs.declared.literal.RawLit.{RawLit}
-use Rattle.e_book.specs.declared.literal.RawAtom.{RawAtom}
-use Rattle.e_book.specs.declared.literal.RawAtom.TheVariants as raw
 use Rattle.e_book.specs.declared.form.Form.{Form}
 use Rattle.e_book.specs.declared.form.Form.TheVariants as forms
-use Rattle.e_book.specs.Reading.{◌>>=◌, each, word_at, name_at, title_at, end_at, cut_at, names_of}
+use Rattle.e_book.specs.Reading.{◌>>=◌, word_at, title_at, end_at, cut_at, names_of}
 use Rattle.e_book.specs.Literals.{is_diagram_raw, diagram_lit_of}
 use Rattle.e_book.specs.Forms.{declare_of, sort_of, made_of, by_of, theorem_of, bare, form_named, form_of}
 use Rattle.e_book.specs.Canonical.{lit_words, sort_word, form_words}
 use Rattle.e_book.specs.HasSpelling.{AreNames}
 use Rattle.e_book.proofs.Differ.{name_differs}
-use Rattle.e_book.proofs.NamesAgain.{Without, named, titled, names_again, some_names_again, cut_again}
+use Rattle.e_book.proofs.NamesAgain.{Without, titled, names_again, some_names_again, cut_again}
 use Rattle.e_book.proofs.LitsAgain.{LitNamed, lit_again, diagram_again, lits_again}
 use Rattle.e_book.proofs.LetsAgain.{LetNamed, as_read as let_as_read, let_again}
 
@@ -95,4 +91,5 @@ form_again (forms.By r ns l) h = by_again r ns l h.0 h.1 h.2 h.3
 form_again (forms.Hence l) h = rw (lit_again l h) refl
 form_again (forms.Let l) h = rw (let_again l h) refl
 form_again (forms.Qed ns) h = rw (names_again ns h) refl
+form_again forms.Contradiction h = refl
 form_again forms.End h = refl

@@ -29,7 +29,8 @@ use Rattle.e_book.specs.Literals.{lit_of, is_diagram_raw, diagram_lit_of, is_sem
 use Rattle.e_book.specs.Lets.{new_words, argument_words, shapes_of, avoided_of, let_named, let_of}
 use Rattle.e_book.specs.Forms.{declare_of, sort_of, made_of, by_of, theorem_of, bare, form_named, form_of}
 use Rattle.e_book.specs.Scope.{used, number_of, on_sort, line_meets, meets_from, equal_at, atom_in, negated_in, lit_in, args_in, by_in, known_rule, variables_of, right_count}
-use Rattle.e_book.specs.HasSpelling.{AreNames, is_diagram_atom, is_diagram_lit}
+use Rattle.e_book.specs.Fits.{is_diagram_atom, is_diagram_lit}
+use Rattle.e_book.specs.HasSpelling.{AreNames}
 use Rattle.e_book.proofs.InScope.{bind_ok, ok_is, read_ok, each_length}
 use Rattle.e_book.proofs.SaidLits.{AtomSaid, LitsSaid, lit_said, lits_said, diagram_said}
 
@@ -166,8 +167,9 @@ either false x y f e hx hy = hy e
 named_said : (w : List ℕ) (ws : List (List ℕ)) (f : Form) → form_named w ws ≡ Ok f → Said f
 unfolding form_named
 named_said w ws f e =
-    let r14 : Result Form Kind = Err Malformed in
-    let r13 : Result Form Kind = cond (bytes_eq w (codes "end")) (bare ws forms.End) r14 in
+    let r15 : Result Form Kind = Err Malformed in
+    let r14 : Result Form Kind = cond (bytes_eq w (codes "end")) (bare ws forms.End) r15 in
+    let r13 : Result Form Kind = cond (bytes_eq w (codes "contradiction")) (bare ws forms.Contradiction) r14 in
     let r12 : Result Form Kind = cond (bytes_eq w (codes "qed")) (names_of ws >>= λ ns. read_ok (forms.Qed ns)) r13 in
     let r11 : Result Form Kind = cond (bytes_eq w (codes "let")) (let_of ws >>= λ l. read_ok (forms.Let l)) r12 in
     let r10 : Result Form Kind = cond (bytes_eq w (codes "hence")) (lit_of ws >>= λ l. read_ok (forms.Hence l)) r11 in
@@ -191,7 +193,8 @@ named_said w ws f e =
     either (bytes_eq w (codes "hence")) (lit_of ws >>= λ l. read_ok (forms.Hence l)) r11 f e9 (hence_said ws f) (λ e10.
     either (bytes_eq w (codes "let")) (let_of ws >>= λ l. read_ok (forms.Let l)) r12 f e10 (let_said ws f) (λ e11.
     either (bytes_eq w (codes "qed")) (names_of ws >>= λ ns. read_ok (forms.Qed ns)) r13 f e11 (qed_said ws f) (λ e12.
-    either (bytes_eq w (codes "end")) (bare ws forms.End) r14 f e12 (bare_said ws forms.End f tt) (no_form f)))))))))))))
+    either (bytes_eq w (codes "contradiction")) (bare ws forms.Contradiction) r14 f e12 (bare_said ws forms.Contradiction f tt) (λ e13.
+    either (bytes_eq w (codes "end")) (bare ws forms.End) r15 f e13 (bare_said ws forms.End f tt) (no_form f))))))))))))))
 
 pub form_said : (words : List (List ℕ)) (f : Form) → form_of words ≡ Ok f → Said f
 unfolding form_of

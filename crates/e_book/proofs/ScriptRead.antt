@@ -19,19 +19,22 @@ use Rattle.e_deriv.specs.declared.names.Names.{Names}
 use Rattle.e_deriv.specs.declared.block.Step.{Step}
 use Rattle.e_deriv.specs.declared.block.Step.TheVariants as steps
 use Rattle.e_deriv.specs.Naming.{named}
-use Rattle.e_deriv.specs.Script.{Script, Cite, Hence, Make, Qed, steps_script, size}
+use Rattle.e_deriv.specs.Script.{Script, Cite, Hence, Make, Qed, Contradiction, steps_script, size}
 use Rattle.e_deriv.specs.Goal.{Goal}
 use Rattle.e_deriv.specs.Lines.{lines}
 use Rattle.e_deriv.specs.Steps.{is_citation, fits}
+use Rattle.e_book.specs.declared.steps.CloseLine.{CloseLine}
+use Rattle.e_book.specs.declared.steps.CloseLine.TheVariants as closes
 use Rattle.e_book.specs.declared.draft.Place.TheVariants.{Proving, Closed}
 use Rattle.e_book.specs.declared.draft.Draft.{Draft}
 use Rattle.e_book.specs.Limits.{most_steps, most_facts, most_terms}
 use Rattle.e_book.specs.Headed.{Headed}
-use Rattle.e_book.specs.Scope.{scope_of_names, fresh, object_as, objects_of_sorts, qed_in}
+use Rattle.e_book.specs.Scope.{scope_of_names, object_as, objects_of_sorts, qed_in}
 use Rattle.e_book.specs.Steps.{count_monos, few_objects, with_step, with_terms, built, shut, stepped, step}
-use Rattle.e_book.specs.Fits.{NewNamesFit, count_given, has_good_literals, monomials, monomials_given}
-use Rattle.e_book.specs.Canonical.{raw_of, name_of_object, by_form, hence_form, let_form, qed_form, script_forms}
-use Rattle.e_book.specs.HasSpelling.{AreNames, is_diagram_lit, is_plain}
+use Rattle.e_book.specs.Entry.{script_of_close}
+use Rattle.e_book.specs.Fits.{NewNamesFit, count_given, is_diagram_lit, has_good_literals, monomials, monomials_given}
+use Rattle.e_book.specs.Canonical.{raw_of, name_of_object, by_form, hence_form, let_form, qed_form, contradiction_form, script_forms}
+use Rattle.e_book.specs.HasSpelling.{AreNames, is_plain}
 use Rattle.e_book.proofs.Differ.{both}
 use Rattle.e_book.proofs.Respelled.{as_read}
 use Rattle.e_book.proofs.Lookups.{InOrder, object_again, objects_named, sorts_same}
@@ -49,20 +52,22 @@ abbrev pub proving : Draft → Names → List Step → ℕ → ℕ → Draft
 proving d ns ss facts terms = record d { in_scope = ns; steps = ss; facts = facts; terms = terms; place = Proving }
 
 -- and behind its close
-abbrev pub closed : Draft → Names → List Step → ℕ → ℕ → List Obj → Draft
-closed d ns ss facts terms objects = record d { in_scope = ns; steps = ss; facts = facts; terms = terms; objects = objects; place = Closed }
+abbrev pub closed : Draft → Names → List Step → ℕ → ℕ → CloseLine → Draft
+closed d ns ss facts terms close = record d { in_scope = ns; steps = ss; facts = facts; terms = terms; close = close; place = Closed }
 
 abbrev pub steps_of : Script → List Step
 steps_of (Cite by rest) = steps.Cite by ∷ steps_of rest
 steps_of (Hence lit cert rest) = steps.Hence lit cert ∷ steps_of rest
 steps_of (Make form names certs rest) = steps.Make form names certs ∷ steps_of rest
 steps_of (Qed objects certs) = []
+steps_of (Contradiction against) = []
 
-abbrev pub objects_of : Script → List Obj
-objects_of (Cite by rest) = objects_of rest
-objects_of (Hence lit cert rest) = objects_of rest
-objects_of (Make form names certs rest) = objects_of rest
-objects_of (Qed objects certs) = objects
+abbrev pub close_of : Script → CloseLine
+close_of (Cite by rest) = close_of rest
+close_of (Hence lit cert rest) = close_of rest
+close_of (Make form names certs rest) = close_of rest
+close_of (Qed objects certs) = closes.Qed objects
+close_of (Contradiction against) = closes.Contradiction
 
 -- ---- one line
 
@@ -109,11 +114,18 @@ qed_read ns sorts os o h =
     rw count (objects_read ns sorts os o h)
 
 step_qed : (d : Draft) (ns : Names) (ss : List Step) (facts terms : ℕ) (os : List Obj) → InOrder ns → are_of_sorts (scope_of_names ns) d.made os ≡ true → length ss + 1 ≤ most_steps
-    → step (proving d ns ss facts terms) (qed_form ns os) ≡ Ok (closed d ns ss facts terms os)
+    → step (proving d ns ss facts terms) (qed_form ns os) ≡ Ok (closed d ns ss facts terms (closes.Qed os))
 unfolding step stepped shut
 step_qed d ns ss facts terms os o h few =
     let room : ltb most_steps (length ss + 1) ≡ false = le-ltb _ _ few in
     rw (qed_read ns d.made os o h, room) refl
+
+step_contradiction : (d : Draft) (ns : Names) (ss : List Step) (facts terms : ℕ) → length ss + 1 ≤ most_steps
+    → step (proving d ns ss facts terms) contradiction_form ≡ Ok (closed d ns ss facts terms closes.Contradiction)
+unfolding step stepped shut
+step_contradiction d ns ss facts terms few =
+    let room : ltb most_steps (length ss + 1) ≡ false = le-ltb _ _ few in
+    rw room refl
 
 -- ---- all lines
 
@@ -123,6 +135,7 @@ at_least (Cite b r) = omega arith
 at_least (Hence l c r) = omega arith
 at_least (Make f ns cs r) = omega arith
 at_least (Qed os cs) = omega arith
+at_least (Contradiction against) = omega arith
 
 list_names : (ns : List (List ℕ)) → list_all is_name ns ≡ true → AreNames ns
 list_names [] h = tt
@@ -145,7 +158,7 @@ pub record Taken (known : List Headed) (d : Draft) (ns : Names) (ss : List Step)
   pub in_scope : Names
   pub given : ℕ
   pub written : ℕ
-  pub runs : Runs known (Some (proving d ns ss facts terms)) (script_forms ns script) (Some (closed d in_scope (ss ++ steps_of script) given written (objects_of script)))
+  pub runs : Runs known (Some (proving d ns ss facts terms)) (script_forms ns script) (Some (closed d in_scope (ss ++ steps_of script) given written (close_of script)))
 
 -- a line with a certificate is not plain
 no_cert : false ≡ true → ⊥
@@ -153,25 +166,25 @@ no_cert e = absurd cc
 
 -- one more step, and what comes behind it
 behind : (known : List Headed) (d : Draft) (ns : Names) (ss : List Step) (facts terms : ℕ) (s : Step) (rest : Script) (t : Taken known d ns (ss ++ s ∷ []) facts terms rest)
-    → Runs known (Some (proving d ns (ss ++ s ∷ []) facts terms)) (script_forms ns rest) (Some (closed d t.in_scope (ss ++ s ∷ steps_of rest) t.given t.written (objects_of rest)))
+    → Runs known (Some (proving d ns (ss ++ s ∷ []) facts terms)) (script_forms ns rest) (Some (closed d t.in_scope (ss ++ s ∷ steps_of rest) t.given t.written (close_of rest)))
 behind known d ns ss facts terms s rest t =
-    subst (λ (l : List Step). Runs known (Some (proving d ns (ss ++ s ∷ []) facts terms)) (script_forms ns rest) (Some (closed d t.in_scope l t.given t.written (objects_of rest)))) (append_assoc ss (s ∷ []) (steps_of rest)) t.runs
+    subst (λ (l : List Step). Runs known (Some (proving d ns (ss ++ s ∷ []) facts terms)) (script_forms ns rest) (Some (closed d t.in_scope l t.given t.written (close_of rest)))) (append_assoc ss (s ∷ []) (steps_of rest)) t.runs
 
 pub run_script : (known : List Headed) (d : Draft) (ns : Names) (ss : List Step) (facts terms : ℕ) (script : Script) (given : List Lit) (goal : Goal) → Ready d ns ss facts terms script given goal → Taken known d ns ss facts terms script
 unfolding script_forms is_plain lines size NewNamesFit count_given has_good_literals monomials_given
 run_script known d ns ss facts terms (Cite by rest) given goal r =
-    let p = both (is_diagram_lit by.lit) (is_plain rest) r.plain in
+    let p = both (is_diagram_lit by.lit) (has_good_literals rest) r.good in
     let q = both (is_citation (scope_of_names ns) by) (list_all fits (lines rest (scope_of_names ns) (joined given by.lit) goal)) r.fitting in
     let n : length (ss ++ steps.Cite by ∷ []) ≡ length ss + 1 = length-append ss (steps.Cite by ∷ []) in
     let next = run_script known d ns (ss ++ steps.Cite by ∷ []) (facts + 1) terms rest (joined given by.lit) goal (record {
       order = r.order;
       goal_sorts = r.goal_sorts;
-      plain = p.1;
+      plain = r.plain;
       fitting = q.1;
       new_names = r.new_names;
       few = omega (arith, r.few, n);
       most = omega (arith, r.most);
-      good = r.good;
+      good = p.1;
       short = r.short;
     }) in
     record {
@@ -259,21 +272,37 @@ run_script known d ns ss facts terms (Qed os []) given goal r =
       given = facts;
       written = terms;
       runs = (
-        closed d ns ss facts terms os,
+        closed d ns ss facts terms (closes.Qed os),
         objects_named ns os r.order (of_sorts_in_scope (scope_of_names ns) d.made os h),
         step_qed d ns ss facts terms os r.order h (omega (arith, r.few)),
         refl,
-        ap (λ (l : List Step). Some (closed d ns l facts terms os)) (sym (append-nil ss)),
+        ap (λ (l : List Step). Some (closed d ns l facts terms (closes.Qed os))) (sym (append-nil ss)),
       );
     }
 run_script known d ns ss facts terms (Qed os (c ∷ cs)) given goal r = absurd (no_cert r.plain)
+run_script known d ns ss facts terms (Contradiction None) given goal r =
+    record {
+      in_scope = ns;
+      given = facts;
+      written = terms;
+      runs = (
+        closed d ns ss facts terms closes.Contradiction,
+        tt,
+        step_contradiction d ns ss facts terms (omega (arith, r.few)),
+        refl,
+        ap (λ (l : List Step). Some (closed d ns l facts terms closes.Contradiction)) (sym (append-nil ss)),
+      );
+    }
+run_script known d ns ss facts terms (Contradiction (Some against)) given goal r = absurd (no_cert r.plain)
 
-pub same_script : (script : Script) → is_plain script ≡ true → steps_script (steps_of script) (Qed (objects_of script) []) ≡ script
+pub same_script : (script : Script) → is_plain script ≡ true → steps_script (steps_of script) (script_of_close (close_of script)) ≡ script
 unfolding is_plain
-same_script (Cite by rest) p = ap (λ (s : Script). Cite by s) (same_script rest (both (is_diagram_lit by.lit) (is_plain rest) p).1)
+same_script (Cite by rest) p = ap (λ (s : Script). Cite by s) (same_script rest p)
 same_script (Hence lit None rest) p = ap (λ (s : Script). Hence lit None s) (same_script rest p)
 same_script (Hence lit (Some cert) rest) p = absurd cc
 same_script (Make form names [] rest) p = ap (λ (s : Script). Make form names [] s) (same_script rest (both (list_all is_name names) (is_plain rest) p).1)
 same_script (Make form names (c ∷ cs) rest) p = absurd cc
 same_script (Qed os []) p = refl
 same_script (Qed os (c ∷ cs)) p = absurd cc
+same_script (Contradiction None) p = refl
+same_script (Contradiction (Some against)) p = absurd cc

@@ -1,8 +1,7 @@
 -- A literal that is well formed is within the limits, as it is spelled.
-use Rattle.std.proofs.Common.{◌≡◌, ℕ, ◌+◌, ◌≤◌, Bool, true, false, leb, ltb, ◌&&◌, List, [], ◌∷◌, ◌++◌, length, map, Ok, refl, sym, ap, ◌∙◌, arith, length-append}
-use Rattle.std.specs.Prelude.{sum_by}
+use Rattle.std.proofs.Common.{◌≡◌, ◌+◌, Bool, true, false, leb, List, [], ◌∷◌, ◌++◌, length, Ok, refl, ◌∙◌, arith, length-append}
 use Rattle.std.specs.List.{list_all}
-use Rattle.std.proofs.lemmas.Bool.{leb-true, le-leb}
+use Rattle.std.proofs.lemmas.Bool.{le-leb}
 use Rattle.std.proofs.lemmas.List.{length-map}
 use Rattle.std.proofs.lemmas.List.Folds.{list_all-append}
 use Rattle.std.proofs.lemmas.List.Sums.{sum_by-append}
@@ -15,14 +14,11 @@ use Rattle.e_literal.specs.Literal.{kind_of_term, kind_of_sums}
 use Rattle.e_literal.specs.WellFormed.{same_kind, is_good_coefficient, is_good_atom, is_well_formed}
 use Rattle.e_deriv.specs.declared.names.Names.{Names}
 use Rattle.e_book.specs.declared.sum.RawMono.{RawMono}
-use Rattle.e_book.specs.declared.literal.RawLit.{RawLit}
-use Rattle.e_book.specs.declared.literal.RawAtom.{RawAtom}
 use Rattle.e_book.specs.Limits.{most_monomials, most_coefficient}
-use Rattle.e_book.specs.Reading.{◌>>=◌}
 use Rattle.e_book.specs.Literals.{monos_of}
 use Rattle.e_book.specs.Steps.{count_monos, few_monos}
 use Rattle.e_book.specs.Fits.{monomials, count_monomials}
-use Rattle.e_book.specs.Canonical.{raw_mono, raw_sum, raw_atom, raw_signed, raw_of}
+use Rattle.e_book.specs.Canonical.{raw_mono, raw_sum, raw_signed, raw_of}
 use Rattle.e_book.proofs.Differ.{both}
 use Rattle.e_book.proofs.GoodSums.{is_good_mono, AreGood, GoodSums, good_sums, turned}
 

@@ -1,5 +1,5 @@
 -- The words of a sum are read as that sum.
-use Rattle.std.proofs.Common.{◌≡◌, ℕ, zero, suc, ◌+◌, ◌≤◌, ◌<◌, ◌^◌, Bool, true, false, cond, eqb, ◌&&◌, ◌||◌, List, [], ◌∷◌, ◌++◌, length, map, Option, Some, None, Result, Ok, Err, refl, sym, ap, subst, ◌∙◌, arith}
+use Rattle.std.proofs.Common.{◌≡◌, ℕ, ◌+◌, ◌≤◌, Bool, true, false, cond, ◌||◌, List, [], ◌∷◌, ◌++◌, map, Option, Some, None, Ok, refl, sym, ap, ◌∙◌, arith}
 use Rattle.std.specs.Prelude.{codes, decimal, min, ◌==◌}
 use Rattle.std.specs.List.{slice_split, AllByRecursion}
 use Rattle.std.specs.Str.{bytes_eq}
@@ -9,17 +9,15 @@ use Rattle.std.proofs.lemmas.List.Splits.{slice_split_at, slice_split_none}
 use Rattle.std.proofs.lemmas.Bool.Decides.{nat_tests}
 use Rattle.std.proofs.lemmas.Slice.Eq.{bytes_eq-Decides}
 use Rattle.e_text.specs.Names.{is_name, is_statement_word, is_steps_word, is_relations_word, is_shapes_word, is_others_word}
-use Rattle.e_text.specs.Numerals.{is_numeral, value_from, number_of}
-use Rattle.e_text.specs.Tokens.{is_token, AreTokens}
+use Rattle.e_text.specs.Numerals.{is_numeral, value_from}
+use Rattle.e_text.specs.Tokens.{AreTokens}
 use Rattle.e_text.proofs.TokenWords.{is_token-name}
 use Rattle.e_text.proofs.NumeralWords.{is_numeral-decimal, number_of-decimal, is_token-numeral}
-use Rattle.e_book.specs.declared.fault.Kind.{Kind}
-use Rattle.e_book.specs.declared.fault.Kind.TheVariants.{Malformed}
 use Rattle.e_book.specs.declared.sum.RawTerm.{RawTerm}
 use Rattle.e_book.specs.declared.sum.RawTerm.TheVariants.{Seg, Ang, Area, Right}
 use Rattle.e_book.specs.declared.sum.RawMono.{RawMono}
 use Rattle.e_book.specs.Limits.{most_coefficient}
-use Rattle.e_book.specs.Reading.{◌>>=◌, each, two_names, three_names, word_at, name_at, end_at}
+use Rattle.e_book.specs.Reading.{each, two_names, three_names, word_at, name_at, end_at}
 use Rattle.e_book.specs.Sums.{term_named, term_of, coefficient_of, counted_term, mono_of, is_plus, is_zero, sum_of}
 use Rattle.e_book.specs.Literals.{object_of}
 use Rattle.e_book.specs.Canonical.{term_words, coefficient_words, mono_words, more_monos, sum_words}

@@ -1,5 +1,5 @@
 -- A literal that is read within the limits is well formed.
-use Rattle.std.proofs.Common.{◌≡◌, ℕ, ◌+◌, ◌≤◌, Bool, true, false, cond, leb, eqb, ◌&&◌, List, [], ◌∷◌, ◌++◌, length, Result, Ok, Err, refl, sym, ap, subst, ◌∙◌, arith, length-append}
+use Rattle.std.proofs.Common.{◌≡◌, ℕ, ◌+◌, ◌≤◌, Bool, true, false, leb, ◌&&◌, List, [], ◌∷◌, ◌++◌, length, Ok, refl, sym, ap, subst, ◌∙◌, arith, length-append}
 use Rattle.std.specs.Prelude.{◌==◌}
 use Rattle.std.specs.List.{list_all}
 use Rattle.std.proofs.lemmas.Bool.{leb-true, le-leb}
@@ -14,10 +14,9 @@ use Rattle.e_literal.specs.declared.object.Mono.{Mono}
 use Rattle.e_literal.specs.declared.literal.Atom.{Atom}
 use Rattle.e_literal.specs.declared.literal.Atom.TheVariants as atoms
 use Rattle.e_literal.specs.declared.literal.Lit.{Lit}
-use Rattle.e_literal.specs.Literal.{kind_of_term, kind_of_sums}
-use Rattle.e_literal.specs.WellFormed.{same_kind, is_good_coefficient, is_good_atom, is_well_formed}
+use Rattle.e_literal.specs.Literal.{kind_of_term}
+use Rattle.e_literal.specs.WellFormed.{same_kind, is_good_atom, is_well_formed}
 use Rattle.e_deriv.specs.declared.names.Names.{Names}
-use Rattle.e_book.specs.declared.fault.Kind.{Kind}
 use Rattle.e_book.specs.declared.sum.RawTerm.{RawTerm}
 use Rattle.e_book.specs.declared.sum.RawTerm.TheVariants as rawterms
 use Rattle.e_book.specs.declared.sum.RawMono.{RawMono}
@@ -26,11 +25,10 @@ use Rattle.e_book.specs.declared.literal.RawAtom.{RawAtom}
 use Rattle.e_book.specs.declared.literal.RawAtom.TheVariants as raw
 use Rattle.e_book.specs.Limits.{most_monomials, most_coefficient}
 use Rattle.e_book.specs.Reading.{◌>>=◌, each}
-use Rattle.e_book.specs.Literals.{monos_of, is_diagram_raw}
+use Rattle.e_book.specs.Literals.{monos_of}
 use Rattle.e_book.specs.Scope.{number_of, term_in, kind_of_raw, first_kind, mono_in, sums_in, atom_in, negated_in, lit_in, lits_in}
 use Rattle.e_book.specs.Steps.{are_short, are_small, count_monos}
-use Rattle.e_book.specs.Fits.{monomials, count_monomials}
-use Rattle.e_book.specs.HasSpelling.{is_diagram_atom}
+use Rattle.e_book.specs.Fits.{is_diagram_atom, monomials, count_monomials}
 use Rattle.e_book.proofs.Differ.{both}
 use Rattle.e_book.proofs.InScope.{bind_ok, ok_is, read_ok, each_length, mono_read, sums_read}
 use Rattle.e_book.proofs.SaidLits.{SumSaid, SidesSaid, AtomSaid, LitsSaid}
@@ -149,7 +147,7 @@ sides_count ns x y p e =
     let r = sums_read ns x y p e in
     (each_length (mono_in ns (first_kind x y)) x p.0 r.left, each_length (mono_in ns (first_kind x y)) y p.1 r.right)
 
-no_monomials : (a : Atom) → is_diagram_atom a ≡ true → monomials a ≡ 0
+pub no_monomials : (a : Atom) → is_diagram_atom a ≡ true → monomials a ≡ 0
 no_monomials (atoms.MagEq x y) h = absurd cc
 no_monomials (atoms.MagLt x y) h = absurd cc
 no_monomials a h = refl

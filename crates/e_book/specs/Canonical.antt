@@ -24,7 +24,7 @@ use Rattle.e_theorem.specs.declared.statement.Statement.{Statement}
 use Rattle.e_theorem.specs.Statements.{stated}
 use Rattle.e_deriv.specs.declared.names.Names.{Names}
 use Rattle.e_deriv.specs.Naming.{names_of_sort, named, declared_names}
-use Rattle.e_deriv.specs.Script.{Script, Cite, Hence, Make, Qed}
+use Rattle.e_deriv.specs.Script.{Script, Cite, Hence, Make, Qed, Contradiction}
 use Rattle.e_book.specs.declared.sum.RawTerm.{RawTerm}
 use Rattle.e_book.specs.declared.sum.RawTerm.TheVariants as rawterms
 use Rattle.e_book.specs.declared.sum.RawMono.{RawMono}
@@ -147,6 +147,7 @@ form_words (forms.By r ns l) = codes "by" ∷ r ∷ (ns ++ codes ":" ∷ lit_wor
 form_words (forms.Hence l) = codes "hence" ∷ lit_words l
 form_words (forms.Let l) = codes "let" ∷ let_words l
 form_words (forms.Qed ns) = codes "qed" ∷ ns
+form_words forms.Contradiction = codes "contradiction" ∷ []
 form_words forms.End = codes "end" ∷ []
 
 -- a line without its end
@@ -266,6 +267,9 @@ head_forms t = forms.Theorem t.title ∷ (given_forms t.names t.statement ++ (sh
 abbrev pub qed_form : Names → List Obj → Form
 qed_form ns objects = forms.Qed (map (name_of_object ns) objects)
 
+abbrev pub contradiction_form : Form
+contradiction_form = forms.Contradiction
+
 abbrev pub end_form : Form
 end_form = forms.End
 
@@ -276,6 +280,7 @@ script_forms ns (Cite by rest) = by_form ns by ∷ script_forms ns rest
 script_forms ns (Hence lit cert rest) = hence_form ns lit ∷ script_forms ns rest
 script_forms ns (Make form names certs rest) = let_form ns form names ∷ script_forms (named ns (made form) names) rest
 script_forms ns (Qed objects certs) = qed_form ns objects ∷ []
+script_forms ns (Contradiction against) = contradiction_form ∷ []
 
 -- the names that a theorem's proof begins with: those of the declared objects
 abbrev pub names_of_proof : Entry → Names

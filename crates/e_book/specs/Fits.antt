@@ -13,7 +13,7 @@ use Rattle.e_literal.specs.Use.{scope_of}
 use Rattle.e_construct.specs.Construct.{made, gives}
 use Rattle.e_theorem.specs.Statements.{stated}
 use Rattle.e_deriv.specs.declared.names.Names.{Names}
-use Rattle.e_deriv.specs.Script.{Script, Cite, Hence, Make, Qed, size}
+use Rattle.e_deriv.specs.Script.{Script, Cite, Hence, Make, Qed, Contradiction, size}
 use Rattle.e_deriv.specs.Lines.{proof_lines}
 use Rattle.e_deriv.specs.Steps.{fits}
 use Rattle.e_deriv.specs.Naming.{named, declared_names}
@@ -53,6 +53,7 @@ NewNamesFit ns (Make form names certs rest) =
     × (few_objects (named ns (made form) names) ≡ Ok tt)
     × NewNamesFit (named ns (made form) names) rest
 NewNamesFit ns (Qed objects certs) = Unit {0}
+NewNamesFit ns (Contradiction against) = Unit {0}
 
 -- how many literals the lines of a script give, repeats counted
 unfoldable pub count_given : Scope → Script → ℕ
@@ -60,13 +61,24 @@ count_given s (Cite by rest) = 1 + count_given s rest
 count_given s (Hence lit cert rest) = 1 + count_given s rest
 count_given s (Make form names certs rest) = length (gives form s) + count_given (grown s (made form)) rest
 count_given s (Qed objects certs) = 0
+count_given s (Contradiction against) = 0
 
--- the literals of a script are well formed
+-- an atom of diagrams or of equal objects
+abbrev pub is_diagram_atom : Atom → Bool
+is_diagram_atom (atoms.MagEq x y) = false
+is_diagram_atom (atoms.MagLt x y) = false
+is_diagram_atom a = true
+
+abbrev pub is_diagram_lit : Lit → Bool
+is_diagram_lit l = is_diagram_atom l.atom
+
+-- the literals of a script are well formed, and no citation speaks of magnitudes
 unfoldable pub has_good_literals : Script → Bool
-has_good_literals (Cite by rest) = has_good_literals rest
+has_good_literals (Cite by rest) = is_diagram_lit by.lit && has_good_literals rest
 has_good_literals (Hence lit cert rest) = is_well_formed lit && has_good_literals rest
 has_good_literals (Make form names certs rest) = has_good_literals rest
 has_good_literals (Qed objects certs) = true
+has_good_literals (Contradiction against) = true
 
 -- how many monomials an atom has
 abbrev pub monomials : Atom → ℕ
@@ -83,6 +95,7 @@ monomials_given (Cite by rest) = monomials_given rest
 monomials_given (Hence lit cert rest) = monomials lit.atom + monomials_given rest
 monomials_given (Make form names certs rest) = monomials_given rest
 monomials_given (Qed objects certs) = 0
+monomials_given (Contradiction against) = 0
 
 pub record Fits (known : List Headed) (t : Entry) : Type 0 where
   -- no earlier theorem has its title

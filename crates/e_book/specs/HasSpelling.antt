@@ -2,10 +2,7 @@
 use Rattle.std.specs.Prelude.{◌≡◌, ℕ, ◌<◌, Bool, true, false, ◌&&◌, List, [], length, None, Some}
 use Rattle.std.specs.List.{list_all, AllByRecursion}
 use Rattle.e_text.specs.Names.{is_name, is_title}
-use Rattle.e_literal.specs.declared.literal.Atom.{Atom}
-use Rattle.e_literal.specs.declared.literal.Atom.TheVariants.{MagEq, MagLt}
-use Rattle.e_literal.specs.declared.literal.Lit.{Lit}
-use Rattle.e_deriv.specs.Script.{Script, Cite, Hence, Make, Qed}
+use Rattle.e_deriv.specs.Script.{Script, Cite, Hence, Make, Qed, Contradiction}
 use Rattle.e_book.specs.Limits.{most_theorems}
 use Rattle.e_book.specs.Headed.{Headed}
 use Rattle.e_book.specs.Entry.{Entry}
@@ -14,24 +11,17 @@ use Rattle.e_book.specs.Fits.{Fits}
 abbrev pub AreNames : List (List ℕ) → Type 0
 AreNames names = AllByRecursion (λ n. is_name n ≡ true) names
 
--- an atom of diagrams or of equal objects
-abbrev pub is_diagram_atom : Atom → Bool
-is_diagram_atom (MagEq x y) = false
-is_diagram_atom (MagLt x y) = false
-is_diagram_atom a = true
-
-abbrev pub is_diagram_lit : Lit → Bool
-is_diagram_lit l = is_diagram_atom l.atom
-
--- no line has a certificate, no citation speaks of magnitudes, and new objects have names
+-- no line has a certificate, and new objects have names
 unfoldable pub is_plain : Script → Bool
-is_plain (Cite by rest) = is_diagram_lit by.lit && is_plain rest
+is_plain (Cite by rest) = is_plain rest
 is_plain (Hence lit None rest) = is_plain rest
 is_plain (Hence lit (Some cert) rest) = false
 is_plain (Make form names [] rest) = list_all is_name names && is_plain rest
 is_plain (Make form names certs rest) = false
 is_plain (Qed objects []) = true
 is_plain (Qed objects certs) = false
+is_plain (Contradiction None) = true
+is_plain (Contradiction (Some against)) = false
 
 pub record HasSpelling (known : List Headed) (t : Entry) : Type 0 where
   -- objects in scope, names that differ, fitting arguments at each citation and construction, names of new objects that are

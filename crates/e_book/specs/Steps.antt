@@ -16,6 +16,8 @@ use Rattle.e_book.specs.declared.literal.RawLit.{RawLit}
 use Rattle.e_book.specs.declared.lets.RawLet.{RawLet}
 use Rattle.e_book.specs.declared.form.Form.{Form}
 use Rattle.e_book.specs.declared.form.Form.TheVariants as forms
+use Rattle.e_book.specs.declared.steps.CloseLine.{CloseLine}
+use Rattle.e_book.specs.declared.steps.CloseLine.TheVariants as closes
 use Rattle.e_book.specs.declared.draft.Place.{Place}
 use Rattle.e_book.specs.declared.draft.Place.TheVariants.{Declaring, Giving, Making, Showing, Proving, Closed, Done}
 use Rattle.e_book.specs.declared.draft.Draft.{Draft}
@@ -44,6 +46,7 @@ allowed Proving (forms.By r ns l) = true
 allowed Proving (forms.Hence l) = true
 allowed Proving (forms.Let l) = true
 allowed Proving (forms.Qed ns) = true
+allowed Proving forms.Contradiction = true
 allowed Closed forms.End = true
 allowed place form = false
 
@@ -108,12 +111,11 @@ built d raw = do
   few ← few_objects after
   with_step (record d { in_scope = after }) (steps.Make form raw.new []) (length (gives form (scope_of_names d.in_scope)))
 
--- the close: its objects, then the limit of steps
-unfoldable pub shut : Draft → List (List ℕ) → Result Draft Kind
-shut d names = do
-  objects ← qed_in d.in_scope d.made names
+-- a close line: the limit of steps
+unfoldable pub shut : Draft → CloseLine → Result Draft Kind
+shut d close = do
   few ← within (length d.steps + 1) most_steps limits.Steps
-  Ok (record d { objects = objects; place = Closed })
+  Ok (record d { close = close; place = Closed })
 
 unfoldable pub stepped : Draft → Form → Result Draft Kind
 stepped d (forms.Theorem t) = Err Malformed
@@ -126,7 +128,8 @@ stepped d forms.Proof = Ok (record d { in_scope = declared_names (stated (statem
 stepped d (forms.By r ns l) = by_in d.in_scope r ns l >>= λ b. with_step d (steps.Cite b) 1
 stepped d (forms.Hence raw) = lit_in d.in_scope raw >>= λ l. with_step d (steps.Hence l None) 1 >>= λ e. with_terms e (raw ∷ [])
 stepped d (forms.Let raw) = built d raw
-stepped d (forms.Qed ns) = shut d ns
+stepped d (forms.Qed ns) = qed_in d.in_scope d.made ns >>= λ objects. shut d (closes.Qed objects)
+stepped d forms.Contradiction = shut d closes.Contradiction
 stepped d forms.End = Ok (record d { place = Done })
 
 -- a line at its place: its form there, then its names from left to right, then the limits
@@ -157,7 +160,7 @@ no_names = record { points = []; lines = []; circles = [] }
 
 -- a theorem of which only the title has come
 abbrev pub begun : List ℕ → Draft
-begun title = record { title = title; names = no_names; in_scope = no_names; declared = []; given = []; made = []; shown = []; steps = []; facts = 0; terms = 0; objects = []; place = Declaring }
+begun title = record { title = title; names = no_names; in_scope = no_names; declared = []; given = []; made = []; shown = []; steps = []; facts = 0; terms = 0; close = closes.Qed []; place = Declaring }
 
 -- a theorem begins with its title, which no earlier one has
 unfoldable pub begin : List Headed → Form → Result Draft Kind

@@ -4,6 +4,9 @@ ghost use Rattle.e_book.specs.Reading.{texts, Gives};
 ghost use Rattle.e_book.specs.Steps.{FitsScope};
 ghost use Rattle.e_book.specs.Entry.{entry_of};
 ghost use Rattle.e_book.specs.Fits.{Fits};
+ghost use Rattle.e_theorem.specs.Statements.{stated};
+ghost use Rattle.e_deriv.specs.Script.{script_of};
+ghost use Rattle.e_deriv.specs.Fitting.{IsFitting};
 ghost use Rattle.e_book.specs.Book.{starts_with_hash, is_skipped, line_step, is_done, read_from, last_line, BookReads};
 
 use crate::draft::{Draft, Place};
@@ -104,7 +107,7 @@ fn read_theorem(
 ///
 /// It takes the lines up to the theorem's `end`. A fault is the first of the book from here on, and after it the
 /// lines are not used again. The lines are those of a text with at most 1,600 bytes a line and 4,194,304 bytes in all.
-#[tactic(auto, using(crate::proofs::Keeps::reading_fits))]
+#[tactic(auto, using(crate::proofs::Keeps::reading_fits, crate::proofs::GoodLines::reading_fitting))]
 pub fn next_theorem(
     alloc: Global,
     lines: &mut Lines,
@@ -115,6 +118,7 @@ pub fn next_theorem(
     ensures last { OnOk result (last_line lines.new ≡ last_line lines.old) }
     ensures shorter { IfOk result (λ t. OnSome t (length lines.new.lines < length lines.old.lines)) }
     ensures fits { IfOk result (λ o. IfSome o (λ t. Fits known.now (entry_of t))) }
+    ensures fitting { IfOk result (λ o. IfSome o (λ t. IsFitting (stated t.statement) (script_of t.block))) }
 {
     read_theorem(alloc, lines, known)
 }

@@ -12,10 +12,10 @@ use crate::lets::RawLet;
 use crate::limits::{few_monos, terms_with};
 use crate::literal::RawLit;
 use crate::scope::{by_in, fresh, let_in, lit_in, put_lits, put_names, qed_in, scope_of_names};
-use crate::steps::Steps;
+use crate::steps::{CloseLine, Steps};
 use crate::theorem::Theorem;
 use e_deriv::{Names, Step};
-use e_literal::{Items, Lit, Obj, Scope, Sort, grown};
+use e_literal::{Items, Lit, Scope, Sort, grown};
 use e_text::{Name, Title};
 use e_theorem::Statement;
 use std::alloc::{AllocError, Global};
@@ -68,8 +68,8 @@ pub struct Draft {
     pub facts: usize,
     /// How many monomials they have.
     pub terms: usize,
-    /// The objects behind `qed`.
-    pub objects: Items<Obj>,
+    /// What the close line says; before it a `qed` without objects.
+    pub close: CloseLine,
     pub place: Place,
 }
 
@@ -90,6 +90,7 @@ fn allowed(place: Place, form: &Form) -> bool
         Form::Hence(_) => matches!(place, Place::Proving),
         Form::Let(_) => matches!(place, Place::Proving),
         Form::Qed(_) => matches!(place, Place::Proving),
+        Form::Contradiction => matches!(place, Place::Proving),
         Form::End => matches!(place, Place::Closed),
     }
 }
@@ -211,7 +212,7 @@ impl Draft {
             steps: Steps::new(alloc),
             facts: 0,
             terms: 0,
-            objects: Items::empty(alloc),
+            close: CloseLine::Qed(Items::empty(alloc)),
             place: Place::Declaring,
         })
     }
@@ -250,7 +251,8 @@ impl Draft {
             Form::By(rule, args, lit) => self.cite(alloc, *rule, args.items(), lit),
             Form::Hence(raw) => self.infer(alloc, raw),
             Form::Let(raw) => self.build(alloc, raw),
-            Form::Qed(names) => self.close(alloc, names.items()),
+            Form::Qed(names) => self.conclude(alloc, names.items()),
+            Form::Contradiction => self.shut(CloseLine::Contradiction),
             Form::End => {
                 self.place = Place::Done;
                 Ok(())
@@ -368,15 +370,26 @@ impl Draft {
         self.add_step(step, given.len())
     }
 
-    /// The close: its objects, and then the limit of steps.
-    #[tactic(auto, unfolding(crate::specs::Steps::shut))]
-    fn close(&mut self, alloc: Global, names: &[Name]) -> Result<(), Trouble>
+    /// The close by `qed`: its objects, and then the limit of steps.
+    #[tactic(auto, unfolding(crate::specs::Steps::stepped))]
+    fn conclude(&mut self, alloc: Global, names: &[Name]) -> Result<(), Trouble>
         requires { FitsScope self.old }
-        ensures value { Moves result self.new (shut self.old names.now) }
+        ensures value { Moves result self.new (stepped self.old (Form.Qed names.now)) }
         ensures fits { OnOk result (FitsScope self.new) }
     {
-        self.objects = qed_in(alloc, &self.in_scope, self.made.items(), names)?;
+        let objects = qed_in(alloc, &self.in_scope, self.made.items(), names)?;
+        self.shut(CloseLine::Qed(objects))
+    }
+
+    /// A close line: the limit of steps.
+    #[tactic(auto, unfolding(crate::specs::Steps::shut))]
+    fn shut(&mut self, close: CloseLine) -> Result<(), Trouble>
+        requires { FitsScope self.old }
+        ensures value { Moves result self.new (shut self.old close) }
+        ensures fits { OnOk result (FitsScope self.new) }
+    {
         within(self.steps.len() + 1, MAX_STEPS, What::Steps)?;
+        self.close = close;
         self.place = Place::Closed;
         Ok(())
     }
@@ -424,7 +437,7 @@ impl Draft {
             steps,
             facts: _,
             terms: _,
-            objects,
+            close,
             place: _,
         } = self;
         Theorem {
@@ -436,7 +449,7 @@ impl Draft {
                 made,
                 shown,
             },
-            block: steps.into_block(alloc, objects),
+            block: steps.into_block(alloc, close),
         }
     }
 }

@@ -34,6 +34,8 @@ pub enum Form {
     Let(RawLet),
     /// `qed`, or `qed NAMES`
     Qed(Items<Name>),
+    /// `contradiction`
+    Contradiction,
     /// `end`
     End,
 }
@@ -151,6 +153,9 @@ fn form_named(alloc: Global, word: &[u8], rest: &[&[u8]]) -> Result<Form, Troubl
     }
     if is(word, b"qed") {
         return Ok(Form::Qed(names_of(alloc, rest)?));
+    }
+    if is(word, b"contradiction") {
+        return bare(words, Form::Contradiction);
     }
     if is(word, b"end") {
         return bare(words, Form::End);

@@ -28,14 +28,10 @@ pub use known::Known;
 pub use laws::{canonical_lines_are_read, read_theorems_have_a_spelling};
 pub use lets::RawLet;
 pub use literal::{RawAtom, RawLit};
-pub use steps::Steps;
+pub use steps::{CloseLine, Steps};
 pub use sum::{RawMono, RawTerm};
 pub use theorem::Theorem;
 pub use words::{Words, collected};
 
-#[cfg(test)]
-mod let_tests;
-#[cfg(test)]
-mod sum_tests;
 #[cfg(test)]
 mod tests;

@@ -1,11 +1,36 @@
 //! The steps of a proof while its lines come.
 ghost use Rattle.std.specs.Prelude.{◌≡◌, ◌++◌, ◌∷◌, [], OnOk, length};
-ghost use Rattle.e_deriv.specs.Script.{script_of, steps_script, Qed};
+ghost use Rattle.e_deriv.specs.Script.{script_of, steps_script, close_script};
+ghost use Rattle.e_book.specs.Entry.{script_of_close};
 
 use e_deriv::{Block, Close, Step};
 use e_literal::{Items, Obj};
 use std::alloc::{AllocError, Global};
 use std::marker::Model;
+
+/// What the close line of a proof says.
+#[derive(Debug, Drop)]
+pub enum CloseLine {
+    /// `qed`, with the objects for the made ones.
+    Qed(Items<Obj>),
+    /// `contradiction`
+    Contradiction,
+}
+
+impl CloseLine {
+    /// The close, without certificates.
+    fn into_close(self, alloc: Global) -> Close
+        ensures { close_script result ≡ script_of_close self }
+    {
+        match self {
+            CloseLine::Qed(objects) => Close::Qed {
+                objects,
+                certs: Items::empty(alloc),
+            },
+            CloseLine::Contradiction => Close::Contradiction { against: None },
+        }
+    }
+}
 
 /// The steps read so far, seen as their list.
 #[derive(Debug, Drop)]
@@ -47,17 +72,14 @@ impl Steps {
         Ok(())
     }
 
-    /// The block with these steps, ended by `qed` with these objects.
-    pub fn into_block(self, alloc: Global, objects: Items<Obj>) -> Block
-        ensures { script_of result ≡ steps_script self (Qed objects []) }
+    /// The block with these steps, closed by this line.
+    pub fn into_block(self, alloc: Global, close: CloseLine) -> Block
+        ensures { script_of result ≡ steps_script self (script_of_close close) }
     {
         let Steps { steps } = self;
         Block {
             steps,
-            close: Close::Qed {
-                objects,
-                certs: Items::empty(alloc),
-            },
+            close: close.into_close(alloc),
         }
     }
 }

@@ -1,14 +1,15 @@
-//! Books with their faults, one for each check at each form of line that can have it.
+//! Books with their faults, at each form of line that can have them, and books that are read.
 ghost use Rattle.std.specs.Prelude.{◌+◌, ◌<◌, ◌^◌, length};
 
-use crate::{BookFault, Kind, Known, Theorem, What, next_theorem};
+use crate::{BookFault, Known, Theorem, next_theorem};
 use e_text::Lines;
 use std::alloc::Global;
 use std::process::Abort;
+use std::test::Fail;
 
 /// How many theorems a book has, or its first fault.
 #[tactic(auto, using(crate::proofs::LineCount::few_lines))]
-pub(crate) fn answer(alloc: Global, text: &[u8]) -> Result<u32, BookFault>
+fn answer(alloc: Global, text: &[u8]) -> Result<u32, BookFault>
     requires { length text.now < 2 ^ 20 }
 {
     let mut lines = Lines::new(text, 1_600, 4_194_304);
@@ -27,318 +28,390 @@ pub(crate) fn answer(alloc: Global, text: &[u8]) -> Result<u32, BookFault>
     Ok(theorems)
 }
 
-/// Lines with no form, or with a wrong number of names.
-const MALFORMED: [(&str, u32); 50] = [
-    ("theorem\n", 1),
-    ("theorem T U\n", 1),
-    ("theorem 1\n", 1),
-    ("points a\n", 1),
-    ("end\n", 1),
-    ("theorem T\nword\n", 2),
-    ("theorem T\ntheorem U\n", 2),
-    ("theorem T\npoints\n", 2),
-    ("theorem T\npoints on\n", 2),
-    ("theorem T\npoints a 2b\n", 2),
-    ("theorem T\nlines\n", 2),
-    ("theorem T\ncircles\n", 2),
-    ("theorem T\ngiven\n", 2),
-    ("theorem T\ngiven on a\n", 2),
-    ("theorem T\ngiven on a L b\n", 2),
-    ("theorem T\ngiven a = a ;\n", 2),
-    ("theorem T\ngiven not not a = a\n", 2),
-    ("theorem T\ngiven not a != a\n", 2),
-    ("theorem T\ngiven not a = b = a\n", 2),
-    ("theorem T\nshow\n", 2),
-    ("theorem T\nshow a\n", 2),
-    ("theorem T\nproof\n", 2),
-    ("theorem T\nqed\n", 2),
-    ("theorem T\npoints a\ngiven a = a\nlines L\n", 4),
-    ("theorem T\npoints a\nshow a = a\ngiven a = a\n", 4),
-    ("theorem T\npoints a\nshow a = a\nhence a = a\n", 4),
-    ("theorem T\npoints a\nshow a = a\nqed\n", 4),
-    ("theorem T\npoints a\nlines L\nshow a = a\nproof\nby\n", 6),
-    (
-        "theorem T\npoints a\nlines L\nshow a = a\nproof\nby eqr-p a a = a\n",
-        6,
-    ),
-    (
-        "theorem T\npoints a\nlines L\nshow a = a\nproof\nby = a : a = a\n",
-        6,
-    ),
-    (
-        "theorem T\npoints a\nlines L\nshow a = a\nproof\nby eqr-p on : a = a\n",
-        6,
-    ),
-    (
-        "theorem T\npoints a\nlines L\nshow a = a\nproof\nby eqr-p a : on a\n",
-        6,
-    ),
-    (
-        "theorem T\npoints a\nlines L\nshow a = a\nproof\nhence\n",
-        6,
-    ),
-    (
-        "theorem T\npoints a\nlines L\nshow a = a\nproof\nhence on a\n",
-        6,
-    ),
-    (
-        "theorem T\npoints a\nlines L\nshow a = a\nproof\nhence a = a ; a = a\n",
-        6,
-    ),
-    (
-        "theorem T\npoints a\nlines L\nshow a = a\nproof\nqed a\n",
-        6,
-    ),
-    ("theorem T\npoints a\nlines L\nshow a = a\nproof\nend\n", 6),
-    (
-        "theorem T\npoints a\nlines L\nshow a = a\nproof\nshow a = a\n",
-        6,
-    ),
-    (
-        "theorem T\npoints a\nlines L\nshow a = a\nproof\nproof\n",
-        6,
-    ),
-    (
-        "theorem T\npoints a\nlines L\nshow a = a\nproof\nqed\nqed\n",
-        7,
-    ),
-    (
-        "theorem T\npoints a\nlines L\nshow a = a\nproof\nqed\nhence a = a\n",
-        7,
-    ),
-    (
-        "theorem T\npoints a\nlines L\nshow a = a\nproof\nqed\nend a\n",
-        7,
-    ),
-    (
-        "theorem T\npoints a\nshow a = a\nproof\nby eqr-p a : a = a\nqed\nend\nend\n",
-        8,
-    ),
-    (
-        "theorem T\npoints a\nlines L\nshow a = a\nproof\nby eqr-p : a = a\n",
-        6,
-    ),
-    (
-        "theorem T\npoints a\nlines L\nshow a = a\nproof\nby eqr-p q q : q = a\n",
-        6,
-    ),
-    (
-        "theorem T\npoints a\nlines L\ncircles A\ngiven on q L L\n",
-        5,
-    ),
-    (
-        "theorem T\npoints a\nlines L\nshow a = a\nproof\nby none q : q\n",
-        6,
-    ),
-    ("theorem T\u{80}\n", 1),
-    ("theorem T\rpoints a\n", 1),
-    ("theorem T\n\u{7}points a\n", 2),
-];
+/// Before a line of a statement.
+const STATED: &str = "theorem T/points a b c/lines L M/circles A B/";
 
-/// Names that are not in scope, and rules that there are not.
-const UNKNOWN: [(&str, u32); 14] = [
-    ("theorem T\npoints a\nlines L\ncircles A\ngiven on a q\n", 5),
-    ("theorem T\npoints a\nlines L\ncircles A\ngiven on q L\n", 5),
-    (
-        "theorem T\npoints a\nlines L\ncircles A\nshow meets L q\n",
-        5,
-    ),
-    (
-        "theorem T\npoints a\nlines L\ncircles A\nshow meets q a\n",
-        5,
-    ),
-    ("theorem T\npoints a\nlines L\ncircles A\nshow q = a\n", 5),
-    ("theorem T\npoints a\ngiven a = b\npoints b\n", 3),
-    (
-        "theorem T\npoints a\nlines L\nshow a = a\nproof\nby none a : a = a\n",
-        6,
-    ),
-    (
-        "theorem T\npoints a\nlines L\nshow a = a\nproof\nby ds3a a : a = a\n",
-        6,
-    ),
-    (
-        "theorem T\npoints a\nlines L\nshow a = a\nproof\nby none : q = q\n",
-        6,
-    ),
-    (
-        "theorem T\npoints a\nlines L\nshow a = a\nproof\nby eqr-p q : a = a\n",
-        6,
-    ),
-    (
-        "theorem T\npoints a\nlines L\nshow a = a\nproof\nby eqr-p a : q = a\n",
-        6,
-    ),
-    (
-        "theorem T\npoints a\nlines L\nshow a = a\nproof\nhence q = a\n",
-        6,
-    ),
-    (
-        "theorem T\npoints a\nlines L\ncircles A\ngiven on a q ; on L L\n",
-        5,
-    ),
-    (
-        "theorem T\npoints a\nlines L\nshow a = a\nproof\nby eqr-p q : L = a\n",
-        6,
-    ),
-];
+/// Before a line of a proof.
+const PROOF: &str = "theorem T/points a b c/lines L M/circles A B/show a = a/proof/";
 
-/// New names that are taken, and titles.
-const TAKEN: [(&str, u32); 6] = [
-    ("theorem T\npoints a a\n", 2),
-    ("theorem T\npoints a\nlines a\n", 3),
-    ("theorem T\npoints a\ncircles b a\n", 3),
-    ("theorem T\nlines L\npoints L\n", 3),
-    (
-        "theorem T\npoints a\nshow a = a\nproof\nby eqr-p a : a = a\nqed\nend\ntheorem T\n",
-        8,
-    ),
-    (
-        "theorem T\npoints a0 a1 a2 a3 a4 a5 a6 a7 a8 a9 a10 a11 a12 a13 a14 a15 a16 a17 a18 a19 a20 a21 a22 a23 a24 a25 a26 a27 a28 a29 a30 a31 a32 a33 a34 a35 a36 a37 a38 a39 a40 a0\n",
-        2,
-    ),
-];
+/// Before a line of a proof of a theorem with made objects.
+const MADE: &str =
+    "theorem T/points a b/lines L/circles A/made points m/made lines N/show on m N/proof/";
 
-/// Objects of another sort than their place wants.
-const WRONG_SORT: [(&str, u32); 17] = [
-    ("theorem T\npoints a\nlines L\ncircles A\ngiven on a a\n", 5),
-    ("theorem T\npoints a\nlines L\ncircles A\ngiven on L L\n", 5),
-    ("theorem T\npoints a\nlines L\ncircles A\ngiven on A q\n", 5),
-    (
-        "theorem T\npoints a\nlines L\ncircles A\ngiven inside a L\n",
-        5,
-    ),
-    (
-        "theorem T\npoints a\nlines L\ncircles A\ngiven inside L A\n",
-        5,
-    ),
-    (
-        "theorem T\npoints a\nlines L\ncircles A\ngiven center A A\n",
-        5,
-    ),
-    (
-        "theorem T\npoints a\nlines L\ncircles A\ngiven between a a L\n",
-        5,
-    ),
-    (
-        "theorem T\npoints a\nlines L\ncircles A\ngiven same-side a a A\n",
-        5,
-    ),
-    (
-        "theorem T\npoints a\nlines L\ncircles A\ngiven meets a q\n",
-        5,
-    ),
-    (
-        "theorem T\npoints a\nlines L\ncircles A\ngiven meets L a\n",
-        5,
-    ),
-    (
-        "theorem T\npoints a\nlines L\ncircles A\ngiven meets A L\n",
-        5,
-    ),
-    ("theorem T\npoints a\nlines L\ncircles A\ngiven L = a\n", 5),
-    ("theorem T\npoints a\nlines L\ncircles A\ngiven a != A\n", 5),
-    (
-        "theorem T\npoints a\nlines L\ncircles A\ngiven on L L ; on a q\n",
-        5,
-    ),
-    (
-        "theorem T\npoints a\nlines L\nshow a = a\nproof\nby eqr-p L : q = a\n",
-        6,
-    ),
-    (
-        "theorem T\npoints a\nlines L\nshow a = a\nproof\nby eqr-p a : on a a\n",
-        6,
-    ),
-    (
-        "theorem T\npoints a\nlines L\nshow a = a\nproof\nhence not on a a\n",
-        6,
-    ),
-];
+/// Behind each ~ an answer, and the books that have it; @ stands for the number of the last line. A row is a head and lines
+/// with a slash between two; {N*TEXT} is the text N times, with its number for $.
+const ROWS: &str = "~line @ has no form here
+book theorem
+book theorem T U
+book theorem 1
+book points a
+book end
+book theorem T\u{80}
+book theorem T\rpoints a
+book theorem T/\u{7}points a
+stated word
+stated theorem U
+stated points
+stated points on
+stated points d 2b
+stated made
+stated made m
+stated made points
+stated made theorem m
+stated made points m/points p
+stated made points m/given a = a
+stated made points m/proof
+stated given
+stated given on a
+stated given on a L b
+stated given on q L L
+stated given a = a ;
+stated given not not a = a
+stated given not a != a
+stated given not a = b = a
+stated given a = a/lines K
+stated show a
+stated show a = a/given a = a
+stated show a = a/made points m
+stated show a = a/hence a = a
+stated show a = a/contradiction
+stated proof
+stated contradiction
+stated let p point
+stated given seg a b c = 0
+stated given ang a b = 0
+stated given right a = 0
+stated given seg a on = 0
+stated given length a b = 0
+stated given 0 seg a b = 0
+stated given 01 seg a b = 0
+stated given 2 2 seg a b = 0
+stated given seg a b 2 = 0
+stated given seg a b
+stated given seg a b =
+stated given + seg a b = 0
+stated given seg a b + + seg a b = 0
+stated given seg a b seg a b = 0
+stated given seg a b + 0 = 0
+stated given 0 = 0
+stated show 0 <= 0
+stated given seg a b = seg a b = 0
+stated given seg a b > 0
+stated given a < b
+stated given a = 0
+stated show not seg a b <= seg a c
+proof by
+proof by eqr-p a a = a
+proof by = a : a = a
+proof by eqr-p on : a = a
+proof by eqr-p a : on a
+proof by eqr-p : a = a
+proof by eqr-p q q : q = a
+proof by none q : q
+proof by eqr-p q : 0 = 0
+proof by eqr-p a : seg a a = 0
+proof hence
+proof hence a = a ; a = a
+proof hence 0 seg a b = 0
+proof end
+proof show a = a
+proof proof
+proof qed a
+proof qed/qed
+proof qed/contradiction
+proof qed/hence a = a
+proof qed/end a
+proof qed/end/end
+proof contradiction a
+proof contradiction q
+proof contradiction/qed
+proof contradiction/hence a = a
+proof contradiction/contradiction
+proof let
+proof let p
+proof let p = L
+proof let p q point
+proof let point
+proof let p on L M
+proof let p on L between a
+proof let p on L between a from b
+proof let p on L from a beyond b
+proof let p side L a
+proof let p inside A B
+proof let N line a b b
+proof let p q r meet L A
+proof let p q meet L A between a b
+proof let p meet A B side L of a centers a
+proof let p meet A B opposite L of a b
+proof let p on L avoid
+proof let p on L avoid a avoid b
+proof let p avoid a on L
+proof let N line a b avoid a
+made qed
+made qed a
+made qed a L b
+made qed a on
+~line @ uses an unknown name
+stated given on a q
+stated given on q L
+stated show meets L q
+stated show q = a
+stated given on a q ; on L L
+stated given 0 < seg q a
+stated given ang a b c = ang a q c
+stated given seg a b = seg q L
+stated show 1000001 seg a q = 0
+stated given 1000001 seg a b = 0 ; on a q
+stated given on m L
+proof by none a : a = a
+proof by ds3a a : a = a
+proof by none : q = q
+proof by eqr-p q : a = a
+proof by eqr-p q : L = a
+proof by eqr-p a : q = a
+proof hence q = a
+proof let p on p
+proof let p on L between q L
+proof let p on L between a p
+proof let p side q of L
+proof let p inside A avoid q
+proof let p point avoid p
+proof let N line q A
+proof let p q meet A q
+made qed q L
+made qed a N
+made hence on m L
+made let p on N
+~line @ gives a name that is taken
+book theorem T/points a a
+stated lines a
+stated circles d a
+stated points L
+stated made points a
+stated made circles m m
+stated made points m/made lines m
+proof qed/end/theorem T
+proof let a point
+proof let L on q
+proof let a circle L L
+proof let p p meet q q
+proof let p b meet L A
+made let m on L/let m on L
+book theorem T/points{41* a$} a0
+~line @ has an object of a wrong sort
+stated given on a a
+stated given on L L
+stated given on A q
+stated given inside a L
+stated given center A A
+stated given between a a L
+stated given same-side a a A
+stated given meets a q
+stated given meets L a
+stated given meets A L
+stated given L = a
+stated given a != A
+stated given on L L ; on a q
+stated given 0 < seg A a
+stated given area a b A = 0
+stated given seg a b + ang a b a = 0
+stated given right = seg a b
+stated show 0 <= seg a b + area a b c
+stated show seg a b <= ang a q a
+stated given area a b c + right = area q b c
+proof by eqr-p L : q = a
+proof by eqr-p a : on a a
+proof hence not on a a
+proof hence seg a b = right
+proof let p on a avoid q
+proof let p on A between q q
+proof let p on L between a A
+proof let p on L beyond M from b
+proof let p side L of M
+proof let p inside L
+proof let N line a A
+proof let p meet A L
+proof let p q meet L M
+proof let p meet L M between q q
+proof let p meet A B side A of q centers a b
+proof let p meet A M opposite L of a centers a b
+made qed L q
+made qed a A
+made qed b a
+~line @ passes the limit on Points
+book theorem T/points{41* a$}
+stated points{38* a$}
+book theorem T/points{39* a$}/made points m n
+book theorem T/points{40* a$}/show a0 = a0/proof/let p point
+book theorem T/points{39* a$}/lines L/circles A/show a0 = a0/proof/let p q meet L A
+book theorem T/points{39* a$}/show a0 = a0/proof/let p point/let q point
+~line @ passes the limit on Lines
+book theorem T/lines{25* L$}
+book theorem T/lines{24* L$}/made lines N
+book theorem T/points a b/lines{24* L$}/show a = a/proof/let N line a b
+~line @ passes the limit on Circles
+book theorem T/circles{17* A$}
+book theorem T/points a b/circles{16* A$}/show a = a/proof/let C circle a b
+~line @ passes the limit on Facts
+stated {2048*given a = a/}given a = a
+stated {1024*given a = a ; a = a/}given 1000001 seg a b = 0
+stated {2048*given a = a/}show a = a/proof/hence a = a
+stated {2044*given a = a/}show a = a/proof/let p q meet L A
+stated {2043*given a = a/}show a = a/proof/let p q meet L A/let r on L
+stated {2043*given a = a/}show a = a/proof/let r on L avoid a a a a a
+~line @ passes the limit on Steps
+proof {1024*hence a = a/}qed
+proof {1024*hence a = a/}contradiction
+proof {1024*hence a = a/}let p point
+~line @ passes the limit on Monomials
+stated given right{32* + right} = 0
+stated show on a L ; 1000001 seg a b = 0 ; 0 < right{32* + right}
+stated given right{16* + right} <= right{16* + right}
+~line @ passes the limit on Coefficient
+stated given 1000001 seg a b = 0
+stated show right{31* + right} = 0 ; right = {200*9} right
+proof hence 1000001 seg a b = 0
+~line @ passes the limit on Terms
+stated {256*given right + right = right + right/}given a = a ; seg a b = 0
+stated {256*given right + right = right + right/}show right = 0/proof/hence 0 < right
+~the text ends inside a theorem, at line @
+book theorem T/
+stated #/# more/
+proof qed/
+proof contradiction/
+~0 theorems
+book / # theorem/\t/
+~1 theorems
+proof by eqr-p a : a = a/qed/end
+proof contradiction/end
+proof {1023*hence a = a/}qed/end
+proof {1023*hence a = a/}contradiction/end
+book theorem T/# one\r/\tpoints  a b\r//lines L/points c/given on a L ; not on b L/show not c = c/show c = c/proof/ # two/hence c != c/qed/end
+made contradiction/end
+made qed b L/end
+made let m on L/let N line a m/qed m N/end
+stated made points m n/made circles C/made points o/show on n C ; m != o/proof/qed a a A b/end
+stated given seg a b = 0 ; 0 = seg a b ; not seg a b = 0 ; seg a b != seg b a ; 0 < seg a b ; not 0 < seg a b/show right = 0/proof/hence seg a b <= seg b c + seg c a/hence 2 right = ang a b c + 3 ang c b a + right/hence area a b c + area a a a < 1000000 area b c a/contradiction/end
+proof let p point/let q on L/let r on L between a b/let s on L beyond a from b/let t side L of a/let u opposite L of a/let v on A/let w inside A/let x outside A/let N line a b/let C circle a a/qed/end
+proof let p meet L M/let q meet L A/let r s meet L A/let t meet L A between a b/let u meet L A beyond a from b/let v meet A B/let w x meet A B/let y meet A B side L of a centers a b/let z meet A B opposite L of a centers a b/qed/end
+proof let p point avoid a L A a/let q on L avoid M/let r on L between a b avoid A B/let s on A avoid A B L p/let t outside A avoid M/let N line p t/hence on p N/qed/end
+book theorem T/points{39* a$}/lines L/circles A/show a0 = a0/proof/let p point/qed/end
+stated {2043*given a = a/}show a = a/proof/let p q meet L A/qed/end
+stated {256*given right + right = right + right/}show right = 0/proof/hence a = a/qed/end
+~2 theorems
+proof qed/end/theorem T.2-x_/points a/show a = a/proof/contradiction/end";
 
-/// Texts that end inside a theorem.
-const UNENDED: [(&str, u32); 4] = [
-    ("theorem T\n", 2),
-    ("theorem T\npoints a", 3),
-    ("theorem T\npoints a\n\n# more\n", 5),
-    ("theorem T\npoints a\nlines L\nshow a = a\nproof\nqed\n", 7),
-];
+/// The lines of a head.
+fn head(mark: &str) -> &'static str {
+    if mark == "stated" {
+        return STATED;
+    }
+    if mark == "proof" {
+        return PROOF;
+    }
+    if mark == "made" {
+        return MADE;
+    }
+    ""
+}
 
-/// Too many points.
-const POINTS: [(&str, u32); 2] = [
-    (
-        "theorem T\npoints a0 a1 a2 a3 a4 a5 a6 a7 a8 a9 a10 a11 a12 a13 a14 a15 a16 a17 a18 a19 a20 a21 a22 a23 a24 a25 a26 a27 a28 a29 a30 a31 a32 a33 a34 a35 a36 a37 a38 a39 a40\n",
-        2,
-    ),
-    (
-        "theorem T\npoints a\nlines L\npoints a0 a1 a2 a3 a4 a5 a6 a7 a8 a9 a10 a11 a12 a13 a14 a15 a16 a17 a18 a19 a20 a21 a22 a23 a24 a25 a26 a27 a28 a29 a30 a31 a32 a33 a34 a35 a36 a37 a38 a39\n",
-        4,
-    ),
-];
+/// Puts a text last, with the line feeds and the number that it asks for.
+fn put(alloc: Global, out: &mut Vec<u8>, text: &str, number: usize) -> Result<(), Fail> {
+    for byte in text.bytes() {
+        match byte {
+            b'/' => out.push(b'\n')?,
+            b'$' => {
+                let digits = format!(in alloc; "{number}")?;
+                out.extend_from_slice(digits.as_bytes())?;
+            }
+            _ => out.push(byte)?,
+        }
+    }
+    Ok(())
+}
 
-/// Too many lines.
-const LINES: [(&str, u32); 1] = [(
-    "theorem T\nlines L0 L1 L2 L3 L4 L5 L6 L7 L8 L9 L10 L11 L12 L13 L14 L15 L16 L17 L18 L19 L20 L21 L22 L23 L24\n",
-    2,
-)];
+/// Puts a text so many times.
+fn put_repeated(alloc: Global, out: &mut Vec<u8>, count: &str, text: &str) -> Result<(), Fail> {
+    let count = match count.parse::<usize>() {
+        Ok(count) => count,
+        Err(_) => 0,
+    };
+    for number in 0..count {
+        put(alloc, out, text, number)?;
+    }
+    Ok(())
+}
 
-/// Too many circles.
-const CIRCLES: [(&str, u32); 1] = [(
-    "theorem T\ncircles A0 A1 A2 A3 A4 A5 A6 A7 A8 A9 A10 A11 A12 A13 A14 A15 A16\n",
-    2,
-)];
+/// The book of a row.
+fn book(alloc: Global, row: &str) -> Result<Vec<u8>, Fail> {
+    let mut out = Vec::new(alloc);
+    let Some((mark, lines)) = row.split_once(' ') else {
+        return Ok(out);
+    };
+    put(alloc, &mut out, head(mark), 0)?;
+    for part in lines.split('{') {
+        match part.split_once('}') {
+            None => put(alloc, &mut out, part, 0)?,
+            Some((repeated, rest)) => {
+                if let Some((count, text)) = repeated.split_once('*') {
+                    put_repeated(alloc, &mut out, count, text)?;
+                }
+                put(alloc, &mut out, rest, 0)?;
+            }
+        }
+    }
+    Ok(out)
+}
 
-/// Books, and how many theorems they have.
-const GOOD: [(&str, u32); 5] = [
-    ("", 0),
-    (" \n# theorem\n\t\n", 0),
-    (
-        "theorem T\npoints a\nshow a = a\nproof\nby eqr-p a : a = a\nqed\nend\n",
-        1,
-    ),
-    (
-        "theorem T\n# one\r\nlines L\n\tpoints a b\r\npoints c\n\ngiven on a L ; not on b L\ngiven a != b\nshow not c = c\nshow c = c\nproof\n  # a step\nby eqr-p a : a = a\nhence c != c\nqed\nend",
-        1,
-    ),
-    (
-        "theorem T\npoints a\nshow a = a\nproof\nby eqr-p a : a = a\nqed\nend\ntheorem T.2-x_\npoints a\nshow a = a\nproof\nby eqr-p a : a = a\nqed\nend\n",
-        2,
-    ),
-];
+/// How many line feeds a text has, and one more.
+fn last_line(text: &[u8]) -> usize {
+    let mut line = 1usize;
+    for byte in text {
+        if *byte == b'\n' {
+            line = line.saturating_add(1);
+        }
+    }
+    line
+}
 
-/// Each text has this fault at its line.
-fn expect(rt: &impl Abort, alloc: Global, rows: &[(&str, u32)], kind: Kind) {
-    for (text, line) in rows {
-        assert!(rt; text.len() < 1_000_000);
-        assert_eq!(rt;
-            answer(alloc, text.as_bytes()),
-            Err(kind.at(*line)),
-            "{text}"
-        );
+/// An answer in words.
+fn told(alloc: Global, answer: Result<u32, BookFault>) -> Result<String, Fail> {
+    match answer {
+        Ok(theorems) => Ok(format!(in alloc; "{theorems} theorems")?),
+        Err(fault) => Ok(format!(in alloc; "{fault}")?),
     }
 }
 
+/// The answer that is wanted, with the number of the last line.
+fn wanted(alloc: Global, answer: &str, line: usize) -> Result<String, Fail> {
+    match answer.split_once('@') {
+        None => Ok(format!(in alloc; "{answer}")?),
+        Some((before, after)) => Ok(format!(in alloc; "{before}{line}{after}")?),
+    }
+}
+
+/// Each row has this answer.
+fn expect_rows(rt: &impl Abort, alloc: Global, words: &str, rows: &str) -> Result<(), Fail> {
+    for row in rows.split('\n') {
+        if row.is_empty() {
+            continue;
+        }
+        let text = book(alloc, row)?;
+        assert!(rt; text.len() < 1_000_000);
+        let told = told(alloc, answer(alloc, &text))?;
+        let wanted = wanted(alloc, words, last_line(&text))?;
+        assert_eq!(rt; told, wanted, "{row}");
+    }
+    Ok(())
+}
+
 #[test]
-fn each_fault_stands_at_its_line(rt: HostRuntime) {
+fn each_book_has_its_answer(rt: HostRuntime) -> Result<(), Fail> {
     let alloc = rt.alloc();
-    expect(&rt, alloc, &MALFORMED, Kind::Malformed);
-    expect(&rt, alloc, &UNKNOWN, Kind::UnknownName);
-    expect(&rt, alloc, &TAKEN, Kind::NameTaken);
-    expect(&rt, alloc, &WRONG_SORT, Kind::WrongSort);
-    expect(&rt, alloc, &UNENDED, Kind::Unended);
-    expect(&rt, alloc, &POINTS, Kind::Limit(What::Points));
-    expect(&rt, alloc, &LINES, Kind::Limit(What::Lines));
-    expect(&rt, alloc, &CIRCLES, Kind::Limit(What::Circles));
-}
-
-#[test]
-fn books_are_read(rt: HostRuntime) {
-    for (text, theorems) in &GOOD {
-        assert!(rt; text.len() < 1_000_000);
-        assert_eq!(rt;
-            answer(rt.alloc(), text.as_bytes()),
-            Ok(*theorems),
-            "{text}"
-        );
+    for part in ROWS.split('~') {
+        if let Some((words, rows)) = part.split_once('\n') {
+            expect_rows(&rt, alloc, words, rows)?;
+        }
     }
+    Ok(())
 }

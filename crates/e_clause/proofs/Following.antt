@@ -1,5 +1,5 @@
 -- What follows from facts: by a certificate, by a system without solution, or because it is a fact.
-use Rattle.std.proofs.Common.{◌≡◌, ℕ, List, [], ◌∷◌, refl, sym, ap, Some, None, Bool, true, false, not, true≢false, inl, inr}
+use Rattle.std.proofs.Common.{◌≡◌, ◌∙◌, ℕ, List, [], ◌∷◌, refl, sym, ap, Some, None, Bool, true, false, not, true≢false, inl, inr}
 use Rattle.std.specs.Prelude.{IsTrue, MatchBool}
 use Rattle.std.specs.Option.{option_map_or}
 use Rattle.e_literal.specs.declared.object.Term.{Term}
@@ -10,13 +10,13 @@ use Rattle.e_literal.specs.Facts.{has, others, is_metric}
 use Rattle.e_literal.specs.Solution.{carried}
 use Rattle.e_literal.proofs.Terms.{and_left, and_right, yes_or_no}
 use Rattle.e_clause.specs.declared.cert.Part.{Part}
-use Rattle.e_clause.specs.declared.cert.Part.TheVariants.{Fact}
+use Rattle.e_clause.specs.declared.cert.Part.TheVariants.{Fact, Metric}
 use Rattle.e_clause.specs.Assignment.{terms_of_step}
 use Rattle.e_clause.specs.Instance.{Inst}
 use Rattle.e_clause.specs.RuleKinds.{is_transfer}
 use Rattle.e_clause.specs.Metric.{MetricConsequence, Unsatisfiable, IsCounterexample}
 use Rattle.e_clause.specs.Transfer.{Stands, NegationsStand}
-use Rattle.e_clause.specs.Certify.{part_certifies}
+use Rattle.e_clause.specs.PartCertificate.{part_certifies}
 use Rattle.e_clause.specs.MetricCertificate.{sums_refute}
 use Rattle.e_clause.specs.TransferCertificate.{parts_certify, instance_certifies}
 use Rattle.e_clause.specs.Laws.{MetricCertificateIsSound, MetricContradictionIsSound, TransferCertificateIsSound, MetricFactFollows, CounterexampleSolves, UnsolvedFollows, UnsolvedContradicts, CounterexampleRefutes, CounterexampleSatisfies}
@@ -88,6 +88,9 @@ by_test false P Q f g = g refl
 
 stands_of : (facts : List Lit) (l : Lit) (p : Part) → part_certifies facts l p ≡ true → Stands facts l
 stands_of facts l Fact h = by_test (is_metric l) (MetricConsequence facts l) (IsTrue (has facts l)) (λ m. metric_fact facts l m h) (λ m. h)
+stands_of facts l (Metric c) h =
+    by_test (is_metric l) (MetricConsequence facts l) (IsTrue (has facts l)) (λ m. metric_certificate facts l c h)
+    (λ m. absurd (true≢false (sym (and_left (is_metric l) (sums_refute facts (Some l) c.sums) h) ∙ m)))
 
 negations_of : (facts ls : List Lit) (ps : List Part) → parts_certify facts ls ps ≡ true → NegationsStand facts ls
 negations_of facts [] ps h = tt

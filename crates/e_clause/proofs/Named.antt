@@ -48,7 +48,7 @@ EachLit Q [] = Unit {0}
 EachLit Q (l ∷ ls) = Q l × EachLit Q ls
 
 -- the row of each literal of a kind
-each_literal : (P : NamedRow → Type 0) (Q : Lit → Type 0) (which : Kind) (name : Lit → RowName) (ls : List Lit) → EachLit Q ls
+pub each_literal : (P : NamedRow → Type 0) (Q : Lit → Type 0) (which : Kind) (name : Lit → RowName) (ls : List Lit) → EachLit Q ls
     → ((l : Lit) (r : Row) → Q l → is_of_kind which l ≡ true → row_of_lit l ≡ Some r → P (named (name l) r)) → Each P (rows_named name (of_kind which ls))
 each_literal P Q which name [] h f = tt
 each_literal P Q which name (l ∷ ls) h f = by (is_of_kind which l) refl (each_literal P Q which name ls h.1 f)
@@ -65,7 +65,7 @@ each_literal P Q which name (l ∷ ls) h f = by (is_of_kind which l) refl (each_
     by false k ih = ih
 
 -- each row of a system, from its parts
-each_system : (P : NamedRow → Type 0) (which : Kind) (facts : List Lit) (wanted : Option Lit) → Each P (rows_named Fact (of_kind which facts))
+pub each_system : (P : NamedRow → Type 0) (which : Kind) (facts : List Lit) (wanted : Option Lit) → Each P (rows_named Fact (of_kind which facts))
     → Each P (rows_named (λ l. Goal) (of_kind which (against_goal wanted)))
     → ((t : Term) → is_among (terms_of_system which facts wanted) t ≡ true → Each P (rows_of_term facts t)) → Each P (rows_of_kind which) → Each P (system which facts wanted)
 each_system P which facts wanted a b c d =

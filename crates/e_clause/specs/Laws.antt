@@ -8,8 +8,13 @@ use Rattle.e_literal.specs.declared.literal.Lit.{Lit}
 use Rattle.e_literal.specs.WellFormed.{is_well_formed}
 use Rattle.e_literal.specs.Facts.{has, is_metric}
 use Rattle.e_literal.specs.Solution.{Satisfy, HasSolution, carried}
+use Rattle.e_clause.specs.declared.cert.Against.{Against}
+use Rattle.e_clause.specs.declared.cert.Cert.{Cert}
 use Rattle.e_clause.specs.declared.cert.MetricCert.{MetricCert}
 use Rattle.e_clause.specs.declared.cert.TransferCert.{TransferCert}
+use Rattle.e_clause.specs.Allowed.{Allowed}
+use Rattle.e_clause.specs.Certify.{certifies, certifies_against}
+use Rattle.e_clause.specs.Consequence.{Contradictory}
 use Rattle.e_clause.specs.Metric.{MetricConsequence, Unsatisfiable, IsCounterexample}
 use Rattle.e_clause.specs.Transfer.{TransferConsequence}
 use Rattle.e_clause.specs.System.{rows_of_system, by_kind}
@@ -32,6 +37,15 @@ abbrev pub TransferCertificateIsSound : Type 0
 TransferCertificateIsSound =
     (scope : Scope) (facts : List Lit) (l : Lit) (t : TransferCert) →
     IsTrue (args_in scope t) → IsTrue (transfer_certifies facts l t) → TransferConsequence scope facts l
+
+-- what certifies a contradiction shows that the facts contradict each other
+abbrev pub ContradictionCertificateIsSound : Type 0
+ContradictionCertificateIsSound =
+    (scope : Scope) (facts : List Lit) (a : Against) → IsTrue (certifies_against scope facts a) → Contradictory facts
+
+-- what a certificate certifies is allowed
+abbrev pub CertificateIsSound : Type 0
+CertificateIsSound = (scope : Scope) (facts : List Lit) (l : Lit) (c : Cert) → IsTrue (certifies scope facts l c) → Allowed scope facts l
 
 -- a metric literal among the facts is a metric consequence
 abbrev pub MetricFactFollows : Type 0

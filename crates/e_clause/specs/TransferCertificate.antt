@@ -10,7 +10,7 @@ use Rattle.e_clause.specs.declared.cert.Part.{Part}
 use Rattle.e_clause.specs.declared.cert.TransferCert.{TransferCert}
 use Rattle.e_clause.specs.Instance.{Inst}
 use Rattle.e_clause.specs.RuleKinds.{is_transfer}
-use Rattle.e_clause.specs.Certify.{part_certifies}
+use Rattle.e_clause.specs.PartCertificate.{part_certifies, part_in}
 
 -- one part for the negation of each of the literals, in order
 abbrev pub parts_certify : List Lit → List Lit → List Part → Bool
@@ -30,3 +30,7 @@ transfer_certifies facts l t =
 -- the arguments are in the scope before the step
 abbrev pub args_in : Scope → TransferCert → Bool
 args_in s t = list_all (is_in_scope s) t.args
+
+-- the objects that it names, the arguments and those of its parts, are in the scope before the step
+abbrev pub transfer_in : Scope → TransferCert → Bool
+transfer_in s t = args_in s t && list_all (part_in s) t.parts

@@ -1,6 +1,16 @@
 //! Laws of metric and transfer consequence, of systems and of certificates, each as a function that does nothing and
 //! whose contract is the law.
-ghost use Rattle.e_clause.specs.Laws.{MetricCertificateIsSound, MetricContradictionIsSound, TransferCertificateIsSound, MetricFactFollows, SolutionsRefute, CounterexampleSolves, UnsolvedFollows, UnsolvedContradicts, CounterexampleRefutes, CounterexampleSatisfies};
+ghost use Rattle.e_clause.specs.Laws.{CertificateIsSound, ContradictionCertificateIsSound, MetricCertificateIsSound, MetricContradictionIsSound, TransferCertificateIsSound, MetricFactFollows, SolutionsRefute, CounterexampleSolves, UnsolvedFollows, UnsolvedContradicts, CounterexampleRefutes, CounterexampleSatisfies};
+
+/// What a certificate certifies is allowed.
+pub fn certificate_is_sound()
+    ensures { CertificateIsSound }
+{}
+
+/// What certifies a contradiction shows that the facts contradict each other.
+pub fn contradiction_certificate_is_sound()
+    ensures { ContradictionCertificateIsSound }
+{}
 
 /// What a metric certificate certifies is a metric consequence.
 pub fn metric_certificate_is_sound()

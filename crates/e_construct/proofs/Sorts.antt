@@ -1,11 +1,10 @@
 -- The sorts of arguments, and how many a line names.
-use Rattle.std.proofs.Common.{◌≡◌, ℕ, ◌≤◌, List, [], ◌∷◌, refl, true, false, length, arith}
+use Rattle.std.proofs.Common.{◌≡◌, ◌≤◌, List, [], ◌∷◌, refl, false, length, arith}
 use Rattle.e_literal.specs.declared.object.Obj.{Obj}
-use Rattle.e_construct.specs.declared.construction.Shape.{Shape}
 use Rattle.e_construct.specs.declared.construction.Shape.TheVariants.{Free, OnLine, Within, Beyond, SideOf, Opposite, OnCircle, Inside, Outside, LineThrough, CircleAt, MeetLines, MeetOne, MeetBoth, MeetWithin, MeetBeyond, CirclesOne, CirclesBoth, CirclesSide, CirclesOpposite}
 use Rattle.e_construct.specs.Shapes.{shape_row}
 use Rattle.e_construct.specs.Construct.{sorts_of}
-use Rattle.e_construct.specs.Lines.{pieces, count_new, count_arguments, begin_with}
+use Rattle.e_construct.specs.Lines.{pieces, begin_with}
 use Rattle.e_construct.specs.Laws.{LinesNameAllObjects}
 use Rattle.std.proofs.lemmas.Grind.{common_steps}
 

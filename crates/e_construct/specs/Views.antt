@@ -1,5 +1,5 @@
 -- What the program's table says.
-use Rattle.std.specs.Prelude.{List, ◌++◌, map, true, false, Option}
+use Rattle.std.specs.Prelude.{◌++◌, map, true, false, Option}
 use Rattle.e_literal.specs.declared.object.Obj.{Obj}
 use Rattle.e_literal.specs.declared.literal.Lit.{Lit}
 use Rattle.e_literal.specs.declared.literal.Atom.{Atom}

@@ -1,11 +1,17 @@
 // Each shape at objects of its own, against docs/rules.md.
 
 use super::*;
-use e_literal::{Atom, Items, Obj, Scope, Sort};
+use e_literal::{Items, Lit, Obj, Scope, Sort};
 use std::test::Fail;
 
 static SCOPE: Scope = Scope {
     points: 20,
+    lines: 20,
+    circles: 20,
+};
+
+static SMALL: Scope = Scope {
+    points: 15,
     lines: 20,
     circles: 20,
 };
@@ -27,138 +33,33 @@ fn objects(rt: HostRuntime, letters: &str) -> Result<Items<Obj>, Fail> {
     Ok(objects)
 }
 
-#[test]
-fn each_shape(rt: HostRuntime) -> Result<(), Fail> {
-    // the arguments, how many literals are needed, how many objects are made, how many literals are given,
-    // and how many more are needed where a point, a line and a circle are avoided
-    let cases: [(Shape, &'static str, usize, usize, usize, Option<usize>); 20] = [
-        (Shape::Free, "", 0, 1, 0, Some(0)),
-        (Shape::OnLine, "L", 0, 1, 1, Some(1)),
-        (Shape::Within, "Lbc", 3, 1, 2, Some(1)),
-        (Shape::Beyond, "Lcb", 3, 1, 2, Some(1)),
-        (Shape::SideOf, "Lb", 1, 1, 1, Some(0)),
-        (Shape::Opposite, "Lb", 1, 1, 2, Some(0)),
-        (Shape::OnCircle, "A", 0, 1, 1, Some(1)),
-        (Shape::Inside, "A", 0, 1, 1, Some(0)),
-        (Shape::Outside, "A", 0, 1, 2, Some(0)),
-        (Shape::LineThrough, "ab", 1, 1, 2, None),
-        (Shape::CircleAt, "ab", 1, 1, 2, None),
-        (Shape::MeetLines, "LM", 1, 1, 2, None),
-        (Shape::MeetOne, "LA", 1, 1, 2, None),
-        (Shape::MeetBoth, "LA", 1, 2, 5, None),
-        (Shape::MeetWithin, "LAbc", 5, 1, 3, None),
-        (Shape::MeetBeyond, "LAbc", 4, 1, 3, None),
-        (Shape::CirclesOne, "AB", 1, 1, 2, None),
-        (Shape::CirclesBoth, "AB", 1, 2, 5, None),
-        (Shape::CirclesSide, "ABLbcd", 6, 1, 3, None),
-        (Shape::CirclesOpposite, "ABLbcd", 6, 1, 4, None),
-    ];
-    for (shape, args, needs, made, gives, more) in cases {
-        let plain = Construction {
-            shape,
-            args: objects(rt, args)?,
-            avoid: objects(rt, "")?,
-        };
-        assert!(rt; plain.fits(SCOPE), "at {args}");
-        assert_eq!(rt; plain.made().len(), made, "at {args}");
-        assert_eq!(rt; plain.needs(rt.alloc())?.len(), needs, "at {args}");
-        assert_eq!(rt; plain.gives(rt.alloc(), SCOPE)?.len(), gives, "at {args}");
-        let avoiding = Construction {
-            shape,
-            args: objects(rt, args)?,
-            avoid: objects(rt, "dMB")?,
-        };
-        assert_eq!(rt; avoiding.fits(SCOPE), more.is_some(), "at {args}");
-        if let Some(more) = more {
-            assert_eq!(rt;
-                avoiding.needs(rt.alloc())?.len(),
-                needs.wrapping_add(more),
-                "at {args}"
-            );
-            assert_eq!(rt;
-                avoiding.gives(rt.alloc(), SCOPE)?.len(),
-                gives.wrapping_add(3),
-                "at {args}"
-            );
-        }
-    }
-    Ok(())
+/// Each shape, its arguments and what it avoids; its line with `+` for the name of a new object and `.` for that of an
+/// argument; what it needs; and what it gives, where the new objects are 20 and 21.
+fn rows() -> &'static str {
+    "\
+Free//dMB/ + point// not EqP(20, 4) not On(20, 13) not OnC(20, 2)\n\
+OnLine/L/dMB/ + on ./ not EqL(12, 13)/ On(20, 12) not EqP(20, 4) not On(20, 13) not OnC(20, 2)\n\
+Within/Lbc/dMB/ + on . between . ./ On(2, 12) On(3, 12) not EqP(2, 3) not EqL(12, 13)/ On(20, 12) Between(2, 20, 3) not EqP(20, 4) not On(20, 13) not OnC(20, 2)\n\
+Beyond/Lcb/dMB/ + on . beyond . from ./ On(2, 12) On(3, 12) not EqP(2, 3) not EqL(12, 13)/ On(20, 12) Between(2, 3, 20) not EqP(20, 4) not On(20, 13) not OnC(20, 2)\n\
+SideOf/Lb/dMB/ + side . of ./ not On(2, 12)/ Same(20, 2, 12) not EqP(20, 4) not On(20, 13) not OnC(20, 2)\n\
+Opposite/Lb/dMB/ + opposite . of ./ not On(2, 12)/ not On(20, 12) not Same(20, 2, 12) not EqP(20, 4) not On(20, 13) not OnC(20, 2)\n\
+OnCircle/A/dMB/ + on ./ not EqC(1, 2)/ OnC(20, 1) not EqP(20, 4) not On(20, 13) not OnC(20, 2)\n\
+Inside/A/dMB/ + inside .// Inside(20, 1) not EqP(20, 4) not On(20, 13) not OnC(20, 2)\n\
+Outside/A/dMB/ + outside .// not Inside(20, 1) not OnC(20, 1) not EqP(20, 4) not On(20, 13) not OnC(20, 2)\n\
+LineThrough/ab// + line . ./ not EqP(1, 2)/ On(1, 20) On(2, 20)\n\
+CircleAt/ab// + circle . ./ not EqP(1, 2)/ Center(1, 20) OnC(2, 20)\n\
+MeetLines/LM// + meet . ./ MeetLL(12, 13)/ On(20, 12) On(20, 13)\n\
+MeetOne/LA// + meet . ./ MeetLC(12, 1)/ On(20, 12) OnC(20, 1)\n\
+MeetBoth/LA// + + meet . ./ MeetLC(12, 1)/ On(20, 12) OnC(20, 1) On(21, 12) OnC(21, 1) not EqP(20, 21)\n\
+MeetWithin/LAbc// + meet . . between . ./ Inside(2, 1) On(2, 12) not Inside(3, 1) not OnC(3, 1) On(3, 12)/ On(20, 12) OnC(20, 1) Between(2, 20, 3)\n\
+MeetBeyond/LAbc// + meet . . beyond . from ./ Inside(2, 1) On(2, 12) not EqP(3, 2) On(3, 12)/ On(20, 12) OnC(20, 1) Between(20, 2, 3)\n\
+CirclesOne/AB// + meet . ./ MeetCC(1, 2)/ OnC(20, 1) OnC(20, 2)\n\
+CirclesBoth/AB// + + meet . ./ MeetCC(1, 2)/ OnC(20, 1) OnC(20, 2) OnC(21, 1) OnC(21, 2) not EqP(20, 21)\n\
+CirclesSide/ABLbcd// + meet . . side . of . centers . ./ MeetCC(1, 2) Center(3, 1) Center(4, 2) On(3, 12) On(4, 12) not On(2, 12)/ OnC(20, 1) OnC(20, 2) Same(20, 2, 12)\n\
+CirclesOpposite/ABLbcd// + meet . . opposite . of . centers . ./ MeetCC(1, 2) Center(3, 1) Center(4, 2) On(3, 12) On(4, 12) not On(2, 12)/ OnC(20, 1) OnC(20, 2) not On(20, 12) not Same(20, 2, 12)"
 }
 
-#[test]
-fn point_between_others_off_a_line_a_point_and_a_circle(rt: HostRuntime) -> Result<(), Fail> {
-    let within = Construction {
-        shape: Shape::Within,
-        args: objects(rt, "Lbc")?,
-        avoid: objects(rt, "MaA")?,
-    };
-    let needs = within.needs(rt.alloc())?;
-    assert_eq!(rt; needs.len(), 4);
-    assert!(rt; !needs[0].neg && matches!(needs[0].atom, Atom::On(2, 12)));
-    assert!(rt; !needs[1].neg && matches!(needs[1].atom, Atom::On(3, 12)));
-    assert!(rt; needs[2].neg && matches!(needs[2].atom, Atom::EqP(2, 3)));
-    assert!(rt; needs[3].neg && matches!(needs[3].atom, Atom::EqL(12, 13)));
-    let gives = within.gives(rt.alloc(), SCOPE)?;
-    assert_eq!(rt; gives.len(), 5);
-    assert!(rt; !gives[0].neg && matches!(gives[0].atom, Atom::On(20, 12)));
-    assert!(rt; !gives[1].neg && matches!(gives[1].atom, Atom::Between(2, 20, 3)));
-    assert!(rt; gives[2].neg && matches!(gives[2].atom, Atom::On(20, 13)));
-    assert!(rt; gives[3].neg && matches!(gives[3].atom, Atom::EqP(20, 1)));
-    assert!(rt; gives[4].neg && matches!(gives[4].atom, Atom::OnC(20, 1)));
-    Ok(())
-}
-
-#[test]
-fn what_does_not_fit(rt: HostRuntime) -> Result<(), Fail> {
-    for (args, avoid) in [
-        ("cbL", ""),
-        ("Lb", ""),
-        ("Lbcd", ""),
-        ("LbL", ""),
-        ("Lbo", ""),
-        ("Lbc", "do"),
-    ] {
-        let fits = Construction {
-            shape: Shape::Within,
-            args: objects(rt, args)?,
-            avoid: objects(rt, avoid)?,
-        }
-        .fits(Scope {
-            points: 15,
-            lines: 20,
-            circles: 20,
-        });
-        assert!(rt; !fits, "at {args} and {avoid}");
-    }
-    Ok(())
-}
-
-/// The line of each shape in the order of the table, the sorts of its arguments, and whether it may avoid objects.
-const LINES: [(&str, &str, bool); 20] = [
-    ("+ point ", "", true),
-    ("+ on . ", "L", true),
-    ("+ on . between . . ", "Lbc", true),
-    ("+ on . beyond . from . ", "Lcb", true),
-    ("+ side . of . ", "Lb", true),
-    ("+ opposite . of . ", "Lb", true),
-    ("+ on . ", "A", true),
-    ("+ inside . ", "A", true),
-    ("+ outside . ", "A", true),
-    ("+ line . . ", "ab", false),
-    ("+ circle . . ", "ab", false),
-    ("+ meet . . ", "LM", false),
-    ("+ meet . . ", "LA", false),
-    ("+ + meet . . ", "LA", false),
-    ("+ meet . . between . . ", "LAbc", false),
-    ("+ meet . . beyond . from . ", "LAbc", false),
-    ("+ meet . . ", "AB", false),
-    ("+ + meet . . ", "AB", false),
-    ("+ meet . . side . of . centers . . ", "ABLbcd", false),
-    ("+ meet . . opposite . of . centers . . ", "ABLbcd", false),
-];
-
-/// A line with `+` for the name of a new object and `.` for that of an argument.
-fn spelled(rt: HostRuntime, shape: Shape) -> Result<String, Fail> {
+fn pieces_said(rt: HostRuntime, shape: Shape) -> Result<String, Fail> {
     let mut line = String::new(rt.alloc());
     for piece in pieces(shape) {
         let word = match piece {
@@ -166,45 +67,132 @@ fn spelled(rt: HostRuntime, shape: Shape) -> Result<String, Fail> {
             Piece::Argument => ".",
             Piece::Word(word) => str::from_utf8(word).unwrap_or("no text"),
         };
-        line.push_str(word)?;
         line.push_str(" ")?;
+        line.push_str(word)?;
     }
     Ok(line)
 }
 
-#[test]
-fn each_line(rt: HostRuntime) -> Result<(), Fail> {
-    for (shape, (line, args, avoids)) in all_shapes().iter().zip(&LINES) {
-        assert_eq!(rt; spelled(rt, *shape)?.as_str(), *line);
-        assert_eq!(rt; may_avoid(*shape), *avoids, "at {line}");
-        assert!(rt; takes(*shape, objects(rt, "")?.items()), "at {line}");
-        assert!(rt; takes(*shape, objects(rt, args)?.items()), "at {line}");
+fn lits_said(rt: HostRuntime, lits: &[Lit]) -> Result<String, Fail> {
+    let mut said = String::new(rt.alloc());
+    for lit in lits {
+        let not = if lit.neg { " not" } else { "" };
+        said.push_str(format!(in rt.alloc(); "{not} {:?}", lit.atom)?.as_str())?;
     }
-    assert_eq!(rt; all_shapes().len(), 20);
+    Ok(said)
+}
+
+fn part(row: &'static str, number: usize) -> &'static str {
+    row.split('/').nth(number).unwrap_or("")
+}
+
+fn construction(rt: HostRuntime, shape: Shape, row: &'static str) -> Result<Construction, Fail> {
+    Ok(Construction {
+        shape,
+        args: objects(rt, part(row, 1))?,
+        avoid: objects(rt, part(row, 2))?,
+    })
+}
+
+fn needs_said(rt: HostRuntime, shape: Shape, row: &'static str) -> Result<String, Fail> {
+    let needs = construction(rt, shape, row)?.needs(rt.alloc())?;
+    lits_said(rt, &needs)
+}
+
+fn gives_said(rt: HostRuntime, shape: Shape, row: &'static str) -> Result<String, Fail> {
+    let gives = construction(rt, shape, row)?.gives(rt.alloc(), SCOPE)?;
+    lits_said(rt, &gives)
+}
+
+#[test]
+fn each_shape(rt: HostRuntime) -> Result<(), Fail> {
+    let mut rows = rows().split('\n');
+    for shape in all_shapes() {
+        let row = rows.next().unwrap_or("");
+        assert_eq!(rt; needs_said(rt, *shape, row)?.as_str(), part(row, 4));
+        assert_eq!(rt; gives_said(rt, *shape, row)?.as_str(), part(row, 5));
+    }
+    assert!(rt; rows.next().is_none());
     Ok(())
 }
 
 #[test]
-fn what_is_taken(rt: HostRuntime) -> Result<(), Fail> {
-    for (shape, args, taken) in [
-        (Shape::Within, "L", true),
-        (Shape::Within, "La", true),
-        (Shape::Within, "Lad", true),
-        (Shape::Within, "A", false),
-        (Shape::Within, "a", false),
-        (Shape::Within, "LA", false),
-        (Shape::Within, "LaM", false),
-        (Shape::Within, "Labc", false),
-        (Shape::Free, "a", false),
-        (Shape::MeetOne, "A", false),
-        (Shape::CirclesSide, "AALabc", true),
-        (Shape::CirclesSide, "AALabA", false),
-    ] {
-        assert_eq!(rt;
-            takes(shape, objects(rt, args)?.items()),
-            taken,
-            "at {args}"
-        );
+fn each_line(rt: HostRuntime) -> Result<(), Fail> {
+    let mut rows = rows().split('\n');
+    for shape in all_shapes() {
+        let row = rows.next().unwrap_or("");
+        assert_eq!(rt; pieces_said(rt, *shape)?.as_str(), part(row, 3));
+        assert_eq!(rt; may_avoid(*shape), !part(row, 2).is_empty(), "at {row}");
     }
+    Ok(())
+}
+
+/// Arguments and what is avoided, where they fit a point of a line between two points, and where not.
+#[test]
+fn what_fits(rt: HostRuntime) -> Result<(), Fail> {
+    for (rows, fit) in [
+        ("/Lbc/ /Lbc/Md", true),
+        ("/cbL/ /Lb/ /Lbcd/ /LbL/ /Lbo/ /Lbc/do", false),
+    ] {
+        for row in rows.split(' ') {
+            let fits = construction(rt, Shape::Within, row)?.fits(SMALL);
+            assert_eq!(rt; fits, fit, "at {row}");
+        }
+    }
+    Ok(())
+}
+
+/// Objects that are the first arguments of a point of a line between two points, and objects that are not.
+#[test]
+fn what_is_taken(rt: HostRuntime) -> Result<(), Fail> {
+    for (rows, taken) in [
+        ("// /L/ /La/ /Lad/", true),
+        ("/A/ /a/ /LA/ /LaM/ /Labc/", false),
+    ] {
+        for row in rows.split(' ') {
+            let args = objects(rt, part(row, 1))?;
+            assert_eq!(rt; takes(Shape::Within, args.items()), taken, "at {row}");
+        }
+    }
+    Ok(())
+}
+
+/// What a superposition needs: two triangles, each with a side on its line.
+fn needed() -> &'static str {
+    " not EqP(1, 2) On(1, 12) On(2, 12) not On(3, 12) not EqP(4, 5) On(4, 13) On(5, 13) not On(6, 13)"
+}
+
+/// What a superposition gives: the sides and angles of the copy, and where it lies.
+fn copied() -> &'static str {
+    " MagEq(Form { monos: [Mono { coeff: 1, term: Seg(1, 2) }] }, Form { monos: [Mono { coeff: 1, term: Seg(4, 20) }] }) \
+MagEq(Form { monos: [Mono { coeff: 1, term: Seg(2, 3) }] }, Form { monos: [Mono { coeff: 1, term: Seg(20, 21) }] }) \
+MagEq(Form { monos: [Mono { coeff: 1, term: Seg(3, 1) }] }, Form { monos: [Mono { coeff: 1, term: Seg(21, 4) }] }) \
+MagEq(Form { monos: [Mono { coeff: 1, term: Ang(1, 2, 3) }] }, Form { monos: [Mono { coeff: 1, term: Ang(4, 20, 21) }] }) \
+MagEq(Form { monos: [Mono { coeff: 1, term: Ang(2, 3, 1) }] }, Form { monos: [Mono { coeff: 1, term: Ang(20, 21, 4) }] }) \
+MagEq(Form { monos: [Mono { coeff: 1, term: Ang(3, 1, 2) }] }, Form { monos: [Mono { coeff: 1, term: Ang(21, 4, 20) }] }) \
+On(20, 13) not Between(20, 4, 5) Same(21, 6, 13)"
+}
+
+static PUT: Superpose = Superpose {
+    points: [1, 2, 3, 4, 5, 6],
+    lines: [12, 13],
+};
+
+fn put_needs(rt: HostRuntime) -> Result<String, Fail> {
+    let needs = PUT.needs(rt.alloc())?;
+    lits_said(rt, &needs)
+}
+
+fn put_gives(rt: HostRuntime) -> Result<String, Fail> {
+    let gives = PUT.gives(rt.alloc(), SCOPE)?;
+    lits_said(rt, &gives)
+}
+
+#[test]
+fn triangle_put_onto_a_point(rt: HostRuntime) -> Result<(), Fail> {
+    assert!(rt; PUT.fits(SCOPE));
+    assert_eq!(rt; PUT.made().len(), 2);
+    assert_eq!(rt; put_needs(rt)?.as_str(), needed());
+    assert_eq!(rt; put_gives(rt)?.as_str(), copied());
     Ok(())
 }

@@ -9,9 +9,9 @@ use Rattle.e_literal.specs.Scopes.{grown}
 use Rattle.e_literal.specs.Use.{Stated, scope_of}
 use Rattle.e_clause.specs.Allowed.{Allowed, AllAllowed}
 use Rattle.e_clause.specs.Certify.{certify_all}
-use Rattle.e_clause.proofs.Sound.{all_allowed_of_certified}
+use Rattle.e_clause.proofs.Sound.{all_allowed_of_certified, contradictory_of_certified}
 use Rattle.e_construct.specs.Construct.{made, gives}
-use Rattle.e_deriv.specs.Script.{Script, Cite, Hence, Make, Qed, erased}
+use Rattle.e_deriv.specs.Script.{Script, Cite, Hence, Make, Qed, Contradiction, erased}
 use Rattle.e_deriv.specs.Goal.{Goal, facts_of_statement, goal_of_statement}
 use Rattle.e_deriv.specs.Lines.{Line, line, lines, proof_lines}
 use Rattle.e_deriv.specs.Steps.{fits, needs}
@@ -31,13 +31,13 @@ and_right false b h = absurd (true≢false (sym h))
 record Parts (x : Line) (more : List Line) : Type 0 where
   form : IsTrue (fits x)
   certs : IsTrue (certify_all x.scope x.facts (needs x) (certs_of x.here))
-  beside : IsTrue (certified_beside x.here x.facts)
+  beside : IsTrue (certified_beside x.here x.scope x.facts)
   rest : IsTrue (list_all is_certified more)
 
 parts_of : (x : Line) (rest : List Line) → list_all is_certified (x ∷ rest) ≡ true → Parts x rest
 parts_of x rest h =
     let c = certify_all x.scope x.facts (needs x) (certs_of x.here) in
-    let b = certified_beside x.here x.facts in
+    let b = certified_beside x.here x.scope x.facts in
     let r = list_all is_certified rest in
     let here = and_left (fits x && (c && b)) r h in
     let both = and_right (fits x) (c && b) here in
@@ -73,6 +73,12 @@ licensed_of_certified (Qed objects certs) s facts goal h =
     let x = line (Qed objects certs) s facts goal in
     let q = parts_of x [] h in
     (record { fits = q.form; allowed = all_allowed_of_certified s facts (needs x) certs q.certs; beside = tt }, tt)
+licensed_of_certified (Contradiction None) s facts goal h =
+    let q = parts_of (line (Contradiction None) s facts goal) [] h in
+    absurd (true≢false (sym q.beside))
+licensed_of_certified (Contradiction (Some a)) s facts goal h =
+    let q = parts_of (line (Contradiction (Some a)) s facts goal) [] h in
+    (record { fits = q.form; allowed = tt; beside = contradictory_of_certified s facts a q.beside }, tt)
 
 -- ---- licensed lines are a proof, and the other way round
 
@@ -83,6 +89,7 @@ proves_of_licensed (Hence lit cert rest) s facts goal h = (h.0.fits, h.0.allowed
 proves_of_licensed (Make form names certs rest) s facts goal h =
     (h.0.fits, h.0.allowed, proves_of_licensed rest (grown s (made form)) (joined_all facts (gives form s)) goal h.1)
 proves_of_licensed (Qed objects certs) s facts goal h = (h.0.fits, h.0.allowed)
+proves_of_licensed (Contradiction against) s facts goal h = h.0.beside
 
 licensed_of_proves : (d : Script) (s : Scope) (facts : List Lit) (goal : Goal) → Proves s facts goal d → AllLicensed (lines d s facts goal)
 unfolding lines Proves
@@ -91,6 +98,7 @@ licensed_of_proves (Hence lit cert rest) s facts goal h = (record { fits = h.0; 
 licensed_of_proves (Make form names certs rest) s facts goal h =
     (record { fits = h.0; allowed = h.1; beside = tt }, licensed_of_proves rest (grown s (made form)) (joined_all facts (gives form s)) goal h.2)
 licensed_of_proves (Qed objects certs) s facts goal h = (record { fits = h.0; allowed = h.1; beside = tt }, tt)
+licensed_of_proves (Contradiction against) s facts goal h = (record { fits = refl; allowed = tt; beside = h }, tt)
 
 -- ---- certificates change nothing of what is licensed
 
@@ -103,6 +111,7 @@ licensed_erased (Hence lit cert rest) s facts goal h =
 licensed_erased (Make form names certs rest) s facts goal h =
     (record { fits = h.0.fits; allowed = h.0.allowed; beside = tt }, licensed_erased rest (grown s (made form)) (joined_all facts (gives form s)) goal h.1)
 licensed_erased (Qed objects certs) s facts goal h = (record { fits = h.0.fits; allowed = h.0.allowed; beside = tt }, tt)
+licensed_erased (Contradiction against) s facts goal h = (record { fits = h.0.fits; allowed = h.0.allowed; beside = h.0.beside }, tt)
 
 licensed_of_erased : (d : Script) (s : Scope) (facts : List Lit) (goal : Goal) → AllLicensed (lines (erased d) s facts goal) → AllLicensed (lines d s facts goal)
 unfolding lines erased
@@ -113,6 +122,7 @@ licensed_of_erased (Hence lit cert rest) s facts goal h =
 licensed_of_erased (Make form names certs rest) s facts goal h =
     (record { fits = h.0.fits; allowed = h.0.allowed; beside = tt }, licensed_of_erased rest (grown s (made form)) (joined_all facts (gives form s)) goal h.1)
 licensed_of_erased (Qed objects certs) s facts goal h = (record { fits = h.0.fits; allowed = h.0.allowed; beside = tt }, tt)
+licensed_of_erased (Contradiction against) s facts goal h = (record { fits = h.0.fits; allowed = h.0.allowed; beside = h.0.beside }, tt)
 
 -- ---- the same of the proof of a statement
 

@@ -3,6 +3,8 @@ use Rattle.std.proofs.Common.{◌≡◌, ℕ, List, [], ◌∷◌, refl, sym, tr
 use Rattle.std.specs.Prelude.{true, false}
 use Rattle.e_literal.specs.declared.object.Sort.TheVariants.{Point, Line}
 use Rattle.e_literal.specs.declared.object.Obj.{Obj}
+use Rattle.e_literal.specs.declared.object.Scope.{Scope}
+use Rattle.e_literal.specs.declared.object.Term.TheVariants.{Right}
 use Rattle.e_literal.specs.declared.literal.Lit.{Lit}
 use Rattle.e_literal.specs.Literal.{obj}
 use Rattle.e_literal.specs.Facts.{joined}
@@ -11,6 +13,8 @@ use Rattle.e_clause.specs.declared.cert.Cert.{Cert}
 use Rattle.e_clause.specs.declared.cert.Cert.TheVariants.{Plain}
 use Rattle.e_clause.specs.declared.cert.Part.TheVariants.{Fact}
 use Rattle.e_clause.specs.declared.cert.By.{By}
+use Rattle.e_clause.specs.Consequence.{Contradictory}
+use Rattle.e_clause.specs.Counterexample.{ListsCounterexample}
 use Rattle.e_clause.specs.Rows.{between}
 use Rattle.e_construct.specs.declared.construction.Construction.{Construction}
 use Rattle.e_construct.specs.declared.construction.Shape.TheVariants.{LineThrough, Within}
@@ -18,12 +22,13 @@ use Rattle.e_construct.specs.Shapes.{shape_row, apart}
 use Rattle.e_clause.specs.Table.{table}
 use Rattle.e_clause.specs.Table.Incidence.{incidence}
 use Rattle.e_clause.specs.Instance.{Inst}
-use Rattle.e_deriv.specs.declared.stop.Wanted.TheVariants.{Literal}
+use Rattle.e_deriv.specs.declared.stop.Wanted.TheVariants.{Literal, Contradiction as AContradiction}
 use Rattle.e_deriv.specs.declared.names.Names.{Names}
-use Rattle.e_deriv.specs.Script.{Script, Cite, Hence, Make, Qed, size, erased}
+use Rattle.e_deriv.specs.Script.{Script, Cite, Hence, Make, Qed, Contradiction, size, erased}
 use Rattle.e_deriv.specs.Lines.{line, lines}
 use Rattle.e_deriv.specs.Goal.{goal_of_statement}
 use Rattle.e_deriv.specs.Licensed.{IsFirstUnlicensed}
+use Rattle.e_deriv.specs.Refused.{IsRefused}
 use Rattle.e_deriv.specs.Certified.{Certified, verdict}
 use Rattle.e_deriv.specs.Naming.{names_lines, declared_names}
 
@@ -118,12 +123,29 @@ three_names : names_lines (declared_names (halfway apart_points) names_of_halfwa
 unfolding names_lines shape_row
 three_names = refl
 
--- where the points may be one the first line is not licensed, and it lacks that they differ
-equal_stops : IsFirstUnlicensed (halfway []) (erased made_derivation) 1 (Literal (apart (point 0) (point 1)))
-unfolding lines joined shape_row erased
-equal_stops =
+-- ---- no facts do not contradict each other
+
+abbrev nothing : Stated
+nothing = record { declared = Point ∷ []; given = []; made = []; shown = [] }
+
+abbrev no_scope : Scope
+no_scope = record { points = 1; lines = 0; circles = 0 }
+
+agree : ¬ Contradictory []
+agree (inl h) = true≢false (sym h)
+agree (inr u) = u.fails (λ t. 1) refl refl
+
+-- a contradiction without facts is refused at line 1, and any value of right from 1 on shows it
+nothing_refuses : IsRefused nothing (Contradiction None) 1 AContradiction (Some ((Right, 1) ∷ []))
+unfolding lines
+nothing_refuses =
     record {
-      line = line (erased made_derivation) (record { points = 2; lines = 0; circles = 0 }) [] (goal_of_statement (halfway []));
+      line = line (Contradiction None) no_scope [] (goal_of_statement nothing);
       context = record { place = 0; number = refl; at = refl; earlier = tt };
-      lacks = record { earlier = []; later = []; split = refl; allowed = tt; not_allowed = λ h. true≢false (sym h) };
+      lacks = agree;
+      shown = record { in_order = refl; of_step = λ t. refl; counterexample = record { is_admissible = refl; facts_hold = refl; wanted_fails = refl } };
     }
+
+-- the value 0 does not
+right_is_not_0 : ¬ ListsCounterexample [] None ((Right, 0) ∷ [])
+right_is_not_0 c = true≢false (sym c.counterexample.is_admissible)

@@ -4,10 +4,11 @@ use Rattle.std.proofs.lemmas.Grind.{common_steps}
 use Rattle.e_literal.specs.declared.literal.Lit.{Lit}
 use Rattle.e_literal.specs.declared.object.Obj.{Obj}
 use Rattle.e_construct.specs.declared.construction.Construction.{Construction}
+use Rattle.e_clause.specs.declared.cert.Against.{Against}
 use Rattle.e_clause.specs.declared.cert.By.{By}
 use Rattle.e_clause.specs.declared.cert.Cert.{Cert}
 use Rattle.e_deriv.specs.declared.block.Step.{Step}
-use Rattle.e_deriv.specs.Script.{Script, Cite, Hence, Make, Qed, step_script, steps_script, size, erased}
+use Rattle.e_deriv.specs.Script.{Script, Cite, Hence, Make, Qed, Contradiction, step_script, steps_script, size, erased}
 
 pub size-Cite : (by : By) (rest : Script) → size (Cite by rest) ≡ 1 + size rest
 unfolding size
@@ -25,7 +26,11 @@ pub size-Qed : (objects : List Obj) (certs : List Cert) → size (Qed objects ce
 unfolding size
 size-Qed objects certs = refl
 
-pub ruleset sizes = (common_steps, size-Cite, size-Hence, size-Make, size-Qed)
+pub size-Contradiction : (against : Option Against) → size (Contradiction against) ≡ 1
+unfolding size
+size-Contradiction against = refl
+
+pub ruleset sizes = (common_steps, size-Cite, size-Hence, size-Make, size-Qed, size-Contradiction)
 
 pub erased-Cite : (by : By) (rest : Script) → erased (Cite by rest) ≡ Cite by (erased rest)
 unfolding erased
@@ -43,11 +48,15 @@ pub erased-Qed : (objects : List Obj) (certs : List Cert) → erased (Qed object
 unfolding erased
 erased-Qed objects certs = refl
 
+pub erased-Contradiction : (against : Option Against) → erased (Contradiction against) ≡ Contradiction None
+unfolding erased
+erased-Contradiction against = refl
+
 pub steps_script-append : (xs ys : List Step) (rest : Script) → steps_script (xs ++ ys) rest ≡ steps_script xs (steps_script ys rest)
 steps_script-append [] ys rest = refl
 steps_script-append (x ∷ xs) ys rest = ap (step_script x) (steps_script-append xs ys rest)
 
-pub ruleset erasing = (common_steps, erased-Cite, erased-Hence, erased-Make, erased-Qed, steps_script-append)
+pub ruleset erasing = (common_steps, erased-Cite, erased-Hence, erased-Make, erased-Qed, erased-Contradiction, steps_script-append)
 
 -- the step at this place, and what comes after it; the loop goes over `seen`
 pub steps_at : (items seen : List Step) (rest : Script) (i : ℕ) (s : Step) → seen ≡ items → i < length seen → s ≡ get_or seen i s →

@@ -1,11 +1,12 @@
 -- When every certificate of a derivation certifies at its own line.
-use Rattle.std.specs.Prelude.{ℕ, List, [], ◌∷◌, IsTrue, Bool, true, ◌&&◌, Some, None, Result}
+use Rattle.std.specs.Prelude.{ℕ, List, [], ◌∷◌, IsTrue, Bool, true, false, ◌&&◌, Some, None, Result}
 use Rattle.std.specs.List.{list_all}
+use Rattle.e_literal.specs.declared.object.Scope.{Scope}
 use Rattle.e_literal.specs.declared.literal.Lit.{Lit}
 use Rattle.e_literal.specs.Use.{Stated}
 use Rattle.e_clause.specs.declared.cert.Cert.{Cert}
-use Rattle.e_clause.specs.Certify.{certify_all}
-use Rattle.e_deriv.specs.Script.{Script, Cite, Hence, Make, Qed}
+use Rattle.e_clause.specs.Certify.{certify_all, certifies_against}
+use Rattle.e_deriv.specs.Script.{Script, Cite, Hence, Make, Qed, Contradiction}
 use Rattle.e_deriv.specs.Lines.{Line, proof_lines, first_failure}
 use Rattle.e_deriv.specs.Steps.{fits, needs, is_cited}
 
@@ -16,16 +17,19 @@ certs_of (Hence lit None rest) = []
 certs_of (Make form names certs rest) = certs
 certs_of (Qed objects certs) = certs
 certs_of (Cite by rest) = []
+certs_of (Contradiction against) = []
 
--- beside the needs: a citation's instance gives the literal
-abbrev pub certified_beside : Script → List Lit → Bool
-certified_beside (Cite by rest) facts = is_cited facts by
-certified_beside _ facts = true
+-- beside the needs: a citation's instance gives the literal; a contradiction has a certificate that shows one
+abbrev pub certified_beside : Script → Scope → List Lit → Bool
+certified_beside (Cite by rest) s facts = is_cited facts by
+certified_beside (Contradiction (Some against)) s facts = certifies_against s facts against
+certified_beside (Contradiction None) s facts = false
+certified_beside _ s facts = true
 
 -- the line's form fits, and its certificates certify its needs
 abbrev pub is_certified : Line → Bool
 is_certified x =
-    fits x && (certify_all x.scope x.facts (needs x) (certs_of x.here) && certified_beside x.here x.facts)
+    fits x && (certify_all x.scope x.facts (needs x) (certs_of x.here) && certified_beside x.here x.scope x.facts)
 
 -- each line of the derivation is certified
 abbrev pub Certified : Stated → Script → Type 0

@@ -5,6 +5,7 @@ pub mod Steps
 pub mod Proves
 pub mod Licensed
 pub mod Certified
+pub mod Refused
 pub mod Fitting
 pub mod Naming
 pub mod Laws

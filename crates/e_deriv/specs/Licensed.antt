@@ -4,15 +4,17 @@ use Rattle.e_literal.specs.declared.object.Scope.{Scope}
 use Rattle.e_literal.specs.declared.literal.Lit.{Lit}
 use Rattle.e_literal.specs.Use.{Stated}
 use Rattle.e_clause.specs.Allowed.{Allowed, AllAllowed}
+use Rattle.e_clause.specs.Consequence.{Contradictory}
 use Rattle.e_deriv.specs.declared.stop.Wanted.{Wanted}
-use Rattle.e_deriv.specs.declared.stop.Wanted.TheVariants.{Literal}
-use Rattle.e_deriv.specs.Script.{Script, Cite, Hence, Make, Qed}
+use Rattle.e_deriv.specs.declared.stop.Wanted.TheVariants.{Literal, Contradiction as AContradiction}
+use Rattle.e_deriv.specs.Script.{Script, Cite, Hence, Make, Qed, Contradiction}
 use Rattle.e_deriv.specs.Lines.{Line, proof_lines}
 use Rattle.e_deriv.specs.Steps.{fits, needs, is_cited}
 
--- beside its form and its needs: a citation's instance gives the literal
+-- beside its form and its needs: a citation's instance gives the literal; at a contradiction the facts contradict each other
 abbrev pub LicensedBeside : Script → List Lit → Type 0
 LicensedBeside (Cite by rest) facts = IsTrue (is_cited facts by)
+LicensedBeside (Contradiction against) facts = Contradictory facts
 LicensedBeside _ facts = Unit {0}
 
 pub record Licensed (x : Line) : Type 0 where
@@ -38,6 +40,8 @@ Lacks x (Cite by rest) (Literal l) = IsFalse (is_cited x.facts by) × (l ≡ by.
 Lacks x (Hence lit cert rest) (Literal l) = IsFirstNotAllowed x.scope x.facts (needs x) l
 Lacks x (Make form names certs rest) (Literal l) = IsFirstNotAllowed x.scope x.facts (needs x) l
 Lacks x (Qed objects certs) (Literal l) = IsFirstNotAllowed x.scope x.facts (needs x) l
+Lacks x (Contradiction against) AContradiction = ¬ Contradictory x.facts
+Lacks x _ _ = ⊥
 
 -- the line has number n from 1 on, of the statement's script, and all lines before it are licensed
 pub record IsContext (t : Stated) (script : Script) (n : ℕ) (x : Line) : Type 0 where

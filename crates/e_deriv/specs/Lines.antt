@@ -6,7 +6,7 @@ use Rattle.e_literal.specs.Facts.{joined, joined_all}
 use Rattle.e_literal.specs.Scopes.{grown}
 use Rattle.e_literal.specs.Use.{Stated, scope_of}
 use Rattle.e_construct.specs.Construct.{made, gives}
-use Rattle.e_deriv.specs.Script.{Script, Cite, Hence, Make, Qed}
+use Rattle.e_deriv.specs.Script.{Script, Cite, Hence, Make, Qed, Contradiction}
 use Rattle.e_deriv.specs.Goal.{Goal, goal_of_statement, facts_of_statement}
 
 -- a line: the scope and the facts before it, the goal of its block, and the script from it on
@@ -25,6 +25,7 @@ lines (Hence lit cert rest) s facts goal = line (Hence lit cert rest) s facts go
 lines (Make form names certs rest) s facts goal =
     line (Make form names certs rest) s facts goal ∷ lines rest (grown s (made form)) (joined_all facts (gives form s)) goal
 lines (Qed objects certs) s facts goal = line (Qed objects certs) s facts goal ∷ []
+lines (Contradiction against) s facts goal = line (Contradiction against) s facts goal ∷ []
 
 -- the lines of a statement's proof
 abbrev pub proof_lines : Stated → Script → List Line

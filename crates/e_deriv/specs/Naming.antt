@@ -6,7 +6,7 @@ use Rattle.e_literal.specs.declared.object.Scope.{Scope}
 use Rattle.e_literal.specs.Use.{Stated, scope_of}
 use Rattle.e_construct.specs.Construct.{made}
 use Rattle.e_deriv.specs.declared.names.Names.{Names}
-use Rattle.e_deriv.specs.Script.{Script, Cite, Hence, Make, Qed}
+use Rattle.e_deriv.specs.Script.{Script, Cite, Hence, Make, Qed, Contradiction}
 
 -- the names of the objects of a sort
 abbrev pub names_of_sort : Names → Sort → List (List ℕ)
@@ -31,6 +31,7 @@ names_lines ns (Cite by rest) = ns ∷ names_lines ns rest
 names_lines ns (Hence lit cert rest) = ns ∷ names_lines ns rest
 names_lines ns (Make form names certs rest) = ns ∷ names_lines (named ns (made form) names) rest
 names_lines ns (Qed objects certs) = ns ∷ []
+names_lines ns (Contradiction against) = ns ∷ []
 
 -- the names of the objects of a scope, which are the first of each sort
 abbrev pub first_names : Scope → Names → Names

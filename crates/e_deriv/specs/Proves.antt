@@ -7,8 +7,9 @@ use Rattle.e_literal.specs.Facts.{joined, joined_all}
 use Rattle.e_literal.specs.Scopes.{grown}
 use Rattle.e_literal.specs.Use.{Stated, scope_of}
 use Rattle.e_clause.specs.Allowed.{Allowed, AllAllowed}
+use Rattle.e_clause.specs.Consequence.{Contradictory}
 use Rattle.e_construct.specs.Construct.{fits, needs, made, gives}
-use Rattle.e_deriv.specs.Script.{Script, Cite, Hence, Make, Qed}
+use Rattle.e_deriv.specs.Script.{Script, Cite, Hence, Make, Qed, Contradiction}
 use Rattle.e_deriv.specs.Goal.{Goal, are_for, goal_with, goal_of_statement, facts_of_statement}
 use Rattle.e_deriv.specs.Steps.{is_citation, is_cited}
 
@@ -28,6 +29,8 @@ Proves s facts goal (Make form names certs rest) =
 -- each goal literal, with the objects for the made ones, is allowed
 Proves s facts goal (Qed objects certs) =
     IsTrue (are_for goal s objects) × AllAllowed s facts (goal_with goal objects)
+-- the facts contradict each other
+Proves s facts goal (Contradiction against) = Contradictory facts
 
 -- the script proves the statement
 abbrev pub IsProof : Stated → Script → Type 0

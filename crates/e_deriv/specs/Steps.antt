@@ -10,7 +10,7 @@ use Rattle.e_clause.specs.declared.cert.By.{By}
 use Rattle.e_clause.specs.Instance.{Inst}
 use Rattle.e_clause.specs.RuleKinds.{is_diagram_rule}
 use Rattle.e_construct.specs.Construct.{fits as fits_form, needs as needs_of_form}
-use Rattle.e_deriv.specs.Script.{Script, Cite, Hence, Make, Qed}
+use Rattle.e_deriv.specs.Script.{Script, Cite, Hence, Make, Qed, Contradiction}
 use Rattle.e_deriv.specs.Goal.{Goal, are_for, goal_with}
 use Rattle.e_deriv.specs.Lines.{Line}
 
@@ -34,6 +34,7 @@ fits_at (Cite by rest) s goal = is_citation s by
 fits_at (Hence lit cert rest) s goal = all_in_scope s lit
 fits_at (Make form names certs rest) s goal = fits_form form s
 fits_at (Qed objects certs) s goal = are_for goal s objects
+fits_at (Contradiction against) s goal = true
 
 -- the literals that the line needs, in order
 abbrev pub needs_at : Script → Goal → List Lit
@@ -41,6 +42,7 @@ needs_at (Hence lit cert rest) goal = lit ∷ []
 needs_at (Make form names certs rest) goal = needs_of_form form
 needs_at (Qed objects certs) goal = goal_with goal objects
 needs_at (Cite by rest) goal = []
+needs_at (Contradiction against) goal = []
 
 abbrev pub fits : Line → Bool
 fits x = fits_at x.here x.scope x.goal

@@ -1,6 +1,6 @@
 //! Blocks, steps and closes.
 
-use e_clause::{By, Cert};
+use e_clause::{Against, By, Cert};
 use e_construct::Construction;
 use e_literal::{Items, Lit, Obj};
 use e_text::Name;
@@ -40,5 +40,9 @@ pub enum Close {
     Qed {
         objects: Items<Obj>,
         certs: Items<Cert>,
+    },
+    /// The facts contradict each other.
+    Contradiction {
+        against: Option<Against>,
     },
 }

@@ -56,6 +56,7 @@ fn erase_close(alloc: Global, close: &Close) -> Result<Close, AllocError>
                 certs: Items::empty(alloc),
             })
         }
+        Close::Contradiction { .. } => Ok(Close::Contradiction { against: None }),
     }
 }
 

@@ -17,6 +17,6 @@ pub fn size(block: &Block) -> u32
         }
     }
     match &block.close {
-        Close::Qed { .. } => lines + 1,
+        Close::Qed { .. } | Close::Contradiction { .. } => lines + 1,
     }
 }

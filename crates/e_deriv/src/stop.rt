@@ -3,7 +3,7 @@ ghost use Rattle.std.specs.Prelude.{◌≡◌};
 ghost use Rattle.e_deriv.specs.declared.stop.Stop.TheVariants.{NoMemory};
 
 use crate::names::Names;
-use e_literal::Lit;
+use e_literal::{Lit, Values};
 use std::alloc::{AllocError, AllocFailed};
 
 /// What an unlicensed line lacks.
@@ -11,15 +11,30 @@ use std::alloc::{AllocError, AllocFailed};
 pub enum Wanted {
     /// The first literal that is not allowed; the cited one of a citation.
     Literal(Lit),
+    /// That the facts contradict each other.
+    Contradiction,
 }
 
-/// The first line that is not licensed, or want of memory.
+/// The first line that is not licensed, or one that is too wide to be judged, or want of memory.
 #[derive(Debug, Drop)]
 pub enum Stop {
     Unlicensed {
         /// The line's number among the step and close lines, from 1.
         step: u32,
         wanted: Wanted,
+        /// Where a metric literal or a contradiction is wanted: values of the terms of the step with which the facts are
+        /// true and the wanted literal is false.
+        values: Option<Values>,
+        /// The names of the objects in scope before the line.
+        names: Names,
+    },
+    /// Each line before is licensed, and a minor of a system of this one has size at least 2^63.
+    TooWide {
+        /// The line's number among the step and close lines, from 1.
+        step: u32,
+        wanted: Wanted,
+        /// The width of the system.
+        width: u128,
         /// The names of the objects in scope before the line.
         names: Names,
     },

@@ -1,7 +1,6 @@
 -- What a qed is judged as.
-use Rattle.std.proofs.Common.{◌≡◌, List, [], ◌∷◌, refl, sym, ap, ◌∙◌, subst, true, false, true≢false, ◌&&◌}
+use Rattle.std.proofs.Common.{◌≡◌, ℕ, Option, Some, List, [], ◌∷◌, refl, sym, ap, ◌∙◌, subst, true, true≢false, ◌&&◌}
 use Rattle.std.specs.Prelude.{IsTrue, map}
-use Rattle.std.specs.List.{list_all}
 use Rattle.e_literal.specs.declared.object.Sort.{Sort}
 use Rattle.e_literal.specs.declared.object.Sort.TheVariants.{Point, Line, Circle}
 use Rattle.e_literal.specs.declared.object.Obj.{Obj}
@@ -10,17 +9,21 @@ use Rattle.e_literal.specs.declared.literal.Lit.{Lit}
 use Rattle.e_literal.specs.Literal.{is_in_scope}
 use Rattle.e_literal.specs.Scopes.{same_sort, are_of_sorts}
 use Rattle.e_clause.specs.declared.cert.Cert.{Cert}
-use Rattle.e_clause.specs.Certify.{certify_all}
-use Rattle.e_deriv.specs.declared.block.Close.TheVariants.{Qed as QedClose}
-use Rattle.e_deriv.specs.declared.stop.Wanted.{Wanted}
-use Rattle.e_deriv.specs.declared.stop.Wanted.TheVariants.{Literal}
-use Rattle.e_deriv.specs.Script.{Qed, erased}
+use Rattle.e_clause.specs.declared.cert.Against.{Against}
+use Rattle.e_clause.specs.Certify.{certify_all, certifies_against}
+use Rattle.e_clause.specs.Judged.{are_good, are_good_facts}
+use Rattle.e_literal.specs.declared.object.Term.{Term}
+use Rattle.e_licence.specs.Licences.{IsConsistentBy}
+use Rattle.e_deriv.specs.declared.block.Close.TheVariants.{Qed as QedClose, Contradiction as ContradictionClose}
+use Rattle.e_deriv.specs.declared.stop.Wanted.TheVariants.{Literal, Contradiction as AContradiction}
+use Rattle.e_deriv.specs.Script.{erased}
 use Rattle.e_deriv.specs.Goal.{Goal, are_for, goal_with}
 use Rattle.e_deriv.specs.Lines.{lines}
-use Rattle.e_deriv.specs.Steps.{fits}
-use Rattle.e_deriv.specs.Licensed.{IsFirstNotAllowed}
-use Rattle.e_prove.specs.declared.context.Context.{Context}
-use Rattle.e_prove.specs.Judging.{IsClosed, CloseLacks, LacksFirst, lines_at}
+use Rattle.e_licence.specs.Contexts.{Basis}
+use Rattle.e_prove.specs.declared.halt.Halt.{Halt}
+use Rattle.e_prove.specs.declared.halt.Halt.TheVariants as halt
+use Rattle.e_prove.specs.Halts.{HaltsIn}
+use Rattle.e_prove.specs.Judging.{IsReadyToClose, IsClosed, CloseHalts}
 use Rattle.e_prove.proofs.Licensing.{and_both, and_left, and_right}
 
 same_sorts : (a b : Sort) → same_sort a b ≡ true → a ≡ b
@@ -46,13 +49,20 @@ sorts_agree s (sort ∷ sorts) (o ∷ os) h =
     let rest = and_right b c (and_right a (b && c) h) in
     ap (λ k. k ∷ sorts) (same_sorts sort o.sort (and_left a (b && c) h)) ∙ ap (λ ks. o.sort ∷ ks) (sorts_agree s sorts os rest)
 
--- the objects of a qed that fits are for the goal
-pub objects_fit : (objects : List Obj) (certs : List Cert) (x : Context) (goal : Goal) → list_all fits (lines_at (Qed objects certs) x goal) ≡ true →
-    are_for goal x.scope objects ≡ true
-unfolding lines
-objects_fit objects certs x goal h = and_left _ _ h
+-- what a qed that fits says
+pub record QedFits (objects : List Obj) (x : Basis) (goal : Goal) : Type 0 where
+  pub form : are_for goal x.scope objects ≡ true
+  pub lits : are_good x.scope (goal_with goal objects) ≡ true
 
-closed_by : (objects : List Obj) (written certs : List Cert) (x : Context) (goal : Goal) → are_for goal x.scope objects ≡ true →
+pub qed_fits : (objects : List Obj) (certs : List Cert) (x : Basis) (goal : Goal) → IsReadyToClose (QedClose objects certs) x goal → QedFits objects x goal
+unfolding lines
+qed_fits objects certs x goal h =
+    record {
+      form = and_left (are_for goal x.scope objects) true h.form;
+      lits = and_right (are_good_facts x.scope x.facts) (are_good x.scope (goal_with goal objects)) (and_left (are_good_facts x.scope x.facts && are_good x.scope (goal_with goal objects)) true h.lits);
+    }
+
+closed_by : (objects : List Obj) (written certs : List Cert) (x : Basis) (goal : Goal) → are_for goal x.scope objects ≡ true →
     IsTrue (certify_all x.scope x.facts (goal_with goal objects) certs) → IsClosed (QedClose objects written) x goal (QedClose objects certs)
 unfolding lines erased
 closed_by objects written certs x goal form h =
@@ -62,13 +72,36 @@ closed_by objects written certs x goal form h =
     }
 
 -- a qed of which each literal has its certificate
-pub closed_qed : (objects kept : List Obj) (written certs given : List Cert) (wanted : List Lit) (x : Context) (goal : Goal) →
+pub closed_qed : (objects kept : List Obj) (written certs given : List Cert) (wanted : List Lit) (x : Basis) (goal : Goal) →
     kept ≡ objects → given ≡ certs → wanted ≡ goal_with goal objects → are_for goal x.scope objects ≡ true → IsTrue (certify_all x.scope x.facts wanted certs) →
     IsClosed (QedClose objects written) x goal (QedClose kept given)
 closed_qed objects kept written certs given wanted x goal same these all form h =
     rw (same, these) (closed_by objects written certs x goal form (subst (λ ls. certify_all x.scope x.facts ls certs ≡ true) all h))
 
--- the first literal of the goal that is not allowed is what a qed lacks
-pub qed_lacks : (objects : List Obj) (written : List Cert) (wanted : List Lit) (x : Context) (goal : Goal) (w : Wanted) → wanted ≡ goal_with goal objects →
-    LacksFirst x wanted w → CloseLacks (QedClose objects written) x goal w
-qed_lacks objects written wanted x goal (Literal l) all h = subst (λ ls. IsFirstNotAllowed x.scope x.facts ls l) all h
+-- what halts at the literals of the goal
+qed_halts_at : (objects : List Obj) (written : List Cert) (x : Basis) (goal : Goal) (h : Halt) → HaltsIn x (goal_with goal objects) h →
+    CloseHalts (QedClose objects written) x goal h
+qed_halts_at objects written x goal (halt.Lacks (Literal l) values) k = k
+qed_halts_at objects written x goal (halt.Lacks AContradiction values) k = absurd k
+qed_halts_at objects written x goal (halt.TooWide (Literal l) width) k = k
+qed_halts_at objects written x goal (halt.TooWide AContradiction width) k = absurd k
+qed_halts_at objects written x goal halt.NoMemory k = tt
+
+pub qed_halts : (objects : List Obj) (written : List Cert) (wanted : List Lit) (x : Basis) (goal : Goal) (h : Halt) → wanted ≡ goal_with goal objects →
+    HaltsIn x wanted h → CloseHalts (QedClose objects written) x goal h
+qed_halts objects written wanted x goal h all k = qed_halts_at objects written x goal h (subst (λ ls. HaltsIn x ls h) all k)
+
+-- a contradiction with its certificate
+closed_by_against : (written : Option Against) (a : Against) (x : Basis) (goal : Goal) → IsTrue (certifies_against x.scope x.facts a) →
+    IsClosed (ContradictionClose written) x goal (ContradictionClose (Some a))
+unfolding lines erased
+closed_by_against written a x goal h = record { certified = and_both _ _ h refl; erased = refl }
+
+pub closed_contradiction : (written given : Option Against) (a : Against) (x : Basis) (goal : Goal) → given ≡ Some a → IsTrue (certifies_against x.scope x.facts a) →
+    IsClosed (ContradictionClose written) x goal (ContradictionClose given)
+closed_contradiction written given a x goal same h = rw same (closed_by_against written a x goal h)
+
+-- facts that do not contradict each other
+pub contradiction_lacks : (written : Option Against) (x : Basis) (goal : Goal) (values : List (Term × ℕ)) → IsConsistentBy x.facts values →
+    CloseHalts (ContradictionClose written) x goal (halt.Lacks AContradiction (Some values))
+contradiction_lacks written x goal values h = (h.not_contradictory, h.shown)

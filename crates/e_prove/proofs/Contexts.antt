@@ -1,21 +1,26 @@
 -- Contexts that grow.
-use Rattle.std.proofs.Common.{◌≡◌, ℕ, ◌+◌, ◌<◌, ◌≤◌, ◌^◌, List, [], ◌∷◌, ◌++◌, length, drop, min, refl, sym, ◌∙◌, arith}
-use Rattle.std.proofs.lemmas.Grind.{common_steps}
+use Rattle.std.proofs.Common.{◌≡◌, ℕ, ◌≤◌, List, [], ◌∷◌, ◌++◌, length, drop, min, refl, sym, ap, ◌∙◌, subst, Bool, true, false, arith}
+use Rattle.std.specs.Prelude.{nat_le, flat_map, if◌then◌else◌}
+use Rattle.std.proofs.lemmas.Grind.{common_steps, flat_map-append}
+use Rattle.std.proofs.lemmas.List.{length-append}
+use Rattle.std.proofs.lemmas.Bool.Decides.{nat_tests}
+use Rattle.std.proofs.lemmas.List.Folds.{list_all-append}
+use Rattle.e_literal.specs.declared.object.Scope.{Scope}
 use Rattle.e_literal.specs.declared.object.Sort.{Sort}
+use Rattle.e_literal.specs.declared.object.Term.{Term}
 use Rattle.e_literal.specs.declared.literal.Lit.{Lit}
-use Rattle.e_literal.specs.Facts.{joined, joined_all}
+use Rattle.e_literal.specs.Facts.{has, joined, joined_all}
 use Rattle.e_literal.specs.Scopes.{grown}
+use Rattle.e_clause.specs.Assignment.{terms_of_atom, terms_of_lits}
+use Rattle.e_clause.specs.Judged.{is_good, are_good, are_few, most_terms, are_good_facts}
 use Rattle.e_construct.specs.declared.construction.Construction.{Construction}
 use Rattle.e_construct.specs.Construct.{made, gives}
 use Rattle.e_deriv.specs.declared.names.Names.{Names}
 use Rattle.e_deriv.specs.Naming.{named}
-use Rattle.e_prove.specs.declared.context.Context.{Context}
+use Rattle.e_licence.specs.Contexts.{Basis}
+use Rattle.e_prove.specs.declared.standing.Standing.{Standing}
 use Rattle.e_prove.specs.Contexts.{after_make}
-
--- one more literal joins last
-pub joined_push : (facts ls : List Lit) (l : Lit) → joined_all facts (ls ++ l ∷ []) ≡ joined (joined_all facts ls) l
-joined_push facts [] l = refl
-joined_push facts (m ∷ ls) l = joined_push (joined facts m) ls l
+use Rattle.e_prove.proofs.Licensing.{and_both, and_left, and_right}
 
 none_named : (ns : Names) (sorts : List Sort) (new : List (List ℕ)) → min (length sorts) (length new) ≡ 0 → named ns sorts new ≡ ns
 none_named ns [] new h = refl
@@ -30,7 +35,55 @@ all_named now before sorts new i done h =
     sym (none_named now (drop i sorts) (drop i new) none) ∙ h
 
 -- new objects come into scope, and then what is given joins the facts
-pub made_after : (form : Construction) (names : List (List ℕ)) (x mid after : Context) (sorts : List Sort) (given : List Lit) → sorts ≡ made form →
-    given ≡ gives form x.scope → mid ≡ record x { scope = grown x.scope sorts; names = named x.names sorts names } →
-    after ≡ record mid { facts = joined_all mid.facts given } → after ≡ after_make form names x
-made_after form names x mid after sorts given a b c d = rw (d, c, b, a) refl
+pub made_after : (form : Construction) (names : List (List ℕ)) (x mid after : Standing) (sorts : List Sort) (given : List Lit) → sorts ≡ made form →
+    given ≡ gives form x.context.scope → mid.context ≡ record x.context { scope = grown x.context.scope sorts } → mid.names ≡ named x.names sorts names →
+    after ≡ record mid { context = record mid.context { facts = joined_all mid.context.facts given } } → after ≡ after_make form names x
+made_after form names x mid after sorts given a b c d e = rw (e, c, d, b, a) refl
+
+-- ---- facts that are good
+
+more_terms : (facts : List Lit) (l : Lit) → length (terms_of_lits facts) ≤ length (terms_of_lits (facts ++ l ∷ []))
+more_terms facts l =
+    let terms : Lit → List Term = λ m. terms_of_atom m.atom in
+    let all = ap length (flat_map-append terms facts (l ∷ [])) ∙ length-append (terms_of_lits facts) (flat_map terms (l ∷ [])) in
+    omega (arith, all)
+
+fewer : (n m k : ℕ) → n ≤ m → nat_le m k ≡ true → nat_le n k ≡ true
+fewer n m k le h = grind (arith, nat_tests)
+
+good_unpushed : (s : Scope) (facts : List Lit) (l : Lit) → are_good_facts s (facts ++ l ∷ []) ≡ true → are_good_facts s facts ≡ true
+good_unpushed s facts l h =
+    let good = and_left (are_good s (facts ++ l ∷ [])) (are_few (facts ++ l ∷ [])) h in
+    let few = and_right (are_good s (facts ++ l ∷ [])) (are_few (facts ++ l ∷ [])) h in
+    and_both (are_good s facts) (are_few facts)
+    (and_left (are_good s facts) (are_good s (l ∷ [])) (sym (list_all-append (is_good s) facts (l ∷ [])) ∙ good))
+    (fewer (length (terms_of_lits facts)) (length (terms_of_lits (facts ++ l ∷ []))) most_terms (more_terms facts l) few)
+
+good_unjoined : (s : Scope) (facts : List Lit) (l : Lit) → are_good_facts s (joined facts l) ≡ true → are_good_facts s facts ≡ true
+unfolding joined
+good_unjoined s facts l h = by (has facts l) h
+  where
+    by : (b : Bool) → are_good_facts s (if b then facts else facts ++ l ∷ []) ≡ true → are_good_facts s facts ≡ true
+    by true h = h
+    by false h = good_unpushed s facts l h
+
+-- where the facts are good after some literals join they are good before
+pub good_before : (s : Scope) (facts ls : List Lit) → are_good_facts s (joined_all facts ls) ≡ true → are_good_facts s facts ≡ true
+good_before s facts [] h = h
+good_before s facts (l ∷ ls) h = good_unjoined s facts l (good_before s (joined facts l) ls h)
+
+-- and after the first of those that are left
+pub good_left : (before x : Basis) (all left : List Lit) (l : Lit) (rest : List Lit) → x.scope ≡ before.scope →
+    joined_all x.facts left ≡ joined_all before.facts all → left ≡ l ∷ rest → are_good_facts before.scope (joined_all before.facts all) ≡ true →
+    are_good_facts x.scope (joined x.facts l) ≡ true
+good_left before x all left l rest same whole split h =
+    good_before x.scope (joined x.facts l) rest
+    (subst (λ ls. are_good_facts x.scope (joined_all x.facts ls) ≡ true) split
+    (subst (λ s. are_good_facts s (joined_all x.facts left) ≡ true) (sym same)
+    (subst (λ facts. are_good_facts before.scope facts ≡ true) (sym whole) h)))
+
+-- what a construction gives may join the facts once its objects are in scope
+pub good_given : (form : Construction) (x wider : Basis) (sorts : List Sort) (given : List Lit) → sorts ≡ made form → given ≡ gives form x.scope →
+    wider ≡ record x { scope = grown x.scope sorts } → are_good_facts (grown x.scope (made form)) (joined_all x.facts (gives form x.scope)) ≡ true →
+    are_good_facts wider.scope (joined_all wider.facts given) ≡ true
+good_given form x wider sorts given a b c h = rw (c, b, a) h

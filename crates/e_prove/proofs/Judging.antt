@@ -1,9 +1,9 @@
 -- What a step is judged as.
-use Rattle.std.proofs.Common.{◌≡◌, ℕ, ◌≤◌, List, [], length, refl, sym, ap, subst, Bool, true, false, Option, Some, None, arith}
+use Rattle.std.proofs.Common.{◌≡◌, ℕ, ◌≤◌, List, [], ◌∷◌, length, refl, ap, subst, true, false, Option, Some, None, arith}
 use Rattle.std.specs.Prelude.{IsTrue}
 use Rattle.e_literal.specs.declared.object.Scope.{Scope}
+use Rattle.e_literal.specs.declared.object.Term.{Term}
 use Rattle.e_literal.specs.declared.literal.Lit.{Lit}
-use Rattle.e_literal.specs.Facts.{joined}
 use Rattle.e_literal.specs.Scopes.{grown}
 use Rattle.e_literal.proofs.Growing.{grown_bounds}
 use Rattle.e_construct.specs.declared.construction.Construction.{Construction}
@@ -11,20 +11,21 @@ use Rattle.e_construct.specs.Construct.{needs, made}
 use Rattle.e_construct.proofs.Sizes.{few_made}
 use Rattle.e_clause.specs.declared.cert.By.{By}
 use Rattle.e_clause.specs.declared.cert.Cert.{Cert}
-use Rattle.e_clause.specs.Allowed.{Allowed}
 use Rattle.e_clause.specs.Certify.{certifies, certify_all}
 use Rattle.e_clause.proofs.Sound.{allowed_of_certified, all_allowed_of_certified}
 use Rattle.e_deriv.specs.declared.block.Step.TheVariants.{Cite as CiteStep, Hence as HenceStep, Make as MakeStep}
 use Rattle.e_deriv.specs.declared.stop.Wanted.{Wanted}
-use Rattle.e_deriv.specs.declared.stop.Wanted.TheVariants.{Literal}
+use Rattle.e_deriv.specs.declared.stop.Wanted.TheVariants.{Literal, Contradiction}
 use Rattle.e_deriv.specs.Script.{Cite, Hence, Make, erased}
 use Rattle.e_deriv.specs.Lines.{lines}
 use Rattle.e_deriv.specs.Steps.{is_cited}
 use Rattle.e_deriv.specs.Naming.{names_lines}
-use Rattle.e_deriv.specs.Licensed.{IsFirstNotAllowed}
-use Rattle.e_prove.specs.declared.context.Context.{Context}
-use Rattle.e_prove.specs.Contexts.{GrowsLittle, after_make}
-use Rattle.e_prove.specs.Judging.{IsJudged, StepLacks, LacksFirst}
+use Rattle.e_prove.specs.declared.halt.Halt.{Halt}
+use Rattle.e_prove.specs.declared.halt.Halt.TheVariants as halt
+use Rattle.e_prove.specs.declared.standing.Standing.{Standing}
+use Rattle.e_prove.specs.Contexts.{GrowsLittle, after_literal, after_make}
+use Rattle.e_prove.specs.Halts.{HaltsIn}
+use Rattle.e_prove.specs.Judging.{IsJudged, StepHalts}
 use Rattle.e_prove.proofs.Licensing.{and_both}
 
 stays : (s : Scope) → GrowsLittle s s
@@ -32,7 +33,7 @@ stays s = record { points = omega arith; lines = omega arith; circles = omega ar
 
 -- ---- a citation
 
-judged_by : (by : By) (x : Context) → is_cited x.facts by ≡ true → IsJudged (CiteStep by) x (CiteStep by) (record x { facts = joined x.facts by.lit })
+judged_by : (by : By) (x : Standing) → is_cited x.context.facts by ≡ true → IsJudged (CiteStep by) x (CiteStep by) (after_literal by.lit x)
 unfolding lines erased names_lines
 judged_by by x h =
     record {
@@ -42,43 +43,46 @@ judged_by by x h =
       next = λ rest goal. refl;
       derived_next = λ rest goal. refl;
       named = λ rest. refl;
-      grows = stays x.scope;
+      grows = stays x.context.scope;
     }
 
-pub judged_cite : (by derived : By) (x after : Context) → derived ≡ by → is_cited x.facts by ≡ true → after ≡ record x { facts = joined x.facts by.lit } →
+pub judged_cite : (by derived : By) (x after : Standing) → derived ≡ by → is_cited x.context.facts by ≡ true → after ≡ after_literal by.lit x →
     IsJudged (CiteStep by) x (CiteStep derived) after
 judged_cite by derived x after same h gives = rw (same, gives) (judged_by by x h)
 
--- one that is not good lacks its literal
-pub cite_lacks : (by : By) (x : Context) (w : Wanted) → is_cited x.facts by ≡ false → w ≡ Literal by.lit → StepLacks (CiteStep by) x w
-cite_lacks by x w h e rest goal = rw e (h, refl)
+-- one that is not good lacks its literal, and has no values
+pub cite_halts : (by : By) (x : Standing) (w : Wanted) (values : Option (List (Term × ℕ))) → is_cited x.context.facts by ≡ false → w ≡ Literal by.lit → values ≡ None →
+    StepHalts (CiteStep by) x (halt.Lacks w values)
+cite_halts by x w values h e none rest goal = rw (e, none) ((h, refl), refl)
 
 -- ---- a hence
 
-judged_by_cert : (lit : Lit) (written : Option Cert) (cert : Cert) (x : Context) → IsTrue (certifies x.scope x.facts lit cert) →
-    IsJudged (HenceStep lit written) x (HenceStep lit (Some cert)) (record x { facts = joined x.facts lit })
+judged_by_cert : (lit : Lit) (written : Option Cert) (cert : Cert) (x : Standing) → IsTrue (certifies x.context.scope x.context.facts lit cert) →
+    IsJudged (HenceStep lit written) x (HenceStep lit (Some cert)) (after_literal lit x)
 unfolding lines erased names_lines
 judged_by_cert lit written cert x h =
     record {
-      licensed = λ rest goal form. record { fits = form; allowed = (allowed_of_certified x.scope x.facts lit cert h, tt); beside = tt };
+      licensed = λ rest goal form. record { fits = form; allowed = (allowed_of_certified x.context.scope x.context.facts lit cert h, tt); beside = tt };
       certified = λ rest more goal form. and_both _ _ form (and_both _ _ (and_both _ _ h refl) refl);
       erased = λ rest more e. ap (Hence lit None) e;
       next = λ rest goal. refl;
       derived_next = λ rest goal. refl;
       named = λ rest. refl;
-      grows = stays x.scope;
+      grows = stays x.context.scope;
     }
 
-pub judged_hence : (lit derived : Lit) (written : Option Cert) (cert : Cert) (x after : Context) → derived ≡ lit →
-    IsTrue (certifies x.scope x.facts lit cert) → after ≡ record x { facts = joined x.facts lit } →
+pub judged_hence : (lit derived : Lit) (written : Option Cert) (cert : Cert) (x after : Standing) → derived ≡ lit →
+    IsTrue (certifies x.context.scope x.context.facts lit cert) → after ≡ after_literal lit x →
     IsJudged (HenceStep lit written) x (HenceStep derived (Some cert)) after
 judged_hence lit derived written cert x after same h gives = rw (same, gives) (judged_by_cert lit written cert x h)
 
--- one whose literal is not allowed lacks it
-pub hence_lacks : (lit : Lit) (written : Option Cert) (x : Context) (w : Wanted) → ¬ Allowed x.scope x.facts lit → w ≡ Literal lit →
-    StepLacks (HenceStep lit written) x w
-hence_lacks lit written x w h e rest goal =
-    rw e (record { earlier = []; later = []; split = refl; allowed = tt; not_allowed = h })
+-- what halts at its literal
+pub hence_halts : (lit : Lit) (written : Option Cert) (x : Standing) (h : Halt) → HaltsIn x.context (lit ∷ []) h → StepHalts (HenceStep lit written) x h
+hence_halts lit written x (halt.Lacks (Literal l) values) k rest goal = k
+hence_halts lit written x (halt.Lacks Contradiction values) k rest goal = absurd k
+hence_halts lit written x (halt.TooWide (Literal l) width) k rest goal = k
+hence_halts lit written x (halt.TooWide Contradiction width) k rest goal = absurd k
+hence_halts lit written x halt.NoMemory k rest goal = tt
 
 -- ---- a construction
 
@@ -88,27 +92,35 @@ grows_little s form =
     let few : length (made form) ≤ 2 = few_made form in
     record { points = omega (arith, few, bounds.few_points); lines = omega (arith, few, bounds.few_lines); circles = omega (arith, few, bounds.few_circles) }
 
-judged_by_certs : (form : Construction) (names : List (List ℕ)) (written certs : List Cert) (x : Context) → IsTrue (certify_all x.scope x.facts (needs form) certs) →
+judged_by_certs : (form : Construction) (names : List (List ℕ)) (written certs : List Cert) (x : Standing) → IsTrue (certify_all x.context.scope x.context.facts (needs form) certs) →
     IsJudged (MakeStep form names written) x (MakeStep form names certs) (after_make form names x)
 unfolding lines erased names_lines
 judged_by_certs form names written certs x h =
     record {
-      licensed = λ rest goal fit. record { fits = fit; allowed = all_allowed_of_certified x.scope x.facts (needs form) certs h; beside = tt };
+      licensed = λ rest goal fit. record { fits = fit; allowed = all_allowed_of_certified x.context.scope x.context.facts (needs form) certs h; beside = tt };
       certified = λ rest more goal fit. and_both _ _ fit (and_both _ _ h refl);
       erased = λ rest more e. ap (Make form names []) e;
       next = λ rest goal. refl;
       derived_next = λ rest goal. refl;
       named = λ rest. refl;
-      grows = grows_little x.scope form;
+      grows = grows_little x.context.scope form;
     }
 
-pub judged_make : (form derived : Construction) (names kept : List (List ℕ)) (written certs given : List Cert) (needed : List Lit) (x after : Context) →
-    derived ≡ form → kept ≡ names → given ≡ certs → needed ≡ needs form → IsTrue (certify_all x.scope x.facts needed certs) → after ≡ after_make form names x →
+pub judged_make : (form derived : Construction) (names kept : List (List ℕ)) (written certs given : List Cert) (needed : List Lit) (x after : Standing) →
+    derived ≡ form → kept ≡ names → given ≡ certs → needed ≡ needs form → IsTrue (certify_all x.context.scope x.context.facts needed certs) → after ≡ after_make form names x →
     IsJudged (MakeStep form names written) x (MakeStep derived kept given) after
 judged_make form derived names kept written certs given needed x after same these those all h gives =
-    rw (same, these, those, gives) (judged_by_certs form names written certs x (subst (λ ls. certify_all x.scope x.facts ls certs ≡ true) all h))
+    rw (same, these, those, gives) (judged_by_certs form names written certs x (subst (λ ls. certify_all x.context.scope x.context.facts ls certs ≡ true) all h))
 
--- the first of its needs that is not allowed is what it lacks
-pub make_lacks : (form : Construction) (names : List (List ℕ)) (written : List Cert) (needed : List Lit) (x : Context) (w : Wanted) → needed ≡ needs form →
-    LacksFirst x needed w → StepLacks (MakeStep form names written) x w
-make_lacks form names written needed x (Literal l) all h rest goal = subst (λ ls. IsFirstNotAllowed x.scope x.facts ls l) all h
+-- what halts at its needs
+make_halts_at : (form : Construction) (names : List (List ℕ)) (written : List Cert) (x : Standing) (h : Halt) → HaltsIn x.context (needs form) h →
+    StepHalts (MakeStep form names written) x h
+make_halts_at form names written x (halt.Lacks (Literal l) values) k rest goal = k
+make_halts_at form names written x (halt.Lacks Contradiction values) k rest goal = absurd k
+make_halts_at form names written x (halt.TooWide (Literal l) width) k rest goal = k
+make_halts_at form names written x (halt.TooWide Contradiction width) k rest goal = absurd k
+make_halts_at form names written x halt.NoMemory k rest goal = tt
+
+pub make_halts : (form : Construction) (names : List (List ℕ)) (written : List Cert) (needed : List Lit) (x : Standing) (h : Halt) → needed ≡ needs form →
+    HaltsIn x.context needed h → StepHalts (MakeStep form names written) x h
+make_halts form names written needed x h all k = make_halts_at form names written x h (subst (λ ls. HaltsIn x.context ls h) all k)

@@ -4,4 +4,3 @@ pub mod Judging
 pub mod Closing
 pub mod Proving
 pub mod Answering
-pub mod Fitting

@@ -1,19 +1,39 @@
--- What a line that halts the judging lacks.
-use Rattle.std.specs.Prelude.{◌≡◌, ℕ}
+-- Why the judging halts at a line.
+use Rattle.std.specs.Prelude.{ℕ, List, Contains}
+use Rattle.e_literal.specs.declared.literal.Lit.{Lit}
+use Rattle.e_clause.specs.Wide.{IsTooWideLit}
+use Rattle.e_licence.specs.Contexts.{Basis}
 use Rattle.e_deriv.specs.declared.names.Names.{Names}
-use Rattle.e_deriv.specs.declared.stop.Wanted.{Wanted}
+use Rattle.e_deriv.specs.declared.stop.Wanted.TheVariants.{Literal, Contradiction}
 use Rattle.e_deriv.specs.declared.stop.Stop.{Stop}
 use Rattle.e_deriv.specs.declared.stop.Stop.TheVariants as stop
+use Rattle.e_deriv.specs.Lines.{Line}
+use Rattle.e_deriv.specs.Licensed.{Lacks as LineLacks, IsFirstNotAllowed}
+use Rattle.e_deriv.specs.Refused.{LiteralIsShown, IsShown, IsTooWide}
 use Rattle.e_prove.specs.declared.halt.Halt.{Halt}
-use Rattle.e_prove.specs.declared.halt.Halt.TheVariants as halt
+use Rattle.e_prove.specs.declared.halt.Halt.TheVariants.{Lacks, TooWide, NoMemory}
 
--- the fact holds of what is lacked; want of memory is free
-abbrev pub HaltIs : (Wanted → Type 0) → Halt → Type 0
-HaltIs p (halt.Lacks w) = p w
-HaltIs p halt.NoMemory = Unit {0}
+-- the line lacks this, and the values show it; or it is too wide at this; want of memory is free
+abbrev pub HaltsAt : Line → Halt → Type 0
+HaltsAt x (Lacks wanted values) = LineLacks x x.here wanted × IsShown x.here x.facts wanted values
+HaltsAt x (TooWide wanted width) = IsTooWide x x.here wanted width
+HaltsAt x NoMemory = Unit {0}
 
--- the stop of a halt at the line with this number, where these names are in scope; want of memory is free
-abbrev pub IsStopOf : Halt → ℕ → Names → Stop → Type 0
-IsStopOf (halt.Lacks w) n names (stop.Unlicensed m v seen) = (m ≡ n) × (v ≡ w) × (seen ≡ names)
-IsStopOf halt.NoMemory n names (stop.Unlicensed m v seen) = ⊥
-IsStopOf h n names stop.NoMemory = Unit {0}
+-- the first of the literals that is not allowed is lacked, or one of them is too wide; want of memory is free
+abbrev pub HaltsIn : Basis → List Lit → Halt → Type 0
+HaltsIn x ls (Lacks (Literal l) values) = IsFirstNotAllowed x.scope x.facts ls l × LiteralIsShown x.facts l values
+HaltsIn x ls (TooWide (Literal l) width) = Contains ls l × IsTooWideLit x.scope x.facts l width
+HaltsIn x ls (Lacks Contradiction values) = ⊥
+HaltsIn x ls (TooWide Contradiction width) = ⊥
+HaltsIn x ls NoMemory = Unit {0}
+
+-- the fact holds where it is not memory that is wanting
+abbrev pub UnlessNoMemory : Type 0 → Halt → Type 0
+UnlessNoMemory p NoMemory = Unit {0}
+UnlessNoMemory p h = p
+
+-- the stop of a halt at the line with this number, where these names are in scope
+abbrev pub stop_of : Halt → ℕ → Names → Stop
+stop_of (Lacks wanted values) n names = stop.Unlicensed n wanted values names
+stop_of (TooWide wanted width) n names = stop.TooWide n wanted width names
+stop_of NoMemory n names = stop.NoMemory

@@ -1,21 +1,19 @@
 //! Judging a close.
-ghost use Rattle.std.specs.Prelude.{◌≡◌, List, IfOk, IfErr, IsTrue, map};
-ghost use Rattle.std.specs.List.{list_all};
+ghost use Rattle.std.specs.Prelude.{◌≡◌, List, Option, IfOk, IfErr, IsTrue, map};
 ghost use Rattle.e_literal.specs.Rename;
 ghost use Rattle.e_literal.specs.Rename.{image_in};
+ghost use Rattle.e_clause.specs.declared.cert.Against.{Against};
 ghost use Rattle.e_clause.specs.declared.cert.Cert.{Cert};
-ghost use Rattle.e_deriv.specs.declared.block.Close.TheVariants.{Qed};
-ghost use Rattle.e_deriv.specs.Goal.{are_for};
-ghost use Rattle.e_deriv.specs.Script.{close_script};
-ghost use Rattle.e_deriv.specs.Steps.{fits};
+ghost use Rattle.e_clause.specs.Judged.{are_good};
+ghost use Rattle.e_deriv.specs.declared.block.Close.TheVariants.{Qed, Contradiction};
+ghost use Rattle.e_deriv.specs.Goal.{Goal as BlockGoal, are_for};
 ghost use Rattle.e_prove.specs.Contexts.{goal_said};
-ghost use Rattle.e_prove.specs.Halts.{HaltIs};
-ghost use Rattle.e_prove.specs.Judging.{IsClosed, CloseLacks, lines_at};
+ghost use Rattle.e_prove.specs.Judging.{IsReadyToClose, IsClosed, CloseHalts};
 
-use crate::context::Context;
 use crate::halt::Halt;
 use crate::licence::licences;
-use e_deriv::Close;
+use e_deriv::{Close, Wanted};
+use e_licence::{Context, Refuted, against};
 use e_literal::{Items, Lit, Map, Obj, renamed};
 use std::alloc::{AllocError, Global};
 
@@ -27,27 +25,28 @@ pub struct Goal<'a> {
 }
 
 /// Judges a close where it stands, and gives it with its certificates.
-#[tactic(auto, using(crate::proofs::Closing::objects_fit), unfolding(e_deriv::specs::Lines::lines))]
 pub fn judge_close(
     alloc: Global,
     close: &Close,
     goal: &Goal,
     context: &Context,
 ) -> Result<Close, Halt>
-    requires { IsTrue (list_all fits (lines_at (close_script close.now) context.now (goal_said goal.now))) }
+    requires { IsReadyToClose close.now context.now (goal_said goal.now) }
     ensures ok { IfOk result (λ d. IsClosed close.now context.now (goal_said goal.now) d) }
-    ensures err { IfErr result (HaltIs (CloseLacks close.now context.now (goal_said goal.now))) }
+    ensures err { IfErr result (CloseHalts close.now context.now (goal_said goal.now)) }
 {
     match close {
         Close::Qed { objects, .. } => qed(alloc, objects.items(), goal, context),
+        Close::Contradiction { .. } => contradiction(alloc, context),
     }
 }
 
 /// A qed: each literal of the goal is allowed, with these objects for its made ones.
 fn qed(alloc: Global, objects: &[Obj], goal: &Goal, context: &Context) -> Result<Close, Halt>
-    requires { IsTrue (are_for (goal_said goal.now) context.now.scope objects.now) }
+    requires form { IsTrue (are_for (goal_said goal.now) context.now.scope objects.now) }
+    requires lits { IsTrue (are_good context.now.scope (Rattle.e_deriv.specs.Goal.goal_with (goal_said goal.now) objects.now)) }
     ensures ok { IfOk result (λ d. (certs : List Cert) → IsClosed (Qed objects.now certs) context.now (goal_said goal.now) d) }
-    ensures err { IfErr result (HaltIs (λ w. (certs : List Cert) → CloseLacks (Qed objects.now certs) context.now (goal_said goal.now) w)) }
+    ensures err { IfErr result (λ h. (certs : List Cert) → CloseHalts (Qed objects.now certs) context.now (goal_said goal.now) h) }
 {
     let wanted = goal_with(alloc, goal, objects)?;
     let certs = licences(alloc, context, &wanted)?;
@@ -55,6 +54,26 @@ fn qed(alloc: Global, objects: &[Obj], goal: &Goal, context: &Context) -> Result
         objects: Items::new(Vec::from_slice(alloc, objects)?),
         certs: Items::new(certs),
     })
+}
+
+/// A contradiction: the facts contradict each other.
+fn contradiction(alloc: Global, context: &Context) -> Result<Close, Halt>
+    ensures ok { IfOk result (λ d. (goal : BlockGoal) (written : Option Against) → IsClosed (Contradiction written) context.now goal d) }
+    ensures err { IfErr result (λ h. (goal : BlockGoal) (written : Option Against) → CloseHalts (Contradiction written) context.now goal h) }
+{
+    match against(alloc, context)? {
+        Refuted::Yes(against) => Ok(Close::Contradiction {
+            against: Some(against),
+        }),
+        Refuted::No(values) => Err(Halt::Lacks {
+            wanted: Wanted::Contradiction,
+            values: Some(values),
+        }),
+        Refuted::TooWide(width) => Err(Halt::TooWide {
+            wanted: Wanted::Contradiction,
+            width,
+        }),
+    }
 }
 
 /// The literals of the goal with these objects for its made ones.

@@ -1,18 +1,23 @@
 //! Why judging halts at a line.
 ghost use Rattle.std.specs.Prelude.{◌≡◌};
 ghost use Rattle.e_prove.specs.declared.halt.Halt.TheVariants.{NoMemory};
-ghost use Rattle.e_prove.specs.declared.halt.Halt.TheVariants.{Lacks};
-ghost use Rattle.e_deriv.specs.declared.stop.Wanted.TheVariants.{Literal};
-ghost use Rattle.e_prove.specs.Halts.{HaltIs, IsStopOf};
+ghost use Rattle.e_prove.specs.Halts.{stop_of};
 
 use e_deriv::{Names, Stop, Wanted};
-use e_literal::{Lit, copy};
-use std::alloc::{AllocError, AllocFailed, Global};
+use e_literal::Values;
+use std::alloc::{AllocError, AllocFailed};
 
-/// What the line lacks, or want of memory.
+/// What the line lacks, with the values that show it; or what is too wide there, with its width; or want of memory.
 #[derive(Debug, Drop)]
 pub enum Halt {
-    Lacks(Wanted),
+    Lacks {
+        wanted: Wanted,
+        values: Option<Values>,
+    },
+    TooWide {
+        wanted: Wanted,
+        width: u128,
+    },
     NoMemory,
 }
 
@@ -32,24 +37,21 @@ impl<T: Drop> From<AllocFailed<T>> for Halt {
     }
 }
 
-/// The halt of a line that lacks the literal.
-pub fn lacking(alloc: Global, lit: &Lit) -> Halt
-    ensures { HaltIs (λ w. w ≡ Literal lit.now) result }
-{
-    match copy(alloc, lit) {
-        Ok(lit) => Halt::Lacks(Wanted::Literal(lit)),
-        Err(_) => Halt::NoMemory,
-    }
-}
-
 /// The stop at the line with this number, where these names are in scope.
 pub fn stop(step: u32, halt: Halt, names: Names) -> Stop
-    ensures { IsStopOf halt step names result }
+    ensures { result ≡ stop_of halt step names }
 {
     match halt {
-        Halt::Lacks(wanted) => Stop::Unlicensed {
+        Halt::Lacks { wanted, values } => Stop::Unlicensed {
             step,
             wanted,
+            values,
+            names,
+        },
+        Halt::TooWide { wanted, width } => Stop::TooWide {
+            step,
+            wanted,
+            width,
             names,
         },
         Halt::NoMemory => Stop::NoMemory,

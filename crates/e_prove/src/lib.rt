@@ -2,14 +2,17 @@
 #![tactic(auto)]
 
 mod close;
-mod context;
 mod halt;
 mod laws;
 mod licence;
 mod prover;
+mod standing;
 mod step;
 
-pub use laws::{derived_stops_for_memory, licensed_stops_for_memory};
+pub use laws::{
+    derived_stops_for_memory, licensed_stops_for_memory, licensed_stops_for_want,
+    refused_stops_there,
+};
 pub use prover::prove;
 
 #[cfg(test)]

@@ -1,43 +1,49 @@
 //! Whether a literal is allowed by the facts, and a citation good.
-ghost use Rattle.std.specs.Prelude.{◌≡◌, IsTrue, IfSome, IfNone, IfOk, IfErr, map};
+ghost use Rattle.std.specs.Prelude.{◌≡◌, [], ◌∷◌, IsTrue, IfOk, IfErr, map};
 ghost use Rattle.e_literal.specs.Facts.{has, has_all, others};
 ghost use Rattle.e_literal.specs.Literal.{negation};
-ghost use Rattle.e_clause.specs.Allowed.{Allowed};
 ghost use Rattle.e_clause.specs.Certify.{certifies, certify_all};
+ghost use Rattle.e_clause.specs.Judged.{is_good, are_good};
 ghost use Rattle.e_deriv.specs.Steps.{instance_gives};
-ghost use Rattle.e_prove.specs.Halts.{HaltIs};
-ghost use Rattle.e_prove.specs.Judging.{LacksFirst};
+ghost use Rattle.e_prove.specs.Halts.{HaltsIn};
 
-use crate::context::Context;
-use crate::halt::{Halt, lacking};
-use e_clause::{By, Cert, InstanceFault, Part, instance};
+use crate::halt::Halt;
+use e_clause::{By, Cert, InstanceFault, instance};
+use e_deriv::Wanted;
 use e_facts::Facts;
+use e_licence::{Context, Licensed, licence};
 use e_literal::{Lit, copy, negate, same};
 use std::alloc::{AllocError, Global};
 
-/// A certificate of the literal, exactly where it is allowed.
-pub fn licence(context: &Context, lit: &Lit) -> Option<Cert>
-    ensures some { IfSome result (λ c. IsTrue (certifies context.now.scope context.now.facts lit.now c)) }
-    ensures none { IfNone result (¬ Allowed context.now.scope context.now.facts lit.now) }
+/// A certificate of the literal, where it is allowed.
+pub fn licensed(alloc: Global, context: &Context, lit: &Lit) -> Result<Cert, Halt>
+    requires { IsTrue (is_good context.now.scope lit.now) }
+    ensures ok { IfOk result (λ c. IsTrue (certifies context.now.scope context.now.facts lit.now c)) }
+    ensures err { IfErr result (HaltsIn context.now (lit.now ∷ [])) }
 {
-    if context.facts.has(lit) {
-        Some(Cert::Plain(Part::Fact))
-    } else {
-        None
+    match licence(alloc, context, lit)? {
+        Licensed::Yes(cert) => Ok(cert),
+        Licensed::No(values) => {
+            let wanted = Wanted::Literal(copy(alloc, lit)?);
+            Err(Halt::Lacks { wanted, values })
+        }
+        Licensed::TooWide(width) => {
+            let wanted = Wanted::Literal(copy(alloc, lit)?);
+            Err(Halt::TooWide { wanted, width })
+        }
     }
 }
 
-/// A certificate of each literal, exactly where each is allowed; else the first that is not is lacking.
+/// A certificate of each literal, where each is allowed. They are judged in order, and the first that is not allowed, or
+/// too wide to be judged, halts.
 pub fn licences(alloc: Global, context: &Context, lits: &[Lit]) -> Result<Vec<Cert>, Halt>
+    requires { IsTrue (are_good context.now.scope lits.now) }
     ensures ok { IfOk result (λ cs. IsTrue (certify_all context.now.scope context.now.facts lits.now cs.items)) }
-    ensures err { IfErr result (HaltIs (LacksFirst context.now lits.now)) }
+    ensures err { IfErr result (HaltsIn context.now lits.now) }
 {
     let mut certs = Vec::new(alloc);
     for lit in lits {
-        match licence(context, lit) {
-            Some(cert) => certs.push(cert)?,
-            None => return Err(lacking(alloc, lit)),
-        }
+        certs.push(licensed(alloc, context, lit)?)?;
     }
     Ok(certs)
 }

@@ -7,8 +7,8 @@ ghost use Rattle.e_deriv.specs.Certified.{Certified};
 ghost use Rattle.e_prove.specs.Stops.{StopIs, HasNames};
 
 use crate::close::{Goal, judge_close};
-use crate::context::Context;
 use crate::halt::stop;
+use crate::standing::Standing;
 use crate::step::judge_step;
 use e_book::Theorem;
 use e_deriv::{Block, Names, Stop};
@@ -19,9 +19,10 @@ use std::alloc::Global;
 /// The derivation of a theorem by its own script, from the statements before it: each line judged in order,
 /// with a certificate for each literal that it needs.
 ///
-/// `Unlicensed` comes only at the first line that is not licensed, with what it lacks and the names in scope before
-/// it. The forms of the script's lines fit where they stand, as those of a theorem that is read do (System E 2009,
-/// section 3.4).
+/// `Unlicensed` comes only at the first line that is not licensed, with what it lacks, the values that show it where that
+/// is a metric literal or a contradiction, and the names in scope before it. `TooWide` comes only where each line before
+/// is licensed and the line is wide. The forms of the script's lines fit where they stand, and so do the literals, as
+/// those of a theorem that is read do (System E 2009, section 3.4).
 pub fn prove(alloc: Global, before: &[Statement], theorem: &Theorem) -> Result<Block, Stop>
     requires { IsFitting (stated theorem.now.statement) (script_of theorem.now.block) }
     ensures certified { IfOk result (λ d. Certified (stated theorem.now.statement) (script_of d)) }
@@ -34,9 +35,7 @@ pub fn prove(alloc: Global, before: &[Statement], theorem: &Theorem) -> Result<B
     prove_parts(alloc, &theorem.statement, &theorem.names, &theorem.block)
 }
 
-/// The derivation of a statement by a script: each line judged in order, with a certificate for each
-/// literal that it needs. `Unlicensed` at the first line that is not licensed, with what it lacks and
-/// the names in scope before it.
+/// The derivation of a statement by a script: each line judged in order, with a certificate for each literal that it needs.
 pub(crate) fn prove_parts(
     alloc: Global,
     statement: &Statement,
@@ -49,14 +48,14 @@ pub(crate) fn prove_parts(
     ensures stop { IfErr result (StopIs (stated statement.now) (script_of block.now)) }
     ensures names { IfErr result (HasNames (stated statement.now) names.now (script_of block.now)) }
 {
-    let mut context = Context::first(alloc, statement, names)?;
-    let made = next_objects(alloc, context.scope, statement.made.items())?;
+    let mut standing = Standing::first(alloc, statement, names)?;
+    let made = next_objects(alloc, standing.context.scope(), statement.made.items())?;
     let mut steps = Vec::new(alloc);
     let mut number = 1u32;
     for step in &block.steps {
-        match judge_step(alloc, step, &mut context) {
+        match judge_step(alloc, step, &mut standing) {
             Ok(derived) => steps.push(derived)?,
-            Err(halt) => return Err(stop(number, halt, context.into_names())),
+            Err(halt) => return Err(stop(number, halt, standing.into_names())),
         }
         number += 1;
     }
@@ -64,8 +63,8 @@ pub(crate) fn prove_parts(
         made: &made,
         shown: statement.shown.items(),
     };
-    match judge_close(alloc, &block.close, &goal, &context) {
+    match judge_close(alloc, &block.close, &goal, &standing.context) {
         Ok(close) => Ok(Block { steps, close }),
-        Err(halt) => Err(stop(number, halt, context.into_names())),
+        Err(halt) => Err(stop(number, halt, standing.into_names())),
     }
 }

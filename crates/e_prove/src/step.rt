@@ -1,67 +1,72 @@
 //! Judging one step.
-ghost use Rattle.std.specs.Prelude.{◌≡◌, IfOk, IfErr, List, Option};
+ghost use Rattle.std.specs.Prelude.{◌≡◌, IfOk, IfErr, IsTrue, List, Option};
+ghost use Rattle.e_literal.specs.Facts.{joined};
 ghost use Rattle.e_clause.specs.declared.cert.Cert.{Cert};
+ghost use Rattle.e_clause.specs.Judged.{is_good, are_good, are_good_facts};
+ghost use Rattle.e_construct.specs.Construct;
 ghost use Rattle.e_deriv.specs.declared.block.Step.TheVariants.{Cite, Hence, Make};
-ghost use Rattle.e_prove.specs.Contexts.{HasRoom};
-ghost use Rattle.e_prove.specs.Halts.{HaltIs};
-ghost use Rattle.e_prove.specs.Judging.{IsJudged, StepLacks};
+ghost use Rattle.e_prove.specs.Contexts.{HasRoom, IsReady, after_make};
+ghost use Rattle.e_prove.specs.Halts.{UnlessNoMemory};
+ghost use Rattle.e_prove.specs.Judging.{IsJudged, StepHalts};
 
-use crate::context::Context;
-use crate::halt::{Halt, lacking};
-use crate::licence::{is_cited, licence, licences};
+use crate::halt::Halt;
+use crate::licence::{is_cited, licences, licensed};
+use crate::standing::Standing;
 use e_clause::By;
 use e_construct::Construction;
-use e_deriv::{Step, copy_by, copy_construction};
+use e_deriv::{Step, Wanted, copy_by, copy_construction};
 use e_literal::{Items, Lit, copy};
 use e_text::Name;
 use std::alloc::Global;
 
-/// Judges a step where it stands, and gives it with its certificates. What it makes and gives comes into the context, which
-/// is as before where the step lacks something.
-pub fn judge_step(alloc: Global, step: &Step, context: &mut Context) -> Result<Step, Halt>
-    requires { HasRoom context.old.scope }
-    ensures ok { IfOk result (λ d. IsJudged step.now context.old d context.new) }
-    ensures err { IfErr result (HaltIs (StepLacks step.now context.old)) }
-    ensures kept { IfErr result (HaltIs (λ w. context.new ≡ context.old)) }
+/// Judges a step where it stands, and gives it with its certificates. What it makes and gives comes into the standing, which
+/// is as before where the step is not licensed, or too wide to be judged.
+pub fn judge_step(alloc: Global, step: &Step, standing: &mut Standing) -> Result<Step, Halt>
+    requires { IsReady step.now standing.old }
+    ensures ok { IfOk result (λ d. IsJudged step.now standing.old d standing.new) }
+    ensures err { IfErr result (StepHalts step.now standing.old) }
+    ensures kept { IfErr result (UnlessNoMemory (standing.new ≡ standing.old)) }
 {
     match step {
-        Step::Cite(by) => cite(alloc, by, context),
-        Step::Hence { lit, .. } => hence(alloc, lit, context),
-        Step::Make { form, names, .. } => make(alloc, form, names.items(), context),
+        Step::Cite(by) => cite(alloc, by, standing),
+        Step::Hence { lit, .. } => hence(alloc, lit, standing),
+        Step::Make { form, names, .. } => make(alloc, form, names.items(), standing),
     }
 }
 
 /// A citation: its literal is one of the instance, and the negation of each other is a fact.
-fn cite(alloc: Global, by: &By, context: &mut Context) -> Result<Step, Halt>
-    ensures ok { IfOk result (λ d. IsJudged (Cite by.now) context.old d context.new) }
-    ensures err { IfErr result (HaltIs (StepLacks (Cite by.now) context.old)) }
-    ensures kept { IfErr result (HaltIs (λ w. context.new ≡ context.old)) }
+fn cite(alloc: Global, by: &By, standing: &mut Standing) -> Result<Step, Halt>
+    requires { IsTrue (are_good_facts standing.old.context.scope (joined standing.old.context.facts by.now.lit)) }
+    ensures ok { IfOk result (λ d. IsJudged (Cite by.now) standing.old d standing.new) }
+    ensures err { IfErr result (StepHalts (Cite by.now) standing.old) }
+    ensures kept { IfErr result (UnlessNoMemory (standing.new ≡ standing.old)) }
 {
-    if !is_cited(alloc, by, &context.facts)? {
-        return Err(lacking(alloc, &by.lit));
+    if !is_cited(alloc, by, standing.context.facts())? {
+        return Err(Halt::Lacks {
+            wanted: Wanted::Literal(copy(alloc, &by.lit)?),
+            values: None,
+        });
     }
     let derived = copy_by(alloc, by)?;
-    context.facts.add(copy(alloc, &by.lit)?)?;
+    standing.context.add(copy(alloc, &by.lit)?)?;
     Ok(Step::Cite(derived))
 }
 
 /// A hence: its literal is allowed.
-fn hence(alloc: Global, lit: &Lit, context: &mut Context) -> Result<Step, Halt>
-    ensures ok { IfOk result (λ d. (cert : Option Cert) → IsJudged (Hence lit.now cert) context.old d context.new) }
-    ensures err { IfErr result (HaltIs (λ w. (cert : Option Cert) → StepLacks (Hence lit.now cert) context.old w)) }
-    ensures kept { IfErr result (HaltIs (λ w. context.new ≡ context.old)) }
+fn hence(alloc: Global, lit: &Lit, standing: &mut Standing) -> Result<Step, Halt>
+    requires lit { IsTrue (is_good standing.old.context.scope lit.now) }
+    requires after { IsTrue (are_good_facts standing.old.context.scope (joined standing.old.context.facts lit.now)) }
+    ensures ok { IfOk result (λ d. (cert : Option Cert) → IsJudged (Hence lit.now cert) standing.old d standing.new) }
+    ensures err { IfErr result (λ h. (cert : Option Cert) → StepHalts (Hence lit.now cert) standing.old h) }
+    ensures kept { IfErr result (UnlessNoMemory (standing.new ≡ standing.old)) }
 {
-    match licence(context, lit) {
-        Some(cert) => {
-            let derived = copy(alloc, lit)?;
-            context.facts.add(copy(alloc, lit)?)?;
-            Ok(Step::Hence {
-                lit: derived,
-                cert: Some(cert),
-            })
-        }
-        None => Err(lacking(alloc, lit)),
-    }
+    let cert = licensed(alloc, &standing.context, lit)?;
+    let derived = copy(alloc, lit)?;
+    standing.context.add(copy(alloc, lit)?)?;
+    Ok(Step::Hence {
+        lit: derived,
+        cert: Some(cert),
+    })
 }
 
 /// A construction: each literal that it needs is allowed.
@@ -69,22 +74,24 @@ fn make(
     alloc: Global,
     form: &Construction,
     names: &[Name],
-    context: &mut Context,
+    standing: &mut Standing,
 ) -> Result<Step, Halt>
-    requires { HasRoom context.old.scope }
-    ensures ok { IfOk result (λ d. (certs : List Cert) → IsJudged (Make form.now names.now certs) context.old d context.new) }
-    ensures err { IfErr result (HaltIs (λ w. (certs : List Cert) → StepLacks (Make form.now names.now certs) context.old w)) }
-    ensures kept { IfErr result (HaltIs (λ w. context.new ≡ context.old)) }
+    requires room { HasRoom standing.old.context.scope }
+    requires needs { IsTrue (are_good standing.old.context.scope (Construct.needs form.now)) }
+    requires after { let after = after_make form.now names.now standing.old in IsTrue (are_good_facts after.context.scope after.context.facts) }
+    ensures ok { IfOk result (λ d. (certs : List Cert) → IsJudged (Make form.now names.now certs) standing.old d standing.new) }
+    ensures err { IfErr result (λ h. (certs : List Cert) → StepHalts (Make form.now names.now certs) standing.old h) }
+    ensures kept { IfErr result (UnlessNoMemory (standing.new ≡ standing.old)) }
 {
     let needs = form.needs(alloc)?;
-    let certs = licences(alloc, context, &needs)?;
-    let given = form.gives(alloc, context.scope)?;
+    let certs = licences(alloc, &standing.context, &needs)?;
+    let given = form.gives(alloc, standing.context.scope())?;
     let derived = Step::Make {
         form: copy_construction(alloc, form)?,
         names: Items::new(Vec::from_slice(alloc, names)?),
         certs: Items::new(certs),
     };
-    context.grow(form.made(), names)?;
-    context.join(given)?;
+    standing.grow(form.made(), names)?;
+    standing.join(given)?;
     Ok(derived)
 }

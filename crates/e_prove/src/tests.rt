@@ -1,240 +1,170 @@
-// That a call succeeds, and literals from outside.
+//! Theorems that are read and judged: what comes back is a derivation, or the line that stops.
+ghost use Rattle.std.specs.Prelude.{◌<◌, ◌^◌, length};
 
-ghost use Rattle.std.specs.Prelude.{◌≡◌, ◌<◌};
-ghost use Rattle.e_literal.specs.Literal.{obj};
-ghost use Rattle.e_literal.specs.declared.object.Sort.TheVariants.{Point, Line};
-ghost use Rattle.e_prove.specs.Contexts.{HasRoom};
-
-use crate::context::Context;
-use crate::halt::Halt;
-use crate::prover::prove_parts;
-use crate::step::judge_step;
-use e_clause::{By, Cert, Part, Rule};
-use e_construct::{Construction, Shape};
-use e_deriv::{Block, Close, Names, Step, Stop, Wanted};
-use e_facts::Facts;
-use e_literal::{Atom, Items, Lit, Obj, Scope, Sort};
-use e_text::Name;
-use e_theorem::Statement;
+use crate::prove;
+use e_book::{Known, next_theorem};
+use e_deriv::{Block, Stop};
+use e_text::Lines;
 use std::alloc::Global;
 use std::test::Fail;
 
-fn is(atom: Atom) -> Lit {
-    Lit { neg: false, atom }
-}
-
-fn between(a: u16, b: u16, c: u16) -> Lit {
-    is(Atom::Between(a, b, c))
-}
-
-fn apart(a: u16, b: u16) -> Lit {
-    Lit {
-        neg: true,
-        atom: Atom::EqP(a, b),
-    }
-}
-
-fn point(num: u16) -> Obj
-    ensures { result ≡ obj Point num }
+/// The derivation of the theorem of this text, or its stop.
+#[tactic(auto, using(e_book::proofs::LineCount::few_lines))]
+fn judged(alloc: Global, text: &[u8]) -> Result<Result<Block, Stop>, Fail>
+    requires { length text.now < 2 ^ 20 }
 {
-    Obj {
-        sort: Sort::Point,
-        num,
+    let mut lines = Lines::new(text, 1_600, 4_194_304);
+    let known = Known::new(alloc);
+    match next_theorem(alloc, &mut lines, &known) {
+        Ok(Some(theorem)) => Ok(prove(alloc, &[], &theorem)),
+        _ => Err("a theorem".into()),
     }
 }
 
-fn line(num: u16) -> Obj
-    ensures { result ≡ obj Line num }
+/// What is answered on the theorem of this text.
+fn answer(alloc: Global, text: &[u8]) -> Result<String, Fail>
+    requires { length text.now < 2 ^ 20 }
 {
-    Obj {
-        sort: Sort::Line,
-        num,
+    match judged(alloc, text) {
+        Ok(Ok(block)) => derivation_said(alloc, &block),
+        Ok(Err(stop)) => stop_said(alloc, &stop),
+        Err(fail) => Err(fail),
     }
 }
 
-fn name(token: &[u8]) -> Result<Name, Fail> {
-    Ok(Name::read(token).ok_or("a name")?)
+fn derivation_said(alloc: Global, block: &Block) -> Result<String, Fail> {
+    Ok(format!(in alloc; "{} steps, {:?}", block.steps.len(), &block.close)?)
 }
 
-fn no_names(alloc: Global) -> Names {
-    Names {
-        points: Items::empty(alloc),
-        lines: Items::empty(alloc),
-        circles: Items::empty(alloc),
-    }
-}
-
-// four points and a line, without facts
-fn bare(alloc: Global) -> Context
-    ensures { HasRoom result.scope }
-{
-    Context {
-        scope: Scope {
-            points: 4,
-            lines: 1,
-            circles: 0,
-        },
-        names: no_names(alloc),
-        facts: Facts::new(alloc),
-    }
-}
-
-// by b5, where b is between a and c and c between b and d: b is between a and d
-fn cited(alloc: Global, a: u16, b: u16, c: u16, d: u16) -> Result<Step, Fail> {
-    let args = vec![in alloc; point(a), point(b), point(c), point(d)]?;
-    Ok(Step::Cite(By {
-        rule: Rule::named(b"b5").ok_or("b5")?,
-        args: Items::new(args),
-        lit: between(a, b, d),
-    }))
-}
-
-#[test]
-fn a_citation_needs_each_premise(rt: HostRuntime) -> Result<(), Fail> {
-    let alloc = rt.alloc();
-    let step = cited(alloc, 0, 1, 2, 3)?;
-    let mut context = bare(alloc);
-    context.facts.add(between(0, 1, 2))?;
-    match judge_step(alloc, &step, &mut context) {
-        Err(Halt::Lacks(Wanted::Literal(lit))) => {
-            assert!(rt; matches!(lit.atom, Atom::Between(0, 1, 3)));
-        }
-        _ => return Err("it lacks its literal".into()),
-    }
-    let mut context = bare(alloc);
-    context.facts.add(between(0, 1, 2))?;
-    context.facts.add(between(1, 2, 3))?;
-    assert!(rt; judge_step(alloc, &step, &mut context).is_ok());
-    assert!(rt; context.facts.has(&between(0, 1, 3)));
-    Ok(())
-}
-
-#[test]
-fn a_hence_has_its_certificate(rt: HostRuntime) -> Result<(), Fail> {
-    let alloc = rt.alloc();
-    let mut context = bare(alloc);
-    context.facts.add(between(0, 1, 3))?;
-    let hence = Step::Hence {
-        lit: between(0, 1, 3),
-        cert: None,
-    };
-    match judge_step(alloc, &hence, &mut context) {
-        Ok(Step::Hence { cert, .. }) => {
-            assert!(rt; matches!(cert, Some(Cert::Plain(Part::Fact))));
-        }
-        _ => return Err("it is a fact".into()),
-    }
-    Ok(())
-}
-
-// the statement that b is between a and c, where it is given or not, and the script that is a qed
-fn stated_again(alloc: Global, given: Vec<Lit>) -> Result<Result<Block, Stop>, Fail> {
-    let statement = Statement {
-        declared: Items::new(vec![in alloc; Sort::Point, Sort::Point, Sort::Point]?),
-        given: Items::new(given),
-        made: Items::empty(alloc),
-        shown: Items::new(vec![in alloc; between(0, 1, 2)]?),
-    };
-    let block = Block {
-        steps: Vec::new(alloc),
-        close: Close::Qed {
-            objects: Items::empty(alloc),
-            certs: Items::empty(alloc),
-        },
-    };
-    Ok(prove_parts(alloc, &statement, &no_names(alloc), &block))
-}
-
-#[test]
-fn a_qed_needs_its_goal(rt: HostRuntime) -> Result<(), Fail> {
-    let alloc = rt.alloc();
-    match stated_again(alloc, vec![in alloc; between(0, 1, 2)]?)? {
-        Ok(block) => match &block.close {
-            Close::Qed { certs, .. } => assert_eq!(rt; certs.len(), 1),
-        },
-        Err(_) => return Err("it is given".into()),
-    }
-    match stated_again(alloc, vec![in alloc; between(2, 1, 0)]?)? {
-        Err(Stop::Unlicensed { step, wanted, .. }) => {
-            assert_eq!(rt; step, 1);
-            let Wanted::Literal(lit) = wanted;
-            assert!(rt; matches!(lit.atom, Atom::Between(0, 1, 2)));
-        }
-        _ => return Err("it is not given".into()),
-    }
-    Ok(())
-}
-
-fn names(alloc: Global) -> Result<Names, Fail> {
-    Ok(Names {
-        points: Items::new(vec![in alloc; name(b"a")?, name(b"b")?, name(b"c")?]?),
-        lines: Items::new(vec![in alloc; name(b"L")?]?),
-        circles: Items::empty(alloc),
+fn stop_said(alloc: Global, stop: &Stop) -> Result<String, Fail> {
+    Ok(match stop {
+        Stop::Unlicensed {
+            step,
+            wanted,
+            values,
+            ..
+        } => format!(in alloc; "line {step} lacks {wanted:?}, {values:?}")?,
+        Stop::TooWide {
+            step,
+            wanted,
+            width,
+            ..
+        } => format!(in alloc; "line {step} is too wide at {wanted:?}, {width}")?,
+        Stop::NoMemory => format!(in alloc; "no memory")?,
     })
 }
 
-// the statement that there is a point c between a and b, which are on L and differ, where the literals are given or not;
-// and the script that takes a point e between them on L, and names this object for c
-fn halfway(alloc: Global, given: Vec<Lit>, object: u16) -> Result<Result<Block, Stop>, Fail>
-    requires { object < 3 }
-{
-    let statement = Statement {
-        declared: Items::new(vec![in alloc; Sort::Point, Sort::Point, Sort::Line]?),
-        given: Items::new(given),
-        made: Items::new(vec![in alloc; Sort::Point]?),
-        shown: Items::new(vec![in alloc; between(0, 2, 1)]?),
-    };
-    let within = Step::Make {
-        form: Construction {
-            shape: Shape::Within,
-            args: Items::new(vec![in alloc; line(0), point(0), point(1)]?),
-            avoid: Items::empty(alloc),
-        },
-        names: Items::new(vec![in alloc; name(b"e")?]?),
-        certs: Items::empty(alloc),
-    };
-    let block = Block {
-        steps: vec![in alloc; within]?,
-        close: Close::Qed {
-            objects: Items::new(vec![in alloc; point(object)]?),
-            certs: Items::empty(alloc),
-        },
-    };
-    Ok(prove_parts(alloc, &statement, &names(alloc)?, &block))
+/// Theorems, each with what is answered on it.
+fn theorems() -> &'static str {
+    "theorem T
+points a b c d
+given between a b c ; between b c d
+show between a c d
+proof
+by b1a a b c : between c b a
+by b1a b c d : between d c b
+by b5 d c b a : between d c a
+hence between d c a
+by b1a d c a : between a c d
+qed
+end
+|5 steps, Qed { objects: Items { items: [] }, certs: Items { items: [Plain(Fact)] } }
+
+theorem T
+points a b
+lines L
+given on a L ; on b L ; a != b
+made points c
+show between a c b
+proof
+let d on L between a b
+qed d
+end
+|1 steps, Qed { objects: Items { items: [Obj { sort: Point, num: 2 }] }, certs: Items { items: [Plain(Fact)] } }
+
+theorem T
+points a b
+lines L
+given on a L ; a != b
+made points c
+show between a c b
+proof
+let d on L between a b
+qed d
+end
+|line 1 lacks Literal(Lit { neg: false, atom: On(1, 0) }), None
+
+theorem T
+points a b c d
+given between a b c
+show between a b d
+proof
+by b1a a b c : between c b a
+by b5 a b c d : between a b d
+qed
+end
+|line 2 lacks Literal(Lit { neg: false, atom: Between(0, 1, 3) }), None
+
+theorem T
+points a
+lines L M
+given on a L
+show on a L ; on a M
+proof
+hence on a L
+qed
+end
+|line 2 lacks Literal(Lit { neg: false, atom: On(0, 1) }), None
+
+theorem T
+points a b c d e f
+given seg a b < seg c d ; seg c d < seg e f
+show seg a b < seg e f
+proof
+hence seg a b < seg e f
+qed
+end
+|1 steps, Qed { objects: Items { items: [] }, certs: Items { items: [Plain(Fact)] } }
+
+theorem T
+points a b
+lines L
+given on a L ; not on a L
+show a = b
+proof
+contradiction
+end
+|0 steps, Contradiction { against: Some(Clash { lit: Lit { neg: false, atom: On(0, 0) } }) }
+
+theorem T
+points a b
+lines L
+given on a L
+show a = b
+proof
+contradiction
+end
+|line 1 lacks Contradiction, Some(Values { pairs: [(Right, 1)] })
+
+theorem T
+points a b c d e f
+given 1000000 seg a b = seg b c ; 1000000 seg b c = seg c d ; 1000000 seg c d = seg d e ; 1000000 seg d e = seg e f
+show seg a b = seg e f
+proof
+hence seg a b = seg a b
+hence seg a b = seg e f
+qed
+end
+|line 2 is too wide at Literal(Lit { neg: false, atom: MagEq(Form { monos: [Mono { coeff: 1, term: Seg(0, 1) }] }, Form { monos: [Mono { coeff: 1, term: Seg(4, 5) }] }) }), 2000008000012000008000002"
 }
 
 #[test]
-fn a_made_goal_is_shown_of_the_object_named(rt: HostRuntime) -> Result<(), Fail> {
-    let alloc = rt.alloc();
-    // how many literals are given, the object, the line that is not licensed, what it lacks, how many points have names there
-    let cases = [
-        (3, 2, None),
-        (3, 0, Some((2, between(0, 0, 1), 3))),
-        (2, 2, Some((1, apart(0, 1), 2))),
-        (0, 2, Some((1, is(Atom::On(0, 0)), 2))),
-    ];
-    for (known, object, answer) in cases {
-        let mut given = vec![in alloc; is(Atom::On(0, 0)), is(Atom::On(1, 0)), apart(0, 1)]?;
-        given.truncate(known);
-        match (halfway(alloc, given, object)?, answer) {
-            (Ok(block), None) => assert_eq!(rt; block.steps.len(), 1),
-            (
-                Err(
-                    Stop::Unlicensed {
-                        step,
-                        wanted,
-                        names,
-                    },
-                ),
-                Some((number, lacked, points)),
-            ) => {
-                assert_eq!(rt; step, number);
-                let Wanted::Literal(lit) = wanted;
-                assert!(rt; e_literal::same(&lit, &lacked));
-                assert_eq!(rt; names.points.len(), points);
-            }
-            _ => return Err("another answer".into()),
-        }
+fn theorems_are_judged(rt: HostRuntime) -> Result<(), Fail> {
+    for row in theorems().split("\n\n") {
+        let text = row.split('|').next().unwrap_or("");
+        let said = row.split('|').nth(1).unwrap_or("");
+        assert!(rt; text.len() < 1_000_000);
+        assert_eq!(rt; answer(rt.alloc(), text.as_bytes())?.as_str(), said);
     }
     Ok(())
 }

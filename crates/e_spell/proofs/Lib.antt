@@ -1,5 +1,7 @@
 pub mod Spaced
 pub mod Declared
+pub mod CertTexts
 pub mod Whole
-pub mod Stops
+pub mod StopTexts
+pub mod CertLines
 pub mod Plain

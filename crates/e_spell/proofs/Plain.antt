@@ -4,20 +4,18 @@ use Rattle.std.specs.Prelude.{filter}
 use Rattle.std.specs.Option.{option_to_list}
 use Rattle.std.proofs.lemmas.List.Elements.{filter-append}
 use Rattle.e_literal.specs.declared.object.Sort.TheVariants.{Point, Line, Circle}
-use Rattle.e_clause.specs.declared.cert.Part.TheVariants.{Fact}
-use Rattle.e_clause.specs.declared.cert.Cert.{Cert}
-use Rattle.e_clause.specs.declared.cert.Cert.TheVariants.{Plain}
 use Rattle.e_deriv.specs.declared.names.Names.{Names}
 use Rattle.e_construct.specs.Construct.{made}
 use Rattle.e_deriv.specs.Naming.{named}
-use Rattle.e_deriv.specs.Script.{Script, Cite, Hence, Make, Qed, erased}
+use Rattle.e_deriv.specs.Script.{Script, Cite, Hence, Make, Qed, Contradiction, erased}
 use Rattle.e_book.specs.declared.form.Form.{Form}
 use Rattle.e_book.specs.declared.form.Form.TheVariants as forms
 use Rattle.e_book.specs.Entry.{Entry}
-use Rattle.e_book.specs.Canonical.{line_of, by_form, hence_form, let_form, qed_form, head_forms, script_forms, names_of_proof, end_form, forms_of}
+use Rattle.e_book.specs.Canonical.{line_of, by_form, hence_form, let_form, qed_form, contradiction_form, head_forms, script_forms, names_of_proof, end_form, forms_of}
 use Rattle.e_spell.specs.Certificates.{certs_lines}
 use Rattle.e_spell.specs.Spelling.{script_lines, spelled_lines}
 use Rattle.e_spell.specs.Laws.{is_plain}
+use Rattle.e_spell.proofs.CertLines.{certs_go, contradiction_goes}
 
 form_is_plain : (f : Form) → is_plain (line_of f) ≡ true
 form_is_plain (forms.Theorem t) = refl
@@ -32,6 +30,7 @@ form_is_plain (forms.By r ns l) = refl
 form_is_plain (forms.Hence l) = refl
 form_is_plain (forms.Let l) = refl
 form_is_plain (forms.Qed ns) = refl
+form_is_plain forms.Contradiction = refl
 form_is_plain forms.End = refl
 
 keep : (line : List ℕ) (lines : List (List ℕ)) → is_plain line ≡ true → filter is_plain (line ∷ lines) ≡ line ∷ filter is_plain lines
@@ -40,10 +39,6 @@ keep line lines e = rw e refl
 forms_stay : (fs : List Form) → filter is_plain (map line_of fs) ≡ map line_of fs
 forms_stay [] = refl
 forms_stay (f ∷ fs) = keep (line_of f) (map line_of fs) (form_is_plain f) ∙ ap (λ (x : List (List ℕ)). line_of f ∷ x) (forms_stay fs)
-
-certs_go : (ns : Names) (cs : List Cert) → filter is_plain (certs_lines ns cs) ≡ []
-certs_go ns [] = refl
-certs_go ns (Plain Fact ∷ cs) = certs_go ns cs
 
 lines_append : (fs gs : List Form) → map line_of (fs ++ gs) ≡ map line_of fs ++ map line_of gs
 lines_append [] gs = refl
@@ -60,6 +55,7 @@ script_stays ns (Make form names cs rest) =
     (filter-append is_plain (certs_lines ns cs) (script_lines (named ns (made form) names) rest)
     ∙ ap (λ (x : List (List ℕ)). x ++ filter is_plain (script_lines (named ns (made form) names) rest)) (certs_go ns cs) ∙ script_stays (named ns (made form) names) rest)
 script_stays ns (Qed objects cs) = ap (λ (x : List (List ℕ)). line_of (qed_form ns objects) ∷ x) (certs_go ns cs)
+script_stays ns (Contradiction a) = ap (λ (x : List (List ℕ)). line_of contradiction_form ∷ x) (contradiction_goes ns a)
 
 pub plain_lines : (t : Entry) (d : Script) → erased d ≡ t.script → filter is_plain (spelled_lines t d) ≡ map line_of (forms_of t)
 plain_lines t d e =

@@ -1,31 +1,29 @@
 -- The texts of the parts make the spelling.
 use Rattle.std.proofs.Common.{◌≡◌, ℕ, List, [], ◌∷◌, ◌++◌, map, refl, sym, ap, ◌∙◌, append_assoc}
-use Rattle.std.specs.Prelude.{codes, None}
-use Rattle.std.specs.List.{flat_map}
+use Rattle.std.specs.Prelude.{codes}
 use Rattle.std.specs.Option.{option_to_list}
 use Rattle.std.proofs.lemmas.List.{append-nil}
 use Rattle.e_literal.specs.declared.literal.Lit.{Lit}
-use Rattle.e_clause.specs.declared.cert.Cert.{Cert}
-use Rattle.e_clause.specs.declared.cert.Cert.TheVariants.{Plain}
 use Rattle.e_construct.specs.Construct.{made}
 use Rattle.e_deriv.specs.declared.names.Names.{Names}
 use Rattle.e_deriv.specs.Naming.{named}
 use Rattle.e_deriv.specs.declared.block.Step.{Step}
 use Rattle.e_deriv.specs.declared.block.Step.TheVariants.{Cite as CiteStep, Hence as HenceStep, Make as MakeStep}
 use Rattle.e_deriv.specs.declared.block.Close.{Close}
-use Rattle.e_deriv.specs.declared.block.Close.TheVariants.{Qed as QedClose}
+use Rattle.e_deriv.specs.declared.block.Close.TheVariants.{Qed as QedClose, Contradiction as ContradictionClose}
 use Rattle.e_deriv.specs.declared.block.Block.{Block}
 use Rattle.e_deriv.specs.Script.{Script, script_of, step_script, steps_script, close_script}
 use Rattle.e_theorem.specs.declared.statement.Statement.{Statement}
 use Rattle.e_book.specs.declared.form.Form.{Form}
 use Rattle.e_book.specs.declared.form.Form.TheVariants as forms
 use Rattle.e_book.specs.Entry.{Entry}
-use Rattle.e_text.specs.Tokens.{joined, spaced}
+use Rattle.e_text.specs.Tokens.{spaced}
 use Rattle.e_book.specs.Canonical.{line_of, lit_words, raw_of, name_of_object, given_form, show_form, grouped, declare_form, made_form, declared_objects, made_objects, given_forms, shown_forms, head_forms, names_of_proof, end_form, text_of}
 use Rattle.e_spell.specs.declared.declarations.Role.TheVariants.{Declared, Made}
-use Rattle.e_spell.specs.Certificates.{cert_lines, certs_lines}
+use Rattle.e_spell.specs.Certificates.{certs_lines}
 use Rattle.e_spell.specs.Spelling.{script_lines, spelled}
-use Rattle.e_spell.specs.Parts.{lits_text, lit_text, cert_text, certs_text, construction_words, step_text, names_behind, names_after, steps_text, close_text, proof_text, objects_text, title_text, statement_text, head_text, block_text}
+use Rattle.e_spell.specs.Parts.{lits_text, lit_text, certs_text, construction_words, step_text, names_behind, names_after, steps_text, close_text, proof_text, objects_text, title_text, statement_text, head_text, block_text}
+use Rattle.e_spell.proofs.CertTexts.{of_certs, of_contradiction}
 use Rattle.e_spell.proofs.Declared.{text, declared_text, made_text}
 
 of_lines : (xs ys : List (List ℕ)) → text_of (xs ++ ys) ≡ text_of xs ++ text_of ys
@@ -35,14 +33,6 @@ of_lines (x ∷ xs) ys = ap (λ (t : List ℕ). (x ++ 10 ∷ []) ++ t) (of_lines
 of_forms : (fs gs : List Form) → text (fs ++ gs) ≡ text fs ++ text gs
 of_forms [] gs = refl
 of_forms (f ∷ fs) gs = ap (λ (t : List ℕ). (line_of f ++ 10 ∷ []) ++ t) (of_forms fs gs) ∙ sym (append_assoc (line_of f ++ 10 ∷ []) (text fs) (text gs))
-
-of_words : (xs ys : List (List (List ℕ))) → text_of (map joined (xs ++ ys)) ≡ text_of (map joined xs) ++ text_of (map joined ys)
-of_words [] ys = refl
-of_words (x ∷ xs) ys = ap (λ (t : List ℕ). (joined x ++ 10 ∷ []) ++ t) (of_words xs ys) ∙ sym (append_assoc (joined x ++ 10 ∷ []) (text_of (map joined xs)) (text_of (map joined ys)))
-
-of_certs : (ns : Names) (cs : List Cert) → text_of (certs_lines ns cs) ≡ certs_text ns cs
-of_certs ns [] = refl
-of_certs ns (Plain p ∷ cs) = of_words (cert_lines ns (Plain p)) (flat_map (cert_lines ns) cs) ∙ ap (λ (t : List ℕ). cert_text ns (Plain p) ++ t) (of_certs ns cs)
 
 one_literal : (word : List ℕ) (words : List (List ℕ)) → (word ++ spaced (words ++ [])) ++ 10 ∷ [] ≡ word ++ (spaced words ++ 10 ∷ [])
 one_literal word words = rw (append-nil words) (append_assoc word (spaced words) (10 ∷ []))
@@ -106,6 +96,7 @@ of_steps ns (s ∷ ss) rest =
 
 of_close : (ns : Names) (c : Close) → text_of (script_lines ns (close_script c)) ≡ close_text ns c
 unfolding script_lines
+of_close ns (ContradictionClose against) = ap (λ (t : List ℕ). codes "contradiction" ++ (10 ∷ t)) (of_contradiction ns against)
 of_close ns (QedClose objects cs) = ap (λ (t : List ℕ). codes "qed" ++ ((spaced (map (name_of_object ns) objects) ++ 10 ∷ []) ++ t)) (of_certs ns cs)
 
 of_proof : (ns : Names) (b : Block) → proof_text ns b ≡ text_of (script_lines ns (script_of b) ++ line_of end_form ∷ [])

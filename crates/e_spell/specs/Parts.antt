@@ -1,34 +1,43 @@
 -- The texts of the parts of a derivation, as they are written one after the other.
-use Rattle.std.specs.Prelude.{ℕ, List, [], ◌∷◌, ◌++◌, map, codes, Option, Some, None, if◌then◌else◌}
+use Rattle.std.specs.Prelude.{ℕ, ℤ, List, [], ◌∷◌, ◌++◌, map, codes, Option, Some, None, if◌then◌else◌}
 use Rattle.std.specs.List.{flat_map}
 use Rattle.std.specs.Option.{option_to_list}
-use Rattle.std.specs.Fmt.{decimal}
+use Rattle.std.specs.Fmt.{decimal, signed_decimal}
 use Rattle.e_literal.specs.declared.object.Sort.{Sort}
 use Rattle.e_literal.specs.declared.object.Obj.{Obj}
+use Rattle.e_literal.specs.declared.object.Term.{Term}
 use Rattle.e_literal.specs.declared.literal.Lit.{Lit}
 use Rattle.e_literal.specs.Scopes.{same_sort}
 use Rattle.e_construct.specs.declared.construction.Construction.{Construction}
 use Rattle.e_construct.specs.Construct.{made}
 use Rattle.e_construct.specs.Lines.{pieces}
 use Rattle.e_clause.specs.declared.cert.By.{By}
+use Rattle.e_clause.specs.declared.cert.RowName.{RowName}
+use Rattle.e_clause.specs.declared.cert.Sums.{Sums}
+use Rattle.e_clause.specs.declared.cert.Sums.TheVariants.{One, Two}
+use Rattle.e_clause.specs.declared.cert.MetricCert.{MetricCert}
 use Rattle.e_clause.specs.declared.cert.Part.{Part}
+use Rattle.e_clause.specs.declared.cert.Part.TheVariants.{Fact, Metric}
+use Rattle.e_clause.specs.declared.cert.TransferCert.{TransferCert}
+use Rattle.e_clause.specs.declared.cert.Against.{Against}
+use Rattle.e_clause.specs.declared.cert.Against.TheVariants.{Clash, Metric as MetricAgainst}
 use Rattle.e_clause.specs.declared.cert.Cert.{Cert}
-use Rattle.e_clause.specs.declared.cert.Cert.TheVariants.{Plain}
+use Rattle.e_clause.specs.declared.cert.Cert.TheVariants.{Plain, Transfer}
 use Rattle.e_deriv.specs.declared.names.Names.{Names}
 use Rattle.e_deriv.specs.Naming.{named}
 use Rattle.e_deriv.specs.declared.block.Step.{Step}
 use Rattle.e_deriv.specs.declared.block.Step.TheVariants.{Cite as CiteStep, Hence as HenceStep, Make as MakeStep}
 use Rattle.e_deriv.specs.declared.block.Close.{Close}
-use Rattle.e_deriv.specs.declared.block.Close.TheVariants.{Qed as QedClose}
+use Rattle.e_deriv.specs.declared.block.Close.TheVariants.{Qed as QedClose, Contradiction as ContradictionClose}
 use Rattle.e_deriv.specs.declared.block.Block.{Block}
 use Rattle.e_deriv.specs.declared.stop.Wanted.{Wanted}
 use Rattle.e_theorem.specs.declared.statement.Statement.{Statement}
 use Rattle.e_book.specs.Entry.{Entry}
-use Rattle.e_text.specs.Tokens.{joined, spaced}
-use Rattle.e_book.specs.Canonical.{lit_words, filled, avoid_words, raw_of, rule_name, name_of_object, sort_word, declared_objects, made_objects, names_of_proof, text_of}
+use Rattle.e_text.specs.Tokens.{spaced}
+use Rattle.e_book.specs.Canonical.{lit_words, filled, avoid_words, raw_of, rule_name, name_of_object, sort_word, declared_objects, made_objects, names_of_proof}
 use Rattle.e_spell.specs.declared.declarations.Role.{Role}
 use Rattle.e_spell.specs.declared.declarations.Role.TheVariants.{Declared, Made}
-use Rattle.e_spell.specs.Certificates.{part_lines}
+use Rattle.e_spell.specs.Certificates.{named_term, row_words}
 use Rattle.e_spell.specs.Spelling.{wanted_words}
 
 -- a literal behind the first word of its line
@@ -38,14 +47,58 @@ lit_text word ns l = word ++ (spaced (lit_words (raw_of ns l)) ++ 10 ∷ [])
 abbrev pub lits_text : List ℕ → Names → List Lit → List ℕ
 lits_text word ns ls = flat_map (lit_text word ns) ls
 
+-- a line of these words behind the sign `|`
+abbrev pub bar_text : List (List ℕ) → List ℕ
+bar_text ws = codes "|" ++ (spaced ws ++ 10 ∷ [])
+
+abbrev pub row_text : Names → ℤ × RowName → List ℕ
+row_text ns r = bar_text (signed_decimal r.0 ∷ row_words ns r.1)
+
+abbrev pub rows_text : Names → List (ℤ × RowName) → List ℕ
+rows_text ns rs = flat_map (row_text ns) rs
+
+abbrev pub sum_text : Names → List (ℤ × RowName) → List ℕ
+sum_text ns sum = bar_text (codes "sum" ∷ []) ++ rows_text ns sum
+
+abbrev pub differs_text : Names → RowName → List ℕ
+differs_text ns row = bar_text (codes "differs" ∷ row_words ns row)
+
+abbrev pub sums_text : Names → Sums → List ℕ
+sums_text ns (One sum) = sum_text ns sum
+sums_text ns (Two differs above below) = differs_text ns differs ++ (sum_text ns above ++ sum_text ns below)
+
+abbrev pub metric_text : Names → MetricCert → List ℕ
+metric_text ns m = bar_text (codes "metric" ∷ []) ++ sums_text ns m.sums
+
 abbrev pub part_text : Names → Part → List ℕ
-part_text ns p = text_of (map joined (part_lines ns p))
+part_text ns Fact = bar_text (codes "fact" ∷ [])
+part_text ns (Metric m) = metric_text ns m
+
+abbrev pub parts_text : Names → List Part → List ℕ
+parts_text ns ps = flat_map (part_text ns) ps
+
+-- the line of a transfer: its rule and its arguments
+abbrev pub instance_text : Names → ℕ → List Obj → List ℕ
+instance_text ns rule args = bar_text (codes "transfer" ∷ rule_name rule ∷ map (name_of_object ns) args)
+
+abbrev pub transfer_text : Names → TransferCert → List ℕ
+transfer_text ns t = instance_text ns t.rule t.args ++ parts_text ns t.parts
 
 abbrev pub cert_text : Names → Cert → List ℕ
 cert_text ns (Plain p) = part_text ns p
+cert_text ns (Transfer t) = transfer_text ns t
 
 abbrev pub certs_text : Names → List Cert → List ℕ
 certs_text ns cs = flat_map (cert_text ns) cs
+
+abbrev pub against_text : Names → Against → List ℕ
+against_text ns (Clash l) = lit_text (codes "| clash") ns l
+against_text ns (MetricAgainst m) = metric_text ns m
+
+-- the certificate of a contradiction, where it has one
+abbrev pub contradiction_text : Names → Option Against → List ℕ
+contradiction_text ns None = []
+contradiction_text ns (Some a) = against_text ns a
 
 -- a citation behind the first word of its line
 abbrev pub citation_words : Names → By → List (List ℕ)
@@ -78,6 +131,7 @@ steps_text ns (s ∷ steps) = step_text ns s ++ steps_text (names_behind ns s) s
 
 abbrev pub close_text : Names → Close → List ℕ
 close_text ns (QedClose objects cs) = codes "qed" ++ ((spaced (map (name_of_object ns) objects) ++ 10 ∷ []) ++ certs_text ns cs)
+close_text ns (ContradictionClose against) = (codes "contradiction" ++ 10 ∷ []) ++ contradiction_text ns against
 
 abbrev pub proof_text : Names → Block → List ℕ
 proof_text ns b = steps_text ns b.steps.items ++ (close_text (names_after ns b.steps.items) b.close ++ (codes "end" ++ 10 ∷ []))
@@ -120,8 +174,25 @@ head_text title ns t = title_text title ++ (statement_text ns t ++ (codes "proof
 abbrev pub block_text : Entry → Block → List ℕ
 block_text t b = head_text t.title t.names t.statement ++ proof_text (names_of_proof t) b
 
-abbrev pub unlicensed_line : List ℕ → ℕ → List ℕ
-unlicensed_line title step = codes "unlicensed" ++ 32 ∷ (title ++ 32 ∷ (decimal step ++ 10 ∷ []))
+-- ---- the last lines of a stop
+
+-- what happened at a line of a theorem
+abbrev pub place_line : List ℕ → List ℕ → ℕ → List ℕ
+place_line what title step = what ++ (spaced (title ∷ decimal step ∷ []) ++ 10 ∷ [])
 
 abbrev pub wanted_line : Names → Wanted → List ℕ
-wanted_line ns wanted = codes "|" ++ (spaced (codes "wanted" ∷ wanted_words ns wanted) ++ 10 ∷ [])
+wanted_line ns wanted = bar_text (codes "wanted" ∷ wanted_words ns wanted)
+
+abbrev pub value_line : Names → Term × ℕ → List ℕ
+value_line ns v = bar_text (codes "value" ∷ (named_term ns v.0 ++ decimal v.1 ∷ []))
+
+abbrev pub values_text : Names → List (Term × ℕ) → List ℕ
+values_text ns vs = flat_map (value_line ns) vs
+
+-- where there are values
+abbrev pub values_of_text : Names → Option (List (Term × ℕ)) → List ℕ
+values_of_text ns None = []
+values_of_text ns (Some values) = values_text ns values
+
+abbrev pub width_line : ℕ → List ℕ
+width_line width = bar_text (codes "width" ∷ decimal width ∷ [])

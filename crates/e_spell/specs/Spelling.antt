@@ -1,27 +1,30 @@
 -- The one spelling of a derivation, and the last lines of a stop.
-use Rattle.std.specs.Prelude.{ℕ, List, [], ◌∷◌, ◌++◌, map, codes}
+use Rattle.std.specs.Prelude.{ℕ, List, [], ◌∷◌, ◌++◌, map, codes, Option, Some, None}
 use Rattle.std.specs.Option.{option_to_list}
 use Rattle.std.specs.Fmt.{decimal}
+use Rattle.e_literal.specs.declared.object.Term.{Term}
 use Rattle.e_deriv.specs.declared.names.Names.{Names}
 use Rattle.e_deriv.specs.declared.stop.Wanted.{Wanted}
-use Rattle.e_deriv.specs.declared.stop.Wanted.TheVariants.{Literal}
+use Rattle.e_deriv.specs.declared.stop.Wanted.TheVariants.{Literal, Contradiction as AContradiction}
 use Rattle.e_deriv.specs.declared.stop.Stop.{Stop}
-use Rattle.e_deriv.specs.declared.stop.Stop.TheVariants.{Unlicensed, NoMemory}
+use Rattle.e_deriv.specs.declared.stop.Stop.TheVariants.{Unlicensed, TooWide, NoMemory}
 use Rattle.e_construct.specs.Construct.{made}
 use Rattle.e_deriv.specs.Naming.{named}
-use Rattle.e_deriv.specs.Script.{Script, Cite, Hence, Make, Qed}
+use Rattle.e_deriv.specs.Script.{Script, Cite, Hence, Make, Qed, Contradiction}
 use Rattle.e_book.specs.Entry.{Entry}
 use Rattle.e_text.specs.Tokens.{joined}
-use Rattle.e_book.specs.Canonical.{line_of, lit_words, raw_of, by_form, hence_form, let_form, qed_form, end_form, head_forms, names_of_proof, text_of}
-use Rattle.e_spell.specs.Certificates.{certs_lines}
+use Rattle.e_book.specs.Canonical.{line_of, lit_words, raw_of, by_form, hence_form, let_form, qed_form, contradiction_form, end_form, head_forms, names_of_proof, text_of}
+use Rattle.e_spell.specs.Certificates.{named_term, certs_lines, contradiction_lines}
 
--- each line of a derivation, and below it one certificate for each literal that it needs, where these names are in scope
--- before the first: those of new objects come into scope behind the certificates of the line that makes them
+-- each line of a derivation, and below it one certificate for each literal that it needs, or that of a contradiction, where
+-- these names are in scope before the first: those of new objects come into scope behind the certificates of the line that
+-- makes them
 unfoldable pub script_lines : Names → Script → List (List ℕ)
 script_lines ns (Cite by rest) = line_of (by_form ns by) ∷ script_lines ns rest
 script_lines ns (Hence lit cert rest) = line_of (hence_form ns lit) ∷ (certs_lines ns (option_to_list cert) ++ script_lines ns rest)
 script_lines ns (Make form names certs rest) = line_of (let_form ns form names) ∷ (certs_lines ns certs ++ script_lines (named ns (made form) names) rest)
 script_lines ns (Qed objects certs) = line_of (qed_form ns objects) ∷ certs_lines ns certs
+script_lines ns (Contradiction against) = line_of contradiction_form ∷ contradiction_lines ns against
 
 -- the lines of a theorem with its derivation, in order
 abbrev pub spelled_lines : Entry → Script → List (List ℕ)
@@ -33,21 +36,50 @@ spelled t d = text_of (spelled_lines t d)
 -- what a line lacks
 abbrev pub wanted_words : Names → Wanted → List (List ℕ)
 wanted_words ns (Literal l) = lit_words (raw_of ns l)
+wanted_words ns AContradiction = codes "contradiction" ∷ []
 
--- the line that is not licensed, and what it lacks
-abbrev pub unlicensed_words : List ℕ → ℕ → Wanted → Names → List (List (List ℕ))
-unlicensed_words title step wanted ns =
-    (codes "unlicensed" ∷ title ∷ decimal step ∷ []) ∷ (codes "|" ∷ codes "wanted" ∷ wanted_words ns wanted) ∷ []
+-- ---- the last lines of a stop
 
-abbrev pub unlicensed_text : List ℕ → ℕ → Wanted → Names → List ℕ
-unlicensed_text title step wanted ns = text_of (map joined (unlicensed_words title step wanted ns))
+-- what happened at a line of a theorem
+abbrev pub place_words : List ℕ → List ℕ → ℕ → List (List ℕ)
+place_words what title step = what ∷ title ∷ decimal step ∷ []
+
+abbrev pub wanted_line_words : Names → Wanted → List (List ℕ)
+wanted_line_words ns wanted = codes "|" ∷ codes "wanted" ∷ wanted_words ns wanted
+
+-- a term and its value
+abbrev pub value_words : Names → Term × ℕ → List (List ℕ)
+value_words ns v = codes "|" ∷ codes "value" ∷ (named_term ns v.0 ++ decimal v.1 ∷ [])
+
+-- one line for each value, in order, where there are values
+abbrev pub values_words : Names → Option (List (Term × ℕ)) → List (List (List ℕ))
+values_words ns None = []
+values_words ns (Some values) = map (value_words ns) values
+
+-- the line that is not licensed, what it lacks, and the values that show it
+abbrev pub unlicensed_words : List ℕ → ℕ → Wanted → Option (List (Term × ℕ)) → Names → List (List (List ℕ))
+unlicensed_words title step wanted values ns =
+    place_words (codes "unlicensed") title step ∷ wanted_line_words ns wanted ∷ values_words ns values
+
+abbrev pub unlicensed_text : List ℕ → ℕ → Wanted → Option (List (Term × ℕ)) → Names → List ℕ
+unlicensed_text title step wanted values ns = text_of (map joined (unlicensed_words title step wanted values ns))
+
+-- the line that is too wide, what is wanted there, and the width
+abbrev pub too_wide_words : List ℕ → ℕ → Wanted → ℕ → Names → List (List (List ℕ))
+too_wide_words title step wanted width ns =
+    place_words (codes "too-wide") title step ∷ wanted_line_words ns wanted ∷ (codes "|" ∷ codes "width" ∷ decimal width ∷ []) ∷ []
+
+abbrev pub too_wide_text : List ℕ → ℕ → Wanted → ℕ → Names → List ℕ
+too_wide_text title step wanted width ns = text_of (map joined (too_wide_words title step wanted width ns))
 
 -- the last lines of a stop; want of memory has none here
 abbrev pub stop_text : List ℕ → Stop → List ℕ
-stop_text title (Unlicensed step wanted ns) = unlicensed_text title step wanted ns
+stop_text title (Unlicensed step wanted values ns) = unlicensed_text title step wanted values ns
+stop_text title (TooWide step wanted width ns) = too_wide_text title step wanted width ns
 stop_text title NoMemory = []
 
 -- a stop at a line of the script
 abbrev pub IsStop : Stop → Type 0
-IsStop (Unlicensed step wanted ns) = Unit {0}
+IsStop (Unlicensed step wanted values ns) = Unit {0}
+IsStop (TooWide step wanted width ns) = Unit {0}
 IsStop NoMemory = ⊥

@@ -1,19 +1,150 @@
 //! The lines of certificates.
-ghost use Rattle.std.specs.Prelude.{◌≡◌, ◌++◌, OnOk};
+ghost use Rattle.std.specs.Prelude.{◌≡◌, ◌++◌, ◌∷◌, codes, OnOk};
 ghost use Rattle.std.specs.Option.{option_to_list};
-ghost use Rattle.e_spell.specs.Parts.{part_text, cert_text, certs_text};
+ghost use Rattle.e_text.specs.Tokens.{spaced};
+ghost use Rattle.e_book.specs.Canonical.{lit_words, raw_of};
+ghost use Rattle.e_spell.specs.Certificates.{named_term, row_words};
+ghost use Rattle.e_spell.specs.Parts.{row_text, sum_text, rows_text, differs_text, sums_text, metric_text, part_text, parts_text, instance_text, transfer_text, cert_text, certs_text, against_text, contradiction_text};
 
-use crate::words::put_line;
-use e_clause::{Cert, Part};
+use crate::literals::{put_literal, put_literal_line, put_objects};
+use crate::rules::put_rule;
+use crate::sums::put_term;
+use crate::words::{end_line, put, put_line, put_number};
+use e_clause::{Against, Cert, MetricCert, Part, RowName, Rule, Sums, TransferCert};
 use e_deriv::Names;
+use e_literal::{Lit, Obj, Term};
 use std::alloc::AllocError;
+
+/// A row that is said of a term.
+fn put_term_row(out: &mut Vec<u8>, names: &Names, word: &[u8], term: Term) -> Result<(), AllocError>
+    ensures { OnOk result (out.new.items ≡ out.old.items ++ spaced (word.now ∷ named_term names.now term)) }
+{
+    put(out, word)?;
+    put_term(out, names, term)
+}
+
+fn put_fact_row(out: &mut Vec<u8>, names: &Names, lit: &Lit) -> Result<(), AllocError>
+    ensures { OnOk result (out.new.items ≡ out.old.items ++ spaced (codes "fact" ∷ lit_words (raw_of names.now lit.now))) }
+{
+    put(out, b"fact")?;
+    put_literal(out, names, lit)
+}
+
+/// The name of a row.
+fn put_row(out: &mut Vec<u8>, names: &Names, row: &RowName) -> Result<(), AllocError>
+    ensures { OnOk result (out.new.items ≡ out.old.items ++ spaced (row_words names.now row.now)) }
+{
+    match row {
+        RowName::Fact(lit) => put_fact_row(out, names, lit),
+        RowName::Goal => put(out, b"goal"),
+        RowName::Pos(term) => put_term_row(out, names, b"pos", *term),
+        RowName::Top(term) => put_term_row(out, names, b"top", *term),
+        RowName::Right => put(out, b"right"),
+        RowName::Least(term) => put_term_row(out, names, b"least", *term),
+        RowName::Above => put(out, b"above"),
+        RowName::Below => put(out, b"below"),
+    }
+}
+
+/// A row behind its multiplier.
+fn put_row_line(out: &mut Vec<u8>, names: &Names, row: &(i128, RowName)) -> Result<(), AllocError>
+    ensures { OnOk result (out.new.items ≡ out.old.items ++ row_text names.now row.now) }
+{
+    out.extend_from_slice(b"|")?;
+    put_number(out, row.0)?;
+    put_row(out, names, &row.1)?;
+    end_line(out)
+}
+
+/// The rows of a sum, one a line.
+fn put_rows(out: &mut Vec<u8>, names: &Names, rows: &[(i128, RowName)]) -> Result<(), AllocError>
+    ensures { OnOk result (out.new.items ≡ out.old.items ++ rows_text names.now rows.now) }
+{
+    for row in rows {
+        put_row_line(out, names, row)?;
+    }
+    Ok(())
+}
+
+fn put_sum(out: &mut Vec<u8>, names: &Names, rows: &[(i128, RowName)]) -> Result<(), AllocError>
+    ensures { OnOk result (out.new.items ≡ out.old.items ++ sum_text names.now rows.now) }
+{
+    put_line(out, b"| sum")?;
+    put_rows(out, names, rows)
+}
+
+/// The row whose form is more or less than 0.
+fn put_differs(out: &mut Vec<u8>, names: &Names, row: &RowName) -> Result<(), AllocError>
+    ensures { OnOk result (out.new.items ≡ out.old.items ++ differs_text names.now row.now) }
+{
+    out.extend_from_slice(b"| differs")?;
+    put_row(out, names, row)?;
+    end_line(out)
+}
+
+fn put_sums(out: &mut Vec<u8>, names: &Names, sums: &Sums) -> Result<(), AllocError>
+    ensures { OnOk result (out.new.items ≡ out.old.items ++ sums_text names.now sums.now) }
+{
+    match sums {
+        Sums::One(sum) => put_sum(out, names, sum.rows()),
+        Sums::Two {
+            differs,
+            above,
+            below,
+        } => {
+            put_differs(out, names, differs)?;
+            put_sum(out, names, above.rows())?;
+            put_sum(out, names, below.rows())
+        }
+    }
+}
+
+fn put_metric(out: &mut Vec<u8>, names: &Names, cert: &MetricCert) -> Result<(), AllocError>
+    ensures { OnOk result (out.new.items ≡ out.old.items ++ metric_text names.now cert.now) }
+{
+    put_line(out, b"| metric")?;
+    put_sums(out, names, &cert.sums)
+}
 
 fn put_part(out: &mut Vec<u8>, names: &Names, part: &Part) -> Result<(), AllocError>
     ensures { OnOk result (out.new.items ≡ out.old.items ++ part_text names.now part.now) }
 {
     match part {
         Part::Fact => put_line(out, b"| fact"),
+        Part::Metric(cert) => put_metric(out, names, cert),
     }
+}
+
+/// The certificates of the parts of a transfer, in order.
+fn put_parts(out: &mut Vec<u8>, names: &Names, parts: &[Part]) -> Result<(), AllocError>
+    ensures { OnOk result (out.new.items ≡ out.old.items ++ parts_text names.now parts.now) }
+{
+    for part in parts {
+        put_part(out, names, part)?;
+    }
+    Ok(())
+}
+
+/// The rule of a transfer and its arguments.
+fn put_instance(
+    out: &mut Vec<u8>,
+    names: &Names,
+    rule: Rule,
+    args: &[Obj],
+) -> Result<(), AllocError>
+    ensures { OnOk result (out.new.items ≡ out.old.items ++ instance_text names.now rule args.now) }
+{
+    out.extend_from_slice(b"| transfer")?;
+    put_rule(out, rule)?;
+    put_objects(out, names, args)?;
+    end_line(out)
+}
+
+fn put_transfer(out: &mut Vec<u8>, names: &Names, cert: &TransferCert) -> Result<(), AllocError>
+    ensures { OnOk result (out.new.items ≡ out.old.items ++ transfer_text names.now cert.now) }
+{
+    put_instance(out, names, cert.rule, cert.args.items())?;
+    put_parts(out, names, cert.parts.items())
 }
 
 fn put_cert(out: &mut Vec<u8>, names: &Names, cert: &Cert) -> Result<(), AllocError>
@@ -21,6 +152,7 @@ fn put_cert(out: &mut Vec<u8>, names: &Names, cert: &Cert) -> Result<(), AllocEr
 {
     match cert {
         Cert::Plain(part) => put_part(out, names, part),
+        Cert::Transfer(transfer) => put_transfer(out, names, transfer),
     }
 }
 
@@ -44,6 +176,29 @@ pub(crate) fn put_cert_of(
 {
     match cert {
         Some(cert) => put_cert(out, names, cert),
+        None => Ok(()),
+    }
+}
+
+fn put_against(out: &mut Vec<u8>, names: &Names, against: &Against) -> Result<(), AllocError>
+    ensures { OnOk result (out.new.items ≡ out.old.items ++ against_text names.now against.now) }
+{
+    match against {
+        Against::Clash { lit } => put_literal_line(out, b"| clash", names, lit),
+        Against::Metric(cert) => put_metric(out, names, cert),
+    }
+}
+
+/// The certificate of a contradiction, if it has one.
+pub(crate) fn put_against_of(
+    out: &mut Vec<u8>,
+    names: &Names,
+    against: &Option<Against>,
+) -> Result<(), AllocError>
+    ensures { OnOk result (out.new.items ≡ out.old.items ++ contradiction_text names.now against.now) }
+{
+    match against {
+        Some(against) => put_against(out, names, against),
         None => Ok(()),
     }
 }

@@ -8,13 +8,16 @@ mod head;
 mod laws;
 mod literals;
 mod proof;
+mod rules;
 mod scope;
+mod stops;
 mod sums;
 mod words;
 mod writer;
 
 pub use laws::lines_are_the_theorem;
-pub use writer::{spell, spell_stop};
+pub use stops::spell_stop;
+pub use writer::spell;
 
 #[cfg(test)]
 mod tests;

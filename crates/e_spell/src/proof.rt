@@ -1,33 +1,21 @@
 //! The lines of a proof, each with its certificates below it.
 ghost use Rattle.std.specs.Prelude.{◌≡◌, ◌++◌, ◌∷◌, [], codes, map, OnOk};
 ghost use Rattle.e_text.specs.Tokens.{spaced};
-ghost use Rattle.e_book.specs.Canonical.{rule_name, name_of_object};
-ghost use Rattle.e_spell.specs.Parts.{citation_words, construction_words, certs_text, step_text, steps_text, names_after, close_text, proof_text};
+ghost use Rattle.e_book.specs.Canonical.{name_of_object};
+ghost use Rattle.e_spell.specs.Parts.{citation_words, construction_words, certs_text, step_text, steps_text, names_after, contradiction_text, close_text, proof_text};
 
-use crate::certificates::{put_cert_of, put_certs};
+use crate::certificates::{put_against_of, put_cert_of, put_certs};
 use crate::constructions::put_let;
 use crate::literals::{put_literal, put_literal_line, put_objects};
+use crate::rules::put_rule;
 use crate::scope::name_new;
 use crate::words::{end_line, put, put_line};
-use e_clause::{By, Cert, Rule};
+use e_clause::{Against, By, Cert};
 use e_construct::Construction;
 use e_deriv::{Block, Close, Names, Step};
 use e_literal::Obj;
 use e_text::Name;
 use std::alloc::AllocError;
-
-/// The name of a rule in the table.
-fn rule_name(rule: Rule) -> &'static [u8]
-    ensures { result.now ≡ rule_name rule }
-{
-    rule.name().as_bytes()
-}
-
-fn put_rule(out: &mut Vec<u8>, rule: Rule) -> Result<(), AllocError>
-    ensures { OnOk result (out.new.items ≡ out.old.items ++ 32 ∷ rule_name rule) }
-{
-    put(out, rule_name(rule))
-}
 
 /// A rule, its objects and the literal that it gives.
 #[tactic(auto, using(crate::proofs::Spaced::spaced_append))]
@@ -99,6 +87,18 @@ fn put_qed(out: &mut Vec<u8>, names: &Names, objects: &[Obj]) -> Result<(), Allo
     end_line(out)
 }
 
+/// A contradiction, and its certificate if it has one.
+fn put_contradiction(
+    out: &mut Vec<u8>,
+    names: &Names,
+    against: &Option<Against>,
+) -> Result<(), AllocError>
+    ensures { OnOk result (out.new.items ≡ out.old.items ++ ((codes "contradiction" ++ 10 ∷ []) ++ contradiction_text names.now against.now)) }
+{
+    put_line(out, b"contradiction")?;
+    put_against_of(out, names, against)
+}
+
 fn put_close(out: &mut Vec<u8>, names: &Names, close: &Close) -> Result<(), AllocError>
     ensures { OnOk result (out.new.items ≡ out.old.items ++ close_text names.now close.now) }
 {
@@ -107,6 +107,7 @@ fn put_close(out: &mut Vec<u8>, names: &Names, close: &Close) -> Result<(), Allo
             put_qed(out, names, objects.items())?;
             put_certs(out, names, certs.items())
         }
+        Close::Contradiction { against } => put_contradiction(out, names, against),
     }
 }
 

@@ -9,7 +9,8 @@ use e_deriv::Names;
 use e_literal::{Mono, Term};
 use std::alloc::AllocError;
 
-fn put_term(out: &mut Vec<u8>, names: &Names, term: Term) -> Result<(), AllocError>
+/// A term by the names of its points.
+pub(crate) fn put_term(out: &mut Vec<u8>, names: &Names, term: Term) -> Result<(), AllocError>
     ensures { OnOk result (out.new.items ≡ out.old.items ++ spaced (term_words (raw_term names.now term))) }
 {
     match term {

@@ -1,236 +1,327 @@
-//! A theorem with literals of every kind, made objects and constructions, spelled, and a stop.
+//! A theorem with its derivation, certificates of every form, and stops, spelled.
 
+use crate::certificates::{put_against_of, put_certs};
 use crate::{spell, spell_stop};
 use e_book::Theorem;
-use e_clause::{By, Cert, Part, Rule};
+use e_clause::{Against, By, Cert, MetricCert, Part, RowName, Rule, Sum, Sums, TransferCert};
 use e_construct::{Construction, Shape};
 use e_deriv::{Block, Close, Names, Step, Stop, Wanted};
-use e_literal::{Atom, Form, Items, Lit, Mono, Obj, Sort, Term};
+use e_literal::{Atom, Form, Items, Lit, Mono, Obj, Sort, Term, Values};
 use e_text::{Name, Title};
 use e_theorem::Statement;
 use std::alloc::Global;
 use std::test::Fail;
-
-fn lit(neg: bool, atom: Atom) -> Lit {
-    Lit { neg, atom }
-}
-
-fn object(sort: Sort, num: u16) -> Obj {
-    Obj { sort, num }
-}
-
-fn point(num: u16) -> Obj {
-    object(Sort::Point, num)
-}
 
 fn name(token: &[u8]) -> Result<Name, Fail> {
     Ok(Name::read(token).ok_or("a name")?)
 }
 
 fn names(alloc: Global) -> Result<Names, Fail> {
+    let points = vec![in alloc; name(b"a")?, name(b"b'")?, name(b"c")?]?;
     Ok(Names {
-        points: Items::new(vec![in alloc;
-            name(b"a")?,
-            name(b"b'")?,
-            name(b"c")?,
-            name(b"d")?,
-            name(b"e")?,
-        ]?),
-        lines: Items::new(vec![in alloc; name(b"L")?, name(b"M")?, name(b"N")?]?),
-        circles: Items::new(vec![in alloc; name(b"C1")?, name(b"C2")?]?),
+        points: Items::new(points),
+        lines: Items::new(vec![in alloc; name(b"L")?, name(b"M")?]?),
+        circles: Items::new(vec![in alloc; name(b"A")?]?),
     })
 }
 
-fn mono(coeff: u32, term: Term) -> Mono {
-    Mono { coeff, term }
-}
-
-// a coefficient 1 is not written, a sum of none is 0, and what is not less is written with the sides in the other order
-fn comparisons(alloc: Global) -> Result<Vec<Lit>, Fail> {
-    let angles = vec![in alloc;
-        mono(1, Term::Ang(0, 1, 2)),
-        mono(20, Term::Ang(2, 1, 0)),
-        mono(1, Term::Right),
-    ]?;
-    let many = vec![in alloc; mono(1_000_000, Term::Right)]?;
-    let areas = vec![in alloc; mono(2, Term::Area(0, 1, 2))]?;
-    let lengths = vec![in alloc; mono(1, Term::Seg(0, 1)), mono(3, Term::Seg(1, 1))]?;
-    let one = vec![in alloc; mono(1, Term::Seg(2, 0))]?;
-    let other = vec![in alloc; mono(1, Term::Seg(0, 2))]?;
-    Ok(vec![in alloc;
-        lit(false, Atom::MagLt(Form::new(angles), Form::new(many))),
-        lit(
-            false,
-            Atom::MagEq(Form::new(vec![in alloc;]?), Form::new(areas))
-        ),
-        lit(
-            true,
-            Atom::MagLt(Form::new(lengths), Form::new(vec![in alloc;]?))
-        ),
-        lit(true, Atom::MagEq(Form::new(one), Form::new(other))),
-    ]?)
-}
-
-// declared: two points on one line of the text, then another sort, then points again; made: two points and a line
-fn statement(alloc: Global) -> Result<Statement, Fail> {
-    let declared = vec![in alloc;
-        Sort::Point,
-        Sort::Point,
-        Sort::Line,
-        Sort::Line,
-        Sort::Circle,
-        Sort::Point,
-        Sort::Circle,
-    ]?;
-    let mut given = vec![in alloc;
-        lit(false, Atom::On(0, 1)),
-        lit(true, Atom::OnC(1, 0)),
-        lit(false, Atom::Inside(2, 1)),
-        lit(true, Atom::Center(0, 0)),
-        lit(false, Atom::Between(0, 1, 2)),
-        lit(true, Atom::Same(0, 1, 0)),
-        lit(false, Atom::MeetLL(0, 1)),
-        lit(true, Atom::MeetLC(0, 1)),
-        lit(false, Atom::MeetCC(0, 1)),
-        lit(false, Atom::EqP(0, 1)),
-        lit(true, Atom::EqL(0, 1)),
-    ]?;
-    for comparison in comparisons(alloc)? {
-        given.push(comparison)?;
+fn point(num: u16) -> Obj {
+    Obj {
+        sort: Sort::Point,
+        num,
     }
-    let made = vec![in alloc; Sort::Point, Sort::Point, Sort::Line]?;
-    let shown = vec![in alloc;
-        lit(true, Atom::EqP(0, 1)),
-        lit(false, Atom::EqC(1, 1)),
-        lit(false, Atom::On(4, 2)),
+}
+
+fn line(num: u16) -> Obj {
+    Obj {
+        sort: Sort::Line,
+        num,
+    }
+}
+
+fn apart(a: u16, b: u16) -> Lit {
+    Lit {
+        neg: true,
+        atom: Atom::EqP(a, b),
+    }
+}
+
+fn sum(alloc: Global, coeff: u32, term: Term) -> Result<Form, Fail> {
+    Ok(Form::new(vec![in alloc; Mono { coeff, term }]?))
+}
+
+// two points and a line are declared, and a point and a line are made
+fn statement(alloc: Global) -> Result<Statement, Fail> {
+    let least = Atom::MagLt(
+        sum(alloc, 20, Term::Ang(0, 1, 2))?,
+        Form::new(vec![in alloc;]?),
+    );
+    let given = vec![in alloc;
+        apart(0, 1),
+        Lit {
+            neg: true,
+            atom: least
+        },
     ]?;
+    let shown = Lit {
+        neg: true,
+        atom: Atom::On(2, 1),
+    };
+    let declared = vec![in alloc; Sort::Point, Sort::Point, Sort::Line]?;
     Ok(Statement {
         declared: Items::new(declared),
         given: Items::new(given),
-        made: Items::new(made),
-        shown: Items::new(shown),
+        made: Items::new(vec![in alloc; Sort::Point, Sort::Line]?),
+        shown: Items::new(vec![in alloc; shown]?),
     })
 }
 
-fn facts(alloc: Global, count: usize) -> Result<Items<Cert>, Fail> {
-    let mut certs = Items::empty(alloc);
-    for _ in 0..count {
-        certs.push(Cert::Plain(Part::Fact))?;
-    }
-    Ok(certs)
-}
-
-fn construction(
-    shape: Shape,
-    args: Vec<Obj>,
-    avoid: Vec<Obj>,
-    names: Vec<Name>,
-    certs: Items<Cert>,
-) -> Step {
-    Step::Make {
-        form: Construction {
-            shape,
-            args: Items::new(args),
-            avoid: Items::new(avoid),
-        },
-        names: Items::new(names),
-        certs,
-    }
+fn facts(alloc: Global) -> Result<Items<Cert>, Fail> {
+    Ok(Items::new(vec![in alloc; Cert::Plain(Part::Fact)]?))
 }
 
 // the name of a made object is free in the proof
-fn between(alloc: Global) -> Result<Step, Fail> {
-    Ok(construction(
-        Shape::Within,
-        vec![in alloc; object(Sort::Line, 0), point(0), point(1)]?,
-        vec![in alloc;]?,
-        vec![in alloc; name(b"d")?]?,
-        facts(alloc, 3)?,
-    ))
+fn construction(alloc: Global) -> Result<Step, Fail> {
+    Ok(Step::Make {
+        form: Construction {
+            shape: Shape::OnLine,
+            args: Items::new(vec![in alloc; line(0)]?),
+            avoid: Items::new(vec![in alloc; point(1)]?),
+        },
+        names: Items::new(vec![in alloc; name(b"q")?]?),
+        certs: facts(alloc)?,
+    })
 }
 
-// the new point before is in scope
-fn avoiding(alloc: Global) -> Result<Step, Fail> {
-    Ok(construction(
-        Shape::OnLine,
-        vec![in alloc; object(Sort::Line, 0)]?,
-        vec![in alloc; object(Sort::Line, 1), point(3)]?,
-        vec![in alloc; name(b"q")?]?,
-        facts(alloc, 1)?,
-    ))
-}
-
-fn two_points(alloc: Global) -> Result<Step, Fail> {
-    Ok(construction(
-        Shape::MeetBoth,
-        vec![in alloc; object(Sort::Line, 0), object(Sort::Circle, 0)]?,
-        vec![in alloc;]?,
-        vec![in alloc; name(b"r")?, name(b"s")?]?,
-        facts(alloc, 1)?,
-    ))
-}
-
-fn derivation(alloc: Global) -> Result<Block, Fail> {
-    let cited = Step::Cite(By {
+fn citation(alloc: Global) -> Result<Step, Fail> {
+    Ok(Step::Cite(By {
         rule: Rule::named(b"b1b").ok_or("b1b")?,
-        args: Items::new(vec![in alloc; point(0), point(1), point(2)]?),
-        lit: lit(true, Atom::EqP(0, 1)),
-    });
-    let hence = Step::Hence {
-        lit: lit(true, Atom::EqP(5, 6)),
+        args: Items::new(vec![in alloc; point(0), point(1)]?),
+        lit: apart(2, 1),
+    }))
+}
+
+fn hence() -> Step {
+    Step::Hence {
+        lit: apart(0, 2),
         cert: Some(Cert::Plain(Part::Fact)),
-    };
-    let steps = vec![in alloc;
-        cited,
-        between(alloc)?,
-        avoiding(alloc)?,
-        two_points(alloc)?,
-        hence,
-    ]?;
-    let objects = vec![in alloc; point(3), point(4), object(Sort::Line, 0)]?;
-    Ok(Block {
-        steps,
-        close: Close::Qed {
-            objects: Items::new(objects),
-            certs: facts(alloc, 3)?,
+    }
+}
+
+fn closed(alloc: Global) -> Result<Close, Fail> {
+    Ok(Close::Qed {
+        objects: Items::new(vec![in alloc; point(2), line(0)]?),
+        certs: facts(alloc)?,
+    })
+}
+
+fn theorem(alloc: Global) -> Result<Theorem, Fail> {
+    Ok(Theorem {
+        title: Title::read(b"I.4-x").ok_or("a title")?,
+        names: names(alloc)?,
+        statement: statement(alloc)?,
+        block: Block {
+            steps: vec![in alloc;]?,
+            close: closed(alloc)?,
         },
     })
 }
 
-const SPELLED: &[u8] = b"theorem I.4-x\npoints a b'\nlines L M\ncircles C1\npoints c\ncircles C2\n\
-given on a M\ngiven not on b' C1\ngiven inside c C2\ngiven not center a C1\ngiven between a b' c\n\
-given not same-side a b' L\ngiven meets L M\ngiven not meets L C2\ngiven meets C1 C2\ngiven a = b'\ngiven L != M\n\
-given ang a b' c + 20 ang c b' a + right < 1000000 right\ngiven 0 = 2 area a b' c\n\
-given 0 <= seg a b' + 3 seg b' b'\ngiven seg c a != seg a c\n\
-made points d e\nmade lines N\nshow a != b'\nshow C2 = C2\nshow on e N\nproof\nby b1b a b' c : a != b'\n\
-let d on L between a b'\n| fact\n| fact\n| fact\nlet q on L avoid M d\n| fact\nlet r s meet L C1\n| fact\n\
-hence r != s\n| fact\nqed d q L\n| fact\n| fact\n| fact\nend\n";
+const SPELLED: &[u8] =
+    b"theorem I.4-x\npoints a b'\nlines L\ngiven a != b'\ngiven 0 <= 20 ang a b' c\n\
+made points c\nmade lines M\nshow not on c M\nproof\nlet q on L avoid b'\n| fact\nby b1b a b' : q != b'\n\
+hence a != q\n| fact\nqed q L\n| fact\nend\n";
+
+fn steps(alloc: Global) -> Result<Vec<Step>, Fail> {
+    Ok(vec![in alloc; construction(alloc)?, citation(alloc)?, hence()]?)
+}
+
+fn spelled(alloc: Global, steps: Vec<Step>, close: Close) -> Result<Vec<u8>, Fail> {
+    let deriv = Block { steps, close };
+    Ok(spell(alloc, &theorem(alloc)?, &deriv)?)
+}
 
 #[test]
 fn a_derivation_has_this_text(rt: HostRuntime) -> Result<(), Fail> {
     let alloc = rt.alloc();
-    let theorem = Theorem {
-        title: Title::read(b"I.4-x").ok_or("a title")?,
-        names: names(alloc)?,
-        statement: statement(alloc)?,
-        block: derivation(alloc)?,
-    };
-    let text = spell(alloc, &theorem, &derivation(alloc)?)?;
+    let text = spelled(alloc, steps(alloc)?, closed(alloc)?)?;
     assert!(rt; text.as_slice() == SPELLED);
     Ok(())
 }
 
 #[test]
-fn a_stop_has_these_lines(rt: HostRuntime) -> Result<(), Fail> {
-    let alloc = rt.alloc();
-    let title = Title::read(b"T").ok_or("a title")?;
+fn a_contradiction_has_its_certificate_below_it(rt: HostRuntime) -> Result<(), Fail> {
+    let against = Some(Against::Clash { lit: apart(1, 0) });
+    let close = Close::Contradiction { against };
+    let text = spelled(rt.alloc(), Vec::new(rt.alloc()), close)?;
+    assert!(rt; text.ends_with(b"\nproof\ncontradiction\n| clash b' != a\nend\n"));
+    Ok(())
+}
+
+// ---- certificates
+
+// a segment equals another, or differs from it
+fn compared(alloc: Global, neg: bool) -> Result<Lit, Fail> {
+    let left = sum(alloc, 1, Term::Seg(0, 1))?;
+    let right = sum(alloc, 1, Term::Seg(1, 2))?;
+    Ok(Lit {
+        neg,
+        atom: Atom::MagEq(left, right),
+    })
+}
+
+// rows of every name that needs no sum beside it; the multiplier of one is as large as one may be
+fn rows(alloc: Global) -> Result<Sum, Fail> {
+    Ok(Sum::new(vec![in alloc;
+        (1, RowName::Goal),
+        (
+            -1_208_925_819_614_629_174_706_176,
+            RowName::Pos(Term::Seg(0, 1))
+        ),
+        (20, RowName::Top(Term::Ang(0, 1, 2))),
+        (-3, RowName::Right),
+        (4, RowName::Least(Term::Right)),
+    ]?))
+}
+
+fn one_sum(alloc: Global) -> Result<MetricCert, Fail> {
+    Ok(MetricCert {
+        sums: Sums::One(rows(alloc)?),
+    })
+}
+
+fn above(alloc: Global) -> Result<Sum, Fail> {
+    let fact = compared(alloc, false)?;
+    Ok(Sum::new(vec![in alloc; (1, RowName::Above), (-1, RowName::Fact(fact))]?))
+}
+
+fn below(alloc: Global) -> Result<Sum, Fail> {
+    Ok(Sum::new(vec![in alloc; (1, RowName::Below)]?))
+}
+
+fn two_sums(alloc: Global, differs: RowName) -> Result<MetricCert, Fail> {
+    Ok(MetricCert {
+        sums: Sums::Two {
+            differs,
+            above: above(alloc)?,
+            below: below(alloc)?,
+        },
+    })
+}
+
+fn parts(alloc: Global) -> Result<Items<Part>, Fail> {
+    Ok(Items::new(vec![in alloc; Part::Fact, Part::Metric(one_sum(alloc)?)]?))
+}
+
+fn transfer(alloc: Global) -> Result<Cert, Fail> {
+    Ok(Cert::Transfer(TransferCert {
+        rule: Rule::named(b"ds3b").ok_or("ds3b")?,
+        args: Items::new(vec![in alloc; point(0), point(1), line(1)]?),
+        parts: parts(alloc)?,
+    }))
+}
+
+fn cert_lines(alloc: Global, cert: Cert) -> Result<Vec<u8>, Fail> {
+    let mut out = Vec::new(alloc);
+    put_certs(&mut out, &names(alloc)?, &[cert])?;
+    Ok(out)
+}
+
+fn against_lines(alloc: Global, against: Against) -> Result<Vec<u8>, Fail> {
+    let mut out = Vec::new(alloc);
+    put_against_of(&mut out, &names(alloc)?, &Some(against))?;
+    Ok(out)
+}
+
+const TRANSFER: &[u8] = b"| transfer ds3b a b' M\n| fact\n| metric\n| sum\n| 1 goal\n\
+| -1208925819614629174706176 pos seg a b'\n| 20 top ang a b' c\n| -3 right\n| 4 least right\n";
+
+const GOAL_DIFFERS: &[u8] =
+    b"| metric\n| differs goal\n| sum\n| 1 above\n| -1 fact seg a b' = seg b' c\n\
+| sum\n| 1 below\n";
+
+const FACT_DIFFERS: &[u8] = b"| metric\n| differs fact seg a b' != seg b' c\n| sum\n| 1 above\n\
+| -1 fact seg a b' = seg b' c\n| sum\n| 1 below\n";
+
+#[test]
+fn a_transfer_has_its_parts_below_it(rt: HostRuntime) -> Result<(), Fail> {
+    let text = cert_lines(rt.alloc(), transfer(rt.alloc())?)?;
+    assert!(rt; text.as_slice() == TRANSFER);
+    Ok(())
+}
+
+#[test]
+fn a_goal_that_differs_stands_before_two_sums(rt: HostRuntime) -> Result<(), Fail> {
+    let cert = Cert::Plain(Part::Metric(two_sums(rt.alloc(), RowName::Goal)?));
+    let text = cert_lines(rt.alloc(), cert)?;
+    assert!(rt; text.as_slice() == GOAL_DIFFERS);
+    Ok(())
+}
+
+#[test]
+fn a_fact_that_differs_stands_before_two_sums(rt: HostRuntime) -> Result<(), Fail> {
+    let differs = RowName::Fact(compared(rt.alloc(), true)?);
+    let text = against_lines(rt.alloc(), Against::Metric(two_sums(rt.alloc(), differs)?))?;
+    assert!(rt; text.as_slice() == FACT_DIFFERS);
+    Ok(())
+}
+
+// ---- stops
+
+fn title() -> Result<Title, Fail> {
+    Ok(Title::read(b"T").ok_or("a title")?)
+}
+
+fn unlicensed(alloc: Global, wanted: Wanted, values: Option<Values>) -> Result<Vec<u8>, Fail> {
     let stop = Stop::Unlicensed {
         step: 1024,
-        wanted: Wanted::Literal(lit(true, Atom::MeetLC(1, 0))),
+        wanted,
+        values,
         names: names(alloc)?,
     };
-    let text = spell_stop(alloc, title, &stop)?;
-    let lines: &[u8] = b"unlicensed T 1024\n| wanted not meets M C1\n";
-    assert!(rt; text.as_slice() == lines);
+    Ok(spell_stop(alloc, title()?, &stop)?)
+}
+
+fn values(alloc: Global) -> Result<Option<Values>, Fail> {
+    Ok(Some(Values::new(vec![in alloc; (Term::Seg(0, 1), 0), (Term::Right, u128::MAX)]?)))
+}
+
+fn too_wide(alloc: Global, wanted: Wanted) -> Result<Vec<u8>, Fail> {
+    let stop = Stop::TooWide {
+        step: 3,
+        wanted,
+        width: 4_000_008_000_004_000_000_000_000,
+        names: names(alloc)?,
+    };
+    Ok(spell_stop(alloc, title()?, &stop)?)
+}
+
+const NO_VALUES: &[u8] = b"unlicensed T 1024\n| wanted a != b'\n";
+
+const VALUES: &[u8] = b"unlicensed T 1024\n| wanted contradiction\n| value seg a b' 0\n\
+| value right 340282366920938463463374607431768211455\n";
+
+const TOO_WIDE: &[u8] =
+    b"too-wide T 3\n| wanted seg a b' = seg b' c\n| width 4000008000004000000000000\n";
+
+#[test]
+fn a_diagram_literal_has_no_values(rt: HostRuntime) -> Result<(), Fail> {
+    let text = unlicensed(rt.alloc(), Wanted::Literal(apart(0, 1)), None)?;
+    assert!(rt; text.as_slice() == NO_VALUES);
+    Ok(())
+}
+
+#[test]
+fn values_stand_one_a_line(rt: HostRuntime) -> Result<(), Fail> {
+    let text = unlicensed(rt.alloc(), Wanted::Contradiction, values(rt.alloc())?)?;
+    assert!(rt; text.as_slice() == VALUES);
+    Ok(())
+}
+
+#[test]
+fn a_width_stands_below_what_is_wanted(rt: HostRuntime) -> Result<(), Fail> {
+    let wanted = Wanted::Literal(compared(rt.alloc(), false)?);
+    let text = too_wide(rt.alloc(), wanted)?;
+    assert!(rt; text.as_slice() == TOO_WIDE);
     Ok(())
 }

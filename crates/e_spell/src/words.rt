@@ -1,8 +1,8 @@
 //! Words behind spaces, and the ends of lines.
-ghost use Rattle.std.specs.Prelude.{◌≡◌, ◌++◌, ◌∷◌, [], decimal, OnOk};
+ghost use Rattle.std.specs.Prelude.{◌≡◌, ◌++◌, ◌∷◌, [], OnOk};
 ghost use Rattle.e_text.specs.Tokens.{spaced};
 
-use itoa::Buffer;
+use itoa::{Buffer, Integer};
 use std::alloc::AllocError;
 
 /// A word behind a space.
@@ -29,8 +29,8 @@ pub(crate) fn put_three(out: &mut Vec<u8>, x: &[u8], y: &[u8], z: &[u8]) -> Resu
 }
 
 /// A number behind a space.
-pub(crate) fn put_number(out: &mut Vec<u8>, number: u32) -> Result<(), AllocError>
-    ensures { OnOk result (out.new.items ≡ out.old.items ++ 32 ∷ decimal number) }
+pub(crate) fn put_number<I: Integer>(out: &mut Vec<u8>, number: I) -> Result<(), AllocError>
+    ensures { OnOk result (out.new.items ≡ out.old.items ++ 32 ∷ I.text number) }
 {
     let mut digits = Buffer::new();
     put(out, digits.format(number).as_bytes())

@@ -2,27 +2,95 @@
 use Rattle.std.proofs.Common.{◌≡◌, inl, inr, ℕ, List, [], Option, Some, None, refl, sym, ap, subst, ◌∙◌}
 use Rattle.elements.specs.declared.status.Status.{Status}
 use Rattle.elements.specs.declared.status.Status.TheVariants as status
-use Rattle.elements.specs.Outcome.{Rest, End, EndsBook, lines_of_book}
+use Rattle.std.specs.Prelude.{Contains}
+use Rattle.e_literal.specs.declared.object.Term.{Term}
+use Rattle.e_literal.specs.declared.literal.Lit.{Lit}
+use Rattle.e_clause.specs.Wide.{IsTooWideLit}
+use Rattle.e_deriv.specs.declared.stop.Wanted.{Wanted}
+use Rattle.e_deriv.specs.declared.stop.Wanted.TheVariants.{Literal, Contradiction as AContradiction}
+use Rattle.e_deriv.specs.declared.names.Names.{Names}
+use Rattle.e_deriv.specs.Script.{Script, Cite, Hence, Make, Qed, Contradiction}
+use Rattle.e_deriv.specs.Lines.{Line}
+use Rattle.e_deriv.specs.Steps.{needs}
+use Rattle.e_deriv.specs.Refused.{SomeIsWide, IsWideAt, IsTooWide}
+use Rattle.e_book.specs.Headed.{Headed}
+use Rattle.e_book.specs.Entry.{Entry}
+use Rattle.elements.specs.Outcome.{Rest, End, EndsBook, Begins, StopsAt, RefusedAt, HasWide, lines_of_book}
 use Rattle.elements.specs.Outcome as ends
-use Rattle.elements.specs.Answers.{Checks, ChecksBook, IsAnswer, Answers, AnswersUsage, theorems_of}
+use Rattle.elements.specs.Answers.{Checks, ChecksBook, EndsSo, Refuses, Widens, IsAnswer, Answers, AnswersUsage, theorems_of}
 use Rattle.elements.specs.Endings.{Closes}
 use Rattle.elements.specs.LastLines.{usage_line}
 use Rattle.elements.proofs.OneOutcome.{outcome_is_one}
 
-answered_at : (text : List ℕ) (end other : End) (answer : Status) → other ≡ end → IsAnswer other answer → IsAnswer end answer
-answered_at text end other answer e h = subst (λ (x : End). IsAnswer x answer) e h
+answered_at : (lines : Rest) (end other : End) (answer : Status) → other ≡ end → IsAnswer lines other answer → IsAnswer lines end answer
+answered_at lines end other answer e h = subst (λ (x : End). IsAnswer lines x answer) e h
+
+-- where the book ends so behind these theorems, an answer to that is one to its outcome
+answered_so : (text : List ℕ) (end : End) (answer : Status) (theorems : List Entry) (known : List Headed) (rest : Rest) (other : End) → EndsBook text end
+    → Begins (lines_of_book text) theorems known rest → EndsSo (lines_of_book text) other known rest → IsAnswer (lines_of_book text) other answer → IsAnswer (lines_of_book text) end answer
+answered_so text end answer theorems known rest other h b e k =
+    answered_at (lines_of_book text) end other answer
+    (outcome_is_one (lines_of_book text) theorems h.theorems other end (record { known = known; rest = rest; begins = b; ends = e }) h.outcome) k
+
+stop_of_refusal : (t : Entry) (title : List ℕ) (step : ℕ) (wanted : Wanted) (values : Option (List (Term × ℕ))) (names : Names)
+    → RefusedAt t title step wanted values names → StopsAt t title step wanted names
+stop_of_refusal t title step wanted values names r =
+    record { titled = r.titled; first = record { line = r.refused.line; context = r.refused.context; lacks = r.refused.lacks }; named = r.named }
+
+-- where the next theorem is refused the book stops there
+pub stops_so : (lines : Rest) (known : List Headed) (rest : Rest) (title : List ℕ) (step : ℕ) (wanted : Wanted) (values : Option (List (Term × ℕ))) (names : Names)
+    → Refuses lines title step wanted values names known rest → EndsSo lines (ends.Unlicensed title step wanted names) known rest
+stops_so lines known rest title step wanted values names r = (r.0, r.1, r.2, stop_of_refusal r.0 title step wanted values names r.3)
+
+some_wide : (x : Line) (l : Lit) (w : ℕ) → Contains (needs x) l × IsTooWideLit x.scope x.facts l w → SomeIsWide x
+some_wide x l w h =
+    record { lit = l; is_one = h.0; is_wide = record { not_plain = h.1.not_plain; rows = h.1.rows; is_system = h.1.is_system; is_wide = h.1.has_width.is_wide } }
+
+-- a line that is too wide is wide
+wide_line : (x : Line) (here : Script) (wanted : Wanted) (w : ℕ) → IsTooWide x here wanted w → IsWideAt x here
+wide_line x (Contradiction against) AContradiction w h =
+    record { no_clash = h.no_clash; rows = h.rows; is_system = h.is_system; is_wide = h.has_width.is_wide }
+wide_line x (Contradiction against) (Literal l) w h = absurd h
+wide_line x (Cite by rest) (Literal l) w h = some_wide x l w h
+wide_line x (Hence lit cert rest) (Literal l) w h = some_wide x l w h
+wide_line x (Make form names certs rest) (Literal l) w h = some_wide x l w h
+wide_line x (Qed objects certs) (Literal l) w h = some_wide x l w h
+wide_line x here AContradiction w h = absurd h
+
+pub widens_so : (lines : Rest) (theorems : List Entry) (known : List Headed) (rest : Rest) (title : List ℕ) (step : ℕ) (wanted : Wanted) (width : ℕ) (names : Names)
+    → Begins lines theorems known rest → Widens lines title step wanted width names known rest → HasWide lines
+widens_so lines theorems known rest title step wanted width names b w =
+    let at = w.3.too_wide in
+    record {
+      theorems = theorems;
+      known = known;
+      rest = rest;
+      begins = b;
+      wide = (w.0, w.1, w.2, record { step = step; line = at.line; context = at.context; is_wide = wide_line at.line at.line.here wanted width at.too_wide });
+    }
+
+is_answer_wide : (lines : Rest) (end : End) (title : List ℕ) (step : ℕ) (wanted : Wanted) (width : ℕ) → HasWide lines → IsAnswer lines end (status.TooWide title step wanted width)
+is_answer_wide lines (ends.Accepted n) title step wanted width h = h
+is_answer_wide lines (ends.Unlicensed a b c d) title step wanted width h = h
+is_answer_wide lines (ends.Faulty f) title step wanted width h = h
 
 -- by what the answer is
-pub answered : (text : List ℕ) (end : End) (old new : Option (List ℕ)) (answer : Status) → EndsBook text end → Checks (lines_of_book text) old new answer → IsAnswer end answer
+pub answered : (text : List ℕ) (end : End) (old new : Option (List ℕ)) (answer : Status) → EndsBook text end → Checks (lines_of_book text) old new answer → IsAnswer (lines_of_book text) end answer
 answered text end old new (status.Accepted n) h w =
     let o = w.outputs in
-    answered_at text end (ends.Accepted n) (status.Accepted n) (outcome_is_one (lines_of_book text) (theorems_of o.derived) h.theorems (ends.Accepted n) end o.outcome h.outcome) refl
-answered text end old new (status.Unlicensed title step wanted) h w =
+    answered_so text end (status.Accepted n) (theorems_of o.derived) o.known o.rest (ends.Accepted n) h o.begins o.holds refl
+answered text end old new (status.Unlicensed title step wanted values) h w =
     let o = w.outputs.1 in
-    answered_at text end (ends.Unlicensed title step wanted w.outputs.0) (status.Unlicensed title step wanted) (outcome_is_one (lines_of_book text) (theorems_of o.derived) h.theorems (ends.Unlicensed title step wanted w.outputs.0) end o.outcome h.outcome) (refl, refl, refl)
+    let names = w.outputs.0 in
+    answered_so text end (status.Unlicensed title step wanted values) (theorems_of o.derived) o.known o.rest (ends.Unlicensed title step wanted names) h o.begins
+    (stops_so (lines_of_book text) o.known o.rest title step wanted values names o.holds) (refl, refl, refl)
+answered text end old new (status.TooWide title step wanted width) h w =
+    let o = w.outputs.1 in
+    is_answer_wide (lines_of_book text) end title step wanted width
+    (widens_so (lines_of_book text) (theorems_of o.derived) o.known o.rest title step wanted width w.outputs.0 o.begins o.holds)
 answered text end old new (status.Fault f) h w =
     let o = w.outputs in
-    answered_at text end (ends.Faulty f) (status.Fault f) (outcome_is_one (lines_of_book text) (theorems_of o.derived) h.theorems (ends.Faulty f) end o.outcome h.outcome) refl
+    answered_so text end (status.Fault f) (theorems_of o.derived) o.known o.rest (ends.Faulty f) h o.begins o.holds refl
 answered text end old new status.Usage h w = absurd w
 answered text (ends.Accepted n) old new status.ReadFault h w = tt
 answered text (ends.Unlicensed a b c d) old new status.ReadFault h w = tt

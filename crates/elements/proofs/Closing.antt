@@ -11,9 +11,11 @@ use Rattle.elements.specs.declared.status.Status.TheVariants as status
 use Rattle.elements.specs.declared.blocks.Ending.{Ending}
 use Rattle.elements.specs.declared.blocks.Ending.TheVariants.{All, Stopped, Faulty}
 use Rattle.e_text.proofs.WholeLines.{lines_of-take}
-use Rattle.elements.specs.Outcome.{Rest, End, IsOutcome, lines_of_book}
+use Rattle.e_book.specs.Headed.{Headed}
+use Rattle.elements.specs.Outcome.{Rest, lines_of_book}
+use Rattle.elements.specs.Outcome as ends
 use Rattle.elements.specs.LastLines.{head_line, no_memory_line, read_fault_line}
-use Rattle.elements.specs.Answers.{Derived, AllDerived, theorems_of, block_of, written_with, Ended, CutOff, Outputs, WroteAll, WroteFront, Checks, ChecksBook}
+use Rattle.elements.specs.Answers.{Derived, AllDerived, theorems_of, block_of, written_with, Ended, EndsSo, Refuses, Widens, CutOff, Outputs, WroteAll, WroteFront, Checks, ChecksBook}
 use Rattle.elements.specs.Input.{IsTextOf}
 use Rattle.elements.specs.Endings.{EndsWith, BreaksOff, BreaksInside, EndingIs, Closes, last_lines, answer_of}
 use Rattle.elements.proofs.History.{grew_more, grew_none, begins, breaks_off}
@@ -21,7 +23,8 @@ use Rattle.elements.proofs.History.{grew_more, grew_none, begins, breaks_off}
 -- whatever an answer is, where its bytes were written it is right
 pub checks_all : (lines : Rest) (old new : Option (List ℕ)) (answer : Status) → WroteAll lines old new answer → Checks lines old new answer
 checks_all lines old new (status.Accepted n) w = w
-checks_all lines old new (status.Unlicensed title step wanted) w = w
+checks_all lines old new (status.Unlicensed title step wanted values) w = w
+checks_all lines old new (status.TooWide title step wanted width) w = w
 checks_all lines old new (status.Fault f) w = w
 checks_all lines old new status.Usage w = w.outputs
 checks_all lines old new status.ReadFault w = w
@@ -54,19 +57,29 @@ closed lines old s0 s1 s2 ds last answer result outputs h b (inr c) =
     let w : WroteFront lines old s2 = record { answer = answer; out = written_with ds last; outputs = outputs; count = f.0; grew = f.1 } in
     subst (Checks lines old s2) (sym c.0) w
 
+-- what ended so, with its last lines
+ended : (lines : Rest) (s0 s1 : Option (List ℕ)) (Holds : List Headed → Rest → Type 0) (last : List ℕ) (e : EndsWith lines s0 s1 Holds) → Ended lines Holds last (written_with e.derived last)
+ended lines s0 s1 Holds last e =
+    record { derived = e.derived; sound = e.sound; known = e.known; rest = e.rest; begins = e.begins; holds = e.holds; bytes = refl }
+
 -- the lines ended so, and the last lines of that answer come
 pub closed_ending : (lines : Rest) (old s0 s1 s2 : Option (List ℕ)) (ending : Ending) (result : Status)
     → Grew old s0 head_line → EndingIs lines s0 s1 ending → Closes s1 s2 (last_lines ending) (answer_of ending) result → Checks lines old s2 result
 closed_ending lines old s0 s1 s2 (All n) result h e c =
     closed lines old s0 s1 s2 e.derived (last_lines (All n)) (answer_of (All n)) result
-    (record { derived = e.derived; sound = e.sound; outcome = e.outcome; bytes = refl }) h e.grew c
-closed_ending lines old s0 s1 s2 (Stopped title (stops.Unlicensed step wanted names)) result h e c =
-    closed lines old s0 s1 s2 e.derived (last_lines (Stopped title (stops.Unlicensed step wanted names))) (answer_of (Stopped title (stops.Unlicensed step wanted names))) result
-    (names, record { derived = e.derived; sound = e.sound; outcome = e.outcome; bytes = refl }) h e.grew c
+    (ended lines s0 s1 (EndsSo lines (ends.Accepted n)) (last_lines (All n)) e) h e.grew c
+closed_ending lines old s0 s1 s2 (Stopped title (stops.Unlicensed step wanted values names)) result h e c =
+    let ending = Stopped title (stops.Unlicensed step wanted values names) in
+    closed lines old s0 s1 s2 e.derived (last_lines ending) (answer_of ending) result
+    (names, ended lines s0 s1 (Refuses lines title step wanted values names) (last_lines ending) e) h e.grew c
+closed_ending lines old s0 s1 s2 (Stopped title (stops.TooWide step wanted width names)) result h e c =
+    let ending = Stopped title (stops.TooWide step wanted width names) in
+    closed lines old s0 s1 s2 e.derived (last_lines ending) (answer_of ending) result
+    (names, ended lines s0 s1 (Widens lines title step wanted width names) (last_lines ending) e) h e.grew c
 closed_ending lines old s0 s1 s2 (Stopped title stops.NoMemory) result h e c = absurd e
 closed_ending lines old s0 s1 s2 (Faulty f) result h e c =
     closed lines old s0 s1 s2 e.derived (last_lines (Faulty f)) (answer_of (Faulty f)) result
-    (record { derived = e.derived; sound = e.sound; outcome = e.outcome; bytes = refl }) h e.grew c
+    (ended lines s0 s1 (EndsSo lines (ends.Faulty f)) (last_lines (Faulty f)) e) h e.grew c
 
 -- memory gave out behind some blocks
 pub closed_broken : (lines : Rest) (old s0 s1 s2 : Option (List ℕ)) (result : Status)
@@ -76,13 +89,14 @@ closed_broken lines old s0 s1 s2 result h e c =
     (record { derived = e.derived; sound = e.sound; front = e.front; bytes = refl }) h e.grew c
 
 -- what ended can be taken as broken off
-pub off_of_end : (lines : Rest) (s0 s1 : Option (List ℕ)) (end : End) → EndsWith lines s0 s1 end → BreaksOff lines s0 s1
-off_of_end lines s0 s1 end e =
-    record { derived = e.derived; sound = e.sound; front = record { known = e.outcome.known; rest = e.outcome.rest; begins = e.outcome.begins }; grew = e.grew }
+pub off_of_end : (lines : Rest) (s0 s1 : Option (List ℕ)) (Holds : List Headed → Rest → Type 0) → EndsWith lines s0 s1 Holds → BreaksOff lines s0 s1
+off_of_end lines s0 s1 Holds e =
+    record { derived = e.derived; sound = e.sound; front = record { known = e.known; rest = e.rest; begins = e.begins }; grew = e.grew }
 
 pub off_of_ending : (lines : Rest) (s0 s1 : Option (List ℕ)) (ending : Ending) → EndingIs lines s0 s1 ending → BreaksOff lines s0 s1
 off_of_ending lines s0 s1 (All n) e = off_of_end lines s0 s1 _ e
-off_of_ending lines s0 s1 (Stopped title (stops.Unlicensed step wanted names)) e = off_of_end lines s0 s1 _ e
+off_of_ending lines s0 s1 (Stopped title (stops.Unlicensed step wanted values names)) e = off_of_end lines s0 s1 _ e
+off_of_ending lines s0 s1 (Stopped title (stops.TooWide step wanted width names)) e = off_of_end lines s0 s1 _ e
 off_of_ending lines s0 s1 (Stopped title stops.NoMemory) e = absurd e
 off_of_ending lines s0 s1 (Faulty f) e = off_of_end lines s0 s1 _ e
 

@@ -11,23 +11,20 @@ use Rattle.e_deriv.proofs.Agreement.{licensed_of_derived}
 use Rattle.e_book.specs.Headed.{Headed, headed}
 use Rattle.e_book.specs.Entry.{Entry}
 use Rattle.e_book.specs.Book.{read_from}
-use Rattle.e_book.specs.Fits.{Fits}
-use Rattle.e_deriv.specs.Fitting.{IsFitting, all_objects}
 use Rattle.e_deriv.specs.Naming.{names_lines, declared_names}
-use Rattle.e_literal.specs.declared.object.Scope.{Scope}
 use Rattle.std.specs.Prelude.{slice_get}
-use Rattle.elements.specs.Outcome.{Rest, IsLicensed, Takes, End, Ends, Begins, number_behind, IsOutcome, IsFront}
-use Rattle.elements.specs.Answers.{Derived, IsDerived, AllDerived, theorems_of, block_of}
+use Rattle.elements.specs.Outcome.{Rest, IsLicensed, Takes, Begins, number_behind, IsFront}
+use Rattle.elements.specs.Answers.{Derived, IsDerived, AllDerived, Refuses, Widens, theorems_of, block_of}
 use Rattle.elements.specs.Endings.{EndsWith, BreaksOff, BreaksInside, BlocksAre, stop_ending}
 use Rattle.elements.specs.declared.blocks.Ending.{Ending}
 use Rattle.elements.specs.declared.blocks.Broken.{Broken}
 use Rattle.e_deriv.specs.declared.stop.Stop.{Stop}
 use Rattle.e_deriv.specs.declared.stop.Stop.TheVariants as stops
 use Rattle.e_prove.specs.Stops.{StopIs, HasNames}
-use Rattle.elements.specs.Outcome as ends
 use Rattle.e_deriv.specs.declared.stop.Wanted.{Wanted}
 use Rattle.e_deriv.specs.declared.names.Names.{Names}
-use Rattle.e_deriv.specs.Licensed.{IsFirstUnlicensed}
+use Rattle.e_deriv.specs.Refused.{IsRefused, IsTooWideAt}
+use Rattle.e_literal.specs.declared.object.Term.{Term}
 use Rattle.e_book.specs.declared.fault.BookFault.{BookFault}
 
 pub record History (lines : Rest) (old : Option (List ℕ)) (known : List Headed) (rest : Rest) (new : Option (List ℕ)) : Type 0 where
@@ -90,16 +87,11 @@ goes_on lines old new newer known rest after d h read k w =
       grew = subst (λ (b : List ℕ). Grew old newer b) (sym (blocks_more h.derived d)) (grew_more old new newer (flat_map block_of h.derived) (block_of d) h.grew w);
     }
 
--- the lines end so
-pub ends_with : (lines : Rest) (old new : Option (List ℕ)) (known : List Headed) (rest : Rest) (end : End)
-    → History lines old known rest new → Ends (number_behind lines) known rest end → EndsWith lines old new end
-ends_with lines old new known rest end h e =
-    record {
-      derived = h.derived;
-      sound = h.sound;
-      outcome = record { known = known; rest = rest; begins = h.begins; ends = e };
-      grew = h.grew;
-    }
+-- this holds behind what was written
+pub ends_with : (lines : Rest) (old new : Option (List ℕ)) (known : List Headed) (rest : Rest) (Holds : List Headed → Rest → Type 0)
+    → History lines old known rest new → Holds known rest → EndsWith lines old new Holds
+ends_with lines old new known rest Holds h e =
+    record { derived = h.derived; sound = h.sound; known = known; rest = rest; begins = h.begins; holds = e; grew = h.grew }
 
 pub breaks_off : (lines : Rest) (old new : Option (List ℕ)) (known : List Headed) (rest : Rest) → History lines old known rest new → BreaksOff lines old new
 breaks_off lines old new known rest h =
@@ -128,14 +120,23 @@ breaks_inside lines old new newer known rest after d h read k w =
 pub at_last : (known : List Headed) (a b : ℕ) (lines : Rest) (e : Result (Option (Entry × Rest)) BookFault) → a ≡ b → read_from known a None lines ≡ e → read_from known b None lines ≡ e
 at_last known a b lines e is h = subst (λ (k : ℕ). read_from known k None lines ≡ e) is h
 
--- the next theorem has a line that is not licensed
-pub stops_with : (lines : Rest) (old new : Option (List ℕ)) (known : List Headed) (rest after : Rest) (t : Entry) (step : ℕ) (wanted : Wanted) (names : Names)
+-- the next theorem is refused
+pub stops_with : (lines : Rest) (old new : Option (List ℕ)) (known : List Headed) (rest after : Rest) (t : Entry) (step : ℕ) (wanted : Wanted) (values : Option (List (Term × ℕ))) (names : Names)
     → History lines old known rest new → read_from known (number_behind lines) None rest ≡ Ok (Some (t, after))
-    → IsFirstUnlicensed (stated t.statement) t.script step wanted
+    → IsRefused (stated t.statement) t.script step wanted values
     → Some names ≡ slice_get (names_lines (declared_names (stated t.statement) t.names) t.script) (step - 1)
-    → EndsWith lines old new (ends.Unlicensed t.title step wanted names)
-stops_with lines old new known rest after t step wanted names h read first named =
-    ends_with lines old new known rest (ends.Unlicensed t.title step wanted names) h (t, after, read, record { titled = refl; first = first; named = named })
+    → EndsWith lines old new (Refuses lines t.title step wanted values names)
+stops_with lines old new known rest after t step wanted values names h read refused named =
+    ends_with lines old new known rest (Refuses lines t.title step wanted values names) h (t, after, read, record { titled = refl; refused = refused; named = named })
+
+-- a line of the next theorem is too wide
+pub widens_with : (lines : Rest) (old new : Option (List ℕ)) (known : List Headed) (rest after : Rest) (t : Entry) (step : ℕ) (wanted : Wanted) (width : ℕ) (names : Names)
+    → History lines old known rest new → read_from known (number_behind lines) None rest ≡ Ok (Some (t, after))
+    → IsTooWideAt (stated t.statement) t.script step wanted width
+    → Some names ≡ slice_get (names_lines (declared_names (stated t.statement) t.names) t.script) (step - 1)
+    → EndsWith lines old new (Widens lines t.title step wanted width names)
+widens_with lines old new known rest after t step wanted width names h read too_wide named =
+    ends_with lines old new known rest (Widens lines t.title step wanted width names) h (t, after, read, record { titled = refl; too_wide = too_wide; named = named })
 
 -- the bytes that were written are the block of this derivation
 pub spelled_as : (old new : Option (List ℕ)) (xs ys : List ℕ) (d : Derived) → xs ≡ ys → ys ≡ block_of d → Grew old new xs → Grew old new (block_of d)
@@ -148,21 +149,9 @@ front_spelled_as old new xs ys d e f g = subst (λ (l : List ℕ). GrewByFront o
 pub stopped : (lines : Rest) (old new : Option (List ℕ)) (known : List Headed) (rest after : Rest) (t : Entry) (stop : Stop) (r : Result Ending Broken)
     → r ≡ stop_ending t.title stop → History lines old known rest new → read_from known (number_behind lines) None rest ≡ Ok (Some (t, after))
     → StopIs (stated t.statement) t.script stop → HasNames (stated t.statement) t.names t.script stop → BlocksAre lines old new r
-stopped lines old new known rest after t (stops.Unlicensed step wanted names) r e h read s k =
-    subst (BlocksAre lines old new) (sym e) (stops_with lines old new known rest after t step wanted names h read s k)
+stopped lines old new known rest after t (stops.Unlicensed step wanted values names) r e h read s k =
+    subst (BlocksAre lines old new) (sym e) (stops_with lines old new known rest after t step wanted values names h read s k)
+stopped lines old new known rest after t (stops.TooWide step wanted width names) r e h read s k =
+    subst (BlocksAre lines old new) (sym e) (widens_with lines old new known rest after t step wanted width names h read s k)
 stopped lines old new known rest after t stops.NoMemory r e h read s k =
     subst (BlocksAre lines old new) (sym e) (breaks_off lines old new known rest h)
-
--- what is read can be judged
-pub fitting : (known : List Headed) (t : Entry) → Fits known t → IsFitting (stated t.statement) t.script
-fitting known t f =
-    let points : (all_objects (stated t.statement)).points ≡ length t.names.points = ap (λ (s : Scope). s.points) f.scope in
-    let lines : (all_objects (stated t.statement)).lines ≡ length t.names.lines = ap (λ (s : Scope). s.lines) f.scope in
-    let circles : (all_objects (stated t.statement)).circles ≡ length t.names.circles = ap (λ (s : Scope). s.circles) f.scope in
-    record {
-      forms = f.script;
-      short = f.steps;
-      points = omega (arith, points, f.points);
-      lines = omega (arith, lines, f.lines);
-      circles = omega (arith, circles, f.circles);
-    }

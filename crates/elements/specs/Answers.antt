@@ -2,15 +2,18 @@
 use Rattle.std.specs.Prelude.{◌≡◌, ℕ, ◌+◌, ◌<◌, List, [], ◌∷◌, ◌++◌, map, take, length, codes, Option, Some, None}
 use Rattle.std.specs.List.{flat_map}
 use Rattle.e_io.specs.Bytes.{Grew, GrewByFront}
+use Rattle.e_literal.specs.declared.object.Term.{Term}
 use Rattle.e_theorem.specs.Statements.{stated}
+use Rattle.e_deriv.specs.declared.stop.Wanted.{Wanted}
 use Rattle.e_deriv.specs.declared.names.Names.{Names}
 use Rattle.e_deriv.specs.Script.{Script, erased}
 use Rattle.e_deriv.specs.Certified.{Certified}
+use Rattle.e_book.specs.Headed.{Headed}
 use Rattle.e_book.specs.Entry.{Entry}
-use Rattle.e_spell.specs.Spelling.{spelled, unlicensed_text}
+use Rattle.e_spell.specs.Spelling.{spelled, unlicensed_text, too_wide_text}
 use Rattle.elements.specs.declared.status.Status.{Status}
 use Rattle.elements.specs.declared.status.Status.TheVariants as status
-use Rattle.elements.specs.Outcome.{Rest, End, IsOutcome, IsFront, EndsBook, lines_of_book}
+use Rattle.elements.specs.Outcome.{Rest, End, Ends, NextIs, Begins, IsFront, EndsBook, RefusedAt, TooWideAt, HasWide, number_behind, lines_of_book}
 use Rattle.elements.specs.Outcome as ends
 use Rattle.elements.specs.LastLines.{head_line, accepted_line, fault_line, read_fault_line, no_memory_line, usage_line}
 
@@ -45,12 +48,29 @@ pub record HasBlock (theorem : Entry) (bytes : List ℕ) : Type 0 where
 abbrev pub written_with : List Derived → List ℕ → List ℕ
 written_with ds last = head_line ++ (flat_map block_of ds ++ last)
 
--- theorems with their derivations: the whole book, or those before the line at which it ends
-pub record Ended (lines : Rest) (end : End) (last out : List ℕ) : Type 0 where
+-- theorems with their derivations, which are the first of the book, and what holds behind them
+pub record Ended (lines : Rest) (Holds : List Headed → Rest → Type 0) (last out : List ℕ) : Type 0 where
   pub derived : List Derived
   pub sound : AllDerived derived
-  pub outcome : IsOutcome lines (theorems_of derived) end
+  pub known : List Headed
+  pub rest : Rest
+  pub begins : Begins lines (theorems_of derived) known rest
+  pub holds : Holds known rest
   pub bytes : out ≡ written_with derived last
+
+-- behind them the book ends so
+abbrev pub EndsSo : Rest → End → List Headed → Rest → Type 0
+EndsSo lines end known rest = Ends (number_behind lines) known rest end
+
+-- the next theorem is refused at this line
+abbrev pub Refuses : Rest → List ℕ → ℕ → Wanted → Option (List (Term × ℕ)) → Names → List Headed → Rest → Type 0
+Refuses lines title step wanted values names known rest =
+    NextIs (number_behind lines) known rest (λ t. RefusedAt t title step wanted values names)
+
+-- a line of the next theorem is too wide
+abbrev pub Widens : Rest → List ℕ → ℕ → Wanted → ℕ → Names → List Headed → Rest → Type 0
+Widens lines title step wanted width names known rest =
+    NextIs (number_behind lines) known rest (λ t. TooWideAt t title step wanted width names)
 
 -- theorems with their derivations: some of the first ones of the book
 pub record CutOff (lines : Rest) (last out : List ℕ) : Type 0 where
@@ -61,10 +81,12 @@ pub record CutOff (lines : Rest) (last out : List ℕ) : Type 0 where
 
 -- what is written in all under an answer to a book of these lines
 abbrev pub Outputs : Rest → Status → List ℕ → Type 0
-Outputs lines (status.Accepted n) out = Ended lines (ends.Accepted n) (accepted_line n) out
-Outputs lines (status.Unlicensed title step wanted) out =
-    (names : Names) × Ended lines (ends.Unlicensed title step wanted names) (unlicensed_text title step wanted names) out
-Outputs lines (status.Fault f) out = Ended lines (ends.Faulty f) (fault_line f) out
+Outputs lines (status.Accepted n) out = Ended lines (EndsSo lines (ends.Accepted n)) (accepted_line n) out
+Outputs lines (status.Unlicensed title step wanted values) out =
+    (names : Names) × Ended lines (Refuses lines title step wanted values names) (unlicensed_text title step wanted values names) out
+Outputs lines (status.TooWide title step wanted width) out =
+    (names : Names) × Ended lines (Widens lines title step wanted width names) (too_wide_text title step wanted width names) out
+Outputs lines (status.Fault f) out = Ended lines (EndsSo lines (ends.Faulty f)) (fault_line f) out
 Outputs lines status.ReadFault out = CutOff lines read_fault_line out
 Outputs lines status.NoMemory out = CutOff lines no_memory_line out
 Outputs lines status.WriteFault out = ⊥
@@ -88,25 +110,28 @@ pub record WroteFront (lines : Rest) (old new : Option (List ℕ)) : Type 0 wher
 abbrev pub Checks : Rest → Option (List ℕ) → Option (List ℕ) → Status → Type 0
 Checks lines old new status.WriteFault = WroteFront lines old new
 Checks lines old new (status.Accepted n) = WroteAll lines old new (status.Accepted n)
-Checks lines old new (status.Unlicensed title step wanted) = WroteAll lines old new (status.Unlicensed title step wanted)
+Checks lines old new (status.Unlicensed title step wanted values) = WroteAll lines old new (status.Unlicensed title step wanted values)
+Checks lines old new (status.TooWide title step wanted width) = WroteAll lines old new (status.TooWide title step wanted width)
 Checks lines old new (status.Fault f) = WroteAll lines old new (status.Fault f)
 Checks lines old new status.ReadFault = WroteAll lines old new status.ReadFault
 Checks lines old new status.NoMemory = WroteAll lines old new status.NoMemory
 Checks lines old new status.Usage = ⊥
 
--- the answer of an outcome; a fault of the source or the sink, and want of memory, can come in place of it
-abbrev pub IsAnswer : End → Status → Type 0
-IsAnswer (ends.Accepted n) (status.Accepted m) = m ≡ n
-IsAnswer (ends.Unlicensed title step wanted names) (status.Unlicensed p i w) = (p ≡ title) × (i ≡ step) × (w ≡ wanted)
-IsAnswer (ends.Faulty f) (status.Fault g) = g ≡ f
-IsAnswer end status.ReadFault = Unit {0}
-IsAnswer end status.WriteFault = Unit {0}
-IsAnswer end status.NoMemory = Unit {0}
-IsAnswer end other = ⊥
+-- the answer of an outcome, or that a line is too wide where one is that is reached; a fault of the source or the sink,
+-- and want of memory, can come in place of it
+abbrev pub IsAnswer : Rest → End → Status → Type 0
+IsAnswer lines (ends.Accepted n) (status.Accepted m) = m ≡ n
+IsAnswer lines (ends.Unlicensed title step wanted names) (status.Unlicensed p i w values) = (p ≡ title) × (i ≡ step) × (w ≡ wanted)
+IsAnswer lines (ends.Faulty f) (status.Fault g) = g ≡ f
+IsAnswer lines end (status.TooWide title step wanted width) = HasWide lines
+IsAnswer lines end status.ReadFault = Unit {0}
+IsAnswer lines end status.WriteFault = Unit {0}
+IsAnswer lines end status.NoMemory = Unit {0}
+IsAnswer lines end other = ⊥
 
 -- where a source tells its bytes, whatever the outcome of that book is, the answer is that
 abbrev pub Answers : Option (List ℕ) → Status → Type 0
-Answers left answer = (text : List ℕ) (end : End) → left ≡ Some text → EndsBook text end → IsAnswer end answer
+Answers left answer = (text : List ℕ) (end : End) → left ≡ Some text → EndsBook text end → IsAnswer (lines_of_book text) end answer
 
 -- where a source tells its bytes, the text is all of them
 abbrev pub IsAllOf : Option (List ℕ) → List ℕ → Type 0
@@ -132,7 +157,8 @@ IsAccepted _ = ⊥
 -- the status with which the program exits
 abbrev pub exit_of : Status → ℕ
 exit_of (status.Accepted n) = 0
-exit_of (status.Unlicensed title step wanted) = 1
+exit_of (status.Unlicensed title step wanted values) = 1
+exit_of (status.TooWide title step wanted width) = 8
 exit_of (status.Fault f) = 2
 exit_of status.Usage = 3
 exit_of status.ReadFault = 4

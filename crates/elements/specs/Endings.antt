@@ -12,15 +12,19 @@ use Rattle.e_spell.specs.Spelling.{stop_text, IsStop}
 use Rattle.elements.specs.declared.status.Status.{Status}
 use Rattle.elements.specs.declared.status.Status.TheVariants as status
 use Rattle.elements.specs.LastLines.{accepted_line, fault_line}
-use Rattle.elements.specs.Outcome.{Rest, End, IsOutcome, IsFront}
+use Rattle.e_book.specs.Headed.{Headed}
+use Rattle.elements.specs.Outcome.{Rest, Begins, IsFront}
 use Rattle.elements.specs.Outcome as ends
-use Rattle.elements.specs.Answers.{Derived, AllDerived, theorems_of, block_of}
+use Rattle.elements.specs.Answers.{Derived, AllDerived, EndsSo, Refuses, Widens, theorems_of, block_of}
 
--- the blocks of these theorems with their derivations were written, and the lines end so
-pub record EndsWith (lines : Rest) (old new : Option (List ℕ)) (end : End) : Type 0 where
+-- the blocks of these theorems with their derivations were written, and this holds behind them
+pub record EndsWith (lines : Rest) (old new : Option (List ℕ)) (Holds : List Headed → Rest → Type 0) : Type 0 where
   pub derived : List Derived
   pub sound : AllDerived derived
-  pub outcome : IsOutcome lines (theorems_of derived) end
+  pub known : List Headed
+  pub rest : Rest
+  pub begins : Begins lines (theorems_of derived) known rest
+  pub holds : Holds known rest
   pub grew : Grew old new (flat_map block_of derived)
 
 -- the blocks of some of the first theorems were written
@@ -41,13 +45,14 @@ pub record BreaksInside (lines : Rest) (old new : Option (List ℕ)) : Type 0 wh
 
 -- a stop that is no want of memory
 abbrev pub StopsWith : Rest → Option (List ℕ) → Option (List ℕ) → List ℕ → Stop → Type 0
-StopsWith lines old new title (stops.Unlicensed step wanted names) = EndsWith lines old new (ends.Unlicensed title step wanted names)
+StopsWith lines old new title (stops.Unlicensed step wanted values names) = EndsWith lines old new (Refuses lines title step wanted values names)
+StopsWith lines old new title (stops.TooWide step wanted width names) = EndsWith lines old new (Widens lines title step wanted width names)
 StopsWith lines old new title stops.NoMemory = ⊥
 
 abbrev pub EndingIs : Rest → Option (List ℕ) → Option (List ℕ) → Ending → Type 0
-EndingIs lines old new (All n) = EndsWith lines old new (ends.Accepted n)
+EndingIs lines old new (All n) = EndsWith lines old new (EndsSo lines (ends.Accepted n))
 EndingIs lines old new (Stopped title stop) = StopsWith lines old new title stop
-EndingIs lines old new (Faulty f) = EndsWith lines old new (ends.Faulty f)
+EndingIs lines old new (Faulty f) = EndsWith lines old new (EndsSo lines (ends.Faulty f))
 
 -- the blocks end so, or memory or the sink gave out
 abbrev pub BlocksAre : Rest → Option (List ℕ) → Option (List ℕ) → Result Ending Broken → Type 0
@@ -57,7 +62,8 @@ BlocksAre lines old new (Err WriteFault) = BreaksInside lines old new
 
 -- a stop ends the blocks, or was for want of memory
 abbrev pub stop_ending : List ℕ → Stop → Result Ending Broken
-stop_ending title (stops.Unlicensed step wanted names) = Ok (Stopped title (stops.Unlicensed step wanted names))
+stop_ending title (stops.Unlicensed step wanted values names) = Ok (Stopped title (stops.Unlicensed step wanted values names))
+stop_ending title (stops.TooWide step wanted width names) = Ok (Stopped title (stops.TooWide step wanted width names))
 stop_ending title stops.NoMemory = Err NoMemory
 
 -- the last lines of an ending
@@ -68,7 +74,8 @@ last_lines (Faulty f) = fault_line f
 
 -- the answer of a stop
 abbrev pub stop_answer : List ℕ → Stop → Status
-stop_answer title (stops.Unlicensed step wanted names) = status.Unlicensed title step wanted
+stop_answer title (stops.Unlicensed step wanted values names) = status.Unlicensed title step wanted values
+stop_answer title (stops.TooWide step wanted width names) = status.TooWide title step wanted width
 stop_answer title stops.NoMemory = status.NoMemory
 
 abbrev pub answer_of : Ending → Status

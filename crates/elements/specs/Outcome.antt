@@ -5,9 +5,11 @@ use Rattle.e_text.specs.declared.line.LineFault.{LineFault}
 use Rattle.e_theorem.specs.Statements.{stated}
 use Rattle.e_deriv.specs.declared.stop.Wanted.{Wanted}
 use Rattle.e_deriv.specs.declared.names.Names.{Names}
-use Rattle.e_deriv.specs.Lines.{proof_lines}
+use Rattle.e_literal.specs.declared.object.Term.{Term}
+use Rattle.e_deriv.specs.Lines.{Line, proof_lines}
 use Rattle.e_deriv.specs.Naming.{names_lines, declared_names}
-use Rattle.e_deriv.specs.Licensed.{AllLicensed, IsFirstUnlicensed}
+use Rattle.e_deriv.specs.Licensed.{AllLicensed, IsContext, IsFirstUnlicensed}
+use Rattle.e_deriv.specs.Refused.{IsRefused, IsWideLine, IsTooWideAt}
 use Rattle.e_book.specs.declared.fault.BookFault.{BookFault}
 use Rattle.e_book.specs.Headed.{Headed, headed}
 use Rattle.e_book.specs.Entry.{Entry}
@@ -41,11 +43,15 @@ pub record StopsAt (t : Entry) (title : List ℕ) (step : ℕ) (wanted : Wanted)
   pub first : IsFirstUnlicensed (stated t.statement) t.script step wanted
   pub named : Some names ≡ slice_get (names_lines (declared_names (stated t.statement) t.names) t.script) (step - 1)
 
+-- with this known, the next theorem of these lines is one of which this holds
+abbrev pub NextIs : ℕ → List Headed → Rest → (Entry → Type 0) → Type 0
+NextIs last known lines P = (t : Entry) × (after : Rest) × (read_from known last None lines ≡ Ok (Some (t, after))) × P t
+
 -- with this known, these lines end so
 abbrev pub Ends : ℕ → List Headed → Rest → End → Type 0
 Ends last known lines (Accepted n) = (read_from known last None lines ≡ Ok None) × (length known ≡ n)
 Ends last known lines (Unlicensed title step wanted names) =
-    (t : Entry) × (after : Rest) × (read_from known last None lines ≡ Ok (Some (t, after))) × StopsAt t title step wanted names
+    NextIs last known lines (λ t. StopsAt t title step wanted names)
 Ends last known lines (Faulty fault) = read_from known last None lines ≡ Err fault
 
 -- the number behind the last line
@@ -77,3 +83,33 @@ lines_of_book text = lines_of (record { longest = 1600; most = 4194304 }) (recor
 pub record EndsBook (text : List ℕ) (end : End) : Type 0 where
   pub theorems : List Entry
   pub outcome : IsOutcome (lines_of_book text) theorems end
+
+-- ---- how the judging of a theorem breaks off
+
+-- the theorem has this title, its line of this number is the first unlicensed one and lacks this, these values show it,
+-- and these are the names of the objects in scope before it
+pub record RefusedAt (t : Entry) (title : List ℕ) (step : ℕ) (wanted : Wanted) (values : Option (List (Term × ℕ))) (names : Names) : Type 0 where
+  pub titled : t.title ≡ title
+  pub refused : IsRefused (stated t.statement) t.script step wanted values
+  pub named : Some names ≡ slice_get (names_lines (declared_names (stated t.statement) t.names) t.script) (step - 1)
+
+-- each line before is licensed, and this one is too wide at what is wanted there
+pub record TooWideAt (t : Entry) (title : List ℕ) (step : ℕ) (wanted : Wanted) (width : ℕ) (names : Names) : Type 0 where
+  pub titled : t.title ≡ title
+  pub too_wide : IsTooWideAt (stated t.statement) t.script step wanted width
+  pub named : Some names ≡ slice_get (names_lines (declared_names (stated t.statement) t.names) t.script) (step - 1)
+
+-- a line of the theorem is wide, and each line before it is licensed
+pub record HasWideLine (t : Entry) : Type 0 where
+  pub step : ℕ
+  pub line : Line
+  pub context : IsContext (stated t.statement) t.script step line
+  pub is_wide : IsWideLine line
+
+-- in a theorem of these lines whose earlier ones are licensed, a line is wide, and each line before it is licensed
+pub record HasWide (lines : Rest) : Type 0 where
+  pub theorems : List Entry
+  pub known : List Headed
+  pub rest : Rest
+  pub begins : Begins lines theorems known rest
+  pub wide : NextIs (number_behind lines) known rest HasWideLine

@@ -1,9 +1,10 @@
 //! The blocks of a book: each theorem read, judged and written.
-ghost use Rattle.std.specs.Prelude.{◌≡◌, ◌≤◌, ◌<◌, ◌+◌, ◌^◌, length, IfOk, IfErr, IsErrOf};
+ghost use Rattle.std.specs.Prelude.{◌≡◌, ◌≤◌, ◌<◌, ◌+◌, ◌^◌, ◌++◌, ◌∷◌, [], false, length, IfOk, OnOk, IfErr, IsErrOf};
 ghost use Rattle.e_io.specs.Bytes.{Rose};
 ghost use Rattle.e_theorem.specs.Statements.{stated};
 ghost use Rattle.e_deriv.specs.Script.{script_of};
 ghost use Rattle.e_deriv.specs.Fitting.{IsFitting};
+ghost use Rattle.e_book.specs.Headed.{headed, is_known};
 ghost use Rattle.e_book.specs.Entry.{entry_of};
 ghost use Rattle.e_prove.specs.Stops.{StopIs, HasNames};
 ghost use Rattle.elements.specs.Answers.{HasBlock};
@@ -16,7 +17,7 @@ use e_prove::prove;
 use e_spell::spell;
 use e_text::{Lines, Title};
 use e_theorem::Statement;
-use std::alloc::Global;
+use std::alloc::{AllocError, Global};
 
 /// How the blocks of a book end.
 #[derive(Debug, Drop)]
@@ -57,6 +58,14 @@ fn stopped(title: Title, stop: Stop) -> Result<Ending, Broken>
     Ok(Ending::Stopped { title, stop })
 }
 
+/// Keeps the title and the statement of a theorem.
+fn keep(known: &mut Known, theorem: Theorem) -> Result<(), AllocError>
+    requires { is_known known.old theorem.title ≡ false }
+    ensures { OnOk result (known.new ≡ known.old ++ headed theorem.title theorem.statement ∷ []) }
+{
+    known.add(theorem.title, theorem.statement)
+}
+
 /// Takes the theorems one after another, and writes the block of each.
 pub fn blocks<K: Sink>(alloc: Global, lines: &mut Lines, sink: &mut K) -> Result<Ending, Broken>
     requires first { lines.old.line ≡ 1 }
@@ -81,7 +90,7 @@ pub fn blocks<K: Sink>(alloc: Global, lines: &mut Lines, sink: &mut K) -> Result
         let Ok(()) = write_all(sink, &block) else {
             return Err(Broken::WriteFault);
         };
-        let Ok(()) = known.add(theorem.title, theorem.statement) else {
+        let Ok(()) = keep(&mut known, theorem) else {
             return Err(Broken::NoMemory);
         };
         theorems += 1;

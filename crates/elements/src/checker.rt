@@ -50,10 +50,27 @@ fn stop_answer(title: Title, stop: Stop) -> Status
     ensures { result ≡ Rattle.elements.specs.Endings.stop_answer title stop }
 {
     match stop {
-        Stop::Unlicensed { step, wanted, .. } => Status::Unlicensed {
+        Stop::Unlicensed {
+            step,
+            wanted,
+            values,
+            ..
+        } => Status::Unlicensed {
             title,
             step,
             wanted,
+            values,
+        },
+        Stop::TooWide {
+            step,
+            wanted,
+            width,
+            ..
+        } => Status::TooWide {
+            title,
+            step,
+            wanted,
+            width,
         },
         Stop::NoMemory => Status::NoMemory,
     }

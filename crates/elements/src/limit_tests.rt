@@ -1,434 +1,132 @@
-//! Texts at a limit and one past it, told by a line that is repeated; and the ends of lines.
-use crate::{exit_code, run};
-use e_io::{MemSink, MemSource};
+//! Texts at a limit and one past it, told by a piece that is repeated; and the ends of lines.
+use crate::runs::{answer, part};
 use std::alloc::{AllocError, Global};
 use std::test::Fail;
 
-/// The room of a sink, in bytes.
-const ROOM: usize = 1 << 20;
-
-/// How many bytes are read or written at a time.
-const PIECE: usize = 1 << 12;
-
-/// A text of a head, a piece that is repeated, and a tail; the last line of the answer; and the exit status.
+/// Texts, each a head, a piece that is repeated, how often, and a tail; and the end of the answer.
 ///
-/// A slash ends a line. In a piece, each % is its number from 0, as three digits.
-#[derive(Clone, Copy)]
-struct Repeated {
-    head: &'static [u8],
-    piece: &'static [u8],
-    count: u32,
-    tail: &'static [u8],
-    last: &'static [u8],
-    exit: u8,
+/// In a piece, a percent sign is its number from 0, as three digits. A line that begins with a star says what is limited.
+fn limits() -> &'static str {
+    "\
+* The bytes of a line without its end: 1,600.
+ => # => 1600 => \r/ => accepted 0/exit 0
+/ => # => 1601 => / => fault 2 limit line-bytes/exit 2
+* before a byte that is not allowed
+ => ~ => 1601 => / => fault 1 limit line-bytes/exit 2
+ => ~ => 1600 => / => fault 1 malformed/exit 2
+* Theorems: 500.
+ => theorem T%/points a/given a = a/show a = a/proof/qed/end/ => 500 =>  => accepted 500/exit 0
+ => theorem T%/points a/given a = a/show a = a/proof/qed/end/ => 501 =>  => fault 3501 limit theorems/exit 2
+* after a title that is taken
+ => theorem T%/points a/given a = a/show a = a/proof/qed/end/ => 500 => theorem T000/ => fault 3501 name-taken/exit 2
+* Objects of a sort: 40, 24 and 16.
+theorem T/points =>  a% => 40 => /given a000 = a000/show a000 = a000/proof/qed/end/ => accepted 1/exit 0
+theorem T/points =>  a% => 41 => / => fault 2 limit points/exit 2
+theorem T/ => lines L%/ => 25 =>  => fault 26 limit lines/exit 2
+theorem T/circles B0 B1/circles =>  A% => 15 => / => fault 3 limit circles/exit 2
+* after a name that is taken
+theorem T/points =>  a% => 41 =>  a000/ => fault 2 name-taken/exit 2
+* Step and close lines: 1,024.
+theorem T/points a/given a = a/show a = a/proof/ => hence a = a/ => 1023 => qed/end/ => accepted 1/exit 0
+theorem T/points a/given a = a/show a = a/proof/ => hence a = a/ => 1024 => qed/end/ => fault 1030 limit steps/exit 2
+theorem T/points a/given a = a/show a = a/proof/ => hence a = a/ => 1025 =>  => fault 1030 limit steps/exit 2
+* Literals that are facts, repeats counted: 2,048.
+theorem T/points a/ => given a = a/ => 2048 => show a = a/proof/qed/end/ => accepted 1/exit 0
+theorem T/points a/ => given a = a/ => 2049 =>  => fault 2051 limit facts/exit 2
+theorem T/points a/ => given a = a ; a = a/ => 1020 => show a = a/proof/hence a = a/hence a = a/hence a = a/hence a = a/hence a = a/hence a = a/hence a = a/hence a = a/hence a = a/ => fault 1033 limit facts/exit 2
+* after a name that is not known
+theorem T/points a/ => given a = a/ => 2048 => given b = a/ => fault 2051 unknown-name/exit 2
+* Monomials of a literal: 32. Coefficients: 1,000,000. Monomials of the facts: 1,024.
+theorem T/points a b/given seg a b =>  + seg b a => 31 =>  = 0/show a = a/proof/hence 32 seg a b = 0/ => fault 7 unended/exit 2
+theorem T/points a b/given seg a b =>  + seg b a => 32 =>  = 0/ => fault 3 limit monomials/exit 2
+* after a name that is not known
+theorem T/points a b/given 0 = seg a b =>  + seg b a => 32 =>  ; on q q/ => fault 3 unknown-name/exit 2
+* a coefficient: 1,000,000
+theorem T/points a b/given  => 9 => 200 =>  seg a b = 0/ => fault 3 limit coefficient/exit 2
+theorem T/points a b/given 1 => 0 => 6 =>  seg a b = 0/ => fault 4 unended/exit 2
+theorem T/points a b/given on a q ; 1 => 0 => 7 =>  seg a b = 0/ => fault 3 unknown-name/exit 2
+* monomials of the facts: 1,024
+theorem T/points a/ => given right + right + right + right + right + right + right + right = 0/ => 128 => show right + right + right + right + right + right + right + right = 0/proof/qed/end/ => accepted 1/exit 0
+theorem T/points a/ => given right + right + right + right + right + right + right + right = 0/ => 129 =>  => fault 131 limit terms/exit 2"
 }
 
-/// The bytes of a book: 4,194,304.
-const BOOK_BYTES: [Repeated; 4] = [
-    Repeated {
-        head: b"",
-        piece: b"###############################/",
-        count: 131_072,
-        tail: b"",
-        last: b"accepted 0/",
-        exit: 0,
-    },
-    Repeated {
-        head: b"",
-        piece: b"###############################/",
-        count: 131_072,
-        tail: b"#",
-        last: b"fault 131073 limit bytes/",
-        exit: 2,
-    },
-    // before a byte that is not allowed
-    Repeated {
-        head: b"",
-        piece: b"###############################/",
-        count: 131_071,
-        tail: b"\x80################################",
-        last: b"fault 131072 limit bytes/",
-        exit: 2,
-    },
-    Repeated {
-        head: b"",
-        piece: b"###############################/",
-        count: 131_071,
-        tail: b"\x80###############################",
-        last: b"fault 131072 malformed/",
-        exit: 2,
-    },
-];
+/// Texts at the limit of a book and past it.
+fn long_texts() -> &'static str {
+    "\
+* The bytes of a book: 4,194,304. The limit comes before a byte that is not allowed.
+ => ###############################/ => 131072 =>  => accepted 0/exit 0
+ => ###############################/ => 131072 => # => fault 131073 limit bytes/exit 2
+ => ###############################/ => 131071 => ~################################ => fault 131072 limit bytes/exit 2"
+}
 
-/// The bytes of a line without its end: 1,600.
-const LINE_BYTES: [Repeated; 4] = [
-    Repeated {
-        head: b"",
-        piece: b"#",
-        count: 1_600,
-        tail: b"\r/",
-        last: b"accepted 0/",
-        exit: 0,
-    },
-    Repeated {
-        head: b"/",
-        piece: b"#",
-        count: 1_601,
-        tail: b"/",
-        last: b"fault 2 limit line-bytes/",
-        exit: 2,
-    },
-    // before a byte that is not allowed
-    Repeated {
-        head: b"",
-        piece: b"\x80",
-        count: 1_601,
-        tail: b"/",
-        last: b"fault 1 limit line-bytes/",
-        exit: 2,
-    },
-    Repeated {
-        head: b"",
-        piece: b"\x80",
-        count: 1_600,
-        tail: b"/",
-        last: b"fault 1 malformed/",
-        exit: 2,
-    },
-];
+/// Texts with other ends of lines, and the end of the answer.
+fn ends() -> &'static str {
+    "\
+theorem T\r/points a\r/given a = a\r/show a = a\r/proof\r/\r/  # a remark\r/qed\r/end\r/ => accepted 1/exit 0
+theorem T/points a/given a = a/show a = a/proof/qed/end => accepted 1/exit 0
+theorem T/points a/given a = a/show a = a/proof/qed/end\r => fault 7 malformed/exit 2
+# a remark\r and no line feed behind it/ => fault 1 malformed/exit 2
+theorem\tT/\tpoints\t\ta \t/given a = a/show a = a/proof/qed/end/ \t / => accepted 1/exit 0
+theorem T/points a\x7f/ => fault 2 malformed/exit 2"
+}
 
-/// Theorems: 500.
-const THEOREMS: [Repeated; 3] = [
-    Repeated {
-        head: b"",
-        piece: b"theorem T%/points a/given a = a/show a = a/proof/qed/end/",
-        count: 500,
-        tail: b"",
-        last: b"accepted 500/",
-        exit: 0,
-    },
-    Repeated {
-        head: b"",
-        piece: b"theorem T%/points a/given a = a/show a = a/proof/qed/end/",
-        count: 501,
-        tail: b"",
-        last: b"fault 3501 limit theorems/",
-        exit: 2,
-    },
-    // after a title that is taken
-    Repeated {
-        head: b"",
-        piece: b"theorem T%/points a/given a = a/show a = a/proof/qed/end/",
-        count: 500,
-        tail: b"theorem T000/",
-        last: b"fault 3501 name-taken/",
-        exit: 2,
-    },
-];
-
-/// Objects of a sort: 40, 24 and 16.
-const OBJECTS: [Repeated; 5] = [
-    Repeated {
-        head: b"theorem T/points",
-        piece: b" a%",
-        count: 40,
-        tail: b"/given a000 = a000/show a000 = a000/proof/qed/end/",
-        last: b"accepted 1/",
-        exit: 0,
-    },
-    Repeated {
-        head: b"theorem T/points",
-        piece: b" a%",
-        count: 41,
-        tail: b"/",
-        last: b"fault 2 limit points/",
-        exit: 2,
-    },
-    Repeated {
-        head: b"theorem T/",
-        piece: b"lines L%/",
-        count: 25,
-        tail: b"",
-        last: b"fault 26 limit lines/",
-        exit: 2,
-    },
-    Repeated {
-        head: b"theorem T/circles B0 B1/circles",
-        piece: b" A%",
-        count: 15,
-        tail: b"/",
-        last: b"fault 3 limit circles/",
-        exit: 2,
-    },
-    // after a name that is taken
-    Repeated {
-        head: b"theorem T/points",
-        piece: b" a%",
-        count: 41,
-        tail: b" a000/",
-        last: b"fault 2 name-taken/",
-        exit: 2,
-    },
-];
-
-/// Step and close lines: 1,024.
-const STEPS: [Repeated; 3] = [
-    Repeated {
-        head: b"theorem T/points a/given a = a/show a = a/proof/",
-        piece: b"hence a = a/",
-        count: 1_023,
-        tail: b"qed/end/",
-        last: b"accepted 1/",
-        exit: 0,
-    },
-    Repeated {
-        head: b"theorem T/points a/given a = a/show a = a/proof/",
-        piece: b"hence a = a/",
-        count: 1_024,
-        tail: b"qed/end/",
-        last: b"fault 1030 limit steps/",
-        exit: 2,
-    },
-    Repeated {
-        head: b"theorem T/points a/given a = a/show a = a/proof/",
-        piece: b"hence a = a/",
-        count: 1_025,
-        tail: b"",
-        last: b"fault 1030 limit steps/",
-        exit: 2,
-    },
-];
-
-/// Literals that are facts, repeats counted: 2,048.
-const FACTS: [Repeated; 4] = [
-    Repeated {
-        head: b"theorem T/points a/",
-        piece: b"given a = a/",
-        count: 2_048,
-        tail: b"show a = a/proof/qed/end/",
-        last: b"accepted 1/",
-        exit: 0,
-    },
-    Repeated {
-        head: b"theorem T/points a/",
-        piece: b"given a = a/",
-        count: 2_049,
-        tail: b"",
-        last: b"fault 2051 limit facts/",
-        exit: 2,
-    },
-    Repeated {
-        head: b"theorem T/points a/",
-        piece: b"given a = a ; a = a/",
-        count: 1_020,
-        tail: b"show a = a/proof/hence a = a/hence a = a/hence a = a/hence a = a/hence a = a/hence a = a/hence a = a/hence a = a/hence a = a/",
-        last: b"fault 1033 limit facts/",
-        exit: 2,
-    },
-    // after a name that is not known
-    Repeated {
-        head: b"theorem T/points a/",
-        piece: b"given a = a/",
-        count: 2_048,
-        tail: b"given b = a/",
-        last: b"fault 2051 unknown-name/",
-        exit: 2,
-    },
-];
-
-/// Monomials of a literal: 32. Coefficients: 1,000,000. Monomials of the facts: 1,024.
-const MAGNITUDES: [Repeated; 8] = [
-    Repeated {
-        head: b"theorem T/points a b/given seg a b",
-        piece: b" + seg b a",
-        count: 31,
-        tail: b" = 0/show a = a/proof/hence 32 seg a b = 0/",
-        last: b"fault 7 unended/",
-        exit: 2,
-    },
-    Repeated {
-        head: b"theorem T/points a b/given seg a b",
-        piece: b" + seg b a",
-        count: 32,
-        tail: b" = 0/",
-        last: b"fault 3 limit monomials/",
-        exit: 2,
-    },
-    // after a name that is not known
-    Repeated {
-        head: b"theorem T/points a b/given 0 = seg a b",
-        piece: b" + seg b a",
-        count: 32,
-        tail: b" ; on q q/",
-        last: b"fault 3 unknown-name/",
-        exit: 2,
-    },
-    // a coefficient: 1,000,000
-    Repeated {
-        head: b"theorem T/points a b/given ",
-        piece: b"9",
-        count: 200,
-        tail: b" seg a b = 0/",
-        last: b"fault 3 limit coefficient/",
-        exit: 2,
-    },
-    Repeated {
-        head: b"theorem T/points a b/given 1",
-        piece: b"0",
-        count: 6,
-        tail: b" seg a b = 0/",
-        last: b"fault 4 unended/",
-        exit: 2,
-    },
-    Repeated {
-        head: b"theorem T/points a b/given on a q ; 1",
-        piece: b"0",
-        count: 7,
-        tail: b" seg a b = 0/",
-        last: b"fault 3 unknown-name/",
-        exit: 2,
-    },
-    // monomials of the facts: 1,024
-    Repeated {
-        head: b"theorem T/points a/",
-        piece: b"given right + right + right + right + right + right + right + right = 0/",
-        count: 128,
-        tail: b"show right + right + right + right + right + right + right + right = 0/proof/qed/end/",
-        last: b"accepted 1/",
-        exit: 0,
-    },
-    Repeated {
-        head: b"theorem T/points a/",
-        piece: b"given right + right + right + right + right + right + right + right = 0/",
-        count: 129,
-        tail: b"",
-        last: b"fault 131 limit terms/",
-        exit: 2,
-    },
-];
-
-/// Texts with other ends of lines, and the last line of the answer. A slash ends a line with a line feed.
-const ENDS: [(&[u8], &[u8]); 6] = [
-    (
-        b"theorem T\r/points a\r/given a = a\r/show a = a\r/proof\r/\r/  # a remark\r/qed\r/end\r/",
-        b"accepted 1/",
-    ),
-    (
-        b"theorem T/points a/given a = a/show a = a/proof/qed/end",
-        b"accepted 1/",
-    ),
-    (
-        b"theorem T/points a/given a = a/show a = a/proof/qed/end\r",
-        b"fault 7 malformed/",
-    ),
-    (
-        b"# a remark\r and no line feed behind it/",
-        b"fault 1 malformed/",
-    ),
-    (
-        b"theorem\tT/\tpoints\t\ta \t/given a = a/show a = a/proof/qed/end/ \t /",
-        b"accepted 1/",
-    ),
-    (b"theorem T/points a\x7f/", b"fault 2 malformed/"),
-];
-
-/// Puts the bytes, with a line feed for a slash and the number for a %.
-fn put(out: &mut Vec<u8>, text: &[u8], number: u32) -> Result<(), AllocError> {
-    for byte in text {
-        match *byte {
-            b'/' => out.push(b'\n')?,
-            b'%' => {
-                for unit in [100, 10, 1] {
-                    out.push(b'0' + (number / unit % 10) as u8)?;
-                }
-            }
-            byte => out.push(byte)?,
+/// Puts the piece with this number.
+fn put_piece(alloc: Global, text: &mut String, piece: &str, number: u32) -> Result<(), AllocError> {
+    match piece.split_once('%') {
+        Some((before, behind)) => {
+            text.push_str(format!(in alloc; "{before}{number:03}{behind}")?.as_str())
         }
+        None => text.push_str(piece),
+    }
+}
+
+/// The text of a row.
+fn text(alloc: Global, row: &str) -> Result<String, AllocError> {
+    let mut text = String::from_str(alloc, part(row, 0))?;
+    for number in 0..part(row, 2).parse::<u32>().unwrap_or(0) {
+        put_piece(alloc, &mut text, part(row, 1), number)?;
+    }
+    text.push_str(part(row, 3))?;
+    Ok(text)
+}
+
+fn ends_so(answer: &str, end: &str) -> bool {
+    match answer.strip_suffix(end) {
+        Some(front) => front.ends_with('/'),
+        None => false,
+    }
+}
+
+/// Whether the text of the row is answered with its end.
+fn is_told(alloc: Global, row: &str) -> Result<bool, AllocError> {
+    if row.starts_with('*') {
+        return Ok(true);
+    }
+    let answer = answer(alloc, text(alloc, row)?.as_str())?;
+    Ok(ends_so(answer.as_str(), part(row, 4)))
+}
+
+#[test]
+fn texts_are_told_at_their_limits(rt: HostRuntime) -> Result<(), Fail> {
+    for row in limits().split('\n') {
+        assert!(rt; is_told(rt.alloc(), row)?, "{row}");
     }
     Ok(())
-}
-
-fn text_of(alloc: Global, row: &Repeated) -> Result<Vec<u8>, AllocError> {
-    let mut out = Vec::new(alloc);
-    put(&mut out, row.head, 0)?;
-    for number in 0..row.count {
-        put(&mut out, row.piece, number)?;
-    }
-    put(&mut out, row.tail, 0)?;
-    Ok(out)
-}
-
-/// Whether the text is answered with this last line and this status.
-fn ends_so(alloc: Global, text: &[u8], last: &[u8], exit: u8) -> Result<bool, AllocError> {
-    let mut wanted = vec![in alloc; b'\n']?;
-    put(&mut wanted, last, 0)?;
-    let words = vec![in alloc; String::from_str(alloc, "check")?]?;
-    let mut source = MemSource::new(Vec::from_slice(alloc, text)?, Vec::new(alloc), PIECE);
-    let mut sink = MemSink::new(alloc, ROOM, Vec::new(alloc), PIECE)?;
-    let status = run(alloc, &words, &mut source, &mut sink);
-    Ok(exit_code(&status) == exit && sink.bytes().ends_with(&wanted))
-}
-
-/// Whether each text is answered with its last line and its status.
-fn all_end_so(alloc: Global, rows: &[Repeated]) -> Result<bool, AllocError> {
-    for row in rows {
-        let text = text_of(alloc, row)?;
-        if !ends_so(alloc, &text, row.last, row.exit)? {
-            return Ok(false);
-        }
-    }
-    Ok(true)
 }
 
 #[test]
 fn a_book_has_its_bytes(rt: HostRuntime) -> Result<(), Fail> {
-    assert!(rt; all_end_so(rt.alloc(), &BOOK_BYTES)?);
-    Ok(())
-}
-
-#[test]
-fn a_line_has_its_bytes(rt: HostRuntime) -> Result<(), Fail> {
-    assert!(rt; all_end_so(rt.alloc(), &LINE_BYTES)?);
-    Ok(())
-}
-
-#[test]
-fn a_book_has_its_theorems(rt: HostRuntime) -> Result<(), Fail> {
-    assert!(rt; all_end_so(rt.alloc(), &THEOREMS)?);
-    Ok(())
-}
-
-#[test]
-fn a_scope_has_its_objects(rt: HostRuntime) -> Result<(), Fail> {
-    assert!(rt; all_end_so(rt.alloc(), &OBJECTS)?);
-    Ok(())
-}
-
-#[test]
-fn a_theorem_has_its_steps(rt: HostRuntime) -> Result<(), Fail> {
-    assert!(rt; all_end_so(rt.alloc(), &STEPS)?);
-    Ok(())
-}
-
-#[test]
-fn a_theorem_has_its_facts(rt: HostRuntime) -> Result<(), Fail> {
-    assert!(rt; all_end_so(rt.alloc(), &FACTS)?);
-    Ok(())
-}
-
-#[test]
-fn magnitudes_have_their_limits(rt: HostRuntime) -> Result<(), Fail> {
-    assert!(rt; all_end_so(rt.alloc(), &MAGNITUDES)?);
+    for row in long_texts().split('\n') {
+        assert!(rt; is_told(rt.alloc(), row)?, "{row}");
+    }
     Ok(())
 }
 
 #[test]
 fn lines_end_with_a_line_feed_or_both(rt: HostRuntime) -> Result<(), Fail> {
-    for (text, last) in ENDS {
-        let mut lines = Vec::new(rt.alloc());
-        put(&mut lines, text, 0)?;
-        let exit = if last.starts_with(b"accepted") { 0 } else { 2 };
-        assert!(rt; ends_so(rt.alloc(), &lines, last, exit)?);
+    for row in ends().split('\n') {
+        let answer = answer(rt.alloc(), part(row, 0))?;
+        assert!(rt; ends_so(answer.as_str(), part(row, 1)), "{row}");
     }
     Ok(())
 }

@@ -10,7 +10,13 @@ mod let_tests;
 #[cfg(test)]
 mod limit_tests;
 mod output;
+#[cfg(test)]
+mod refusal_tests;
+#[cfg(test)]
+mod rule_tests;
 mod runner;
+#[cfg(test)]
+mod runs;
 mod status;
 #[cfg(test)]
 mod tests;

@@ -24,10 +24,17 @@ fn is_check(words: &[String]) -> bool
 ///
 /// With the word `check` it reads a book from the source, and writes to the sink the line `derivation 1`, the block of
 /// each theorem with its derivation, and the last lines. With any other words it writes the usage line. The answers
-/// are those of `Status`: `Accepted` only where each theorem of the book has a derivation, and then the bytes written
-/// spell them; `Unlicensed` only where the named literal is not allowed at the named line and all lines before it are
-/// licensed; `Fault` only where that is the first fault of the book; `ReadFault` and `WriteFault` only where the count
-/// of faults of the source, or of the sink, rose in this call or stands at its last value.
+/// are those of `Status`:
+/// `Accepted` only where each theorem of the book has a derivation, every certificate of which is right at its own line, and
+/// then the bytes written spell them;
+/// `Unlicensed` only where all lines before the named one are licensed, and the named literal is not allowed there, or the
+/// facts there do not contradict each other where a contradiction is wanted; the values, which stand in the last lines for a
+/// metric literal and for a contradiction and for nothing else, make the facts true and the literal false;
+/// `TooWide` only where all lines before the named one are licensed, and a minor of a linear system of what is wanted
+/// there has size at least 2^63; the width is that of such a system;
+/// `Fault` only where that is the first fault of the book;
+/// `ReadFault` and `WriteFault` only where the count of faults of the source, or of the sink, rose in this call or stands at
+/// its last value.
 pub fn run<S: Source, K: Sink>(
     alloc: Global,
     words: &[String],

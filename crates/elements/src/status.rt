@@ -4,6 +4,7 @@ ghost use Rattle.elements.specs.Answers.{exit_of};
 
 use e_book::BookFault;
 use e_deriv::Wanted;
+use e_literal::Values;
 use e_text::Title;
 
 /// What a run answers.
@@ -18,6 +19,17 @@ pub enum Status {
         title: Title,
         step: u32,
         wanted: Wanted,
+        /// Where a metric literal or a contradiction is wanted: values of the terms of the step that show that it does not
+        /// follow.
+        values: Option<Values>,
+    },
+    /// Each line before is licensed, and a minor of a system of this one has size at least 2^63.
+    TooWide {
+        title: Title,
+        step: u32,
+        wanted: Wanted,
+        /// The width of the system.
+        width: u128,
     },
     /// The first fault of the book.
     Fault(BookFault),
@@ -43,5 +55,6 @@ pub fn exit_code(status: &Status) -> u8
         Status::ReadFault => 4,
         Status::WriteFault => 5,
         Status::NoMemory => 6,
+        Status::TooWide { .. } => 8,
     }
 }

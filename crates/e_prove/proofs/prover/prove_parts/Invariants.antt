@@ -8,7 +8,7 @@ abbrev pub invariant-loop-step : goal.invariant-loop-step
 invariant-loop-step l =
     let rest = steps_script (drop l.step-index l.block.steps.items) (close_script l.block.close) in
     record {
-      judged : IsJudgedTo (stated l.statement) l.names (script_of l.block) rest l.context l.steps.items l.step-index;
+      judged : IsJudgedTo (stated l.statement) l.names (script_of l.block) rest l.standing l.steps.items l.step-index;
       number : l.number ≡ l.step-index + 1;
       room : l.number + size rest ≡ 1 + size (script_of l.block);
     }

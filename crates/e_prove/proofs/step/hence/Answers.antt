@@ -1,15 +1,10 @@
 use Rattle.std.proofs.Common.{ap, ◌∙◌}
 use Rattle.e_literal.specs.Facts.{joined}
-use Rattle.e_prove.proofs.Licensing.{halt_map}
-use Rattle.e_prove.proofs.Judging.{judged_hence, hence_lacks}
+use Rattle.e_prove.proofs.Judging.{judged_hence}
 use Rattle.e_prove.proofs.step.hence.Goals as goal
 
-pub returns-in_ok-add-in-Some-clause-ok : goal.returns-in_ok-add-in-Some-clause-ok
-returns-in_ok-add-in-Some-clause-ok c written =
-    let x = c.args.context.now in
-    judged_hence c.args.lit.now c.in_ok-derived-in-Some.derived written c.in-Some.cert x _ c.in_ok-derived-in-Some.ensures c.in-Some.ensures.some
-    (ap (λ facts. record x { facts = facts }) (c.in_ok-add-in-Some.ensures.joined ∙ ap (joined x.facts) c.in_ok-copy-in-Some.ensures))
-
-pub returns-in-None-clause-err : goal.returns-in-None-clause-err
-returns-in-None-clause-err c =
-    halt_map _ _ c.lacking.result (λ w e written. hence_lacks c.args.lit.now written c.args.context.now w c.in-None.ensures.none e) c.lacking.ensures
+pub returns-clause-ok : goal.returns-clause-ok
+returns-clause-ok c written =
+    let x = c.args.standing.now in
+    judged_hence c.args.lit.now c.in_ok-derived.derived written c.in_ok-cert.cert x _ c.in_ok-derived.ensures c.in_ok-cert.ensures.ok
+    (ap (λ k. record x { context = k }) (c.in_ok-add.ensures.joined ∙ ap (λ l. record x.context { facts = joined x.context.facts l }) c.in_ok-copy.ensures))

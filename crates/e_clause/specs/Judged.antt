@@ -1,0 +1,26 @@
+-- What literals and facts are that a step is judged by: in scope, well formed, and not too many.
+use Rattle.std.specs.Prelude.{ℕ, List, length, Bool, ◌&&◌, nat_le}
+use Rattle.std.specs.List.{list_all}
+use Rattle.e_literal.specs.declared.object.Scope.{Scope}
+use Rattle.e_literal.specs.declared.literal.Lit.{Lit}
+use Rattle.e_literal.specs.Literal.{all_in_scope}
+use Rattle.e_literal.specs.WellFormed.{is_well_formed}
+use Rattle.e_clause.specs.Assignment.{terms_of_lits}
+
+-- the literal is in scope and well formed
+abbrev pub is_good : Scope → Lit → Bool
+is_good s l = all_in_scope s l && is_well_formed l
+
+abbrev pub are_good : Scope → List Lit → Bool
+are_good s ls = list_all (is_good s) ls
+
+-- so many terms may stand in the facts of a step
+abbrev pub most_terms : ℕ
+most_terms = 1100
+
+abbrev pub are_few : List Lit → Bool
+are_few facts = nat_le (length (terms_of_lits facts)) most_terms
+
+-- the facts are in scope and well formed, and their terms are few
+abbrev pub are_good_facts : Scope → List Lit → Bool
+are_good_facts s facts = are_good s facts && are_few facts

@@ -1,0 +1,15 @@
+//! The licence of one step: whether a literal is allowed by the facts in a scope, or the facts contradict each other, and
+//! why; or that it cannot be told, since a linear system of the step is wide.
+#![tactic(auto)]
+
+pub mod context;
+pub mod contradiction;
+pub mod licensing;
+pub mod limits;
+#[cfg(test)]
+mod tests;
+
+pub use context::Context;
+pub use contradiction::{Refuted, against};
+pub use licensing::{Licensed, licence};
+pub use limits::{are_good_facts, is_good};

@@ -1,0 +1,38 @@
+//! Tests of what is asked of the literals and the facts of a step.
+
+ghost use Rattle.std.specs.Prelude.{◌≡◌};
+ghost use Rattle.std.specs.List.{list_all};
+ghost use Rattle.e_literal.specs.Literal.{all_in_scope};
+ghost use Rattle.e_clause.specs.Judged;
+
+use e_facts::Facts;
+use e_literal::{Lit, Scope, in_scope};
+use e_metric::are_few_facts;
+use e_metric::limits::is_well_formed;
+
+/// Whether the literal is in scope and well formed.
+pub fn is_good(scope: Scope, lit: &Lit) -> bool
+    ensures { result ≡ Judged.is_good scope lit.now }
+{
+    in_scope(lit, scope) && is_well_formed(lit)
+}
+
+/// Whether the facts are in scope and well formed, and their terms are few.
+#[tactic(auto, using(crate::proofs::Judging::good_parts))]
+pub fn are_good_facts(scope: Scope, facts: &Facts) -> bool
+    ensures { result ≡ Judged.are_good_facts scope facts.now }
+{
+    are_in_scope(scope, facts) && are_few_facts(facts)
+}
+
+// Whether each fact is in scope.
+fn are_in_scope(scope: Scope, facts: &Facts) -> bool
+    ensures { result ≡ list_all (all_in_scope scope) facts.now }
+{
+    for i in 0..facts.len() {
+        if !in_scope(facts.get(i), scope) {
+            return false;
+        }
+    }
+    true
+}

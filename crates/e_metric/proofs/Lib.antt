@@ -1,0 +1,14 @@
+pub mod Forms
+pub mod FirstTerms
+pub mod Growing
+pub mod Alike
+pub mod Summing
+pub mod Certifying
+pub mod Weighing
+pub mod Order
+pub mod StepTerms
+pub mod Bounds
+pub mod Scoped
+pub mod Telling
+pub mod Following
+pub mod GoodSums

@@ -1,0 +1,8 @@
+use Rattle.std.proofs.Common.{◌≡◌, ◌∷◌, take, map}
+use Rattle.e_literal.specs.declared.object.Term.TheVariants.{Right}
+use Rattle.e_literal.specs.Same.{canonical}
+use Rattle.e_clause.specs.Assignment.{terms_of_lits}
+use Rattle.e_metric.proofs.assigning.terms_of_facts.Given as goal
+
+abbrev pub invariant-loop-i : goal.invariant-loop-i
+invariant-loop-i l = l.terms.items ≡ map canonical (Right ∷ terms_of_lits (take l.i l.facts))

@@ -1,0 +1,6 @@
+pub mod Joined
+pub mod Agree
+pub mod Listed
+pub mod Certificate
+pub mod Assigned
+pub mod Told

@@ -1,0 +1,178 @@
+// Certificates from multipliers of the rows of a system.
+
+ghost use Rattle.std.specs.Prelude.{◌≡◌, ℕ, ◌+◌, ◌<◌, ◌≤◌, ◌^◌, ◌++◌, ◌∷◌, [], length, get_or, set, pos, unsigned_abs, IfOk, OnOk, IsTrue};
+ghost use Rattle.e_literal.specs.Absurd;
+ghost use Rattle.e_fraction.specs.Limits.{all_small};
+ghost use Rattle.e_fraction.specs.Views.{weighed, all_seen};
+ghost use Rattle.e_simplex.specs.Answer.{IsAbsurdity};
+ghost use Rattle.e_clause.specs.declared.cert.RowName.TheVariants as name;
+ghost use Rattle.e_clause.specs.declared.cert.Sums.TheVariants.{Two as TwoSums};
+ghost use Rattle.e_metric.specs.Certificate;
+ghost use Rattle.e_metric.specs.Certificate.{leasts, IsWeighable};
+
+use e_clause::{RowName, Sum, Sums};
+use e_fraction::Row;
+use e_fraction::sum::total;
+use e_literal::compare::canonical;
+use e_literal::{Term, copy};
+use e_simplex::Absurdity;
+use std::alloc::{AllocError, Global};
+
+// An equal name.
+fn copied(alloc: Global, name: &RowName) -> Result<RowName, AllocError>
+    ensures { IfOk result (λ n. n ≡ name.now) }
+{
+    match name {
+        RowName::Fact(lit) => Ok(RowName::Fact(copy(alloc, lit)?)),
+        RowName::Goal => Ok(RowName::Goal),
+        RowName::Pos(term) => Ok(RowName::Pos(*term)),
+        RowName::Top(term) => Ok(RowName::Top(*term)),
+        RowName::Right => Ok(RowName::Right),
+        RowName::Least(term) => Ok(RowName::Least(*term)),
+        RowName::Above => Ok(RowName::Above),
+        RowName::Below => Ok(RowName::Below),
+    }
+}
+
+// Adds a row, unless its multiplier is 0.
+fn keep(
+    sum: &mut Vec<(i128, RowName)>,
+    alloc: Global,
+    name: &RowName,
+    multiplier: i128,
+) -> Result<(), AllocError>
+    ensures { OnOk result (sum.new.items ≡ sum.old.items ++ Certificate.kept (name.now ∷ []) (multiplier ∷ [])) }
+{
+    if multiplier != 0 {
+        sum.push((multiplier, copied(alloc, name)?))?;
+    }
+    Ok(())
+}
+
+// The rows whose multiplier is not 0.
+fn kept(
+    alloc: Global,
+    names: &[RowName],
+    multipliers: &[i128],
+) -> Result<Vec<(i128, RowName)>, AllocError>
+    requires { length multipliers.now ≡ length names.now }
+    ensures { IfOk result (λ v. v.items ≡ Certificate.kept names.now multipliers.now) }
+{
+    let mut sum = Vec::new(alloc);
+    for i in 0..names.len() {
+        keep(&mut sum, alloc, &names[i], multipliers[i])?;
+    }
+    Ok(sum)
+}
+
+// Where less than nothing is left of a term, adds as many times the row that says that it is at least 0.
+fn add_leasts(
+    sum: &mut Vec<(i128, RowName)>,
+    rows: &[Row],
+    weights: &[i128],
+    terms: &[Term],
+) -> Result<(), AllocError>
+    requires { IsWeighable rows.now weights.now }
+    ensures { OnOk result (sum.new.items ≡ sum.old.items ++ leasts (Absurd.total (weighed rows.now weights.now)) terms.now) }
+{
+    for term in terms {
+        let left = total(rows, weights, canonical(*term));
+        if left < 0 {
+            sum.push((-left, RowName::Least(*term)))?;
+        }
+    }
+    Ok(())
+}
+
+// The sum of the rows with these multipliers, and of what brings each term to 0, where it is weighed by these weights.
+fn sum_of(
+    alloc: Global,
+    names: &[RowName],
+    rows: &[Row],
+    multipliers: &[i128],
+    weights: &[i128],
+    terms: &[Term],
+) -> Result<Sum, AllocError>
+    requires names { length multipliers.now ≡ length names.now }
+    requires rows { IsWeighable rows.now weights.now }
+    ensures { IfOk result (λ s. s ≡ Certificate.sum_of names.now rows.now multipliers.now weights.now terms.now) }
+{
+    let mut sum = kept(alloc, names, multipliers)?;
+    add_leasts(&mut sum, rows, weights, terms)?;
+    Ok(Sum::new(sum))
+}
+
+// The multipliers, with the one at the place turned round.
+fn turned(alloc: Global, multipliers: &[i128], place: usize) -> Result<Vec<i128>, AllocError>
+    requires here { place < length multipliers.now }
+    requires small { unsigned_abs (get_or multipliers.now place (pos 0)) ≤ 2 ^ 80 }
+    ensures { IfOk result (λ v. v.items ≡ Certificate.turned multipliers.now place) }
+{
+    let mut weights = Vec::from_slice(alloc, multipliers)?;
+    weights[place] = -multipliers[place];
+    Ok(weights)
+}
+
+// Gives the row another name.
+fn name_row(names: &mut Vec<RowName>, row: usize, name: RowName)
+    requires { row < length names.old.items }
+    ensures { names.new.items ≡ set names.old.items row name }
+{
+    names[row] = name;
+}
+
+// The two sums where the row at `row` says that its form is not 0.
+fn two_sums(
+    alloc: Global,
+    mut names: Vec<RowName>,
+    rows: &[Row],
+    terms: &[Term],
+    row: usize,
+    above: &[i128],
+    below: &[i128],
+) -> Result<Sums, AllocError>
+    requires here { row < length names.items }
+    requires above_length { length above.now ≡ length names.items }
+    requires below_length { length below.now ≡ length names.items }
+    requires below_small { unsigned_abs (get_or below.now row (pos 0)) ≤ 2 ^ 80 }
+    requires first { IsWeighable rows.now above.now }
+    requires second { IsWeighable rows.now (Certificate.turned below.now row) }
+    ensures { IfOk result (λ s. s ≡ TwoSums (get_or names.items row name.Goal) (Certificate.sum_of (set names.items row name.Above) rows.now above.now above.now terms.now) (Certificate.sum_of (set names.items row name.Below) rows.now below.now (Certificate.turned below.now row) terms.now)) }
+{
+    let weights = turned(alloc, below, row)?;
+    let differs = copied(alloc, &names[row])?;
+    name_row(&mut names, row, RowName::Above);
+    let above = sum_of(alloc, &names, rows, above, above, terms)?;
+    name_row(&mut names, row, RowName::Below);
+    let below = sum_of(alloc, &names, rows, below, &weights, terms)?;
+    Ok(Sums::Two {
+        differs,
+        above,
+        below,
+    })
+}
+
+/// The sums that multipliers of the rows make.
+pub fn sums_of(
+    alloc: Global,
+    names: Vec<RowName>,
+    rows: &[Row],
+    terms: &[Term],
+    absurdity: &Absurdity,
+) -> Result<Sums, AllocError>
+    requires names { length names.items ≡ length rows.now }
+    requires few { length rows.now ≤ 4096 }
+    requires coefficients { IsTrue (all_small rows.now) }
+    requires refuted { IsAbsurdity (all_seen rows.now) absurdity.now }
+    ensures { IfOk result (λ s. s ≡ Certificate.sums_of names.items rows.now terms.now absurdity.now) }
+{
+    match absurdity {
+        Absurdity::One(multipliers) => {
+            let sum = sum_of(alloc, &names, rows, multipliers, multipliers, terms)?;
+            Ok(Sums::One(sum))
+        }
+        Absurdity::Two { row, above, below } => {
+            two_sums(alloc, names, rows, terms, *row, above, below)
+        }
+    }
+}

@@ -1,0 +1,218 @@
+// Whether a metric literal follows from the facts of a step, and whether they contradict each other.
+
+ghost use Rattle.std.specs.Prelude.{◌≡◌, ◌⊎◌, ◌≤◌, [], ◌∷◌, length, map, option_copied, IsTrue, IfOk, Some, None};
+ghost use Rattle.std.specs.List.{list_all};
+ghost use Rattle.e_literal.specs.WellFormed.{is_well_formed};
+ghost use Rattle.e_clause.specs.Assignment.{terms_of_lits};
+ghost use Rattle.e_clause.specs.Metric.{MetricConsequence, Unsatisfiable};
+ghost use Rattle.e_clause.specs.Laws.{is_good_wanted};
+ghost use Rattle.e_metric.specs.Listed.{listed};
+ghost use Rattle.e_metric.specs.Told.{IsTold, IsToldOf, IsYes, IfYes, IfNo};
+
+use crate::assigning::counterexample;
+use crate::certificates::sums_of;
+use crate::listing::{has_term, terms_of_kind};
+use crate::systems::system;
+use e_clause::{MetricCert, RowName};
+use e_facts::Facts;
+use e_fraction::Row;
+use e_literal::{Kind, Lit, Term, Values, kind};
+use e_simplex::{Verdict, decide, width};
+use std::alloc::{AllocError, Global};
+
+/// What is told of a metric literal, or of the facts alone.
+#[derive(Debug, Drop)]
+pub enum Metric {
+    /// The literal follows from the facts, or the facts contradict each other, by this certificate.
+    Yes(MetricCert),
+    /// It does not: with these values of the terms of the step the facts are true, and the literal is false.
+    No(Values),
+    /// One of the systems is wide, and has this width.
+    TooWide(u128),
+}
+
+// The names and the rows.
+fn split(alloc: Global, named: Vec<(RowName, Row)>) -> Result<(Vec<RowName>, Vec<Row>), AllocError>
+    ensures names { IfOk result (λ p. p.0.items ≡ map (λ q. q.0) named.items) }
+    ensures rows { IfOk result (λ p. p.1.items ≡ map (λ q. q.1) named.items) }
+{
+    let mut names = Vec::new(alloc);
+    let mut rows = Vec::new(alloc);
+    for (name, row) in named {
+        names.push(name)?;
+        rows.push(row)?;
+    }
+    Ok((names, rows))
+}
+
+// The terms of the facts of a kind and of the wanted literal, and right.
+fn summed_terms(
+    alloc: Global,
+    which: Kind,
+    facts: &Facts,
+    wanted: Option<&Lit>,
+) -> Result<Vec<Term>, AllocError>
+    ensures { IfOk result (λ v. v.items ≡ listed (Rattle.e_metric.specs.Listed.terms_of_kind which facts.now (option_copied wanted.entry)) (Term.Right ∷ [])) }
+{
+    let mut terms = terms_of_kind(alloc, which, facts, wanted)?;
+    if !has_term(&terms, Term::Right) {
+        terms.push(Term::Right)?;
+    }
+    Ok(terms)
+}
+
+// What the system of one kind tells.
+fn told_of(
+    alloc: Global,
+    which: Kind,
+    facts: &Facts,
+    wanted: Option<&Lit>,
+) -> Result<Metric, AllocError>
+    requires facts { IsTrue (list_all is_well_formed facts.now) }
+    requires few { length (terms_of_lits facts.now) ≤ 1100 }
+    requires wanted { IsTrue (is_good_wanted (option_copied wanted)) }
+    ensures { IfOk result (IsToldOf which facts.now (option_copied wanted.entry)) }
+{
+    let named = system(alloc, which, facts, wanted)?;
+    let (names, rows) = split(alloc, named)?;
+    match decide(alloc, &rows)? {
+        Verdict::Holds(values) => Ok(Metric::No(values)),
+        Verdict::TooWide => Ok(Metric::TooWide(width(&rows))),
+        Verdict::Absurd(absurdity) => {
+            let terms = summed_terms(alloc, which, facts, wanted)?;
+            let sums = sums_of(alloc, names, &rows, &terms, &absurdity)?;
+            Ok(Metric::Yes(MetricCert { sums }))
+        }
+    }
+}
+
+// What the systems of all kinds tell, where that of `which` is already told.
+fn told_from(
+    alloc: Global,
+    which: Kind,
+    own: Metric,
+    facts: &Facts,
+    wanted: Option<&Lit>,
+) -> Result<(Metric, Metric, Metric), AllocError>
+    requires facts { IsTrue (list_all is_well_formed facts.now) }
+    requires few { length (terms_of_lits facts.now) ≤ 1100 }
+    requires wanted { IsTrue (is_good_wanted (option_copied wanted)) }
+    requires own { IsToldOf which facts.now (option_copied wanted) own }
+    ensures segments { IfOk result (λ p. IsToldOf Kind.Segment facts.now (option_copied wanted.entry) p.0) }
+    ensures angles { IfOk result (λ p. IsToldOf Kind.Angle facts.now (option_copied wanted.entry) p.1) }
+    ensures areas { IfOk result (λ p. IsToldOf Kind.Area facts.now (option_copied wanted.entry) p.2) }
+{
+    match which {
+        Kind::Segment => {
+            let angles = told_of(alloc, Kind::Angle, facts, wanted)?;
+            let areas = told_of(alloc, Kind::Area, facts, wanted)?;
+            Ok((own, angles, areas))
+        }
+        Kind::Angle => {
+            let segments = told_of(alloc, Kind::Segment, facts, wanted)?;
+            let areas = told_of(alloc, Kind::Area, facts, wanted)?;
+            Ok((segments, own, areas))
+        }
+        Kind::Area => {
+            let segments = told_of(alloc, Kind::Segment, facts, wanted)?;
+            let angles = told_of(alloc, Kind::Angle, facts, wanted)?;
+            Ok((segments, angles, own))
+        }
+    }
+}
+
+// The second, if it is a certificate, or else the first.
+fn sooner(first: Metric, second: Metric) -> Metric
+    ensures { (result ≡ first) ⊎ (IsYes second × (result ≡ second)) }
+{
+    match second {
+        Metric::Yes(cert) => Metric::Yes(cert),
+        _ => first,
+    }
+}
+
+// What the systems of all kinds tell together.
+fn joined(
+    alloc: Global,
+    facts: &Facts,
+    wanted: Option<&Lit>,
+    segments: Metric,
+    angles: Metric,
+    areas: Metric,
+) -> Result<Metric, AllocError>
+    requires facts { IsTrue (list_all is_well_formed facts.now) }
+    requires wanted { IsTrue (is_good_wanted (option_copied wanted)) }
+    requires segments { IsToldOf Kind.Segment facts.now (option_copied wanted) segments }
+    requires angles { IsToldOf Kind.Angle facts.now (option_copied wanted) angles }
+    requires areas { IsToldOf Kind.Area facts.now (option_copied wanted) areas }
+    ensures { IfOk result (IsTold facts.now (option_copied wanted.entry)) }
+{
+    match segments {
+        Metric::No(segments) => match angles {
+            Metric::No(angles) => match areas {
+                Metric::No(areas) => {
+                    let values = counterexample(alloc, facts, wanted, &segments, &angles, &areas)?;
+                    Ok(Metric::No(values))
+                }
+                other => Ok(other),
+            },
+            other => Ok(sooner(other, areas)),
+        },
+        other => Ok(sooner(sooner(other, angles), areas)),
+    }
+}
+
+// What the three systems of the facts and of the wanted literal tell, that of a kind first.
+fn told(
+    alloc: Global,
+    which: Kind,
+    facts: &Facts,
+    wanted: Option<&Lit>,
+) -> Result<Metric, AllocError>
+    requires facts { IsTrue (list_all is_well_formed facts.now) }
+    requires few { length (terms_of_lits facts.now) ≤ 1100 }
+    requires wanted { IsTrue (is_good_wanted (option_copied wanted)) }
+    ensures { IfOk result (IsTold facts.now (option_copied wanted.entry)) }
+{
+    match told_of(alloc, which, facts, wanted)? {
+        Metric::Yes(cert) => Ok(Metric::Yes(cert)),
+        own => {
+            let (segments, angles, areas) = told_from(alloc, which, own, facts, wanted)?;
+            joined(alloc, facts, wanted, segments, angles, areas)
+        }
+    }
+}
+
+/// Whether the metric literal follows from the facts: whether each admissible assignment that makes the metric facts true
+/// makes it true. `Yes` with a certificate that names no objects but those of the facts and of the goal; `No` with values
+/// for the terms of the step with which the facts are true and the goal is false; `TooWide` with the width of one of
+/// the systems, only where some minor of its rows has size at least 2^63. Facts that contradict each other in any kind
+/// give every metric literal.
+///
+/// [`are_few_facts`] and [`is_good_goal`] test the conditions.
+///
+/// [`are_few_facts`]: crate::limits::are_few_facts
+/// [`is_good_goal`]: crate::limits::is_good_goal
+pub fn follows(alloc: Global, facts: &Facts, goal: &Lit) -> Result<Metric, AllocError>
+    requires facts { IsTrue (list_all is_well_formed facts.now) }
+    requires few { length (terms_of_lits facts.now) ≤ 1100 }
+    requires goal { IsTrue (is_good_wanted (Some goal.now)) }
+    ensures told { IfOk result (IsTold facts.now (Some goal.now)) }
+    ensures yes { IfOk result (λ m. IfYes m (MetricConsequence facts.now goal.now)) }
+    ensures no { IfOk result (λ m. IfNo m (¬ MetricConsequence facts.now goal.now)) }
+{
+    let which = kind(goal).unwrap_or(Kind::Segment);
+    told(alloc, which, facts, Some(goal))
+}
+
+/// Whether the metric facts contradict each other: whether no admissible assignment makes them all true. The answers
+/// are those of [`follows`], with no goal.
+pub fn absurd(alloc: Global, facts: &Facts) -> Result<Metric, AllocError>
+    requires facts { IsTrue (list_all is_well_formed facts.now) }
+    requires few { length (terms_of_lits facts.now) ≤ 1100 }
+    ensures told { IfOk result (IsTold facts.now None) }
+    ensures yes { IfOk result (λ m. IfYes m (Unsatisfiable facts.now)) }
+    ensures no { IfOk result (λ m. IfNo m (¬ Unsatisfiable facts.now)) }
+{
+    told(alloc, Kind::Segment, facts, None)
+}

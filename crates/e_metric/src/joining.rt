@@ -1,0 +1,99 @@
+// The difference of two sums, in which each term stands once.
+
+ghost use Rattle.std.specs.Prelude.{◌≡◌, ◌+◌, ◌<◌, ◌≤◌, ◌^◌, length, pos, OnOk, IfOk};
+ghost use Rattle.e_literal.specs.Rows;
+ghost use Rattle.e_literal.specs.Same.{one_term, coeff_of};
+ghost use Rattle.e_metric.specs.Joined.{with_term, with_terms};
+
+use e_fraction::signed::stands_in;
+use e_literal::compare::canonical;
+use e_literal::{Mono, Term};
+use std::alloc::{AllocError, Global};
+
+/// Whether the term is 0 in itself: a segment from a point to itself, or an area with a repeated point.
+pub fn is_degenerate(term: Term) -> bool
+    ensures { result ≡ Rows.is_degenerate term }
+{
+    match term {
+        Term::Seg(a, b) => a == b,
+        Term::Area(a, b, c) => a == b || b == c || a == c,
+        Term::Ang(_, _, _) | Term::Right => false,
+    }
+}
+
+/// Whether two terms are one.
+pub fn is_one_term(a: Term, b: Term) -> bool
+    ensures { result ≡ one_term a b }
+{
+    canonical(a) == canonical(b)
+}
+
+// The coefficient of a term in a sum, where equal terms are joined.
+fn coefficient(sum: &[Mono], term: Term) -> i64
+    requires { length sum.now ≤ 32 }
+    ensures value { result ≡ pos (coeff_of sum.now term) }
+    ensures bound { coeff_of sum.now term < 2 ^ 40 }
+{
+    let mut total: u64 = 0;
+    for m in sum {
+        if is_one_term(m.term, term) {
+            total += u64::from(m.coeff);
+        }
+    }
+    total as i64
+}
+
+// The coefficient of a term in the difference.
+fn difference(x: &[Mono], y: &[Mono], term: Term) -> i64
+    requires { length x.now + length y.now ≤ 32 }
+    ensures { result ≡ Rattle.e_metric.specs.Joined.difference x.now y.now term }
+{
+    coefficient(x, term) - coefficient(y, term)
+}
+
+// Puts the term with its coefficient in x - y last, unless it is 0 in itself, stands there or cancels.
+fn add_term(
+    form: &mut Vec<(i64, Term)>,
+    x: &[Mono],
+    y: &[Mono],
+    term: Term,
+) -> Result<(), AllocError>
+    requires { length x.now + length y.now ≤ 32 }
+    ensures { OnOk result (form.new.items ≡ with_term x.now y.now form.old.items term) }
+{
+    if is_degenerate(term) || stands_in(form, term) {
+        return Ok(());
+    }
+    let coefficient = difference(x, y, term);
+    if coefficient != 0 {
+        form.push((coefficient, term))?;
+    }
+    Ok(())
+}
+
+// Puts the terms of a sum last in which they do not stand.
+fn add_terms(
+    form: &mut Vec<(i64, Term)>,
+    x: &[Mono],
+    y: &[Mono],
+    sum: &[Mono],
+) -> Result<(), AllocError>
+    requires { length x.now + length y.now ≤ 32 }
+    ensures { OnOk result (form.new.items ≡ with_terms x.now y.now form.old.items sum.now) }
+{
+    for m in sum {
+        add_term(form, x, y, canonical(m.term))?;
+    }
+    Ok(())
+}
+
+/// The summands of x - y, each term once, where it stands first.
+pub fn joined(alloc: Global, x: &[Mono], y: &[Mono]) -> Result<Vec<(i64, Term)>, AllocError>
+    requires { length x.now + length y.now ≤ 32 }
+    ensures { IfOk result (λ v. v.items ≡ Rattle.e_metric.specs.Joined.joined x.now y.now) }
+{
+    let mut form = Vec::new(alloc);
+    add_terms(&mut form, x, y, x)?;
+    add_terms(&mut form, x, y, y)?;
+    Ok(form)
+}

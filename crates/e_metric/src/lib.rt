@@ -1,0 +1,18 @@
+//! Metric consequence: the rows that the facts of a step give for each kind of magnitude, whether a metric literal
+//! follows from them, and why, or values of the terms that show that it does not.
+#![tactic(auto)]
+
+pub mod assigning;
+pub mod certificates;
+pub mod consequence;
+pub mod joining;
+pub mod limits;
+pub mod listing;
+pub mod literals;
+pub mod systems;
+#[cfg(test)]
+mod tests;
+
+pub use consequence::{Metric, absurd, follows};
+pub use limits::{are_few_facts, is_good_goal};
+pub use systems::system;

@@ -1,0 +1,99 @@
+// The limits of facts and goals, as tests.
+
+ghost use Rattle.std.specs.Prelude.{◌≡◌, ◌<◌, ◌≤◌, ◌^◌, ◌&&◌, length, min, nat_le, Some};
+ghost use Rattle.std.specs.List.{list_all};
+ghost use Rattle.e_literal.specs.Literal.{kind_of_term, kind_of_sums};
+ghost use Rattle.e_literal.specs.WellFormed;
+ghost use Rattle.e_literal.specs.WellFormed.{same_kind, is_good_coefficient};
+ghost use Rattle.e_clause.specs.Assignment.{terms_of_atom, terms_of_lits};
+ghost use Rattle.e_clause.specs.Laws.{is_good_wanted};
+
+use e_facts::Facts;
+use e_literal::{Atom, Kind, Lit, Mono, Term, kind};
+
+// Whether the term is of the kind.
+fn is_of(which: Kind, term: Term) -> bool
+    ensures { result ≡ same_kind (kind_of_term term) which }
+{
+    match term {
+        Term::Seg(_, _) => which == Kind::Segment,
+        Term::Ang(_, _, _) | Term::Right => which == Kind::Angle,
+        Term::Area(_, _, _) => which == Kind::Area,
+    }
+}
+
+// Whether each monomial is of the kind, with a coefficient from 1 to 1,000,000.
+fn are_good(which: Kind, sum: &[Mono]) -> bool
+    ensures { result ≡ list_all (λ m. same_kind (kind_of_term m.term) which && is_good_coefficient m.coeff) sum.now }
+{
+    sum.iter().all(|m| is_of(which, m.term) && 1 <= m.coeff && m.coeff <= 1_000_000)
+}
+
+#[tactic(auto, using(crate::proofs::GoodSums::parts))]
+fn are_good_sums(which: Kind, x: &[Mono], y: &[Mono]) -> bool
+    requires { which ≡ kind_of_sums x.now y.now }
+    ensures { result ≡ WellFormed.are_good_sums x.now y.now }
+{
+    let monomials = x.len() + y.len();
+    1 <= monomials && monomials <= 32 && are_good(which, x) && are_good(which, y)
+}
+
+/// Whether the literal is well formed: a diagram literal, or one with 1 to 32 monomials of one kind with coefficients
+/// from 1 to 1,000,000.
+pub fn is_well_formed(lit: &Lit) -> bool
+    ensures { result ≡ WellFormed.is_well_formed lit.now }
+{
+    let which = kind(lit).unwrap_or(Kind::Segment);
+    match &lit.atom {
+        Atom::MagEq(x, y) | Atom::MagLt(x, y) => are_good_sums(which, x.items(), y.items()),
+        _ => true,
+    }
+}
+
+/// Whether the literal is a metric one, and well formed.
+pub fn is_good_goal(goal: &Lit) -> bool
+    ensures { result ≡ is_good_wanted (Some goal.now) }
+{
+    kind(goal).is_some() && is_well_formed(goal)
+}
+
+// How many monomials the literal has.
+fn monomials(lit: &Lit) -> usize
+    ensures value { result ≡ length (terms_of_atom lit.now.atom) }
+    ensures bound { result < 2 ^ 62 }
+{
+    match &lit.atom {
+        Atom::MagEq(x, y) | Atom::MagLt(x, y) => x.items().len() + y.items().len(),
+        _ => 0,
+    }
+}
+
+// Whether each fact is well formed.
+fn are_well_formed(facts: &Facts) -> bool
+    ensures { result ≡ list_all WellFormed.is_well_formed facts.now }
+{
+    for i in 0..facts.len() {
+        if !is_well_formed(facts.get(i)) {
+            return false;
+        }
+    }
+    true
+}
+
+// How many monomials the metric facts have, or 1,101.
+fn capped_monomials(facts: &Facts) -> usize
+    ensures { result ≡ min (length (terms_of_lits facts.now)) 1101 }
+{
+    let mut count = 0;
+    for i in 0..facts.len() {
+        count = (count + monomials(facts.get(i))).min(1101);
+    }
+    count
+}
+
+/// Whether each fact is well formed, and the metric facts have at most 1,100 monomials.
+pub fn are_few_facts(facts: &Facts) -> bool
+    ensures { result ≡ (list_all WellFormed.is_well_formed facts.now && nat_le (length (terms_of_lits facts.now)) 1100) }
+{
+    are_well_formed(facts) && capped_monomials(facts) <= 1100
+}

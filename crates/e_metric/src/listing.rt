@@ -1,0 +1,94 @@
+// The terms of the literals of a kind.
+
+ghost use Rattle.std.specs.Prelude.{◌≡◌, ◌++◌, ◌∷◌, [], map, option_copied, OnOk, IfOk};
+ghost use Rattle.e_literal.specs.Rows;
+ghost use Rattle.e_clause.specs.Assignment.{terms_of_atom, terms_of_lits};
+ghost use Rattle.e_clause.specs.System;
+ghost use Rattle.e_clause.specs.System.{of_kind};
+ghost use Rattle.e_metric.specs.Listed.{listed};
+
+use e_facts::Facts;
+use e_literal::compare::canonical;
+use e_literal::{Atom, Kind, Lit, Mono, Term, kind};
+use std::alloc::{AllocError, Global};
+
+/// Whether the literal is metric, and of this kind.
+pub fn is_of_kind(which: Kind, lit: &Lit) -> bool
+    ensures { result ≡ System.is_of_kind which lit.now }
+{
+    kind(lit) == Some(which)
+}
+
+/// Whether the term, or one that is the same term, is in the list.
+pub fn has_term(terms: &[Term], term: Term) -> bool
+    ensures { result ≡ Rows.has_term terms.now term }
+{
+    let wanted = canonical(term);
+    terms.iter().any(|t| wanted == canonical(*t))
+}
+
+// Puts the terms of a sum last that are none of those before.
+fn add_sum(terms: &mut Vec<Term>, sum: &[Mono]) -> Result<(), AllocError>
+    ensures { OnOk result (terms.new.items ≡ listed terms.old.items (map (λ m. m.term) sum.now)) }
+{
+    for m in sum {
+        if !has_term(terms, m.term) {
+            terms.push(m.term)?;
+        }
+    }
+    Ok(())
+}
+
+// Puts the terms of an atom last that are none of those before.
+#[tactic(auto, using(crate::proofs::FirstTerms::atom_terms))]
+fn add_atom(terms: &mut Vec<Term>, atom: &Atom) -> Result<(), AllocError>
+    ensures { OnOk result (terms.new.items ≡ listed terms.old.items (terms_of_atom atom.now)) }
+{
+    match atom {
+        Atom::MagEq(x, y) | Atom::MagLt(x, y) => {
+            add_sum(terms, x.items())?;
+            add_sum(terms, y.items())
+        }
+        _ => Ok(()),
+    }
+}
+
+// Puts the terms of a literal last that are none of those before, if it is of the kind.
+#[tactic(auto, using(crate::proofs::FirstTerms::literal_terms))]
+fn add_literal(terms: &mut Vec<Term>, which: Kind, lit: &Lit) -> Result<(), AllocError>
+    ensures { OnOk result (terms.new.items ≡ listed terms.old.items (terms_of_lits (of_kind which (lit.now ∷ [])))) }
+{
+    if is_of_kind(which, lit) {
+        add_atom(terms, &lit.atom)?;
+    }
+    Ok(())
+}
+
+// The terms of the facts of a kind.
+#[tactic(auto, using(crate::proofs::FirstTerms::fact_terms))]
+fn terms_of_facts(alloc: Global, which: Kind, facts: &Facts) -> Result<Vec<Term>, AllocError>
+    ensures { IfOk result (λ v. v.items ≡ listed [] (terms_of_lits (of_kind which facts.now))) }
+{
+    let mut terms = Vec::new(alloc);
+    for i in 0..facts.len() {
+        add_literal(&mut terms, which, facts.get(i))?;
+    }
+    Ok(terms)
+}
+
+/// The terms of the facts of a kind and of the wanted literal, if it is of the kind, each once, as it is written first.
+#[tactic(auto, using(crate::proofs::FirstTerms::all_terms))]
+pub fn terms_of_kind(
+    alloc: Global,
+    which: Kind,
+    facts: &Facts,
+    wanted: Option<&Lit>,
+) -> Result<Vec<Term>, AllocError>
+    ensures { IfOk result (λ v. v.items ≡ Rattle.e_metric.specs.Listed.terms_of_kind which facts.now (option_copied wanted.entry)) }
+{
+    let mut terms = terms_of_facts(alloc, which, facts)?;
+    if let Some(lit) = wanted {
+        add_literal(&mut terms, which, lit)?;
+    }
+    Ok(terms)
+}

@@ -1,0 +1,55 @@
+// Rows of metric literals.
+
+ghost use Rattle.std.specs.Prelude.{◌≡◌, ◌+◌, ◌≤◌, ◌++◌, length, IfOk, IsTrue};
+ghost use Rattle.std.specs.List.{list_all};
+ghost use Rattle.e_literal.specs.declared.object.Term.{Term};
+ghost use Rattle.e_literal.specs.Rows.{coefficient, normal_summands, plus, minus, row_of_atom};
+ghost use Rattle.e_literal.specs.WellFormed.{is_good_atom, is_good_coefficient};
+ghost use Rattle.e_fraction.specs.Limits.{has_small_coefficients};
+ghost use Rattle.e_metric.specs.Agree.{has_no_zero, IsRowOrNone, IsLimitedOrNone};
+
+use crate::joining::joined;
+use e_fraction::{Row, RowKind, Signed};
+use e_literal::{Atom, Mono};
+use std::alloc::{AllocError, Global};
+
+// The form x - y.
+fn difference(alloc: Global, x: &[Mono], y: &[Mono]) -> Result<Signed, AllocError>
+    requires few { length x.now + length y.now ≤ 32 }
+    requires left { IsTrue (list_all (λ m. is_good_coefficient m.coeff) x.now) }
+    requires right { IsTrue (list_all (λ m. is_good_coefficient m.coeff) y.now) }
+    ensures coefficients { IfOk result (λ f. (t : Term) → coefficient f t ≡ coefficient (normal_summands (plus x.now ++ minus y.now)) t) }
+    ensures no_zero { IfOk result (λ f. IsTrue (has_no_zero f)) }
+    ensures small { IfOk result (λ f. IsTrue (has_small_coefficients f)) }
+    ensures short { IfOk result (λ f. length f ≤ 32) }
+{
+    let summands = joined(alloc, x, y)?;
+    Ok(Signed::new(summands))
+}
+
+/// The row of an atom, or of its negation; none for a diagram atom.
+pub fn row_of(alloc: Global, atom: &Atom, neg: bool) -> Result<Option<Row>, AllocError>
+    requires { IsTrue (is_good_atom atom.now) }
+    ensures row { IfOk result (IsRowOrNone (row_of_atom atom.now neg)) }
+    ensures limited { IfOk result IsLimitedOrNone }
+{
+    match atom {
+        Atom::MagEq(x, y) => {
+            let kind = if neg { RowKind::Not } else { RowKind::Zero };
+            let form = difference(alloc, x.items(), y.items())?;
+            Ok(Some(Row { kind, form }))
+        }
+        Atom::MagLt(x, y) => {
+            if neg {
+                let form = difference(alloc, x.items(), y.items())?;
+                let kind = RowKind::AtLeast;
+                Ok(Some(Row { kind, form }))
+            } else {
+                let form = difference(alloc, y.items(), x.items())?;
+                let kind = RowKind::More;
+                Ok(Some(Row { kind, form }))
+            }
+        }
+        _ => Ok(None),
+    }
+}

@@ -1,0 +1,5 @@
+use Rattle.e_prove.proofs.Answering.{refused_there}
+use Rattle.e_prove.proofs.laws.refused_stops_there.Goals as goal
+
+pub returns : goal.returns
+returns c = refused_there

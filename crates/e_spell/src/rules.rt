@@ -1,0 +1,21 @@
+//! The names of rules.
+ghost use Rattle.std.specs.Prelude.{◌≡◌, ◌++◌, ◌∷◌, OnOk};
+ghost use Rattle.e_book.specs.Canonical.{rule_name};
+
+use crate::words::put;
+use e_clause::Rule;
+use std::alloc::AllocError;
+
+/// The name of a rule in the table.
+fn rule_name(rule: Rule) -> &'static [u8]
+    ensures { result.now ≡ rule_name rule }
+{
+    rule.name().as_bytes()
+}
+
+/// The name of a rule, behind a space.
+pub(crate) fn put_rule(out: &mut Vec<u8>, rule: Rule) -> Result<(), AllocError>
+    ensures { OnOk result (out.new.items ≡ out.old.items ++ 32 ∷ rule_name rule) }
+{
+    put(out, rule_name(rule))
+}

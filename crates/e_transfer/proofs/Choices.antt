@@ -1,0 +1,117 @@
+-- Choices, part by part.
+use Rattle.std.proofs.Common.{◌≡◌, ℕ, List, [], ◌∷◌, ◌++◌, ◌<◌, ◌≤◌, ◌-◌, inl, inr, sym, subst, ap, ◌∙◌, arith, length, take, drop, get_or}
+use Rattle.std.proofs.lemmas.List.{append_assoc, append-nil, take_all}
+use Rattle.e_transfer.specs.declared.walk.Span.{Span}
+use Rattle.e_transfer.specs.declared.walk.Verdict.{Verdict}
+use Rattle.e_transfer.specs.declared.walk.Verdict.TheVariants as verdict
+use Rattle.e_transfer.specs.declared.walk.Outcome.{Outcome}
+use Rattle.e_transfer.specs.declared.walk.Outcome.TheVariants as outcome
+use Rattle.e_transfer.specs.Choice.{Fits, NoneWanted, NoneBelow}
+use Rattle.e_transfer.specs.Outcome.{VerdictIs, OutcomeIs}
+
+-- the three predicates of a judge
+abbrev pub Kept : Type 1
+Kept = List ℕ → Type 0
+
+abbrev pub Shown : Type 0 → Type 1
+Shown P = List ℕ → P → Type 0
+
+abbrev pub Wide : Type 1
+Wide = List ℕ → ℕ → Type 0
+
+pub none_below_empty : (wanted : Kept) (before : List ℕ) (spans : List Span) → NoneBelow wanted before spans []
+none_below_empty wanted before spans [] fits below good = below
+none_below_empty wanted before spans (v ∷ vs) fits below good = below
+
+-- no choice with a number below this one first is wanted
+abbrev pub NoneUnder : Kept → List ℕ → List Span → ℕ → ℕ → Type 0
+NoneUnder wanted before rest from v = (u : ℕ) → from ≤ u → u < v → (d : List ℕ) → Fits rest d → wanted ((before ++ u ∷ []) ++ d) → ⊥
+
+-- a choice behind a number
+behind : (wanted : Kept) (before : List ℕ) (v : ℕ) (vs : List ℕ) → wanted (before ++ v ∷ vs) → wanted ((before ++ v ∷ []) ++ vs)
+behind wanted before v vs good = subst (λ (l : List ℕ). wanted l) (sym (append_assoc before (v ∷ []) vs)) good
+
+pub under_all : (wanted : Kept) (before : List ℕ) (rest : List Span) (n : Span) → NoneUnder wanted before rest n.from n.to → NoneWanted wanted before (n ∷ rest)
+under_all wanted before rest n none [] fits good = fits
+under_all wanted before rest n none (v ∷ vs) fits good = none v fits.0 fits.1 vs fits.2 (behind wanted before v vs good)
+
+pub below_one : (wanted : Kept) (before : List ℕ) (rest : List Span) (n : Span) (v : ℕ) (c : List ℕ) → NoneUnder wanted before rest n.from v →
+    NoneBelow wanted (before ++ v ∷ []) rest c → NoneBelow wanted before (n ∷ rest) (v ∷ c)
+below_one wanted before rest n v c none below [] fits under good = fits
+below_one wanted before rest n v c none below (u ∷ us) fits (inl less) good = none u fits.0 less us fits.2 (behind wanted before u us good)
+below_one wanted before rest n v c none below (u ∷ us) fits (inr (same, under)) good =
+    below us fits.2 under (subst (λ (x : ℕ). wanted ((before ++ x ∷ []) ++ us)) same (behind wanted before u us good))
+
+-- ---- the spans after the first
+
+abbrev pub none_span : Span
+none_span = record { from = 0; to = 0 }
+
+abbrev pub tail_of : List Span → List Span
+tail_of spans = take (length spans - 1) (drop 1 spans)
+
+pub split : (spans : List Span) → 1 ≤ length spans → spans ≡ get_or spans 0 none_span ∷ tail_of spans
+split [] some = absurd (omega (arith, some))
+split (n ∷ ns) some = ap (λ (l : List Span). n ∷ l) (sym (take_all (length (n ∷ ns) - 1) ns (omega arith)))
+
+pub all_refused : (wanted : Kept) (before : List ℕ) (spans : List Span) (n : ℕ) → 1 ≤ length spans → (get_or spans 0 none_span).to ≤ n
+    → NoneUnder wanted before (tail_of spans) (get_or spans 0 none_span).from n → NoneWanted wanted before spans
+all_refused wanted before spans n some most none =
+    subst (λ (s : List Span). NoneWanted wanted before s) (sym (split spans some))
+    (under_all wanted before (tail_of spans) (get_or spans 0 none_span) (λ u from less. none u from (omega (arith, less, most))))
+
+-- ---- verdicts
+
+pub verdict_keep : {P : Type 0} (kept : Kept) (shown : Shown P) (wide : Wide) (wanted : Kept) (before part : List ℕ) (v : Verdict P) (p : P) →
+    part ≡ before → v ≡ verdict.Keep p → VerdictIs kept shown wide wanted part v → kept before
+verdict_keep {P} kept shown wide wanted before part v p at is said =
+    subst (λ (b : List ℕ). kept b) at (subst (λ (x : Verdict P). VerdictIs kept shown wide wanted part x) is said).0
+
+pub verdict_refuse : {P : Type 0} (kept : Kept) (shown : Shown P) (wide : Wide) (wanted : Kept) (before part : List ℕ) (spans : List Span) (v : Verdict P) →
+    part ≡ before → v ≡ verdict.Refuse → VerdictIs kept shown wide wanted part v → NoneWanted wanted before spans
+verdict_refuse {P} kept shown wide wanted before part spans v at is said d fits good =
+    subst (λ (b : List ℕ). (rest : List ℕ) → wanted (b ++ rest) → ⊥) at (subst (λ (x : Verdict P). VerdictIs kept shown wide wanted part x) is said) d good
+
+pub verdict_stop : {P : Type 0} (kept : Kept) (shown : Shown P) (wide : Wide) (wanted : Kept) (before part : List ℕ) (spans : List Span) (v : Verdict P) (w : ℕ) →
+    part ≡ before → v ≡ verdict.Stop w → VerdictIs kept shown wide wanted part v → OutcomeIs kept shown wide wanted spans before before (outcome.Stop w)
+verdict_stop {P} kept shown wide wanted before part spans v w at is said = (
+  [],
+  tt,
+  sym (append-nil before),
+  subst (λ (b : List ℕ). wide b w) at (subst (λ (x : Verdict P). VerdictIs kept shown wide wanted part x) is said),
+  none_below_empty wanted before spans,
+)
+
+-- ---- one span further
+
+pub found_under : {P : Type 0} (kept : Kept) (shown : Shown P) (wide : Wide) (wanted : Kept) (before after : List ℕ) (rest : List Span) (n : Span) (v : ℕ) (p : P) →
+    n.from ≤ v → v < n.to → kept before → NoneUnder wanted before rest n.from v
+    → OutcomeIs kept shown wide wanted rest (before ++ v ∷ []) after (outcome.Found p) → OutcomeIs kept shown wide wanted (n ∷ rest) before after (outcome.Found p)
+found_under kept shown wide wanted before after rest n v p from less here none (c, fits, good, ends, proof, below) =
+    (v ∷ c, (from, less, fits), (here, good), ends ∙ append_assoc before (v ∷ []) c, proof, below_one wanted before rest n v c none below)
+
+pub stop_under : {P : Type 0} (kept : Kept) (shown : Shown P) (wide : Wide) (wanted : Kept) (before after : List ℕ) (rest : List Span) (n : Span) (v : ℕ) (w : ℕ) →
+    n.from ≤ v → v < n.to → NoneUnder wanted before rest n.from v
+    → OutcomeIs kept shown wide wanted rest (before ++ v ∷ []) after (outcome.Stop w) → OutcomeIs kept shown wide wanted (n ∷ rest) before after (outcome.Stop w)
+stop_under kept shown wide wanted before after rest n v w from less none (c, fits, ends, is, below) =
+    (v ∷ c, (from, less, fits), ends ∙ append_assoc before (v ∷ []) c, is, below_one wanted before rest n v c none below)
+
+pub found_one : {P : Type 0} (kept : Kept) (shown : Shown P) (wide : Wide) (wanted : Kept) (before mid after : List ℕ) (spans : List Span) (v : ℕ) (o : Outcome P) (p : P) →
+    1 ≤ length spans → (get_or spans 0 none_span).from ≤ v → v < (get_or spans 0 none_span).to → kept before
+    → NoneUnder wanted before (tail_of spans) (get_or spans 0 none_span).from v → mid ≡ before ++ v ∷ [] → o ≡ outcome.Found p
+    → OutcomeIs kept shown wide wanted (tail_of spans) mid after o → OutcomeIs kept shown wide wanted spans before after (outcome.Found p)
+found_one {P} kept shown wide wanted before mid after spans v o p some from less here none at is said =
+    subst (λ (s : List Span). OutcomeIs kept shown wide wanted s before after (outcome.Found p)) (sym (split spans some))
+    (found_under kept shown wide wanted before after (tail_of spans) (get_or spans 0 none_span) v p from less here none
+    (subst (λ (m : List ℕ). OutcomeIs kept shown wide wanted (tail_of spans) m after (outcome.Found p)) at
+    (subst (λ (x : Outcome P). OutcomeIs kept shown wide wanted (tail_of spans) mid after x) is said)))
+
+pub stop_one : {P : Type 0} (kept : Kept) (shown : Shown P) (wide : Wide) (wanted : Kept) (before mid after : List ℕ) (spans : List Span) (v : ℕ) (o : Outcome P) (w : ℕ) →
+    1 ≤ length spans → (get_or spans 0 none_span).from ≤ v → v < (get_or spans 0 none_span).to
+    → NoneUnder wanted before (tail_of spans) (get_or spans 0 none_span).from v → mid ≡ before ++ v ∷ [] → o ≡ outcome.Stop w
+    → OutcomeIs kept shown wide wanted (tail_of spans) mid after o → OutcomeIs kept shown wide wanted spans before after (outcome.Stop w)
+stop_one {P} kept shown wide wanted before mid after spans v o w some from less none at is said =
+    subst (λ (s : List Span). OutcomeIs kept shown wide wanted s before after (outcome.Stop w)) (sym (split spans some))
+    (stop_under kept shown wide wanted before after (tail_of spans) (get_or spans 0 none_span) v w from less none
+    (subst (λ (m : List ℕ). OutcomeIs kept shown wide wanted (tail_of spans) m after (outcome.Stop w)) at
+    (subst (λ (x : Outcome P). OutcomeIs kept shown wide wanted (tail_of spans) mid after x) is said)))

@@ -1,0 +1,14 @@
+pub mod Choices
+pub mod Elements
+pub mod Orders
+pub mod Seeding
+pub mod Tying
+pub mod Lists
+pub mod Planned
+pub mod Instances
+pub mod Needing
+pub mod Goods
+pub mod Clauses
+pub mod Placed
+pub mod Sweeping
+pub mod Modelling

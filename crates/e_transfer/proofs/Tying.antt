@@ -1,0 +1,42 @@
+-- Ties taken in one by one.
+use Rattle.std.proofs.Common.{◌≡◌, ℕ, zero, suc, List, [], ◌∷◌, refl, sym, ap, ◌∙◌, arith, Bool, true, false, true≢false, get_or, length, take, drop, ◌++◌, append-nil, ◌<◌, ◌+◌}
+use Rattle.std.proofs.lemmas.List.{take_all, drop_all}
+use Rattle.std.proofs.lemmas.List.Folds.{list_all_more}
+use Rattle.e_literal.proofs.Terms.{both, and_left, and_right}
+use Rattle.e_transfer.specs.declared.bind.Bind.{Bind}
+use Rattle.e_transfer.specs.declared.ties.Tie.{Tie}
+use Rattle.e_transfer.specs.Binding.{agrees, all_agree}
+use Rattle.e_transfer.specs.Ties.{TiesAgree, TakesIn}
+
+-- ---- the binds so far
+
+all_taken : (f : ℕ → ℕ) (bs : List Bind) (i : ℕ) → all_agree f bs ≡ true → all_agree f (take i bs) ≡ true
+all_taken f [] zero h = refl
+all_taken f [] (suc i) h = refl
+all_taken f (b ∷ bs) zero h = refl
+all_taken f (b ∷ bs) (suc i) h = both (agrees f b) (all_agree f (take i bs)) (and_left (agrees f b) (all_agree f bs) h) (all_taken f bs i (and_right (agrees f b) (all_agree f bs) h))
+
+one_taken : (f : ℕ → ℕ) (bs : List Bind) (i : ℕ) (d : Bind) → i < length bs → all_agree f (take (i + 1) bs) ≡ true
+    → (all_agree f (take i bs) ≡ true) × (agrees f (get_or bs i d) ≡ true)
+one_taken f bs i d less h =
+    let e = sym (list_all_more (agrees f) bs i d less) ∙ h in
+    (and_left (all_agree f (take i bs)) (agrees f (get_or bs i d)) e, and_right (all_agree f (take i bs)) (agrees f (get_or bs i d)) e)
+
+-- a vector whose slice was written
+pub whole : (n : ℕ) (new old : List Tie) → n ≡ length old → length new ≡ length old → take n (new ++ drop (length new) old) ≡ new
+whole n new old e k =
+    let all : drop (length new) old ≡ [] = drop_all (length new) old (omega (arith, k)) in
+    ap (λ l. take n (new ++ l)) all ∙ ap (take n) (append-nil new) ∙ take_all n new (omega (arith, e, k))
+
+abbrev pub AgreeSoFar : List Bind → ℕ → List Tie → Type 0
+AgreeSoFar bs i ts = (f : ℕ → ℕ) → all_agree f (take i bs) ≡ true → TiesAgree f ts
+
+-- one more bind
+pub more_agree : (bs : List Bind) (i : ℕ) (d : Bind) (old new : List Tie) (r : Bool) → i < length bs → TakesIn old new (get_or bs i d) r
+    → AgreeSoFar bs i old → AgreeSoFar bs (i + 1) new
+more_agree bs i d old new r less takes before f h = let both = one_taken f bs i d less h in (takes f (before f both.0) both.1).1
+
+pub none_agree : (bs : List Bind) (i : ℕ) (d : Bind) (old new : List Tie) (r : Bool) → i < length bs → TakesIn old new (get_or bs i d) r
+    → AgreeSoFar bs i old → r ≡ false → (f : ℕ → ℕ) → all_agree f bs ≡ true → ⊥
+none_agree bs i d old new r less takes before fails f h =
+    let both = one_taken f bs i d less (all_taken f bs (i + 1) h) in true≢false (sym (takes f (before f both.0) both.1).0 ∙ fails)

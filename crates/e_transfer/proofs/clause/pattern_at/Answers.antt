@@ -1,0 +1,8 @@
+use Rattle.e_transfer.proofs.Clauses.{premise_at, conclusion_at}
+use Rattle.e_transfer.proofs.clause.pattern_at.Goals as goal
+
+pub returns-then-at-premises : goal.returns-then-at-premises
+returns-then-at-premises c = premise_at c.args.row.now.premises.now c.args.row.now.conclusions.now c.args.at _ c.if-at-premises.true
+
+pub returns-else-at-premises : goal.returns-else-at-premises
+returns-else-at-premises c = conclusion_at c.args.row.now.premises.now c.args.row.now.conclusions.now c.args.at _ c.if-at-premises.false c.requires

@@ -1,0 +1,29 @@
+use Rattle.std.proofs.Common.{◌≡◌, ◌∙◌, ap, sym}
+use Rattle.std.specs.Prelude.{is_some, Some}
+use Rattle.e_literal.specs.Facts.{is_metric}
+use Rattle.e_literal.proofs.Terms.{both, and_left}
+use Rattle.e_clause.specs.Judged.{are_good, are_few}
+use Rattle.e_clause.specs.MetricCertificate.{sums_refute}
+use Rattle.e_transfer.proofs.Needing.{facts_well, facts_over, told_yes}
+use Rattle.e_transfer.proofs.Modelling.{insufficient}
+use Rattle.e_transfer.proofs.leaf.part_of.Goals as goal
+
+pub follows-requires-clause-facts : goal.follows-requires-clause-facts
+follows-requires-clause-facts c =
+    let s = c.args.sought.now in
+    facts_well s.scope s.facts.now (and_left (are_good s.scope s.facts.now) (are_few s.facts.now) s.good)
+
+pub returns-in-Yes : goal.returns-in-Yes
+returns-in-Yes c =
+    let s = c.args.sought.now in
+    let need = c.args.need.now in
+    let yes = told_yes s.facts.now need _ c.in-Yes.cert c.in-Yes.is c.in_ok-cert.ensures.told in
+    record {
+      certifies = both (is_metric need) (sums_refute s.facts.now (Some need) c.in-Yes.cert.sums) (ap is_some (sym c.kind.ensures) ∙ c.if-is_none.ensures) yes.refutes;
+      over = yes.scoped s.scope (facts_over s.scope s.facts.now (and_left (are_good s.scope s.facts.now) (are_few s.facts.now) s.good)) c.requires.in_scope;
+    }
+
+pub returns-then-is_refuted : goal.returns-then-is_refuted
+returns-then-is_refuted c =
+    let s = c.args.sought.now in
+    insufficient s.means s.facts.now c.args.need.now (sym c.has.ensures ∙ c.if-has.false) (c.is_refuted.ensures c.if-is_refuted.true)

@@ -1,0 +1,11 @@
+pub mod Choice
+pub mod Outcome
+pub mod Binding
+pub mod Seeds
+pub mod Ties
+pub mod Part
+pub mod Planning
+pub mod Giving
+pub mod Placing
+pub mod Found
+pub mod Models

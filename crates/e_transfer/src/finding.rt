@@ -1,0 +1,127 @@
+// Whether a literal is a transfer consequence.
+
+ghost use Rattle.std.specs.Prelude.{◌≡◌, IfOk, IsTrue, IsFalse};
+ghost use Rattle.e_literal.specs.Facts.{has};
+ghost use Rattle.e_clause.specs.Judged.{are_good_facts, is_good};
+ghost use Rattle.e_clause.specs.Wide.{TransferFromFacts};
+ghost use Rattle.e_transfer.specs.Found.{IsFound};
+ghost use Rattle.e_transfer.specs.Giving.{IsWideTransfer};
+
+use crate::models::are_of_model;
+use crate::sought::{Means, Sought};
+use crate::sweep::sweep;
+use crate::walk::Outcome;
+use e_clause::TransferCert;
+use e_facts::Facts;
+use e_literal::{Lit, Scope, Term};
+use e_metric::{Metric, absurd};
+use std::alloc::{AllocError, Global};
+
+/// What is said of a goal.
+#[derive(Debug, Drop)]
+pub enum Found {
+    /// An instance of a transfer clause gives it, for these reasons.
+    Yes(TransferCert),
+    /// No instance over the scope gives it.
+    No,
+    /// It cannot be told: a metric literal that an instance needs has a system that is too wide, of this width.
+    TooWide(u128),
+}
+
+/// Whether one instance of a transfer clause over the scope gives the goal, and why.
+///
+/// `Yes` with a certificate that is good for the goal; `No` where no instance gives it. `TooWide` where neither facts
+/// alone give it, nor metric literals that follow from the facts by narrow systems, and an instance whose diagram
+/// literals stand needs a metric literal with a wide system, of this width. It fails only for want of memory.
+pub fn find(alloc: Global, scope: Scope, facts: &Facts, goal: &Lit) -> Result<Found, AllocError>
+    requires facts { IsTrue (are_good_facts scope facts.now) }
+    requires goal { IsTrue (is_good scope goal.now) }
+    requires not_fact { IsFalse (has facts.now goal.now) }
+    ensures { IfOk result (IsFound scope facts.now goal.now) }
+{
+    let sought = Sought {
+        scope,
+        facts,
+        goal,
+        means: Means::Facts,
+        values: &[],
+        plain_model: false,
+        spread_model: false,
+    };
+    match sweep(alloc, &sought)? {
+        Outcome::Found(cert) => Ok(Found::Yes(cert)),
+        Outcome::Nothing => find_by_sums(alloc, scope, facts, goal),
+        Outcome::Stop(_) => unreachable!(),
+    }
+}
+
+/// The same, where facts alone do not give the goal. Values with which all metric facts are true, if there are any, show of
+/// most metric literals that they do not follow.
+fn find_by_sums(alloc: Global, scope: Scope, facts: &Facts, goal: &Lit) -> Result<Found, AllocError>
+    requires facts { IsTrue (are_good_facts scope facts.now) }
+    requires not_plain { ¬ TransferFromFacts scope facts.now goal.now }
+    ensures { IfOk result (IsFound scope facts.now goal.now) }
+{
+    match absurd(alloc, facts)? {
+        Metric::No(values) => find_by_values(alloc, scope, facts, goal, values.items()),
+        _ => find_by_values(alloc, scope, facts, goal, &[]),
+    }
+}
+
+/// The same, with values of terms.
+fn find_by_values(
+    alloc: Global,
+    scope: Scope,
+    facts: &Facts,
+    goal: &Lit,
+    values: &[(Term, u128)],
+) -> Result<Found, AllocError>
+    requires facts { IsTrue (are_good_facts scope facts.now) }
+    requires not_plain { ¬ TransferFromFacts scope facts.now goal.now }
+    ensures { IfOk result (IsFound scope facts.now goal.now) }
+{
+    let sought = Sought {
+        scope,
+        facts,
+        goal,
+        means: Means::Sums,
+        values,
+        plain_model: are_of_model(facts, false, values),
+        spread_model: are_of_model(facts, true, values),
+    };
+    match sweep(alloc, &sought)? {
+        Outcome::Found(cert) => Ok(Found::Yes(cert)),
+        Outcome::Nothing => Ok(Found::No),
+        Outcome::Stop(width) => find_beside_wide(alloc, scope, facts, goal, values, width),
+    }
+}
+
+/// The same, where besides a literal that an instance needs has a wide system, of this width.
+fn find_beside_wide(
+    alloc: Global,
+    scope: Scope,
+    facts: &Facts,
+    goal: &Lit,
+    values: &[(Term, u128)],
+    width: u128,
+) -> Result<Found, AllocError>
+    requires facts { IsTrue (are_good_facts scope facts.now) }
+    requires not_plain { ¬ TransferFromFacts scope facts.now goal.now }
+    requires wide { IsWideTransfer scope facts.now goal.now width }
+    ensures { IfOk result (IsFound scope facts.now goal.now) }
+{
+    let sought = Sought {
+        scope,
+        facts,
+        goal,
+        means: Means::NarrowSums,
+        values,
+        plain_model: are_of_model(facts, false, values),
+        spread_model: are_of_model(facts, true, values),
+    };
+    match sweep(alloc, &sought)? {
+        Outcome::Found(cert) => Ok(Found::Yes(cert)),
+        Outcome::Nothing => Ok(Found::TooWide(width)),
+        Outcome::Stop(_) => unreachable!(),
+    }
+}

@@ -1,0 +1,37 @@
+// What is sought, and by what.
+
+ghost use Rattle.std.specs.Prelude.{IsTrue, not, ◌||◌, true, false};
+ghost use Rattle.e_clause.specs.Judged.{are_good_facts};
+ghost use Rattle.e_transfer.specs.Models.{is_model, value_by};
+
+use e_facts::Facts;
+use e_literal::{Lit, Scope, Term};
+
+/// How the literals may stand that an instance needs.
+#[derive(Clone, Copy, PartialEq, Eq, Debug)]
+pub enum Means {
+    /// Each has to be a fact.
+    Facts,
+    /// A metric one may also follow from the facts.
+    Sums,
+    /// A metric one may also follow from the facts, if none of its systems is wide.
+    NarrowSums,
+}
+
+/// The goal, and the facts of a step, which are in scope and well formed, and not too many for a metric question.
+#[derive(Clone, Copy)]
+pub struct Sought<'a> {
+    pub scope: Scope,
+    pub facts: &'a Facts,
+    pub goal: &'a Lit,
+    pub means: Means,
+    /// Values of terms.
+    pub values: &'a [(Term, u128)],
+    /// Whether they are those of a model of the facts, with one default value.
+    pub plain_model: bool,
+    /// Whether they are those of a model of the facts, with default values that are spread.
+    pub spread_model: bool,
+    ghost good: { IsTrue (are_good_facts scope facts.now) },
+    ghost plain: { IsTrue (not plain_model || is_model facts.now (value_by false values.now)) },
+    ghost spread: { IsTrue (not spread_model || is_model facts.now (value_by true values.now)) },
+}

@@ -1,0 +1,82 @@
+//! Runs of the program over memory, for the tests.
+//!
+//! In the texts of tests a slash ends a line, and a tilde is a byte that no book may hold.
+use crate::{exit_code, run};
+use e_io::{MemSink, MemSource};
+use std::alloc::{AllocError, Global};
+
+/// The room of a sink, in bytes.
+const ROOM: usize = 1 << 20;
+
+/// How many bytes are read at a time.
+const READ: usize = 1 << 12;
+
+/// How many bytes are written at a time.
+const WRITTEN: usize = 16;
+
+/// The exit status and the bytes of a run.
+#[derive(Drop)]
+pub struct Answered {
+    pub exit: u8,
+    pub out: Vec<u8>,
+}
+
+/// Runs the program with a word on a text, with the calls of the source and of the sink that fail.
+pub fn ran(
+    alloc: Global,
+    word: &str,
+    text: Vec<u8>,
+    unread: &[u64],
+    unwritten: &[u64],
+) -> Result<Answered, AllocError> {
+    let words = vec![in alloc; String::from_str(alloc, word)?]?;
+    let mut source = MemSource::new(text, Vec::from_slice(alloc, unread)?, READ);
+    let mut sink = MemSink::new(alloc, ROOM, Vec::from_slice(alloc, unwritten)?, WRITTEN)?;
+    let status = run(alloc, &words, &mut source, &mut sink);
+    Ok(Answered {
+        exit: exit_code(&status),
+        out: Vec::from_slice(alloc, sink.bytes())?,
+    })
+}
+
+/// The bytes of a text of a test.
+pub fn unfolded(alloc: Global, text: &str) -> Result<Vec<u8>, AllocError> {
+    let mut out = Vec::new(alloc);
+    for byte in text.as_bytes() {
+        out.push(match *byte {
+            b'/' => b'\n',
+            b'~' => 0x80,
+            other => other,
+        })?;
+    }
+    Ok(out)
+}
+
+/// What `check` answers to a book: the lines that it writes, and the exit status.
+pub fn answer(alloc: Global, book: &str) -> Result<String, AllocError> {
+    let ran = ran(alloc, "check", unfolded(alloc, book)?, &[], &[])?;
+    let mut text = String::new(alloc);
+    for line in str::from_utf8(&ran.out).unwrap_or("").lines() {
+        text.push_str(line)?;
+        text.push_str("/")?;
+    }
+    text.push_str(format!(in alloc; "exit {}", ran.exit)?.as_str())?;
+    Ok(text)
+}
+
+/// The same without the lines that begin with a bar.
+pub fn steps_answer(alloc: Global, book: &str) -> Result<String, AllocError> {
+    let mut text = String::new(alloc);
+    for line in answer(alloc, book)?.as_str().split('/') {
+        if !line.starts_with('|') {
+            text.push_str(line)?;
+            text.push_str("/")?;
+        }
+    }
+    Ok(text)
+}
+
+/// The part of a row of a test that stands there between its marks ` => `.
+pub fn part<'a>(row: &'a str, number: usize) -> &'a str {
+    row.split(" => ").nth(number).unwrap_or("")
+}
