@@ -16,6 +16,8 @@ import tempfile
 
 RUNS = 5
 POINTS = (5, 10, 20, 40)
+# the call that decides one linear system
+QUESTION = "e_metric::consequence::told_of"
 
 
 def names(letter, count):
@@ -86,16 +88,19 @@ def questions(program, path):
         out = os.path.join(folder, "calls")
         with open(path, "rb") as text:
             subprocess.run([valgrind, "--tool=callgrind", f"--callgrind-out-file={out}", program, "check"], stdin=text, stdout=subprocess.DEVNULL, stderr=subprocess.DEVNULL)
-        calls, named, wanted = 0, {}, False
+        calls, named, called = 0, {}, ""
         for line in open(out):
-            found = re.match(r"cfn=\((\d+)\)(?: (.*))?", line)
+            found = re.match(r"(c?)fn=\((\d+)\)(?: (.*))?", line)
             if found:
-                if found.group(2):
-                    named[found.group(1)] = found.group(2)
-                wanted = "e_simplex" in named.get(found.group(1), "") and "decide_counting" in named.get(found.group(1), "")
-            elif wanted and line.startswith("calls="):
-                calls += int(line[6:].split()[0])
-                wanted = False
+                number, name = found.group(2), found.group(3)
+                if name:
+                    named[number] = name
+                if found.group(1):
+                    called = named.get(number, "")
+            elif line.startswith("calls="):
+                if called.startswith(QUESTION):
+                    calls += int(line[6:].split()[0])
+                called = ""
         return calls
 
 
