@@ -16,8 +16,8 @@ import tempfile
 
 RUNS = 5
 POINTS = (5, 10, 20, 40)
-# the call that decides one linear system
-QUESTION = "e_metric::consequence::told_of"
+# the calls that decide one linear system: the facts' rows, a goal's beside them, and rows from nothing
+QUESTIONS = ("e_simplex::settled::settle", "e_simplex::settled::Settled::decide_with", "e_simplex::decision::decide_counting")
 
 
 def names(letter, count):
@@ -98,7 +98,7 @@ def questions(program, path):
                 if found.group(1):
                     called = named.get(number, "")
             elif line.startswith("calls="):
-                if called.startswith(QUESTION):
+                if called.startswith(QUESTIONS):
                     calls += int(line[6:].split()[0])
                 called = ""
         return calls

@@ -1,7 +1,6 @@
--- What the constructions and the close of a draft are known to be, and so the script that its steps make.
-use Rattle.std.proofs.Common.{◌≡◌, ℕ, ◌+◌, ◌≤◌, Bool, true, false, cond, eqb, ◌&&◌, inl, inr, List, [], ◌∷◌, ◌++◌, length, Result, Ok, refl, sym, ap, subst, ◌∙◌, arith, length-append}
+-- What a construction, a superposition and a close line that are read are known to be.
+use Rattle.std.proofs.Common.{◌≡◌, ℕ, Bool, true, false, cond, eqb, ltb, inl, inr, List, [], ◌∷◌, ◌++◌, length, Result, Ok, refl, sym, ap, subst, ◌∙◌, arith, length-append}
 use Rattle.std.specs.Prelude.{◌⊎◌, map}
-use Rattle.std.specs.List.{list_all}
 use Rattle.std.proofs.lemmas.Bool.{eqb-true}
 use Rattle.std.proofs.lemmas.List.{length-take-le}
 use Rattle.e_literal.specs.declared.object.Sort.{Sort}
@@ -9,32 +8,25 @@ use Rattle.e_literal.specs.declared.object.Sort.TheVariants.{Point, Line, Circle
 use Rattle.e_literal.specs.declared.object.Obj.{Obj}
 use Rattle.e_literal.specs.declared.object.Scope.{Scope}
 use Rattle.e_literal.specs.declared.literal.Lit.{Lit}
-use Rattle.e_literal.specs.Literal.{count_of, all_in_scope}
-use Rattle.e_literal.specs.Facts.{joined, joined_all}
 use Rattle.e_literal.specs.Scopes.{same_sort, with_one, grown, next_objects, are_of_sorts}
 use Rattle.e_literal.specs.Use.{Stated, scope_of}
 use Rattle.e_construct.specs.declared.construction.Shape.{Shape}
 use Rattle.e_construct.specs.declared.construction.Construction.{Construction}
-use Rattle.e_construct.specs.Construct.{fits, made, gives}
+use Rattle.e_construct.specs.declared.superpose.Superpose.{Superpose}
+use Rattle.e_construct.specs.Construct.{fits, made}
+use Rattle.e_construct.specs.Superposing as superposing
+pub use Rattle.e_construct.proofs.Moving.{grows}
 use Rattle.e_deriv.specs.declared.names.Names.{Names}
-use Rattle.e_deriv.specs.declared.block.Step.{Step}
-use Rattle.e_deriv.specs.declared.block.Step.TheVariants as steps
-use Rattle.e_deriv.specs.Script.{steps_script, size}
-use Rattle.e_deriv.specs.Goal.{Goal, are_for}
-use Rattle.e_deriv.specs.Lines.{lines}
-use Rattle.e_deriv.specs.Steps.{is_citation, fits as line_fits}
 use Rattle.e_deriv.specs.Naming.{names_of_sort, with_names, named, declared_names}
 use Rattle.e_deriv.specs.Fitting.{all_objects}
 use Rattle.e_book.specs.declared.fault.Kind.{Kind}
 use Rattle.e_book.specs.declared.lets.RawLet.{RawLet}
-use Rattle.e_book.specs.declared.steps.CloseLine.{CloseLine}
-use Rattle.e_book.specs.declared.steps.CloseLine.TheVariants as closes
+use Rattle.e_book.specs.declared.superposes.RawSuperpose.{RawSuperpose}
 use Rattle.e_book.specs.Reading.{◌>>=◌, each}
-use Rattle.e_book.specs.Scope.{scope_of_names, used, object_as, fresh, right_count, construction, arguments_in, first_fitting, let_in, objects_of_sorts, qed_in}
-use Rattle.e_book.specs.Steps.{few_objects}
-use Rattle.e_book.specs.Entry.{script_of_close}
-use Rattle.e_book.specs.Fits.{NewNamesFit, count_given}
-use Rattle.e_book.proofs.InScope.{bind_ok, ok_is, read_ok}
+use Rattle.e_book.specs.Superposes.{superpose, placed_in, superpose_in}
+use Rattle.e_book.specs.Scope.{scope_of_names, used, number_of, object_as, fresh, right_count, construction, arguments_in, first_fitting, let_in, lits_in, objects_of_sorts, qed_in}
+use Rattle.e_book.proofs.Answered.{and}
+use Rattle.e_book.proofs.InScope.{bind_ok, ok_is, read_ok, number_in_scope}
 use Rattle.e_book.proofs.Citations.{object_scope, object_sort, counted}
 
 -- ---- a construction that is read
@@ -74,6 +66,42 @@ let_fits ns l form e =
       count = eqb-true (length l.new) (length (made d.0)) (counted _ r.0 r.1);
     })
 
+-- ---- a superposition that is read
+
+placed_fits : (ns : Names) (args : List (List ℕ)) (form : Superpose) → placed_in ns args ≡ Ok form → superposing.fits form (scope_of_names ns) ≡ true
+unfolding placed_in
+placed_fits ns (a ∷ b ∷ c ∷ k ∷ d ∷ g ∷ h ∷ l ∷ []) form e =
+    let na = bind_ok (number_of ns Point a) (λ na. number_of ns Point b >>= λ nb. number_of ns Point c >>= λ nc. number_of ns Line k >>= λ nk. number_of ns Point d >>= λ nd. number_of ns Point g >>= λ ng. number_of ns Point h >>= λ nh. number_of ns Line l >>= λ nl. read_ok (superpose na nb nc nd ng nh nk nl)) form e in
+    let nb = bind_ok (number_of ns Point b) (λ nb. number_of ns Point c >>= λ nc. number_of ns Line k >>= λ nk. number_of ns Point d >>= λ nd. number_of ns Point g >>= λ ng. number_of ns Point h >>= λ nh. number_of ns Line l >>= λ nl. read_ok (superpose na.0 nb nc nd ng nh nk nl)) form na.2 in
+    let nc = bind_ok (number_of ns Point c) (λ nc. number_of ns Line k >>= λ nk. number_of ns Point d >>= λ nd. number_of ns Point g >>= λ ng. number_of ns Point h >>= λ nh. number_of ns Line l >>= λ nl. read_ok (superpose na.0 nb.0 nc nd ng nh nk nl)) form nb.2 in
+    let nk = bind_ok (number_of ns Line k) (λ nk. number_of ns Point d >>= λ nd. number_of ns Point g >>= λ ng. number_of ns Point h >>= λ nh. number_of ns Line l >>= λ nl. read_ok (superpose na.0 nb.0 nc.0 nd ng nh nk nl)) form nc.2 in
+    let nd = bind_ok (number_of ns Point d) (λ nd. number_of ns Point g >>= λ ng. number_of ns Point h >>= λ nh. number_of ns Line l >>= λ nl. read_ok (superpose na.0 nb.0 nc.0 nd ng nh nk.0 nl)) form nk.2 in
+    let ng = bind_ok (number_of ns Point g) (λ ng. number_of ns Point h >>= λ nh. number_of ns Line l >>= λ nl. read_ok (superpose na.0 nb.0 nc.0 nd.0 ng nh nk.0 nl)) form nd.2 in
+    let nh = bind_ok (number_of ns Point h) (λ nh. number_of ns Line l >>= λ nl. read_ok (superpose na.0 nb.0 nc.0 nd.0 ng.0 nh nk.0 nl)) form ng.2 in
+    let nl = bind_ok (number_of ns Line l) (λ nl. read_ok (superpose na.0 nb.0 nc.0 nd.0 ng.0 nh.0 nk.0 nl)) form nh.2 in
+    let point : (name : List ℕ) (n : ℕ) → number_of ns Point name ≡ Ok n → ltb n (length ns.points) ≡ true = λ name n i. number_in_scope ns Point name n i in
+    let line : (name : List ℕ) (n : ℕ) → number_of ns Line name ≡ Ok n → ltb n (length ns.lines) ≡ true = λ name n i. number_in_scope ns Line name n i in
+    subst (λ (x : Superpose). superposing.fits x (scope_of_names ns) ≡ true) (ok_is (superpose na.0 nb.0 nc.0 nd.0 ng.0 nh.0 nk.0 nl.0) form nl.2)
+    (and _ _ (point a na.0 na.1) (and _ _ (point b nb.0 nb.1) (and _ _ (point c nc.0 nc.1) (and _ _ (point d nd.0 nd.1)
+    (and _ _ (point g ng.0 ng.1) (and _ _ (point h nh.0 nh.1) (and _ _ (line k nk.0 nk.1) (and _ _ (line l nl.0 nl.1) refl))))))))
+placed_fits ns args form e = absurd cc
+
+-- it fits, its new names are free, and its literals have the names of objects around it
+pub record GoodCopy (ns : Names) (raw : RawSuperpose) (form : Superpose) (shown : List Lit) : Type 0 where
+  pub fits : superposing.fits form (scope_of_names ns) ≡ true
+  pub free : fresh ns [] raw.new ≡ Ok tt
+  pub lits : lits_in ns raw.shown ≡ Ok shown
+
+pub superpose_fits : (ns : Names) (raw : RawSuperpose) (p : Superpose × List Lit) → superpose_in ns raw ≡ Ok p → GoodCopy ns raw p.0 p.1
+unfolding superpose_in
+superpose_fits ns raw p e =
+    let both_of : Superpose → List Lit → Superpose × List Lit = λ form ls. (form, ls) in
+    let form = bind_ok (placed_in ns raw.args) (λ form. fresh ns [] raw.new >>= λ free. lits_in ns raw.shown >>= λ ls. read_ok (both_of form ls)) p e in
+    let free = bind_ok (fresh ns [] raw.new) (λ free. lits_in ns raw.shown >>= λ ls. read_ok (both_of form.0 ls)) p form.2 in
+    let ls = bind_ok (lits_in ns raw.shown) (λ ls. read_ok (both_of form.0 ls)) p free.2 in
+    subst (λ (x : Superpose × List Lit). GoodCopy ns raw x.0 x.1) (ok_is (both_of form.0 ls.0) p ls.2)
+    (record { fits = placed_fits ns raw.args form.0 form.1; free = free.1; lits = ls.1 })
+
 -- ---- a close that is read
 
 same_turned : (a b : Sort) → same_sort a b ≡ true → same_sort b a ≡ true
@@ -107,24 +135,6 @@ pub sorts_again : (s : Scope) (sorts : List Sort) → map (λ (o : Obj). o.sort)
 sorts_again s [] = refl
 sorts_again s (x ∷ sorts) = ap (λ (l : List Sort). x ∷ l) (sorts_again (with_one s x) sorts)
 
--- the objects are for the made objects of a goal
-objects_are_for : (s t : Scope) (sorts : List Sort) (shown : List Lit) (os : List Obj) → are_of_sorts t sorts os ≡ true → are_for (record { made = next_objects s sorts; shown = shown }) t os ≡ true
-objects_are_for s t sorts shown os e = ap (λ (l : List Sort). are_of_sorts t l os) (sorts_again s sorts) ∙ e
-
--- the objects behind qed are of these sorts and in scope
-abbrev pub ClosesFor : Scope → List Sort → CloseLine → Type 0
-ClosesFor s sorts (closes.Qed os) = are_of_sorts s sorts os ≡ true
-ClosesFor s sorts closes.Contradiction = Unit {0}
-
--- the objects behind qed are for a goal
-abbrev pub CloseFits : Goal → Scope → CloseLine → Type 0
-CloseFits goal s (closes.Qed os) = are_for goal s os ≡ true
-CloseFits goal s closes.Contradiction = Unit {0}
-
-pub close_fits : (s t : Scope) (sorts : List Sort) (shown : List Lit) (close : CloseLine) → ClosesFor t sorts close → CloseFits (record { made = next_objects s sorts; shown = shown }) t close
-close_fits s t sorts shown (closes.Qed os) h = objects_are_for s t sorts shown os h
-close_fits s t sorts shown closes.Contradiction h = tt
-
 -- ---- names and scopes
 
 one_named : (ns : Names) (sort : Sort) (n : List ℕ) → with_one (scope_of_names ns) sort ≡ scope_of_names (with_names ns sort (names_of_sort ns sort ++ n ∷ []))
@@ -138,21 +148,6 @@ named_scope ns [] names e = refl
 named_scope ns (s ∷ sorts) [] e = absurd (omega (arith, e))
 named_scope ns (s ∷ sorts) (n ∷ names) e =
     ap (λ (z : Scope). grown z sorts) (one_named ns s n) ∙ named_scope (with_names ns s (names_of_sort ns s ++ n ∷ [])) sorts names (omega (arith, e))
-
-pub grows : (s : Scope) (sorts : List Sort) (sort : Sort) → count_of s sort ≤ count_of (grown s sorts) sort
-grows s [] sort = omega arith
-grows s (x ∷ sorts) sort = let a = grows (with_one s x) sorts sort in let b = one s x sort in omega (arith, a, b)
-  where
-    one : (s : Scope) (x sort : Sort) → count_of s sort ≤ count_of (with_one s x) sort
-    one s Point Point = omega arith
-    one s Point Line = omega arith
-    one s Point Circle = omega arith
-    one s Line Point = omega arith
-    one s Line Line = omega arith
-    one s Line Circle = omega arith
-    one s Circle Point = omega arith
-    one s Circle Line = omega arith
-    one s Circle Circle = omega arith
 
 abbrev the_scope : ℕ → ℕ → ℕ → Scope
 the_scope p l c = record { points = p; lines = l; circles = c }
@@ -169,91 +164,3 @@ declared_scope t ns e =
     let c : (all_objects t).circles ≡ length ns.circles = ap (λ (z : Scope). z.circles) e in
     scope_is _ _ _ _ _ _ (length-take-le s.points ns.points (omega (arith, p, grows s t.made Point)))
     (length-take-le s.lines ns.lines (omega (arith, l, grows s t.made Line))) (length-take-le s.circles ns.circles (omega (arith, c, grows s t.made Circle)))
-
--- ---- steps one after another
-
--- what a step is known to be where these names are in scope
-abbrev pub StepFits : Names → Step → Type 0
-StepFits ns (steps.Cite by) = is_citation (scope_of_names ns) by ≡ true
-StepFits ns (steps.Hence lit cert) = all_in_scope (scope_of_names ns) lit ≡ true
-StepFits ns (steps.Make form names certs) = GoodLet ns form names × (few_objects (named ns (made form) names) ≡ Ok tt)
-
--- the names in scope after it
-abbrev pub after_step : Names → Step → Names
-after_step ns (steps.Cite by) = ns
-after_step ns (steps.Hence lit cert) = ns
-after_step ns (steps.Make form names certs) = named ns (made form) names
-
--- how many facts it gives
-abbrev pub given_by : Names → Step → ℕ
-given_by ns (steps.Cite by) = 1
-given_by ns (steps.Hence lit cert) = 1
-given_by ns (steps.Make form names certs) = length (gives form (scope_of_names ns))
-
-abbrev pub StepsFit : Names → List Step → Type 0
-StepsFit ns [] = Unit {0}
-StepsFit ns (s ∷ ss) = StepFits ns s × StepsFit (after_step ns s) ss
-
-abbrev pub after_steps : Names → List Step → Names
-after_steps ns [] = ns
-after_steps ns (s ∷ ss) = after_steps (after_step ns s) ss
-
-abbrev pub given_by_all : Names → List Step → ℕ
-given_by_all ns [] = 0
-given_by_all ns (s ∷ ss) = given_by ns s + given_by_all (after_step ns s) ss
-
--- and one step more
-pub fit_more : (ns : Names) (ss : List Step) (s : Step) → StepsFit ns ss → StepFits (after_steps ns ss) s → StepsFit ns (ss ++ s ∷ [])
-fit_more ns [] s h k = (k, tt)
-fit_more ns (x ∷ ss) s h k = (h.0, fit_more (after_step ns x) ss s h.1 k)
-
-pub after_more : (ns : Names) (ss : List Step) (s : Step) → after_steps ns (ss ++ s ∷ []) ≡ after_step (after_steps ns ss) s
-after_more ns [] s = refl
-after_more ns (x ∷ ss) s = after_more (after_step ns x) ss s
-
-pub given_more : (ns : Names) (ss : List Step) (s : Step) → given_by_all ns (ss ++ s ∷ []) ≡ given_by_all ns ss + given_by (after_steps ns ss) s
-given_more ns [] s = omega arith
-given_more ns (x ∷ ss) s = let h = given_more (after_step ns x) ss s in omega (arith, h)
-
--- ---- the script of the steps
-
-both : (a b : Bool) → a ≡ true → b ≡ true → (a && b) ≡ true
-both a b h k = rw (h, k) refl
-
-pub lines_fit : (ns : Names) (ss : List Step) (facts : List Lit) (goal : Goal) (close : CloseLine) → StepsFit ns ss → CloseFits goal (scope_of_names (after_steps ns ss)) close
-    → list_all line_fits (lines (steps_script ss (script_of_close close)) (scope_of_names ns) facts goal) ≡ true
-unfolding lines
-lines_fit ns [] facts goal (closes.Qed os) h q = both _ _ q refl
-lines_fit ns [] facts goal closes.Contradiction h q = refl
-lines_fit ns (steps.Cite by ∷ ss) facts goal close h q = both _ _ h.0 (lines_fit ns ss (joined facts by.lit) goal close h.1 q)
-lines_fit ns (steps.Hence lit cert ∷ ss) facts goal close h q = both _ _ h.0 (lines_fit ns ss (joined facts lit) goal close h.1 q)
-lines_fit ns (steps.Make form names certs ∷ ss) facts goal close h q =
-    let more = joined_all facts (gives form (scope_of_names ns)) in
-    let rest = lines_fit (named ns (made form) names) ss more goal close h.1 q in
-    both _ _ h.0.0.fits (subst (λ (z : Scope). list_all line_fits (lines (steps_script ss (script_of_close close)) z more goal) ≡ true) (sym (named_scope ns (made form) names h.0.0.count)) rest)
-
-pub names_fit : (ns : Names) (ss : List Step) (close : CloseLine) → StepsFit ns ss → NewNamesFit ns (steps_script ss (script_of_close close))
-unfolding NewNamesFit
-names_fit ns [] (closes.Qed os) h = tt
-names_fit ns [] closes.Contradiction h = tt
-names_fit ns (steps.Cite by ∷ ss) close h = names_fit ns ss close h.1
-names_fit ns (steps.Hence lit cert ∷ ss) close h = names_fit ns ss close h.1
-names_fit ns (steps.Make form names certs ∷ ss) close h = (h.0.0.free, h.0.0.count, h.0.1, names_fit (named ns (made form) names) ss close h.1)
-
-pub count_is : (ns : Names) (ss : List Step) (close : CloseLine) → StepsFit ns ss → count_given (scope_of_names ns) (steps_script ss (script_of_close close)) ≡ given_by_all ns ss
-unfolding count_given
-count_is ns [] (closes.Qed os) h = refl
-count_is ns [] closes.Contradiction h = refl
-count_is ns (steps.Cite by ∷ ss) close h = ap (λ n. 1 + n) (count_is ns ss close h.1)
-count_is ns (steps.Hence lit cert ∷ ss) close h = ap (λ n. 1 + n) (count_is ns ss close h.1)
-count_is ns (steps.Make form names certs ∷ ss) close h =
-    ap (λ n. length (gives form (scope_of_names ns)) + n)
-    (ap (λ (z : Scope). count_given z (steps_script ss (script_of_close close))) (named_scope ns (made form) names h.0.0.count) ∙ count_is (named ns (made form) names) ss close h.1)
-
-pub size_is : (ss : List Step) (close : CloseLine) → size (steps_script ss (script_of_close close)) ≡ length ss + 1
-unfolding size
-size_is [] (closes.Qed os) = refl
-size_is [] closes.Contradiction = refl
-size_is (steps.Cite by ∷ ss) close = ap (λ n. 1 + n) (size_is ss close) ∙ omega arith
-size_is (steps.Hence lit cert ∷ ss) close = ap (λ n. 1 + n) (size_is ss close) ∙ omega arith
-size_is (steps.Make form names certs ∷ ss) close = ap (λ n. 1 + n) (size_is ss close) ∙ omega arith

@@ -1,5 +1,5 @@
 -- A theorem is read from its canonical lines.
-use Rattle.std.proofs.Common.{◌≡◌, ℕ, ◌+◌, ◌≤◌, true, cond, List, [], ◌∷◌, ◌++◌, length, map, Option, Some, None, Result, Ok, Err, refl, sym, ap, subst, ◌∙◌, arith, append_assoc}
+use Rattle.std.proofs.Common.{◌≡◌, ℕ, ◌+◌, true, cond, List, [], ◌∷◌, ◌++◌, length, map, Option, Some, None, Result, Ok, Err, refl, sym, ap, subst, ◌∙◌, arith, append_assoc}
 use Rattle.std.specs.List.{list_all}
 use Rattle.e_text.specs.Tokens.{tokens_of}
 use Rattle.e_text.specs.Lines.{Seen, numbered}
@@ -11,23 +11,21 @@ use Rattle.e_literal.specs.Scopes.{nothing, grown}
 use Rattle.e_literal.specs.Use.{scope_of}
 use Rattle.e_theorem.specs.Statements.{stated}
 use Rattle.e_deriv.specs.declared.names.Names.{Names}
-use Rattle.e_deriv.specs.declared.block.Step.{Step}
 use Rattle.e_deriv.specs.Naming.{first_names}
-use Rattle.e_deriv.specs.Script.{Script, steps_script}
+use Rattle.e_deriv.specs.Script.{Script}
 use Rattle.e_deriv.specs.Goal.{Goal, goal_of_statement, facts_of_statement}
 use Rattle.e_deriv.specs.Lines.{lines}
 use Rattle.e_deriv.specs.Steps.{fits}
 use Rattle.e_book.specs.declared.fault.BookFault.{BookFault}
 use Rattle.e_book.specs.declared.form.Form.{Form}
 use Rattle.e_book.specs.declared.form.Form.TheVariants as forms
-use Rattle.e_book.specs.declared.steps.CloseLine.{CloseLine}
-use Rattle.e_book.specs.declared.draft.Place.TheVariants.{Done}
+use Rattle.e_book.specs.declared.draft.Place.TheVariants.{Closed, Done}
 use Rattle.e_book.specs.declared.draft.Draft.{Draft}
 use Rattle.e_book.specs.Headed.{Headed}
 use Rattle.e_book.specs.Scope.{scope_of_names}
-use Rattle.e_book.specs.Steps.{stepped, step, begun}
-use Rattle.e_book.specs.Entry.{Entry, script_of_close, entry_of_draft}
-use Rattle.e_book.specs.Fits.{count_given}
+use Rattle.e_book.specs.Steps.{closed, stepped, step, begun}
+use Rattle.e_book.specs.Entry.{Entry, entry_of_draft}
+use Rattle.e_book.specs.Fits.{few_facts, few_terms}
 use Rattle.e_book.specs.Book.{line_step, is_done, read_from}
 use Rattle.e_book.specs.Fits.{count_monomials}
 use Rattle.e_book.specs.Canonical.{form_words, line_of, given_form, show_form, declare_form, made_form, grouped, declared_objects, made_objects, head_forms, script_forms, names_of_proof, forms_of}
@@ -40,8 +38,11 @@ use Rattle.e_book.proofs.Lookups.{InOrder, in_order}
 use Rattle.e_book.proofs.Declared.{form_step, Runs, runs_append, Few, run_from, all_first}
 use Rattle.e_book.proofs.Building.{sorts_again, declared_scope}
 use Rattle.e_book.proofs.Growing.{first_in_order, lit_of_first}
-use Rattle.e_book.proofs.HeadRead.{Plain, declaring, declared_lines, given_draft, making, made_lines, showing, run_title, run_all_given, run_all_shown}
-use Rattle.e_book.proofs.ScriptRead.{proving, closed, steps_of, close_of, Taken, run_script, same_script}
+use Rattle.e_book.proofs.PlainLits.{Plain}
+use Rattle.e_book.proofs.HeadRead.{declaring, declared_lines, given_draft, making, made_lines, showing, run_title, run_all_given, run_all_shown}
+use Rattle.e_book.proofs.LinesRead.{Inside, proving, Closes}
+use Rattle.e_book.proofs.ScriptParts.{steps_of, close_of, same_script}
+use Rattle.e_book.proofs.ScriptRead.{Taken, run_script}
 
 -- ---- the statement
 
@@ -56,18 +57,21 @@ given_forms_of s ns (l ∷ ls) h =
 abbrev started : Entry → Draft
 started t = showing t.title t.names t.statement.declared t.statement.given t.statement.made t.statement.shown
 
-run_proof : (known : List Headed) (t : Entry) → Runs known (Some (started t)) (forms.Proof ∷ []) (Some (proving (started t) (names_of_proof t) [] (length t.statement.given) (count_monomials t.statement.given)))
-unfolding step stepped
-run_proof known t = (proving (started t) (names_of_proof t) [] (length t.statement.given) (count_monomials t.statement.given), tt, refl, refl, refl)
+abbrev begins : Entry → Inside
+begins t = record { outers = []; in_scope = names_of_proof t; steps = []; lines = 0; facts = length t.statement.given; terms = count_monomials t.statement.given }
 
-run_head : (known : List Headed) (t : Entry) → HasSpelling known t → InOrder t.names → Runs known None (head_forms t) (Some (proving (started t) (names_of_proof t) [] (length t.statement.given) (count_monomials t.statement.given)))
+run_proof : (known : List Headed) (t : Entry) → Runs known (Some (started t)) (forms.Proof ∷ []) (Some (proving (started t) (begins t)))
+unfolding step stepped
+run_proof known t = (proving (started t) (begins t), tt, refl, refl, refl)
+
+run_head : (known : List Headed) (t : Entry) → HasSpelling known t → InOrder t.names → Runs known None (head_forms t) (Some (proving (started t) (begins t)))
 run_head known t h o =
     let ns = t.names in
     let st = t.statement in
     let s : Scope = scope_of (stated t.statement) in
     let dn = first_names s ns in
     let few : Few ns = record { points = h.fits.points; lines = h.fits.lines; circles = h.fits.circles } in
-    let end : Option Draft = Some (proving (started t) (names_of_proof t) [] (length st.given) (count_monomials st.given)) in
+    let end : Option Draft = Some (proving (started t) (begins t)) in
     let titled : Option Draft = Some (begun t.title) in
     let declared : Option Draft = Some (declaring t.title dn st.declared) in
     let given : Option Draft = Some (given_draft t.title dn st.declared st.given) in
@@ -81,7 +85,7 @@ run_head known t h o =
     let plain : Plain dn st.given = record { within = subst (λ (z : Scope). list_all (all_in_scope z) st.given ≡ true) (sym (declared_scope (stated st) ns h.fits.scope)) h.fits.given; good = h.fits.good_given } in
     let run_given : Runs known declared (map (given_form ns) st.given) given =
     subst (λ (fs : List Form). Runs known declared fs given) (given_forms_of s ns st.given h.fits.given)
-    (run_all_given known t.title dn st.declared st.given (first_in_order s ns o) plain (omega (arith, h.fits.facts)) (omega (arith, h.fits.terms))) in
+    (run_all_given known t.title dn st.declared st.given (first_in_order s ns o) plain h.fits.given_facts h.fits.given_terms) in
     let whole : first_names (grown s st.made) ns ≡ ns = ap (λ (z : Scope). first_names z ns) h.fits.scope ∙ all_first ns in
     let run_made : Runs known given (map made_form (grouped ns (made_objects st))) made =
     subst (λ (m : Names). Runs known given (map made_form (grouped ns (made_objects st))) (Some (making t.title st.declared st.given m st.made))) whole
@@ -94,22 +98,23 @@ run_head known t h o =
 
 -- ---- the proof
 
-run_proof_lines : (known : List Headed) (t : Entry) → HasSpelling known t → InOrder t.names → Taken known (started t) (names_of_proof t) [] (length t.statement.given) (count_monomials t.statement.given) t.script
+run_proof_lines : (known : List Headed) (t : Entry) → HasSpelling known t → InOrder t.names → Taken known (started t) (begins t) t.script
 run_proof_lines known t h o =
     let s : Scope = scope_of (stated t.statement) in
     let facts : List Lit = facts_of_statement (stated t.statement) in
     let goal : Goal = goal_of_statement (stated t.statement) in
     let scope : s ≡ scope_of_names (names_of_proof t) = sym (declared_scope (stated t.statement) t.names h.fits.scope) in
-    run_script known (started t) (names_of_proof t) [] (length t.statement.given) (count_monomials t.statement.given) t.script facts goal (record {
+    run_script known (started t) (begins t) t.script facts goal (record {
       order = first_in_order s t.names o;
       goal_sorts = sorts_again s t.statement.made;
       plain = h.script;
       fitting = subst (λ (z : Scope). list_all fits (lines t.script z facts goal) ≡ true) scope h.fits.script;
       new_names = h.fits.new_names;
       few = omega (arith, h.fits.steps);
-      most = subst (λ (z : Scope). length t.statement.given + count_given z t.script ≤ 2048) scope h.fits.facts;
+      shallow = omega (arith, h.fits.depth);
       good = h.fits.good_script;
-      short = h.fits.terms;
+      facts = subst (λ (z : Scope). few_facts (length t.statement.given) z t.script ≡ true) scope h.fits.facts;
+      terms = subst (λ (z : Scope). few_terms (count_monomials t.statement.given) z t.script ≡ true) scope h.fits.terms;
     })
 
 -- all lines but the last
@@ -151,17 +156,25 @@ answered t rest = Ok (Some (t, rest))
 
 -- ---- the whole
 
-step_end : (d : Draft) (ns : Names) (ss : List Step) (facts terms : ℕ) (close : CloseLine) → step (closed d ns ss facts terms close) forms.End ≡ Ok (record (closed d ns ss facts terms close) { place = Done })
-unfolding step stepped
-step_end d ns ss facts terms close = refl
+-- the draft behind the last close line
+abbrev shut_draft : Entry → Inside → Draft
+shut_draft t last = record (proving (started t) last) { steps = steps_of t.script; outers = []; close = close_of t.script; place = Closed }
 
-end_read : (known : List Headed) (last : ℕ) (t : Entry) (ns : Names) (facts terms : ℕ) (all rest : List (Result Seen LineFault)) → steps_script (steps_of t.script) (script_of_close (close_of t.script)) ≡ t.script → Shows all (line_of forms.End ∷ []) rest
-    → read_from known last (Some (closed (started t) ns (steps_of t.script) facts terms (close_of t.script))) all ≡ answered t rest
-end_read known last t ns facts terms [] rest same sh = absurd sh
-end_read known last t ns facts terms (Err x ∷ all) rest same sh = absurd sh
-end_read known last t ns facts terms (Ok l ∷ all) rest same sh =
-    let d = closed (started t) ns (steps_of t.script) facts terms (close_of t.script) in
-    one_read known last (Some d) l all forms.End (record d { place = Done }) sh.0 tt (step_end (started t) ns (steps_of t.script) facts terms (close_of t.script))
+closed_last : (t : Entry) (last : Inside) → closed (proving (started t) last) [] (steps_of t.script) (close_of t.script) ≡ Ok (shut_draft t last)
+unfolding closed
+closed_last t last = refl
+
+step_end : (t : Entry) (last : Inside) → step (shut_draft t last) forms.End ≡ Ok (record (shut_draft t last) { place = Done })
+unfolding step stepped
+step_end t last = refl
+
+end_read : (known : List Headed) (number : ℕ) (t : Entry) (last : Inside) (all rest : List (Result Seen LineFault)) → Closes (steps_of t.script) (close_of t.script) t.script → Shows all (line_of forms.End ∷ []) rest
+    → read_from known number (Some (shut_draft t last)) all ≡ answered t rest
+end_read known number t last [] rest same sh = absurd sh
+end_read known number t last (Err x ∷ all) rest same sh = absurd sh
+end_read known number t last (Ok l ∷ all) rest same sh =
+    let d = shut_draft t last in
+    one_read known number (Some d) l all forms.End (record d { place = Done }) sh.0 tt (step_end t last)
     ∙ ap (λ (s : Script). answered (record t { script = s }) all) same ∙ ap (λ (ls : List (Result Seen LineFault)). answered t ls) sh.1
 
 pub canonical_lines_read : (known : List Headed) (last : ℕ) (t : Entry) (all rest : List (Result Seen LineFault)) → HasSpelling known t → Shows all (map line_of (forms_of t)) rest
@@ -169,13 +182,13 @@ pub canonical_lines_read : (known : List Headed) (last : ℕ) (t : Entry) (all r
 canonical_lines_read known last t all rest h sh =
     let o = in_order t.names h.point_names h.line_names h.circle_names h.fits.differ in
     let proof = run_proof_lines known t h o in
-    let d = closed (started t) proof.in_scope (steps_of t.script) proof.given proof.written (close_of t.script) in
+    let d = shut_draft t proof.last in
     let runs : Runs known None (front t) (Some d) =
-    runs_append known None (Some (proving (started t) (names_of_proof t) [] (length t.statement.given) (count_monomials t.statement.given))) (Some d) (head_forms t) (script_forms (names_of_proof t) t.script) (run_head known t h o) proof.runs in
+    runs_append known None (Some (proving (started t) (begins t))) (Some d) (head_forms t) (script_forms (names_of_proof t) t.script) (run_head known t h o) (proof.runs d (closed_last t proof.last) refl) in
     let whole : forms_of t ≡ front t ++ forms.End ∷ [] = sym (append_assoc (head_forms t) (script_forms (names_of_proof t) t.script) (forms.End ∷ [])) in
     let shown : Shows all (map line_of (front t ++ forms.End ∷ [])) rest = subst (λ (fs : List Form). Shows all (map line_of fs) rest) whole sh in
     let l = reads_runs known last None (Some d) (front t) (forms.End ∷ []) all rest runs shown in
-    l.same ∙ end_read known last t proof.in_scope proof.given proof.written l.ahead rest (same_script t.script h.script) l.shown
+    l.same ∙ end_read known last t proof.last l.ahead rest (same_script t.script h.script) l.shown
 
 -- lines with their numbers, as they stand in a text
 shows_numbered : (first : ℕ) (texts : List (List ℕ)) (rest : List (Result Seen LineFault)) → Shows (numbered first texts ++ rest) texts rest

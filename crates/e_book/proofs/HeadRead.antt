@@ -1,13 +1,10 @@
 -- The lines of a statement are read from their canonical spelling.
 use Rattle.std.proofs.Common.{◌≡◌, ℕ, ◌+◌, ◌<◌, ◌≤◌, true, false, ltb, List, [], ◌∷◌, ◌++◌, length, map, replicate, Some, None, Result, Ok, refl, sym, ap, ap₂, subst, ◌∙◌, arith, append_assoc, length-append}
-use Rattle.std.specs.List.{list_all}
 use Rattle.std.proofs.lemmas.Bool.{le-ltb}
 use Rattle.std.proofs.lemmas.List.{append-nil}
 use Rattle.e_text.specs.Names.{is_title}
 use Rattle.e_literal.specs.declared.object.Sort.{Sort}
 use Rattle.e_literal.specs.declared.literal.Lit.{Lit}
-use Rattle.e_literal.specs.Literal.{all_in_scope}
-use Rattle.e_literal.specs.WellFormed.{is_well_formed}
 use Rattle.e_deriv.specs.declared.names.Names.{Names}
 use Rattle.e_deriv.specs.Naming.{names_of_sort}
 use Rattle.e_book.specs.declared.fault.Kind.{Kind}
@@ -19,38 +16,22 @@ use Rattle.e_book.specs.declared.draft.Draft.{Draft}
 use Rattle.e_book.specs.Reading.{◌>>=◌}
 use Rattle.e_book.specs.Limits.{most_of, most_theorems, most_facts, most_terms}
 use Rattle.e_book.specs.Headed.{Headed, is_known}
-use Rattle.e_book.specs.Scope.{scope_of_names}
 use Rattle.e_book.specs.Steps.{count_monos, with_terms, allowed, declared, stepped, step, begin, begun, no_names}
 use Rattle.e_book.specs.Fits.{monomials, count_monomials}
 use Rattle.e_book.specs.Book.{is_done}
 use Rattle.e_book.specs.Canonical.{raw_of, given_form, show_form}
 use Rattle.e_book.specs.HasSpelling.{AreNames}
-use Rattle.e_book.proofs.Differ.{both}
 use Rattle.e_book.proofs.Respelled.{GoodForm}
 use Rattle.e_book.proofs.Lookups.{InOrder}
 use Rattle.e_book.proofs.LitLookups.{lit_number_again, lit_named}
+use Rattle.e_book.proofs.PlainLits.{Plain, PlainLit, plain_first}
 use Rattle.e_book.proofs.ShortLits.{few_again, count_again, count_more, count_first}
 use Rattle.e_book.proofs.Declared.{Runs, LinesOfNames, Free, plus, declared_one, declared_joined}
 
 -- a draft before the word proof
 abbrev pub stating : List ℕ → Names → List Sort → List Lit → List Sort → List Lit → ℕ → ℕ → Place → Draft
 stating t ns sorts given made shown facts terms place =
-    record { title = t; names = ns; in_scope = no_names; declared = sorts; given = given; made = made; shown = shown; steps = []; facts = facts; terms = terms; close = closes.Qed []; place = place }
-
--- literals over the objects in scope that canonical lines can spell
-pub record Plain (ns : Names) (ls : List Lit) : Type 0 where
-  pub within : list_all (all_in_scope (scope_of_names ns)) ls ≡ true
-  pub good : list_all is_well_formed ls ≡ true
-
-pub record PlainLit (ns : Names) (l : Lit) : Type 0 where
-  pub within : all_in_scope (scope_of_names ns) l ≡ true
-  pub good : is_well_formed l ≡ true
-
-plain_first : (ns : Names) (l : Lit) (ls : List Lit) → Plain ns (l ∷ ls) → PlainLit ns l × Plain ns ls
-plain_first ns l ls p =
-    let a = both (all_in_scope (scope_of_names ns) l) (list_all (all_in_scope (scope_of_names ns)) ls) p.within in
-    let b = both (is_well_formed l) (list_all is_well_formed ls) p.good in
-    (record { within = a.0; good = b.0 }, record { within = a.1; good = b.1 })
+    record { title = t; names = ns; in_scope = no_names; declared = sorts; given = given; made = made; shown = shown; steps = []; lines = 0; facts = facts; terms = terms; outers = []; close = closes.Qed []; place = place }
 
 -- ---- the title
 

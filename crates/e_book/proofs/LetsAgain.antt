@@ -52,7 +52,7 @@ no_avoid = refl
 own_word_differs : (w : List ℕ) → is_own_word w ≡ true → bytes_eq w (codes "avoid") ≡ false
 own_word_differs w h = not-true (bytes_eq w (codes "avoid")) (both _ _ (both (not (is_name w)) _ h).1).0
 
-own_word_token : (w : List ℕ) → is_own_word w ≡ true → is_token w ≡ true
+pub own_word_token : (w : List ℕ) → is_own_word w ≡ true → is_token w ≡ true
 own_word_token w h = (both (not (bytes_eq w (codes "avoid"))) (is_token w) (both (not (is_name w)) _ h).1).1
 
 without_avoid : (s : Shape) (new args : List (List ℕ)) → Filled s new args → Without (codes "avoid") (filled (pieces s) new args)

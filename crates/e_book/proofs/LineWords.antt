@@ -9,7 +9,8 @@ use Rattle.e_book.specs.declared.form.Form.TheVariants as forms
 use Rattle.e_book.specs.Canonical.{lit_words, form_words, line_of}
 use Rattle.e_book.specs.Book.{is_skipped}
 use Rattle.e_book.proofs.LetsAgain.{names_tokens, append_tokens, let_tokens}
-use Rattle.e_book.proofs.LitsAgain.{lit_tokens}
+use Rattle.e_book.proofs.LitsAgain.{lit_tokens, lits_tokens}
+use Rattle.e_book.proofs.SuperposesAgain.{superpose_tokens}
 use Rattle.e_book.proofs.Respelled.{GoodForm}
 
 -- ---- the words of forms are tokens
@@ -36,6 +37,10 @@ form_tokens (forms.Hence l) h = (refl, lit_tokens l h)
 form_tokens (forms.Let l) h = (refl, let_tokens l h)
 form_tokens (forms.Qed ns) h = (refl, names_tokens ns h)
 form_tokens forms.Contradiction h = (refl, tt)
+form_tokens (forms.Claim ls) h = (refl, lits_tokens ls h)
+form_tokens (forms.Superpose s) h = (refl, superpose_tokens s h)
+form_tokens (forms.Cases l) h = (refl, lit_tokens l h)
+form_tokens forms.Else h = (refl, tt)
 form_tokens forms.End h = (refl, tt)
 
 pub words_again : (f : Form) → GoodForm f → tokens_of (line_of f) ≡ form_words f
@@ -55,4 +60,8 @@ not_skipped (forms.Hence l) = refl
 not_skipped (forms.Let l) = refl
 not_skipped (forms.Qed ns) = refl
 not_skipped forms.Contradiction = refl
+not_skipped (forms.Claim ls) = refl
+not_skipped (forms.Superpose s) = refl
+not_skipped (forms.Cases l) = refl
+not_skipped forms.Else = refl
 not_skipped forms.End = refl

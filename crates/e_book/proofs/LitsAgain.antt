@@ -1,11 +1,11 @@
 -- The words of a literal are read as that literal.
-use Rattle.std.proofs.Common.{◌≡◌, ℕ, Bool, true, false, ◌&&◌, List, [], ◌∷◌, ◌++◌, length, Some, is_some, Ok, refl, sym, ap, ◌∙◌}
+use Rattle.std.proofs.Common.{◌≡◌, ℕ, Bool, true, false, ◌&&◌, List, [], ◌∷◌, ◌++◌, length, map, Some, is_some, Ok, refl, sym, ap, ◌∙◌}
 use Rattle.std.specs.Prelude.{codes, ◌==◌}
-use Rattle.std.specs.List.{position_or_len, AllByRecursion}
+use Rattle.std.specs.List.{position_or_len, slice_split, AllByRecursion}
 use Rattle.std.specs.Str.{bytes_eq}
-use Rattle.std.proofs.lemmas.List.{take_at, drop_at}
+use Rattle.std.proofs.lemmas.List.{take_at, drop_at, append-nil}
 use Rattle.std.proofs.lemmas.List.Elements.{All-from_recursion}
-use Rattle.std.proofs.lemmas.List.Splits.{slice_split_none}
+use Rattle.std.proofs.lemmas.List.Splits.{slice_split_at, slice_split_none}
 use Rattle.e_text.specs.Names.{is_name, is_statement_word, is_steps_word, is_relations_word, is_shapes_word, is_others_word}
 use Rattle.e_text.specs.Tokens.{AreTokens}
 use Rattle.e_text.proofs.TokenWords.{is_token-name}
@@ -17,7 +17,7 @@ use Rattle.e_book.specs.declared.literal.RawAtom.{RawAtom}
 use Rattle.e_book.specs.declared.literal.RawAtom.TheVariants as raw
 use Rattle.e_book.specs.Reading.{each}
 use Rattle.e_book.specs.Literals.{sign_of, is_sign, object_of, sums_of, equal_sides, sides_of, negation_of, compared, signed, related, signed_of, lit_of, is_diagram_raw, diagram_lit_of, is_semicolon, lits_of}
-use Rattle.e_book.specs.Canonical.{sum_words, sums_words, atom_words, signed_words, lit_words}
+use Rattle.e_book.specs.Canonical.{sum_words, sums_words, atom_words, signed_words, lit_words, more_words, lits_words}
 use Rattle.e_book.proofs.NamesAgain.{Without, named, first_place}
 use Rattle.e_book.proofs.LetsAgain.{append_tokens}
 use Rattle.e_book.proofs.SumsAgain.{is_mono_word, mono_word_differs, SumNamed, sum_tokens, two_again, three_again, sum_again, sum_no_object, Begins, sum_begins, sum_all}
@@ -266,9 +266,24 @@ signed_without true (raw.Meets x y) h = (refl, atom_without (raw.Meets x y) h)
 signed_without true (raw.SumsLess x y) h = (refl, atom_without (raw.SumsLess x y) h)
 signed_without true (raw.SumsAtMost x y) h = (refl, atom_without (raw.SumsAtMost x y) h)
 
-pub lits_again : (l : RawLit) → LitNamed l → lits_of (lit_words l) ≡ Ok (l ∷ [])
-lits_again l h =
-    ap (each lit_of) (slice_split_none is_semicolon (lit_words l) (All-from_recursion (λ w. is_semicolon w ≡ false) (lit_words l) (signed_without l.neg l.atom h.atom))) ∙ rw (lit_again l h) refl
+-- at least one literal
+abbrev pub LitsNamed : List RawLit → Type 0
+LitsNamed [] = ⊥
+LitsNamed (l ∷ ls) = AllByRecursion LitNamed (l ∷ ls)
+
+split_again : (l : RawLit) (ls : List RawLit) → LitNamed l → AllByRecursion LitNamed ls → slice_split is_semicolon (lit_words l ++ more_words ls) ≡ map lit_words (l ∷ ls)
+split_again l [] h k = ap (slice_split is_semicolon) (append-nil (lit_words l)) ∙ slice_split_none is_semicolon (lit_words l) (All-from_recursion (λ w. is_semicolon w ≡ false) (lit_words l) (signed_without l.neg l.atom h.atom))
+split_again l (m ∷ ls) h k =
+    slice_split_at is_semicolon (lit_words l) (codes ";") (lit_words m ++ more_words ls) (All-from_recursion (λ w. is_semicolon w ≡ false) (lit_words l) (signed_without l.neg l.atom h.atom)) refl
+    ∙ ap (λ (ws : List (List (List ℕ))). lit_words l ∷ ws) (split_again m ls k.0 k.1)
+
+each_again : (ls : List RawLit) → AllByRecursion LitNamed ls → each lit_of (map lit_words ls) ≡ Ok ls
+each_again [] h = refl
+each_again (l ∷ ls) h = rw (lit_again l h.0, each_again ls h.1) refl
+
+pub lits_again : (ls : List RawLit) → LitsNamed ls → lits_of (lits_words ls) ≡ Ok ls
+lits_again [] h = absurd h
+lits_again (l ∷ ls) h = ap (each lit_of) (split_again l ls h.0 h.1) ∙ each_again (l ∷ ls) h
 
 -- ---- tokens
 
@@ -302,3 +317,11 @@ signed_tokens true (raw.SumsAtMost x y) h = (refl, atom_tokens (raw.SumsAtMost x
 
 pub lit_tokens : (l : RawLit) → LitNamed l → AreTokens (lit_words l)
 lit_tokens l h = signed_tokens l.neg l.atom h.atom
+
+more_tokens : (ls : List RawLit) → AllByRecursion LitNamed ls → AreTokens (more_words ls)
+more_tokens [] h = tt
+more_tokens (l ∷ ls) h = (refl, append_tokens (lit_words l) (more_words ls) (lit_tokens l h.0) (more_tokens ls h.1))
+
+pub lits_tokens : (ls : List RawLit) → LitsNamed ls → AreTokens (lits_words ls)
+lits_tokens [] h = absurd h
+lits_tokens (l ∷ ls) h = append_tokens (lit_words l) (more_words ls) (lit_tokens l h.0) (more_tokens ls h.1)

@@ -13,7 +13,7 @@ use Rattle.e_construct.specs.Lines.{Piece, New, Argument, Word, pieces, all_shap
 use Rattle.e_book.specs.Lets.{are_words_of, new_words, argument_words, is_line_of, shapes_of}
 use Rattle.e_book.specs.Canonical.{filled}
 use Rattle.e_book.specs.HasSpelling.{AreNames}
-use Rattle.e_book.proofs.Differ.{both, name_differs}
+use Rattle.e_book.proofs.Differ.{both, same_bytes, name_differs}
 
 -- ---- the words of pieces
 
@@ -61,6 +61,23 @@ arguments_again (New ∷ ps) (n ∷ new) args hn ha = arguments_again ps new arg
 arguments_again (Argument ∷ ps) new [] hn ha = absurd (omega (arith, ha))
 arguments_again (Argument ∷ ps) new (n ∷ args) hn ha = ap (λ (l : List (List ℕ)). n ∷ l) (arguments_again ps new args hn (omega (arith, ha)))
 arguments_again (Word w ∷ ps) new args hn ha = arguments_again ps new args hn ha
+
+-- the words are those of the pieces, one for each
+pub filled_again : (ps : List Piece) (new args : List (List ℕ)) → AreNames new → AreNames args → length new ≡ count_new ps → length args ≡ count_arguments ps → are_words_of ps (filled ps new args) ≡ true
+filled_again [] new args an aa ln la = refl
+filled_again (New ∷ ps) [] args an aa ln la = absurd (omega (arith, ln))
+filled_again (New ∷ ps) (n ∷ new) args an aa ln la = rw (an.0, filled_again ps new args an.1 aa (omega (arith, ln)) la) refl
+filled_again (Argument ∷ ps) new [] an aa ln la = absurd (omega (arith, la))
+filled_again (Argument ∷ ps) new (n ∷ args) an aa ln la = rw (aa.0, filled_again ps new args an aa.1 ln (omega (arith, la))) refl
+filled_again (Word w ∷ ps) new args an aa ln la = rw (same_bytes w, filled_again ps new args an aa ln la) refl
+
+pub length-filled : (ps : List Piece) (new args : List (List ℕ)) → length new ≡ count_new ps → length args ≡ count_arguments ps → length (filled ps new args) ≡ length ps
+length-filled [] new args ln la = refl
+length-filled (New ∷ ps) [] args ln la = absurd (omega (arith, ln))
+length-filled (New ∷ ps) (n ∷ new) args ln la = let e = length-filled ps new args (omega (arith, ln)) la in omega (arith, e)
+length-filled (Argument ∷ ps) new [] ln la = absurd (omega (arith, la))
+length-filled (Argument ∷ ps) new (n ∷ args) ln la = let e = length-filled ps new args ln (omega (arith, la)) in omega (arith, e)
+length-filled (Word w ∷ ps) new args ln la = let e = length-filled ps new args ln la in omega (arith, e)
 
 -- ---- which lines have these words
 

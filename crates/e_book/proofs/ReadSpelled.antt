@@ -1,6 +1,7 @@
 -- A theorem that is read has a spelling.
-use Rattle.std.proofs.Common.{◌≡◌, ℕ, ◌+◌, ◌<◌, Bool, true, false, cond, inl, inr, List, [], ◌∷◌, ◌++◌, length, replicate, Option, Some, None, Result, Ok, Err, refl, ap, subst, ◌∙◌, arith, length-append}
+use Rattle.std.proofs.Common.{◌≡◌, ℕ, ◌+◌, ◌<◌, Bool, true, false, cond, ltb, ◌&&◌, inl, inr, List, [], ◌∷◌, ◌++◌, length, replicate, Option, Some, None, Result, Ok, Err, refl, ap, subst, ◌∙◌, arith, length-append}
 use Rattle.std.specs.List.{list_all}
+use Rattle.std.proofs.lemmas.Bool.{lt-ltb}
 use Rattle.e_text.specs.Tokens.{tokens_of}
 use Rattle.e_text.specs.Lines.{Seen}
 use Rattle.e_text.specs.Names.{is_name, is_title}
@@ -9,31 +10,38 @@ use Rattle.e_literal.specs.declared.object.Sort.{Sort}
 use Rattle.e_literal.specs.declared.object.Sort.TheVariants.{Point, Line, Circle}
 use Rattle.e_literal.specs.declared.literal.Lit.{Lit}
 use Rattle.e_construct.specs.declared.construction.Construction.{Construction}
+use Rattle.e_construct.specs.declared.superpose.Superpose.{Superpose}
 use Rattle.e_construct.specs.Construct.{made, gives}
+use Rattle.e_construct.specs.Superposing as superposing
 use Rattle.e_theorem.specs.Statements.{stated}
 use Rattle.e_deriv.specs.declared.names.Names.{Names}
-use Rattle.e_deriv.specs.declared.block.Step.{Step}
-use Rattle.e_deriv.specs.declared.block.Step.TheVariants as steps
+use Rattle.e_deriv.specs.PlainStep.{PlainStep, Cited, Inferred, Made, Claimed, Copied, all_before}
 use Rattle.e_deriv.specs.Naming.{names_of_sort, with_names, named, declared_names}
-use Rattle.e_deriv.specs.Script.{steps_script}
+use Rattle.e_deriv.specs.Script.{Script}
 use Rattle.e_book.specs.declared.fault.Kind.{Kind}
 use Rattle.e_book.specs.declared.fault.BookFault.{BookFault}
 use Rattle.e_book.specs.declared.fault.What.TheVariants as limits
 use Rattle.e_book.specs.declared.literal.RawLit.{RawLit}
 use Rattle.e_book.specs.declared.lets.RawLet.{RawLet}
+use Rattle.e_book.specs.declared.superposes.RawSuperpose.{RawSuperpose}
+use Rattle.e_book.specs.declared.blocks.Outer.{Outer}
+use Rattle.e_book.specs.declared.blocks.Opened.{Opened}
+use Rattle.e_book.specs.declared.blocks.Opened.TheVariants as opened
 use Rattle.e_book.specs.declared.form.Form.{Form}
 use Rattle.e_book.specs.declared.form.Form.TheVariants as forms
 use Rattle.e_book.specs.declared.steps.CloseLine.{CloseLine}
 use Rattle.e_book.specs.declared.steps.CloseLine.TheVariants as closes
 use Rattle.e_book.specs.declared.draft.Place.{Place}
-use Rattle.e_book.specs.declared.draft.Place.TheVariants.{Declaring, Giving, Making, Showing, Proving, Closed, Done}
+use Rattle.e_book.specs.declared.draft.Place.TheVariants.{Declaring, Giving, Making, Showing, Proving, Splitting, Closed, Done}
 use Rattle.e_book.specs.declared.draft.Draft.{Draft}
 use Rattle.e_book.specs.Reading.{◌>>=◌, with_front}
-use Rattle.e_book.specs.Limits.{most_theorems, most_of, most_steps, most_facts, what_of, within}
+use Rattle.e_book.specs.Limits.{most_theorems, most_of, most_steps, most_depth, most_facts, what_of, within, monomials}
+use Rattle.e_book.specs.Blocks.{made_in}
+use Rattle.e_book.specs.Superposes.{placed_in, superpose_in}
 use Rattle.e_book.specs.Headed.{Headed, is_known}
 use Rattle.e_book.specs.Scope.{scope_of_names, fresh, lit_in, lits_in, by_in, let_in, qed_in}
 use Rattle.e_book.specs.Forms.{form_of}
-use Rattle.e_book.specs.Steps.{count_monos, few_monos, with_terms, allowed, declared, few_objects, with_step, built, shut, stepped, step, begin, begun}
+use Rattle.e_book.specs.Steps.{count_monos, few_monos, terms_after, with_terms, allowed, declared, few_objects, with_step, built, interrupted, deeper, claimed, superposed, split, counted_from, resumed, closed_inside, closed, shut, stepped, step, begin, begun}
 use Rattle.e_book.specs.Entry.{Entry, script_of_close, statement_of_draft, entry_of_draft}
 use Rattle.e_book.specs.Book.{is_skipped, line_step, put_at, is_last, is_done, read_from}
 use Rattle.e_book.specs.HasSpelling.{HasSpelling, AreNames, is_plain}
@@ -60,14 +68,66 @@ naming_more ns Point new g h = record { point_names = join_all ns.points new g.p
 naming_more ns Line new g h = record { point_names = g.point_names; line_names = join_all ns.lines new g.line_names h; circle_names = g.circle_names }
 naming_more ns Circle new g h = record { point_names = g.point_names; line_names = g.line_names; circle_names = join_all ns.circles new g.circle_names h }
 
--- ---- what each line keeps
+-- ---- blocks that lines can spell
 
-abbrev is_plain_step : Step → Bool
-is_plain_step (steps.Cite by) = true
-is_plain_step (steps.Hence lit None) = true
-is_plain_step (steps.Hence lit (Some cert)) = false
-is_plain_step (steps.Make form names []) = list_all is_name names
-is_plain_step (steps.Make form names (c ∷ cs)) = false
+abbrev is_plain_step : PlainStep → Bool
+is_plain_step (Cited by) = true
+is_plain_step (Inferred lit None) = true
+is_plain_step (Inferred lit (Some cert)) = false
+is_plain_step (Made form names []) = list_all is_name names
+is_plain_step (Made form names (c ∷ cs)) = false
+is_plain_step (Claimed shown inner) = ltb 0 (length shown) && is_plain inner
+is_plain_step (Copied form names shown [] inner) = list_all is_name names && (ltb 0 (length shown) && is_plain inner)
+is_plain_step (Copied form names shown (c ∷ cs) inner) = false
+
+abbrev is_plain_close : CloseLine → Bool
+is_plain_close (closes.Qed objects) = true
+is_plain_close closes.Contradiction = true
+is_plain_close (closes.Cases lit first second) = is_plain first && is_plain second
+
+abbrev is_plain_opened : Opened → Bool
+is_plain_opened (opened.Claim shown) = ltb 0 (length shown)
+is_plain_opened (opened.Superpose form names shown) = list_all is_name names && ltb 0 (length shown)
+is_plain_opened (opened.First lit) = true
+is_plain_opened (opened.Second lit first) = is_plain first
+
+abbrev is_plain_outer : Outer → Bool
+is_plain_outer o = list_all is_plain_step o.steps && is_plain_opened o.opened
+
+record PlainBlocks (steps : List PlainStep) (outers : List Outer) (close : CloseLine) : Type 0 where
+  inside : list_all is_plain_step steps ≡ true
+  around : list_all is_plain_outer outers ≡ true
+  shut : is_plain_close close ≡ true
+
+one_more : (ss : List PlainStep) (s : PlainStep) → list_all is_plain_step ss ≡ true → is_plain_step s ≡ true → list_all is_plain_step (ss ++ s ∷ []) ≡ true
+one_more ss s h p = appended is_plain_step ss (s ∷ []) h (rw p refl)
+
+plain_close : (close : CloseLine) → is_plain_close close ≡ true → is_plain (script_of_close close) ≡ true
+unfolding is_plain
+plain_close (closes.Qed os) h = refl
+plain_close closes.Contradiction h = refl
+plain_close (closes.Cases lit first second) h = h
+
+plain_script : (ss : List PlainStep) (close : CloseLine) → list_all is_plain_step ss ≡ true → is_plain_close close ≡ true → is_plain (all_before ss (script_of_close close)) ≡ true
+unfolding is_plain
+plain_script [] close h k = plain_close close k
+plain_script (Cited by ∷ ss) close h k = plain_script ss close h k
+plain_script (Inferred lit None ∷ ss) close h k = plain_script ss close h k
+plain_script (Inferred lit (Some cert) ∷ ss) close h k = absurd cc
+plain_script (Made form names [] ∷ ss) close h k = let p = both (list_all is_name names) (list_all is_plain_step ss) h in rw (p.0, plain_script ss close p.1 k) refl
+plain_script (Made form names (c ∷ cs) ∷ ss) close h k = absurd cc
+plain_script (Claimed shown inner ∷ ss) close h k =
+    let p = both (ltb 0 (length shown) && is_plain inner) (list_all is_plain_step ss) h in
+    let q = both (ltb 0 (length shown)) (is_plain inner) p.0 in
+    rw (q.0, q.1, plain_script ss close p.1 k) refl
+plain_script (Copied form names shown [] inner ∷ ss) close h k =
+    let p = both (list_all is_name names && (ltb 0 (length shown) && is_plain inner)) (list_all is_plain_step ss) h in
+    let n = both (list_all is_name names) (ltb 0 (length shown) && is_plain inner) p.0 in
+    let q = both (ltb 0 (length shown)) (is_plain inner) n.1 in
+    rw (n.0, q.0, q.1, plain_script ss close p.1 k) refl
+plain_script (Copied form names shown (c ∷ cs) inner ∷ ss) close h k = absurd cc
+
+-- ---- what each line keeps
 
 -- from the first show line on there is a shown literal
 abbrev SomeShown : Place → List Lit → Type 0
@@ -76,6 +136,7 @@ SomeShown Giving shown = Unit {0}
 SomeShown Making shown = Unit {0}
 SomeShown Showing shown = 0 < length shown
 SomeShown Proving shown = 0 < length shown
+SomeShown Splitting shown = 0 < length shown
 SomeShown Closed shown = 0 < length shown
 SomeShown Done shown = 0 < length shown
 
@@ -84,7 +145,7 @@ record Spelled (known : List Headed) (d : Draft) : Type 0 where
   title : is_title d.title ≡ true
   naming : Naming d.names
   some : SomeShown d.place d.shown
-  plain : list_all is_plain_step d.steps ≡ true
+  blocks : PlainBlocks d.steps d.outers d.close
 
 declared_is : (ns : Names) (sort : Sort) (new : List (List ℕ)) (names : Names) → declared ns sort new ≡ Ok names → with_names ns sort (names_of_sort ns sort ++ new) ≡ names
 unfolding declared
@@ -101,11 +162,11 @@ spelled_declare known d e sort ns g said h =
     let n = bind_ok (declared d.names sort ns) (λ names. read_ok (then names)) e h in
     let now = declared_is d.names sort ns n.0 n.1 in
     subst (λ (y : Draft). Spelled known y) (ap then now ∙ ok_is (then n.0) e n.2)
-    (record { few = g.few; title = g.title; naming = naming_more d.names sort ns g.naming said; some = g.some; plain = g.plain })
+    (record { few = g.few; title = g.title; naming = naming_more d.names sort ns g.naming said; some = g.some; blocks = g.blocks })
 
 -- with another count of monomials
 counted : (known : List Headed) (d : Draft) (n : ℕ) → Spelled known d → Spelled known (record d { terms = n })
-counted known d n g = record { few = g.few; title = g.title; naming = g.naming; some = g.some; plain = g.plain }
+counted known d n g = record { few = g.few; title = g.title; naming = g.naming; some = g.some; blocks = g.blocks }
 
 spelled_terms : (known : List Headed) (d e : Draft) (raws : List RawLit) → Spelled known d → with_terms d raws ≡ Ok e → Spelled known e
 spelled_terms known d e raws g h = let t = terms_added d e raws h in subst (λ (y : Draft). Spelled known y) t.is (counted known d (d.terms + count_monos raws) g)
@@ -116,7 +177,7 @@ spelled_given known d e raws g h =
     let then : List Lit → Draft = λ ls. record d { given = ls; facts = d.facts + length raws; place = Giving } in
     let all = bind_ok (with_front d.given (lits_in d.names raws)) (λ ls. within (d.facts + length raws) most_facts limits.Facts >>= λ few. with_terms (then ls) raws) e h in
     let w = bind_ok (within (d.facts + length raws) most_facts limits.Facts) (λ few. with_terms (then all.0) raws) e all.2 in
-    spelled_terms known (then all.0) e raws (record { few = g.few; title = g.title; naming = g.naming; some = tt; plain = g.plain }) w.2
+    spelled_terms known (then all.0) e raws (record { few = g.few; title = g.title; naming = g.naming; some = tt; blocks = g.blocks }) w.2
 
 spelled_made : (known : List Headed) (d e : Draft) (sort : Sort) (ns : List (List ℕ)) → Spelled known d → AreNames ns → stepped d (forms.Made sort ns) ≡ Ok e → Spelled known e
 unfolding stepped
@@ -125,7 +186,7 @@ spelled_made known d e sort ns g said h =
     let n = bind_ok (declared d.names sort ns) (λ names. read_ok (then names)) e h in
     let now = declared_is d.names sort ns n.0 n.1 in
     subst (λ (y : Draft). Spelled known y) (ap then now ∙ ok_is (then n.0) e n.2)
-    (record { few = g.few; title = g.title; naming = naming_more d.names sort ns g.naming said; some = tt; plain = g.plain })
+    (record { few = g.few; title = g.title; naming = naming_more d.names sort ns g.naming said; some = tt; blocks = g.blocks })
 
 spelled_shown : (known : List Headed) (d e : Draft) (raws : List RawLit) → Spelled known d → 0 < length raws → stepped d (forms.Show raws) ≡ Ok e → Spelled known e
 unfolding stepped
@@ -136,33 +197,34 @@ spelled_shown known d e raws g said h =
     let f = bind_ok (few_monos raws) (λ few. read_ok (then all.0)) e all.2 in
     let n = each_length (lit_in d.names) raws ls.0 ls.1 in
     let x-is : then (d.shown ++ ls.0) ≡ e = ap then (ok_is (d.shown ++ ls.0) all.0 ls.2) ∙ ok_is (then all.0) e f.2 in
-    subst (λ (y : Draft). Spelled known y) x-is (record { few = g.few; title = g.title; naming = g.naming; some = omega (arith, n, said, length-append d.shown ls.0); plain = g.plain })
+    subst (λ (y : Draft). Spelled known y) x-is (record { few = g.few; title = g.title; naming = g.naming; some = omega (arith, n, said, length-append d.shown ls.0); blocks = g.blocks })
 
--- at another place, with other names in scope and another close
-moved : (known : List Headed) (d : Draft) (p : Place) (in_scope : Names) (close : CloseLine) → Spelled known d → SomeShown p d.shown → Spelled known (record d { in_scope = in_scope; close = close; place = p })
-moved known d p in_scope close g some = record { few = g.few; title = g.title; naming = g.naming; some = some; plain = g.plain }
+-- with other names in scope, and with other counts, at a place behind the show lines
+moved : (known : List Headed) (d : Draft) (p : Place) (in_scope : Names) (lines facts terms : ℕ) → Spelled known d → SomeShown p d.shown
+    → Spelled known (record d { in_scope = in_scope; lines = lines; facts = facts; terms = terms; place = p })
+moved known d p in_scope lines facts terms g some = record { few = g.few; title = g.title; naming = g.naming; some = some; blocks = g.blocks }
 
-spelled_step : (known : List Headed) (d e : Draft) (s : Step) (n : ℕ) → Spelled known d → is_plain_step s ≡ true → with_step d s n ≡ Ok e → Spelled known e
+spelled_step : (known : List Headed) (d e : Draft) (s : PlainStep) (n : ℕ) → Spelled known d → is_plain_step s ≡ true → with_step d s n ≡ Ok e → Spelled known e
 unfolding with_step
 spelled_step known d e s n g p h =
-    let x : Draft = record d { steps = d.steps ++ s ∷ []; facts = d.facts + n } in
-    let a = bind_ok (within (length d.steps + 1) most_steps limits.Steps) (λ few. within (d.facts + n) most_facts limits.Facts >>= λ none. read_ok x) e h in
+    let x : Draft = record d { lines = d.lines + 1; steps = d.steps ++ s ∷ []; facts = d.facts + n } in
+    let a = bind_ok (within (d.lines + 1) most_steps limits.Steps) (λ few. within (d.facts + n) most_facts limits.Facts >>= λ none. read_ok x) e h in
     let b = bind_ok (within (d.facts + n) most_facts limits.Facts) (λ none. read_ok x) e a.2 in
     subst (λ (y : Draft). Spelled known y) (ok_is x e b.2)
-    (record { few = g.few; title = g.title; naming = g.naming; some = g.some; plain = appended is_plain_step d.steps (s ∷ []) g.plain (rw p refl) })
+    (record { few = g.few; title = g.title; naming = g.naming; some = g.some; blocks = record { inside = one_more d.steps s g.blocks.inside p; around = g.blocks.around; shut = g.blocks.shut } })
 
 spelled_by : (known : List Headed) (d e : Draft) (r : List ℕ) (ns : List (List ℕ)) (l : RawLit) → Spelled known d → stepped d (forms.By r ns l) ≡ Ok e → Spelled known e
 unfolding stepped
 spelled_by known d e r ns l g h =
-    let b = bind_ok (by_in d.in_scope r ns l) (λ b. with_step d (steps.Cite b) 1) e h in
-    spelled_step known d e (steps.Cite b.0) 1 g refl b.2
+    let b = bind_ok (by_in d.in_scope r ns l) (λ b. with_step d (Cited b) 1) e h in
+    spelled_step known d e (Cited b.0) 1 g refl b.2
 
 spelled_hence : (known : List Headed) (d e : Draft) (l : RawLit) → Spelled known d → stepped d (forms.Hence l) ≡ Ok e → Spelled known e
 unfolding stepped
 spelled_hence known d e l g h =
-    let m = bind_ok (lit_in d.in_scope l) (λ m. with_step d (steps.Hence m None) 1 >>= λ x. with_terms x (l ∷ [])) e h in
-    let x = bind_ok (with_step d (steps.Hence m.0 None) 1) (λ x. with_terms x (l ∷ [])) e m.2 in
-    spelled_terms known x.0 e (l ∷ []) (spelled_step known d x.0 (steps.Hence m.0 None) 1 g refl x.1) x.2
+    let m = bind_ok (lit_in d.in_scope l) (λ m. with_step d (Inferred m None) 1 >>= λ x. with_terms x (l ∷ [])) e h in
+    let x = bind_ok (with_step d (Inferred m.0 None) 1) (λ x. with_terms x (l ∷ [])) e m.2 in
+    spelled_terms known x.0 e (l ∷ []) (spelled_step known d x.0 (Inferred m.0 None) 1 g refl x.1) x.2
 
 names_listed : (ns : List (List ℕ)) → AreNames ns → list_all is_name ns ≡ true
 names_listed [] h = refl
@@ -172,10 +234,10 @@ spelled_built : (known : List Headed) (d e : Draft) (l : RawLet) → Spelled kno
 unfolding built
 spelled_built known d e l g said h =
     let after : Construction → Names = λ form. named d.in_scope (made form) l.new in
-    let then : Construction → Result Draft Kind = λ form. with_step (record d { in_scope = after form }) (steps.Make form l.new []) (length (gives form (scope_of_names d.in_scope))) in
+    let then : Construction → Result Draft Kind = λ form. with_step (record d { in_scope = after form }) (Made form l.new []) (length (gives form (scope_of_names d.in_scope))) in
     let f = bind_ok (let_in d.in_scope l) (λ form. few_objects (after form) >>= λ few. then form) e h in
     let w = bind_ok (few_objects (after f.0)) (λ few. then f.0) e f.2 in
-    spelled_step known (record d { in_scope = after f.0 }) e (steps.Make f.0 l.new []) (length (gives f.0 (scope_of_names d.in_scope))) (moved known d d.place (after f.0) d.close g g.some) (names_listed l.new said) w.2
+    spelled_step known (record d { in_scope = after f.0 }) e (Made f.0 l.new []) (length (gives f.0 (scope_of_names d.in_scope))) (moved known d d.place (after f.0) d.lines d.facts d.terms g g.some) (names_listed l.new said) w.2
 
 spelled_let : (known : List Headed) (d e : Draft) (l : RawLet) → Spelled known d → AreNames l.new → stepped d (forms.Let l) ≡ Ok e → Spelled known e
 unfolding stepped
@@ -184,6 +246,10 @@ spelled_let known d e l g said h = spelled_built known d e l g said h
 at_proof : (p : Place) (shown : List Lit) → allowed p forms.Proof ≡ true → SomeShown p shown → 0 < length shown
 at_proof Showing shown a s = s
 at_proof p shown a s = absurd cc
+
+at_else : (p : Place) (shown : List Lit) → allowed p forms.Else ≡ true → SomeShown p shown → 0 < length shown
+at_else Splitting shown a s = s
+at_else p shown a s = absurd cc
 
 at_qed : (p : Place) (shown : List Lit) (ns : List (List ℕ)) → allowed p (forms.Qed ns) ≡ true → SomeShown p shown → 0 < length shown
 at_qed Proving shown ns a s = s
@@ -201,28 +267,147 @@ spelled_proof : (known : List Headed) (d e : Draft) → Spelled known d → allo
 unfolding stepped
 spelled_proof known d e g a h =
     let names = declared_names (stated (statement_of_draft d)) d.names in
-    subst (λ (y : Draft). Spelled known y) (ok_is (record d { in_scope = names; place = Proving }) e h) (moved known d Proving names d.close g (at_proof d.place d.shown a g.some))
+    subst (λ (y : Draft). Spelled known y) (ok_is (record d { in_scope = names; place = Proving }) e h) (moved known d Proving names d.lines d.facts d.terms g (at_proof d.place d.shown a g.some))
 
-spelled_shut : (known : List Headed) (d e : Draft) (close : CloseLine) → Spelled known d → 0 < length d.shown → shut d close ≡ Ok e → Spelled known e
+-- ---- blocks inside blocks
+
+spelled_deeper : (known : List Headed) (d e : Draft) (o : Opened) (n : ℕ) → Spelled known d → is_plain_opened o ≡ true → deeper d o n ≡ Ok e → Spelled known e
+unfolding deeper
+spelled_deeper known d e o n g p h =
+    let x : Draft = interrupted d o n in
+    let a = bind_ok (within (d.lines + 1) most_steps limits.Steps) (λ few. within (length d.outers + 2) most_depth limits.Depth >>= λ shallow. within (d.facts + n) most_facts limits.Facts >>= λ none. read_ok x) e h in
+    let b = bind_ok (within (length d.outers + 2) most_depth limits.Depth) (λ shallow. within (d.facts + n) most_facts limits.Facts >>= λ none. read_ok x) e a.2 in
+    let c = bind_ok (within (d.facts + n) most_facts limits.Facts) (λ none. read_ok x) e b.2 in
+    subst (λ (y : Draft). Spelled known y) (ok_is x e c.2)
+    (record { few = g.few; title = g.title; naming = g.naming; some = g.some; blocks = record { inside = refl; around = rw (g.blocks.inside, p, g.blocks.around) refl; shut = g.blocks.shut } })
+
+spelled_claim : (known : List Headed) (d e : Draft) (raws : List RawLit) → Spelled known d → 0 < length raws → stepped d (forms.Claim raws) ≡ Ok e → Spelled known e
+unfolding stepped claimed
+spelled_claim known d e raws g said h =
+    let ls = bind_ok (lits_in d.in_scope raws) (λ ls. deeper d (opened.Claim ls) 0 >>= λ x. few_monos raws >>= λ few. read_ok x) e h in
+    let x = bind_ok (deeper d (opened.Claim ls.0) 0) (λ x. few_monos raws >>= λ few. read_ok x) e ls.2 in
+    let f = bind_ok (few_monos raws) (λ few. read_ok x.0) e x.2 in
+    let n = each_length (lit_in d.in_scope) raws ls.0 ls.1 in
+    let some : ltb 0 (length ls.0) ≡ true = lt-ltb _ _ (omega (arith, n, said)) in
+    subst (λ (y : Draft). Spelled known y) (ok_is x.0 e f.2) (spelled_deeper known d x.0 (opened.Claim ls.0) 0 g some x.1)
+
+abbrev pair_of : Superpose → List Lit → Superpose × List Lit
+pair_of form ls = (form, ls)
+
+-- what a superposition shows has as many literals as are written
+shown_length : (ns : Names) (raw : RawSuperpose) (p : Superpose × List Lit) → superpose_in ns raw ≡ Ok p → length p.1 ≡ length raw.shown
+unfolding superpose_in
+shown_length ns raw p e =
+    let f = bind_ok (placed_in ns raw.args) (λ form. fresh ns [] raw.new >>= λ free. lits_in ns raw.shown >>= λ ls. read_ok (pair_of form ls)) p e in
+    let w = bind_ok (fresh ns [] raw.new) (λ free. lits_in ns raw.shown >>= λ ls. read_ok (pair_of f.0 ls)) p f.2 in
+    let l = bind_ok (lits_in ns raw.shown) (λ ls. read_ok (pair_of f.0 ls)) p w.2 in
+    subst (λ (x : Superpose × List Lit). length x.1 ≡ length raw.shown) (ok_is (pair_of f.0 l.0) p l.2) (each_length (lit_in ns) raw.shown l.0 l.1)
+
+spelled_superpose : (known : List Headed) (d e : Draft) (raw : RawSuperpose) → Spelled known d → AreNames raw.new → 0 < length raw.shown → stepped d (forms.Superpose raw) ≡ Ok e → Spelled known e
+unfolding stepped superposed
+spelled_superpose known d e raw g names said h =
+    let after = named d.in_scope superposing.made raw.new in
+    let gives : Superpose × List Lit → List Lit = λ p. superposing.gives p.0 (scope_of_names d.in_scope) in
+    let then : Draft → ℕ → Draft = λ x n. record x { in_scope = after; terms = n } in
+    let p = bind_ok (superpose_in d.in_scope raw) (λ p. few_objects after >>= λ objects. deeper d (opened.Superpose p.0 raw.new p.1) (length (gives p)) >>= λ x. few_monos raw.shown >>= λ few. terms_after x.terms (gives p) >>= λ n. read_ok (then x n)) e h in
+    let given = gives p.0 in
+    let o = opened.Superpose p.0.0 raw.new p.0.1 in
+    let w = bind_ok (few_objects after) (λ objects. deeper d o (length given) >>= λ x. few_monos raw.shown >>= λ few. terms_after x.terms given >>= λ n. read_ok (then x n)) e p.2 in
+    let x = bind_ok (deeper d o (length given)) (λ x. few_monos raw.shown >>= λ few. terms_after x.terms given >>= λ n. read_ok (then x n)) e w.2 in
+    let f = bind_ok (few_monos raw.shown) (λ few. terms_after x.0.terms given >>= λ n. read_ok (then x.0 n)) e x.2 in
+    let n = bind_ok (terms_after x.0.terms given) (λ n. read_ok (then x.0 n)) e f.2 in
+    let some : ltb 0 (length p.0.1) ≡ true = lt-ltb _ _ (omega (arith, shown_length d.in_scope raw p.0 p.1, said)) in
+    let deep = spelled_deeper known d x.0 o (length given) g (rw (names_listed raw.new names, some) refl) x.1 in
+    subst (λ (y : Draft). Spelled known y) (ok_is (then x.0 n.0) e n.2) (moved known x.0 x.0.place after x.0.lines x.0.facts n.0 deep deep.some)
+
+spelled_split : (known : List Headed) (d e : Draft) (raw : RawLit) → Spelled known d → stepped d (forms.Cases raw) ≡ Ok e → Spelled known e
+unfolding stepped split
+spelled_split known d e raw g h =
+    let l = bind_ok (lit_in d.in_scope raw) (λ l. deeper d (opened.First l) 1 >>= λ x. with_terms x (raw ∷ [])) e h in
+    let x = bind_ok (deeper d (opened.First l.0) 1) (λ x. with_terms x (raw ∷ [])) e l.2 in
+    spelled_terms known x.0 e (raw ∷ []) (spelled_deeper known d x.0 (opened.First l.0) 1 g refl x.1) x.2
+
+spelled_else : (known : List Headed) (d e : Draft) → Spelled known d → allowed d.place forms.Else ≡ true → stepped d forms.Else ≡ Ok e → Spelled known e
+unfolding stepped
+spelled_else known d e g a h =
+    subst (λ (y : Draft). Spelled known y) (ok_is (record d { place = Proving }) e h) (moved known d Proving d.in_scope d.lines d.facts d.terms g (at_else d.place d.shown a g.some))
+
+-- ---- closes
+
+-- what does not change where a block is closed
+record HeadSpelled (known : List Headed) (d : Draft) : Type 0 where
+  few : length known < most_theorems
+  title : is_title d.title ≡ true
+  naming : Naming d.names
+  some : 0 < length d.shown
+  here : SomeShown d.place d.shown
+  shut : is_plain_close d.close ≡ true
+
+spelled_resumed : (known : List Headed) (d e : Draft) (o : Outer) (os : List Outer) (shown : List Lit) (s : PlainStep) → HeadSpelled known d → list_all is_plain_step o.steps ≡ true → list_all is_plain_outer os ≡ true → is_plain_step s ≡ true
+    → resumed d o os shown s ≡ Ok e → Spelled known e
+unfolding resumed counted_from
+spelled_resumed known d e o os shown s g inside around p h =
+    let count : ℕ → Draft = λ n. record d { facts = o.facts + length shown; terms = n } in
+    let then : Draft → Draft = λ x. record x { steps = o.steps ++ s ∷ []; in_scope = o.in_scope; outers = os } in
+    let counting = within (o.facts + length shown) most_facts limits.Facts >>= λ few. terms_after o.terms shown >>= λ n. read_ok (count n) in
+    let x = bind_ok counting (λ x. read_ok (then x)) e h in
+    let f = bind_ok (within (o.facts + length shown) most_facts limits.Facts) (λ few. terms_after o.terms shown >>= λ n. read_ok (count n)) x.0 x.1 in
+    let n = bind_ok (terms_after o.terms shown) (λ n. read_ok (count n)) x.0 f.2 in
+    subst (λ (y : Draft). Spelled known y) (ap then (ok_is (count n.0) x.0 n.2) ∙ ok_is (then x.0) e x.2)
+    (record { few = g.few; title = g.title; naming = g.naming; some = g.here; blocks = record { inside = one_more o.steps s inside p; around = around; shut = g.shut } })
+
+abbrev shut_last : Draft → List PlainStep → CloseLine → Draft
+shut_last d steps close = record d { steps = steps; outers = []; close = close; place = Closed }
+
+-- behind the first block of a split
+abbrev at_second : Draft → Outer → List Outer → Lit → Script → Draft
+at_second d o os lit inner =
+    record d { steps = []; in_scope = o.in_scope; facts = o.facts + 1; terms = o.terms + monomials lit.atom; outers = record o { opened = opened.Second lit inner } ∷ os; place = Splitting }
+
+-- a block is closed inside one that was interrupted; the second block of a split closes that one again
+spelled_inside : (known : List Headed) (d e : Draft) (o : Outer) (os : List Outer) (inner : Script) (by : Opened) → HeadSpelled known d → list_all is_plain_step o.steps ≡ true → is_plain_opened by ≡ true → list_all is_plain_outer os ≡ true
+    → is_plain inner ≡ true → ((close : CloseLine) → is_plain_close close ≡ true → closed d os o.steps close ≡ Ok e → Spelled known e)
+    → closed_inside d o os inner (λ c. closed d os o.steps c) by ≡ Ok e → Spelled known e
+spelled_inside known d e o os inner (opened.Claim shown) g inside p around q again h = spelled_resumed known d e o os shown (Claimed shown inner) g inside around (rw (p, q) refl) h
+spelled_inside known d e o os inner (opened.Superpose form names shown) g inside p around q again h =
+    let n = both (list_all is_name names) (ltb 0 (length shown)) p in
+    spelled_resumed known d e o os shown (Copied form names shown [] inner) g inside around (rw (n.0, n.1, q) refl) h
+spelled_inside known d e o os inner (opened.First lit) g inside p around q again h =
+    subst (λ (y : Draft). Spelled known y) (ok_is (at_second d o os lit inner) e h)
+    (record { few = g.few; title = g.title; naming = g.naming; some = g.some; blocks = record { inside = refl; around = rw (inside, q, around) refl; shut = g.shut } })
+spelled_inside known d e o os inner (opened.Second lit first) g inside p around q again h = again (closes.Cases lit first inner) (rw (p, q) refl) h
+
+spelled_closed : (known : List Headed) (d e : Draft) (os : List Outer) (ss : List PlainStep) (close : CloseLine) → HeadSpelled known d → list_all is_plain_outer os ≡ true → list_all is_plain_step ss ≡ true → is_plain_close close ≡ true
+    → closed d os ss close ≡ Ok e → Spelled known e
+unfolding closed
+spelled_closed known d e [] ss close g around inside k h =
+    subst (λ (y : Draft). Spelled known y) (ok_is (shut_last d ss close) e h)
+    (record { few = g.few; title = g.title; naming = g.naming; some = g.some; blocks = record { inside = inside; around = refl; shut = k } })
+spelled_closed known d e (o ∷ os) ss close g around inside k h =
+    let p = both (is_plain_outer o) (list_all is_plain_outer os) around in
+    let q = both (list_all is_plain_step o.steps) (is_plain_opened o.opened) p.0 in
+    spelled_inside known d e o os (all_before ss (script_of_close close)) o.opened g q.0 q.1 p.1 (plain_script ss close inside k) (λ c kc hc. spelled_closed known d e os o.steps c g p.1 q.0 kc hc) h
+
+spelled_shut : (known : List Headed) (d e : Draft) (close : CloseLine) → Spelled known d → 0 < length d.shown → is_plain_close close ≡ true → shut d close ≡ Ok e → Spelled known e
 unfolding shut
-spelled_shut known d e close g some h =
-    let x : Draft = record d { close = close; place = Closed } in
-    let w = bind_ok (within (length d.steps + 1) most_steps limits.Steps) (λ few. read_ok x) e h in
-    subst (λ (y : Draft). Spelled known y) (ok_is x e w.2) (moved known d Closed d.in_scope close g some)
+spelled_shut known d e close g some k h =
+    let x : Draft = record d { lines = d.lines + 1 } in
+    let w = bind_ok (within (d.lines + 1) most_steps limits.Steps) (λ few. closed x d.outers d.steps close) e h in
+    spelled_closed known x e d.outers d.steps close (record { few = g.few; title = g.title; naming = g.naming; some = some; here = g.some; shut = g.blocks.shut }) g.blocks.around g.blocks.inside k w.2
 
 spelled_qed : (known : List Headed) (d e : Draft) (ns : List (List ℕ)) → Spelled known d → allowed d.place (forms.Qed ns) ≡ true → stepped d (forms.Qed ns) ≡ Ok e → Spelled known e
 unfolding stepped
 spelled_qed known d e ns g a h =
-    let os = bind_ok (qed_in d.in_scope d.made ns) (λ os. shut d (closes.Qed os)) e h in
-    spelled_shut known d e (closes.Qed os.0) g (at_qed d.place d.shown ns a g.some) os.2
+    let os = bind_ok (qed_in d.in_scope (made_in d.outers d.made) ns) (λ os. shut d (closes.Qed os)) e h in
+    spelled_shut known d e (closes.Qed os.0) g (at_qed d.place d.shown ns a g.some) refl os.2
 
 spelled_contradiction : (known : List Headed) (d e : Draft) → Spelled known d → allowed d.place forms.Contradiction ≡ true → stepped d forms.Contradiction ≡ Ok e → Spelled known e
 unfolding stepped
-spelled_contradiction known d e g a h = spelled_shut known d e closes.Contradiction g (at_contradiction d.place d.shown a g.some) h
+spelled_contradiction known d e g a h = spelled_shut known d e closes.Contradiction g (at_contradiction d.place d.shown a g.some) refl h
 
 spelled_end : (known : List Headed) (d e : Draft) → Spelled known d → allowed d.place forms.End ≡ true → stepped d forms.End ≡ Ok e → Spelled known e
 unfolding stepped
-spelled_end known d e g a h = subst (λ (y : Draft). Spelled known y) (ok_is (record d { place = Done }) e h) (moved known d Done d.in_scope d.close g (at_close d.place d.shown a g.some))
+spelled_end known d e g a h = subst (λ (y : Draft). Spelled known y) (ok_is (record d { place = Done }) e h) (moved known d Done d.in_scope d.lines d.facts d.terms g (at_close d.place d.shown a g.some))
 
 no_title : (d e : Draft) (t : List ℕ) → stepped d (forms.Theorem t) ≡ Ok e → ⊥
 unfolding stepped
@@ -240,6 +425,10 @@ spelled_stepped known d e (forms.Hence l) g s a h = spelled_hence known d e l g 
 spelled_stepped known d e (forms.Let l) g s a h = spelled_let known d e l g s h
 spelled_stepped known d e (forms.Qed ns) g s a h = spelled_qed known d e ns g a h
 spelled_stepped known d e forms.Contradiction g s a h = spelled_contradiction known d e g a h
+spelled_stepped known d e (forms.Claim raws) g s a h = spelled_claim known d e raws g s.0 h
+spelled_stepped known d e (forms.Superpose raw) g s a h = spelled_superpose known d e raw g s.0 s.2 h
+spelled_stepped known d e (forms.Cases raw) g s a h = spelled_split known d e raw g h
+spelled_stepped known d e forms.Else g s a h = spelled_else known d e g a h
 spelled_stepped known d e forms.End g s a h = spelled_end known d e g a h
 
 spelled_next : (known : List Headed) (d e : Draft) (f : Form) → Spelled known d → Said f → step d f ≡ Ok e → Spelled known e
@@ -257,7 +446,7 @@ spelled_begin known (forms.Theorem t) e s h =
     let n = untaken (is_known known t) (within (length known + 1) most_theorems limits.Theorems >>= λ few. read_ok (begun t)) e h in
     let w = bind_ok (within (length known + 1) most_theorems limits.Theorems) (λ few. read_ok (begun t)) e n.1 in
     let few = within_ok (length known + 1) most_theorems limits.Theorems w.0 w.1 in
-    subst (λ (y : Draft). Spelled known y) (ok_is (begun t) e w.2) (record { few = omega (arith, few); title = s; naming = no_names; some = tt; plain = refl })
+    subst (λ (y : Draft). Spelled known y) (ok_is (begun t) e w.2) (record { few = omega (arith, few); title = s; naming = no_names; some = tt; blocks = record { inside = refl; around = refl; shut = refl } })
 spelled_begin known f e s h = absurd cc
 
 -- ---- the whole
@@ -270,16 +459,6 @@ spelled_line : (known : List Headed) (draft : Option Draft) (words : List (List 
 unfolding line_step
 spelled_line known None words e g h = let f = bind_ok (form_of words) (λ f. begin known f) e h in spelled_begin known f.0 e (form_said words f.0 f.1) f.2
 spelled_line known (Some d) words e g h = let f = bind_ok (form_of words) (λ f. step d f) e h in spelled_next known d e f.0 g (form_said words f.0 f.1) f.2
-
-plain_script : (ss : List Step) (close : CloseLine) → list_all is_plain_step ss ≡ true → is_plain (steps_script ss (script_of_close close)) ≡ true
-unfolding is_plain
-plain_script [] (closes.Qed os) h = refl
-plain_script [] closes.Contradiction h = refl
-plain_script (steps.Cite by ∷ ss) close h = plain_script ss close h
-plain_script (steps.Hence lit None ∷ ss) close h = plain_script ss close h
-plain_script (steps.Hence lit (Some cert) ∷ ss) close h = absurd cc
-plain_script (steps.Make form names [] ∷ ss) close h = let p = both (list_all is_name names) (list_all is_plain_step ss) h in rw (p.0, plain_script ss close p.1) refl
-plain_script (steps.Make form names (c ∷ cs) ∷ ss) close h = absurd cc
 
 -- what is known of a theorem beside that it fits
 record Named (known : List Headed) (t : Entry) : Type 0 where
@@ -294,7 +473,7 @@ at_last Done shown a s = s
 at_last p shown a s = absurd cc
 
 all_named : (known : List Headed) (d : Draft) → Spelled known d → is_done d ≡ true → Named known (entry_of_draft d)
-all_named known d g a = record { few = g.few; title = g.title; naming = g.naming; some = at_last d.place d.shown a g.some; plain = plain_script d.steps d.close g.plain }
+all_named known d g a = record { few = g.few; title = g.title; naming = g.naming; some = at_last d.place d.shown a g.some; plain = plain_script d.steps d.close g.blocks.inside g.blocks.shut }
 
 reading_names : (known : List Headed) (last : ℕ) (draft : Option Draft) (lines rest : List (Result Seen LineFault)) (t : Entry) → SpelledSoFar known draft → read_from known last draft lines ≡ answered (pair t rest) → Named known t
 reading_names known last None [] rest t g e = absurd cc

@@ -1,10 +1,9 @@
--- Literals with other objects in the place of theirs are in scope where the images are, and as well formed as they were.
-use Rattle.std.proofs.Common.{◌≡◌, ℕ, ◌+◌, ◌≤◌, Bool, true, false, cond, ltb, eqb, ◌&&◌, List, [], ◌∷◌, ◌++◌, map, Option, Some, refl, sym, ap, subst, ◌∙◌, arith}
+-- Literals with other objects in the place of theirs are as well formed as they were; those for made objects are in scope.
+use Rattle.std.proofs.Common.{◌≡◌, ℕ, ◌+◌, Bool, true, false, cond, ltb, eqb, ◌&&◌, List, [], ◌∷◌, map, Option, Some, refl, sym, ap, subst, ◌∙◌, arith}
 use Rattle.std.specs.Option.{option_map_or}
 use Rattle.std.specs.List.{list_all}
-use Rattle.std.proofs.lemmas.Bool.{ltb-true, ltb-false, lt-ltb, eqb-false}
+use Rattle.std.proofs.lemmas.Bool.{ltb-true, ltb-false, eqb-false}
 use Rattle.std.proofs.lemmas.List.{length-map}
-use Rattle.std.proofs.lemmas.List.Folds.{list_all-append}
 use Rattle.e_literal.specs.declared.object.Sort.{Sort}
 use Rattle.e_literal.specs.declared.object.Sort.TheVariants.{Point, Line, Circle}
 use Rattle.e_literal.specs.declared.object.Kind.{Kind}
@@ -16,50 +15,14 @@ use Rattle.e_literal.specs.declared.object.Mono.{Mono}
 use Rattle.e_literal.specs.declared.literal.Atom.{Atom}
 use Rattle.e_literal.specs.declared.literal.Atom.TheVariants as atoms
 use Rattle.e_literal.specs.declared.literal.Lit.{Lit}
-use Rattle.e_literal.specs.Literal.{obj, count_of, is_in_scope, kind_of_term, kind_of_sums, objects_of_term, objects_of_sum, objects_of_atom, all_in_scope}
+use Rattle.e_literal.specs.Literal.{obj, count_of, is_in_scope, kind_of_term, kind_of_sums}
 use Rattle.e_literal.specs.Scopes.{same_sort, with_one, grown, next_objects, are_of_sorts}
 use Rattle.e_literal.specs.WellFormed.{same_kind, is_good_coefficient, is_good_atom, is_well_formed}
 use Rattle.e_literal.specs.Rename.{term_at, mono_at, atom_at, number_at, renamed, same_obj, image_in, paired}
-use Rattle.e_book.specs.Fits.{is_diagram_atom, is_diagram_lit}
+use Rattle.e_construct.proofs.Moving.{is_moved_in}
 use Rattle.e_book.proofs.Differ.{both}
 use Rattle.e_book.proofs.Lookups.{sorts_same}
 use Rattle.e_book.proofs.GoodSums.{is_good_mono, AreGood, GoodSums, good_sums, sums_good}
-
--- ---- in scope
-
--- the object that stands for this one is in scope
-abbrev pub is_moved_in : Scope → (Obj → Option Obj) → Obj → Bool
-is_moved_in s image o = is_in_scope s (obj o.sort (number_at image o.sort o.num))
-
-moved_term : (s : Scope) (image : Obj → Option Obj) (t : Term) → list_all (is_moved_in s image) (objects_of_term t) ≡ true → list_all (is_in_scope s) (objects_of_term (term_at (number_at image Point) t)) ≡ true
-moved_term s image (terms.Seg a b) h = h
-moved_term s image (terms.Ang a b c) h = h
-moved_term s image (terms.Area a b c) h = h
-moved_term s image terms.Right h = h
-
-moved_sum : (s : Scope) (image : Obj → Option Obj) (ms : List Mono) → list_all (is_moved_in s image) (objects_of_sum ms) ≡ true
-    → list_all (is_in_scope s) (objects_of_sum (map (mono_at (number_at image Point)) ms)) ≡ true
-moved_sum s image [] h = refl
-moved_sum s image (m ∷ ms) h =
-    let p = both (list_all (is_moved_in s image) (objects_of_term m.term)) (list_all (is_moved_in s image) (objects_of_sum ms)) (sym (list_all-append (is_moved_in s image) (objects_of_term m.term) (objects_of_sum ms)) ∙ h) in
-    list_all-append (is_in_scope s) (objects_of_term (term_at (number_at image Point) m.term)) (objects_of_sum (map (mono_at (number_at image Point)) ms))
-    ∙ rw (moved_term s image m.term p.0, moved_sum s image ms p.1) refl
-
-moved_sides : (s : Scope) (image : Obj → Option Obj) (x y : List Mono) → list_all (is_moved_in s image) (objects_of_sum x ++ objects_of_sum y) ≡ true
-    → list_all (is_in_scope s) (objects_of_sum (map (mono_at (number_at image Point)) x) ++ objects_of_sum (map (mono_at (number_at image Point)) y)) ≡ true
-moved_sides s image x y h =
-    let p = both (list_all (is_moved_in s image) (objects_of_sum x)) (list_all (is_moved_in s image) (objects_of_sum y)) (sym (list_all-append (is_moved_in s image) (objects_of_sum x) (objects_of_sum y)) ∙ h) in
-    list_all-append (is_in_scope s) (objects_of_sum (map (mono_at (number_at image Point)) x)) (objects_of_sum (map (mono_at (number_at image Point)) y))
-    ∙ rw (moved_sum s image x p.0, moved_sum s image y p.1) refl
-
-moved_atom : (s : Scope) (image : Obj → Option Obj) (a : Atom) → list_all (is_moved_in s image) (objects_of_atom a) ≡ true
-    → list_all (is_in_scope s) (objects_of_atom (atom_at (number_at image Point) (number_at image Line) (number_at image Circle) a)) ≡ true
-moved_atom s image (atoms.MagEq x y) h = moved_sides s image x y h
-moved_atom s image (atoms.MagLt x y) h = moved_sides s image x y h
-moved_atom s image a h = h
-
-pub moved_lit : (s : Scope) (image : Obj → Option Obj) (l : Lit) → list_all (is_moved_in s image) (objects_of_atom l.atom) ≡ true → all_in_scope s (renamed image l) ≡ true
-moved_lit s image l h = moved_atom s image l.atom h
 
 -- ---- well formed
 
@@ -92,14 +55,6 @@ good_moved p l c a h = refl
 
 pub renamed_good : (image : Obj → Option Obj) (l : Lit) → is_well_formed l ≡ true → is_well_formed (renamed image l) ≡ true
 renamed_good image l h = good_moved (number_at image Point) (number_at image Line) (number_at image Circle) l.atom h
-
-diagram_moved : (p l c : ℕ → ℕ) (a : Atom) → is_diagram_atom a ≡ true → is_diagram_atom (atom_at p l c a) ≡ true
-diagram_moved p l c (atoms.MagEq x y) h = h
-diagram_moved p l c (atoms.MagLt x y) h = h
-diagram_moved p l c a h = refl
-
-pub renamed_diagram : (image : Obj → Option Obj) (l : Lit) → is_diagram_lit l ≡ true → is_diagram_lit (renamed image l) ≡ true
-renamed_diagram image l h = diagram_moved (number_at image Point) (number_at image Line) (number_at image Circle) l.atom h
 
 -- ---- made objects
 
@@ -141,24 +96,3 @@ made_moved before s (x ∷ sorts) (t ∷ os) o f i w =
     subst (λ (y : Sort). ltb t.num (count_of s y) ≡ true) (sym (sorts_same x t.sort p.0) ∙ sorts_same x o.sort (both (same_sort x o.sort) (eqb (count_of before x) o.num) e).0) q.0 in
     first_or (count_of s o.sort) o.num t (image_in (paired (next_objects (with_one before x) sorts) os) o) (same_obj new o) image
     (λ e. made_moved (with_one before x) s sorts os o q.1 i (λ j. w (not_new before x o.sort o.num e j)))
-
--- ---- larger scopes
-
-abbrev pub Within : Scope → Scope → Type 0
-Within s t = (sort : Sort) → count_of s sort ≤ count_of t sort
-
-pub in_more : (s t : Scope) → Within s t → (o : Obj) → is_in_scope s o ≡ true → is_in_scope t o ≡ true
-in_more s t w o h = lt-ltb o.num (count_of t o.sort) (omega (arith, ltb-true o.num (count_of s o.sort) h, w o.sort))
-
-pub every : {X : Type 0} (p q : X → Bool) → ((x : X) → p x ≡ true → q x ≡ true) → (xs : List X) → list_all p xs ≡ true → list_all q xs ≡ true
-every p q f [] h = refl
-every p q f (x ∷ xs) h = let a = both (p x) (list_all p xs) h in rw (f x a.0, every p q f xs a.1) refl
-
-pub of_sorts_more : (s t : Scope) → Within s t → (sorts : List Sort) (os : List Obj) → are_of_sorts s sorts os ≡ true → are_of_sorts t sorts os ≡ true
-of_sorts_more s t w [] [] h = refl
-of_sorts_more s t w [] (o ∷ os) h = absurd cc
-of_sorts_more s t w (x ∷ sorts) [] h = absurd cc
-of_sorts_more s t w (x ∷ sorts) (o ∷ os) h =
-    let p = both (same_sort x o.sort) (is_in_scope s o && are_of_sorts s sorts os) h in
-    let q = both (is_in_scope s o) (are_of_sorts s sorts os) p.1 in
-    rw (p.0, in_more s t w o q.0, of_sorts_more s t w sorts os q.1) refl

@@ -1,7 +1,6 @@
 -- The words of a form are read as that form, and a line of them has these words.
 use Rattle.std.proofs.Common.{◌≡◌, ℕ, Bool, true, cond, List, [], ◌∷◌, ◌++◌, Result, Ok, Err, refl, ap, ◌∙◌}
 use Rattle.std.specs.Prelude.{codes}
-use Rattle.std.proofs.lemmas.List.{append-nil}
 use Rattle.e_text.specs.Names.{is_title}
 use Rattle.e_literal.specs.declared.object.Sort.{Sort}
 use Rattle.e_literal.specs.declared.object.Sort.TheVariants as sorts
@@ -17,8 +16,9 @@ use Rattle.e_book.specs.Canonical.{lit_words, sort_word, form_words}
 use Rattle.e_book.specs.HasSpelling.{AreNames}
 use Rattle.e_book.proofs.Differ.{name_differs}
 use Rattle.e_book.proofs.NamesAgain.{Without, titled, names_again, some_names_again, cut_again}
-use Rattle.e_book.proofs.LitsAgain.{LitNamed, lit_again, diagram_again, lits_again}
+use Rattle.e_book.proofs.LitsAgain.{LitNamed, LitsNamed, lit_again, diagram_again, lits_again}
 use Rattle.e_book.proofs.LetsAgain.{LetNamed, as_read as let_as_read, let_again}
+use Rattle.e_book.proofs.SuperposesAgain.{SuperposeNamed, superpose_again}
 
 -- ---- forms
 
@@ -39,6 +39,9 @@ GoodForm (forms.By r ns l) = (is_title r ≡ true) × AreNames ns × LitNamed l 
 GoodForm (forms.Hence l) = LitNamed l
 GoodForm (forms.Let l) = LetNamed l
 GoodForm (forms.Qed ns) = AreNames ns
+GoodForm (forms.Claim ls) = LitsNamed ls
+GoodForm (forms.Superpose s) = SuperposeNamed s
+GoodForm (forms.Cases l) = LitNamed l
 GoodForm f = Unit {0}
 
 -- a form as its words are read
@@ -79,12 +82,12 @@ form_again (forms.Declare sorts.Point (n ∷ ns)) h = declare_again sorts.Point 
 form_again (forms.Declare sorts.Line (n ∷ ns)) h = declare_again sorts.Line n ns h
 form_again (forms.Declare sorts.Circle (n ∷ ns)) h = declare_again sorts.Circle n ns h
 form_again (forms.Given []) h = absurd h
-form_again (forms.Given (l ∷ [])) h = rw (append-nil (lit_words l), lits_again l h) refl
+form_again (forms.Given (l ∷ [])) h = rw (lits_again (l ∷ []) (h, tt)) refl
 form_again (forms.Given (l ∷ m ∷ ls)) h = absurd h
 form_again (forms.Made sort []) h = absurd h
 form_again (forms.Made sort (n ∷ ns)) h = rw (made_again sort n ns h) refl
 form_again (forms.Show []) h = absurd h
-form_again (forms.Show (l ∷ [])) h = rw (append-nil (lit_words l), lits_again l h) refl
+form_again (forms.Show (l ∷ [])) h = rw (lits_again (l ∷ []) (h, tt)) refl
 form_again (forms.Show (l ∷ m ∷ ls)) h = absurd h
 form_again forms.Proof h = refl
 form_again (forms.By r ns l) h = by_again r ns l h.0 h.1 h.2 h.3
@@ -92,4 +95,8 @@ form_again (forms.Hence l) h = rw (lit_again l h) refl
 form_again (forms.Let l) h = rw (let_again l h) refl
 form_again (forms.Qed ns) h = rw (names_again ns h) refl
 form_again forms.Contradiction h = refl
+form_again (forms.Claim ls) h = rw (lits_again ls h) refl
+form_again (forms.Superpose s) h = rw (superpose_again s h) refl
+form_again (forms.Cases l) h = rw (lit_again l h) refl
+form_again forms.Else h = refl
 form_again forms.End h = refl

@@ -1,5 +1,5 @@
 -- What the forms of lines are known to be, and the literals that their names resolve to.
-use Rattle.std.proofs.Common.{◌≡◌, ℕ, ◌+◌, ◌<◌, Bool, true, false, cond, eqb, List, [], ◌∷◌, length, Some, None, Result, Ok, Err, refl, subst, arith}
+use Rattle.std.proofs.Common.{◌≡◌, ℕ, ◌+◌, ◌<◌, Bool, true, false, cond, eqb, List, [], ◌∷◌, length, take, drop, Some, None, Result, Ok, Err, refl, subst, ◌∙◌, arith}
 use Rattle.std.specs.Prelude.{codes}
 use Rattle.std.specs.List.{slice_split}
 use Rattle.std.specs.Str.{bytes_eq}
@@ -14,7 +14,7 @@ use Rattle.e_clause.specs.declared.cert.By.{By}
 use Rattle.e_clause.specs.Instance.{place_of}
 use Rattle.e_clause.specs.Sigs.{sig_of}
 use Rattle.e_construct.specs.declared.construction.Shape.{Shape}
-use Rattle.e_construct.specs.Lines.{pieces}
+use Rattle.e_construct.specs.Lines.{Piece, pieces}
 use Rattle.e_deriv.specs.declared.names.Names.{Names}
 use Rattle.e_book.specs.declared.fault.Kind.{Kind}
 use Rattle.e_book.specs.declared.fault.Kind.TheVariants.{Malformed}
@@ -22,15 +22,18 @@ use Rattle.e_book.specs.declared.literal.RawLit.{RawLit}
 use Rattle.e_book.specs.declared.literal.RawAtom.{RawAtom}
 use Rattle.e_book.specs.declared.literal.RawAtom.TheVariants as raw
 use Rattle.e_book.specs.declared.lets.RawLet.{RawLet}
+use Rattle.e_book.specs.declared.superposes.RawSuperpose.{RawSuperpose}
 use Rattle.e_book.specs.declared.form.Form.{Form}
 use Rattle.e_book.specs.declared.form.Form.TheVariants as forms
 use Rattle.e_book.specs.Reading.{◌>>=◌, or_malformed, word_at, title_at, end_at, cut_at, names_of, not_empty, some_names}
 use Rattle.e_book.specs.Literals.{lit_of, is_diagram_raw, diagram_lit_of, is_semicolon, lits_of}
-use Rattle.e_book.specs.Lets.{new_words, argument_words, shapes_of, avoided_of, let_named, let_of}
+use Rattle.e_book.specs.Superposes.{superpose_pieces, head_of, superpose_of}
+use Rattle.e_book.specs.Lets.{is_word_of, are_words_of, is_place, words_at, new_words, argument_words, shapes_of, avoided_of, let_named, let_of}
 use Rattle.e_book.specs.Forms.{declare_of, sort_of, made_of, by_of, theorem_of, bare, form_named, form_of}
 use Rattle.e_book.specs.Scope.{used, number_of, on_sort, line_meets, meets_from, equal_at, atom_in, negated_in, lit_in, args_in, by_in, known_rule, variables_of, right_count}
 use Rattle.e_book.specs.Fits.{is_diagram_atom, is_diagram_lit}
 use Rattle.e_book.specs.HasSpelling.{AreNames}
+use Rattle.e_book.proofs.Differ.{both}
 use Rattle.e_book.proofs.InScope.{bind_ok, ok_is, read_ok, each_length}
 use Rattle.e_book.proofs.SaidLits.{AtomSaid, LitsSaid, lit_said, lits_said, diagram_said}
 
@@ -46,6 +49,9 @@ Said (forms.Given raws) = LitsSaid raws
 Said (forms.Show raws) = (0 < length raws) × LitsSaid raws
 Said (forms.By r ns l) = is_diagram_raw l.atom ≡ true
 Said (forms.Hence l) = AtomSaid l.atom
+Said (forms.Claim raws) = (0 < length raws) × LitsSaid raws
+Said (forms.Superpose s) = AreNames s.new × (length s.new ≡ 2) × (0 < length s.shown) × LitsSaid s.shown
+Said (forms.Cases l) = AtomSaid l.atom
 Said f = Unit {0}
 
 kept : (b : Bool) (w n : List ℕ) → or_malformed (cond b (Some w) None) ≡ read_ok n → (b ≡ true) × (w ≡ n)
@@ -128,20 +134,71 @@ qed_said ws f e = let a = bind_ok (names_of ws) (λ ns. read_ok (forms.Qed ns)) 
 given_said : (ws : List (List ℕ)) (f : Form) → (lits_of ws >>= λ ls. read_ok (forms.Given ls)) ≡ Ok f → Said f
 given_said ws f e = let a = bind_ok (lits_of ws) (λ ls. read_ok (forms.Given ls)) f e in subst Said (ok_is (forms.Given a.0) f a.2) (lits_said ws a.0 a.1)
 
+some_lits_said : (ws : List (List ℕ)) (ls : List RawLit) → lits_of ws ≡ Ok ls → (0 < length ls) × LitsSaid ls
+some_lits_said ws ls e =
+    let n = each_length lit_of (slice_split is_semicolon ws) ls e in
+    (omega (arith, n, length-slice_split is_semicolon ws), lits_said ws ls e)
+
 show_said : (ws : List (List ℕ)) (f : Form) → (lits_of ws >>= λ ls. read_ok (forms.Show ls)) ≡ Ok f → Said f
 show_said ws f e =
     let a = bind_ok (lits_of ws) (λ ls. read_ok (forms.Show ls)) f e in
-    let n = each_length lit_of (slice_split is_semicolon ws) a.0 a.1 in
-    let some : 0 < length a.0 = omega (arith, n, length-slice_split is_semicolon ws) in
-    subst Said (ok_is (forms.Show a.0) f a.2) (some, lits_said ws a.0 a.1)
+    subst Said (ok_is (forms.Show a.0) f a.2) (some_lits_said ws a.0 a.1)
+
+claim_said : (ws : List (List ℕ)) (f : Form) → (lits_of ws >>= λ ls. read_ok (forms.Claim ls)) ≡ Ok f → Said f
+claim_said ws f e =
+    let a = bind_ok (lits_of ws) (λ ls. read_ok (forms.Claim ls)) f e in
+    subst Said (ok_is (forms.Claim a.0) f a.2) (some_lits_said ws a.0 a.1)
+
+cases_said : (ws : List (List ℕ)) (f : Form) → (lit_of ws >>= λ l. read_ok (forms.Cases l)) ≡ Ok f → Said f
+cases_said ws f e = let a = bind_ok (lit_of ws) (λ l. read_ok (forms.Cases l)) f e in subst Said (ok_is (forms.Cases a.0) f a.2) (lit_said ws a.0 a.1)
 
 bare_said : (ws : List (List ℕ)) (g f : Form) → Said g → bare ws g ≡ Ok f → Said f
 unfolding bare
 bare_said ws g f h e = let a = bind_ok (end_at ws) (λ none. read_ok g) f e in subst Said (ok_is g f a.2) h
 
-found : (b : Bool) (x : Result Form Kind) (f : Form) → cond b x (Err Malformed) ≡ Ok f → x ≡ Ok f
-found true x f e = e
-found false x f e = absurd cc
+found : {A : Type 0} (b : Bool) (x : Result A Kind) (y : A) → cond b x (Err Malformed) ≡ Ok y → x ≡ Ok y
+found true x y e = e
+found false x y e = absurd cc
+
+-- how many words a line has for the pieces of a kind
+abbrev places : Bool → List Piece → ℕ
+places new [] = 0
+places new (p ∷ ps) = cond (is_place new p) 1 0 + places new ps
+
+place_taken : (b : Bool) (w : List ℕ) (ws : List (List ℕ)) (n : ℕ) → length ws ≡ n → length (cond b (w ∷ ws) ws) ≡ cond b 1 0 + n
+place_taken true w ws n e = omega (arith, e)
+place_taken false w ws n e = omega (arith, e)
+
+words_count : (new : Bool) (ps : List Piece) (ws : List (List ℕ)) → are_words_of ps ws ≡ true → length (words_at new ps ws) ≡ places new ps
+words_count new [] [] h = refl
+words_count new [] (w ∷ ws) h = absurd cc
+words_count new (p ∷ ps) [] h = absurd cc
+words_count new (p ∷ ps) (w ∷ ws) h =
+    place_taken (is_place new p) w (words_at new ps ws) (places new ps) (words_count new ps ws (both (is_word_of p w) (are_words_of ps ws) h).1)
+
+raw_found : (b : Bool) (x : Result RawSuperpose Kind) (s : RawSuperpose) → cond b x (Err Malformed) ≡ Ok s → (b ≡ true) × (x ≡ Ok s)
+raw_found true x s e = (refl, e)
+raw_found false x s e = absurd cc
+
+head_said : (head rest : List (List ℕ)) (s : RawSuperpose) → head_of head rest ≡ Ok s → Said (forms.Superpose s)
+unfolding head_of
+head_said head rest s e =
+    let made : List (List ℕ) → List (List ℕ) → List RawLit → RawSuperpose = λ new args ls. record { args = args; new = new; shown = ls } in
+    let news = new_words superpose_pieces head in
+    let arguments = argument_words superpose_pieces head in
+    let b = raw_found (are_words_of superpose_pieces head) (names_of news >>= λ new. names_of arguments >>= λ args. lits_of rest >>= λ ls. read_ok (made new args ls)) s e in
+    let n = bind_ok (names_of news) (λ new. names_of arguments >>= λ args. lits_of rest >>= λ ls. read_ok (made new args ls)) s b.1 in
+    let a = bind_ok (names_of arguments) (λ args. lits_of rest >>= λ ls. read_ok (made n.0 args ls)) s n.2 in
+    let l = bind_ok (lits_of rest) (λ ls. read_ok (made n.0 a.0 ls)) s a.2 in
+    let count : length n.0 ≡ 2 = each_length (λ w. or_malformed (name_of w)) news n.0 n.1 ∙ words_count true superpose_pieces head b.0 in
+    let shown = some_lits_said rest l.0 l.1 in
+    subst (λ (x : RawSuperpose). Said (forms.Superpose x)) (ok_is (made n.0 a.0 l.0) s l.2) (names_said news n.0 n.1, count, shown.0, shown.1)
+
+superpose_said : (ws : List (List ℕ)) (f : Form) → (superpose_of ws >>= λ s. read_ok (forms.Superpose s)) ≡ Ok f → Said f
+unfolding superpose_of
+superpose_said ws f e =
+    let a = bind_ok (head_of (take 13 ws) (drop 13 ws)) (λ s. read_ok (forms.Superpose s)) f e in
+    subst Said (ok_is (forms.Superpose a.0) f a.2) (head_said (take 13 ws) (drop 13 ws) a.0 a.1)
 
 by_said : (ws : List (List ℕ)) (f : Form) → by_of ws ≡ Ok f → Said f
 unfolding by_of
@@ -167,8 +224,12 @@ either false x y f e hx hy = hy e
 named_said : (w : List ℕ) (ws : List (List ℕ)) (f : Form) → form_named w ws ≡ Ok f → Said f
 unfolding form_named
 named_said w ws f e =
-    let r15 : Result Form Kind = Err Malformed in
-    let r14 : Result Form Kind = cond (bytes_eq w (codes "end")) (bare ws forms.End) r15 in
+    let r19 : Result Form Kind = Err Malformed in
+    let r18 : Result Form Kind = cond (bytes_eq w (codes "end")) (bare ws forms.End) r19 in
+    let r17 : Result Form Kind = cond (bytes_eq w (codes "else")) (bare ws forms.Else) r18 in
+    let r16 : Result Form Kind = cond (bytes_eq w (codes "cases")) (lit_of ws >>= λ l. read_ok (forms.Cases l)) r17 in
+    let r15 : Result Form Kind = cond (bytes_eq w (codes "superpose")) (superpose_of ws >>= λ s. read_ok (forms.Superpose s)) r16 in
+    let r14 : Result Form Kind = cond (bytes_eq w (codes "claim")) (lits_of ws >>= λ ls. read_ok (forms.Claim ls)) r15 in
     let r13 : Result Form Kind = cond (bytes_eq w (codes "contradiction")) (bare ws forms.Contradiction) r14 in
     let r12 : Result Form Kind = cond (bytes_eq w (codes "qed")) (names_of ws >>= λ ns. read_ok (forms.Qed ns)) r13 in
     let r11 : Result Form Kind = cond (bytes_eq w (codes "let")) (let_of ws >>= λ l. read_ok (forms.Let l)) r12 in
@@ -194,7 +255,11 @@ named_said w ws f e =
     either (bytes_eq w (codes "let")) (let_of ws >>= λ l. read_ok (forms.Let l)) r12 f e10 (let_said ws f) (λ e11.
     either (bytes_eq w (codes "qed")) (names_of ws >>= λ ns. read_ok (forms.Qed ns)) r13 f e11 (qed_said ws f) (λ e12.
     either (bytes_eq w (codes "contradiction")) (bare ws forms.Contradiction) r14 f e12 (bare_said ws forms.Contradiction f tt) (λ e13.
-    either (bytes_eq w (codes "end")) (bare ws forms.End) r15 f e13 (bare_said ws forms.End f tt) (no_form f))))))))))))))
+    either (bytes_eq w (codes "claim")) (lits_of ws >>= λ ls. read_ok (forms.Claim ls)) r15 f e13 (claim_said ws f) (λ e14.
+    either (bytes_eq w (codes "superpose")) (superpose_of ws >>= λ s. read_ok (forms.Superpose s)) r16 f e14 (superpose_said ws f) (λ e15.
+    either (bytes_eq w (codes "cases")) (lit_of ws >>= λ l. read_ok (forms.Cases l)) r17 f e15 (cases_said ws f) (λ e16.
+    either (bytes_eq w (codes "else")) (bare ws forms.Else) r18 f e16 (bare_said ws forms.Else f tt) (λ e17.
+    either (bytes_eq w (codes "end")) (bare ws forms.End) r19 f e17 (bare_said ws forms.End f tt) (no_form f))))))))))))))))))
 
 pub form_said : (words : List (List ℕ)) (f : Form) → form_of words ≡ Ok f → Said f
 unfolding form_of

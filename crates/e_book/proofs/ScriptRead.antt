@@ -1,308 +1,641 @@
 -- The lines of a proof are read from their canonical spelling.
-use Rattle.std.proofs.Common.{◌≡◌, ℕ, ◌+◌, ◌≤◌, true, false, eqb, ltb, ◌&&◌, List, [], ◌∷◌, ◌++◌, length, map, Some, None, Ok, refl, sym, ap, subst, ◌∙◌, arith, append_assoc, length-append}
+use Rattle.std.proofs.Common.{◌≡◌, ℕ, ◌+◌, ◌≤◌, ◌<◌, true, false, leb, ltb, ◌&&◌, List, [], ◌∷◌, ◌++◌, length, Some, None, Ok, refl, sym, ap, subst, ◌∙◌, arith, append_assoc}
 use Rattle.std.specs.List.{list_all}
-use Rattle.std.proofs.lemmas.Bool.{le-ltb, eq-eqb}
-use Rattle.std.proofs.lemmas.List.{append-nil, length-map}
+use Rattle.std.proofs.lemmas.Bool.{leb-true, ltb-true}
+use Rattle.std.proofs.lemmas.List.{append-nil}
+use Rattle.std.proofs.lemmas.List.Folds.{list_all-append}
 use Rattle.e_text.specs.Names.{is_name}
 use Rattle.e_literal.specs.declared.object.Sort.{Sort}
 use Rattle.e_literal.specs.declared.object.Obj.{Obj}
 use Rattle.e_literal.specs.declared.object.Scope.{Scope}
 use Rattle.e_literal.specs.declared.literal.Lit.{Lit}
-use Rattle.e_literal.specs.Literal.{is_in_scope, all_in_scope}
+use Rattle.e_literal.specs.Literal.{negation, all_in_scope}
 use Rattle.e_literal.specs.WellFormed.{is_well_formed}
-use Rattle.e_literal.specs.Scopes.{same_sort, grown, are_of_sorts}
+use Rattle.e_literal.specs.Scopes.{grown, are_of_sorts}
 use Rattle.e_literal.specs.Facts.{joined, joined_all}
 use Rattle.e_clause.specs.declared.cert.By.{By}
 use Rattle.e_construct.specs.declared.construction.Construction.{Construction}
+use Rattle.e_construct.specs.declared.superpose.Superpose.{Superpose}
 use Rattle.e_construct.specs.Construct.{sorts_of, made, gives, fits as fits_form}
-use Rattle.e_deriv.specs.declared.names.Names.{Names}
-use Rattle.e_deriv.specs.declared.block.Step.{Step}
-use Rattle.e_deriv.specs.declared.block.Step.TheVariants as steps
+use Rattle.e_construct.specs.Superposing as superposing
+use Rattle.e_deriv.specs.PlainStep.{PlainStep, Cited, Inferred, Made, Claimed, Copied}
 use Rattle.e_deriv.specs.Naming.{named}
-use Rattle.e_deriv.specs.Script.{Script, Cite, Hence, Make, Qed, Contradiction, steps_script, size}
-use Rattle.e_deriv.specs.Goal.{Goal}
-use Rattle.e_deriv.specs.Lines.{lines}
-use Rattle.e_deriv.specs.Steps.{is_citation, fits}
+use Rattle.e_deriv.specs.Script.{Script, Cite, Hence, Make, Claim, Superposed, Qed, Contradiction, Cases, size, depth}
+use Rattle.e_deriv.specs.Goal.{Goal, goal_of}
+use Rattle.e_deriv.specs.Lines.{Line, lines}
+use Rattle.e_deriv.specs.Steps.{are_over, is_citation, fits}
+use Rattle.e_book.specs.declared.blocks.Opened.TheVariants as opened
 use Rattle.e_book.specs.declared.steps.CloseLine.{CloseLine}
 use Rattle.e_book.specs.declared.steps.CloseLine.TheVariants as closes
-use Rattle.e_book.specs.declared.draft.Place.TheVariants.{Proving, Closed}
 use Rattle.e_book.specs.declared.draft.Draft.{Draft}
-use Rattle.e_book.specs.Limits.{most_steps, most_facts, most_terms}
+use Rattle.e_book.specs.Limits.{most_steps, most_depth, most_facts, most_terms, monomials, count_monomials}
+use Rattle.e_book.specs.Blocks.{made_in}
 use Rattle.e_book.specs.Headed.{Headed}
-use Rattle.e_book.specs.Scope.{scope_of_names, object_as, objects_of_sorts, qed_in}
-use Rattle.e_book.specs.Steps.{count_monos, few_objects, with_step, with_terms, built, shut, stepped, step}
-use Rattle.e_book.specs.Entry.{script_of_close}
-use Rattle.e_book.specs.Fits.{NewNamesFit, count_given, is_diagram_lit, has_good_literals, monomials, monomials_given}
-use Rattle.e_book.specs.Canonical.{raw_of, name_of_object, by_form, hence_form, let_form, qed_form, contradiction_form, script_forms}
+use Rattle.e_book.specs.Scope.{scope_of_names}
+use Rattle.e_book.specs.Steps.{few_objects, closed}
+use Rattle.e_book.specs.Book.{is_done}
+use Rattle.e_book.specs.Fits.{NewNamesFit, few_facts, few_terms, is_diagram_lit, has_good_literals}
+use Rattle.e_book.specs.Canonical.{script_forms, else_form}
 use Rattle.e_book.specs.HasSpelling.{AreNames, is_plain}
 use Rattle.e_book.proofs.Differ.{both}
-use Rattle.e_book.proofs.Respelled.{as_read}
-use Rattle.e_book.proofs.Lookups.{InOrder, object_again, objects_named, sorts_same}
-use Rattle.e_book.proofs.LitLookups.{lit_number_again, lit_named}
-use Rattle.e_book.proofs.ShortLits.{few_again, count_again}
-use Rattle.e_book.proofs.Cited.{by_number_again, by_good}
-use Rattle.e_book.proofs.Declared.{Runs}
+use Rattle.e_book.proofs.Lookups.{InOrder, objects_named}
+use Rattle.e_book.proofs.LitLookups.{lit_named}
+use Rattle.e_book.proofs.PlainLits.{Plain, PlainLit, lits_named}
+use Rattle.e_book.proofs.Cited.{by_good}
+use Rattle.e_book.proofs.Declared.{Runs, runs_append}
 use Rattle.e_book.proofs.Building.{GoodLet, named_scope}
 use Rattle.e_book.proofs.Growing.{named_in_order}
-use Rattle.e_book.proofs.Built.{of_sorts_in_scope, of_sorts_length, let_number_again, let_named}
-use Rattle.e_book.proofs.HeadRead.{PlainLit}
-
--- a draft in its proof, with these names in scope
-abbrev pub proving : Draft → Names → List Step → ℕ → ℕ → Draft
-proving d ns ss facts terms = record d { in_scope = ns; steps = ss; facts = facts; terms = terms; place = Proving }
-
--- and behind its close
-abbrev pub closed : Draft → Names → List Step → ℕ → ℕ → CloseLine → Draft
-closed d ns ss facts terms close = record d { in_scope = ns; steps = ss; facts = facts; terms = terms; close = close; place = Closed }
-
-abbrev pub steps_of : Script → List Step
-steps_of (Cite by rest) = steps.Cite by ∷ steps_of rest
-steps_of (Hence lit cert rest) = steps.Hence lit cert ∷ steps_of rest
-steps_of (Make form names certs rest) = steps.Make form names certs ∷ steps_of rest
-steps_of (Qed objects certs) = []
-steps_of (Contradiction against) = []
-
-abbrev pub close_of : Script → CloseLine
-close_of (Cite by rest) = close_of rest
-close_of (Hence lit cert rest) = close_of rest
-close_of (Make form names certs rest) = close_of rest
-close_of (Qed objects certs) = closes.Qed objects
-close_of (Contradiction against) = closes.Contradiction
-
--- ---- one line
-
-step_cite : (d : Draft) (ns : Names) (ss : List Step) (facts terms : ℕ) (b : By) → InOrder ns → is_citation (scope_of_names ns) b ≡ true → is_diagram_lit b.lit ≡ true → length ss + 1 ≤ most_steps → facts + 1 ≤ most_facts
-    → step (proving d ns ss facts terms) (by_form ns b) ≡ Ok (proving d ns (ss ++ steps.Cite b ∷ []) (facts + 1) terms)
-unfolding step stepped with_step
-step_cite d ns ss facts terms b o h p few most =
-    let room : ltb most_steps (length ss + 1) ≡ false = le-ltb _ _ few in
-    let place : ltb most_facts (facts + 1) ≡ false = le-ltb _ _ most in
-    rw (by_number_again ns b o h p, room, place) refl
-
-step_hence : (d : Draft) (ns : Names) (ss : List Step) (facts terms : ℕ) (l : Lit) → InOrder ns → PlainLit ns l → length ss + 1 ≤ most_steps → facts + 1 ≤ most_facts → terms + monomials l.atom ≤ most_terms
-    → step (proving d ns ss facts terms) (hence_form ns l) ≡ Ok (proving d ns (ss ++ steps.Hence l None ∷ []) (facts + 1) (terms + monomials l.atom))
-unfolding step stepped with_step with_terms
-step_hence d ns ss facts terms l o p few most short =
-    let room : ltb most_steps (length ss + 1) ≡ false = le-ltb _ _ few in
-    let place : ltb most_facts (facts + 1) ≡ false = le-ltb _ _ most in
-    let more : ltb most_terms (terms + count_monos (raw_of ns l ∷ [])) ≡ false = le-ltb _ _ (omega (arith, short, count_again ns l)) in
-    rw (lit_number_again ns l o p.within p.good, room, place, few_again ns l p.good, more) (ap (λ (n : ℕ). Ok (proving d ns (ss ++ steps.Hence l None ∷ []) (facts + 1) (terms + n))) (count_again ns l))
-
-step_let : (d : Draft) (ns : Names) (ss : List Step) (facts terms : ℕ) (form : Construction) (names : List (List ℕ)) → InOrder ns → GoodLet ns form names → few_objects (named ns (made form) names) ≡ Ok tt
-    → length ss + 1 ≤ most_steps → facts + length (gives form (scope_of_names ns)) ≤ most_facts
-    → step (proving d ns ss facts terms) (as_read (let_form ns form names)) ≡ Ok (proving d (named ns (made form) names) (ss ++ steps.Make form names [] ∷ []) (facts + length (gives form (scope_of_names ns))) terms)
-unfolding step stepped built with_step
-step_let d ns ss facts terms form names o h fit few most =
-    let room : ltb most_steps (length ss + 1) ≡ false = le-ltb _ _ few in
-    let place : ltb most_facts (facts + length (gives form (scope_of_names ns))) ≡ false = le-ltb _ _ most in
-    rw (let_number_again ns form names o h, fit, room, place) refl
-
-objects_read : (ns : Names) (sorts : List Sort) (os : List Obj) → InOrder ns → are_of_sorts (scope_of_names ns) sorts os ≡ true → objects_of_sorts ns sorts (map (name_of_object ns) os) ≡ Ok os
-objects_read ns [] [] o h = refl
-objects_read ns [] (x ∷ os) o h = absurd cc
-objects_read ns (sort ∷ sorts) [] o h = absurd cc
-objects_read ns (sort ∷ sorts) (x ∷ os) o h =
-    let p = both (same_sort sort x.sort) (is_in_scope (scope_of_names ns) x && are_of_sorts (scope_of_names ns) sorts os) h in
-    let q = both (is_in_scope (scope_of_names ns) x) (are_of_sorts (scope_of_names ns) sorts os) p.1 in
-    let one : object_as ns sort (name_of_object ns x) ≡ Ok x = subst (λ (t : Sort). object_as ns t (name_of_object ns x) ≡ Ok x) (sym (sorts_same sort x.sort p.0)) (object_again ns x o q.0) in
-    rw (one, objects_read ns sorts os o q.1) refl
-
-qed_read : (ns : Names) (sorts : List Sort) (os : List Obj) → InOrder ns → are_of_sorts (scope_of_names ns) sorts os ≡ true → qed_in ns sorts (map (name_of_object ns) os) ≡ Ok os
-unfolding qed_in
-qed_read ns sorts os o h =
-    let count : eqb (length (map (name_of_object ns) os)) (length sorts) ≡ true = eq-eqb _ _ (length-map os (name_of_object ns) ∙ of_sorts_length (scope_of_names ns) sorts os h) in
-    rw count (objects_read ns sorts os o h)
-
-step_qed : (d : Draft) (ns : Names) (ss : List Step) (facts terms : ℕ) (os : List Obj) → InOrder ns → are_of_sorts (scope_of_names ns) d.made os ≡ true → length ss + 1 ≤ most_steps
-    → step (proving d ns ss facts terms) (qed_form ns os) ≡ Ok (closed d ns ss facts terms (closes.Qed os))
-unfolding step stepped shut
-step_qed d ns ss facts terms os o h few =
-    let room : ltb most_steps (length ss + 1) ≡ false = le-ltb _ _ few in
-    rw (qed_read ns d.made os o h, room) refl
-
-step_contradiction : (d : Draft) (ns : Names) (ss : List Step) (facts terms : ℕ) → length ss + 1 ≤ most_steps
-    → step (proving d ns ss facts terms) contradiction_form ≡ Ok (closed d ns ss facts terms closes.Contradiction)
-unfolding step stepped shut
-step_contradiction d ns ss facts terms few =
-    let room : ltb most_steps (length ss + 1) ≡ false = le-ltb _ _ few in
-    rw room refl
-
--- ---- all lines
-
-at_least : (x : Script) → 1 ≤ size x
-unfolding size
-at_least (Cite b r) = omega arith
-at_least (Hence l c r) = omega arith
-at_least (Make f ns cs r) = omega arith
-at_least (Qed os cs) = omega arith
-at_least (Contradiction against) = omega arith
-
-list_names : (ns : List (List ℕ)) → list_all is_name ns ≡ true → AreNames ns
-list_names [] h = tt
-list_names (n ∷ ns) h = let p = both (is_name n) (list_all is_name ns) h in (p.0, list_names ns p.1)
-
--- what is known of a script where these names are in scope
-pub record Ready (d : Draft) (ns : Names) (ss : List Step) (facts terms : ℕ) (script : Script) (given : List Lit) (goal : Goal) : Type 0 where
-  pub order : InOrder ns
-  pub goal_sorts : sorts_of goal.made ≡ d.made
-  pub plain : is_plain script ≡ true
-  pub fitting : list_all fits (lines script (scope_of_names ns) given goal) ≡ true
-  pub new_names : NewNamesFit ns script
-  pub few : length ss + size script ≤ most_steps
-  pub most : facts + count_given (scope_of_names ns) script ≤ most_facts
-  pub good : has_good_literals script ≡ true
-  pub short : terms + monomials_given script ≤ most_terms
-
--- its lines are taken, and the draft behind them
-pub record Taken (known : List Headed) (d : Draft) (ns : Names) (ss : List Step) (facts terms : ℕ) (script : Script) : Type 0 where
-  pub in_scope : Names
-  pub given : ℕ
-  pub written : ℕ
-  pub runs : Runs known (Some (proving d ns ss facts terms)) (script_forms ns script) (Some (closed d in_scope (ss ++ steps_of script) given written (close_of script)))
+use Rattle.e_book.proofs.Built.{of_sorts_in_scope, let_named}
+use Rattle.e_book.proofs.Superposed.{GoodSuperpose, superpose_named}
+use Rattle.e_book.proofs.ScriptParts.{steps_of, close_of, same_script, at_least, deep_at_least}
+use Rattle.e_book.proofs.LinesRead.{Inside, proving, splitting, behind, deep, written, copied, resume, second, step_cite, step_hence, step_let, step_claim, step_superpose, step_cases, step_else, step_qed, step_contradiction, claim_closed, superpose_closed, first_closed, second_closed}
 
 -- a line with a certificate is not plain
 no_cert : false ≡ true → ⊥
 no_cert e = absurd cc
 
--- one more step, and what comes behind it
-behind : (known : List Headed) (d : Draft) (ns : Names) (ss : List Step) (facts terms : ℕ) (s : Step) (rest : Script) (t : Taken known d ns (ss ++ s ∷ []) facts terms rest)
-    → Runs known (Some (proving d ns (ss ++ s ∷ []) facts terms)) (script_forms ns rest) (Some (closed d t.in_scope (ss ++ s ∷ steps_of rest) t.given t.written (close_of rest)))
-behind known d ns ss facts terms s rest t =
-    subst (λ (l : List Step). Runs known (Some (proving d ns (ss ++ s ∷ []) facts terms)) (script_forms ns rest) (Some (closed d t.in_scope l t.given t.written (close_of rest)))) (append_assoc ss (s ∷ []) (steps_of rest)) t.runs
+list_names : (ns : List (List ℕ)) → list_all is_name ns ≡ true → AreNames ns
+list_names [] h = tt
+list_names (n ∷ ns) h = let p = both (is_name n) (list_all is_name ns) h in (p.0, list_names ns p.1)
 
-pub run_script : (known : List Headed) (d : Draft) (ns : Names) (ss : List Step) (facts terms : ℕ) (script : Script) (given : List Lit) (goal : Goal) → Ready d ns ss facts terms script given goal → Taken known d ns ss facts terms script
-unfolding script_forms is_plain lines size NewNamesFit count_given has_good_literals monomials_given
-run_script known d ns ss facts terms (Cite by rest) given goal r =
-    let p = both (is_diagram_lit by.lit) (has_good_literals rest) r.good in
-    let q = both (is_citation (scope_of_names ns) by) (list_all fits (lines rest (scope_of_names ns) (joined given by.lit) goal)) r.fitting in
-    let n : length (ss ++ steps.Cite by ∷ []) ≡ length ss + 1 = length-append ss (steps.Cite by ∷ []) in
-    let next = run_script known d ns (ss ++ steps.Cite by ∷ []) (facts + 1) terms rest (joined given by.lit) goal (record {
+both_fit : (xs ys : List Line) → list_all fits (xs ++ ys) ≡ true → (list_all fits xs ≡ true) × (list_all fits ys ≡ true)
+both_fit xs ys h = both (list_all fits xs) (list_all fits ys) (sym (list_all-append fits xs ys) ∙ h)
+
+-- ---- what is known of a script where its first line comes
+
+pub record Ready (d : Draft) (i : Inside) (script : Script) (given : List Lit) (goal : Goal) : Type 0 where
+  pub order : InOrder i.in_scope
+  pub goal_sorts : sorts_of goal.made ≡ made_in i.outers d.made
+  pub plain : is_plain script ≡ true
+  pub fitting : list_all fits (lines script (scope_of_names i.in_scope) given goal) ≡ true
+  pub new_names : NewNamesFit i.in_scope script
+  pub few : i.lines + size script ≤ most_steps
+  pub shallow : length i.outers + depth script ≤ most_depth
+  pub good : has_good_literals script ≡ true
+  pub facts : few_facts i.facts (scope_of_names i.in_scope) script ≡ true
+  pub terms : few_terms i.terms (scope_of_names i.in_scope) script ≡ true
+
+-- its lines are taken, up to the line that closes its block, and what closing the block leaves
+pub record Taken (known : List Headed) (d : Draft) (i : Inside) (script : Script) : Type 0 where
+  pub last : Inside
+  pub lines : last.lines ≡ i.lines + size script
+  pub runs : (e : Draft) → closed (proving d last) i.outers (i.steps ++ steps_of script) (close_of script) ≡ Ok e → is_done e ≡ false
+      → Runs known (Some (proving d i)) (script_forms i.in_scope script) (Some e)
+
+-- one more step, and what comes behind it
+one_more : (d : Draft) (last i : Inside) (s : PlainStep) (rest : Script) (e : Draft) → closed (proving d last) i.outers (i.steps ++ s ∷ steps_of rest) (close_of rest) ≡ Ok e
+    → closed (proving d last) i.outers ((i.steps ++ s ∷ []) ++ steps_of rest) (close_of rest) ≡ Ok e
+one_more d last i s rest e h = ap (λ (l : List PlainStep). closed (proving d last) i.outers l (close_of rest)) (append_assoc i.steps (s ∷ []) (steps_of rest)) ∙ h
+
+no_more : (d : Draft) (last i : Inside) (close : CloseLine) (e : Draft) → closed (proving d last) i.outers (i.steps ++ []) close ≡ Ok e → closed (proving d last) i.outers i.steps close ≡ Ok e
+no_more d last i close e h = ap (λ (l : List PlainStep). closed (proving d last) i.outers l close) (sym (append-nil i.steps)) ∙ h
+
+-- ---- steps without a block inside
+
+cite_ready : (d : Draft) (i : Inside) (b : By) (rest : Script) (given : List Lit) (goal : Goal) → Ready d i (Cite b rest) given goal → Ready d (behind i (Cited b) 1) rest (joined given b.lit) goal
+unfolding is_plain lines NewNamesFit size depth has_good_literals few_facts few_terms
+cite_ready d i b rest given goal r =
+    let s = scope_of_names i.in_scope in
+    record {
       order = r.order;
       goal_sorts = r.goal_sorts;
       plain = r.plain;
-      fitting = q.1;
+      fitting = (both (is_citation s b) (list_all fits (lines rest s (joined given b.lit) goal)) r.fitting).1;
       new_names = r.new_names;
-      few = omega (arith, r.few, n);
-      most = omega (arith, r.most);
-      good = p.1;
-      short = r.short;
-    }) in
+      few = omega (arith, r.few);
+      shallow = r.shallow;
+      good = (both (is_diagram_lit b.lit) (has_good_literals rest) r.good).1;
+      facts = (both (leb (i.facts + 1) most_facts) (few_facts (i.facts + 1) s rest) r.facts).1;
+      terms = r.terms;
+    }
+
+cite_taken : (known : List Headed) (d : Draft) (i : Inside) (b : By) (rest : Script) (given : List Lit) (goal : Goal) → Ready d i (Cite b rest) given goal → Taken known d (behind i (Cited b) 1) rest → Taken known d i (Cite b rest)
+unfolding script_forms lines size has_good_literals few_facts
+cite_taken known d i b rest given goal r t =
+    let s = scope_of_names i.in_scope in
+    let fit = (both (is_citation s b) (list_all fits (lines rest s (joined given b.lit) goal)) r.fitting).0 in
+    let good = (both (is_diagram_lit b.lit) (has_good_literals rest) r.good).0 in
+    let most = leb-true _ _ (both (leb (i.facts + 1) most_facts) (few_facts (i.facts + 1) s rest) r.facts).0 in
     record {
-      in_scope = next.in_scope;
-      given = next.given;
-      written = next.written;
-      runs = (
-        proving d ns (ss ++ steps.Cite by ∷ []) (facts + 1) terms,
-        by_good ns by r.order q.0 p.0,
-        step_cite d ns ss facts terms by r.order q.0 p.0 (omega (arith, r.few)) (omega (arith, r.most)),
+      last = t.last;
+      lines = omega (arith, t.lines);
+      runs = λ e h done. (
+        proving d (behind i (Cited b) 1),
+        by_good i.in_scope b r.order fit good,
+        step_cite d i b r.order fit good (omega (arith, r.few)) most,
         refl,
-        behind known d ns ss (facts + 1) terms (steps.Cite by) rest next,
+        t.runs e (one_more d t.last i (Cited b) rest e h) done,
       );
     }
-run_script known d ns ss facts terms (Hence lit None rest) given goal r =
-    let p = both (is_well_formed lit) (has_good_literals rest) r.good in
-    let q = both (all_in_scope (scope_of_names ns) lit) (list_all fits (lines rest (scope_of_names ns) (joined given lit) goal)) r.fitting in
-    let n : length (ss ++ steps.Hence lit None ∷ []) ≡ length ss + 1 = length-append ss (steps.Hence lit None ∷ []) in
-    let next = run_script known d ns (ss ++ steps.Hence lit None ∷ []) (facts + 1) (terms + monomials lit.atom) rest (joined given lit) goal (record {
+
+abbrev inferred : Inside → Lit → Inside
+inferred i l = written (behind i (Inferred l None) 1) (monomials l.atom)
+
+hence_ready : (d : Draft) (i : Inside) (l : Lit) (rest : Script) (given : List Lit) (goal : Goal) → Ready d i (Hence l None rest) given goal → Ready d (inferred i l) rest (joined given l) goal
+unfolding is_plain lines NewNamesFit size depth has_good_literals few_facts few_terms
+hence_ready d i l rest given goal r =
+    let s = scope_of_names i.in_scope in
+    let n = i.terms + monomials l.atom in
+    record {
       order = r.order;
       goal_sorts = r.goal_sorts;
       plain = r.plain;
-      fitting = q.1;
+      fitting = (both (all_in_scope s l) (list_all fits (lines rest s (joined given l) goal)) r.fitting).1;
       new_names = r.new_names;
-      few = omega (arith, r.few, n);
-      most = omega (arith, r.most);
-      good = p.1;
-      short = omega (arith, r.short);
-    }) in
+      few = omega (arith, r.few);
+      shallow = r.shallow;
+      good = (both (is_well_formed l) (has_good_literals rest) r.good).1;
+      facts = (both (leb (i.facts + 1) most_facts) (few_facts (i.facts + 1) s rest) r.facts).1;
+      terms = (both (leb n most_terms) (few_terms n s rest) r.terms).1;
+    }
+
+hence_taken : (known : List Headed) (d : Draft) (i : Inside) (l : Lit) (rest : Script) (given : List Lit) (goal : Goal) → Ready d i (Hence l None rest) given goal → Taken known d (inferred i l) rest → Taken known d i (Hence l None rest)
+unfolding script_forms lines size has_good_literals few_facts few_terms
+hence_taken known d i l rest given goal r t =
+    let s = scope_of_names i.in_scope in
+    let n = i.terms + monomials l.atom in
+    let fit = (both (all_in_scope s l) (list_all fits (lines rest s (joined given l) goal)) r.fitting).0 in
+    let good = (both (is_well_formed l) (has_good_literals rest) r.good).0 in
+    let most = leb-true _ _ (both (leb (i.facts + 1) most_facts) (few_facts (i.facts + 1) s rest) r.facts).0 in
+    let short = leb-true _ _ (both (leb n most_terms) (few_terms n s rest) r.terms).0 in
     record {
-      in_scope = next.in_scope;
-      given = next.given;
-      written = next.written;
-      runs = (
-        proving d ns (ss ++ steps.Hence lit None ∷ []) (facts + 1) (terms + monomials lit.atom),
-        lit_named ns lit r.order q.0 p.0,
-        step_hence d ns ss facts terms lit r.order (record { within = q.0; good = p.0 }) (omega (arith, r.few)) (omega (arith, r.most)) (omega (arith, r.short)),
+      last = t.last;
+      lines = omega (arith, t.lines);
+      runs = λ e h done. (
+        proving d (inferred i l),
+        lit_named i.in_scope l r.order fit good,
+        step_hence d i l r.order (record { within = fit; good = good }) (omega (arith, r.few)) most short,
         refl,
-        behind known d ns ss (facts + 1) (terms + monomials lit.atom) (steps.Hence lit None) rest next,
+        t.runs e (one_more d t.last i (Inferred l None) rest e h) done,
       );
     }
-run_script known d ns ss facts terms (Hence lit (Some cert) rest) given goal r = absurd (no_cert r.plain)
-run_script known d ns ss facts terms (Make form names [] rest) given goal r =
-    let s = scope_of_names ns in
-    let after = named ns (made form) names in
-    let gifts = length (gives form s) in
+
+abbrev gifts : Inside → Construction → ℕ
+gifts i form = length (gives form (scope_of_names i.in_scope))
+
+abbrev constructed : Inside → Construction → List (List ℕ) → Inside
+constructed i form names = record (behind i (Made form names []) (gifts i form)) { in_scope = named i.in_scope (made form) names }
+
+make_good : (d : Draft) (i : Inside) (form : Construction) (names : List (List ℕ)) (rest : Script) (given : List Lit) (goal : Goal) → Ready d i (Make form names [] rest) given goal → GoodLet i.in_scope form names
+unfolding lines NewNamesFit
+make_good d i form names rest given goal r =
+    let s = scope_of_names i.in_scope in
+    record {
+      fits = (both (fits_form form s) (list_all fits (lines rest (grown s (made form)) (joined_all given (gives form s)) goal)) r.fitting).0;
+      free = r.new_names.0;
+      count = r.new_names.1;
+    }
+
+make_ready : (d : Draft) (i : Inside) (form : Construction) (names : List (List ℕ)) (rest : Script) (given : List Lit) (goal : Goal) → Ready d i (Make form names [] rest) given goal
+    → Ready d (constructed i form names) rest (joined_all given (gives form (scope_of_names i.in_scope))) goal
+unfolding is_plain lines NewNamesFit size depth has_good_literals few_facts few_terms
+make_ready d i form names rest given goal r =
+    let s = scope_of_names i.in_scope in
+    let after = named i.in_scope (made form) names in
+    let facts = joined_all given (gives form s) in
+    let n = i.facts + gifts i form in
+    let scope : grown s (made form) ≡ scope_of_names after = named_scope i.in_scope (made form) names r.new_names.1 in
     let p = both (list_all is_name names) (is_plain rest) r.plain in
-    let facts_then = joined_all given (gives form s) in
-    let q = both (fits_form form s) (list_all fits (lines rest (grown s (made form)) facts_then goal)) r.fitting in
-    let good : GoodLet ns form names = record { fits = q.0; free = r.new_names.0; count = r.new_names.1 } in
-    let names_are = list_names names p.0 in
-    let n : length (ss ++ steps.Make form names [] ∷ []) ≡ length ss + 1 = length-append ss (steps.Make form names [] ∷ []) in
-    let scope : grown s (made form) ≡ scope_of_names after = named_scope ns (made form) names r.new_names.1 in
-    let most : facts + (gifts + count_given (grown s (made form)) rest) ≤ most_facts = r.most in
-    let less : facts + gifts + count_given (grown s (made form)) rest ≤ most_facts = omega (arith, most) in
-    let next = run_script known d after (ss ++ steps.Make form names [] ∷ []) (facts + gifts) terms rest facts_then goal (record {
-      order = named_in_order ns (made form) names r.order names_are r.new_names.0;
+    record {
+      order = named_in_order i.in_scope (made form) names r.order (list_names names p.0) r.new_names.0;
       goal_sorts = r.goal_sorts;
       plain = p.1;
-      fitting = subst (λ (z : Scope). list_all fits (lines rest z facts_then goal) ≡ true) scope q.1;
+      fitting = subst (λ (z : Scope). list_all fits (lines rest z facts goal) ≡ true) scope (both (fits_form form s) (list_all fits (lines rest (grown s (made form)) facts goal)) r.fitting).1;
       new_names = r.new_names.3;
-      few = omega (arith, r.few, n);
-      most = subst (λ (z : Scope). facts + gifts + count_given z rest ≤ most_facts) scope less;
+      few = omega (arith, r.few);
+      shallow = r.shallow;
       good = r.good;
-      short = r.short;
-    }) in
-    record {
-      in_scope = next.in_scope;
-      given = next.given;
-      written = next.written;
-      runs = (
-        proving d after (ss ++ steps.Make form names [] ∷ []) (facts + gifts) terms,
-        let_named ns form names r.order good names_are,
-        step_let d ns ss facts terms form names r.order good r.new_names.2 (omega (arith, r.few, at_least rest)) (omega (arith, less)),
-        refl,
-        behind known d after ss (facts + gifts) terms (steps.Make form names []) rest next,
-      );
+      facts = subst (λ (z : Scope). few_facts n z rest ≡ true) scope (both (leb n most_facts) (few_facts n (grown s (made form)) rest) r.facts).1;
+      terms = subst (λ (z : Scope). few_terms i.terms z rest ≡ true) scope r.terms;
     }
-run_script known d ns ss facts terms (Make form names (c ∷ cs) rest) given goal r = absurd (no_cert r.plain)
-run_script known d ns ss facts terms (Qed os []) given goal r =
-    let q = both (are_of_sorts (scope_of_names ns) (sorts_of goal.made) os) true r.fitting in
-    let h : are_of_sorts (scope_of_names ns) d.made os ≡ true = subst (λ (l : List Sort). are_of_sorts (scope_of_names ns) l os ≡ true) r.goal_sorts q.0 in
-    record {
-      in_scope = ns;
-      given = facts;
-      written = terms;
-      runs = (
-        closed d ns ss facts terms (closes.Qed os),
-        objects_named ns os r.order (of_sorts_in_scope (scope_of_names ns) d.made os h),
-        step_qed d ns ss facts terms os r.order h (omega (arith, r.few)),
-        refl,
-        ap (λ (l : List Step). Some (closed d ns l facts terms (closes.Qed os))) (sym (append-nil ss)),
-      );
-    }
-run_script known d ns ss facts terms (Qed os (c ∷ cs)) given goal r = absurd (no_cert r.plain)
-run_script known d ns ss facts terms (Contradiction None) given goal r =
-    record {
-      in_scope = ns;
-      given = facts;
-      written = terms;
-      runs = (
-        closed d ns ss facts terms closes.Contradiction,
-        tt,
-        step_contradiction d ns ss facts terms (omega (arith, r.few)),
-        refl,
-        ap (λ (l : List Step). Some (closed d ns l facts terms closes.Contradiction)) (sym (append-nil ss)),
-      );
-    }
-run_script known d ns ss facts terms (Contradiction (Some against)) given goal r = absurd (no_cert r.plain)
 
-pub same_script : (script : Script) → is_plain script ≡ true → steps_script (steps_of script) (script_of_close (close_of script)) ≡ script
+make_taken : (known : List Headed) (d : Draft) (i : Inside) (form : Construction) (names : List (List ℕ)) (rest : Script) (given : List Lit) (goal : Goal) → Ready d i (Make form names [] rest) given goal
+    → Taken known d (constructed i form names) rest → Taken known d i (Make form names [] rest)
+unfolding script_forms is_plain NewNamesFit size few_facts
+make_taken known d i form names rest given goal r t =
+    let s = scope_of_names i.in_scope in
+    let n = i.facts + gifts i form in
+    let good = make_good d i form names rest given goal r in
+    let most = leb-true _ _ (both (leb n most_facts) (few_facts n (grown s (made form)) rest) r.facts).0 in
+    record {
+      last = t.last;
+      lines = omega (arith, t.lines);
+      runs = λ e h done. (
+        proving d (constructed i form names),
+        let_named i.in_scope form names r.order good (list_names names (both (list_all is_name names) (is_plain rest) r.plain).0),
+        step_let d i form names r.order good r.new_names.2 (omega (arith, r.few, at_least rest)) most,
+        refl,
+        t.runs e (one_more d t.last i (Made form names []) rest e h) done,
+      );
+    }
+
+-- ---- a claim
+
+record ClaimParts (i : Inside) (shown : List Lit) (inner rest : Script) (given : List Lit) (goal : Goal) : Type 0 where
+  some : 0 < length shown
+  plain_inner : is_plain inner ≡ true
+  plain_rest : is_plain rest ≡ true
+  plain : Plain i.in_scope shown
+  fit_inner : list_all fits (lines inner (scope_of_names i.in_scope) given (goal_of shown)) ≡ true
+  fit_rest : list_all fits (lines rest (scope_of_names i.in_scope) (joined_all given shown) goal) ≡ true
+  good_inner : has_good_literals inner ≡ true
+  good_rest : has_good_literals rest ≡ true
+  facts_inner : few_facts i.facts (scope_of_names i.in_scope) inner ≡ true
+  facts : i.facts + length shown ≤ most_facts
+  facts_rest : few_facts (i.facts + length shown) (scope_of_names i.in_scope) rest ≡ true
+  terms_inner : few_terms i.terms (scope_of_names i.in_scope) inner ≡ true
+  terms : i.terms + count_monomials shown ≤ most_terms
+  terms_rest : few_terms (i.terms + count_monomials shown) (scope_of_names i.in_scope) rest ≡ true
+
+claim_parts : (d : Draft) (i : Inside) (shown : List Lit) (inner rest : Script) (given : List Lit) (goal : Goal) → Ready d i (Claim shown inner rest) given goal → ClaimParts i shown inner rest given goal
+unfolding is_plain lines has_good_literals few_facts few_terms
+claim_parts d i shown inner rest given goal r =
+    let s = scope_of_names i.in_scope in
+    let facts = i.facts + length shown in
+    let terms = i.terms + count_monomials shown in
+    let inside = lines inner s given (goal_of shown) in
+    let after = lines rest s (joined_all given shown) goal in
+    let p = both (ltb 0 (length shown)) (is_plain inner && is_plain rest) r.plain in
+    let pp = both (is_plain inner) (is_plain rest) p.1 in
+    let f = both (are_over s shown) (list_all fits (inside ++ after)) r.fitting in
+    let ff = both_fit inside after f.1 in
+    let g = both (list_all is_well_formed shown) (has_good_literals inner && has_good_literals rest) r.good in
+    let gg = both (has_good_literals inner) (has_good_literals rest) g.1 in
+    let n = both (few_facts i.facts s inner) (leb facts most_facts && few_facts facts s rest) r.facts in
+    let nn = both (leb facts most_facts) (few_facts facts s rest) n.1 in
+    let m = both (few_terms i.terms s inner) (leb terms most_terms && few_terms terms s rest) r.terms in
+    let mm = both (leb terms most_terms) (few_terms terms s rest) m.1 in
+    record {
+      some = ltb-true 0 (length shown) p.0;
+      plain_inner = pp.0;
+      plain_rest = pp.1;
+      plain = record { within = f.0; good = g.0 };
+      fit_inner = ff.0;
+      fit_rest = ff.1;
+      good_inner = gg.0;
+      good_rest = gg.1;
+      facts_inner = n.0;
+      facts = leb-true _ _ nn.0;
+      facts_rest = nn.1;
+      terms_inner = m.0;
+      terms = leb-true _ _ mm.0;
+      terms_rest = mm.1;
+    }
+
+-- an inner block of a claim has as many facts as the block around it
+no_more_facts : (n : ℕ) (s : Scope) (inner : Script) → few_facts n s inner ≡ true → few_facts (n + 0) s inner ≡ true
+no_more_facts n s inner h = subst (λ (k : ℕ). few_facts k s inner ≡ true) (omega arith) h
+
+claim_inner : (d : Draft) (i : Inside) (shown : List Lit) (inner rest : Script) (given : List Lit) (goal : Goal) → Ready d i (Claim shown inner rest) given goal → Ready d (deep i (opened.Claim shown) 0) inner given (goal_of shown)
+unfolding NewNamesFit size depth
+claim_inner d i shown inner rest given goal r =
+    let p = claim_parts d i shown inner rest given goal r in
+    record {
+      order = r.order;
+      goal_sorts = refl;
+      plain = p.plain_inner;
+      fitting = p.fit_inner;
+      new_names = r.new_names.0;
+      few = omega (arith, r.few);
+      shallow = omega (arith, r.shallow);
+      good = p.good_inner;
+      facts = no_more_facts i.facts (scope_of_names i.in_scope) inner p.facts_inner;
+      terms = p.terms_inner;
+    }
+
+claim_rest : (d : Draft) (i : Inside) (n : ℕ) (shown : List Lit) (inner rest : Script) (given : List Lit) (goal : Goal) → n ≡ i.lines + 1 + size inner → Ready d i (Claim shown inner rest) given goal
+    → Ready d (resume i n (Claimed shown inner) shown) rest (joined_all given shown) goal
+unfolding NewNamesFit size depth
+claim_rest d i n shown inner rest given goal e r =
+    let p = claim_parts d i shown inner rest given goal r in
+    record {
+      order = r.order;
+      goal_sorts = r.goal_sorts;
+      plain = p.plain_rest;
+      fitting = p.fit_rest;
+      new_names = r.new_names.1;
+      few = omega (arith, r.few, e);
+      shallow = omega (arith, r.shallow);
+      good = p.good_rest;
+      facts = p.facts_rest;
+      terms = p.terms_rest;
+    }
+
+claim_taken : (known : List Headed) (d : Draft) (i : Inside) (shown : List Lit) (inner rest : Script) (given : List Lit) (goal : Goal) → Ready d i (Claim shown inner rest) given goal
+    → (t : Taken known d (deep i (opened.Claim shown) 0) inner) → Taken known d (resume i t.last.lines (Claimed shown inner) shown) rest → Taken known d i (Claim shown inner rest)
+unfolding script_forms size depth
+claim_taken known d i shown inner rest given goal r t u =
+    let p = claim_parts d i shown inner rest given goal r in
+    let begins = deep i (opened.Claim shown) 0 in
+    let after = resume i t.last.lines (Claimed shown inner) shown in
+    let few : i.facts + 0 ≤ most_facts = omega (arith, p.facts) in
+    record {
+      last = u.last;
+      lines = omega (arith, t.lines, u.lines);
+      runs = λ e h done. (
+        proving d begins,
+        lits_named i.in_scope shown r.order p.plain p.some,
+        step_claim d i shown r.order p.plain (omega (arith, r.few, at_least rest)) (omega (arith, r.shallow, deep_at_least inner)) few,
+        refl,
+        runs_append known (Some (proving d begins)) (Some (proving d after)) (Some e) (script_forms i.in_scope inner) (script_forms i.in_scope rest)
+            (t.runs (proving d after) (claim_closed d i t.last shown (steps_of inner) (close_of inner) inner (same_script inner p.plain_inner) p.facts p.terms) refl)
+            (u.runs e (one_more d u.last i (Claimed shown inner) rest e h) done),
+      );
+    }
+
+-- ---- a superposition
+
+record CopyParts (i : Inside) (form : Superpose) (names : List (List ℕ)) (shown : List Lit) (inner rest : Script) (given : List Lit) (goal : Goal) : Type 0 where
+  good : GoodSuperpose i.in_scope form names shown
+  few : few_objects (named i.in_scope superposing.made names) ≡ Ok tt
+  plain_inner : is_plain inner ≡ true
+  plain_rest : is_plain rest ≡ true
+  fit_inner : list_all fits (lines inner (scope_of_names (named i.in_scope superposing.made names)) (joined_all given (superposing.gives form (scope_of_names i.in_scope))) (goal_of shown)) ≡ true
+  fit_rest : list_all fits (lines rest (scope_of_names i.in_scope) (joined_all given shown) goal) ≡ true
+  good_inner : has_good_literals inner ≡ true
+  good_rest : has_good_literals rest ≡ true
+  facts_first : (copied i form names shown).facts ≤ most_facts
+  facts_inner : few_facts (copied i form names shown).facts (scope_of_names (named i.in_scope superposing.made names)) inner ≡ true
+  facts : i.facts + length shown ≤ most_facts
+  facts_rest : few_facts (i.facts + length shown) (scope_of_names i.in_scope) rest ≡ true
+  terms_first : (copied i form names shown).terms ≤ most_terms
+  terms_inner : few_terms (copied i form names shown).terms (scope_of_names (named i.in_scope superposing.made names)) inner ≡ true
+  terms : i.terms + count_monomials shown ≤ most_terms
+  terms_rest : few_terms (i.terms + count_monomials shown) (scope_of_names i.in_scope) rest ≡ true
+
+copy_parts : (d : Draft) (i : Inside) (form : Superpose) (names : List (List ℕ)) (shown : List Lit) (inner rest : Script) (given : List Lit) (goal : Goal) → Ready d i (Superposed form names shown [] inner rest) given goal
+    → CopyParts i form names shown inner rest given goal
+unfolding is_plain lines NewNamesFit has_good_literals few_facts few_terms
+copy_parts d i form names shown inner rest given goal r =
+    let s = scope_of_names i.in_scope in
+    let t = grown s superposing.made in
+    let gives = superposing.gives form s in
+    let begun = joined_all given gives in
+    let scope : t ≡ scope_of_names (named i.in_scope superposing.made names) = named_scope i.in_scope superposing.made names r.new_names.1 in
+    let n = i.facts + length gives in
+    let m = i.terms + count_monomials gives in
+    let facts = i.facts + length shown in
+    let terms = i.terms + count_monomials shown in
+    let inside = lines inner t begun (goal_of shown) in
+    let after = lines rest s (joined_all given shown) goal in
+    let p = both (list_all is_name names) (ltb 0 (length shown) && (is_plain inner && is_plain rest)) r.plain in
+    let q = both (ltb 0 (length shown)) (is_plain inner && is_plain rest) p.1 in
+    let pp = both (is_plain inner) (is_plain rest) q.1 in
+    let f = both (superposing.fits form s && are_over s shown) (list_all fits (inside ++ after)) r.fitting in
+    let fs = both (superposing.fits form s) (are_over s shown) f.0 in
+    let ff = both_fit inside after f.1 in
+    let g = both (list_all is_well_formed shown) (has_good_literals inner && has_good_literals rest) r.good in
+    let gg = both (has_good_literals inner) (has_good_literals rest) g.1 in
+    let a = both (leb n most_facts) (few_facts n t inner && (leb facts most_facts && few_facts facts s rest)) r.facts in
+    let aa = both (few_facts n t inner) (leb facts most_facts && few_facts facts s rest) a.1 in
+    let ab = both (leb facts most_facts) (few_facts facts s rest) aa.1 in
+    let b = both (leb m most_terms) (few_terms m t inner && (leb terms most_terms && few_terms terms s rest)) r.terms in
+    let ba = both (few_terms m t inner) (leb terms most_terms && few_terms terms s rest) b.1 in
+    let bb = both (leb terms most_terms) (few_terms terms s rest) ba.1 in
+    record {
+      good = record { order = r.order; fits = fs.0; free = r.new_names.0; named = list_names names p.0; count = r.new_names.1; plain = record { within = fs.1; good = g.0 }; some = ltb-true 0 (length shown) q.0 };
+      few = r.new_names.2;
+      plain_inner = pp.0;
+      plain_rest = pp.1;
+      fit_inner = subst (λ (z : Scope). list_all fits (lines inner z begun (goal_of shown)) ≡ true) scope ff.0;
+      fit_rest = ff.1;
+      good_inner = gg.0;
+      good_rest = gg.1;
+      facts_first = leb-true _ _ a.0;
+      facts_inner = subst (λ (z : Scope). few_facts n z inner ≡ true) scope aa.0;
+      facts = leb-true _ _ ab.0;
+      facts_rest = ab.1;
+      terms_first = leb-true _ _ b.0;
+      terms_inner = subst (λ (z : Scope). few_terms m z inner ≡ true) scope ba.0;
+      terms = leb-true _ _ bb.0;
+      terms_rest = bb.1;
+    }
+
+copy_inner : (d : Draft) (i : Inside) (form : Superpose) (names : List (List ℕ)) (shown : List Lit) (inner rest : Script) (given : List Lit) (goal : Goal) → Ready d i (Superposed form names shown [] inner rest) given goal
+    → Ready d (copied i form names shown) inner (joined_all given (superposing.gives form (scope_of_names i.in_scope))) (goal_of shown)
+unfolding NewNamesFit size depth
+copy_inner d i form names shown inner rest given goal r =
+    let p = copy_parts d i form names shown inner rest given goal r in
+    record {
+      order = named_in_order i.in_scope superposing.made names r.order p.good.named p.good.free;
+      goal_sorts = refl;
+      plain = p.plain_inner;
+      fitting = p.fit_inner;
+      new_names = r.new_names.3;
+      few = omega (arith, r.few);
+      shallow = omega (arith, r.shallow);
+      good = p.good_inner;
+      facts = p.facts_inner;
+      terms = p.terms_inner;
+    }
+
+copy_rest : (d : Draft) (i : Inside) (n : ℕ) (form : Superpose) (names : List (List ℕ)) (shown : List Lit) (inner rest : Script) (given : List Lit) (goal : Goal) → n ≡ i.lines + 1 + size inner
+    → Ready d i (Superposed form names shown [] inner rest) given goal → Ready d (resume i n (Copied form names shown [] inner) shown) rest (joined_all given shown) goal
+unfolding NewNamesFit size depth
+copy_rest d i n form names shown inner rest given goal e r =
+    let p = copy_parts d i form names shown inner rest given goal r in
+    record {
+      order = r.order;
+      goal_sorts = r.goal_sorts;
+      plain = p.plain_rest;
+      fitting = p.fit_rest;
+      new_names = r.new_names.4;
+      few = omega (arith, r.few, e);
+      shallow = omega (arith, r.shallow);
+      good = p.good_rest;
+      facts = p.facts_rest;
+      terms = p.terms_rest;
+    }
+
+copy_taken : (known : List Headed) (d : Draft) (i : Inside) (form : Superpose) (names : List (List ℕ)) (shown : List Lit) (inner rest : Script) (given : List Lit) (goal : Goal) → Ready d i (Superposed form names shown [] inner rest) given goal
+    → (t : Taken known d (copied i form names shown) inner) → Taken known d (resume i t.last.lines (Copied form names shown [] inner) shown) rest → Taken known d i (Superposed form names shown [] inner rest)
+unfolding script_forms size depth
+copy_taken known d i form names shown inner rest given goal r t u =
+    let p = copy_parts d i form names shown inner rest given goal r in
+    let begins = copied i form names shown in
+    let after = resume i t.last.lines (Copied form names shown [] inner) shown in
+    record {
+      last = u.last;
+      lines = omega (arith, t.lines, u.lines);
+      runs = λ e h done. (
+        proving d begins,
+        superpose_named i.in_scope form names shown p.good,
+        step_superpose d i form names shown p.good p.few (omega (arith, r.few, at_least rest)) (omega (arith, r.shallow, deep_at_least inner)) p.facts_first p.terms_first,
+        refl,
+        runs_append known (Some (proving d begins)) (Some (proving d after)) (Some e) (script_forms begins.in_scope inner) (script_forms i.in_scope rest)
+            (t.runs (proving d after) (superpose_closed d i t.last form names shown (steps_of inner) (close_of inner) inner (same_script inner p.plain_inner) p.facts p.terms) refl)
+            (u.runs e (one_more d u.last i (Copied form names shown [] inner) rest e h) done),
+      );
+    }
+
+-- ---- a split
+
+abbrev opens : Inside → Lit → Inside
+opens i l = written (deep i (opened.First l) 1) (monomials l.atom)
+
+record CasesParts (i : Inside) (l : Lit) (one two : Script) (given : List Lit) (goal : Goal) : Type 0 where
+  plain_first : is_plain one ≡ true
+  plain_second : is_plain two ≡ true
+  plain : PlainLit i.in_scope l
+  fit_first : list_all fits (lines one (scope_of_names i.in_scope) (joined given l) goal) ≡ true
+  fit_second : list_all fits (lines two (scope_of_names i.in_scope) (joined given (negation l)) goal) ≡ true
+  good_first : has_good_literals one ≡ true
+  good_second : has_good_literals two ≡ true
+  facts : i.facts + 1 ≤ most_facts
+  facts_first : few_facts (i.facts + 1) (scope_of_names i.in_scope) one ≡ true
+  facts_second : few_facts (i.facts + 1) (scope_of_names i.in_scope) two ≡ true
+  terms : i.terms + monomials l.atom ≤ most_terms
+  terms_first : few_terms (i.terms + monomials l.atom) (scope_of_names i.in_scope) one ≡ true
+  terms_second : few_terms (i.terms + monomials l.atom) (scope_of_names i.in_scope) two ≡ true
+
+cases_parts : (d : Draft) (i : Inside) (l : Lit) (one two : Script) (given : List Lit) (goal : Goal) → Ready d i (Cases l one two) given goal → CasesParts i l one two given goal
+unfolding is_plain lines has_good_literals few_facts few_terms
+cases_parts d i l one two given goal r =
+    let s = scope_of_names i.in_scope in
+    let n = i.facts + 1 in
+    let m = i.terms + monomials l.atom in
+    let in_one = lines one s (joined given l) goal in
+    let in_two = lines two s (joined given (negation l)) goal in
+    let p = both (is_plain one) (is_plain two) r.plain in
+    let f = both (all_in_scope s l) (list_all fits (in_one ++ in_two)) r.fitting in
+    let ff = both_fit in_one in_two f.1 in
+    let g = both (is_well_formed l) (has_good_literals one && has_good_literals two) r.good in
+    let gg = both (has_good_literals one) (has_good_literals two) g.1 in
+    let a = both (leb n most_facts) (few_facts n s one && few_facts n s two) r.facts in
+    let aa = both (few_facts n s one) (few_facts n s two) a.1 in
+    let b = both (leb m most_terms) (few_terms m s one && few_terms m s two) r.terms in
+    let bb = both (few_terms m s one) (few_terms m s two) b.1 in
+    record {
+      plain_first = p.0;
+      plain_second = p.1;
+      plain = record { within = f.0; good = g.0 };
+      fit_first = ff.0;
+      fit_second = ff.1;
+      good_first = gg.0;
+      good_second = gg.1;
+      facts = leb-true _ _ a.0;
+      facts_first = aa.0;
+      facts_second = aa.1;
+      terms = leb-true _ _ b.0;
+      terms_first = bb.0;
+      terms_second = bb.1;
+    }
+
+cases_first : (d : Draft) (i : Inside) (l : Lit) (one two : Script) (given : List Lit) (goal : Goal) → Ready d i (Cases l one two) given goal → Ready d (opens i l) one (joined given l) goal
+unfolding NewNamesFit size depth
+cases_first d i l one two given goal r =
+    let p = cases_parts d i l one two given goal r in
+    record {
+      order = r.order;
+      goal_sorts = r.goal_sorts;
+      plain = p.plain_first;
+      fitting = p.fit_first;
+      new_names = r.new_names.0;
+      few = omega (arith, r.few);
+      shallow = omega (arith, r.shallow);
+      good = p.good_first;
+      facts = p.facts_first;
+      terms = p.terms_first;
+    }
+
+cases_second : (d : Draft) (i : Inside) (n : ℕ) (l : Lit) (one two : Script) (given : List Lit) (goal : Goal) → n ≡ i.lines + 1 + size one → Ready d i (Cases l one two) given goal
+    → Ready d (second i n l one) two (joined given (negation l)) goal
+unfolding NewNamesFit size depth
+cases_second d i n l one two given goal e r =
+    let p = cases_parts d i l one two given goal r in
+    record {
+      order = r.order;
+      goal_sorts = r.goal_sorts;
+      plain = p.plain_second;
+      fitting = p.fit_second;
+      new_names = r.new_names.1;
+      few = omega (arith, r.few, e);
+      shallow = omega (arith, r.shallow);
+      good = p.good_second;
+      facts = p.facts_second;
+      terms = p.terms_second;
+    }
+
+cases_taken : (known : List Headed) (d : Draft) (i : Inside) (l : Lit) (one two : Script) (given : List Lit) (goal : Goal) → Ready d i (Cases l one two) given goal
+    → (t : Taken known d (opens i l) one) → Taken known d (second i t.last.lines l one) two → Taken known d i (Cases l one two)
+unfolding script_forms size depth
+cases_taken known d i l one two given goal r t u =
+    let p = cases_parts d i l one two given goal r in
+    let between = second i t.last.lines l one in
+    record {
+      last = u.last;
+      lines = omega (arith, t.lines, u.lines);
+      runs = λ e h done. (
+        proving d (opens i l),
+        lit_named i.in_scope l r.order p.plain.within p.plain.good,
+        step_cases d i l r.order p.plain (omega (arith, r.few, at_least one)) (omega (arith, r.shallow, deep_at_least one)) p.facts p.terms,
+        refl,
+        runs_append known (Some (proving d (opens i l))) (Some (splitting d between)) (Some e) (script_forms i.in_scope one) (else_form ∷ script_forms i.in_scope two)
+            (t.runs (splitting d between) (first_closed d i t.last l (steps_of one) (close_of one) one (same_script one p.plain_first)) refl) (
+              proving d between,
+              tt,
+              step_else d between,
+              refl,
+              u.runs e (second_closed d i u.last l one (steps_of two) (close_of two) two (same_script two p.plain_second) ∙ no_more d u.last i (closes.Cases l one two) e h) done,
+            ),
+      );
+    }
+
+-- ---- other lines that close a block
+
+abbrev one_line : Inside → Inside
+one_line i = record i { lines = i.lines + 1 }
+
+qed_taken : (known : List Headed) (d : Draft) (i : Inside) (os : List Obj) (given : List Lit) (goal : Goal) → Ready d i (Qed os []) given goal → Taken known d i (Qed os [])
+unfolding script_forms lines size
+qed_taken known d i os given goal r =
+    let s = scope_of_names i.in_scope in
+    let q = (both (are_of_sorts s (sorts_of goal.made) os) true r.fitting).0 in
+    let h : are_of_sorts s (made_in i.outers d.made) os ≡ true = subst (λ (l : List Sort). are_of_sorts s l os ≡ true) r.goal_sorts q in
+    record {
+      last = one_line i;
+      lines = refl;
+      runs = λ e c done. (
+        e,
+        objects_named i.in_scope os r.order (of_sorts_in_scope s (made_in i.outers d.made) os h),
+        step_qed d i os r.order h (omega (arith, r.few)) ∙ no_more d (one_line i) i (closes.Qed os) e c,
+        done,
+        refl,
+      );
+    }
+
+contradiction_taken : (known : List Headed) (d : Draft) (i : Inside) (given : List Lit) (goal : Goal) → Ready d i (Contradiction None) given goal → Taken known d i (Contradiction None)
+unfolding script_forms size
+contradiction_taken known d i given goal r = record {
+  last = one_line i;
+  lines = refl;
+  runs = λ e c done. (e, tt, step_contradiction d i (omega (arith, r.few)) ∙ no_more d (one_line i) i closes.Contradiction e c, done, refl);
+}
+
+-- ---- all lines
+
+pub run_script : (known : List Headed) (d : Draft) (i : Inside) (script : Script) (given : List Lit) (goal : Goal) → Ready d i script given goal → Taken known d i script
 unfolding is_plain
-same_script (Cite by rest) p = ap (λ (s : Script). Cite by s) (same_script rest p)
-same_script (Hence lit None rest) p = ap (λ (s : Script). Hence lit None s) (same_script rest p)
-same_script (Hence lit (Some cert) rest) p = absurd cc
-same_script (Make form names [] rest) p = ap (λ (s : Script). Make form names [] s) (same_script rest (both (list_all is_name names) (is_plain rest) p).1)
-same_script (Make form names (c ∷ cs) rest) p = absurd cc
-same_script (Qed os []) p = refl
-same_script (Qed os (c ∷ cs)) p = absurd cc
-same_script (Contradiction None) p = refl
-same_script (Contradiction (Some against)) p = absurd cc
+run_script known d i (Cite b rest) given goal r = cite_taken known d i b rest given goal r (run_script known d (behind i (Cited b) 1) rest (joined given b.lit) goal (cite_ready d i b rest given goal r))
+run_script known d i (Hence l None rest) given goal r = hence_taken known d i l rest given goal r (run_script known d (inferred i l) rest (joined given l) goal (hence_ready d i l rest given goal r))
+run_script known d i (Hence l (Some cert) rest) given goal r = absurd (no_cert r.plain)
+run_script known d i (Make form names [] rest) given goal r =
+    make_taken known d i form names rest given goal r (run_script known d (constructed i form names) rest (joined_all given (gives form (scope_of_names i.in_scope))) goal (make_ready d i form names rest given goal r))
+run_script known d i (Make form names (c ∷ cs) rest) given goal r = absurd (no_cert r.plain)
+run_script known d i (Claim shown inner rest) given goal r =
+    let t = run_script known d (deep i (opened.Claim shown) 0) inner given (goal_of shown) (claim_inner d i shown inner rest given goal r) in
+    let u = run_script known d (resume i t.last.lines (Claimed shown inner) shown) rest (joined_all given shown) goal (claim_rest d i t.last.lines shown inner rest given goal t.lines r) in
+    claim_taken known d i shown inner rest given goal r t u
+run_script known d i (Superposed form names shown [] inner rest) given goal r =
+    let t = run_script known d (copied i form names shown) inner (joined_all given (superposing.gives form (scope_of_names i.in_scope))) (goal_of shown) (copy_inner d i form names shown inner rest given goal r) in
+    let u = run_script known d (resume i t.last.lines (Copied form names shown [] inner) shown) rest (joined_all given shown) goal (copy_rest d i t.last.lines form names shown inner rest given goal t.lines r) in
+    copy_taken known d i form names shown inner rest given goal r t u
+run_script known d i (Superposed form names shown (c ∷ cs) inner rest) given goal r = absurd (no_cert r.plain)
+run_script known d i (Qed os []) given goal r = qed_taken known d i os given goal r
+run_script known d i (Qed os (c ∷ cs)) given goal r = absurd (no_cert r.plain)
+run_script known d i (Contradiction None) given goal r = contradiction_taken known d i given goal r
+run_script known d i (Contradiction (Some against)) given goal r = absurd (no_cert r.plain)
+run_script known d i (Cases l one two) given goal r =
+    let t = run_script known d (opens i l) one (joined given l) goal (cases_first d i l one two given goal r) in
+    let u = run_script known d (second i t.last.lines l one) two (joined given (negation l)) goal (cases_second d i t.last.lines l one two given goal t.lines r) in
+    cases_taken known d i l one two given goal r t u

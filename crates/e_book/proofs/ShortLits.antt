@@ -1,5 +1,5 @@
 -- A literal that is well formed is within the limits, as it is spelled.
-use Rattle.std.proofs.Common.{◌≡◌, ◌+◌, Bool, true, false, leb, List, [], ◌∷◌, ◌++◌, length, Ok, refl, ◌∙◌, arith, length-append}
+use Rattle.std.proofs.Common.{◌≡◌, ◌+◌, Bool, true, false, leb, List, [], ◌∷◌, ◌++◌, length, map, Ok, refl, ◌∙◌, arith, length-append}
 use Rattle.std.specs.List.{list_all}
 use Rattle.std.proofs.lemmas.Bool.{le-leb}
 use Rattle.std.proofs.lemmas.List.{length-map}
@@ -16,7 +16,7 @@ use Rattle.e_deriv.specs.declared.names.Names.{Names}
 use Rattle.e_book.specs.declared.sum.RawMono.{RawMono}
 use Rattle.e_book.specs.Limits.{most_monomials, most_coefficient}
 use Rattle.e_book.specs.Literals.{monos_of}
-use Rattle.e_book.specs.Steps.{count_monos, few_monos}
+use Rattle.e_book.specs.Steps.{are_short, are_small, count_monos, few_monos}
 use Rattle.e_book.specs.Fits.{monomials, count_monomials}
 use Rattle.e_book.specs.Canonical.{raw_mono, raw_sum, raw_signed, raw_of}
 use Rattle.e_book.proofs.Differ.{both}
@@ -58,6 +58,24 @@ short_lit ns false a h = short_none
 pub few_again : (ns : Names) (l : Lit) → is_well_formed l ≡ true → few_monos (raw_of ns l ∷ []) ≡ Ok tt
 unfolding few_monos
 few_again ns l h = let s = short_lit ns l.neg l.atom h in rw (s.short, s.small) refl
+
+short_lits : (ns : Names) (ls : List Lit) → list_all is_well_formed ls ≡ true → are_short (map (raw_of ns) ls) ≡ true
+short_lits ns [] h = refl
+short_lits ns (l ∷ ls) h =
+    let p = both (is_well_formed l) (list_all is_well_formed ls) h in
+    let s = short_lit ns l.neg l.atom p.0 in
+    rw (s.short, short_lits ns ls p.1) refl
+
+small_lits : (ns : Names) (ls : List Lit) → list_all is_well_formed ls ≡ true → are_small (map (raw_of ns) ls) ≡ true
+small_lits ns [] h = refl
+small_lits ns (l ∷ ls) h =
+    let p = both (is_well_formed l) (list_all is_well_formed ls) h in
+    let s = short_lit ns l.neg l.atom p.0 in
+    rw (s.small, small_lits ns ls p.1) refl
+
+pub all_few_again : (ns : Names) (ls : List Lit) → list_all is_well_formed ls ≡ true → few_monos (map (raw_of ns) ls) ≡ Ok tt
+unfolding few_monos
+all_few_again ns ls h = rw (short_lits ns ls h, small_lits ns ls h) refl
 
 same_count : (ns : Names) (x y : List Mono) → length (raw_sum ns x ++ raw_sum ns y) ≡ length (x ++ y)
 same_count ns x y = omega (arith, length-append (raw_sum ns x) (raw_sum ns y), length-append x y, length-map x (raw_mono ns), length-map y (raw_mono ns))

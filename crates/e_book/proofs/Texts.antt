@@ -4,8 +4,8 @@ use Rattle.std.specs.List.{position_or_len}
 use Rattle.std.specs.Str.{bytes_eq}
 use Rattle.std.proofs.Math.ListN.{get_or-map}
 use Rattle.std.proofs.lemmas.Bool.{lt-ltb}
-use Rattle.std.proofs.lemmas.List.{length-map, take-map, drop-map, drop-drop, take_all}
-use Rattle.std.specs.Prelude.{codes}
+use Rattle.std.proofs.lemmas.List.{length-map, take-map, drop-map, drop-drop, take_all, take_min, drop_min}
+use Rattle.std.specs.Prelude.{codes, min}
 use Rattle.e_book.specs.Reading.{texts, cut_at}
 use Rattle.e_book.specs.Literals.{is_semicolon}
 use Rattle.e_book.proofs.Loops.{parts_at, parts_from}
@@ -15,6 +15,13 @@ text_at words i d = sym (get_or-map (λ w. w.now) words i d)
 
 pub length-texts : (words : List (Bor (List ℕ))) → length (texts words) ≡ length words
 length-texts words = length-map words (λ w. w.now)
+
+-- the texts of a front, and of what is behind it
+pub front_texts : (words front : List (Bor (List ℕ))) (n k : ℕ) → k ≡ min n (length words) → front ≡ take k words → texts front ≡ take n (texts words)
+front_texts words front n k e f = ap texts (f ∙ ap (λ j. take j words) e ∙ take_min n words) ∙ sym (take-map (λ (w : Bor (List ℕ)). w.now) n words)
+
+pub back_texts : (words back : List (Bor (List ℕ))) (n k : ℕ) → k ≡ min n (length words) → back ≡ drop k words → texts back ≡ drop n (texts words)
+back_texts words back n k e f = ap texts (f ∙ ap (λ j. drop j words) e ∙ drop_min n words) ∙ sym (drop-map (λ (w : Bor (List ℕ)). w.now) n words)
 
 pub cut_at-found : (word : List ℕ) (words part rest : List (Bor (List ℕ))) (end : ℕ) → end ≡ position_or_len (λ w. bytes_eq w word) (texts words) → end < length words → part ≡ take end words → rest ≡ drop end words
     → cut_at word (texts words) ≡ (texts part, texts (take (length rest - 1) (drop 1 rest)), true)

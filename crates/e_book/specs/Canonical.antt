@@ -18,13 +18,15 @@ use Rattle.e_clause.specs.declared.cert.By.{By}
 use Rattle.e_clause.specs.Instance.{name_of}
 use Rattle.e_construct.specs.declared.construction.Shape.{Shape}
 use Rattle.e_construct.specs.declared.construction.Construction.{Construction}
+use Rattle.e_construct.specs.declared.superpose.Superpose.{Superpose}
 use Rattle.e_construct.specs.Construct.{made}
+use Rattle.e_construct.specs.Superposing as superposing
 use Rattle.e_construct.specs.Lines.{Piece, New, Argument, Word, pieces}
 use Rattle.e_theorem.specs.declared.statement.Statement.{Statement}
 use Rattle.e_theorem.specs.Statements.{stated}
 use Rattle.e_deriv.specs.declared.names.Names.{Names}
 use Rattle.e_deriv.specs.Naming.{names_of_sort, named, declared_names}
-use Rattle.e_deriv.specs.Script.{Script, Cite, Hence, Make, Qed, Contradiction}
+use Rattle.e_deriv.specs.Script.{Script, Cite, Hence, Make, Claim, Superposed, Qed, Contradiction, Cases}
 use Rattle.e_book.specs.declared.sum.RawTerm.{RawTerm}
 use Rattle.e_book.specs.declared.sum.RawTerm.TheVariants as rawterms
 use Rattle.e_book.specs.declared.sum.RawMono.{RawMono}
@@ -32,8 +34,10 @@ use Rattle.e_book.specs.declared.literal.RawLit.{RawLit}
 use Rattle.e_book.specs.declared.literal.RawAtom.{RawAtom}
 use Rattle.e_book.specs.declared.literal.RawAtom.TheVariants as raw
 use Rattle.e_book.specs.declared.lets.RawLet.{RawLet}
+use Rattle.e_book.specs.declared.superposes.RawSuperpose.{RawSuperpose}
 use Rattle.e_book.specs.declared.form.Form.{Form}
 use Rattle.e_book.specs.declared.form.Form.TheVariants as forms
+use Rattle.e_book.specs.Superposes.{superpose_pieces}
 use Rattle.e_book.specs.Entry.{Entry}
 
 -- ---- sums
@@ -136,6 +140,9 @@ avoid_words (n ∷ ns) = codes "avoid" ∷ n ∷ ns
 abbrev pub let_words : RawLet → List (List ℕ)
 let_words l = filled (line_pieces l.shapes) l.new l.args ++ avoid_words l.avoid
 
+abbrev pub superpose_words : RawSuperpose → List (List ℕ)
+superpose_words s = filled superpose_pieces s.new s.args ++ lits_words s.shown
+
 abbrev pub form_words : Form → List (List ℕ)
 form_words (forms.Theorem t) = codes "theorem" ∷ t ∷ []
 form_words (forms.Declare sort ns) = sort_word sort ∷ ns
@@ -148,6 +155,10 @@ form_words (forms.Hence l) = codes "hence" ∷ lit_words l
 form_words (forms.Let l) = codes "let" ∷ let_words l
 form_words (forms.Qed ns) = codes "qed" ∷ ns
 form_words forms.Contradiction = codes "contradiction" ∷ []
+form_words (forms.Claim ls) = codes "claim" ∷ lits_words ls
+form_words (forms.Superpose s) = codes "superpose" ∷ superpose_words s
+form_words (forms.Cases l) = codes "cases" ∷ lit_words l
+form_words forms.Else = codes "else" ∷ []
 form_words forms.End = codes "end" ∷ []
 
 -- a line without its end
@@ -220,6 +231,30 @@ abbrev pub let_form : Names → Construction → List (List ℕ) → Form
 let_form ns form names =
     forms.Let (record { shapes = form.shape ∷ []; new = names; args = map (name_of_object ns) form.args; avoid = map (name_of_object ns) form.avoid })
 
+abbrev pub claim_form : Names → List Lit → Form
+claim_form ns shown = forms.Claim (map (raw_of ns) shown)
+
+-- the names of a superposition's points and lines, in the order of its line
+abbrev pub placed_names : Names → Superpose → List (List ℕ)
+placed_names ns form =
+    point 0 ∷ point 1 ∷ point 2 ∷ line 0 ∷ point 3 ∷ point 4 ∷ point 5 ∷ line 1 ∷ []
+  where
+    point : ℕ → List ℕ
+    point i = name_at ns.points (slice_index_or form.points i 0)
+
+    line : ℕ → List ℕ
+    line i = name_at ns.lines (slice_index_or form.lines i 0)
+
+-- the names before it are those of the objects and of the literals
+abbrev pub superpose_form : Names → Superpose → List (List ℕ) → List Lit → Form
+superpose_form ns form names shown = forms.Superpose (record { args = placed_names ns form; new = names; shown = map (raw_of ns) shown })
+
+abbrev pub cases_form : Names → Lit → Form
+cases_form ns lit = forms.Cases (raw_of ns lit)
+
+abbrev pub else_form : Form
+else_form = forms.Else
+
 -- names of objects of one sort, for one line
 pub record Group : Type 0 where
   pub sort : Sort
@@ -274,13 +309,17 @@ abbrev pub end_form : Form
 end_form = forms.End
 
 -- the forms of a script's lines, where these names are in scope before the first: those of new objects come into scope
--- behind the line that makes them
+-- behind the line that makes them, and those of an inner block are gone behind it
 unfoldable pub script_forms : Names → Script → List Form
 script_forms ns (Cite by rest) = by_form ns by ∷ script_forms ns rest
 script_forms ns (Hence lit cert rest) = hence_form ns lit ∷ script_forms ns rest
 script_forms ns (Make form names certs rest) = let_form ns form names ∷ script_forms (named ns (made form) names) rest
+script_forms ns (Claim shown inner rest) = claim_form ns shown ∷ (script_forms ns inner ++ script_forms ns rest)
+script_forms ns (Superposed form names shown certs inner rest) =
+    superpose_form ns form names shown ∷ (script_forms (named ns superposing.made names) inner ++ script_forms ns rest)
 script_forms ns (Qed objects certs) = qed_form ns objects ∷ []
 script_forms ns (Contradiction against) = contradiction_form ∷ []
+script_forms ns (Cases lit first second) = cases_form ns lit ∷ (script_forms ns first ++ else_form ∷ script_forms ns second)
 
 -- the names that a theorem's proof begins with: those of the declared objects
 abbrev pub names_of_proof : Entry → Names

@@ -1,8 +1,8 @@
 -- What a theorem is that canonical lines can spell.
-use Rattle.std.specs.Prelude.{◌≡◌, ℕ, ◌<◌, Bool, true, false, ◌&&◌, List, [], length, None, Some}
+use Rattle.std.specs.Prelude.{◌≡◌, ℕ, ◌<◌, Bool, true, false, ◌&&◌, List, [], length, nat_lt, None, Some}
 use Rattle.std.specs.List.{list_all, AllByRecursion}
 use Rattle.e_text.specs.Names.{is_name, is_title}
-use Rattle.e_deriv.specs.Script.{Script, Cite, Hence, Make, Qed, Contradiction}
+use Rattle.e_deriv.specs.Script.{Script, Cite, Hence, Make, Claim, Superposed, Qed, Contradiction, Cases}
 use Rattle.e_book.specs.Limits.{most_theorems}
 use Rattle.e_book.specs.Headed.{Headed}
 use Rattle.e_book.specs.Entry.{Entry}
@@ -11,17 +11,22 @@ use Rattle.e_book.specs.Fits.{Fits}
 abbrev pub AreNames : List (List ℕ) → Type 0
 AreNames names = AllByRecursion (λ n. is_name n ≡ true) names
 
--- no line has a certificate, and new objects have names
+-- no line has a certificate, new objects have names, and inner blocks show something
 unfoldable pub is_plain : Script → Bool
 is_plain (Cite by rest) = is_plain rest
 is_plain (Hence lit None rest) = is_plain rest
 is_plain (Hence lit (Some cert) rest) = false
 is_plain (Make form names [] rest) = list_all is_name names && is_plain rest
 is_plain (Make form names certs rest) = false
+is_plain (Claim shown inner rest) = nat_lt 0 (length shown) && (is_plain inner && is_plain rest)
+is_plain (Superposed form names shown [] inner rest) =
+    list_all is_name names && (nat_lt 0 (length shown) && (is_plain inner && is_plain rest))
+is_plain (Superposed form names shown certs inner rest) = false
 is_plain (Qed objects []) = true
 is_plain (Qed objects certs) = false
 is_plain (Contradiction None) = true
 is_plain (Contradiction (Some against)) = false
+is_plain (Cases lit first second) = is_plain first && is_plain second
 
 pub record HasSpelling (known : List Headed) (t : Entry) : Type 0 where
   -- objects in scope, names that differ, fitting arguments at each citation and construction, names of new objects that are

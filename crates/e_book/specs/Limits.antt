@@ -1,7 +1,10 @@
 -- The limits of a book.
-use Rattle.std.specs.Prelude.{ℕ, nat_lt, Result, Ok, Err, if◌then◌else◌}
+use Rattle.std.specs.Prelude.{ℕ, ◌+◌, ◌++◌, List, length, sum_by, nat_lt, Result, Ok, Err, if◌then◌else◌}
 use Rattle.e_literal.specs.declared.object.Sort.{Sort}
 use Rattle.e_literal.specs.declared.object.Sort.TheVariants as sorts
+use Rattle.e_literal.specs.declared.literal.Atom.{Atom}
+use Rattle.e_literal.specs.declared.literal.Atom.TheVariants as atoms
+use Rattle.e_literal.specs.declared.literal.Lit.{Lit}
 use Rattle.e_book.specs.declared.fault.Kind.{Kind}
 use Rattle.e_book.specs.declared.fault.Kind.TheVariants.{Limit}
 use Rattle.e_book.specs.declared.fault.What.{What}
@@ -20,6 +23,10 @@ most_of sorts.Circle = 16
 -- step and close lines of a theorem
 abbrev pub most_steps : ℕ
 most_steps = 1024
+
+-- blocks one inside the other
+abbrev pub most_depth : ℕ
+most_depth = 32
 
 -- literals that are facts, repeats counted
 abbrev pub most_facts : ℕ
@@ -45,3 +52,12 @@ what_of sorts.Circle = limits.Circles
 -- at most so many, or the limit
 abbrev pub within : ℕ → ℕ → What → Result (Unit {0}) Kind
 within n most what = if nat_lt most n then Err (Limit what) else Ok tt
+
+-- how many monomials an atom has
+abbrev pub monomials : Atom → ℕ
+monomials (atoms.MagEq x y) = length (x ++ y)
+monomials (atoms.MagLt x y) = length (x ++ y)
+monomials a = 0
+
+abbrev pub count_monomials : List Lit → ℕ
+count_monomials ls = sum_by (λ l. monomials l.atom) ls

@@ -1,32 +1,42 @@
 -- A theorem while its lines come, one after another.
-use Rattle.std.specs.Prelude.{ℕ, ◌+◌, ◌≤◌, Bool, true, false, List, [], ◌∷◌, ◌++◌, length, replicate, sum_by, nat_le, None, Result, Ok, Err, if◌then◌else◌}
+use Rattle.std.specs.Prelude.{ℕ, ◌+◌, ◌≤◌, Bool, true, false, ◌≡◌, Option, List, [], ◌∷◌, ◌++◌, length, replicate, sum_by, nat_le, Some, None, Result, Ok, Err, if◌then◌else◌}
 use Rattle.std.specs.List.{list_all}
 use Rattle.e_literal.specs.declared.object.Sort.{Sort}
 use Rattle.e_literal.specs.declared.object.Sort.TheVariants as sorts
+use Rattle.e_literal.specs.declared.literal.Lit.{Lit}
 use Rattle.e_construct.specs.Construct.{made, gives}
+use Rattle.e_construct.specs.Superposing as superposing
 use Rattle.e_deriv.specs.declared.names.Names.{Names}
 use Rattle.e_deriv.specs.Naming.{names_of_sort, with_names, named, declared_names}
-use Rattle.e_deriv.specs.declared.block.Step.{Step}
-use Rattle.e_deriv.specs.declared.block.Step.TheVariants as steps
+use Rattle.e_deriv.specs.PlainStep.{PlainStep, Cited, Inferred, Made, Claimed, Copied, all_before}
+use Rattle.e_deriv.specs.Script.{Script}
 use Rattle.e_book.specs.declared.fault.Kind.{Kind}
 use Rattle.e_book.specs.declared.fault.Kind.TheVariants.{Malformed, NameTaken, Limit}
 use Rattle.e_book.specs.declared.fault.What.{What}
 use Rattle.e_book.specs.declared.fault.What.TheVariants as limits
 use Rattle.e_book.specs.declared.literal.RawLit.{RawLit}
 use Rattle.e_book.specs.declared.lets.RawLet.{RawLet}
+use Rattle.e_book.specs.declared.superposes.RawSuperpose.{RawSuperpose}
+use Rattle.e_book.specs.declared.blocks.Outer.{Outer}
+use Rattle.e_book.specs.declared.blocks.Opened.{Opened}
+use Rattle.e_book.specs.declared.blocks.Opened.TheVariants as opened
 use Rattle.e_book.specs.declared.form.Form.{Form}
 use Rattle.e_book.specs.declared.form.Form.TheVariants as forms
 use Rattle.e_book.specs.declared.steps.CloseLine.{CloseLine}
 use Rattle.e_book.specs.declared.steps.CloseLine.TheVariants as closes
 use Rattle.e_book.specs.declared.draft.Place.{Place}
-use Rattle.e_book.specs.declared.draft.Place.TheVariants.{Declaring, Giving, Making, Showing, Proving, Closed, Done}
+use Rattle.e_book.specs.declared.draft.Place.TheVariants.{Declaring, Giving, Making, Showing, Proving, Splitting, Closed, Done}
 use Rattle.e_book.specs.declared.draft.Draft.{Draft}
-use Rattle.e_book.specs.Reading.{◌>>=◌, with_front}
+use Rattle.e_book.specs.declared.draft.Around.{Around}
+use Rattle.e_book.specs.declared.fault.Trouble.{Trouble}
+use Rattle.e_book.specs.Reading.{◌>>=◌, with_front, Fails}
 use Rattle.e_book.specs.Literals.{monos_of}
-use Rattle.e_book.specs.Limits.{most_theorems, most_of, most_steps, most_facts, most_monomials, most_coefficient, most_terms, what_of, within}
+use Rattle.e_book.specs.Limits.{most_theorems, most_of, most_steps, most_depth, most_facts, most_monomials, most_coefficient, most_terms, what_of, within, monomials, count_monomials}
 use Rattle.e_theorem.specs.Statements.{stated}
 use Rattle.e_book.specs.Headed.{Headed, is_known}
-use Rattle.e_book.specs.Entry.{statement_of_draft}
+use Rattle.e_book.specs.Entry.{statement_of_draft, script_of_close}
+use Rattle.e_book.specs.Blocks.{made_in}
+use Rattle.e_book.specs.Superposes.{superpose_in}
 use Rattle.e_book.specs.Scope.{scope_of_names, fresh, lit_in, lits_in, by_in, let_in, qed_in}
 
 -- which lines may come at a place
@@ -47,6 +57,10 @@ allowed Proving (forms.Hence l) = true
 allowed Proving (forms.Let l) = true
 allowed Proving (forms.Qed ns) = true
 allowed Proving forms.Contradiction = true
+allowed Proving (forms.Claim ls) = true
+allowed Proving (forms.Superpose s) = true
+allowed Proving (forms.Cases l) = true
+allowed Splitting forms.Else = true
 allowed Closed forms.End = true
 allowed place form = false
 
@@ -65,11 +79,11 @@ few_objects ns = do
   within (length ns.circles) (most_of sorts.Circle) limits.Circles
 
 -- one more step line, and so many more facts
-unfoldable pub with_step : Draft → Step → ℕ → Result Draft Kind
+unfoldable pub with_step : Draft → PlainStep → ℕ → Result Draft Kind
 with_step d s given = do
-  few ← within (length d.steps + 1) most_steps limits.Steps
+  few ← within (d.lines + 1) most_steps limits.Steps
   none ← within (d.facts + given) most_facts limits.Facts
-  Ok (record d { steps = d.steps ++ s ∷ []; facts = d.facts + given })
+  Ok (record d { lines = d.lines + 1; steps = d.steps ++ s ∷ []; facts = d.facts + given })
 
 -- no literal has more monomials than it may
 abbrev pub are_short : List RawLit → Bool
@@ -96,6 +110,9 @@ few_monos raws = do
 abbrev pub terms_behind : ℕ → List RawLit → Result ℕ Kind
 terms_behind n raws = within (n + count_monos raws) most_terms limits.Terms >>= λ few. Ok (n + count_monos raws)
 
+abbrev pub terms_after : ℕ → List Lit → Result ℕ Kind
+terms_after n ls = within (n + count_monomials ls) most_terms limits.Terms >>= λ few. Ok (n + count_monomials ls)
+
 -- the limits of literals that become facts, behind that of facts
 unfoldable pub with_terms : Draft → List RawLit → Result Draft Kind
 with_terms d raws = do
@@ -109,13 +126,117 @@ built d raw = do
   form ← let_in d.in_scope raw
   let after = named d.in_scope (made form) raw.new
   few ← few_objects after
-  with_step (record d { in_scope = after }) (steps.Make form raw.new []) (length (gives form (scope_of_names d.in_scope)))
+  with_step (record d { in_scope = after }) (Made form raw.new []) (length (gives form (scope_of_names d.in_scope)))
 
--- a close line: the limit of steps
+-- ---- blocks inside a block
+
+-- the block that an inner one interrupts
+abbrev pub outer_of : Draft → Opened → Outer
+outer_of d opened = record { steps = d.steps; in_scope = d.in_scope; facts = d.facts; terms = d.terms; opened = opened }
+
+-- an inner block begins, in which so many literals are facts at once
+abbrev pub interrupted : Draft → Opened → ℕ → Draft
+interrupted d opened given = record d { lines = d.lines + 1; outers = outer_of d opened ∷ d.outers; steps = []; facts = d.facts + given }
+
+-- the limits of steps, of depth and of facts there
+unfoldable pub room_inside : Draft → ℕ → Result (Unit {0}) Kind
+room_inside d given = do
+  few ← within (d.lines + 1) most_steps limits.Steps
+  shallow ← within (length d.outers + 2) most_depth limits.Depth
+  within (d.facts + given) most_facts limits.Facts
+
+-- a line that begins an inner block, within these limits
+unfoldable pub deeper : Draft → Opened → ℕ → Result Draft Kind
+deeper d opened given = do
+  few ← within (d.lines + 1) most_steps limits.Steps
+  shallow ← within (length d.outers + 2) most_depth limits.Depth
+  none ← within (d.facts + given) most_facts limits.Facts
+  Ok (interrupted d opened given)
+
+-- a claim: its literals are facts only behind its block
+unfoldable pub claimed : Draft → List RawLit → Result Draft Kind
+claimed d raws = do
+  ls ← lits_in d.in_scope raws
+  e ← deeper d (opened.Claim ls) 0
+  few ← few_monos raws
+  Ok e
+
+-- the block of a superposition begins with these names and facts
+unfoldable pub copies_begun : Draft → Opened → Names → (given : List Lit) → (shown : List RawLit) → Result Draft Kind
+copies_begun d what after given shown = do
+  e ← deeper d what (length given)
+  few ← few_monos shown
+  n ← terms_after e.terms given
+  Ok (record e { in_scope = after; terms = n })
+
+-- a superposition: its block begins with the copied points and what it gives
+unfoldable pub superposed : Draft → RawSuperpose → Result Draft Kind
+superposed d raw = do
+  p ← superpose_in d.in_scope raw
+  let given = superposing.gives p.0 (scope_of_names d.in_scope)
+  let after = named d.in_scope superposing.made raw.new
+  objects ← few_objects after
+  e ← deeper d (opened.Superpose p.0 raw.new p.1) (length given)
+  few ← few_monos raw.shown
+  n ← terms_after e.terms given
+  Ok (record e { in_scope = after; terms = n })
+
+-- a split: its first block begins with the literal
+unfoldable pub split : Draft → RawLit → Result Draft Kind
+split d raw = do
+  l ← lit_in d.in_scope raw
+  e ← deeper d (opened.First l) 1
+  with_terms e (raw ∷ [])
+
+-- the counts behind a block that shows these literals: the limits of facts and of monomials
+unfoldable pub counted_from : Draft → (facts terms : ℕ) → List Lit → Result Draft Kind
+counted_from d facts terms shown = do
+  few ← within (facts + length shown) most_facts limits.Facts
+  n ← terms_after terms shown
+  Ok (record d { facts = facts + length shown; terms = n })
+
+-- what a block shows is a step of the block around it
+unfoldable pub resumed : Draft → Outer → List Outer → List Lit → PlainStep → Result Draft Kind
+resumed d o os shown s = do
+  e ← counted_from d o.facts o.terms shown
+  Ok (record e { steps = o.steps ++ s ∷ []; in_scope = o.in_scope; outers = os })
+
+-- A block inside another is closed. A claim or a superposition is a step of the block around it. Behind the first block of a
+-- split comes `else`. Behind the second one the split closes the block around it.
+abbrev pub closed_inside : Draft → Outer → List Outer → Script → (CloseLine → Result Draft Kind) → Opened → Result Draft Kind
+closed_inside d o os inner close (opened.Claim shown) = resumed d o os shown (Claimed shown inner)
+closed_inside d o os inner close (opened.Superpose form names shown) = resumed d o os shown (Copied form names shown [] inner)
+closed_inside d o os inner close (opened.First lit) =
+    Ok (record d { steps = []; in_scope = o.in_scope; facts = o.facts + 1; terms = o.terms + monomials lit.atom; outers = record o { opened = opened.Second lit inner } ∷ os; place = Splitting })
+closed_inside d o os inner close (opened.Second lit first) = close (closes.Cases lit first inner)
+
+-- the block with these steps inside these blocks is closed
+unfoldable pub closed : Draft → List Outer → List PlainStep → CloseLine → Result Draft Kind
+closed d [] steps close = Ok (record d { steps = steps; outers = []; close = close; place = Closed })
+closed d (o ∷ os) steps close = closed_inside d o os (all_before steps (script_of_close close)) (λ c. closed d os o.steps c) o.opened
+
+-- a block that an inner one interrupts, with what began that one
+abbrev pub outer_with : Around → Opened → Outer
+outer_with around opened = record { steps = around.steps; in_scope = around.in_scope; facts = around.facts; terms = around.terms; opened = opened }
+
+-- behind the first block of a split, where the second begins
+abbrev pub second_begun : Draft → Around → Lit → Script → Draft
+second_begun d around lit first =
+    record d { in_scope = around.in_scope; facts = around.facts + 1; terms = around.terms + monomials lit.atom; outers = outer_with around (opened.Second lit first) ∷ d.outers; place = Splitting }
+
+-- what closing the open block inside another one leaves: the draft, or the close of that other block
+abbrev pub ClosesInside : Draft → Outer → CloseLine → Result (Option CloseLine) Trouble → Draft → Type 0
+ClosesInside d o close (Ok None) new =
+    (again : CloseLine → Result Draft Kind) → closed_inside d o d.outers (all_before d.steps (script_of_close close)) again o.opened ≡ Ok new
+ClosesInside d o close (Ok (Some next)) new =
+    ((again : CloseLine → Result Draft Kind) → closed_inside d o d.outers (all_before d.steps (script_of_close close)) again o.opened ≡ again next)
+    × (new ≡ record d { steps = o.steps })
+ClosesInside d o close (Err e) new =
+    (again : CloseLine → Result Draft Kind) → Fails e (closed_inside d o d.outers (all_before d.steps (script_of_close close)) again o.opened)
+
+-- a close line: the limit of steps, and what it closes
 unfoldable pub shut : Draft → CloseLine → Result Draft Kind
-shut d close = do
-  few ← within (length d.steps + 1) most_steps limits.Steps
-  Ok (record d { close = close; place = Closed })
+shut d close = within (d.lines + 1) most_steps limits.Steps >>= λ few. closed (record d { lines = d.lines + 1 }) d.outers d.steps close
 
 unfoldable pub stepped : Draft → Form → Result Draft Kind
 stepped d (forms.Theorem t) = Err Malformed
@@ -125,11 +246,15 @@ stepped d (forms.Made sort ns) = declared d.names sort ns >>= λ names. Ok (reco
 stepped d (forms.Show raws) = with_front d.shown (lits_in d.names raws) >>= λ ls. few_monos raws >>= λ few. Ok (record d { shown = ls; place = Showing })
 -- the proof begins with the declared objects, and the names of the made ones are free again
 stepped d forms.Proof = Ok (record d { in_scope = declared_names (stated (statement_of_draft d)) d.names; place = Proving })
-stepped d (forms.By r ns l) = by_in d.in_scope r ns l >>= λ b. with_step d (steps.Cite b) 1
-stepped d (forms.Hence raw) = lit_in d.in_scope raw >>= λ l. with_step d (steps.Hence l None) 1 >>= λ e. with_terms e (raw ∷ [])
+stepped d (forms.By r ns l) = by_in d.in_scope r ns l >>= λ b. with_step d (Cited b) 1
+stepped d (forms.Hence raw) = lit_in d.in_scope raw >>= λ l. with_step d (Inferred l None) 1 >>= λ e. with_terms e (raw ∷ [])
 stepped d (forms.Let raw) = built d raw
-stepped d (forms.Qed ns) = qed_in d.in_scope d.made ns >>= λ objects. shut d (closes.Qed objects)
+stepped d (forms.Qed ns) = qed_in d.in_scope (made_in d.outers d.made) ns >>= λ objects. shut d (closes.Qed objects)
 stepped d forms.Contradiction = shut d closes.Contradiction
+stepped d (forms.Claim raws) = claimed d raws
+stepped d (forms.Superpose raw) = superposed d raw
+stepped d (forms.Cases raw) = split d raw
+stepped d forms.Else = Ok (record d { place = Proving })
 stepped d forms.End = Ok (record d { place = Done })
 
 -- a line at its place: its form there, then its names from left to right, then the limits
@@ -146,21 +271,48 @@ pub record FewNamed (ns : Names) : Type 0 where
 abbrev pub count_names : Names → ℕ
 count_names ns = length ns.points + length ns.lines + length ns.circles
 
+-- how many literals the inner block begins with, where `else` begins another with as many
+abbrev pub begun_with : Opened → ℕ
+begun_with (opened.First lit) = 1
+begun_with other = 0
+
+-- how many monomials they have
+abbrev pub begun_terms : Opened → ℕ
+begun_terms (opened.First lit) = monomials lit.atom
+begun_terms other = 0
+
+pub record FitsOuter (o : Outer) : Type 0 where
+  pub in_scope : FewNamed o.in_scope
+  pub facts : o.facts + begun_with o.opened ≤ most_facts
+  pub terms : o.terms + begun_terms o.opened ≤ most_terms
+
+abbrev pub AllFit : List Outer → Type 0
+AllFit [] = Unit {0}
+AllFit (o ∷ os) = FitsOuter o × AllFit os
+
 pub record FitsScope (d : Draft) : Type 0 where
   pub names : FewNamed d.names
   pub in_scope : FewNamed d.in_scope
   -- no more objects are declared than have names
   pub declared : length d.declared ≤ count_names d.names
-  pub steps : length d.steps ≤ most_steps
+  pub lines : d.lines ≤ most_steps
   pub facts : d.facts ≤ most_facts
   pub terms : d.terms ≤ most_terms
+  pub outers : AllFit d.outers
+  pub shallow : length d.outers + 1 ≤ most_depth
+
+-- a block inside the open one, with so many facts, is within the limits
+pub record HasRoom (d : Draft) (given : ℕ) : Type 0 where
+  pub lines : d.lines + 1 ≤ most_steps
+  pub depth : length d.outers + 2 ≤ most_depth
+  pub facts : d.facts + given ≤ most_facts
 
 abbrev pub no_names : Names
 no_names = record { points = []; lines = []; circles = [] }
 
 -- a theorem of which only the title has come
 abbrev pub begun : List ℕ → Draft
-begun title = record { title = title; names = no_names; in_scope = no_names; declared = []; given = []; made = []; shown = []; steps = []; facts = 0; terms = 0; close = closes.Qed []; place = Declaring }
+begun title = record { title = title; names = no_names; in_scope = no_names; declared = []; given = []; made = []; shown = []; steps = []; lines = 0; facts = 0; terms = 0; outers = []; close = closes.Qed []; place = Declaring }
 
 -- a theorem begins with its title, which no earlier one has
 unfoldable pub begin : List Headed → Form → Result Draft Kind

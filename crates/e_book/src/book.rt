@@ -57,11 +57,7 @@ fn line_step(
     let form = form_of(alloc, words)?;
     match draft {
         None => Draft::begin(alloc, known, &form),
-        Some(draft) => {
-            let mut draft = draft;
-            draft.step(alloc, &form)?;
-            Ok(draft)
-        }
+        Some(draft) => draft.taking(alloc, &form),
     }
 }
 

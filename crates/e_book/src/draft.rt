@@ -1,25 +1,28 @@
 //! A theorem while its lines come.
-ghost use Rattle.std.specs.Prelude.{◌≡◌, ◌≤◌, ◌<◌, ◌+◌, ◌^◌, ◌++◌, List, [], length, replicate, IfOk, OnOk, Ok, Err};
+ghost use Rattle.std.specs.Prelude.{◌≡◌, ◌≤◌, ◌<◌, ◌+◌, ◌^◌, ◌++◌, ◌∷◌, List, [], length, replicate, IfOk, OnOk, Ok, Err};
 ghost use Rattle.e_book.specs.Reading.{Gives, Moves};
 ghost use Rattle.e_book.specs.Scope.{names_of_sort, with_names};
 ghost use Rattle.e_book.specs.Steps.{allowed, declared, few_objects, no_names, count_names, FewNamed};
 ghost use Rattle.e_book.specs.Limits.{within, most_of, what_of};
 
+use crate::blocks::{Closed, Opened, Outer, Outers};
 use crate::fault::{Kind, Trouble, What};
 use crate::form::Form;
 use crate::known::Known;
 use crate::lets::RawLet;
-use crate::limits::{few_monos, terms_with};
+use crate::limits::{MAX_FACTS, facts_of, few_monos, monomials, terms_of, terms_with};
 use crate::literal::RawLit;
 use crate::scope::{by_in, fresh, let_in, lit_in, put_lits, put_names, qed_in, scope_of_names};
 use crate::steps::{CloseLine, Steps};
+use crate::superposes::{Placement, RawSuperpose, superpose_in};
 use crate::theorem::Theorem;
+use e_construct::Superpose;
 use e_deriv::{Names, Step};
 use e_literal::{Items, Lit, Scope, Sort, grown};
 use e_text::{Name, Title};
 use e_theorem::Statement;
 use std::alloc::{AllocError, Global};
-use std::slice;
+use std::{mem, slice};
 
 /// How many theorems a book may have.
 pub const MAX_THEOREMS: usize = 500;
@@ -36,8 +39,8 @@ pub const MAX_CIRCLES: usize = 16;
 /// How many step and close lines a theorem may have.
 pub const MAX_STEPS: usize = 1_024;
 
-/// How many literals may be facts, repeats counted.
-pub const MAX_FACTS: usize = 2_048;
+/// How many blocks may stand one inside the other.
+pub const MAX_DEPTH: usize = 32;
 
 /// Which lines may come.
 #[derive(Clone, Copy, Debug, PartialEq, Eq)]
@@ -47,6 +50,8 @@ pub enum Place {
     Making,
     Showing,
     Proving,
+    /// Behind the first block of a split.
+    Splitting,
     Closed,
     Done,
 }
@@ -57,20 +62,34 @@ pub struct Draft {
     pub title: Title,
     /// The names of the statement's objects: of the declared ones and, behind them, of the made ones.
     pub names: Names,
-    /// The names of the objects in scope in the proof, once it has begun.
+    /// The names of the objects in scope in the block that is open, once the proof has begun.
     pub in_scope: Names,
     pub declared: Items<Sort>,
     pub given: Items<Lit>,
     pub made: Items<Sort>,
     pub shown: Items<Lit>,
+    /// The steps so far of the block that is open.
     pub steps: Steps,
+    /// How many step and close lines have come.
+    pub lines: usize,
     /// How many literals are facts, repeats counted.
     pub facts: usize,
     /// How many monomials they have.
     pub terms: usize,
-    /// What the close line says; before it a `qed` without objects.
+    /// The blocks around the one that is open.
+    pub outers: Outers,
+    /// How the proof's block is closed; before that a `qed` without objects.
     pub close: CloseLine,
     pub place: Place,
+}
+
+/// A block as it was when an inner one interrupted it.
+#[derive(Debug, Drop)]
+struct Around {
+    steps: Steps,
+    in_scope: Names,
+    facts: usize,
+    terms: usize,
 }
 
 fn allowed(place: Place, form: &Form) -> bool
@@ -91,6 +110,10 @@ fn allowed(place: Place, form: &Form) -> bool
         Form::Let(_) => matches!(place, Place::Proving),
         Form::Qed(_) => matches!(place, Place::Proving),
         Form::Contradiction => matches!(place, Place::Proving),
+        Form::Claim(_) => matches!(place, Place::Proving),
+        Form::Superpose(_) => matches!(place, Place::Proving),
+        Form::Cases(_) => matches!(place, Place::Proving),
+        Form::Else => matches!(place, Place::Splitting),
         Form::End => matches!(place, Place::Closed),
     }
 }
@@ -183,8 +206,11 @@ fn repeated(alloc: Global, sort: Sort, count: usize) -> Result<Items<Sort>, Allo
 }
 
 impl Draft {
-    ghost use Rattle.e_book.specs.Steps.{FitsScope, begin, step, stepped, with_step, with_terms, built, shut};
-    ghost use Rattle.e_book.specs.Entry.{entry_of, entry_of_draft};
+    ghost use Rattle.e_deriv.specs.PlainStep.{plain_step, Claimed, Copied, all_before};
+    ghost use Rattle.e_book.specs.Limits.{most_depth, most_terms};
+    ghost use Rattle.e_book.specs.Steps.{FitsScope, FitsOuter, HasRoom, ClosesInside, begin, step, stepped, with_step, with_terms, built, room_inside, interrupted, begun_with, begun_terms, claimed, superposed, copies_begun, split, outer_with, resumed, second_begun, closed, shut};
+    ghost use Rattle.e_book.specs.Blocks.{made_in};
+    ghost use Rattle.e_book.specs.Entry.{entry_of, entry_of_draft, script_of_close};
 
     /// A theorem begun by its first line.
     #[tactic(auto, unfolding(crate::specs::Steps::begin))]
@@ -210,11 +236,23 @@ impl Draft {
             made: Items::empty(alloc),
             shown: Items::empty(alloc),
             steps: Steps::new(alloc),
+            lines: 0,
             facts: 0,
             terms: 0,
+            outers: Outers::new(alloc),
             close: CloseLine::Qed(Items::empty(alloc)),
             place: Place::Declaring,
         })
+    }
+
+    /// The draft with the next line.
+    pub fn taking(mut self, alloc: Global, form: &Form) -> Result<Draft, Trouble>
+        requires { FitsScope self }
+        ensures value { Gives (λ d. d) result (step self form.now) }
+        ensures fits { IfOk result FitsScope }
+    {
+        self.step(alloc, form)?;
+        Ok(self)
     }
 
     /// The next line: its form at this place, its names from left to right, then the limits.
@@ -252,7 +290,14 @@ impl Draft {
             Form::Hence(raw) => self.infer(alloc, raw),
             Form::Let(raw) => self.build(alloc, raw),
             Form::Qed(names) => self.conclude(alloc, names.items()),
-            Form::Contradiction => self.shut(CloseLine::Contradiction),
+            Form::Contradiction => self.shut(alloc, CloseLine::Contradiction),
+            Form::Claim(raw) => self.claim(alloc, raw.items()),
+            Form::Superpose(raw) => self.superpose(alloc, raw),
+            Form::Cases(raw) => self.split(alloc, raw),
+            Form::Else => {
+                self.place = Place::Proving;
+                Ok(())
+            }
             Form::End => {
                 self.place = Place::Done;
                 Ok(())
@@ -322,7 +367,7 @@ impl Draft {
     }
 
     /// A literal that is to be allowed: its names, and then the limits.
-    #[tactic(auto, unfolding(crate::specs::Steps::stepped))]
+    #[tactic(auto, unfolding(crate::specs::Steps::stepped, e_deriv::specs::PlainStep::plain_step))]
     fn infer(&mut self, alloc: Global, raw: &RawLit) -> Result<(), Trouble>
         requires { FitsScope self.old }
         ensures value { Moves result self.new (stepped self.old (Form.Hence raw.now)) }
@@ -352,7 +397,7 @@ impl Draft {
 
     /// A construction: its names, and then the limits of objects, of steps and of facts. Its new objects are in scope
     /// after it.
-    #[tactic(auto, unfolding(crate::specs::Steps::built))]
+    #[tactic(auto, unfolding(crate::specs::Steps::built, e_deriv::specs::PlainStep::plain_step))]
     fn build(&mut self, alloc: Global, raw: &RawLet) -> Result<(), Trouble>
         requires { FitsScope self.old }
         ensures value { Moves result self.new (built self.old raw.now) }
@@ -370,6 +415,119 @@ impl Draft {
         self.add_step(step, given.len())
     }
 
+    /// The limits of a line that begins an inner block with so many facts: of steps, of depth and of facts.
+    #[tactic(auto, unfolding(crate::specs::Steps::room_inside))]
+    fn room_inside(&self, given: usize) -> Result<(), Trouble>
+        requires { FitsScope self.now }
+        ensures value { Gives (λ u. u) result (room_inside self.now given) }
+        ensures room { IfOk result (λ u. HasRoom self.now given) }
+    {
+        within(self.lines + 1, MAX_STEPS, What::Steps)?;
+        within(self.outers.len() + 2, MAX_DEPTH, What::Depth)?;
+        if given > MAX_FACTS - self.facts {
+            return Err(Trouble::Fault(Kind::Limit(What::Facts)));
+        }
+        Ok(())
+    }
+
+    /// An inner block begins, in which so many literals are facts at once.
+    fn interrupt(&mut self, alloc: Global, opened: Opened, given: usize) -> Result<(), AllocError>
+        requires draft { FitsScope self.old }
+        requires room { HasRoom self.old given }
+        requires begun { begun_with opened ≤ given }
+        requires terms { self.old.terms + begun_terms opened ≤ most_terms }
+        ensures value { OnOk result (self.new ≡ interrupted self.old opened given) }
+        ensures fits { OnOk result (FitsScope self.new) }
+    {
+        let in_scope = self.in_scope.copy(alloc)?;
+        let outer = Outer {
+            steps: mem::replace(&mut self.steps, Steps::new(alloc)),
+            in_scope,
+            facts: self.facts,
+            terms: self.terms,
+            opened,
+        };
+        self.outers.push(outer)?;
+        self.lines += 1;
+        self.facts += given;
+        Ok(())
+    }
+
+    /// A claim: its literals, and then the limits.
+    #[tactic(auto, unfolding(crate::specs::Steps::claimed, crate::specs::Steps::deeper, crate::specs::Steps::room_inside))]
+    fn claim(&mut self, alloc: Global, raw: &[RawLit]) -> Result<(), Trouble>
+        requires { FitsScope self.old }
+        ensures value { Moves result self.new (claimed self.old raw.now) }
+        ensures fits { OnOk result (FitsScope self.new) }
+    {
+        let mut shown = Items::empty(alloc);
+        put_lits(alloc, &self.in_scope, raw, &mut shown)?;
+        self.room_inside(0)?;
+        few_monos(raw)?;
+        self.interrupt(alloc, Opened::Claim { shown }, 0)?;
+        Ok(())
+    }
+
+    /// A superposition: its objects, new names and literals, and then the limits.
+    #[tactic(auto, unfolding(crate::specs::Steps::superposed))]
+    fn superpose(&mut self, alloc: Global, raw: &RawSuperpose) -> Result<(), Trouble>
+        requires { FitsScope self.old }
+        ensures value { Moves result self.new (superposed self.old raw.now) }
+        ensures fits { OnOk result (FitsScope self.new) }
+    {
+        let Placement { form, shown } = superpose_in(alloc, &self.in_scope, raw)?;
+        let given = form.gives(alloc, scope_of_names(&self.in_scope))?;
+        let mut after = self.in_scope.copy(alloc)?;
+        put_names(&mut after, form.made(), raw.new.items())?;
+        few_objects(&after)?;
+        let names = Items::new(Vec::from_slice(alloc, raw.new.items())?);
+        let opened = Opened::Superpose { form, names, shown };
+        self.begin_copies(alloc, opened, after, &given, raw.shown.items())
+    }
+
+    /// The block of a superposition begins with these names and facts: the limits of steps, of depth and of facts, those
+    /// of the literals that it shows, and that of monomials.
+    #[tactic(auto, unfolding(crate::specs::Steps::copies_begun, crate::specs::Steps::deeper, crate::specs::Steps::room_inside))]
+    fn begin_copies(
+        &mut self,
+        alloc: Global,
+        opened: Opened,
+        after: Names,
+        given: &[Lit],
+        shown: &[RawLit],
+    ) -> Result<(), Trouble>
+        requires draft { FitsScope self.old }
+        requires after { FewNamed after }
+        requires begun { begun_with opened ≡ 0 }
+        requires terms { begun_terms opened ≡ 0 }
+        ensures value { Moves result self.new (copies_begun self.old opened after given.now shown.now) }
+        ensures fits { OnOk result (FitsScope self.new) }
+    {
+        self.room_inside(given.len())?;
+        few_monos(shown)?;
+        let terms = terms_of(self.terms, given)?;
+        self.interrupt(alloc, opened, given.len())?;
+        self.terms = terms;
+        self.in_scope = after;
+        Ok(())
+    }
+
+    /// A split: its literal, and then the limits.
+    #[tactic(auto, using(crate::proofs::SplitCounts::split_few), unfolding(crate::specs::Steps::split, crate::specs::Steps::deeper, crate::specs::Steps::room_inside, crate::specs::Steps::with_terms))]
+    fn split(&mut self, alloc: Global, raw: &RawLit) -> Result<(), Trouble>
+        requires { FitsScope self.old }
+        ensures value { Moves result self.new (split self.old raw.now) }
+        ensures fits { OnOk result (FitsScope self.new) }
+    {
+        let lit = lit_in(alloc, &self.in_scope, raw)?;
+        self.room_inside(1)?;
+        few_monos(slice::from_ref(raw))?;
+        let terms = terms_with(self.terms, slice::from_ref(raw))?;
+        self.interrupt(alloc, Opened::First { lit }, 1)?;
+        self.terms = terms;
+        Ok(())
+    }
+
     /// The close by `qed`: its objects, and then the limit of steps.
     #[tactic(auto, unfolding(crate::specs::Steps::stepped))]
     fn conclude(&mut self, alloc: Global, names: &[Name]) -> Result<(), Trouble>
@@ -377,20 +535,219 @@ impl Draft {
         ensures value { Moves result self.new (stepped self.old (Form.Qed names.now)) }
         ensures fits { OnOk result (FitsScope self.new) }
     {
-        let objects = qed_in(alloc, &self.in_scope, self.made.items(), names)?;
-        self.shut(CloseLine::Qed(objects))
+        let objects = qed_in(alloc, &self.in_scope, self.goal_made(), names)?;
+        self.shut(alloc, CloseLine::Qed(objects))
     }
 
-    /// A close line: the limit of steps.
+    /// The made objects of the goal of the block that is open.
+    fn goal_made(&self) -> &[Sort]
+        ensures { result.now ≡ made_in self.now.outers self.now.made }
+    {
+        if self.outers.has_claim() {
+            return &[];
+        }
+        self.made.items()
+    }
+
+    /// A close line: the limit of steps, and what it closes.
     #[tactic(auto, unfolding(crate::specs::Steps::shut))]
-    fn shut(&mut self, close: CloseLine) -> Result<(), Trouble>
+    fn shut(&mut self, alloc: Global, close: CloseLine) -> Result<(), Trouble>
         requires { FitsScope self.old }
         ensures value { Moves result self.new (shut self.old close) }
         ensures fits { OnOk result (FitsScope self.new) }
     {
-        within(self.steps.len() + 1, MAX_STEPS, What::Steps)?;
-        self.close = close;
-        self.place = Place::Closed;
+        within(self.lines + 1, MAX_STEPS, What::Steps)?;
+        self.lines += 1;
+        self.close_block(alloc, close)
+    }
+
+    /// The open block is closed, and with the second block of a split the block around it too.
+    #[tactic(auto, unfolding(crate::specs::Steps::closed))]
+    fn close_block(&mut self, alloc: Global, close: CloseLine) -> Result<(), Trouble>
+        requires { FitsScope self.old }
+        ensures value { Moves result self.new (closed self.old self.old.outers self.old.steps close) }
+        ensures fits { OnOk result (FitsScope self.new) }
+    {
+        let Some(outer) = self.outers.pop() else {
+            self.close = close;
+            self.place = Place::Closed;
+            return Ok(());
+        };
+        match self.close_inside(alloc, outer, close)? {
+            None => Ok(()),
+            Some(next) => self.close_block(alloc, next),
+        }
+    }
+
+    /// The open block is closed inside the one around it. Some close closes that one too.
+    #[tactic(auto, using(crate::proofs::Interrupted::emptied))]
+    fn close_inside(
+        &mut self,
+        alloc: Global,
+        outer: Outer,
+        close: CloseLine,
+    ) -> Result<Option<CloseLine>, Trouble>
+        requires draft { FitsScope self.old }
+        requires room { length self.old.outers + 2 ≤ most_depth }
+        requires outer { FitsOuter outer }
+        ensures value { ClosesInside self.old outer close result self.new }
+        ensures fits { OnOk result (FitsScope self.new) }
+    {
+        let inner = self.take_block(alloc, close)?;
+        let Outer {
+            steps,
+            in_scope,
+            facts,
+            terms,
+            opened,
+        } = outer;
+        let around = Around {
+            steps,
+            in_scope,
+            facts,
+            terms,
+        };
+        match opened {
+            Opened::Claim { shown } => {
+                self.end_claim(alloc, around, shown, inner)?;
+                Ok(None)
+            }
+            Opened::Superpose { form, names, shown } => {
+                self.end_superposition(alloc, around, form, names, shown, inner)?;
+                Ok(None)
+            }
+            Opened::First { lit } => {
+                self.begin_second(alloc, around, lit, inner)?;
+                Ok(None)
+            }
+            Opened::Second { lit, first } => {
+                self.steps = around.steps;
+                Ok(Some(CloseLine::Cases {
+                    lit,
+                    first,
+                    second: inner,
+                }))
+            }
+        }
+    }
+
+    /// Takes the open block out, closed.
+    fn take_block(&mut self, alloc: Global, close: CloseLine) -> Result<Closed, AllocError>
+        ensures closed { IfOk result (λ c. c ≡ all_before self.old.steps (script_of_close close)) }
+        ensures taken { OnOk result (self.new ≡ record self.old { steps = [] }) }
+    {
+        let steps = mem::replace(&mut self.steps, Steps::new(alloc));
+        Closed::new(alloc, steps.into_block(alloc, close))
+    }
+
+    /// The block of a claim is closed: the limits of facts and of monomials, and the claim is a step of the block around.
+    #[tactic(auto, using(e_deriv::proofs::Scripts::plain_steps), unfolding(crate::specs::Steps::resumed, crate::specs::Steps::counted_from))]
+    fn end_claim(
+        &mut self,
+        alloc: Global,
+        around: Around,
+        shown: Items<Lit>,
+        inner: Closed,
+    ) -> Result<(), Trouble>
+        requires draft { FitsScope self.old }
+        requires outer { FitsOuter (outer_with around (Opened.Claim shown)) }
+        ensures value { Moves result self.new (resumed self.old (outer_with around (Opened.Claim shown)) self.old.outers shown (Claimed shown inner)) }
+        ensures fits { OnOk result (FitsScope self.new) }
+    {
+        let facts = facts_of(around.facts, shown.items())?;
+        let terms = terms_of(around.terms, shown.items())?;
+        let inner = inner.into_box();
+        let step = Step::Claim { shown, inner };
+        self.resume(around, facts, terms, step)?;
+        Ok(())
+    }
+
+    /// The block of a superposition is closed: the limits of facts and of monomials, and the superposition is a step of
+    /// the block around.
+    #[tactic(auto, using(e_deriv::proofs::Scripts::plain_steps), unfolding(crate::specs::Steps::resumed, crate::specs::Steps::counted_from))]
+    fn end_superposition(
+        &mut self,
+        alloc: Global,
+        around: Around,
+        form: Superpose,
+        names: Items<Name>,
+        shown: Items<Lit>,
+        inner: Closed,
+    ) -> Result<(), Trouble>
+        requires draft { FitsScope self.old }
+        requires outer { FitsOuter (outer_with around (Opened.Superpose form names shown)) }
+        ensures value { Moves result self.new (resumed self.old (outer_with around (Opened.Superpose form names shown)) self.old.outers shown (Copied form names shown [] inner)) }
+        ensures fits { OnOk result (FitsScope self.new) }
+    {
+        let facts = facts_of(around.facts, shown.items())?;
+        let terms = terms_of(around.terms, shown.items())?;
+        let inner = inner.into_box();
+        let step = Step::Superposed {
+            form,
+            names,
+            shown,
+            certs: Items::empty(alloc),
+            inner,
+        };
+        self.resume(around, facts, terms, step)?;
+        Ok(())
+    }
+
+    /// The block around one that is closed goes on with a step, and with so many facts and monomials.
+    fn resume(
+        &mut self,
+        around: Around,
+        facts: usize,
+        terms: usize,
+        step: Step,
+    ) -> Result<(), AllocError>
+        ensures { OnOk result (self.new ≡ record self.old { steps = around.steps ++ plain_step step ∷ []; in_scope = around.in_scope; facts = facts; terms = terms }) }
+    {
+        let Around {
+            steps,
+            in_scope,
+            ..
+        } = around;
+        self.steps = steps;
+        self.steps.push(step)?;
+        self.in_scope = in_scope;
+        self.facts = facts;
+        self.terms = terms;
+        Ok(())
+    }
+
+    /// The first block of a split is closed. Behind `else` comes the other one, which begins with as many literals.
+    fn begin_second(
+        &mut self,
+        alloc: Global,
+        around: Around,
+        lit: Lit,
+        first: Closed,
+    ) -> Result<(), AllocError>
+        requires draft { FitsScope self.old }
+        requires room { length self.old.outers + 2 ≤ most_depth }
+        requires outer { FitsOuter (outer_with around (Opened.First lit)) }
+        ensures value { OnOk result (self.new ≡ second_begun self.old around lit first) }
+        ensures fits { OnOk result (FitsScope self.new) }
+    {
+        let Around {
+            steps,
+            in_scope,
+            facts,
+            terms,
+        } = around;
+        self.in_scope = in_scope.copy(alloc)?;
+        self.facts = facts + 1;
+        self.terms = terms + monomials(&lit);
+        let opened = Opened::Second { lit, first };
+        self.outers.push(Outer {
+            steps,
+            in_scope,
+            facts,
+            terms,
+            opened,
+        })?;
+        self.place = Place::Splitting;
         Ok(())
     }
 
@@ -398,14 +755,15 @@ impl Draft {
     #[tactic(auto, unfolding(crate::specs::Steps::with_step))]
     fn add_step(&mut self, step: Step, given: usize) -> Result<(), Trouble>
         requires { FitsScope self.old }
-        ensures value { Moves result self.new (with_step self.old step given) }
+        ensures value { Moves result self.new (with_step self.old (plain_step step) given) }
         ensures fits { OnOk result (FitsScope self.new) }
     {
-        within(self.steps.len() + 1, MAX_STEPS, What::Steps)?;
+        within(self.lines + 1, MAX_STEPS, What::Steps)?;
         if given > MAX_FACTS - self.facts {
             return Err(Trouble::Fault(Kind::Limit(What::Facts)));
         }
         self.steps.push(step)?;
+        self.lines += 1;
         self.facts += given;
         Ok(())
     }
@@ -429,16 +787,13 @@ impl Draft {
         let Draft {
             title,
             names,
-            in_scope: _,
             declared,
             given,
             made,
             shown,
             steps,
-            facts: _,
-            terms: _,
             close,
-            place: _,
+            ..
         } = self;
         Theorem {
             title,

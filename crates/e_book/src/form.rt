@@ -6,6 +6,7 @@ ghost use Rattle.e_book.specs.Forms.{declare_of, sort_of, made_of, by_of, form_o
 use crate::fault::{Kind, Trouble};
 use crate::lets::{RawLet, let_of};
 use crate::literal::{RawLit, diagram_lit_of, lit_of, lits_of};
+use crate::superposes::{RawSuperpose, superpose_of};
 use crate::words::{Words, cut, names_of, some_names};
 use e_literal::{Items, Sort};
 use e_text::{Name, Title, is};
@@ -36,6 +37,14 @@ pub enum Form {
     Qed(Items<Name>),
     /// `contradiction`
     Contradiction,
+    /// `claim LITERALS`
+    Claim(Items<RawLit>),
+    /// `superpose ..`
+    Superpose(RawSuperpose),
+    /// `cases LITERAL`
+    Cases(RawLit),
+    /// `else`
+    Else,
     /// `end`
     End,
 }
@@ -156,6 +165,18 @@ fn form_named(alloc: Global, word: &[u8], rest: &[&[u8]]) -> Result<Form, Troubl
     }
     if is(word, b"contradiction") {
         return bare(words, Form::Contradiction);
+    }
+    if is(word, b"claim") {
+        return Ok(Form::Claim(lits_of(alloc, rest)?));
+    }
+    if is(word, b"superpose") {
+        return Ok(Form::Superpose(superpose_of(alloc, rest)?));
+    }
+    if is(word, b"cases") {
+        return Ok(Form::Cases(lit_of(alloc, rest)?));
+    }
+    if is(word, b"else") {
+        return bare(words, Form::Else);
     }
     if is(word, b"end") {
         return bare(words, Form::End);

@@ -37,7 +37,7 @@ fn is_word_of(piece: Piece, word: &[u8]) -> bool
 
 /// Whether the words are those of a line, one for each piece.
 #[tactic(auto, using(crate::proofs::Placed::counting))]
-fn are_words_of(pieces: &[Piece], words: &[&[u8]]) -> bool
+pub(crate) fn are_words_of(pieces: &[Piece], words: &[&[u8]]) -> bool
     ensures { result ≡ are_words_of (map piece_said pieces.now) (texts words.now) }
 {
     match (pieces, words) {
@@ -93,7 +93,7 @@ fn is_place_at(new: bool, pieces: &[Piece], at: usize) -> bool
 }
 
 /// The names at the places of the new objects, or else at those of the arguments.
-fn names_at(
+pub(crate) fn names_at(
     alloc: Global,
     new: bool,
     pieces: &[Piece],

@@ -4,6 +4,7 @@
 //! the limits are asked. So the first thing that is wrong with a book is one thing at one line.
 #![tactic(auto)]
 
+mod blocks;
 mod book;
 mod draft;
 mod fault;
@@ -16,10 +17,12 @@ mod literal;
 mod scope;
 mod steps;
 mod sum;
+mod superposes;
 mod terms;
 mod theorem;
 mod words;
 
+pub use blocks::{Closed, Opened, Outer, Outers};
 pub use book::next_theorem;
 pub use draft::{Draft, Place};
 pub use fault::{BookFault, Kind, Trouble, What};
@@ -30,6 +33,7 @@ pub use lets::RawLet;
 pub use literal::{RawAtom, RawLit};
 pub use steps::{CloseLine, Steps};
 pub use sum::{RawMono, RawTerm};
+pub use superposes::RawSuperpose;
 pub use theorem::Theorem;
 pub use words::{Words, collected};
 

@@ -1,17 +1,22 @@
 //! The limits of literals that are written.
-ghost use Rattle.std.specs.Prelude.{◌≡◌, ◌≤◌, length, nat_le};
+ghost use Rattle.std.specs.Prelude.{◌≡◌, ◌≤◌, ◌+◌, length, nat_le, IfOk};
 ghost use Rattle.std.specs.List.{list_all};
 ghost use Rattle.e_book.specs.Reading.{Gives};
 ghost use Rattle.e_book.specs.Literals.{monos_of};
-ghost use Rattle.e_book.specs.Limits.{most_coefficient, most_terms};
-ghost use Rattle.e_book.specs.Steps.{are_short, are_small, few_monos, terms_behind};
+ghost use Rattle.e_book.specs.declared.fault.What.TheVariants as limits;
+ghost use Rattle.e_book.specs.Limits.{most_coefficient, most_facts, most_terms, within};
+ghost use Rattle.e_book.specs.Steps.{are_short, are_small, few_monos, terms_behind, terms_after};
 
 use crate::fault::{Kind, Trouble, What};
 use crate::literal::{RawAtom, RawLit};
 use crate::sum::{MAX_COEFFICIENT, RawMono};
+use e_literal::{Atom, Lit};
 
 /// How many monomials a literal may have, as it is written.
 pub const MAX_MONOMIALS: usize = 32;
+
+/// How many literals may be facts, repeats counted.
+pub const MAX_FACTS: usize = 2_048;
 
 /// How many monomials the literals that are facts may have, repeats counted.
 pub const MAX_TERMS: usize = 1_024;
@@ -81,6 +86,45 @@ pub(crate) fn terms_with(before: usize, lits: &[RawLit]) -> Result<usize, Troubl
     let mut terms = before;
     for lit in lits {
         let more = count_of(lit);
+        if more > MAX_TERMS - terms {
+            return Err(Trouble::Fault(Kind::Limit(What::Terms)));
+        }
+        terms += more;
+    }
+    Ok(terms)
+}
+
+/// So many facts and these, or the limit of all.
+pub(crate) fn facts_of(before: usize, lits: &[Lit]) -> Result<usize, Trouble>
+    requires { before ≤ most_facts }
+    ensures value { Gives (λ n. tt) result (within (before + length lits.now) most_facts limits.Facts) }
+    ensures sum { IfOk result (λ n. n ≡ before + length lits.now) }
+{
+    if lits.len() > MAX_FACTS - before {
+        return Err(Trouble::Fault(Kind::Limit(What::Facts)));
+    }
+    Ok(before + lits.len())
+}
+
+/// How many monomials a literal has.
+pub(crate) fn monomials(lit: &Lit) -> usize
+    ensures { result ≡ Rattle.e_book.specs.Limits.monomials lit.now.atom }
+{
+    match &lit.atom {
+        Atom::MagEq(x, y) => x.items().len() + y.items().len(),
+        Atom::MagLt(x, y) => x.items().len() + y.items().len(),
+        _ => 0,
+    }
+}
+
+/// So many monomials and those of the literals, or the limit of all.
+pub(crate) fn terms_of(before: usize, lits: &[Lit]) -> Result<usize, Trouble>
+    requires { before ≤ most_terms }
+    ensures { Gives (λ n. n) result (terms_after before lits.now) }
+{
+    let mut terms = before;
+    for lit in lits {
+        let more = monomials(lit);
         if more > MAX_TERMS - terms {
             return Err(Trouble::Fault(Kind::Limit(What::Terms)));
         }

@@ -1,10 +1,12 @@
 //! The steps of a proof while its lines come.
-ghost use Rattle.std.specs.Prelude.{◌≡◌, ◌++◌, ◌∷◌, [], OnOk, length};
-ghost use Rattle.e_deriv.specs.Script.{script_of, steps_script, close_script};
+ghost use Rattle.std.specs.Prelude.{◌≡◌, ◌++◌, ◌∷◌, [], IfOk, OnOk, length};
+ghost use Rattle.e_deriv.specs.Script.{script_of, close_script};
+ghost use Rattle.e_deriv.specs.PlainStep.{plain_step, all_before};
 ghost use Rattle.e_book.specs.Entry.{script_of_close};
 
+use crate::blocks::Closed;
 use e_deriv::{Block, Close, Step};
-use e_literal::{Items, Obj};
+use e_literal::{Items, Lit, Obj};
 use std::alloc::{AllocError, Global};
 use std::marker::Model;
 
@@ -15,10 +17,17 @@ pub enum CloseLine {
     Qed(Items<Obj>),
     /// `contradiction`
     Contradiction,
+    /// `cases`, with both its blocks.
+    Cases {
+        lit: Lit,
+        first: Closed,
+        second: Closed,
+    },
 }
 
 impl CloseLine {
     /// The close, without certificates.
+    #[tactic(auto, using(e_deriv::proofs::Scripts::scripts))]
     fn into_close(self, alloc: Global) -> Close
         ensures { close_script result ≡ script_of_close self }
     {
@@ -28,11 +37,16 @@ impl CloseLine {
                 certs: Items::empty(alloc),
             },
             CloseLine::Contradiction => Close::Contradiction { against: None },
+            CloseLine::Cases { lit, first, second } => Close::Cases {
+                lit,
+                first: first.into_box(),
+                second: second.into_box(),
+            },
         }
     }
 }
 
-/// The steps read so far, seen as their list.
+/// The steps of a block read so far, seen as their list.
 #[derive(Debug, Drop)]
 pub struct Steps {
     steps: Vec<Step>,
@@ -40,11 +54,15 @@ pub struct Steps {
 
 impl Model for Steps {
     ghost use Rattle.std.specs.Prelude.{List};
-    ghost use Rattle.e_deriv.specs.declared.block.Step.{Step};
+    ghost use Rattle.std.specs.Prelude.{map};
+    ghost use Rattle.e_deriv.specs.PlainStep.{PlainStep, plain_step};
+    ghost use Rattle.e_book.specs.Codes.{steps_code};
 
-    ghost Value = { List Step };
+    ghost Value = { List PlainStep };
 
-    ghost view = { λ s. s.steps.items };
+    ghost coded = { steps_code };
+
+    ghost view = { λ s. map plain_step s.steps.items };
 }
 
 impl Steps {
@@ -66,20 +84,19 @@ impl Steps {
 
     /// Puts a step last.
     pub fn push(&mut self, step: Step) -> Result<(), AllocError>
-        ensures { OnOk result (self.new ≡ self.old ++ step ∷ []) }
+        ensures { OnOk result (self.new ≡ self.old ++ plain_step step ∷ []) }
     {
         self.steps.push(step)?;
         Ok(())
     }
 
     /// The block with these steps, closed by this line.
+    #[tactic(auto, using(crate::proofs::PlainSteps::all_plain))]
     pub fn into_block(self, alloc: Global, close: CloseLine) -> Block
-        ensures { script_of result ≡ steps_script self (script_of_close close) }
+        ensures { script_of result ≡ all_before self (script_of_close close) }
     {
         let Steps { steps } = self;
-        Block {
-            steps,
-            close: close.into_close(alloc),
-        }
+        let close = close.into_close(alloc);
+        Block { steps, close }
     }
 }

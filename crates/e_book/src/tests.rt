@@ -38,6 +38,9 @@ const PROOF: &str = "theorem T/points a b c/lines L M/circles A B/show a = a/pro
 const MADE: &str =
     "theorem T/points a b/lines L/circles A/made points m/made lines N/show on m N/proof/";
 
+/// Before a line of a proof where a triangle and a place stand.
+const PLACED: &str = "theorem T/points a b c d g h/lines K L/show a = a/proof/";
+
 /// Behind each ~ an answer, and the books that have it; @ stands for the number of the last line. A row is a head and lines
 /// with a slash between two; {N*TEXT} is the text N times, with its number for $.
 const ROWS: &str = "~line @ has no form here
@@ -151,6 +154,39 @@ made qed
 made qed a
 made qed a L b
 made qed a on
+stated claim a = a
+stated cases a = a
+proof claim
+proof claim on a
+proof cases
+proof cases a = b ; a = a
+proof claim a = b/end
+proof claim a = b/qed/end
+proof claim a = b/qed/else
+proof claim a = b/qed/qed/qed
+proof else
+proof hence a = a/else
+proof cases a = b/else
+proof cases a = b/qed/qed
+proof cases a = b/qed/hence a = a
+proof cases a = b/qed/contradiction
+proof cases a = b/qed/end
+proof cases a = b/qed/else a
+proof cases a = b/qed/else/else
+proof cases a = b/qed/else/qed/else
+proof cases a = b/qed/else/qed/qed
+proof {31*cases a = a/qed/else/}qed/qed
+made claim a = a/let m on L/let N line a m/qed m N
+made claim a = a/cases a = b/qed b L
+made cases a = b/claim a = a/qed/qed
+placed superpose a b c K onto d g h L as p q
+placed superpose a b c K onto d g h L as p q show
+placed superpose a b c K onto d g h L as p show a = a
+placed superpose a b c K onto d g h L as p q r show a = a
+placed superpose a b c K onto d g h as p q show a = a
+placed superpose a b c K to d g h L as p q show a = a
+placed superpose a b c K onto d g h L as p q show a = a/qed a
+placed superpose a b c K onto d g h L as p q show a = a/qed/else
 ~line @ uses an unknown name
 stated given on a q
 stated given on q L
@@ -182,6 +218,17 @@ made qed q L
 made qed a N
 made hence on m L
 made let p on N
+proof claim a = b ; q = a
+proof cases q = a
+proof claim a = a/let p point/qed/hence p = a
+proof cases a = a/let p point/qed/else/hence p = a
+proof cases a = a/let p point/cases p = a/qed/else/hence p = a/qed/else/hence p = a
+proof claim a = a/cases a = b/qed/else/let p point/qed/hence p = a
+made cases a = a/let m on L/let N line a m/qed m N/else/qed m N
+placed superpose a b c L onto q g h L as q a show a = a
+placed superpose a b c K onto d g h L as p q show a = p
+placed superpose a b c K onto d g h L as p q show a = a ; seg d p = seg a b
+placed superpose a b c K onto d g h L as p q show a = a/hence p = q/qed/hence p = q
 ~line @ gives a name that is taken
 book theorem T/points a a
 stated lines a
@@ -198,6 +245,11 @@ proof let p p meet q q
 proof let p b meet L A
 made let m on L/let m on L
 book theorem T/points{41* a$} a0
+proof let p point/claim a = a/let p point
+placed superpose a b c K onto d g h L as p a show a = a
+placed superpose a b c K onto d g h L as p p show L = a
+placed superpose a b c K onto d g h L as p q show a = a/let p point
+placed superpose a b c K onto d g h L as p q show a = a/superpose a b c K onto d g h L as r p show a = a
 ~line @ has an object of a wrong sort
 stated given on a a
 stated given on L L
@@ -238,6 +290,10 @@ proof let p meet A M opposite L of a centers a b
 made qed L q
 made qed a A
 made qed b a
+proof claim a = b ; L = a
+proof cases L = a
+placed superpose a b c d onto d g h L as p q show a = a
+placed superpose a b c K onto d g L h as p q show a = a
 ~line @ passes the limit on Points
 book theorem T/points{41* a$}
 stated points{38* a$}
@@ -245,6 +301,8 @@ book theorem T/points{39* a$}/made points m n
 book theorem T/points{40* a$}/show a0 = a0/proof/let p point
 book theorem T/points{39* a$}/lines L/circles A/show a0 = a0/proof/let p q meet L A
 book theorem T/points{39* a$}/show a0 = a0/proof/let p point/let q point
+book theorem T/points a b c d g h{33* a$}/lines K L/show a = a/proof/superpose a b c K onto d g h L as p q show a = a
+book theorem T/points a b c d g h{33* a$}/lines K L/show a = a/proof/{31*claim a = a/}superpose a b c K onto d g h L as p q show a = a
 ~line @ passes the limit on Lines
 book theorem T/lines{25* L$}
 book theorem T/lines{24* L$}/made lines N
@@ -259,26 +317,63 @@ stated {2048*given a = a/}show a = a/proof/hence a = a
 stated {2044*given a = a/}show a = a/proof/let p q meet L A
 stated {2043*given a = a/}show a = a/proof/let p q meet L A/let r on L
 stated {2043*given a = a/}show a = a/proof/let r on L avoid a a a a a
+stated {2048*given a = a/}show a = a/proof/claim a = a/qed
+stated {2048*given a = a/}show a = a/proof/claim a = a/hence a = a
+stated {2047*given a = a/}show a = a/proof/claim a = a ; a = b/contradiction
+stated {2047*given a = a/}show a = a/proof/claim a = a ; a = b/cases a = b/qed/else/qed
+stated {2047*given a = a/}show a = a/proof/claim a = a/hence a = a/qed/hence a = a
+stated {2047*given a = a/}show a = a/proof/cases a = a/qed/else/hence a = a
+stated {2048*given a = a/}show a = a/proof/cases 1000001 seg a b = 0
+book theorem T/points a b c d g h/lines K L/{2043*given a = a/}show a = a/proof/superpose a b c K onto d g h L as p q show 1000001 seg a b = 0
 ~line @ passes the limit on Steps
 proof {1024*hence a = a/}qed
 proof {1024*hence a = a/}contradiction
 proof {1024*hence a = a/}let p point
+proof {512*claim a = a/qed/}qed
+proof {512*claim a = a/qed/}contradiction
+proof {512*claim a = a/qed/}claim a = a
+proof {512*claim a = a/qed/}cases a = a
+proof {511*claim a = a/qed/}cases a = a/qed/else/qed
+proof {993*hence a = a/}{31*claim a = a/}claim a = a
+placed {512*claim a = a/qed/}superpose a b c K onto d g h L as p q show a = a
+~line @ passes the limit on Depth
+proof {31*claim a = a/}claim a = a ; 1000001 seg a b = 0
+proof {31*cases a = a/}cases a = a
+proof {31*cases a = a/qed/else/}cases a = a
+proof {30*claim a = a/}cases a = a/claim a = a
+placed {31*claim a = a/}superpose a b c K onto d g h L as p q show a = a
 ~line @ passes the limit on Monomials
 stated given right{32* + right} = 0
 stated show on a L ; 1000001 seg a b = 0 ; 0 < right{32* + right}
 stated given right{16* + right} <= right{16* + right}
+proof claim right{32* + right} = 0
+proof cases right{32* + right} = 0
+placed superpose a b c K onto d g h L as p q show right{32* + right} = 0
 ~line @ passes the limit on Coefficient
 stated given 1000001 seg a b = 0
 stated show right{31* + right} = 0 ; right = {200*9} right
 proof hence 1000001 seg a b = 0
+proof claim 1000001 seg a b = 0
+proof cases 1000001 seg a b = 0
+placed superpose a b c K onto d g h L as p q show 1000001 seg a b = 0
 ~line @ passes the limit on Terms
 stated {256*given right + right = right + right/}given a = a ; seg a b = 0
 stated {256*given right + right = right + right/}show right = 0/proof/hence 0 < right
+stated {256*given right + right = right + right/}show right = 0/proof/cases 0 < right
+stated {256*given right + right = right + right/}show right = 0/proof/claim 0 < right/qed
+stated {256*given right + right = right + right/}show right = 0/proof/claim 0 < right/cases a = b/qed/else/contradiction
+stated {255*given right + right = right + right/}show right = 0/proof/hence right = right + right/claim 0 < right/qed/hence right = 0
+stated {255*given right + right = right + right/}show right = 0/proof/hence right = right + right/cases 0 < right/qed/else/hence 0 < right
+book theorem T/points a b c d g h/lines K L/{256*given right + right = right + right/}show a = a/proof/superpose a b c K onto d g h L as p q show a = a
 ~the text ends inside a theorem, at line @
 book theorem T/
 stated #/# more/
 proof qed/
 proof contradiction/
+proof claim a = b/qed/
+proof cases a = b/qed/
+proof cases a = b/qed/else/qed/
+proof {31*claim a = a/}
 ~0 theorems
 book / # theorem/\t/
 ~1 theorems
@@ -298,6 +393,26 @@ proof let p point avoid a L A a/let q on L avoid M/let r on L between a b avoid 
 book theorem T/points{39* a$}/lines L/circles A/show a0 = a0/proof/let p point/qed/end
 stated {2043*given a = a/}show a = a/proof/let p q meet L A/qed/end
 stated {256*given right + right = right + right/}show right = 0/proof/hence a = a/qed/end
+proof claim a = b ; L = M/qed/qed/end
+proof claim a = b/contradiction/hence a = a/qed/end
+proof claim a = a/let p point/qed/let p point/qed/end
+proof cases a = b/contradiction/else/contradiction/end
+proof cases a = a/let p point/qed/else/let p point/hence p = a/qed/end
+proof claim a = b/cases a = b/qed/else/cases b = a/qed/else/qed/hence a = a/qed/end
+proof {31*claim a = a/}{31*qed/}qed/end
+proof {31*cases a = a/qed/else/}qed/end
+proof {511*claim a = a/qed/}hence a = a/qed/end
+made claim a = a/qed/qed b L/end
+made cases a = b/claim a = a/cases a = b/qed/else/qed/qed b L/else/qed b L/end
+made cases a = a/let m on L/let N line a m/qed m N/else/qed b L/end
+stated {2047*given a = a/}show a = a/proof/claim a = a/hence a = a/qed/qed/end
+stated {2047*given a = a/}show a = a/proof/cases a = a/qed/else/qed/end
+stated {255*given right + right = right + right/}show right = 0/proof/hence right = right + right/claim 0 < right/hence right = 0/qed/hence a = a/qed/end
+stated {255*given right + right = right + right/}show right = 0/proof/hence right = right + right/cases 0 < right/qed/else/hence a = a/qed/end
+book theorem T/points a b c d g h{32* a$}/lines K L/show a = a/proof/superpose a b c K onto d g h L as p q show a = a/qed/qed/end
+placed {30*claim a = a/}superpose a b c K onto d g h L as p q show a = a/qed/{30*qed/}qed/end
+placed superpose a b c K onto d g h L as p q show 0 < right ; a = b/hence p = q/qed/let p point/hence 0 < right/let q point/qed/end
+placed cases a = b/superpose a b c K onto d g h L as p q show a = a/qed/qed/else/superpose a b c K onto d g h L as p q show a = a/contradiction/contradiction/end
 ~2 theorems
 proof qed/end/theorem T.2-x_/points a/show a = a/proof/contradiction/end";
 
@@ -311,6 +426,9 @@ fn head(mark: &str) -> &'static str {
     }
     if mark == "made" {
         return MADE;
+    }
+    if mark == "placed" {
+        return PLACED;
     }
     ""
 }

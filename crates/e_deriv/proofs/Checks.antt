@@ -1,6 +1,5 @@
 -- Derivations at small size, and what they become with one premise less.
 use Rattle.std.proofs.Common.{◌≡◌, ℕ, List, [], ◌∷◌, refl, sym, true≢false, Some, None, Ok, Err, inl, inr}
-use Rattle.std.specs.Prelude.{true, false}
 use Rattle.e_literal.specs.declared.object.Sort.TheVariants.{Point, Line}
 use Rattle.e_literal.specs.declared.object.Obj.{Obj}
 use Rattle.e_literal.specs.declared.object.Scope.{Scope}
@@ -12,10 +11,11 @@ use Rattle.e_literal.specs.Use.{Stated}
 use Rattle.e_clause.specs.declared.cert.Cert.{Cert}
 use Rattle.e_clause.specs.declared.cert.Cert.TheVariants.{Plain}
 use Rattle.e_clause.specs.declared.cert.Part.TheVariants.{Fact}
+use Rattle.e_clause.specs.declared.cert.Against.TheVariants.{Clash}
 use Rattle.e_clause.specs.declared.cert.By.{By}
 use Rattle.e_clause.specs.Consequence.{Contradictory}
 use Rattle.e_clause.specs.Counterexample.{ListsCounterexample}
-use Rattle.e_clause.specs.Rows.{between}
+use Rattle.e_clause.specs.Rows.{between, on}
 use Rattle.e_construct.specs.declared.construction.Construction.{Construction}
 use Rattle.e_construct.specs.declared.construction.Shape.TheVariants.{LineThrough, Within}
 use Rattle.e_construct.specs.Shapes.{shape_row, apart}
@@ -24,7 +24,7 @@ use Rattle.e_clause.specs.Table.Incidence.{incidence}
 use Rattle.e_clause.specs.Instance.{Inst}
 use Rattle.e_deriv.specs.declared.stop.Wanted.TheVariants.{Literal, Contradiction as AContradiction}
 use Rattle.e_deriv.specs.declared.names.Names.{Names}
-use Rattle.e_deriv.specs.Script.{Script, Cite, Hence, Make, Qed, Contradiction, size, erased}
+use Rattle.e_deriv.specs.Script.{Script, Cite, Hence, Make, Claim, Qed, Contradiction, Cases, size, depth, erased}
 use Rattle.e_deriv.specs.Lines.{line, lines}
 use Rattle.e_deriv.specs.Goal.{goal_of_statement}
 use Rattle.e_deriv.specs.Licensed.{IsFirstUnlicensed}
@@ -149,3 +149,57 @@ nothing_refuses =
 -- the value 0 does not
 right_is_not_0 : ¬ ListsCounterexample [] None ((Right, 0) ∷ [])
 right_is_not_0 c = true≢false (sym c.counterexample.is_admissible)
+
+-- ---- blocks inside: a is on L, or it is not
+
+abbrev on_line : Lit
+on_line = on 0 0
+
+abbrev stands_on : Stated
+stands_on = record { declared = Point ∷ Line ∷ []; given = on_line ∷ []; made = []; shown = on_line ∷ [] }
+
+abbrev split : Script
+split = Cases on_line (Qed [] (Plain Fact ∷ [])) (Contradiction (Some (Clash on_line)))
+
+split_certified : Certified stands_on split
+unfolding lines joined
+split_certified = refl
+
+three_lines_of_a_split : size split ≡ 3
+unfolding size
+three_lines_of_a_split = refl
+
+two_deep : depth split ≡ 2
+unfolding depth
+two_deep = refl
+
+-- the first block has the literal for a fact, not its negation
+no_clash_in_the_first : verdict stands_on (Cases on_line (Contradiction (Some (Clash on_line))) (Qed [] (Plain Fact ∷ []))) ≡ Err 2
+unfolding lines joined
+no_clash_in_the_first = refl
+
+-- a claim whose block makes a point between the others
+abbrev with_point : List Lit → Script → Script
+with_point shown rest =
+    Claim shown (Make within ((101 ∷ []) ∷ []) (Plain Fact ∷ Plain Fact ∷ Plain Fact ∷ []) (Qed [] (Plain Fact ∷ []))) rest
+
+abbrev two_on_line : List Lit
+two_on_line = apart (point 0) (point 1) ∷ []
+
+abbrev on_one_line : Stated
+on_one_line =
+    record { declared = Point ∷ Point ∷ Line ∷ []; given = apart (point 0) (point 1) ∷ on 0 0 ∷ on 1 0 ∷ []; made = []; shown = two_on_line }
+
+claim_certified : Certified on_one_line (with_point two_on_line (Qed [] (Plain Fact ∷ [])))
+unfolding lines joined shape_row
+claim_certified = refl
+
+-- behind the claim the point is gone
+point_is_gone : verdict on_one_line (with_point two_on_line (Hence (between 0 2 1) (Some (Plain Fact)) (Qed [] (Plain Fact ∷ [])))) ≡ Err 4
+unfolding lines joined shape_row
+point_is_gone = refl
+
+-- what a claim shows cannot speak of it
+point_is_not_claimed : verdict on_one_line (with_point (between 0 2 1 ∷ []) (Qed [] (Plain Fact ∷ []))) ≡ Err 1
+unfolding lines joined shape_row
+point_is_not_claimed = refl

@@ -8,7 +8,7 @@ use Rattle.e_literal.specs.Use.{Stated}
 use Rattle.e_clause.specs.Allowed.{Allowed, AllAllowed}
 use Rattle.e_deriv.specs.declared.stop.Wanted.{Wanted}
 use Rattle.e_deriv.specs.declared.stop.Wanted.TheVariants.{Literal, Contradiction as AContradiction}
-use Rattle.e_deriv.specs.Script.{Script, Cite, Hence, Make, Qed, Contradiction, erased}
+use Rattle.e_deriv.specs.Script.{Script, Cite, Hence, Make, Superposed, Qed, Contradiction, erased}
 use Rattle.e_deriv.specs.Goal.{Goal}
 use Rattle.e_deriv.specs.Lines.{Line, line, proof_lines}
 use Rattle.e_deriv.specs.Steps.{needs}
@@ -55,10 +55,11 @@ lacks_nothing : (here : Script) (s : Scope) (facts : List Lit) (goal : Goal) (w 
 lacks_nothing (Cite by rest) s facts goal (Literal l) h k = true≢false (sym h.beside ∙ k.0)
 lacks_nothing (Hence lit cert rest) s facts goal (Literal l) h k = none_not_allowed s facts (needs (line (Hence lit cert rest) s facts goal)) l h.allowed k
 lacks_nothing (Make form names certs rest) s facts goal (Literal l) h k = none_not_allowed s facts (needs (line (Make form names certs rest) s facts goal)) l h.allowed k
+lacks_nothing (Superposed form names shown certs inner rest) s facts goal (Literal l) h k = none_not_allowed s facts (needs (line (Superposed form names shown certs inner rest) s facts goal)) l h.allowed k
 lacks_nothing (Qed objects certs) s facts goal (Literal l) h k = none_not_allowed s facts (needs (line (Qed objects certs) s facts goal)) l h.allowed k
 lacks_nothing (Contradiction against) s facts goal AContradiction h k = k h.beside
 lacks_nothing (Contradiction against) s facts goal (Literal l) h k = k
-lacks_nothing here s facts goal AContradiction h k = k
+lacks_nothing here s facts goal w h k = k
 
 -- a line that is licensed lacks nothing
 pub lacks_not : (x : Line) (w : Wanted) → Licensed x → ¬ Lacks x x.here w
@@ -69,12 +70,14 @@ lacks_same : (here : Script) (s : Scope) (facts : List Lit) (goal : Goal) (v w :
 lacks_same (Cite by rest) s facts goal (Literal l) (Literal l') h k = ap Literal (h.1 ∙ sym k.1)
 lacks_same (Hence lit cert rest) s facts goal (Literal l) (Literal l') h k = ap Literal (one_not_allowed s facts (needs (line (Hence lit cert rest) s facts goal)) l l' h k)
 lacks_same (Make form names certs rest) s facts goal (Literal l) (Literal l') h k = ap Literal (one_not_allowed s facts (needs (line (Make form names certs rest) s facts goal)) l l' h k)
+lacks_same (Superposed form names shown certs inner rest) s facts goal (Literal l) (Literal l') h k = ap Literal (one_not_allowed s facts (needs (line (Superposed form names shown certs inner rest) s facts goal)) l l' h k)
 lacks_same (Qed objects certs) s facts goal (Literal l) (Literal l') h k = ap Literal (one_not_allowed s facts (needs (line (Qed objects certs) s facts goal)) l l' h k)
 lacks_same (Contradiction against) s facts goal AContradiction AContradiction h k = refl
 lacks_same (Contradiction against) s facts goal (Literal l) w h k = absurd h
 lacks_same (Contradiction against) s facts goal AContradiction (Literal l) h k = absurd k
 lacks_same here s facts goal AContradiction w h k = absurd h
-lacks_same here s facts goal (Literal l) AContradiction h k = absurd k
+lacks_same here s facts goal w AContradiction h k = absurd k
+lacks_same here s facts goal v w h k = absurd h
 
 -- what a line lacks is one
 lacks_one : (x y : Line) (v w : Wanted) → x ≡ y → Lacks x x.here v → Lacks y y.here w → v ≡ w

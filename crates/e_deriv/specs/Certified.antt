@@ -6,7 +6,7 @@ use Rattle.e_literal.specs.declared.literal.Lit.{Lit}
 use Rattle.e_literal.specs.Use.{Stated}
 use Rattle.e_clause.specs.declared.cert.Cert.{Cert}
 use Rattle.e_clause.specs.Certify.{certify_all, certifies_against}
-use Rattle.e_deriv.specs.Script.{Script, Cite, Hence, Make, Qed, Contradiction}
+use Rattle.e_deriv.specs.Script.{Script, Cite, Hence, Make, Claim, Superposed, Qed, Contradiction, Cases}
 use Rattle.e_deriv.specs.Lines.{Line, proof_lines, first_failure}
 use Rattle.e_deriv.specs.Steps.{fits, needs, is_cited}
 
@@ -15,9 +15,12 @@ abbrev pub certs_of : Script → List Cert
 certs_of (Hence lit (Some cert) rest) = cert ∷ []
 certs_of (Hence lit None rest) = []
 certs_of (Make form names certs rest) = certs
+certs_of (Superposed form names shown certs inner rest) = certs
 certs_of (Qed objects certs) = certs
 certs_of (Cite by rest) = []
+certs_of (Claim shown inner rest) = []
 certs_of (Contradiction against) = []
+certs_of (Cases lit first second) = []
 
 -- beside the needs: a citation's instance gives the literal; a contradiction has a certificate that shows one
 abbrev pub certified_beside : Script → Scope → List Lit → Bool

@@ -1,4 +1,5 @@
 pub mod Script
+pub mod PlainStep
 pub mod Goal
 pub mod Lines
 pub mod Steps

@@ -1,4 +1,4 @@
--- When a line is licensed; the first that is not, and what it lacks.
+-- When a line is licensed, whatever the blocks inside it are; the first that is not, and what it lacks.
 use Rattle.std.specs.Prelude.{◌≡◌, ℕ, suc, List, [], ◌∷◌, ◌++◌, take, slice_get, IsTrue, IsFalse, Some}
 use Rattle.e_literal.specs.declared.object.Scope.{Scope}
 use Rattle.e_literal.specs.declared.literal.Lit.{Lit}
@@ -7,7 +7,7 @@ use Rattle.e_clause.specs.Allowed.{Allowed, AllAllowed}
 use Rattle.e_clause.specs.Consequence.{Contradictory}
 use Rattle.e_deriv.specs.declared.stop.Wanted.{Wanted}
 use Rattle.e_deriv.specs.declared.stop.Wanted.TheVariants.{Literal, Contradiction as AContradiction}
-use Rattle.e_deriv.specs.Script.{Script, Cite, Hence, Make, Qed, Contradiction}
+use Rattle.e_deriv.specs.Script.{Script, Cite, Hence, Make, Superposed, Qed, Contradiction}
 use Rattle.e_deriv.specs.Lines.{Line, proof_lines}
 use Rattle.e_deriv.specs.Steps.{fits, needs, is_cited}
 
@@ -39,6 +39,7 @@ abbrev pub Lacks : Line → Script → Wanted → Type 0
 Lacks x (Cite by rest) (Literal l) = IsFalse (is_cited x.facts by) × (l ≡ by.lit)
 Lacks x (Hence lit cert rest) (Literal l) = IsFirstNotAllowed x.scope x.facts (needs x) l
 Lacks x (Make form names certs rest) (Literal l) = IsFirstNotAllowed x.scope x.facts (needs x) l
+Lacks x (Superposed form names shown certs inner rest) (Literal l) = IsFirstNotAllowed x.scope x.facts (needs x) l
 Lacks x (Qed objects certs) (Literal l) = IsFirstNotAllowed x.scope x.facts (needs x) l
 Lacks x (Contradiction against) AContradiction = ¬ Contradictory x.facts
 Lacks x _ _ = ⊥

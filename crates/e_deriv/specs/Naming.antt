@@ -5,8 +5,9 @@ use Rattle.e_literal.specs.declared.object.Sort.TheVariants as sorts
 use Rattle.e_literal.specs.declared.object.Scope.{Scope}
 use Rattle.e_literal.specs.Use.{Stated, scope_of}
 use Rattle.e_construct.specs.Construct.{made}
+use Rattle.e_construct.specs.Superposing as superposing
 use Rattle.e_deriv.specs.declared.names.Names.{Names}
-use Rattle.e_deriv.specs.Script.{Script, Cite, Hence, Make, Qed, Contradiction}
+use Rattle.e_deriv.specs.Script.{Script, Cite, Hence, Make, Claim, Superposed, Qed, Contradiction, Cases}
 
 -- the names of the objects of a sort
 abbrev pub names_of_sort : Names → Sort → List (List ℕ)
@@ -25,13 +26,18 @@ abbrev pub named : Names → List Sort → List (List ℕ) → Names
 named ns (sort ∷ kinds) (name ∷ names) = named (with_names ns sort (names_of_sort ns sort ++ name ∷ [])) kinds names
 named ns _ _ = ns
 
--- the names in scope before each line, in text order, where these are in scope before the first
+-- the names in scope before each line, in text order, where these are in scope before the first; those that an inner block
+-- brings are gone behind it
 unfoldable pub names_lines : Names → Script → List Names
 names_lines ns (Cite by rest) = ns ∷ names_lines ns rest
 names_lines ns (Hence lit cert rest) = ns ∷ names_lines ns rest
 names_lines ns (Make form names certs rest) = ns ∷ names_lines (named ns (made form) names) rest
+names_lines ns (Claim shown inner rest) = ns ∷ (names_lines ns inner ++ names_lines ns rest)
+names_lines ns (Superposed form names shown certs inner rest) =
+    ns ∷ (names_lines (named ns superposing.made names) inner ++ names_lines ns rest)
 names_lines ns (Qed objects certs) = ns ∷ []
 names_lines ns (Contradiction against) = ns ∷ []
+names_lines ns (Cases lit first second) = ns ∷ (names_lines ns first ++ names_lines ns second)
 
 -- the names of the objects of a scope, which are the first of each sort
 abbrev pub first_names : Scope → Names → Names

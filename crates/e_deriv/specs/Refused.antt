@@ -46,7 +46,7 @@ pub record SomeIsWide (x : Line) : Type 0 where
   pub is_one : Contains (needs x) lit
   pub is_wide : IsWideLit x.scope x.facts lit
 
--- a literal that the line needs is wide, or its contradiction; a citation is never wide
+-- a literal that the line needs is wide, or its contradiction; a citation, a claim and a split need nothing and are never wide
 abbrev pub IsWideAt : Line → Script → Type 0
 IsWideAt x (Contradiction against) = IsWideContradiction x.facts
 IsWideAt x _ = SomeIsWide x

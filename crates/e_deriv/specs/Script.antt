@@ -1,33 +1,46 @@
 -- A block as a plain tree: each step with what comes after it, and a close at the end.
-use Rattle.std.specs.Prelude.{ℕ, ◌+◌, List, [], ◌∷◌, Option, None}
+use Rattle.std.specs.Prelude.{ℕ, ◌+◌, max, List, [], ◌∷◌, Option, None}
 use Rattle.e_literal.specs.declared.literal.Lit.{Lit}
 use Rattle.e_literal.specs.declared.object.Obj.{Obj}
 use Rattle.e_construct.specs.declared.construction.Construction.{Construction}
+use Rattle.e_construct.specs.declared.superpose.Superpose.{Superpose}
 use Rattle.e_clause.specs.declared.cert.Against.{Against}
 use Rattle.e_clause.specs.declared.cert.By.{By}
 use Rattle.e_clause.specs.declared.cert.Cert.{Cert}
 use Rattle.e_deriv.specs.declared.block.Block.{Block}
-use Rattle.e_deriv.specs.declared.block.Step.{Step}
-use Rattle.e_deriv.specs.declared.block.Step.TheVariants.{Cite as CiteStep, Hence as HenceStep, Make as MakeStep}
+use Rattle.e_deriv.specs.declared.block.Step.{Step, Row_of-Step, end_of-Step, more_of-Step}
+use Rattle.e_deriv.specs.declared.block.Step.TheVariants.{Cite as CiteStep, Hence as HenceStep, Make as MakeStep, Claim' as ClaimStep, Superposed' as SuperposedStep}
 use Rattle.e_deriv.specs.declared.block.Close.{Close}
-use Rattle.e_deriv.specs.declared.block.Close.TheVariants.{Qed as QedClose, Contradiction as ContradictionClose}
+use Rattle.e_deriv.specs.declared.block.Close.TheVariants.{Qed as QedClose, Contradiction as ContradictionClose, Cases' as CasesClose}
 
+-- `Claim` and `Superposed` have a block inside, and `Cases` ends with two
 pub data Script : Type 0 where
   Cite : (by : By) (rest : Script) → Script
   Hence : (lit : Lit) (cert : Option Cert) (rest : Script) → Script
   Make : (form : Construction) (names : List (List ℕ)) (certs : List Cert) (rest : Script) → Script
+  Claim : (shown : List Lit) (inner : Script) (rest : Script) → Script
+  Superposed : (form : Superpose) (names : List (List ℕ)) (shown : List Lit) (certs : List Cert) (inner : Script) (rest : Script) → Script
   Qed : (objects : List Obj) (certs : List Cert) → Script
   Contradiction : (against : Option Against) → Script
+  Cases : (lit : Lit) (first : Script) (second : Script) → Script
 
--- a step, and what comes after it
-abbrev pub step_script : Step → Script → Script
-step_script (CiteStep by) rest = Cite by rest
-step_script (HenceStep lit cert) rest = Hence lit cert rest
-step_script (MakeStep form names certs) rest = Make form names certs rest
+unfoldable mutual
+  -- a step, and what comes after it
+  pub step_script : Step → Script → Script
+  step_script (CiteStep by) rest = Cite by rest
+  step_script (HenceStep lit cert) rest = Hence lit cert rest
+  step_script (MakeStep form names certs) rest = Make form names certs rest
+  step_script (ClaimStep shown p0 n0 row0 close0) rest = Claim shown (row_script row0 (close_script close0)) rest
+  step_script (SuperposedStep form names shown certs p0 n0 row0 close0) rest = Superposed form names shown certs (row_script row0 (close_script close0)) rest
 
-abbrev pub close_script : Close → Script
-close_script (QedClose objects certs) = Qed objects certs
-close_script (ContradictionClose against) = Contradiction against
+  pub row_script : {n : _} → Row_of-Step n → Script → Script
+  row_script end_of-Step rest = rest
+  row_script (more_of-Step s steps) rest = step_script s (row_script steps rest)
+
+  pub close_script : Close → Script
+  close_script (QedClose objects certs) = Qed objects certs
+  close_script (ContradictionClose against) = Contradiction against
+  close_script (CasesClose lit p0 n0 row0 close0 p1 n1 row1 close1) = Cases lit (row_script row0 (close_script close0)) (row_script row1 (close_script close1))
 
 -- the steps of a list, and what comes after them
 abbrev pub steps_script : List Step → Script → Script
@@ -42,13 +55,30 @@ unfoldable pub size : Script → ℕ
 size (Cite by rest) = 1 + size rest
 size (Hence lit cert rest) = 1 + size rest
 size (Make form names certs rest) = 1 + size rest
+size (Claim shown inner rest) = 1 + size inner + size rest
+size (Superposed form names shown certs inner rest) = 1 + size inner + size rest
 size (Qed objects certs) = 1
 size (Contradiction against) = 1
+size (Cases lit first second) = 1 + size first + size second
+
+-- blocks one inside the other
+unfoldable pub depth : Script → ℕ
+depth (Cite by rest) = depth rest
+depth (Hence lit cert rest) = depth rest
+depth (Make form names certs rest) = depth rest
+depth (Claim shown inner rest) = max (1 + depth inner) (depth rest)
+depth (Superposed form names shown certs inner rest) = max (1 + depth inner) (depth rest)
+depth (Qed objects certs) = 1
+depth (Contradiction against) = 1
+depth (Cases lit first second) = 1 + max (depth first) (depth second)
 
 -- without its certificates
 unfoldable pub erased : Script → Script
 erased (Cite by rest) = Cite by (erased rest)
 erased (Hence lit cert rest) = Hence lit None (erased rest)
 erased (Make form names certs rest) = Make form names [] (erased rest)
+erased (Claim shown inner rest) = Claim shown (erased inner) (erased rest)
+erased (Superposed form names shown certs inner rest) = Superposed form names shown [] (erased inner) (erased rest)
 erased (Qed objects certs) = Qed objects []
 erased (Contradiction against) = Contradiction None
+erased (Cases lit first second) = Cases lit (erased first) (erased second)

@@ -1,13 +1,14 @@
 //! Blocks, steps and closes.
 
 use e_clause::{Against, By, Cert};
-use e_construct::Construction;
+use e_construct::{Construction, Superpose};
 use e_literal::{Items, Lit, Obj};
 use e_text::Name;
 
 /// Steps, and the close that ends them.
 ///
 /// A script has no certificates; a derivation has one for each literal that a line needs.
+#[cycle(block)]
 #[derive(Debug, Drop)]
 pub struct Block {
     pub steps: Vec<Step>,
@@ -15,6 +16,7 @@ pub struct Block {
 }
 
 /// A step, after which what it gives are facts.
+#[cycle(block)]
 #[derive(Debug, Drop)]
 pub enum Step {
     /// The literal is one of an instance of the rule, and the negation of each other one is a fact.
@@ -31,9 +33,25 @@ pub enum Step {
         names: Items<Name>,
         certs: Items<Cert>,
     },
+    /// The inner block proves the literals. Its objects and facts end with it, and the literals are facts.
+    Claim {
+        shown: Items<Lit>,
+        inner: Box<Block>,
+    },
+    /// Each literal that the superposition needs is allowed. The inner block begins with the two copied points, with these
+    /// names, and with what the superposition gives; it proves the literals, which do not speak of the copied points. Its
+    /// objects and facts end with it, and the literals are facts.
+    Superposed {
+        form: Superpose,
+        names: Items<Name>,
+        shown: Items<Lit>,
+        certs: Items<Cert>,
+        inner: Box<Block>,
+    },
 }
 
 /// The end of a block.
+#[cycle(block)]
 #[derive(Debug, Drop)]
 pub enum Close {
     /// Each literal of the goal is allowed, with these objects for its made ones.
@@ -44,5 +62,11 @@ pub enum Close {
     /// The facts contradict each other.
     Contradiction {
         against: Option<Against>,
+    },
+    /// Two blocks with the goal of this one: the first has the literal for a fact, the second its negation.
+    Cases {
+        lit: Lit,
+        first: Box<Block>,
+        second: Box<Block>,
     },
 }

@@ -5,10 +5,11 @@ ghost use Rattle.e_deriv.specs.Script.{Script, script_of, step_script, close_scr
 use crate::block::{Block, Close, Step};
 use e_clause::By;
 use e_construct::Construction;
-use e_literal::{Items, Obj, copy};
+use e_literal::{Items, Lit, Obj, copy};
 use std::alloc::{AllocError, Global};
 
 /// The script of a block: the same lines without their certificates.
+#[cycle(erase)]
 #[tactic(auto, using(crate::proofs::Scripts::erasing))]
 pub fn erase(alloc: Global, block: &Block) -> Result<Block, AllocError>
     ensures { IfOk result (λ b. script_of b ≡ erased (script_of block.now)) }
@@ -22,6 +23,7 @@ pub fn erase(alloc: Global, block: &Block) -> Result<Block, AllocError>
     Ok(Block { steps, close })
 }
 
+#[cycle(erase)]
 #[tactic(auto, using(crate::proofs::Scripts::erasing))]
 fn erase_step(alloc: Global, step: &Step) -> Result<Step, AllocError>
     ensures { IfOk result (λ s. (rest : Script) → step_script s (erased rest) ≡ erased (step_script step.now rest)) }
@@ -41,9 +43,35 @@ fn erase_step(alloc: Global, step: &Step) -> Result<Step, AllocError>
                 certs: Items::empty(alloc),
             })
         }
+        Step::Claim { shown, inner } => {
+            let shown = copy_lits(alloc, shown.items())?;
+            let inner = erase(alloc, inner)?;
+            let inner = Box::new(alloc, inner)?;
+            Ok(Step::Claim { shown, inner })
+        }
+        Step::Superposed {
+            form,
+            names,
+            shown,
+            inner,
+            ..
+        } => {
+            let copied = Vec::from_slice(alloc, names.items())?;
+            let shown = copy_lits(alloc, shown.items())?;
+            let inner = erase(alloc, inner)?;
+            let inner = Box::new(alloc, inner)?;
+            Ok(Step::Superposed {
+                form: *form,
+                names: Items::new(copied),
+                shown,
+                certs: Items::empty(alloc),
+                inner,
+            })
+        }
     }
 }
 
+#[cycle(erase)]
 #[tactic(auto, using(crate::proofs::Scripts::erasing))]
 fn erase_close(alloc: Global, close: &Close) -> Result<Close, AllocError>
     ensures { IfOk result (λ c. close_script c ≡ erased (close_script close.now)) }
@@ -57,7 +85,24 @@ fn erase_close(alloc: Global, close: &Close) -> Result<Close, AllocError>
             })
         }
         Close::Contradiction { .. } => Ok(Close::Contradiction { against: None }),
+        Close::Cases { lit, first, second } => {
+            let lit = copy(alloc, lit)?;
+            let first = Box::new(alloc, erase(alloc, first)?)?;
+            let second = Box::new(alloc, erase(alloc, second)?)?;
+            Ok(Close::Cases { lit, first, second })
+        }
     }
+}
+
+/// Equal literals.
+pub fn copy_lits(alloc: Global, lits: &[Lit]) -> Result<Items<Lit>, AllocError>
+    ensures { IfOk result (λ ls. ls ≡ lits.now) }
+{
+    let mut copies = Vec::new(alloc);
+    for lit in lits {
+        copies.push(copy(alloc, lit)?)?;
+    }
+    Ok(Items::new(copies))
 }
 
 /// An equal citation.

@@ -9,11 +9,11 @@ mod sizes;
 mod stop;
 
 pub use block::{Block, Close, Step};
-pub use erasing::{copy_by, copy_construction, erase};
+pub use erasing::{copy_by, copy_construction, copy_lits, erase};
 pub use laws::{
     certified_proves, context_is_one, derived_has_no_stop, derived_is_licensed,
     licensed_has_no_stop, licensed_proves, proof_is_licensed, stop_is_one,
 };
 pub use names::Names;
-pub use sizes::size;
+pub use sizes::{depth, size};
 pub use stop::{Stop, Wanted};

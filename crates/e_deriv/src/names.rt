@@ -38,6 +38,17 @@ impl Names {
         }
     }
 
+    /// Equal names. It fails only for want of memory.
+    pub fn copy(&self, alloc: Global) -> Result<Names, AllocError>
+        ensures { IfOk result (λ n. n ≡ self.now) }
+    {
+        Ok(Names {
+            points: Items::new(Vec::from_slice(alloc, self.points.items())?),
+            lines: Items::new(Vec::from_slice(alloc, self.lines.items())?),
+            circles: Items::new(Vec::from_slice(alloc, self.circles.items())?),
+        })
+    }
+
     /// Equal names of the objects of the scope, which are the first ones of each sort. It fails only for want of memory.
     pub fn first(&self, alloc: Global, scope: Scope) -> Result<Names, AllocError>
         ensures { IfOk result (λ n. n ≡ first_names scope self.now) }

@@ -1,3 +1,5 @@
 pub mod Contexts
 pub mod Licences
 pub mod Clashes
+pub mod Filling
+pub mod Fills

@@ -1,6 +1,6 @@
 //! What a step is judged by.
 
-ghost use Rattle.std.specs.Prelude.{◌≡◌, IsTrue, IfOk, OnOk, OnErr};
+ghost use Rattle.std.specs.Prelude.{◌≡◌, ◌≤◌, IsTrue, IfOk, OnOk, OnErr, length, take};
 ghost use Rattle.e_literal.specs.Facts.{joined};
 ghost use Rattle.e_clause.specs.Judged.{are_good_facts};
 ghost use Rattle.e_facts.specs.Adding.{AddedIs};
@@ -27,6 +27,13 @@ impl Model for Context {
     ghost view = { λ c. record { scope = c.scope; facts = c.facts } };
 
     ghost invariant = { λ c. IsTrue (are_good_facts c.scope c.facts) };
+}
+
+/// Where a block begins: the objects in scope, and how many facts there are.
+#[derive(Clone, Copy, Debug)]
+pub struct Mark {
+    pub scope: Scope,
+    pub facts: usize,
 }
 
 impl Context {
@@ -84,5 +91,25 @@ impl Context {
         ensures { self.new ≡ record self.old { scope = scope } }
     {
         self.scope = scope;
+    }
+
+    /// What [`Context::back_to`] brings back.
+    pub fn mark(&self) -> Mark
+        ensures { result ≡ record { scope = self.now.scope; facts = length self.now.facts } }
+    {
+        Mark {
+            scope: self.scope,
+            facts: self.facts.mark(),
+        }
+    }
+
+    /// A block ends: the objects and the facts that came after the mark are gone.
+    pub fn back_to(&mut self, mark: Mark)
+        requires few { mark.facts ≤ length self.old.facts }
+        requires good { IsTrue (are_good_facts mark.scope (take mark.facts self.old.facts)) }
+        ensures { self.new ≡ record { scope = mark.scope; facts = take mark.facts self.old.facts } }
+    {
+        self.facts.back_to(mark.facts);
+        self.scope = mark.scope;
     }
 }

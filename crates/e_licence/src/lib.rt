@@ -1,7 +1,8 @@
 //! The licence of one step: whether a literal is allowed by the facts in a scope, or the facts contradict each other, and
-//! why; or that it cannot be told, since a linear system of the step is wide.
+//! why, and how the blanks of an application are filled; or that it cannot be told, since a linear system of the step is wide.
 #![tactic(auto)]
 
+pub mod blanks;
 pub mod context;
 pub mod contradiction;
 pub mod licensing;
@@ -9,7 +10,8 @@ pub mod limits;
 #[cfg(test)]
 mod tests;
 
-pub use context::Context;
+pub use blanks::{Filled, match_blanks};
+pub use context::{Context, Mark};
 pub use contradiction::{Refuted, against};
-pub use licensing::{Licensed, licence};
-pub use limits::{are_good_facts, is_good};
+pub use licensing::{Judge, Licensed, licence};
+pub use limits::{are_good_facts, is_good, is_statement};

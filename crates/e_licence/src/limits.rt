@@ -1,14 +1,18 @@
-//! Tests of what is asked of the literals and the facts of a step.
+//! Tests of what is asked of the literals, the facts and the statements of a step.
 
-ghost use Rattle.std.specs.Prelude.{◌≡◌};
+ghost use Rattle.std.specs.Prelude.{◌≡◌, ◌<◌, ◌+◌, ◌^◌, ◌&&◌, length};
 ghost use Rattle.std.specs.List.{list_all};
 ghost use Rattle.e_literal.specs.Literal.{all_in_scope};
+ghost use Rattle.e_literal.specs.Use;
+ghost use Rattle.e_literal.specs.WellFormed;
 ghost use Rattle.e_clause.specs.Judged;
+ghost use Rattle.e_theorem.specs.Statements.{stated};
 
 use e_facts::Facts;
-use e_literal::{Lit, Scope, in_scope};
+use e_literal::{Lit, Scope, grown, in_scope};
 use e_metric::are_few_facts;
 use e_metric::limits::is_well_formed;
+use e_theorem::Statement;
 
 /// Whether the literal is in scope and well formed.
 pub fn is_good(scope: Scope, lit: &Lit) -> bool
@@ -35,4 +39,28 @@ fn are_in_scope(scope: Scope, facts: &Facts) -> bool
         }
     }
     true
+}
+
+/// Whether the given literals name declared objects alone, the shown ones declared and made ones, and all are well formed.
+pub fn is_statement(statement: &Statement) -> bool
+    requires { length statement.now.declared + length statement.now.made < 2 ^ 16 }
+    ensures { result ≡ Use.is_statement (stated statement.now) }
+{
+    let declared = grown(NOTHING, statement.declared.items());
+    let all = grown(declared, statement.made.items());
+    are_over(declared, statement.given.items()) && are_over(all, statement.shown.items())
+}
+
+const NOTHING: Scope = Scope {
+    points: 0,
+    lines: 0,
+    circles: 0,
+};
+
+// Whether each literal is well formed and in scope.
+fn are_over(scope: Scope, lits: &[Lit]) -> bool
+    ensures { result ≡ list_all (λ l. WellFormed.is_well_formed l && all_in_scope scope l) lits.now }
+{
+    lits.iter()
+        .all(|lit| is_well_formed(lit) && in_scope(lit, scope))
 }

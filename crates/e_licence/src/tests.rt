@@ -1,9 +1,13 @@
 // Worked steps, whose answers were found by hand.
 
-use crate::{Context, Licensed, Refuted, against, are_good_facts, is_good, licence};
+use crate::{
+    Context, Filled, Licensed, Refuted, against, are_good_facts, is_good, is_statement, licence,
+    match_blanks,
+};
 use e_clause::{Against, Cert, Part};
 use e_facts::{Added, Facts};
-use e_literal::{Atom, Form, Lit, Mono, Scope, Term, Values};
+use e_literal::{Atom, Form, Items, Lit, Mono, Obj, Scope, Sort, Term, Values};
+use e_theorem::{Statement, is_pattern};
 use std::alloc::{AllocError, Global};
 use std::process::Abort;
 use std::test::Fail;
@@ -22,19 +26,31 @@ fn point(text: &str, at: usize) -> u16 {
     }
 }
 
-// The sum of the segments between `+`; `0` is the empty sum.
+// The sum of the segments between `+`, where `9` stands for the coefficient 1,000,000; `0` is the empty sum.
 fn form(alloc: Global, text: &str) -> Result<Form, AllocError> {
     let mut monos = Vec::new(alloc);
     if text != "0" {
         for pair in text.split('+') {
+            let (coeff, pair) = match pair.strip_prefix('9') {
+                Some(rest) => (1_000_000, rest),
+                None => (1, pair),
+            };
             let term = Term::Seg(point(pair, 0), point(pair, 1));
-            monos.push(Mono { coeff: 1, term })?;
+            monos.push(Mono { coeff, term })?;
         }
     }
     Ok(Form::new(monos))
 }
 
-// `ab<cd` and `ab=cd` of segments, `a=b` of points, `abc` where the second lies between.
+// Lines are the letters from `L` on.
+fn line(text: &str, at: usize) -> u16 {
+    match text.as_bytes().get(at) {
+        Some(letter) => u16::from(letter.saturating_sub(b'L')),
+        None => 0,
+    }
+}
+
+// `ab<cd` and `ab=cd` of segments, `a=b` of points, `aL` where the point is on the line, `abc` where the second lies between.
 fn atom(alloc: Global, text: &str) -> Result<Atom, AllocError> {
     if let Some((x, y)) = text.split_once('<') {
         return Ok(Atom::MagLt(form(alloc, x)?, form(alloc, y)?));
@@ -42,6 +58,7 @@ fn atom(alloc: Global, text: &str) -> Result<Atom, AllocError> {
     match text.split_once('=') {
         Some((x, y)) if x.len() == 1 => Ok(Atom::EqP(point(x, 0), point(y, 0))),
         Some((x, y)) => Ok(Atom::MagEq(form(alloc, x)?, form(alloc, y)?)),
+        None if text.len() == 2 => Ok(Atom::On(point(text, 0), line(text, 1))),
         None => Ok(Atom::Between(point(text, 0), point(text, 1), point(text, 2))),
     }
 }
@@ -56,15 +73,20 @@ fn lit(alloc: Global, text: &str) -> Result<Lit, AllocError> {
     Ok(Lit { neg, atom })
 }
 
-fn context(rt: &impl Abort, alloc: Global, text: &str) -> Result<Context, AllocError> {
+fn context(
+    rt: &impl Abort,
+    alloc: Global,
+    scope: Scope,
+    text: &str,
+) -> Result<Context, AllocError> {
     let mut facts = Facts::new(alloc);
     for word in text.split(' ') {
         if !word.is_empty() {
             facts.add(lit(alloc, word)?)?;
         }
     }
-    assert!(rt; are_good_facts(SCOPE, &facts));
-    Ok(Context::new(SCOPE, facts))
+    assert!(rt; are_good_facts(scope, &facts));
+    Ok(Context::new(scope, facts))
 }
 
 fn licensed(
@@ -73,7 +95,7 @@ fn licensed(
     facts: &str,
     wanted: &str,
 ) -> Result<Licensed, AllocError> {
-    let context = context(rt, alloc, facts)?;
+    let context = context(rt, alloc, SCOPE, facts)?;
     let wanted = lit(alloc, wanted)?;
     assert!(rt; is_good(context.scope(), &wanted));
     licence(alloc, &context, &wanted)
@@ -162,7 +184,7 @@ fn what_contradicts(rt: HostRuntime) -> Result<(), Fail> {
         let Some((facts, answer)) = step.split_once(':') else {
             panic!(&rt; "no facts");
         };
-        let context = context(&rt, rt.alloc(), facts)?;
+        let context = context(&rt, rt.alloc(), SCOPE, facts)?;
         let refuted = against(rt.alloc(), &context)?;
         assert_eq!(rt; word_against(&refuted), answer, "{step}");
     }
@@ -183,5 +205,115 @@ fn a_context_grows(rt: HostRuntime) -> Result<(), Fail> {
     context.good();
     assert_eq!(rt; context.scope().points, 5);
     assert_eq!(rt; context.into_facts().len(), 1);
+    Ok(())
+}
+
+// The number of the points and of the lines in scope, the facts, the sorts of the declared objects, the given literals, the
+// arguments with `_` for blanks, and what is answered.
+const BLANKS: &str = "\
+1 2:aL aM:pl:aL:a_:aL
+1 2:aL aM:pl:aL:_M:aM
+1 2:!aL:pl:aL:a_:none
+1 2:aL:pl:aL:aL:aL
+1 2:aL:pl:aL:aM:none
+2 0::pl:aL:a_:none
+3 2:bM cL:pl:aL:__:bM
+3 2:bM cL:lp:aL:__:Lc
+3 1:aL bL cL !a=c:ppl:aL bL !a=b:__L:acL
+3 1:aL bL cL !c=b:ppl:aL bL !a=b:__L:bcL
+2 0::pp::__:aa
+4 0:ab<cd:pppp:ab<cd:____:aacd
+4 0:ab<cd:pppp:ab<cd:dc__:none
+6 0:9ab=bc 9bc=cd 9cd=de 9de=ef:pppp:ab=cd:abef:too wide
+6 0:9ab=bc 9bc=cd 9cd=de 9de=ef:pppp:ab=cd:dc_c:too wide
+6 0:9ab=bc 9bc=cd 9cd=de 9de=ef:pppp:9ab=cd:_bbc:abbc";
+
+fn part(row: &'static str, number: usize) -> &'static str {
+    row.split(':').nth(number).unwrap_or("")
+}
+
+// The sort of an object: that of a letter, or `p` and `l`.
+fn sort(letter: u8) -> Sort {
+    match letter {
+        b'l' | b'L'..=b'Z' => Sort::Line,
+        _ => Sort::Point,
+    }
+}
+
+fn entries(alloc: Global, letters: &str) -> Result<Vec<Option<Obj>>, AllocError> {
+    let mut entries = Vec::new(alloc);
+    for letter in letters.bytes() {
+        let first = if sort(letter) == Sort::Line {
+            b'L'
+        } else {
+            b'a'
+        };
+        let object = Obj {
+            sort: sort(letter),
+            num: u16::from(letter.saturating_sub(first)),
+        };
+        entries.push(if letter == b'_' { None } else { Some(object) })?;
+    }
+    Ok(entries)
+}
+
+fn letters(alloc: Global, objects: &[Obj]) -> Result<String, AllocError> {
+    let mut letters = String::new(alloc);
+    for object in objects {
+        let all = if object.sort == Sort::Line {
+            "LMN"
+        } else {
+            "abcdef"
+        };
+        letters.push(all.chars().nth(object.num as usize).unwrap_or('?'))?;
+    }
+    Ok(letters)
+}
+
+fn statement(alloc: Global, row: &'static str) -> Result<Statement, AllocError> {
+    let mut declared = Items::empty(alloc);
+    for letter in part(row, 2).bytes() {
+        declared.push(sort(letter))?;
+    }
+    let mut given = Items::empty(alloc);
+    for word in part(row, 3).split(' ') {
+        if !word.is_empty() {
+            given.push(lit(alloc, word)?)?;
+        }
+    }
+    Ok(Statement {
+        declared,
+        given,
+        made: Items::empty(alloc),
+        shown: Items::empty(alloc),
+    })
+}
+
+fn filled(rt: &impl Abort, alloc: Global, row: &'static str) -> Result<String, AllocError> {
+    let (points, lines) = part(row, 0).split_once(' ').unwrap_or(("", ""));
+    let scope = Scope {
+        points: points.parse::<u16>().unwrap_or(0),
+        lines: lines.parse::<u16>().unwrap_or(0),
+        circles: 0,
+    };
+    let context = context(rt, alloc, scope, part(row, 1))?;
+    let statement = statement(alloc, row)?;
+    let pattern = entries(alloc, part(row, 4))?;
+    assert!(rt; statement.declared.len() + statement.made.len() < 9);
+    assert!(rt; is_statement(&statement));
+    assert!(rt; is_pattern(&statement, &pattern, context.scope()));
+    match match_blanks(alloc, &context, &statement, &pattern)? {
+        Filled::Found(args) => letters(alloc, args.items()),
+        Filled::None => String::from_str(alloc, "none"),
+        Filled::TooWide(_) => String::from_str(alloc, "too wide"),
+    }
+}
+
+#[test]
+fn blanks_are_filled(rt: HostRuntime) -> Result<(), Fail> {
+    for row in BLANKS.split('\n') {
+        let filled = filled(&rt, rt.alloc(), row)?;
+        assert_eq!(rt; filled.as_str(), part(row, 5), "{row}");
+    }
     Ok(())
 }

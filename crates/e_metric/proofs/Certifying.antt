@@ -34,6 +34,7 @@ use Rattle.e_metric.specs.Agree.{AreRows}
 use Rattle.e_metric.specs.Listed.{listed, terms_of_kind}
 use Rattle.e_metric.specs.Certificate.{sum_of, turned, sums_of}
 use Rattle.e_metric.proofs.Alike.{Alike}
+use Rattle.e_metric.proofs.Reordered.{AreReordered}
 use Rattle.e_metric.proofs.FirstTerms.{Once, first_once, first_has, with_right}
 use Rattle.e_metric.proofs.Summing.{NamedWhere, AllStepTerms, sum_refutes}
 
@@ -281,9 +282,6 @@ module _ (which : Kind) (facts : List Lit) (wanted : Option Lit) where
       by true true e f = absurd (true≢false (sym (both (is_normal u) (has_term summed u) e
           (ap (λ ts. has_term ts u) summed_is ∙ first_has [] (written ++ Right ∷ []) u (has_right u f) refl)) ∙ h))
 
-  covered : (u : Term) → (is_normal u && has_term summed u) ≡ false → NoneHas u (map row_of (system which facts wanted))
-  covered u h = none_rows u (system which facts wanted) (system_misses which facts wanted u (misses u h))
-
   all_steps : (p : Place) (ts : List Term) → ((t : Term) → is_among ts t ≡ true → is_step_term p t ≡ true) → AllStepTerms p ts
   all_steps p [] h = tt
   all_steps p (t ∷ ts) h = (h t (among_first t ts), all_steps p ts (λ u k. h u (among_rest t ts u k)))
@@ -303,9 +301,12 @@ module _ (which : Kind) (facts : List Lit) (wanted : Option Lit) where
 
   -- ---- the certificate
 
-  module _ (pairs : List (RowName × GivenRow)) (are : AreRows (system which facts wanted) pairs) (few : length pairs + length summed ≤ 4096) where
-    abbrev ns : List NamedRow
-    ns = system which facts wanted
+  module _ (ns : List NamedRow) (order : AreReordered ns (system which facts wanted)) (pairs : List (RowName × GivenRow)) (are : AreRows ns pairs) (few : length pairs + length summed ≤ 4096) where
+    covered : (u : Term) → (is_normal u && has_term summed u) ≡ false → NoneHas u (map row_of ns)
+    covered u h = none_rows u ns (order.each (HasNot u) (system_misses which facts wanted u (misses u h)))
+
+    all_named : (p : Place) → p.facts ≡ facts → p.wanted ≡ wanted → Each (IsNamed p) ns
+    all_named p e f = order.each (IsNamed p) (subst (λ (x : List Lit × Option Lit). Each (IsNamed p) (system which x.0 x.1)) (ap₂ {A = List Lit} {B = Option Lit} (λ x y. (x, y)) e f) (system_named p which))
 
     abbrev rows : List Row
     rows = map row_of ns
@@ -327,7 +328,7 @@ module _ (which : Kind) (facts : List Lit) (wanted : Option Lit) where
         (let rr = refutes_alike (all_seen (rows_given pairs)) rows ms alike r in
         sum_refutes (place None None) (map name_of ns) rows ms (total (weighed (rows_given pairs) ms)) summed (record {
           refutes = rr;
-          named = named_taken (place None None) ns ms (system_named (place None None) which) rr.taken;
+          named = named_taken (place None None) ns ms (all_named (place None None) refl refl) rr.taken;
           as_many = length_names;
           few = few_names;
           left_is = λ u. left_given (rows_given pairs) ms u ∙ total_alike (all_seen (rows_given pairs)) rows ms u alike;
@@ -343,7 +344,7 @@ module _ (which : Kind) (facts : List Lit) (wanted : Option Lit) where
         let rr = refutes_alike (as_more (all_seen (rows_given pairs)) k) (as_more rows k) ms (more_of_alike (all_seen (rows_given pairs)) rows k alike) r in
         sum_refutes p (set (map name_of ns) k Above) (as_more rows k) ms (total (weighed (rows_given pairs) ms)) summed (record {
           refutes = rr;
-          named = named_above p ns ms k q (system_named p which) here refl rr.taken;
+          named = named_above p ns ms k q (all_named p refl refl) here refl rr.taken;
           as_many = length_set (map name_of ns) k Above ∙ length_names ∙ sym (length_more rows k);
           few = omega (arith, length_set (map name_of ns) k Above, few_names);
           left_is = λ u. left_given (rows_given pairs) ms u ∙ total_alike (all_seen (rows_given pairs)) rows ms u alike ∙ left_more rows ms k u;
@@ -359,7 +360,7 @@ module _ (which : Kind) (facts : List Lit) (wanted : Option Lit) where
         let rr = refutes_alike (as_less (all_seen (rows_given pairs)) k) (as_less rows k) ms (less_of_alike (all_seen (rows_given pairs)) rows k alike) r in
         sum_refutes p (set (map name_of ns) k Below) (as_less rows k) ms (total (weighed (rows_given pairs) (turned ms k))) summed (record {
           refutes = rr;
-          named = named_below p ns ms k q (system_named p which) here refl rr.taken;
+          named = named_below p ns ms k q (all_named p refl refl) here refl rr.taken;
           as_many = length_set (map name_of ns) k Below ∙ length_names ∙ sym (length_less rows k);
           few = omega (arith, length_set (map name_of ns) k Below, few_names);
           left_is = λ u. left_given (rows_given pairs) (turned ms k) u ∙ total_alike (all_seen (rows_given pairs)) rows (turned ms k) u alike ∙ left_less rows ms k u;
@@ -374,7 +375,7 @@ module _ (which : Kind) (facts : List Lit) (wanted : Option Lit) where
         (let w = the_not ns k (not_alike (all_seen (rows_given pairs)) rows k alike h.is_not) in
         let first = sum_of (set (map name_of ns) k Above) (rows_given pairs) above above summed in
         let second = sum_of (set (map name_of ns) k Below) (rows_given pairs) below (turned below k) summed in
-        let named = each_at (IsNamed (place None None)) ns k w.row (system_named (place None None) which) w.here in
+        let named = each_at (IsNamed (place None None)) ns k w.row (all_named (place None None) refl refl) w.here in
         ap (λ (o : Option Row). option_map_or (λ r. both_refute facts wanted r first second) o false) (ap (differing facts wanted) w.name ∙ named.differs (ap says_differ w.is_not))
         ∙ both (refutes (place (Some (above_row w.row.row)) None) first) (refutes (place None (Some (below_row w.row.row))) second)
         (above_sum k above w.row w.here h.above_refutes) (below_sum k below w.row w.here h.below_refutes))

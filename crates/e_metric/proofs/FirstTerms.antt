@@ -50,7 +50,7 @@ Alike us vs = (t : Term) → has_term us t ≡ has_term vs t
 alike_push : (us vs : List Term) (t : Term) → Alike us vs → Alike (us ++ t ∷ []) (t ∷ vs)
 alike_push us vs t h u = list_any-append (one_term u) us (t ∷ []) ∙ ap (λ b. b || (one_term u t || false)) (h u) ∙ or_last (has_term vs u) (one_term u t)
 
-listed_first : (us vs ts : List Term) → Alike us vs → listed us ts ≡ us ++ first_terms vs ts
+pub listed_first : (us vs ts : List Term) → Alike us vs → listed us ts ≡ us ++ first_terms vs ts
 listed_first us vs [] h = sym (none_more us)
 listed_first us vs (t ∷ ts) h = by (has_term us t) (has_term vs t) (h t) (listed_first us vs ts h) (listed_first (us ++ t ∷ []) (t ∷ vs) ts (alike_push us vs t h))
   where

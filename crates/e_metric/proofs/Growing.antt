@@ -113,7 +113,7 @@ facts_grow which name facts i l x y z e h k =
     (sym (ap (rows_named name) (kind_more which facts i l e) ∙ map_append (λ f. option_map (named (name f)) (row_of_lit f)) (of_kind which (take i facts)) (of_kind which (l ∷ []))))
     (grow_more (rows_named name (of_kind which (take i facts))) (rows_named name (of_kind which (l ∷ []))) x y z h k)
 
-flat_append : (f : Term → List NamedRow) (xs ys : List Term) → flat_map f (xs ++ ys) ≡ flat_map f xs ++ flat_map f ys
+pub flat_append : (f : Term → List NamedRow) (xs ys : List Term) → flat_map f (xs ++ ys) ≡ flat_map f xs ++ flat_map f ys
 flat_append f [] ys = refl
 flat_append f (x ∷ xs) ys = ap (λ zs. f x ++ zs) (flat_append f xs ys) ∙ sym (append_assoc (f x) (flat_map f xs) (flat_map f ys))
 

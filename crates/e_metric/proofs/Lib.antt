@@ -2,6 +2,7 @@ pub mod Forms
 pub mod FirstTerms
 pub mod Growing
 pub mod Alike
+pub mod Reordered
 pub mod Summing
 pub mod Certifying
 pub mod Weighing
@@ -9,6 +10,10 @@ pub mod Order
 pub mod StepTerms
 pub mod Bounds
 pub mod Scoped
+pub mod Further
 pub mod Telling
+pub mod Wider
+pub mod Kept
+pub mod Beside
 pub mod Following
 pub mod GoodSums

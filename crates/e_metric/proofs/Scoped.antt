@@ -37,6 +37,7 @@ use Rattle.e_metric.specs.Listed.{listed, terms_of_kind}
 use Rattle.e_metric.specs.Certificate.{kept, leasts, turned, sum_of, sums_of}
 use Rattle.e_metric.specs.Told.{wanted_in}
 use Rattle.e_metric.proofs.FirstTerms.{with_right}
+use Rattle.e_metric.proofs.Reordered.{AreReordered}
 
 among_either : (xs ys : List Term) (t : Term) → is_among (xs ++ ys) t ≡ true → (is_among xs t ≡ true) ⊎ (is_among ys t ≡ true)
 among_either [] ys t h = inr h
@@ -191,12 +192,12 @@ module _ (s : Scope) where
     all_terms (t ∷ ts) h = both (term_in t) (list_all term_in ts) (h t (among_first t ts)) (all_terms ts (λ u k. h u (among_rest t ts u k)))
 
     -- the sums of a system
-    pub in_scope : (which : Kind) (names : List RowName) (gs : List GivenRow) (a : Absurdity) → names ≡ map (λ (n : NamedRow). n.name) (system which facts wanted)
+    pub in_scope : (which : Kind) (ns : List NamedRow) (order : AreReordered ns (system which facts wanted)) (names : List RowName) (gs : List GivenRow) (a : Absurdity) → names ≡ map (λ (n : NamedRow). n.name) ns
         → sums_in s (sums_of names gs (listed (terms_of_kind which facts wanted) (Right ∷ [])) a) ≡ true
-    in_scope which names gs a e =
+    in_scope which ns order names gs a e =
         (let written = terms_of_system which facts wanted in
         sums_scoped names gs (listed (terms_of_kind which facts wanted) (Right ∷ [])) a
-        (ap (list_all (row_name_in s)) e ∙ each_name (system which facts wanted) (names_each which))
+        (ap (list_all (row_name_in s)) e ∙ each_name ns (order.each InScope (names_each which)))
         (ap (list_all term_in) (with_right written)
         ∙ all_terms (first_terms [] (written ++ Right ∷ [])) (λ t k. elim (among_either written (Right ∷ []) t (first_among [] (written ++ Right ∷ []) t k)) [
           | inl m ↦ step_term t (system_among which facts wanted t m)

@@ -10,7 +10,7 @@ use Rattle.e_literal.specs.declared.object.Term.TheVariants.{Right}
 use Rattle.e_literal.specs.declared.literal.Lit.{Lit}
 use Rattle.e_literal.specs.Minor.{IsWide}
 use Rattle.e_literal.specs.Width.{width}
-use Rattle.e_literal.specs.Solution.{Satisfy}
+use Rattle.e_literal.specs.Solution.{form_value, IsSo, Satisfy}
 use Rattle.e_literal.specs.WellFormed.{is_well_formed}
 use Rattle.e_literal.proofs.Terms.{both}
 use Rattle.e_clause.specs.declared.cert.RowName.{RowName}
@@ -18,10 +18,14 @@ use Rattle.e_clause.specs.declared.cert.Sums.{Sums}
 use Rattle.e_clause.specs.Assignment.{terms_of_lits}
 use Rattle.e_clause.specs.MetricCertificate.{sums_refute, sums_in}
 use Rattle.e_clause.specs.Laws.{is_good_wanted}
-use Rattle.e_clause.specs.System.{system, rows_of_system, metric_systems}
+use Rattle.e_clause.specs.System.{NamedRow, system, rows_of_system, metric_systems}
+use Rattle.e_clause.specs.Wide.{HasWidth}
+use Rattle.e_clause.proofs.Named.{Each}
 use Rattle.e_fraction.specs.declared.row.Row.{Row as GivenRow}
 use Rattle.e_fraction.specs.Limits.{has_small_coefficients, all_small}
 use Rattle.e_fraction.specs.Views.{all_seen}
+use Rattle.e_fraction.proofs.Wideness.{wide_rows_width}
+use Rattle.e_literal.specs.Rows.{Row}
 use Rattle.e_simplex.specs.declared.decision.Absurdity.{Absurdity}
 use Rattle.e_simplex.specs.Answer.{IsAbsurdity}
 use Rattle.e_metric.specs.Agree.{AreRows, AllLimited}
@@ -31,7 +35,11 @@ use Rattle.e_metric.specs.Told.{IsCertified, IsTooWide}
 use Rattle.e_metric.proofs.Alike.{satisfy_alike, wide_alike, width_alike}
 use Rattle.e_metric.proofs.Bounds.{system_length}
 use Rattle.e_metric.proofs.Certifying.{names_are, rows_alike, length_rows, length_map, certified}
+use Rattle.e_metric.proofs.Reordered.{AreReordered}
 use Rattle.e_metric.proofs.Scoped.{in_scope}
+
+abbrev row_of : NamedRow → Row
+row_of n = n.row
 
 abbrev rows_given : List (RowName × GivenRow) → List GivenRow
 rows_given ps = map (λ (p : RowName × GivenRow). p.1) ps
@@ -52,47 +60,67 @@ short : (ps : List (RowName × GivenRow)) → AllLimited ps → list_all (λ (r 
 short [] h = refl
 short (p ∷ ps) h = both (nat_le (length p.1.form) (2 ^ 32)) (list_all (λ (r : GivenRow). nat_le (length r.form) (2 ^ 32)) (rows_given ps)) (le_is (length p.1.form) (2 ^ 32) (omega (arith, h.0.short))) (short ps h.1)
 
-module _ (which : Kind) (facts : List Lit) (wanted : Option Lit) (ps : List (RowName × GivenRow)) (are : AreRows (system which facts wanted) ps) (limited : AllLimited ps)
-    (good : list_all is_well_formed facts ≡ true) (few : length (terms_of_lits facts) ≤ 1100) (good_wanted : is_good_wanted wanted ≡ true) (rows : List GivenRow) (rows_are : rows ≡ rows_given ps) where
-  together : length ps + length (listed (terms_of_kind which facts wanted) (Right ∷ [])) ≤ 4096
-  together = omega (arith, length_rows (system which facts wanted) ps are, system_length which facts wanted good good_wanted few)
+satisfy_each : (v : Term → ℕ) (ns : List NamedRow) → Satisfy v (map row_of ns) → Each (λ n. IsSo n.row.says (form_value n.row.form v)) ns
+satisfy_each v [] h = tt
+satisfy_each v (n ∷ ns) h = (h.0, satisfy_each v ns h.1)
 
-  pub few_rows : length rows ≤ 4096
-  few_rows = omega (arith, ap (λ (rs : List GivenRow). length rs) rows_are, length_map (λ (p : RowName × GivenRow). p.1) ps, together)
+each_satisfy : (v : Term → ℕ) (ns : List NamedRow) → Each (λ n. IsSo n.row.says (form_value n.row.form v)) ns → Satisfy v (map row_of ns)
+each_satisfy v [] h = tt
+each_satisfy v (n ∷ ns) h = (h.0, each_satisfy v ns h.1)
 
-  pub small_rows : all_small rows ≡ true
-  small_rows = ap all_small rows_are ∙ small ps limited
-
-  pub short_rows : list_all (λ (r : GivenRow). nat_le (length r.form) (2 ^ 32)) rows ≡ true
-  short_rows = ap (list_all (λ (r : GivenRow). nat_le (length r.form) (2 ^ 32))) rows_are ∙ short ps limited
-
-  -- ---- the three answers
-
-  pub solved : (v : Term → ℕ) → Satisfy v (all_seen rows) → Satisfy v (rows_of_system which facts wanted)
-  solved v h = satisfy_alike (all_seen (rows_given ps)) (rows_of_system which facts wanted) v (rows_alike (system which facts wanted) ps are) (subst (λ rs. Satisfy v (all_seen rs)) rows_are h)
-
-  one_system : (k : Kind) → Contains (metric_systems facts wanted) (rows_of_system k facts wanted)
+module _ (which : Kind) (facts : List Lit) (wanted : Option Lit) where
+  pub one_system : (k : Kind) → Contains (metric_systems facts wanted) (rows_of_system k facts wanted)
   one_system Segment = (0, omega arith, refl)
   one_system Angle = (1, omega arith, refl)
   one_system AreaKind = (2, omega arith, refl)
 
-  pub too_wide : (w : ℕ) → w ≡ width (all_seen rows) → IsWide (all_seen rows) → 2 ^ 63 ≤ width (all_seen rows) → IsTooWide facts wanted w
-  too_wide w e h l = record {
-    rows = rows_of_system which facts wanted;
-    is_one = one_system which;
-    has_width = record {
-      is_wide = wide_alike (all_seen (rows_given ps)) (rows_of_system which facts wanted) (rows_alike (system which facts wanted) ps are) (subst (λ rs. IsWide (all_seen rs)) rows_are h);
-      is_width = e ∙ ap (λ rs. width (all_seen rs)) rows_are ∙ width_alike (all_seen (rows_given ps)) (rows_of_system which facts wanted) (rows_alike (system which facts wanted) ps are);
-      is_large = omega (arith, e, l);
-    };
-  }
+  -- ---- rows that are those of the system, in some order
 
-  pub refuted : (names : List RowName) (terms : List Term) (a : Absurdity) (sums : Sums) → names ≡ names_given ps → terms ≡ listed (terms_of_kind which facts wanted) (Right ∷ [])
-      → IsAbsurdity (all_seen rows) a → sums ≡ sums_of names rows terms a → IsCertified facts wanted (record { sums = sums })
-  refuted names terms a sums n t h e =
-      (let sums_are : sums ≡ sums_of (names_given ps) (rows_given ps) (listed (terms_of_kind which facts wanted) (Right ∷ [])) a =
-      e ∙ ap (λ ns. sums_of ns rows terms a) n ∙ ap (λ rs. sums_of (names_given ps) rs terms a) rows_are ∙ ap (λ ts. sums_of (names_given ps) (rows_given ps) ts a) t in
-      record {
-        refutes = ap (sums_refute facts wanted) sums_are ∙ certified which facts wanted ps are together a (subst (λ rs. IsAbsurdity (all_seen rs) a) rows_are h);
-        scoped = λ s k g. ap (sums_in s) sums_are ∙ in_scope s facts wanted k g which (names_given ps) (rows_given ps) a (names_are (system which facts wanted) ps are);
-      })
+  pub satisfied : (ns : List NamedRow) → AreReordered ns (system which facts wanted) → (ps : List (RowName × GivenRow)) → AreRows ns ps → (rows : List GivenRow) → rows ≡ rows_given ps
+      → (v : Term → ℕ) → Satisfy v (all_seen rows) → Satisfy v (rows_of_system which facts wanted)
+  satisfied ns order ps are rows rows_are v h =
+      each_satisfy v (system which facts wanted)
+      (order.back (λ n. IsSo n.row.says (form_value n.row.form v))
+      (satisfy_each v ns (satisfy_alike (all_seen (rows_given ps)) (map row_of ns) v (rows_alike ns ps are) (subst (λ rs. Satisfy v (all_seen rs)) rows_are h))))
+
+  module _ (ns : List NamedRow) (order : AreReordered ns (system which facts wanted)) (ps : List (RowName × GivenRow)) (are : AreRows ns ps) (limited : AllLimited ps)
+      (good : list_all is_well_formed facts ≡ true) (few : length (terms_of_lits facts) ≤ 1100) (good_wanted : is_good_wanted wanted ≡ true) (rows : List GivenRow) (rows_are : rows ≡ rows_given ps) where
+    together : length ps + length (listed (terms_of_kind which facts wanted) (Right ∷ [])) ≤ 4096
+    together = omega (arith, length_rows ns ps are, order.many, system_length which facts wanted good good_wanted few)
+
+    pub few_rows : length rows ≤ 4096
+    few_rows = omega (arith, ap (λ (rs : List GivenRow). length rs) rows_are, length_map (λ (p : RowName × GivenRow). p.1) ps, together)
+
+    pub small_rows : all_small rows ≡ true
+    small_rows = ap all_small rows_are ∙ small ps limited
+
+    pub short_rows : list_all (λ (r : GivenRow). nat_le (length r.form) (2 ^ 32)) rows ≡ true
+    short_rows = ap (list_all (λ (r : GivenRow). nat_le (length r.form) (2 ^ 32))) rows_are ∙ short ps limited
+
+    -- ---- the three answers
+
+    pub solved : (v : Term → ℕ) → Satisfy v (all_seen rows) → Satisfy v (rows_of_system which facts wanted)
+    solved v h = satisfied ns order ps are rows rows_are v h
+
+    pub has_width : (w : ℕ) → w ≡ width (rows_of_system which facts wanted) → IsWide (all_seen rows) → HasWidth (rows_of_system which facts wanted) w
+    has_width w e h =
+        (let wide : IsWide (rows_of_system which facts wanted) = order.wide (wide_alike (all_seen (rows_given ps)) (map row_of ns) (rows_alike ns ps are) (subst (λ rs. IsWide (all_seen rs)) rows_are h)) in
+        record { is_wide = wide; is_width = e; is_large = omega (arith, e, wide_rows_width (rows_of_system which facts wanted) wide) })
+
+    pub too_wide : (w : ℕ) → w ≡ width (rows_of_system which facts wanted) → IsWide (all_seen rows) → IsTooWide facts wanted w
+    too_wide w e h = record { rows = rows_of_system which facts wanted; is_one = one_system which; has_width = has_width w e h }
+
+    pub refuted : (names : List RowName) (terms : List Term) (a : Absurdity) (sums : Sums) → names ≡ names_given ps → terms ≡ listed (terms_of_kind which facts wanted) (Right ∷ [])
+        → IsAbsurdity (all_seen rows) a → sums ≡ sums_of names rows terms a → IsCertified facts wanted (record { sums = sums })
+    refuted names terms a sums n t h e =
+        (let sums_are : sums ≡ sums_of (names_given ps) (rows_given ps) (listed (terms_of_kind which facts wanted) (Right ∷ [])) a =
+        e ∙ ap (λ ns. sums_of ns rows terms a) n ∙ ap (λ rs. sums_of (names_given ps) rs terms a) rows_are ∙ ap (λ ts. sums_of (names_given ps) (rows_given ps) ts a) t in
+        record {
+          refutes = ap (sums_refute facts wanted) sums_are ∙ certified which facts wanted ns order ps are together a (subst (λ rs. IsAbsurdity (all_seen rs) a) rows_are h);
+          scoped = λ s k g. ap (sums_in s) sums_are ∙ in_scope s facts wanted k g which ns order (names_given ps) (rows_given ps) a (names_are ns ps are);
+        })
+
+  -- the width of the rows in their order
+  pub system_width : (ps : List (RowName × GivenRow)) → AreRows (system which facts wanted) ps → (rows : List GivenRow) → rows ≡ rows_given ps → width (all_seen rows) ≡ width (rows_of_system which facts wanted)
+  system_width ps are rows e =
+      ap (λ rs. width (all_seen rs)) e ∙ width_alike (all_seen (rows_given ps)) (rows_of_system which facts wanted) (rows_alike (system which facts wanted) ps are)

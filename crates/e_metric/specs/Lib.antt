@@ -4,3 +4,5 @@ pub mod Listed
 pub mod Certificate
 pub mod Assigned
 pub mod Told
+pub mod Further
+pub mod Kept

@@ -89,8 +89,8 @@ fn step_terms(alloc: Global, facts: &Facts, wanted: Option<&Lit>) -> Result<Vec<
     Ok(terms)
 }
 
-// The number of the term in a list of pairs, or 0.
-fn assigned(pairs: &[(Term, u128)], term: Term) -> u128
+/// The number of the term in a list of pairs, or 0.
+pub fn assigned(pairs: &[(Term, u128)], term: Term) -> u128
     ensures { result ≡ Answer.assigned pairs.now term }
 {
     for pair in pairs {

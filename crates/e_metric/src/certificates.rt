@@ -10,7 +10,7 @@ ghost use Rattle.e_clause.specs.declared.cert.Sums.TheVariants.{Two as TwoSums};
 ghost use Rattle.e_metric.specs.Certificate;
 ghost use Rattle.e_metric.specs.Certificate.{leasts, IsWeighable};
 
-use e_clause::{RowName, Sum, Sums};
+use e_clause::{MetricCert, RowName, Sum, Sums};
 use e_fraction::Row;
 use e_fraction::sum::total;
 use e_literal::compare::canonical;
@@ -18,8 +18,8 @@ use e_literal::{Term, copy};
 use e_simplex::Absurdity;
 use std::alloc::{AllocError, Global};
 
-// An equal name.
-fn copied(alloc: Global, name: &RowName) -> Result<RowName, AllocError>
+/// An equal name.
+pub fn copied(alloc: Global, name: &RowName) -> Result<RowName, AllocError>
     ensures { IfOk result (λ n. n ≡ name.now) }
 {
     match name {
@@ -150,6 +150,48 @@ fn two_sums(
         above,
         below,
     })
+}
+
+// Puts equal rows of a sum last.
+fn add_equal(
+    rows: &mut Vec<(i128, RowName)>,
+    alloc: Global,
+    more: &[(i128, RowName)],
+) -> Result<(), AllocError>
+    ensures { OnOk result (rows.new.items ≡ rows.old.items ++ more.now) }
+{
+    for row in more {
+        rows.push((row.0, copied(alloc, &row.1)?))?;
+    }
+    Ok(())
+}
+
+// An equal sum.
+fn copied_sum(alloc: Global, sum: &Sum) -> Result<Sum, AllocError>
+    ensures { IfOk result (λ s. s ≡ sum.now) }
+{
+    let mut rows = Vec::new(alloc);
+    add_equal(&mut rows, alloc, sum.rows())?;
+    Ok(Sum::new(rows))
+}
+
+/// An equal certificate.
+pub fn copied_certificate(alloc: Global, cert: &MetricCert) -> Result<MetricCert, AllocError>
+    ensures { IfOk result (λ c. c ≡ cert.now) }
+{
+    let sums = match &cert.sums {
+        Sums::One(sum) => Sums::One(copied_sum(alloc, sum)?),
+        Sums::Two {
+            differs,
+            above,
+            below,
+        } => Sums::Two {
+            differs: copied(alloc, differs)?,
+            above: copied_sum(alloc, above)?,
+            below: copied_sum(alloc, below)?,
+        },
+    };
+    Ok(MetricCert { sums })
 }
 
 /// The sums that multipliers of the rows make.

@@ -31,8 +31,11 @@ pub enum Metric {
     TooWide(u128),
 }
 
-// The names and the rows.
-fn split(alloc: Global, named: Vec<(RowName, Row)>) -> Result<(Vec<RowName>, Vec<Row>), AllocError>
+/// The names and the rows.
+pub fn split(
+    alloc: Global,
+    named: Vec<(RowName, Row)>,
+) -> Result<(Vec<RowName>, Vec<Row>), AllocError>
     ensures names { IfOk result (λ p. p.0.items ≡ map (λ q. q.0) named.items) }
     ensures rows { IfOk result (λ p. p.1.items ≡ map (λ q. q.1) named.items) }
 {
@@ -45,8 +48,8 @@ fn split(alloc: Global, named: Vec<(RowName, Row)>) -> Result<(Vec<RowName>, Vec
     Ok((names, rows))
 }
 
-// The terms of the facts of a kind and of the wanted literal, and right.
-fn summed_terms(
+/// The terms of the facts of a kind and of the wanted literal, and right.
+pub fn summed_terms(
     alloc: Global,
     which: Kind,
     facts: &Facts,
@@ -61,8 +64,8 @@ fn summed_terms(
     Ok(terms)
 }
 
-// What the system of one kind tells.
-fn told_of(
+/// What the system of one kind tells.
+pub fn told_of(
     alloc: Global,
     which: Kind,
     facts: &Facts,
@@ -131,8 +134,8 @@ fn sooner(first: Metric, second: Metric) -> Metric
     }
 }
 
-// What the systems of all kinds tell together.
-fn joined(
+/// What the systems of all kinds tell together.
+pub fn joined(
     alloc: Global,
     facts: &Facts,
     wanted: Option<&Lit>,

@@ -5,7 +5,10 @@
 pub mod assigning;
 pub mod certificates;
 pub mod consequence;
+pub mod evaluating;
+pub mod ground;
 pub mod joining;
+pub mod knowing;
 pub mod limits;
 pub mod listing;
 pub mod literals;
@@ -14,5 +17,6 @@ pub mod systems;
 mod tests;
 
 pub use consequence::{Metric, absurd, follows};
+pub use knowing::Known;
 pub use limits::{are_few_facts, is_good_goal};
 pub use systems::system;

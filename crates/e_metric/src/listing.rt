@@ -6,6 +6,7 @@ ghost use Rattle.e_clause.specs.Assignment.{terms_of_atom, terms_of_lits};
 ghost use Rattle.e_clause.specs.System;
 ghost use Rattle.e_clause.specs.System.{of_kind};
 ghost use Rattle.e_metric.specs.Listed.{listed};
+ghost use Rattle.e_metric.specs.Further;
 
 use e_facts::Facts;
 use e_literal::compare::canonical;
@@ -91,4 +92,20 @@ pub fn terms_of_kind(
         add_literal(&mut terms, which, lit)?;
     }
     Ok(terms)
+}
+
+/// The terms of a literal, if it is of the kind, that are none of these, each once.
+#[tactic(auto, using(crate::proofs::Further::as_long))]
+pub fn fresh_terms(
+    alloc: Global,
+    which: Kind,
+    terms: &[Term],
+    lit: &Lit,
+) -> Result<Vec<Term>, AllocError>
+    ensures { IfOk result (λ v. v.items ≡ Further.fresh_terms which terms.now lit.now) }
+{
+    let mut all = Vec::from_slice(alloc, terms)?;
+    add_literal(&mut all, which, lit)?;
+    let fresh = Vec::from_slice(alloc, &all[terms.len()..])?;
+    Ok(fresh)
 }

@@ -9,6 +9,7 @@ ghost use Rattle.e_clause.specs.declared.cert.RowName.TheVariants as name;
 ghost use Rattle.e_clause.specs.System.{NamedRow};
 ghost use Rattle.e_clause.specs.System;
 ghost use Rattle.e_clause.specs.System.{of_kind, against_goal, rows_named, rows_of_term, rows_of_kind};
+ghost use Rattle.e_metric.specs.Further;
 ghost use Rattle.e_metric.specs.Agree.{AreRows, AllLimited, GrowBy, IsRow, IsLimited};
 
 use crate::joining::is_degenerate;
@@ -206,5 +207,24 @@ pub fn system(
     let terms = terms_of_kind(alloc, which, facts, goal)?;
     add_term_rows(&mut rows, alloc, facts, &terms)?;
     add_right_row(&mut rows, alloc, which)?;
+    Ok(rows)
+}
+
+/// The rows that a goal adds to those of the facts of its kind, each with its name: that of its negation, and those of
+/// its terms that are none of the facts'.
+pub fn rows_of_goal(
+    alloc: Global,
+    which: Kind,
+    facts: &Facts,
+    fresh: &[Term],
+    goal: &Lit,
+) -> Result<Vec<(RowName, Row)>, AllocError>
+    requires { IsTrue (is_well_formed goal.now) }
+    ensures rows { IfOk result (λ v. AreRows (Further.rows_of_goal which facts.now fresh.now goal.now) v.items) }
+    ensures limited { IfOk result (λ v. AllLimited v.items) }
+{
+    let mut rows = Vec::new(alloc);
+    add_negation_row(&mut rows, alloc, which, goal)?;
+    add_term_rows(&mut rows, alloc, facts, fresh)?;
     Ok(rows)
 }

@@ -9,7 +9,7 @@ use Rattle.e_deriv.specs.declared.stop.Wanted.{Wanted}
 use Rattle.e_deriv.specs.declared.stop.Wanted.TheVariants.{Literal, Contradiction as AContradiction}
 use Rattle.e_deriv.specs.declared.stop.Stop.{Stop}
 use Rattle.e_deriv.specs.declared.stop.Stop.TheVariants.{Unlicensed, TooWide, NoMemory}
-use Rattle.e_deriv.specs.Script.{Script, Cite, Hence, Make, Qed, Contradiction, erased}
+use Rattle.e_deriv.specs.Script.{Script, Cite, Hence, Make, Claim, Superposed, Qed, Contradiction, Cases, erased}
 use Rattle.e_deriv.specs.Goal.{Goal}
 use Rattle.e_deriv.specs.Lines.{Line, line, proof_lines}
 use Rattle.e_deriv.specs.Licensed.{Licensed, AllLicensed, Lacks, IsFirstUnlicensed}
@@ -41,6 +41,12 @@ wide_at (Cite by rest) s facts goal (Literal l) w h = record { lit = l; is_one =
 wide_at (Hence lit cert rest) s facts goal (Literal l) w h = record { lit = l; is_one = h.0; is_wide = wide_lit s facts l w h.1 }
 wide_at (Make form names certs rest) s facts goal (Literal l) w h = record { lit = l; is_one = h.0; is_wide = wide_lit s facts l w h.1 }
 wide_at (Qed objects certs) s facts goal (Literal l) w h = record { lit = l; is_one = h.0; is_wide = wide_lit s facts l w h.1 }
+wide_at (Claim shown inner rest) s facts goal (Literal l) w h = record { lit = l; is_one = h.0; is_wide = wide_lit s facts l w h.1 }
+wide_at (Superposed form names shown certs inner rest) s facts goal (Literal l) w h = record { lit = l; is_one = h.0; is_wide = wide_lit s facts l w h.1 }
+wide_at (Cases lit first second) s facts goal (Literal l) w h = record { lit = l; is_one = h.0; is_wide = wide_lit s facts l w h.1 }
+wide_at (Claim shown inner rest) s facts goal AContradiction w h = absurd h
+wide_at (Superposed form names shown certs inner rest) s facts goal AContradiction w h = absurd h
+wide_at (Cases lit first second) s facts goal AContradiction w h = absurd h
 wide_at (Cite by rest) s facts goal AContradiction w h = absurd h
 wide_at (Hence lit cert rest) s facts goal AContradiction w h = absurd h
 wide_at (Make form names certs rest) s facts goal AContradiction w h = absurd h

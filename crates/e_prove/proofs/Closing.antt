@@ -12,18 +12,21 @@ use Rattle.e_clause.specs.declared.cert.Cert.{Cert}
 use Rattle.e_clause.specs.declared.cert.Against.{Against}
 use Rattle.e_clause.specs.Certify.{certify_all, certifies_against}
 use Rattle.e_clause.specs.Judged.{are_good, are_good_facts}
+use Rattle.e_clause.specs.Wide.{IsTooWideContradiction}
 use Rattle.e_literal.specs.declared.object.Term.{Term}
 use Rattle.e_licence.specs.Licences.{IsConsistentBy}
 use Rattle.e_deriv.specs.declared.block.Close.TheVariants.{Qed as QedClose, Contradiction as ContradictionClose}
 use Rattle.e_deriv.specs.declared.stop.Wanted.TheVariants.{Literal, Contradiction as AContradiction}
-use Rattle.e_deriv.specs.Script.{erased}
+use Rattle.e_deriv.specs.Script.{Qed, close_script, erased}
+use Rattle.e_prove.specs.declared.standing.Standing.{Standing}
+use Rattle.e_prove.specs.Passing.{IsReadyFor}
 use Rattle.e_deriv.specs.Goal.{Goal, are_for, goal_with}
 use Rattle.e_deriv.specs.Lines.{lines}
 use Rattle.e_licence.specs.Contexts.{Basis}
 use Rattle.e_prove.specs.declared.halt.Halt.{Halt}
 use Rattle.e_prove.specs.declared.halt.Halt.TheVariants as halt
 use Rattle.e_prove.specs.Halts.{HaltsIn}
-use Rattle.e_prove.specs.Judging.{IsReadyToClose, IsClosed, CloseHalts}
+use Rattle.e_prove.specs.Judging.{IsClosed, CloseHalts, lines_at}
 use Rattle.e_prove.proofs.Licensing.{and_both, and_left, and_right}
 
 same_sorts : (a b : Sort) → same_sort a b ≡ true → a ≡ b
@@ -49,22 +52,28 @@ sorts_agree s (sort ∷ sorts) (o ∷ os) h =
     let rest = and_right b c (and_right a (b && c) h) in
     ap (λ k. k ∷ sorts) (same_sorts sort o.sort (and_left a (b && c) h)) ∙ ap (λ ks. o.sort ∷ ks) (sorts_agree s sorts os rest)
 
--- what a qed that fits says
+-- what a qed that is ready says
 pub record QedFits (objects : List Obj) (x : Basis) (goal : Goal) : Type 0 where
   pub form : are_for goal x.scope objects ≡ true
   pub lits : are_good x.scope (goal_with goal objects) ≡ true
 
-pub qed_fits : (objects : List Obj) (certs : List Cert) (x : Basis) (goal : Goal) → IsReadyToClose (QedClose objects certs) x goal → QedFits objects x goal
+qed_lines : (objects : List Obj) (certs : List Cert) (x : Standing) (goal : Goal) → IsReadyFor (Qed objects certs) x goal → QedFits objects x.context goal
 unfolding lines
-qed_fits objects certs x goal h =
+qed_lines objects certs x goal h =
+    let s = x.context.scope in
+    let facts = x.context.facts in
     record {
-      form = and_left (are_for goal x.scope objects) true h.form;
-      lits = and_right (are_good_facts x.scope x.facts) (are_good x.scope (goal_with goal objects)) (and_left (are_good_facts x.scope x.facts && are_good x.scope (goal_with goal objects)) true h.lits);
+      form = and_left (are_for goal s objects) true h.forms;
+      lits = and_right (are_good_facts s facts) (are_good s (goal_with goal objects)) (and_left (are_good_facts s facts && are_good s (goal_with goal objects)) true h.lits);
     }
+
+pub qed_fits : (objects : List Obj) (certs : List Cert) (x : Standing) (goal : Goal) → IsReadyFor (close_script (QedClose objects certs)) x goal → QedFits objects x.context goal
+unfolding close_script
+qed_fits objects certs x goal h = qed_lines objects certs x goal h
 
 closed_by : (objects : List Obj) (written certs : List Cert) (x : Basis) (goal : Goal) → are_for goal x.scope objects ≡ true →
     IsTrue (certify_all x.scope x.facts (goal_with goal objects) certs) → IsClosed (QedClose objects written) x goal (QedClose objects certs)
-unfolding lines erased
+unfolding lines erased close_script
 closed_by objects written certs x goal form h =
     record {
       certified = and_both _ _ (and_both _ _ form (and_both _ _ h refl)) refl;
@@ -81,6 +90,7 @@ closed_qed objects kept written certs given wanted x goal same these all form h 
 -- what halts at the literals of the goal
 qed_halts_at : (objects : List Obj) (written : List Cert) (x : Basis) (goal : Goal) (h : Halt) → HaltsIn x (goal_with goal objects) h →
     CloseHalts (QedClose objects written) x goal h
+unfolding close_script
 qed_halts_at objects written x goal (halt.Lacks (Literal l) values) k = k
 qed_halts_at objects written x goal (halt.Lacks AContradiction values) k = absurd k
 qed_halts_at objects written x goal (halt.TooWide (Literal l) width) k = k
@@ -94,7 +104,7 @@ qed_halts objects written wanted x goal h all k = qed_halts_at objects written x
 -- a contradiction with its certificate
 closed_by_against : (written : Option Against) (a : Against) (x : Basis) (goal : Goal) → IsTrue (certifies_against x.scope x.facts a) →
     IsClosed (ContradictionClose written) x goal (ContradictionClose (Some a))
-unfolding lines erased
+unfolding lines erased close_script
 closed_by_against written a x goal h = record { certified = and_both _ _ h refl; erased = refl }
 
 pub closed_contradiction : (written given : Option Against) (a : Against) (x : Basis) (goal : Goal) → given ≡ Some a → IsTrue (certifies_against x.scope x.facts a) →
@@ -104,4 +114,11 @@ closed_contradiction written given a x goal same h = rw same (closed_by_against 
 -- facts that do not contradict each other
 pub contradiction_lacks : (written : Option Against) (x : Basis) (goal : Goal) (values : List (Term × ℕ)) → IsConsistentBy x.facts values →
     CloseHalts (ContradictionClose written) x goal (halt.Lacks AContradiction (Some values))
+unfolding close_script
 contradiction_lacks written x goal values h = (h.not_contradictory, h.shown)
+
+-- or one that is too wide
+pub contradiction_wide : (written : Option Against) (x : Basis) (goal : Goal) (width : ℕ) → IsTooWideContradiction x.facts width →
+    CloseHalts (ContradictionClose written) x goal (halt.TooWide AContradiction width)
+unfolding close_script
+contradiction_wide written x goal width h = h

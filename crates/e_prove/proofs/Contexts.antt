@@ -1,5 +1,5 @@
 -- Contexts that grow.
-use Rattle.std.proofs.Common.{◌≡◌, ℕ, ◌≤◌, List, [], ◌∷◌, ◌++◌, length, drop, min, refl, sym, ap, ◌∙◌, subst, Bool, true, false, arith}
+use Rattle.std.proofs.Common.{◌≡◌, ℕ, ◌≤◌, List, [], ◌∷◌, ◌++◌, length, drop, get_or, ◌<◌, ◌+◌, min, refl, sym, ap, ◌∙◌, subst, Bool, true, false, arith}
 use Rattle.std.specs.Prelude.{nat_le, flat_map, if◌then◌else◌}
 use Rattle.std.proofs.lemmas.Grind.{common_steps, flat_map-append}
 use Rattle.std.proofs.lemmas.List.{length-append}
@@ -87,3 +87,11 @@ pub good_given : (form : Construction) (x wider : Basis) (sorts : List Sort) (gi
     wider ≡ record x { scope = grown x.scope sorts } → are_good_facts (grown x.scope (made form)) (joined_all x.facts (gives form x.scope)) ≡ true →
     are_good_facts wider.scope (joined_all wider.facts given) ≡ true
 good_given form x wider sorts given a b c h = rw (c, b, a) h
+
+-- a copy of the literal at this place may join the facts that those before it have joined
+pub good_copy : (before x : Basis) (all : List Lit) (i : ℕ) (l m : Lit) → i < length all → l ≡ get_or all i l → m ≡ l → x.scope ≡ before.scope →
+    joined_all x.facts (drop i all) ≡ joined_all before.facts all → are_good_facts before.scope (joined_all before.facts all) ≡ true →
+    are_good_facts x.scope (joined x.facts m) ≡ true
+good_copy before x all i l m lt is same scope joins h =
+    let e : drop i all ≡ l ∷ drop (i + 1) all = grind (arith, common_steps) in
+    good_left before x all (drop i all) m (drop (i + 1) all) scope joins (e ∙ ap (λ k. k ∷ drop (i + 1) all) (sym same)) h

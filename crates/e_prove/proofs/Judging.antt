@@ -7,7 +7,7 @@ use Rattle.e_literal.specs.declared.literal.Lit.{Lit}
 use Rattle.e_literal.specs.Scopes.{grown}
 use Rattle.e_literal.proofs.Growing.{grown_bounds}
 use Rattle.e_construct.specs.declared.construction.Construction.{Construction}
-use Rattle.e_construct.specs.Construct.{needs, made}
+use Rattle.e_construct.specs.Construct.{needs, made, gives}
 use Rattle.e_construct.proofs.Sizes.{few_made}
 use Rattle.e_clause.specs.declared.cert.By.{By}
 use Rattle.e_clause.specs.declared.cert.Cert.{Cert}
@@ -16,7 +16,7 @@ use Rattle.e_clause.proofs.Sound.{allowed_of_certified, all_allowed_of_certified
 use Rattle.e_deriv.specs.declared.block.Step.TheVariants.{Cite as CiteStep, Hence as HenceStep, Make as MakeStep}
 use Rattle.e_deriv.specs.declared.stop.Wanted.{Wanted}
 use Rattle.e_deriv.specs.declared.stop.Wanted.TheVariants.{Literal, Contradiction}
-use Rattle.e_deriv.specs.Script.{Cite, Hence, Make, erased}
+use Rattle.e_deriv.specs.Script.{Cite, Hence, Make, step_script, erased}
 use Rattle.e_deriv.specs.Lines.{lines}
 use Rattle.e_deriv.specs.Steps.{is_cited}
 use Rattle.e_deriv.specs.Naming.{names_lines}
@@ -27,6 +27,7 @@ use Rattle.e_prove.specs.Contexts.{GrowsLittle, after_literal, after_make}
 use Rattle.e_prove.specs.Halts.{HaltsIn}
 use Rattle.e_prove.specs.Judging.{IsJudged, StepHalts}
 use Rattle.e_prove.proofs.Licensing.{and_both}
+use Rattle.e_prove.proofs.Keeping.{stay_joined, stay_all}
 
 stays : (s : Scope) → GrowsLittle s s
 stays s = record { points = omega arith; lines = omega arith; circles = omega arith }
@@ -34,7 +35,7 @@ stays s = record { points = omega arith; lines = omega arith; circles = omega ar
 -- ---- a citation
 
 judged_by : (by : By) (x : Standing) → is_cited x.context.facts by ≡ true → IsJudged (CiteStep by) x (CiteStep by) (after_literal by.lit x)
-unfolding lines erased names_lines
+unfolding lines erased names_lines step_script
 judged_by by x h =
     record {
       licensed = λ rest goal form. record { fits = form; allowed = tt; beside = h };
@@ -44,6 +45,7 @@ judged_by by x h =
       derived_next = λ rest goal. refl;
       named = λ rest. refl;
       grows = stays x.context.scope;
+      kept = stay_joined x.context.facts by.lit;
     }
 
 pub judged_cite : (by derived : By) (x after : Standing) → derived ≡ by → is_cited x.context.facts by ≡ true → after ≡ after_literal by.lit x →
@@ -53,13 +55,14 @@ judged_cite by derived x after same h gives = rw (same, gives) (judged_by by x h
 -- one that is not good lacks its literal, and has no values
 pub cite_halts : (by : By) (x : Standing) (w : Wanted) (values : Option (List (Term × ℕ))) → is_cited x.context.facts by ≡ false → w ≡ Literal by.lit → values ≡ None →
     StepHalts (CiteStep by) x (halt.Lacks w values)
+unfolding step_script
 cite_halts by x w values h e none rest goal = rw (e, none) ((h, refl), refl)
 
 -- ---- a hence
 
 judged_by_cert : (lit : Lit) (written : Option Cert) (cert : Cert) (x : Standing) → IsTrue (certifies x.context.scope x.context.facts lit cert) →
     IsJudged (HenceStep lit written) x (HenceStep lit (Some cert)) (after_literal lit x)
-unfolding lines erased names_lines
+unfolding lines erased names_lines step_script
 judged_by_cert lit written cert x h =
     record {
       licensed = λ rest goal form. record { fits = form; allowed = (allowed_of_certified x.context.scope x.context.facts lit cert h, tt); beside = tt };
@@ -69,6 +72,7 @@ judged_by_cert lit written cert x h =
       derived_next = λ rest goal. refl;
       named = λ rest. refl;
       grows = stays x.context.scope;
+      kept = stay_joined x.context.facts lit;
     }
 
 pub judged_hence : (lit derived : Lit) (written : Option Cert) (cert : Cert) (x after : Standing) → derived ≡ lit →
@@ -78,6 +82,7 @@ judged_hence lit derived written cert x after same h gives = rw (same, gives) (j
 
 -- what halts at its literal
 pub hence_halts : (lit : Lit) (written : Option Cert) (x : Standing) (h : Halt) → HaltsIn x.context (lit ∷ []) h → StepHalts (HenceStep lit written) x h
+unfolding step_script
 hence_halts lit written x (halt.Lacks (Literal l) values) k rest goal = k
 hence_halts lit written x (halt.Lacks Contradiction values) k rest goal = absurd k
 hence_halts lit written x (halt.TooWide (Literal l) width) k rest goal = k
@@ -94,7 +99,7 @@ grows_little s form =
 
 judged_by_certs : (form : Construction) (names : List (List ℕ)) (written certs : List Cert) (x : Standing) → IsTrue (certify_all x.context.scope x.context.facts (needs form) certs) →
     IsJudged (MakeStep form names written) x (MakeStep form names certs) (after_make form names x)
-unfolding lines erased names_lines
+unfolding lines erased names_lines step_script
 judged_by_certs form names written certs x h =
     record {
       licensed = λ rest goal fit. record { fits = fit; allowed = all_allowed_of_certified x.context.scope x.context.facts (needs form) certs h; beside = tt };
@@ -104,6 +109,7 @@ judged_by_certs form names written certs x h =
       derived_next = λ rest goal. refl;
       named = λ rest. refl;
       grows = grows_little x.context.scope form;
+      kept = stay_all x.context.facts (gives form x.context.scope);
     }
 
 pub judged_make : (form derived : Construction) (names kept : List (List ℕ)) (written certs given : List Cert) (needed : List Lit) (x after : Standing) →
@@ -115,6 +121,7 @@ judged_make form derived names kept written certs given needed x after same thes
 -- what halts at its needs
 make_halts_at : (form : Construction) (names : List (List ℕ)) (written : List Cert) (x : Standing) (h : Halt) → HaltsIn x.context (needs form) h →
     StepHalts (MakeStep form names written) x h
+unfolding step_script
 make_halts_at form names written x (halt.Lacks (Literal l) values) k rest goal = k
 make_halts_at form names written x (halt.Lacks Contradiction values) k rest goal = absurd k
 make_halts_at form names written x (halt.TooWide (Literal l) width) k rest goal = k

@@ -1,6 +1,12 @@
 pub mod Licensing
+pub mod Keeping
 pub mod Contexts
 pub mod Judging
+pub mod Halting
+pub mod Passing
+pub mod Inside
+pub mod Ready
+pub mod Blocks
 pub mod Closing
 pub mod Proving
 pub mod Answering

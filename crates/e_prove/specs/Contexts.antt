@@ -1,19 +1,19 @@
 -- What holds before a line, and after a step.
-use Rattle.std.specs.Prelude.{ℕ, ◌+◌, ◌<◌, ◌≤◌, ◌^◌, List, [], ◌∷◌, IsTrue}
+use Rattle.std.specs.Prelude.{ℕ, ◌+◌, ◌<◌, ◌≤◌, ◌^◌, List, length, take}
 use Rattle.e_literal.specs.declared.object.Scope.{Scope}
 use Rattle.e_literal.specs.declared.literal.Lit.{Lit}
 use Rattle.e_literal.specs.Facts.{joined, joined_all}
 use Rattle.e_literal.specs.Scopes.{grown}
 use Rattle.e_literal.specs.Use.{Stated, scope_of}
-use Rattle.e_clause.specs.Judged.{are_good, are_good_facts}
 use Rattle.e_construct.specs.declared.construction.Construction.{Construction}
-use Rattle.e_construct.specs.Construct.{needs, made, gives}
-use Rattle.e_deriv.specs.declared.block.Step.{Step}
-use Rattle.e_deriv.specs.declared.block.Step.TheVariants.{Cite, Hence, Make}
+use Rattle.e_construct.specs.Construct.{made, gives}
+use Rattle.e_construct.specs.declared.superpose.Superpose.{Superpose}
+use Rattle.e_construct.specs.Superposing as superposing
 use Rattle.e_deriv.specs.declared.names.Names.{Names}
 use Rattle.e_deriv.specs.Goal.{Goal, facts_of_statement}
 use Rattle.e_deriv.specs.Naming.{named, declared_names}
 use Rattle.e_prove.specs.declared.standing.Standing.{Standing}
+use Rattle.e_prove.specs.declared.standing.Outer.{Outer}
 use Rattle.e_prove.specs.declared.close.Goal.{Goal as CodeGoal}
 
 -- before the first line of a statement's proof, where these are the names of its declared and made objects
@@ -32,28 +32,39 @@ after_make form names x =
       names = named x.names (made form) names;
     }
 
-abbrev pub after_step : Step → Standing → Standing
-after_step (Cite by) x = after_literal by.lit x
-after_step (Hence lit cert) x = after_literal lit x
-after_step (Make form names certs) x = after_make form names x
+-- after a superposition, whose copied points have these names: what its block begins with
+abbrev pub after_superposed : Superpose → List (List ℕ) → Standing → Standing
+after_superposed form names x =
+    record {
+      context = record { scope = grown x.context.scope superposing.made; facts = joined_all x.context.facts (superposing.gives form x.context.scope) };
+      names = named x.names superposing.made names;
+    }
 
--- the literals that a step needs
-abbrev pub needs_of_step : Step → List Lit
-needs_of_step (Cite by) = []
-needs_of_step (Hence lit cert) = lit ∷ []
-needs_of_step (Make form names certs) = needs form
+-- behind an inner block that shows these literals
+abbrev pub after_block : List Lit → Standing → Standing
+after_block shown x = record x { context = record x.context { facts = joined_all x.context.facts shown } }
+
+-- what a block inside is entered from
+abbrev pub outer_of : Standing → Outer
+outer_of x = record { mark = record { scope = x.context.scope; facts = length x.context.facts }; names = x.names }
+
+-- where a block was entered
+abbrev pub left_for : Outer → Standing → Standing
+left_for outer x = record { context = record { scope = outer.mark.scope; facts = take outer.mark.facts x.context.facts }; names = outer.names }
+
+-- where a block was entered, with these literals for facts
+abbrev pub after_inner : Outer → List Lit → Standing → Standing
+after_inner outer shown x =
+    record {
+      context = record { scope = outer.mark.scope; facts = joined_all (take outer.mark.facts x.context.facts) shown };
+      names = outer.names;
+    }
 
 -- two objects more of each sort have numbers of 16 bits
 pub record HasRoom (s : Scope) : Type 0 where
   pub points : s.points + 2 < 2 ^ 16
   pub lines : s.lines + 2 < 2 ^ 16
   pub circles : s.circles + 2 < 2 ^ 16
-
--- what the step needs is in scope and well formed, the facts after it are too, and there is room for its objects
-pub record IsReady (step : Step) (x : Standing) : Type 0 where
-  pub room : HasRoom x.context.scope
-  pub needs : IsTrue (are_good x.context.scope (needs_of_step step))
-  pub after : IsTrue (are_good_facts (after_step step x).context.scope (after_step step x).context.facts)
 
 -- at most two objects more of each sort
 pub record GrowsLittle (s after : Scope) : Type 0 where

@@ -1,5 +1,5 @@
 -- Why the judging halts at a line.
-use Rattle.std.specs.Prelude.{ℕ, List, Contains}
+use Rattle.std.specs.Prelude.{◌≡◌, ℕ, List, Contains, Result, Ok, Err}
 use Rattle.e_literal.specs.declared.literal.Lit.{Lit}
 use Rattle.e_clause.specs.Wide.{IsTooWideLit}
 use Rattle.e_licence.specs.Contexts.{Basis}
@@ -37,3 +37,14 @@ abbrev pub stop_of : Halt → ℕ → Names → Stop
 stop_of (Lacks wanted values) n names = stop.Unlicensed n wanted values names
 stop_of (TooWide wanted width) n names = stop.TooWide n wanted width names
 stop_of NoMemory n names = stop.NoMemory
+
+-- the same, unless the names could not be copied for want of memory
+abbrev pub StopOf : Halt → ℕ → Names → Stop → Type 0
+StopOf h n names stop.NoMemory = Unit {0}
+StopOf h n names s = s ≡ stop_of h n names
+
+-- what is told of a judged line: the stop of its halt
+abbrev pub ToldOf : {A : Type 0} → Result A Halt → ℕ → Names → Stop → Type 0
+ToldOf (Ok a) n names stop.NoMemory = Unit {0}
+ToldOf (Ok a) n names s = ⊥
+ToldOf (Err h) n names s = StopOf h n names s

@@ -1,5 +1,5 @@
 -- What it is to judge a step, or a close, where it stands: whatever comes after it.
-use Rattle.std.specs.Prelude.{◌≡◌, List, ◌∷◌, IsTrue}
+use Rattle.std.specs.Prelude.{◌≡◌, List, ◌∷◌, length, take, IsTrue}
 use Rattle.std.specs.List.{list_all}
 use Rattle.e_deriv.specs.declared.block.Step.{Step}
 use Rattle.e_deriv.specs.declared.block.Close.{Close}
@@ -10,7 +10,6 @@ use Rattle.e_deriv.specs.Steps.{fits}
 use Rattle.e_deriv.specs.Naming.{names_lines}
 use Rattle.e_deriv.specs.Licensed.{Licensed}
 use Rattle.e_deriv.specs.Certified.{is_certified}
-use Rattle.e_deriv.specs.Fitting.{lits_fit}
 use Rattle.e_licence.specs.Contexts.{Basis}
 use Rattle.e_prove.specs.declared.standing.Standing.{Standing}
 use Rattle.e_prove.specs.declared.halt.Halt.{Halt}
@@ -38,15 +37,11 @@ pub record IsJudged (step : Step) (before : Standing) (derived : Step) (after : 
       lines_at (step_script derived rest) before.context goal ≡ line_of_step derived rest before.context goal ∷ lines_at rest after.context goal
   pub named : (rest : Script) → names_lines before.names (step_script step rest) ≡ before.names ∷ names_lines after.names rest
   pub grows : GrowsLittle before.context.scope after.context.scope
+  pub kept : take (length before.context.facts) after.context.facts ≡ before.context.facts
 
 -- where this holds the judging halts so at the step
 abbrev pub StepHalts : Step → Standing → Halt → Type 0
 StepHalts step x h = (rest : Script) (goal : Goal) → HaltsAt (line_of_step step rest x.context goal) h
-
--- the form of the close fits, and so do the literals of the goal
-pub record IsReadyToClose (close : Close) (x : Basis) (goal : Goal) : Type 0 where
-  pub form : IsTrue (list_all fits (lines_at (close_script close) x goal))
-  pub lits : IsTrue (list_all lits_fit (lines_at (close_script close) x goal))
 
 -- where this holds the derived close is certified; both are one without certificates
 pub record IsClosed (close : Close) (x : Basis) (goal : Goal) (derived : Close) : Type 0 where

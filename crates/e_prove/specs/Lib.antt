@@ -1,5 +1,6 @@
 pub mod Halts
 pub mod Contexts
 pub mod Judging
+pub mod Passing
 pub mod Stops
 pub mod Laws

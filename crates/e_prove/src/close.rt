@@ -1,4 +1,4 @@
-//! Judging a close.
+//! Judging a close without blocks.
 ghost use Rattle.std.specs.Prelude.{◌≡◌, List, Option, IfOk, IfErr, IsTrue, map};
 ghost use Rattle.e_literal.specs.Rename;
 ghost use Rattle.e_literal.specs.Rename.{image_in};
@@ -8,7 +8,7 @@ ghost use Rattle.e_clause.specs.Judged.{are_good};
 ghost use Rattle.e_deriv.specs.declared.block.Close.TheVariants.{Qed, Contradiction};
 ghost use Rattle.e_deriv.specs.Goal.{Goal as BlockGoal, are_for};
 ghost use Rattle.e_prove.specs.Contexts.{goal_said};
-ghost use Rattle.e_prove.specs.Judging.{IsReadyToClose, IsClosed, CloseHalts};
+ghost use Rattle.e_prove.specs.Judging.{IsClosed, CloseHalts};
 
 use crate::halt::Halt;
 use crate::licence::licences;
@@ -24,25 +24,9 @@ pub struct Goal<'a> {
     pub shown: &'a [Lit],
 }
 
-/// Judges a close where it stands, and gives it with its certificates.
-pub fn judge_close(
-    alloc: Global,
-    close: &Close,
-    goal: &Goal,
-    context: &Context,
-) -> Result<Close, Halt>
-    requires { IsReadyToClose close.now context.now (goal_said goal.now) }
-    ensures ok { IfOk result (λ d. IsClosed close.now context.now (goal_said goal.now) d) }
-    ensures err { IfErr result (CloseHalts close.now context.now (goal_said goal.now)) }
-{
-    match close {
-        Close::Qed { objects, .. } => qed(alloc, objects.items(), goal, context),
-        Close::Contradiction { .. } => contradiction(alloc, context),
-    }
-}
-
 /// A qed: each literal of the goal is allowed, with these objects for its made ones.
-fn qed(alloc: Global, objects: &[Obj], goal: &Goal, context: &Context) -> Result<Close, Halt>
+#[tactic(auto, unfolding(e_deriv::specs::Script::close_script))]
+pub fn qed(alloc: Global, objects: &[Obj], goal: &Goal, context: &Context) -> Result<Close, Halt>
     requires form { IsTrue (are_for (goal_said goal.now) context.now.scope objects.now) }
     requires lits { IsTrue (are_good context.now.scope (Rattle.e_deriv.specs.Goal.goal_with (goal_said goal.now) objects.now)) }
     ensures ok { IfOk result (λ d. (certs : List Cert) → IsClosed (Qed objects.now certs) context.now (goal_said goal.now) d) }
@@ -57,7 +41,7 @@ fn qed(alloc: Global, objects: &[Obj], goal: &Goal, context: &Context) -> Result
 }
 
 /// A contradiction: the facts contradict each other.
-fn contradiction(alloc: Global, context: &Context) -> Result<Close, Halt>
+pub fn contradiction(alloc: Global, context: &Context) -> Result<Close, Halt>
     ensures ok { IfOk result (λ d. (goal : BlockGoal) (written : Option Against) → IsClosed (Contradiction written) context.now goal d) }
     ensures err { IfErr result (λ h. (goal : BlockGoal) (written : Option Against) → CloseHalts (Contradiction written) context.now goal h) }
 {

@@ -1,11 +1,13 @@
 //! Why judging halts at a line.
-ghost use Rattle.std.specs.Prelude.{◌≡◌};
+ghost use Rattle.std.specs.Prelude.{◌≡◌, ◌+◌, ◌<◌, ◌^◌, IfOk, IfErr, Ok};
 ghost use Rattle.e_prove.specs.declared.halt.Halt.TheVariants.{NoMemory};
-ghost use Rattle.e_prove.specs.Halts.{stop_of};
+ghost use Rattle.e_prove.specs.Halts.{stop_of, StopOf, ToldOf};
 
-use e_deriv::{Names, Stop, Wanted};
+use crate::block::{ProvedClose, ProvedStep};
+use crate::standing::Standing;
+use e_deriv::{Close, Names, Step, Stop, Wanted};
 use e_literal::Values;
-use std::alloc::{AllocError, AllocFailed};
+use std::alloc::{AllocError, AllocFailed, Global};
 
 /// What the line lacks, with the values that show it; or what is too wide there, with its width; or want of memory.
 #[derive(Debug, Drop)]
@@ -55,5 +57,57 @@ pub fn stop(step: u32, halt: Halt, names: Names) -> Stop
             names,
         },
         Halt::NoMemory => Stop::NoMemory,
+    }
+}
+
+/// The stop of a halt at the line with this number, where this holds before it.
+pub fn stop_at(alloc: Global, halt: Halt, standing: &Standing, number: u32) -> Stop
+    ensures { StopOf halt number standing.now.names result }
+{
+    match standing.names.copy(alloc) {
+        Ok(names) => stop(number, halt, names),
+        Err(_) => Stop::NoMemory,
+    }
+}
+
+/// What a step comes to that is one line.
+pub fn told(
+    alloc: Global,
+    judged: Result<Step, Halt>,
+    standing: &Standing,
+    number: u32,
+) -> Result<ProvedStep, Stop>
+    requires { number + 1 < 2 ^ 32 }
+    ensures step { IfOk result (λ p. judged ≡ Ok p.step) }
+    ensures next { IfOk result (λ p. p.next ≡ number + 1) }
+    ensures err { IfErr result (ToldOf judged number standing.now.names) }
+{
+    match judged {
+        Ok(step) => Ok(ProvedStep {
+            step,
+            next: number + 1,
+        }),
+        Err(halt) => Err(stop_at(alloc, halt, standing, number)),
+    }
+}
+
+/// What a close comes to that is one line.
+pub fn told_close(
+    alloc: Global,
+    judged: Result<Close, Halt>,
+    standing: &Standing,
+    number: u32,
+) -> Result<ProvedClose, Stop>
+    requires { number + 1 < 2 ^ 32 }
+    ensures close { IfOk result (λ p. judged ≡ Ok p.close) }
+    ensures next { IfOk result (λ p. p.next ≡ number + 1) }
+    ensures err { IfErr result (ToldOf judged number standing.now.names) }
+{
+    match judged {
+        Ok(close) => Ok(ProvedClose {
+            close,
+            next: number + 1,
+        }),
+        Err(halt) => Err(stop_at(alloc, halt, standing, number)),
     }
 }

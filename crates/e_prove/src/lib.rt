@@ -1,8 +1,10 @@
 //! The derivation of a theorem: each line of its script judged in order.
 #![tactic(auto)]
 
+mod block;
 mod close;
 mod halt;
+mod inner;
 mod laws;
 mod licence;
 mod prover;

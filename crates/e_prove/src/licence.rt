@@ -5,13 +5,14 @@ ghost use Rattle.e_literal.specs.Literal.{negation};
 ghost use Rattle.e_clause.specs.Certify.{certifies, certify_all};
 ghost use Rattle.e_clause.specs.Judged.{is_good, are_good};
 ghost use Rattle.e_deriv.specs.Steps.{instance_gives};
+ghost use Rattle.e_licence.specs.Licences.{IsLicence};
 ghost use Rattle.e_prove.specs.Halts.{HaltsIn};
 
 use crate::halt::Halt;
 use e_clause::{By, Cert, InstanceFault, instance};
 use e_deriv::Wanted;
 use e_facts::Facts;
-use e_licence::{Context, Licensed, licence};
+use e_licence::{Context, Judge, Licensed, licence};
 use e_literal::{Lit, copy, negate, same};
 use std::alloc::{AllocError, Global};
 
@@ -21,7 +22,48 @@ pub fn licensed(alloc: Global, context: &Context, lit: &Lit) -> Result<Cert, Hal
     ensures ok { IfOk result (λ c. IsTrue (certifies context.now.scope context.now.facts lit.now c)) }
     ensures err { IfErr result (HaltsIn context.now (lit.now ∷ [])) }
 {
-    match licence(alloc, context, lit)? {
+    let answer = licence(alloc, context, lit)?;
+    told(alloc, context, lit, answer)
+}
+
+/// A certificate of each literal, where each is allowed. They are judged in order, and the first that is not allowed, or
+/// too wide to be judged, halts. What the facts tell of magnitudes is asked once for them all.
+pub fn licences(alloc: Global, context: &Context, lits: &[Lit]) -> Result<Vec<Cert>, Halt>
+    requires { IsTrue (are_good context.now.scope lits.now) }
+    ensures ok { IfOk result (λ cs. IsTrue (certify_all context.now.scope context.now.facts lits.now cs.items)) }
+    ensures err { IfErr result (HaltsIn context.now lits.now) }
+{
+    let mut judge = Judge::new(context);
+    judged(alloc, context, &mut judge, lits)
+}
+
+/// The same, by a judge of the context.
+fn judged(
+    alloc: Global,
+    context: &Context,
+    judge: &mut Judge,
+    lits: &[Lit],
+) -> Result<Vec<Cert>, Halt>
+    requires good { IsTrue (are_good context.now.scope lits.now) }
+    requires judge { judge.old ≡ context.now }
+    ensures ok { IfOk result (λ cs. IsTrue (certify_all context.now.scope context.now.facts lits.now cs.items)) }
+    ensures err { IfErr result (HaltsIn context.now lits.now) }
+{
+    let mut certs = Vec::new(alloc);
+    for lit in lits {
+        let answer = judge.licence(alloc, lit)?;
+        certs.push(told(alloc, context, lit, answer)?)?;
+    }
+    Ok(certs)
+}
+
+/// What is answered on a literal: its certificate, or a halt.
+fn told(alloc: Global, context: &Context, lit: &Lit, answer: Licensed) -> Result<Cert, Halt>
+    requires { IsLicence context.now lit.now answer }
+    ensures ok { IfOk result (λ c. IsTrue (certifies context.now.scope context.now.facts lit.now c)) }
+    ensures err { IfErr result (HaltsIn context.now (lit.now ∷ [])) }
+{
+    match answer {
         Licensed::Yes(cert) => Ok(cert),
         Licensed::No(values) => {
             let wanted = Wanted::Literal(copy(alloc, lit)?);
@@ -32,20 +74,6 @@ pub fn licensed(alloc: Global, context: &Context, lit: &Lit) -> Result<Cert, Hal
             Err(Halt::TooWide { wanted, width })
         }
     }
-}
-
-/// A certificate of each literal, where each is allowed. They are judged in order, and the first that is not allowed, or
-/// too wide to be judged, halts.
-pub fn licences(alloc: Global, context: &Context, lits: &[Lit]) -> Result<Vec<Cert>, Halt>
-    requires { IsTrue (are_good context.now.scope lits.now) }
-    ensures ok { IfOk result (λ cs. IsTrue (certify_all context.now.scope context.now.facts lits.now cs.items)) }
-    ensures err { IfErr result (HaltsIn context.now lits.now) }
-{
-    let mut certs = Vec::new(alloc);
-    for lit in lits {
-        certs.push(licensed(alloc, context, lit)?)?;
-    }
-    Ok(certs)
 }
 
 /// Whether the cited instance gives the literal.

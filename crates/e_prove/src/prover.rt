@@ -6,10 +6,9 @@ ghost use Rattle.e_deriv.specs.Fitting.{IsFitting};
 ghost use Rattle.e_deriv.specs.Certified.{Certified};
 ghost use Rattle.e_prove.specs.Stops.{StopIs, HasNames};
 
-use crate::close::{Goal, judge_close};
-use crate::halt::stop;
+use crate::block::prove_block;
+use crate::close::Goal;
 use crate::standing::Standing;
-use crate::step::judge_step;
 use e_book::Theorem;
 use e_deriv::{Block, Names, Stop};
 use e_literal::next_objects;
@@ -50,21 +49,12 @@ pub(crate) fn prove_parts(
 {
     let mut standing = Standing::first(alloc, statement, names)?;
     let made = next_objects(alloc, standing.context.scope(), statement.made.items())?;
-    let mut steps = Vec::new(alloc);
-    let mut number = 1u32;
-    for step in &block.steps {
-        match judge_step(alloc, step, &mut standing) {
-            Ok(derived) => steps.push(derived)?,
-            Err(halt) => return Err(stop(number, halt, standing.into_names())),
-        }
-        number += 1;
-    }
     let goal = Goal {
         made: &made,
         shown: statement.shown.items(),
     };
-    match judge_close(alloc, &block.close, &goal, &standing.context) {
-        Ok(close) => Ok(Block { steps, close }),
-        Err(halt) => Err(stop(number, halt, standing.into_names())),
+    match prove_block(alloc, block, &goal, &mut standing, 1) {
+        Ok(proved) => Ok(proved.block),
+        Err(stop) => Err(stop),
     }
 }

@@ -1,18 +1,19 @@
 //! What holds before a line.
-ghost use Rattle.std.specs.Prelude.{◌≡◌, ◌<◌, ◌+◌, ◌≤◌, ◌^◌, length, OnOk, IfOk, [], IsTrue};
-ghost use Rattle.e_literal.specs.Facts.{joined_all};
+ghost use Rattle.std.specs.Prelude.{◌≡◌, ◌<◌, ◌+◌, ◌≤◌, ◌^◌, length, take, OnOk, IfOk, [], IsTrue};
+ghost use Rattle.e_literal.specs.Literal.{negation};
+ghost use Rattle.e_literal.specs.Facts.{joined, joined_all};
 ghost use Rattle.e_literal.specs.Scopes;
 ghost use Rattle.e_literal.specs.Use.{scope_of};
 ghost use Rattle.e_clause.specs.Judged.{are_good_facts};
 ghost use Rattle.e_theorem.specs.Statements.{stated};
 ghost use Rattle.e_deriv.specs.Goal.{facts_of_statement};
 ghost use Rattle.e_deriv.specs.Naming.{named};
-ghost use Rattle.e_prove.specs.Contexts.{start_of};
+ghost use Rattle.e_prove.specs.Contexts.{start_of, outer_of, left_for, after_inner, after_literal};
 
 use e_deriv::Names;
 use e_facts::Facts;
-use e_licence::Context;
-use e_literal::{Lit, Scope, Sort, copy, grown};
+use e_licence::{Context, Mark};
+use e_literal::{Lit, Scope, Sort, copy, grown, negate};
 use e_text::Name;
 use e_theorem::Statement;
 use std::alloc::{AllocError, Global};
@@ -21,6 +22,13 @@ use std::alloc::{AllocError, Global};
 #[derive(Debug, Drop)]
 pub struct Standing {
     pub context: Context,
+    pub names: Names,
+}
+
+/// What an inner block is entered from.
+#[derive(Debug, Drop)]
+pub struct Outer {
+    pub mark: Mark,
     pub names: Names,
 }
 
@@ -48,11 +56,57 @@ impl Standing {
         })
     }
 
-    /// The names alone.
-    pub fn into_names(self) -> Names
-        ensures { result ≡ self.names }
+    /// What a block inside is entered from. It fails only for want of memory.
+    pub fn enter(&self, alloc: Global) -> Result<Outer, AllocError>
+        ensures { IfOk result (λ o. o ≡ outer_of self.now) }
     {
-        self.names
+        Ok(Outer {
+            mark: self.context.mark(),
+            names: self.names.copy(alloc)?,
+        })
+    }
+
+    /// The block inside ends: its objects, facts and names are gone.
+    pub fn leave(&mut self, outer: Outer)
+        requires few { outer.mark.facts ≤ length self.old.context.facts }
+        requires good { IsTrue (are_good_facts outer.mark.scope (take outer.mark.facts self.old.context.facts)) }
+        ensures { self.new ≡ left_for outer self.old }
+    {
+        self.context.back_to(outer.mark);
+        self.names = outer.names;
+    }
+
+    /// The block inside ends, and what it shows are facts. It fails only for want of memory; nothing is said of what holds then.
+    pub fn leave_with(
+        &mut self,
+        alloc: Global,
+        outer: Outer,
+        shown: &[Lit],
+    ) -> Result<(), AllocError>
+        requires few { outer.mark.facts ≤ length self.old.context.facts }
+        requires good { IsTrue (are_good_facts outer.mark.scope (joined_all (take outer.mark.facts self.old.context.facts) shown.now)) }
+        ensures { OnOk result (self.new ≡ after_inner outer shown.now self.old) }
+    {
+        self.leave(outer);
+        join_copies(alloc, &mut self.context, shown)
+    }
+
+    /// The literal is a fact. It fails only for want of memory; nothing is said of what holds then.
+    pub fn suppose(&mut self, alloc: Global, lit: &Lit) -> Result<(), AllocError>
+        requires { IsTrue (are_good_facts self.old.context.scope (joined self.old.context.facts lit.now)) }
+        ensures { OnOk result (self.new ≡ after_literal lit.now self.old) }
+    {
+        self.context.add(copy(alloc, lit)?)?;
+        Ok(())
+    }
+
+    /// The negation of the literal is a fact. It fails only for want of memory; nothing is said of what holds then.
+    pub fn suppose_not(&mut self, alloc: Global, lit: &Lit) -> Result<(), AllocError>
+        requires { IsTrue (are_good_facts self.old.context.scope (joined self.old.context.facts (negation lit.now))) }
+        ensures { OnOk result (self.new ≡ after_literal (negation lit.now) self.old) }
+    {
+        self.context.add(negate(copy(alloc, lit)?))?;
+        Ok(())
     }
 
     /// New objects of these sorts come into scope, with these names. It fails only for want of memory; nothing is said of
@@ -96,6 +150,17 @@ fn join_all(context: &mut Context, lits: Vec<Lit>) -> Result<(), AllocError>
 {
     for lit in lits {
         context.add(lit)?;
+    }
+    Ok(())
+}
+
+/// Adds an equal literal for each, unless one the same is there.
+fn join_copies(alloc: Global, context: &mut Context, lits: &[Lit]) -> Result<(), AllocError>
+    requires { IsTrue (are_good_facts context.old.scope (joined_all context.old.facts lits.now)) }
+    ensures { OnOk result (context.new ≡ record context.old { facts = joined_all context.old.facts lits.now }) }
+{
+    for lit in lits {
+        context.add(copy(alloc, lit)?)?;
     }
     Ok(())
 }

@@ -1,41 +1,29 @@
-//! Judging one step.
-ghost use Rattle.std.specs.Prelude.{◌≡◌, IfOk, IfErr, IsTrue, List, Option};
+//! Judging a step without what may be inside it.
+ghost use Rattle.std.specs.Prelude.{◌≡◌, IfOk, IfErr, OnOk, IsTrue, List, Option};
 ghost use Rattle.e_literal.specs.Facts.{joined};
-ghost use Rattle.e_clause.specs.declared.cert.Cert.{Cert};
+ghost use Rattle.e_clause.specs.declared.cert.Cert.{Cert as Certificate};
 ghost use Rattle.e_clause.specs.Judged.{is_good, are_good, are_good_facts};
 ghost use Rattle.e_construct.specs.Construct;
 ghost use Rattle.e_deriv.specs.declared.block.Step.TheVariants.{Cite, Hence, Make};
-ghost use Rattle.e_prove.specs.Contexts.{HasRoom, IsReady, after_make};
-ghost use Rattle.e_prove.specs.Halts.{UnlessNoMemory};
+ghost use Rattle.e_construct.specs.Superposing;
+ghost use Rattle.e_clause.specs.Certify.{certify_all};
+ghost use Rattle.e_prove.specs.Contexts.{HasRoom, after_make, after_superposed};
+ghost use Rattle.e_prove.specs.Halts.{HaltsIn, UnlessNoMemory};
 ghost use Rattle.e_prove.specs.Judging.{IsJudged, StepHalts};
 
 use crate::halt::Halt;
 use crate::licence::{is_cited, licences, licensed};
 use crate::standing::Standing;
-use e_clause::By;
-use e_construct::Construction;
+use e_clause::{By, Cert};
+use e_construct::{Construction, Superpose};
 use e_deriv::{Step, Wanted, copy_by, copy_construction};
 use e_literal::{Items, Lit, copy};
 use e_text::Name;
 use std::alloc::Global;
 
-/// Judges a step where it stands, and gives it with its certificates. What it makes and gives comes into the standing, which
-/// is as before where the step is not licensed, or too wide to be judged.
-pub fn judge_step(alloc: Global, step: &Step, standing: &mut Standing) -> Result<Step, Halt>
-    requires { IsReady step.now standing.old }
-    ensures ok { IfOk result (λ d. IsJudged step.now standing.old d standing.new) }
-    ensures err { IfErr result (StepHalts step.now standing.old) }
-    ensures kept { IfErr result (UnlessNoMemory (standing.new ≡ standing.old)) }
-{
-    match step {
-        Step::Cite(by) => cite(alloc, by, standing),
-        Step::Hence { lit, .. } => hence(alloc, lit, standing),
-        Step::Make { form, names, .. } => make(alloc, form, names.items(), standing),
-    }
-}
-
 /// A citation: its literal is one of the instance, and the negation of each other is a fact.
-fn cite(alloc: Global, by: &By, standing: &mut Standing) -> Result<Step, Halt>
+#[tactic(auto, unfolding(e_deriv::specs::Script::step_script))]
+pub fn cite(alloc: Global, by: &By, standing: &mut Standing) -> Result<Step, Halt>
     requires { IsTrue (are_good_facts standing.old.context.scope (joined standing.old.context.facts by.now.lit)) }
     ensures ok { IfOk result (λ d. IsJudged (Cite by.now) standing.old d standing.new) }
     ensures err { IfErr result (StepHalts (Cite by.now) standing.old) }
@@ -53,11 +41,12 @@ fn cite(alloc: Global, by: &By, standing: &mut Standing) -> Result<Step, Halt>
 }
 
 /// A hence: its literal is allowed.
-fn hence(alloc: Global, lit: &Lit, standing: &mut Standing) -> Result<Step, Halt>
+#[tactic(auto, unfolding(e_deriv::specs::Script::step_script))]
+pub fn hence(alloc: Global, lit: &Lit, standing: &mut Standing) -> Result<Step, Halt>
     requires lit { IsTrue (is_good standing.old.context.scope lit.now) }
     requires after { IsTrue (are_good_facts standing.old.context.scope (joined standing.old.context.facts lit.now)) }
-    ensures ok { IfOk result (λ d. (cert : Option Cert) → IsJudged (Hence lit.now cert) standing.old d standing.new) }
-    ensures err { IfErr result (λ h. (cert : Option Cert) → StepHalts (Hence lit.now cert) standing.old h) }
+    ensures ok { IfOk result (λ d. (cert : Option Certificate) → IsJudged (Hence lit.now cert) standing.old d standing.new) }
+    ensures err { IfErr result (λ h. (cert : Option Certificate) → StepHalts (Hence lit.now cert) standing.old h) }
     ensures kept { IfErr result (UnlessNoMemory (standing.new ≡ standing.old)) }
 {
     let cert = licensed(alloc, &standing.context, lit)?;
@@ -70,7 +59,8 @@ fn hence(alloc: Global, lit: &Lit, standing: &mut Standing) -> Result<Step, Halt
 }
 
 /// A construction: each literal that it needs is allowed.
-fn make(
+#[tactic(auto, unfolding(e_deriv::specs::Script::step_script))]
+pub fn make(
     alloc: Global,
     form: &Construction,
     names: &[Name],
@@ -79,8 +69,8 @@ fn make(
     requires room { HasRoom standing.old.context.scope }
     requires needs { IsTrue (are_good standing.old.context.scope (Construct.needs form.now)) }
     requires after { let after = after_make form.now names.now standing.old in IsTrue (are_good_facts after.context.scope after.context.facts) }
-    ensures ok { IfOk result (λ d. (certs : List Cert) → IsJudged (Make form.now names.now certs) standing.old d standing.new) }
-    ensures err { IfErr result (λ h. (certs : List Cert) → StepHalts (Make form.now names.now certs) standing.old h) }
+    ensures ok { IfOk result (λ d. (certs : List Certificate) → IsJudged (Make form.now names.now certs) standing.old d standing.new) }
+    ensures err { IfErr result (λ h. (certs : List Certificate) → StepHalts (Make form.now names.now certs) standing.old h) }
     ensures kept { IfErr result (UnlessNoMemory (standing.new ≡ standing.old)) }
 {
     let needs = form.needs(alloc)?;
@@ -94,4 +84,28 @@ fn make(
     standing.grow(form.made(), names)?;
     standing.join(given)?;
     Ok(derived)
+}
+
+/// A superposition before its block: each literal that it needs is allowed. The copied points come into scope, and what it
+/// gives are facts.
+pub fn superpose(
+    alloc: Global,
+    form: &Superpose,
+    names: &[Name],
+    standing: &mut Standing,
+) -> Result<Vec<Cert>, Halt>
+    requires room { HasRoom standing.old.context.scope }
+    requires needs { IsTrue (are_good standing.old.context.scope (Superposing.needs form.now)) }
+    requires after { let after = after_superposed form.now names.now standing.old in IsTrue (are_good_facts after.context.scope after.context.facts) }
+    ensures certs { IfOk result (λ cs. IsTrue (certify_all standing.old.context.scope standing.old.context.facts (Superposing.needs form.now) cs.items)) }
+    ensures after { OnOk result (standing.new ≡ after_superposed form.now names.now standing.old) }
+    ensures err { IfErr result (HaltsIn standing.old.context (Superposing.needs form.now)) }
+    ensures kept { IfErr result (UnlessNoMemory (standing.new ≡ standing.old)) }
+{
+    let needs = form.needs(alloc)?;
+    let certs = licences(alloc, &standing.context, &needs)?;
+    let given = form.gives(alloc, standing.context.scope())?;
+    standing.grow(form.made(), names)?;
+    standing.join(given)?;
+    Ok(certs)
 }

@@ -155,7 +155,48 @@ hence seg a b = seg a b
 hence seg a b = seg e f
 qed
 end
-|line 2 is too wide at Literal(Lit { neg: false, atom: MagEq(Form { monos: [Mono { coeff: 1, term: Seg(0, 1) }] }, Form { monos: [Mono { coeff: 1, term: Seg(4, 5) }] }) }), 2000008000012000008000002"
+|line 2 is too wide at Literal(Lit { neg: false, atom: MagEq(Form { monos: [Mono { coeff: 1, term: Seg(0, 1) }] }, Form { monos: [Mono { coeff: 1, term: Seg(4, 5) }] }) }), 2000008000012000008000002
+
+theorem T
+points a
+lines L
+given a = a
+show on a L
+proof
+cases on a L
+qed
+else
+qed
+end
+|line 3 lacks Literal(Lit { neg: false, atom: On(0, 0) }), None
+
+theorem T
+points a
+lines L
+given a = a
+show a = a
+proof
+claim a = a
+cases on a L
+qed
+else
+qed
+hence on a L
+qed
+end
+|line 5 lacks Literal(Lit { neg: false, atom: On(0, 0) }), None
+
+theorem T
+points a b c d g h
+lines K L
+given a != b ; on a K ; on b K ; not on c K ; d != g ; on d L ; on g L
+show on a K
+proof
+superpose a b c K onto d g h L as p q show on a K
+qed
+qed
+end
+|line 1 lacks Literal(Lit { neg: true, atom: On(5, 1) }), None"
 }
 
 #[test]

@@ -14,7 +14,7 @@ use Rattle.e_literal.specs.Solution.{IsSo, Satisfy, HasSolution}
 use Rattle.e_simplex.specs.declared.lines.Line.{Line}
 use Rattle.e_simplex.specs.declared.lines.Kind.TheVariants.{More as LineMore}
 use Rattle.e_simplex.specs.Lines.{form_value, LineHolds, IsSolution, IsAbsurd}
-use Rattle.e_simplex.specs.Naming.{place_of, IsIn, AreOnce, FormNamed, AllNamed, named_form, named_line, named_lines, kind_of, keeps}
+use Rattle.e_simplex.specs.Naming.{place_of, IsIn, AreOnce, Continues, FormNamed, AllNamed, named_form, named_line, named_lines, kind_of, keeps}
 use Rattle.e_simplex.specs.Answer.{assigned, AreValuesOf}
 use Rattle.e_simplex.specs.Paired.{PairedTo}
 use Rattle.e_simplex.specs.Apart.{AreApart, IsNeither}
@@ -25,7 +25,7 @@ use Rattle.e_simplex.proofs.Negatives.{negated_value, negative_within}
 use Rattle.e_simplex.proofs.NamedLines.{kept_not, within_lines, more_lines}
 use Rattle.e_simplex.proofs.Deciding.{forms_push}
 use Rattle.e_simplex.proofs.Refutes.{no_solution}
-use Rattle.e_simplex.proofs.Places.{term_at}
+use Rattle.e_simplex.proofs.Places.{term_at, lines_continued}
 
 -- ---- the lines of one row more
 
@@ -140,22 +140,27 @@ module _ (ts : List Term) (values : List ℤ) (v : Term → ℕ) (same : Values 
 
 -- ---- the values that are answered
 
-pub values_answered : (ts : List Term) (rows : List Row) (values : List ℤ) (pairs : List (Term × ℕ)) → AreOnce ts → AllNamed ts rows
-    → AreApart (length ts + 1) (named_lines false ts rows) (named_lines true ts rows) values → PairedTo (length ts) ts values pairs → AreValuesOf rows pairs
-values_answered ts rows values pairs o a h p =
+pub values_answered : (ts us : List Term) (rows : List Row) (values : List ℤ) (pairs : List (Term × ℕ)) → AreOnce ts → AllNamed ts rows → Continues ts us
+    → AreApart (length us + 1) (named_lines false us rows) (named_lines true us rows) values → PairedTo (length ts) ts values pairs → AreValuesOf rows pairs
+values_answered ts us rows values pairs o a g k p =
     (let e : map (λ (q : Term × ℕ). q.0) pairs ≡ ts = firsts ts pairs p.shape p.term in
     record {
       once = subst AreOnce (sym e) o;
-      all = subst (λ us. AllNamed us rows) (sym e) a;
+      all = subst (λ vs. AllNamed vs rows) (sym e) a;
       satisfy = satisfied ts values (assigned pairs) same rows a h.solution.holds h.unequal;
     })
   where
+    h : AreApart (length us + 1) (named_lines false ts rows) (named_lines true ts rows) values
+    h =
+        subst (λ ls. AreApart (length us + 1) ls (named_lines true ts rows) values) (lines_continued false ts us rows g a)
+        (subst (λ ls. AreApart (length us + 1) (named_lines false us rows) ls values) (lines_continued true ts us rows g a) k)
+
     whole : (z : ℤ) → pos 0 ≤ℤ z → pos (unsigned_abs z) ≡ z
     whole z h = omega (arith, sums, h, abs_is z)
 
     same : (t : Term) → IsIn ts t → pos (assigned pairs t) ≡ get_or values (suc (place_of ts t)) (pos 0)
     same t i = ap pos (assigned_at ts pairs (λ c. unsigned_abs (get_or values (suc c) (pos 0))) t p.shape p.term p.number i)
-        ∙ whole (get_or values (suc (place_of ts t)) (pos 0)) (h.solution.not_negative (suc (place_of ts t)) (omega (arith, i)))
+        ∙ whole (get_or values (suc (place_of ts t)) (pos 0)) (h.solution.not_negative (suc (place_of ts t)) (omega (arith, i, g.longer)))
 
 -- ---- what is refuted has no solution
 

@@ -27,3 +27,4 @@ pub mod Picked
 pub mod Spreading
 pub mod Assigning
 pub mod Refuting
+pub mod Extending

@@ -12,7 +12,7 @@ use Rattle.e_fraction.specs.Views.{seen, all_seen}
 use Rattle.e_simplex.specs.declared.lines.Monomial.{Monomial}
 use Rattle.e_simplex.specs.declared.lines.Line.{Line}
 use Rattle.e_simplex.specs.declared.lines.Kind.{Kind}
-use Rattle.e_simplex.specs.Naming.{place_of, IsIn, AreOnce, FormNamed, AllNamed, named_form, named_line, named_lines, kind_of, keeps}
+use Rattle.e_simplex.specs.Naming.{place_of, IsIn, AreOnce, Continues, FormNamed, AllNamed, named_form, named_line, named_lines, kind_of, keeps}
 use Rattle.e_literal.proofs.Terms.{term_eq_is, term_eq_same, equal_terms, yes_or_no}
 
 -- ---- places
@@ -89,6 +89,29 @@ once_push ts t o h c l = elim (cases_eq c (length ts)) [
       ap (place_of (ts ++ t ∷ [])) (get_or_append_left ts (t ∷ []) Right c m)
       ∙ place_push ts (get_or ts c Right) t (omega (arith, o c m, m)) ∙ o c m)
 ]
+
+-- ---- further terms behind the first ones
+
+pub continues_same : (ts : List Term) → Continues ts ts
+continues_same ts = record { longer = omega arith; places = λ t h. refl }
+
+pub continues_copy : (ts us : List Term) → us ≡ ts → Continues ts us
+continues_copy ts us e = subst (Continues ts) (sym e) (continues_same ts)
+
+pub continues_in : (ts us : List Term) → Continues ts us → (t : Term) → IsIn ts t → IsIn us t
+continues_in ts us c t h = omega (arith, h, c.longer, c.places t h)
+
+pub continues_push : (ts us : List Term) (t : Term) → Continues ts us → Continues ts (us ++ t ∷ [])
+continues_push ts us t c = record {
+  longer = omega (arith, c.longer, length_push us t);
+  places = λ u h. place_push us u t (continues_in ts us c u h) ∙ c.places u h;
+}
+
+pub continues_further : (ts us vs : List Term) → Continues ts us → Continues us vs → Continues ts vs
+continues_further ts us vs c d = record {
+  longer = omega (arith, c.longer, d.longer);
+  places = λ t h. d.places t (continues_in ts us c t h) ∙ c.places t h;
+}
 
 pub form_grown : (ts us : List Term) (form : Summands) → ((t : Term) → IsIn ts t → IsIn us t) → FormNamed ts form → FormNamed us form
 form_grown ts us [] g h = tt
@@ -192,3 +215,34 @@ pub terms_old : (ts new : List Term) (rows : List Row) (form : Summands) (k : �
 terms_old ts new rows form k d l e n o a f =
     subst (λ v. AreOnce v × (AllNamed v rows × FormNamed v (take (k + 1) form))) (sym e)
     (o, (a, form_more ts form k d l f (omega (arith, n, place_most ts (get_or form k d).1))))
+
+-- ---- the same lines by the first terms and by all
+
+form_continued : (ts us : List Term) (form : Summands) → Continues ts us → FormNamed ts form → named_form us form ≡ named_form ts form
+form_continued ts us [] c h = refl
+form_continued ts us (p ∷ ps) c h =
+    ap₂ {A = ℕ} {B = List Monomial} (λ n v. let m : Monomial = record { coefficient = p.0; column = suc n } in m ∷ v) (c.places p.1 h.0) (form_continued ts us ps c h.1)
+
+pub lines_continued : (b : Bool) (ts us : List Term) (rows : List Row) → Continues ts us → AllNamed ts rows → named_lines b us rows ≡ named_lines b ts rows
+lines_continued b ts us [] c h = refl
+lines_continued b ts us (r ∷ rs) c h =
+    ap₂ {A = Line} {B = List Line} (λ l ls. cond (keeps b r.says) (l ∷ ls) ls)
+    (ap (λ v. let m : Line = record { kind = kind_of r.says; form = v } in m) (form_continued ts us r.form c h.0)) (lines_continued b ts us rs c h.1)
+
+pub all_continued : (ts us : List Term) (rows : List Row) → Continues ts us → AllNamed ts rows → AllNamed us rows
+all_continued ts us rows c h = all_grown ts us rows (continues_in ts us c) h
+
+-- ---- two lists of rows
+
+pub all_named_append : (ts : List Term) (xs ys : List Row) → AllNamed ts xs → AllNamed ts ys → AllNamed ts (xs ++ ys)
+all_named_append ts [] ys h g = g
+all_named_append ts (x ∷ xs) ys h g = (h.0, all_named_append ts xs ys h.1 g)
+
+pub lines_append : (b : Bool) (ts : List Term) (xs ys : List Row) → named_lines b ts (xs ++ ys) ≡ named_lines b ts xs ++ named_lines b ts ys
+lines_append b ts [] ys = refl
+lines_append b ts (x ∷ xs) ys = by (keeps b x.says) (lines_append b ts xs ys)
+  where
+    by : (k : Bool) → named_lines b ts (xs ++ ys) ≡ named_lines b ts xs ++ named_lines b ts ys
+        → cond k (named_line ts x ∷ named_lines b ts (xs ++ ys)) (named_lines b ts (xs ++ ys)) ≡ cond k (named_line ts x ∷ named_lines b ts xs) (named_lines b ts xs) ++ named_lines b ts ys
+    by true e = ap (λ v. named_line ts x ∷ v) e
+    by false e = e

@@ -14,3 +14,5 @@ pub mod Naming
 pub mod Answer
 pub mod Spread
 pub mod Paired
+pub mod Standing
+pub mod Settling

@@ -1,5 +1,5 @@
 -- Rows over terms as lines over numbered columns: column 0 has the constants, and the terms follow in order.
-use Rattle.std.specs.Prelude.{◌≡◌, ℕ, suc, ◌<◌, cond, not, Bool, List, [], ◌∷◌, length, get_or, nat_le, ◌^◌}
+use Rattle.std.specs.Prelude.{◌≡◌, ℕ, suc, ◌<◌, ◌≤◌, cond, not, Bool, List, [], ◌∷◌, length, get_or, nat_le, ◌^◌}
 use Rattle.std.specs.List.{list_all}
 use Rattle.e_literal.specs.declared.object.Term.{Term}
 use Rattle.e_literal.specs.declared.object.Term.TheVariants.{Right}
@@ -22,6 +22,11 @@ IsIn ts t = place_of ts t < length ts
 -- no term stands twice
 abbrev pub AreOnce : List Term → Type 0
 AreOnce ts = (c : ℕ) → c < length ts → place_of ts (get_or ts c Right) ≡ c
+
+-- further terms stand behind the first ones, whose places stay
+pub record Continues (ts us : List Term) : Type 0 where
+  pub longer : length ts ≤ length us
+  pub places : (t : Term) → IsIn ts t → place_of us t ≡ place_of ts t
 
 -- each term of the form is in the list
 abbrev pub FormNamed : List Term → Summands → Type 0

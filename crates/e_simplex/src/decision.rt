@@ -5,9 +5,10 @@ ghost use Rattle.e_literal.specs.Minor.{IsWide};
 ghost use Rattle.e_fraction.specs.Limits.{all_small};
 ghost use Rattle.e_literal.specs.Solution.{HasSolution};
 ghost use Rattle.e_fraction.specs.Views.{all_seen};
-ghost use Rattle.e_simplex.specs.Naming.{AreOnce, AllNamed, named_lines};
-ghost use Rattle.e_simplex.specs.Solved.{IsSolved, columns_of, lines_of};
+ghost use Rattle.e_simplex.specs.Naming.{AreOnce, AllNamed, Continues, named_lines};
+ghost use Rattle.e_simplex.specs.Solved.{IsSolved, IsOutcome, columns_of, lines_of};
 ghost use Rattle.e_simplex.specs.Apart.{IsNeither};
+ghost use Rattle.e_simplex.specs.Lines;
 ghost use Rattle.e_simplex.specs.Paired.{PairedTo};
 ghost use Rattle.e_simplex.specs.Answer.{IsAbsurdity, IsVerdict, IsRefuted, IsHolds, IsAbsurd};
 
@@ -41,7 +42,7 @@ pub enum Verdict {
 
 /// The terms, each with the value of its column.
 fn named_values(alloc: Global, terms: &[Term], values: &[i128]) -> Result<Values, AllocError>
-    requires { length values.now ≡ length terms.now + 1 }
+    requires { length terms.now < length values.now }
     ensures { IfOk result (PairedTo (length terms.now) terms.now values.now) }
 {
     let mut pairs = Vec::new(alloc);
@@ -49,6 +50,23 @@ fn named_values(alloc: Global, terms: &[Term], values: &[i128]) -> Result<Values
         pairs.push((terms[c], values[c + 1].unsigned_abs()))?;
     }
     Ok(Values::new(pairs))
+}
+
+/// What comes of rows whose lines are refuted.
+pub fn refuted_once(
+    alloc: Global,
+    rows: &[Row],
+    terms: &[Term],
+    weights: &[i128],
+) -> Result<Absurdity, AllocError>
+    requires few { length rows.now ≤ 4096 }
+    requires once { AreOnce terms.now }
+    requires named { AllNamed terms.now (all_seen rows.now) }
+    requires absurd { Lines.IsAbsurd (length terms.now + 1) (named_lines Rattle.std.specs.Prelude.false terms.now (all_seen rows.now)) weights.now }
+    ensures { IfOk result (IsRefuted (all_seen rows.now)) }
+{
+    let multipliers = spread(alloc, rows, weights, 0, 0)?;
+    Ok(Absurdity::One(multipliers))
 }
 
 /// What comes of the row at the place `k` among those that say `not 0`, both of whose signs are refuted.
@@ -74,11 +92,12 @@ fn refuted_both(
     Ok(Absurdity::Two { row, above, below })
 }
 
-/// What comes of the solved lines and the rows that say `not 0`.
-fn told_apart(
+/// What comes of the solved lines and the rows that say `not 0`. The rows have the terms, and the columns further ones.
+pub fn told_apart(
     alloc: Global,
     rows: &[Row],
     terms: &[Term],
+    columns: &[Term],
     solved: &Solved,
     pivots: &mut u64,
 ) -> Result<Verdict, AllocError>
@@ -87,11 +106,13 @@ fn told_apart(
     requires short { IsTrue (Rattle.e_simplex.specs.Naming.have_short_forms rows.now) }
     requires once { AreOnce terms.now }
     requires named { AllNamed terms.now (all_seen rows.now) }
-    requires counted { length terms.now < 2 ^ 63 }
-    requires solved { IsSolved (length terms.now + 1) (named_lines Rattle.std.specs.Prelude.false terms.now (all_seen rows.now)) solved.now }
+    requires columns { AreOnce columns.now }
+    requires continues { Continues terms.now columns.now }
+    requires counted { length columns.now < 2 ^ 63 }
+    requires solved { IsSolved (length columns.now + 1) (named_lines Rattle.std.specs.Prelude.false columns.now (all_seen rows.now)) solved.now }
     ensures { IfOk result (IsVerdict (all_seen rows.now)) }
 {
-    let forms = lines_where(alloc, true, terms, rows)?;
+    let forms = lines_where(alloc, true, columns, rows)?;
     match keep_apart(alloc, solved, &forms, pivots)? {
         Apart::TooWide => Ok(Verdict::TooWide),
         Apart::Found(values) => {
@@ -99,8 +120,41 @@ fn told_apart(
             Ok(Verdict::Holds(values))
         }
         Apart::Neither(k, above, below) => {
-            let both = refuted_both(alloc, rows, terms, k, &above, &below)?;
+            let both = refuted_both(alloc, rows, columns, k, &above, &below)?;
             Ok(Verdict::Absurd(both))
+        }
+    }
+}
+
+/// What comes of rows whose lines have this outcome.
+pub fn told(
+    alloc: Global,
+    rows: &[Row],
+    terms: &[Term],
+    columns: &[Term],
+    outcome: &Outcome,
+    pivots: &mut u64,
+) -> Result<Verdict, AllocError>
+    requires few { length rows.now ≤ 4096 }
+    requires coefficients { IsTrue (all_small rows.now) }
+    requires short { IsTrue (Rattle.e_simplex.specs.Naming.have_short_forms rows.now) }
+    requires once { AreOnce terms.now }
+    requires named { AllNamed terms.now (all_seen rows.now) }
+    requires columns { AreOnce columns.now }
+    requires continues { Continues terms.now columns.now }
+    requires counted { length columns.now < 2 ^ 63 }
+    requires outcome { IsOutcome (length columns.now + 1) (named_lines Rattle.std.specs.Prelude.false columns.now (all_seen rows.now)) outcome.now }
+    ensures { IfOk result (IsVerdict (all_seen rows.now)) }
+{
+    match outcome {
+        Outcome::TooWide => Ok(Verdict::TooWide),
+        Outcome::Absurd(weights) => {
+            let once = refuted_once(alloc, rows, columns, weights)?;
+            Ok(Verdict::Absurd(once))
+        }
+        Outcome::Holds(solved) => {
+            let apart = told_apart(alloc, rows, terms, columns, solved, pivots)?;
+            Ok(apart)
         }
     }
 }
@@ -136,15 +190,7 @@ pub fn decide_counting(alloc: Global, rows: &[Row], pivots: &mut u64) -> Result<
 {
     let terms = terms_of(alloc, rows)?;
     let lines = lines_where(alloc, false, &terms, rows)?;
-    match solve_lines(alloc, lines, terms.len() + 1, pivots)? {
-        Outcome::TooWide => Ok(Verdict::TooWide),
-        Outcome::Absurd(weights) => {
-            let multipliers = spread(alloc, rows, &weights, 0, 0)?;
-            Ok(Verdict::Absurd(Absurdity::One(multipliers)))
-        }
-        Outcome::Holds(solved) => {
-            let told = told_apart(alloc, rows, &terms, &solved, pivots)?;
-            Ok(told)
-        }
-    }
+    let outcome = solve_lines(alloc, lines, terms.len() + 1, pivots)?;
+    let verdict = told(alloc, rows, &terms, &terms, &outcome, pivots)?;
+    Ok(verdict)
 }

@@ -13,6 +13,9 @@ pub mod naming;
 pub mod number;
 pub mod pivot;
 pub mod readings;
+pub mod settled;
+#[cfg(test)]
+mod settling_tests;
 pub mod solve;
 pub mod solved;
 pub mod spread;
@@ -23,3 +26,4 @@ pub mod unequal;
 pub use decision::{Absurdity, Verdict, decide, decide_counting};
 pub use e_fraction::widths::width;
 pub use naming::have_short_forms;
+pub use settled::{Settled, Settling, settle};

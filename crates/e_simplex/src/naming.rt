@@ -5,7 +5,7 @@ ghost use Rattle.e_literal.specs.declared.object.Term.{Term};
 ghost use Rattle.e_fraction.specs.Views.{says_of, all_seen};
 ghost use Rattle.e_fraction.specs.Limits.{has_small_coefficients, all_small};
 ghost use Rattle.e_simplex.specs.Lines.{IsSmallLine, AllSmallLines};
-ghost use Rattle.e_simplex.specs.Naming.{place_of, IsIn, AreOnce, FormNamed, AllNamed, named_form, named_lines};
+ghost use Rattle.e_simplex.specs.Naming.{place_of, IsIn, AreOnce, Continues, FormNamed, AllNamed, named_form, named_lines};
 
 use crate::lines::{Kind, Line, Monomial};
 use e_fraction::{Row, RowKind};
@@ -40,6 +40,7 @@ fn with_terms(mut terms: Vec<Term>, rows: &[Row], i: usize) -> Result<Vec<Term>,
     requires before { AllNamed terms.items (all_seen (take i rows.now)) }
     ensures once { IfOk result (λ v. AreOnce v.items) }
     ensures all { IfOk result (λ v. AllNamed v.items (all_seen (take (i + 1) rows.now))) }
+    ensures continues { IfOk result (λ v. Continues terms.items v.items) }
 {
     let form = rows[i].form.summands();
     for k in 0..form.len() {
@@ -51,16 +52,54 @@ fn with_terms(mut terms: Vec<Term>, rows: &[Row], i: usize) -> Result<Vec<Term>,
     Ok(terms)
 }
 
+/// The terms, and behind them those of the rows that are not among them, in the order in which they stand first.
+pub fn terms_with(alloc: Global, terms: &[Term], rows: &[Row]) -> Result<Vec<Term>, AllocError>
+    requires { AreOnce terms.now }
+    ensures once { IfOk result (λ v. AreOnce v.items) }
+    ensures all { IfOk result (λ v. AllNamed v.items (all_seen rows.now)) }
+    ensures continues { IfOk result (λ v. Continues terms.now v.items) }
+{
+    let mut all = Vec::from_slice(alloc, terms)?;
+    for i in 0..rows.len() {
+        all = with_terms(all, rows, i)?;
+    }
+    Ok(all)
+}
+
 /// The terms of the rows, each once, in the order in which they stand first.
 pub fn terms_of(alloc: Global, rows: &[Row]) -> Result<Vec<Term>, AllocError>
     ensures once { IfOk result (λ v. AreOnce v.items) }
     ensures all { IfOk result (λ v. AllNamed v.items (all_seen rows.now)) }
 {
-    let mut terms = Vec::new(alloc);
-    for i in 0..rows.len() {
-        terms = with_terms(terms, rows, i)?;
+    terms_with(alloc, &[], rows)
+}
+
+/// The terms, and the one behind them where it is not among them.
+fn with_term(mut terms: Vec<Term>, term: Term) -> Result<Vec<Term>, AllocError>
+    requires { AreOnce terms.items }
+    ensures once { IfOk result (λ v. AreOnce v.items) }
+    ensures continues { IfOk result (λ v. Continues terms.items v.items) }
+{
+    if place(&terms, term) == terms.len() {
+        terms.push(term)?;
     }
     Ok(terms)
+}
+
+/// The terms, and terms behind them that stand for spare columns, until there are `count`. There may be fewer.
+pub fn padded(alloc: Global, terms: &[Term], count: usize) -> Result<Vec<Term>, AllocError>
+    requires { AreOnce terms.now }
+    ensures once { IfOk result (λ v. AreOnce v.items) }
+    ensures continues { IfOk result (λ v. Continues terms.now v.items) }
+{
+    let mut all = Vec::from_slice(alloc, terms)?;
+    for p in 0..u16::MAX {
+        if count <= all.len() {
+            return Ok(all);
+        }
+        all = with_term(all, Term::Seg(p, p))?;
+    }
+    Ok(all)
 }
 
 fn kind_of(kind: RowKind) -> Kind

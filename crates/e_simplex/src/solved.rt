@@ -1,6 +1,6 @@
 //! Lines with a table in which every row holds, and what comes of one line more.
 
-ghost use Rattle.std.specs.Prelude.{◌≡◌, ◌+◌, ◌^◌, ◌<◌, ◌≤◌, ◌++◌, ◌∷◌, [], length, IfOk, MatchOption};
+ghost use Rattle.std.specs.Prelude.{◌≡◌, ◌+◌, ◌^◌, ◌<◌, ◌≤◌, ◌++◌, ◌∷◌, [], length, take, IfOk, MatchOption};
 ghost use Rattle.e_simplex.specs.Lines.{numbers, FixedTo, AllSmallLines, AllFormsWithin, IsSolution, rows_of};
 ghost use Rattle.e_fraction.specs.Det.{IsWide};
 ghost use Rattle.e_simplex.specs.Ends.{IsTableOf};
@@ -75,13 +75,19 @@ fn empty_table(alloc: Global, w: usize) -> Result<Table, AllocError>
     })
 }
 
-/// The table of all lines; None where an entry has size at least 2^63.
-fn first_table(alloc: Global, lines: &[Line], w: usize) -> Result<Option<Table>, AllocError>
-    requires { IsFit w lines.now }
-    ensures { IfOk result (λ o. MatchOption o (IsWide (rows_of lines.now) w (2 ^ 63)) (IsTableOf lines.now w)) }
+/// The table of all lines, from that of the first `from`; None where an entry has size at least 2^63.
+fn table_from(
+    alloc: Global,
+    lines: &[Line],
+    from: usize,
+    mut table: Table,
+) -> Result<Option<Table>, AllocError>
+    requires fit { IsFit (length table.columns.items) lines.now }
+    requires within { from ≤ length lines.now }
+    requires table { IsTableOf (take from lines.now) (length table.columns.items) table }
+    ensures { IfOk result (λ o. MatchOption o (IsWide (rows_of lines.now) (length table.columns.items) (2 ^ 63)) (IsTableOf lines.now (length table.columns.items))) }
 {
-    let mut table = empty_table(alloc, w)?;
-    for i in 0..lines.len() {
+    for i in from..lines.len() {
         match joined(alloc, lines, i, table)? {
             Some(more) => table = more,
             None => return Ok(None),
@@ -124,6 +130,29 @@ fn concluded(
     }
 }
 
+/// What comes of lines, from the table of the first `from`. The pivots that it takes are added to `pivots`.
+fn continued(
+    alloc: Global,
+    lines: Vec<Line>,
+    from: usize,
+    table: Table,
+    pivots: &mut u64,
+) -> Result<Outcome, AllocError>
+    requires fit { IsFit (length table.columns.items) lines.items }
+    requires within { from ≤ length lines.items }
+    requires table { IsTableOf (take from lines.items) (length table.columns.items) table }
+    ensures { IfOk result (IsOutcome (length table.columns.items) lines.items) }
+{
+    let w = table.columns.len();
+    match table_from(alloc, &lines, from, table)? {
+        None => Ok(Outcome::TooWide),
+        Some(table) => {
+            let fixed = fixed_columns(alloc, &lines, w)?;
+            concluded(alloc, lines, fixed, table, pivots)
+        }
+    }
+}
+
 /// What comes of lines. The pivots that it takes are added to `pivots`.
 pub fn solve_lines(
     alloc: Global,
@@ -134,13 +163,8 @@ pub fn solve_lines(
     requires { IsFit w lines.items }
     ensures { IfOk result (IsOutcome w lines.items) }
 {
-    match first_table(alloc, &lines, w)? {
-        None => Ok(Outcome::TooWide),
-        Some(table) => {
-            let fixed = fixed_columns(alloc, &lines, w)?;
-            concluded(alloc, lines, fixed, table, pivots)
-        }
-    }
+    let table = empty_table(alloc, w)?;
+    continued(alloc, lines, 0, table, pivots)
 }
 
 /// An equal line.
@@ -153,15 +177,17 @@ fn copy_of_line(alloc: Global, line: &Line) -> Result<Line, AllocError>
     })
 }
 
-/// The lines, and one more.
-fn lines_with(alloc: Global, lines: &[Line], line: &Line) -> Result<Vec<Line>, AllocError>
-    ensures { IfOk result (λ v. v.items ≡ lines.now ++ line.now ∷ []) }
+/// The lines, and more.
+fn lines_with(alloc: Global, lines: &[Line], more: &[Line]) -> Result<Vec<Line>, AllocError>
+    ensures { IfOk result (λ v. v.items ≡ lines.now ++ more.now) }
 {
     let mut all = Vec::new(alloc);
     for old in lines {
         all.push(copy_of_line(alloc, old)?)?;
     }
-    all.push(copy_of_line(alloc, line)?)?;
+    for further in more {
+        all.push(copy_of_line(alloc, further)?)?;
+    }
     Ok(all)
 }
 
@@ -180,22 +206,37 @@ fn copy_of_table(alloc: Global, table: &Table) -> Result<Table, AllocError>
 }
 
 impl Solved {
+    /// How many columns the table has.
+    pub fn columns(&self) -> usize
+        ensures { result ≡ columns_of self.now }
+    {
+        self.table.columns.len()
+    }
+
+    /// What comes of the lines and more. The solved table stays as it is, and the pivots are added to `pivots`.
+    pub fn with_all(
+        &self,
+        alloc: Global,
+        more: &[Line],
+        pivots: &mut u64,
+    ) -> Result<Outcome, AllocError>
+        requires solved { IsSolved (columns_of self.now) (lines_of self.now) self.now }
+        requires fit { IsFit (columns_of self.now) (lines_of self.now ++ more.now) }
+        ensures { IfOk result (IsOutcome (columns_of self.now) (lines_of self.now ++ more.now)) }
+    {
+        let lines = lines_with(alloc, &self.lines, more)?;
+        let table = copy_of_table(alloc, &self.table)?;
+        continued(alloc, lines, self.lines.len(), table, pivots)
+    }
+
     /// What comes of the lines and one more. The solved table stays as it is, and the pivots are added to `pivots`.
     pub fn with(&self, alloc: Global, line: &Line, pivots: &mut u64) -> Result<Outcome, AllocError>
         requires solved { IsSolved (columns_of self.now) (lines_of self.now) self.now }
         requires fit { IsFit (columns_of self.now) (lines_of self.now ++ line.now ∷ []) }
         ensures { IfOk result (IsOutcome (columns_of self.now) (lines_of self.now ++ line.now ∷ [])) }
     {
-        let w = self.table.columns.len();
-        let lines = lines_with(alloc, &self.lines, line)?;
-        let table = copy_of_table(alloc, &self.table)?;
-        match joined(alloc, &lines, self.lines.len(), table)? {
-            None => Ok(Outcome::TooWide),
-            Some(table) => {
-                let fixed = fixed_columns(alloc, &lines, w)?;
-                concluded(alloc, lines, fixed, table, pivots)
-            }
-        }
+        let more = [copy_of_line(alloc, line)?];
+        self.with_all(alloc, &more, pivots)
     }
 
     /// The values of the columns.

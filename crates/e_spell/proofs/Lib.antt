@@ -1,6 +1,7 @@
 pub mod Spaced
 pub mod Declared
 pub mod CertTexts
+pub mod ScriptTexts
 pub mod Whole
 pub mod StopTexts
 pub mod CertLines

@@ -4,14 +4,16 @@ use Rattle.std.specs.Prelude.{filter}
 use Rattle.std.specs.Option.{option_to_list}
 use Rattle.std.proofs.lemmas.List.Elements.{filter-append}
 use Rattle.e_literal.specs.declared.object.Sort.TheVariants.{Point, Line, Circle}
+use Rattle.e_clause.specs.declared.cert.Cert.{Cert}
 use Rattle.e_deriv.specs.declared.names.Names.{Names}
 use Rattle.e_construct.specs.Construct.{made}
+use Rattle.e_construct.specs.Superposing as superposing
 use Rattle.e_deriv.specs.Naming.{named}
-use Rattle.e_deriv.specs.Script.{Script, Cite, Hence, Make, Qed, Contradiction, erased}
+use Rattle.e_deriv.specs.Script.{Script, Cite, Hence, Make, Claim, Superposed, Qed, Contradiction, Cases, erased}
 use Rattle.e_book.specs.declared.form.Form.{Form}
 use Rattle.e_book.specs.declared.form.Form.TheVariants as forms
 use Rattle.e_book.specs.Entry.{Entry}
-use Rattle.e_book.specs.Canonical.{line_of, by_form, hence_form, let_form, qed_form, contradiction_form, head_forms, script_forms, names_of_proof, end_form, forms_of}
+use Rattle.e_book.specs.Canonical.{line_of, by_form, hence_form, let_form, claim_form, superpose_form, qed_form, contradiction_form, cases_form, else_form, head_forms, script_forms, names_of_proof, end_form, forms_of}
 use Rattle.e_spell.specs.Certificates.{certs_lines}
 use Rattle.e_spell.specs.Spelling.{script_lines, spelled_lines}
 use Rattle.e_spell.specs.Laws.{is_plain}
@@ -31,6 +33,10 @@ form_is_plain (forms.Hence l) = refl
 form_is_plain (forms.Let l) = refl
 form_is_plain (forms.Qed ns) = refl
 form_is_plain forms.Contradiction = refl
+form_is_plain (forms.Claim ls) = refl
+form_is_plain (forms.Superpose s) = refl
+form_is_plain (forms.Cases l) = refl
+form_is_plain forms.Else = refl
 form_is_plain forms.End = refl
 
 keep : (line : List ℕ) (lines : List (List ℕ)) → is_plain line ≡ true → filter is_plain (line ∷ lines) ≡ line ∷ filter is_plain lines
@@ -44,18 +50,37 @@ lines_append : (fs gs : List Form) → map line_of (fs ++ gs) ≡ map line_of fs
 lines_append [] gs = refl
 lines_append (f ∷ fs) gs = ap (λ (x : List (List ℕ)). line_of f ∷ x) (lines_append fs gs)
 
+-- lines behind certificates
+certified_stay : (ns : Names) (cs : List Cert) (lines : List (List ℕ)) → filter is_plain (certs_lines ns cs ++ lines) ≡ filter is_plain lines
+certified_stay ns cs lines = filter-append is_plain (certs_lines ns cs) lines ∙ ap (λ (x : List (List ℕ)). x ++ filter is_plain lines) (certs_go ns cs)
+
+-- lines of two parts
+both_stay : (xs ys : List (List ℕ)) (fs gs : List Form) → filter is_plain xs ≡ map line_of fs → filter is_plain ys ≡ map line_of gs → filter is_plain (xs ++ ys) ≡ map line_of (fs ++ gs)
+both_stay xs ys fs gs x y =
+    filter-append is_plain xs ys ∙ ap (λ (l : List (List ℕ)). l ++ filter is_plain ys) x ∙ ap (λ (l : List (List ℕ)). map line_of fs ++ l) y ∙ sym (lines_append fs gs)
+
 script_stays : (ns : Names) (d : Script) → filter is_plain (script_lines ns d) ≡ map line_of (script_forms ns (erased d))
 unfolding script_lines script_forms erased
 script_stays ns (Cite by rest) = ap (λ (x : List (List ℕ)). line_of (by_form ns by) ∷ x) (script_stays ns rest)
 script_stays ns (Hence lit cert rest) =
-    ap (λ (x : List (List ℕ)). line_of (hence_form ns lit) ∷ x)
-    (filter-append is_plain (certs_lines ns (option_to_list cert)) (script_lines ns rest) ∙ ap (λ (x : List (List ℕ)). x ++ filter is_plain (script_lines ns rest)) (certs_go ns (option_to_list cert)) ∙ script_stays ns rest)
+    ap (λ (x : List (List ℕ)). line_of (hence_form ns lit) ∷ x) (certified_stay ns (option_to_list cert) (script_lines ns rest) ∙ script_stays ns rest)
 script_stays ns (Make form names cs rest) =
-    ap (λ (x : List (List ℕ)). line_of (let_form ns form names) ∷ x)
-    (filter-append is_plain (certs_lines ns cs) (script_lines (named ns (made form) names) rest)
-    ∙ ap (λ (x : List (List ℕ)). x ++ filter is_plain (script_lines (named ns (made form) names) rest)) (certs_go ns cs) ∙ script_stays (named ns (made form) names) rest)
+    let after = named ns (made form) names in
+    ap (λ (x : List (List ℕ)). line_of (let_form ns form names) ∷ x) (certified_stay ns cs (script_lines after rest) ∙ script_stays after rest)
+script_stays ns (Claim shown inner rest) =
+    ap (λ (x : List (List ℕ)). line_of (claim_form ns shown) ∷ x)
+    (both_stay (script_lines ns inner) (script_lines ns rest) (script_forms ns (erased inner)) (script_forms ns (erased rest)) (script_stays ns inner) (script_stays ns rest))
+script_stays ns (Superposed form names shown cs inner rest) =
+    let inside = named ns superposing.made names in
+    ap (λ (x : List (List ℕ)). line_of (superpose_form ns form names shown) ∷ x)
+    (certified_stay ns cs (script_lines inside inner ++ script_lines ns rest)
+    ∙ both_stay (script_lines inside inner) (script_lines ns rest) (script_forms inside (erased inner)) (script_forms ns (erased rest)) (script_stays inside inner) (script_stays ns rest))
 script_stays ns (Qed objects cs) = ap (λ (x : List (List ℕ)). line_of (qed_form ns objects) ∷ x) (certs_go ns cs)
 script_stays ns (Contradiction a) = ap (λ (x : List (List ℕ)). line_of contradiction_form ∷ x) (contradiction_goes ns a)
+script_stays ns (Cases lit first second) =
+    ap (λ (x : List (List ℕ)). line_of (cases_form ns lit) ∷ x)
+    (both_stay (script_lines ns first) (line_of else_form ∷ script_lines ns second) (script_forms ns (erased first)) (else_form ∷ script_forms ns (erased second)) (script_stays ns first)
+    (ap (λ (x : List (List ℕ)). line_of else_form ∷ x) (script_stays ns second)))
 
 pub plain_lines : (t : Entry) (d : Script) → erased d ≡ t.script → filter is_plain (spelled_lines t d) ≡ map line_of (forms_of t)
 plain_lines t d e =

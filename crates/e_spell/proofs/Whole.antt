@@ -1,34 +1,21 @@
 -- The texts of the parts make the spelling.
 use Rattle.std.proofs.Common.{◌≡◌, ℕ, List, [], ◌∷◌, ◌++◌, map, refl, sym, ap, ◌∙◌, append_assoc}
 use Rattle.std.specs.Prelude.{codes}
-use Rattle.std.specs.Option.{option_to_list}
 use Rattle.std.proofs.lemmas.List.{append-nil}
 use Rattle.e_literal.specs.declared.literal.Lit.{Lit}
-use Rattle.e_construct.specs.Construct.{made}
 use Rattle.e_deriv.specs.declared.names.Names.{Names}
-use Rattle.e_deriv.specs.Naming.{named}
-use Rattle.e_deriv.specs.declared.block.Step.{Step}
-use Rattle.e_deriv.specs.declared.block.Step.TheVariants.{Cite as CiteStep, Hence as HenceStep, Make as MakeStep}
-use Rattle.e_deriv.specs.declared.block.Close.{Close}
-use Rattle.e_deriv.specs.declared.block.Close.TheVariants.{Qed as QedClose, Contradiction as ContradictionClose}
-use Rattle.e_deriv.specs.declared.block.Block.{Block}
-use Rattle.e_deriv.specs.Script.{Script, script_of, step_script, steps_script, close_script}
+use Rattle.e_deriv.specs.Script.{Script}
 use Rattle.e_theorem.specs.declared.statement.Statement.{Statement}
 use Rattle.e_book.specs.declared.form.Form.{Form}
 use Rattle.e_book.specs.declared.form.Form.TheVariants as forms
 use Rattle.e_book.specs.Entry.{Entry}
 use Rattle.e_text.specs.Tokens.{spaced}
-use Rattle.e_book.specs.Canonical.{line_of, lit_words, raw_of, name_of_object, given_form, show_form, grouped, declare_form, made_form, declared_objects, made_objects, given_forms, shown_forms, head_forms, names_of_proof, end_form, text_of}
+use Rattle.e_book.specs.Canonical.{line_of, lit_words, raw_of, given_form, show_form, grouped, declare_form, made_form, declared_objects, made_objects, given_forms, shown_forms, head_forms, names_of_proof, end_form, text_of}
 use Rattle.e_spell.specs.declared.declarations.Role.TheVariants.{Declared, Made}
-use Rattle.e_spell.specs.Certificates.{certs_lines}
 use Rattle.e_spell.specs.Spelling.{script_lines, spelled}
-use Rattle.e_spell.specs.Parts.{lits_text, lit_text, certs_text, construction_words, step_text, names_behind, names_after, steps_text, close_text, proof_text, objects_text, title_text, statement_text, head_text, block_text}
-use Rattle.e_spell.proofs.CertTexts.{of_certs, of_contradiction}
+use Rattle.e_spell.specs.Parts.{lits_text, script_text, proof_text, objects_text, title_text, statement_text, head_text, theorem_text}
+use Rattle.e_spell.proofs.ScriptTexts.{of_lines}
 use Rattle.e_spell.proofs.Declared.{text, declared_text, made_text}
-
-of_lines : (xs ys : List (List ℕ)) → text_of (xs ++ ys) ≡ text_of xs ++ text_of ys
-of_lines [] ys = refl
-of_lines (x ∷ xs) ys = ap (λ (t : List ℕ). (x ++ 10 ∷ []) ++ t) (of_lines xs ys) ∙ sym (append_assoc (x ++ 10 ∷ []) (text_of xs) (text_of ys))
 
 of_forms : (fs gs : List Form) → text (fs ++ gs) ≡ text fs ++ text gs
 of_forms [] gs = refl
@@ -76,37 +63,11 @@ of_head t =
     ap (λ (x : List ℕ). x ++ (statement_text t.names t.statement ++ (codes "proof" ++ 10 ∷ []))) (title_line t.title)
     ∙ ap (λ (x : List ℕ). (line_of (forms.Theorem t.title) ++ 10 ∷ []) ++ x) (of_statement t.names t.statement)
 
-of_step : (ns : Names) (s : Step) (rest : Script) → text_of (script_lines ns (step_script s rest)) ≡ step_text ns s ++ text_of (script_lines (names_behind ns s) rest)
-unfolding script_lines
-of_step ns (CiteStep by) rest = refl
-of_step ns (HenceStep lit cert) rest =
-    ap (λ (t : List ℕ). lit_text (codes "hence") ns lit ++ t) (of_lines (certs_lines ns (option_to_list cert)) (script_lines ns rest) ∙ ap (λ (t : List ℕ). t ++ text_of (script_lines ns rest)) (of_certs ns (option_to_list cert)))
-    ∙ sym (append_assoc (lit_text (codes "hence") ns lit) (certs_text ns (option_to_list cert)) (text_of (script_lines ns rest)))
-of_step ns (MakeStep form names certs) rest =
-    let words = spaced (construction_words ns form names) ++ 10 ∷ [] in
-    let after = script_lines (named ns (made form) names) rest in
-    ap (λ (t : List ℕ). codes "let" ++ (words ++ t)) (of_lines (certs_lines ns certs) after ∙ ap (λ (t : List ℕ). t ++ text_of after) (of_certs ns certs))
-    ∙ ap (λ (t : List ℕ). codes "let" ++ t) (sym (append_assoc words (certs_text ns certs) (text_of after)))
+of_proof : (ns : Names) (d : Script) → proof_text ns d ≡ text_of (script_lines ns d ++ line_of end_form ∷ [])
+unfolding script_text
+of_proof ns d = sym (of_lines (script_lines ns d) (line_of end_form ∷ []))
 
-of_steps : (ns : Names) (ss : List Step) (rest : Script) → text_of (script_lines ns (steps_script ss rest)) ≡ steps_text ns ss ++ text_of (script_lines (names_after ns ss) rest)
-of_steps ns [] rest = refl
-of_steps ns (s ∷ ss) rest =
-    of_step ns s (steps_script ss rest) ∙ ap (λ (t : List ℕ). step_text ns s ++ t) (of_steps (names_behind ns s) ss rest)
-    ∙ sym (append_assoc (step_text ns s) (steps_text (names_behind ns s) ss) (text_of (script_lines (names_after (names_behind ns s) ss) rest)))
-
-of_close : (ns : Names) (c : Close) → text_of (script_lines ns (close_script c)) ≡ close_text ns c
-unfolding script_lines
-of_close ns (ContradictionClose against) = ap (λ (t : List ℕ). codes "contradiction" ++ (10 ∷ t)) (of_contradiction ns against)
-of_close ns (QedClose objects cs) = ap (λ (t : List ℕ). codes "qed" ++ ((spaced (map (name_of_object ns) objects) ++ 10 ∷ []) ++ t)) (of_certs ns cs)
-
-of_proof : (ns : Names) (b : Block) → proof_text ns b ≡ text_of (script_lines ns (script_of b) ++ line_of end_form ∷ [])
-of_proof ns b =
-    let end = line_of end_form ∷ [] in
-    let after = names_after ns b.steps.items in
-    sym (of_lines (script_lines ns (script_of b)) end ∙ ap (λ (t : List ℕ). t ++ text_of end) (of_steps ns b.steps.items (close_script b.close) ∙ ap (λ (t : List ℕ). steps_text ns b.steps.items ++ t) (of_close after b.close))
-    ∙ append_assoc (steps_text ns b.steps.items) (close_text after b.close) (text_of end))
-
-pub spelled_parts : (t : Entry) (b : Block) → block_text t b ≡ spelled t (script_of b)
-spelled_parts t b =
-    ap (λ (x : List ℕ). x ++ proof_text (names_of_proof t) b) (of_head t) ∙ ap (λ (x : List ℕ). text (head_forms t) ++ x) (of_proof (names_of_proof t) b)
-    ∙ sym (of_lines (map line_of (head_forms t)) (script_lines (names_of_proof t) (script_of b) ++ line_of end_form ∷ []))
+pub spelled_parts : (t : Entry) (d : Script) → theorem_text t d ≡ spelled t d
+spelled_parts t d =
+    ap (λ (x : List ℕ). x ++ proof_text (names_of_proof t) d) (of_head t) ∙ ap (λ (x : List ℕ). text (head_forms t) ++ x) (of_proof (names_of_proof t) d)
+    ∙ sym (of_lines (map line_of (head_forms t)) (script_lines (names_of_proof t) d ++ line_of end_form ∷ []))

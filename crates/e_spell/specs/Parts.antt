@@ -9,7 +9,9 @@ use Rattle.e_literal.specs.declared.object.Term.{Term}
 use Rattle.e_literal.specs.declared.literal.Lit.{Lit}
 use Rattle.e_literal.specs.Scopes.{same_sort}
 use Rattle.e_construct.specs.declared.construction.Construction.{Construction}
+use Rattle.e_construct.specs.declared.superpose.Superpose.{Superpose}
 use Rattle.e_construct.specs.Construct.{made}
+use Rattle.e_construct.specs.Superposing as superposing
 use Rattle.e_construct.specs.Lines.{pieces}
 use Rattle.e_clause.specs.declared.cert.By.{By}
 use Rattle.e_clause.specs.declared.cert.RowName.{RowName}
@@ -25,20 +27,18 @@ use Rattle.e_clause.specs.declared.cert.Cert.{Cert}
 use Rattle.e_clause.specs.declared.cert.Cert.TheVariants.{Plain, Transfer}
 use Rattle.e_deriv.specs.declared.names.Names.{Names}
 use Rattle.e_deriv.specs.Naming.{named}
-use Rattle.e_deriv.specs.declared.block.Step.{Step}
-use Rattle.e_deriv.specs.declared.block.Step.TheVariants.{Cite as CiteStep, Hence as HenceStep, Make as MakeStep}
-use Rattle.e_deriv.specs.declared.block.Close.{Close}
-use Rattle.e_deriv.specs.declared.block.Close.TheVariants.{Qed as QedClose, Contradiction as ContradictionClose}
-use Rattle.e_deriv.specs.declared.block.Block.{Block}
+use Rattle.e_deriv.specs.Script.{Script}
+use Rattle.e_deriv.specs.PlainStep.{PlainStep, Cited, Inferred, Made as MadeStep, Claimed, Copied}
 use Rattle.e_deriv.specs.declared.stop.Wanted.{Wanted}
 use Rattle.e_theorem.specs.declared.statement.Statement.{Statement}
 use Rattle.e_book.specs.Entry.{Entry}
+use Rattle.e_book.specs.Superposes.{superpose_pieces}
 use Rattle.e_text.specs.Tokens.{spaced}
-use Rattle.e_book.specs.Canonical.{lit_words, filled, avoid_words, raw_of, rule_name, name_of_object, sort_word, declared_objects, made_objects, names_of_proof}
+use Rattle.e_book.specs.Canonical.{lit_words, lits_words, filled, avoid_words, raw_of, rule_name, name_of_object, placed_names, sort_word, declared_objects, made_objects, names_of_proof, text_of}
 use Rattle.e_spell.specs.declared.declarations.Role.{Role}
 use Rattle.e_spell.specs.declared.declarations.Role.TheVariants.{Declared, Made}
 use Rattle.e_spell.specs.Certificates.{named_term, row_words}
-use Rattle.e_spell.specs.Spelling.{wanted_words}
+use Rattle.e_spell.specs.Spelling.{wanted_words, script_lines}
 
 -- a literal behind the first word of its line
 abbrev pub lit_text : List ℕ → Names → Lit → List ℕ
@@ -109,32 +109,65 @@ abbrev pub construction_words : Names → Construction → List (List ℕ) → L
 construction_words ns form names =
     filled (pieces form.shape) names (map (name_of_object ns) form.args) ++ avoid_words (map (name_of_object ns) form.avoid)
 
-abbrev pub step_text : Names → Step → List ℕ
-step_text ns (CiteStep by) = codes "by" ++ (spaced (citation_words ns by) ++ 10 ∷ [])
-step_text ns (HenceStep lit cert) = lit_text (codes "hence") ns lit ++ certs_text ns (option_to_list cert)
-step_text ns (MakeStep form names certs) = codes "let" ++ ((spaced (construction_words ns form names) ++ 10 ∷ []) ++ certs_text ns certs)
+-- literals with a semicolon between two
+abbrev pub list_words : Names → List Lit → List (List ℕ)
+list_words ns ls = lits_words (map (raw_of ns) ls)
 
--- the names in scope behind a step
-abbrev pub names_behind : Names → Step → Names
-names_behind ns (CiteStep by) = ns
-names_behind ns (HenceStep lit cert) = ns
-names_behind ns (MakeStep form names certs) = named ns (made form) names
+-- a superposition behind the first word of its line
+unfoldable pub superposition_words : Names → Superpose → List (List ℕ) → List Lit → List (List ℕ)
+superposition_words ns form names shown = filled superpose_pieces names (placed_names ns form) ++ list_words ns shown
+
+abbrev pub claim_text : Names → List Lit → List ℕ
+claim_text ns shown = codes "claim" ++ (spaced (list_words ns shown) ++ 10 ∷ [])
+
+abbrev pub superposition_text : Names → Superpose → List (List ℕ) → List Lit → List ℕ
+superposition_text ns form names shown = codes "superpose" ++ (spaced (superposition_words ns form names shown) ++ 10 ∷ [])
+
+-- the lines of a script with its certificates
+unfoldable pub script_text : Names → Script → List ℕ
+script_text ns d = text_of (script_lines ns d)
+
+-- a step with its certificates, and the block inside it
+abbrev pub step_text : Names → PlainStep → List ℕ
+step_text ns (Cited by) = codes "by" ++ (spaced (citation_words ns by) ++ 10 ∷ [])
+step_text ns (Inferred lit cert) = lit_text (codes "hence") ns lit ++ certs_text ns (option_to_list cert)
+step_text ns (MadeStep form names certs) = codes "let" ++ ((spaced (construction_words ns form names) ++ 10 ∷ []) ++ certs_text ns certs)
+step_text ns (Claimed shown inner) = claim_text ns shown ++ script_text ns inner
+step_text ns (Copied form names shown certs inner) =
+    superposition_text ns form names shown ++ (certs_text ns certs ++ script_text (named ns superposing.made names) inner)
+
+-- the names in scope behind a step: those of an inner block are gone
+abbrev pub names_behind : Names → PlainStep → Names
+names_behind ns (Cited by) = ns
+names_behind ns (Inferred lit cert) = ns
+names_behind ns (MadeStep form names certs) = named ns (made form) names
+names_behind ns (Claimed shown inner) = ns
+names_behind ns (Copied form names shown certs inner) = ns
 
 -- and behind several
-abbrev pub names_after : Names → List Step → Names
+abbrev pub names_after : Names → List PlainStep → Names
 names_after ns [] = ns
 names_after ns (s ∷ steps) = names_after (names_behind ns s) steps
 
-abbrev pub steps_text : Names → List Step → List ℕ
+abbrev pub steps_text : Names → List PlainStep → List ℕ
 steps_text ns [] = []
 steps_text ns (s ∷ steps) = step_text ns s ++ steps_text (names_behind ns s) steps
 
-abbrev pub close_text : Names → Close → List ℕ
-close_text ns (QedClose objects cs) = codes "qed" ++ ((spaced (map (name_of_object ns) objects) ++ 10 ∷ []) ++ certs_text ns cs)
-close_text ns (ContradictionClose against) = (codes "contradiction" ++ 10 ∷ []) ++ contradiction_text ns against
+abbrev pub qed_text : Names → List Obj → List Cert → List ℕ
+qed_text ns objects cs = codes "qed" ++ ((spaced (map (name_of_object ns) objects) ++ 10 ∷ []) ++ certs_text ns cs)
 
-abbrev pub proof_text : Names → Block → List ℕ
-proof_text ns b = steps_text ns b.steps.items ++ (close_text (names_after ns b.steps.items) b.close ++ (codes "end" ++ 10 ∷ []))
+abbrev pub contradicted_text : Names → Option Against → List ℕ
+contradicted_text ns against = (codes "contradiction" ++ 10 ∷ []) ++ contradiction_text ns against
+
+abbrev pub else_text : List ℕ
+else_text = codes "else" ++ 10 ∷ []
+
+-- two blocks behind the line of a split
+abbrev pub split_text : Names → Lit → Script → Script → List ℕ
+split_text ns lit first second = lit_text (codes "cases") ns lit ++ (script_text ns first ++ (else_text ++ script_text ns second))
+
+abbrev pub proof_text : Names → Script → List ℕ
+proof_text ns d = script_text ns d ++ (codes "end" ++ 10 ∷ [])
 
 -- the first words of a line of objects
 abbrev pub role_words : Role → Sort → List ℕ
@@ -171,8 +204,8 @@ abbrev pub head_text : List ℕ → Names → Statement → List ℕ
 head_text title ns t = title_text title ++ (statement_text ns t ++ (codes "proof" ++ 10 ∷ []))
 
 -- the spelling in its parts
-abbrev pub block_text : Entry → Block → List ℕ
-block_text t b = head_text t.title t.names t.statement ++ proof_text (names_of_proof t) b
+abbrev pub theorem_text : Entry → Script → List ℕ
+theorem_text t d = head_text t.title t.names t.statement ++ proof_text (names_of_proof t) d
 
 -- ---- the last lines of a stop
 

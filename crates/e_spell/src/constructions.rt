@@ -1,15 +1,18 @@
-//! The lines of constructions.
+//! The lines of constructions and of superpositions.
 ghost use Rattle.std.specs.Prelude.{◌≡◌, ◌++◌, ◌∷◌, [], codes, map, OnOk};
 ghost use Rattle.e_text.specs.Tokens.{spaced};
+ghost use Rattle.e_literal.specs.declared.object.Sort.TheVariants.{Point, Line};
+ghost use Rattle.e_literal.specs.Literal.{obj};
 ghost use Rattle.e_construct.specs.Views.{piece_said};
-ghost use Rattle.e_book.specs.Canonical.{filled, avoid_words, name_of_object};
-ghost use Rattle.e_spell.specs.Parts.{construction_words};
+ghost use Rattle.e_book.specs.Canonical.{filled, avoid_words, name_of_object, placed_names};
+ghost use Rattle.e_book.specs.Superposes.{superpose_pieces};
+ghost use Rattle.e_spell.specs.Parts.{construction_words, superposition_words, superposition_text};
 
-use crate::literals::{name_of_object, put_objects};
+use crate::literals::{name_of_object, put_literals, put_objects};
 use crate::words::{end_line, put};
-use e_construct::{Construction, Piece, pieces};
+use e_construct::{Construction, Piece, Superpose, pieces};
 use e_deriv::Names;
-use e_literal::Obj;
+use e_literal::{Lit, Obj, Sort};
 use e_text::Name;
 use std::alloc::AllocError;
 
@@ -84,5 +87,94 @@ pub(crate) fn put_let(
 {
     out.extend_from_slice(b"let")?;
     put_construction(out, names, form, new)?;
+    end_line(out)
+}
+
+/// A superposition from behind its first word to the literals that its block shows.
+static SUPERPOSITION: [Piece; 13] = [
+    Piece::Argument,
+    Piece::Argument,
+    Piece::Argument,
+    Piece::Argument,
+    Piece::Word(b"onto"),
+    Piece::Argument,
+    Piece::Argument,
+    Piece::Argument,
+    Piece::Argument,
+    Piece::Word(b"as"),
+    Piece::New,
+    Piece::New,
+    Piece::Word(b"show"),
+];
+
+fn point(num: u16) -> Obj
+    ensures { result ≡ obj Point num }
+{
+    Obj {
+        sort: Sort::Point,
+        num,
+    }
+}
+
+fn line(num: u16) -> Obj
+    ensures { result ≡ obj Line num }
+{
+    Obj {
+        sort: Sort::Line,
+        num,
+    }
+}
+
+/// The triangle and its line, and then the place and its line.
+fn put_placed(
+    out: &mut Vec<u8>,
+    names: &Names,
+    form: Superpose,
+    new: &[Name],
+) -> Result<(), AllocError>
+    ensures { OnOk result (out.new.items ≡ out.old.items ++ spaced (filled superpose_pieces new.now (placed_names names.now form))) }
+{
+    let [a, b, c, d, g, h] = form.points;
+    let [k, l] = form.lines;
+    let args = [
+        point(a),
+        point(b),
+        point(c),
+        line(k),
+        point(d),
+        point(g),
+        point(h),
+        line(l),
+    ];
+    put_pieces(out, names, &SUPERPOSITION, new, &args)
+}
+
+/// A superposition, with names for the copied points, and with the literals that its block shows.
+fn put_superposition(
+    out: &mut Vec<u8>,
+    names: &Names,
+    form: Superpose,
+    new: &[Name],
+    shown: &[Lit],
+) -> Result<(), AllocError>
+    ensures { OnOk result (out.new.items ≡ out.old.items ++ spaced (superposition_words names.now form new.now shown.now)) }
+{
+    put_placed(out, names, form, new)?;
+    put_literals(out, names, shown)?;
+    Ok(())
+}
+
+/// The line of a superposition.
+pub(crate) fn put_superpose(
+    out: &mut Vec<u8>,
+    names: &Names,
+    form: Superpose,
+    new: &[Name],
+    shown: &[Lit],
+) -> Result<(), AllocError>
+    ensures { OnOk result (out.new.items ≡ out.old.items ++ superposition_text names.now form new.now shown.now) }
+{
+    out.extend_from_slice(b"superpose")?;
+    put_superposition(out, names, form, new, shown)?;
     end_line(out)
 }

@@ -2,8 +2,8 @@
 ghost use Rattle.std.specs.Prelude.{◌≡◌, ◌++◌, ◌∷◌, [], codes, map, true, OnOk};
 ghost use Rattle.e_deriv.specs.Naming.{names_of_sort};
 ghost use Rattle.e_text.specs.Tokens.{spaced};
-ghost use Rattle.e_book.specs.Canonical.{atom_words, lit_words, raw_atom, raw_signed, raw_of, name_at, name_of_object};
-ghost use Rattle.e_spell.specs.Parts.{lit_text, lits_text};
+ghost use Rattle.e_book.specs.Canonical.{atom_words, lit_words, more_words, raw_atom, raw_signed, raw_of, name_at, name_of_object};
+ghost use Rattle.e_spell.specs.Parts.{lit_text, lits_text, list_words};
 
 use crate::sums::put_sums;
 use crate::words::{end_line, put, put_three, put_two};
@@ -154,6 +154,28 @@ pub(crate) fn put_literal(out: &mut Vec<u8>, names: &Names, lit: &Lit) -> Result
     } else {
         put_atom(out, names, &lit.atom)
     }
+}
+
+/// More literals, each behind a semicolon.
+fn put_more_literals(out: &mut Vec<u8>, names: &Names, lits: &[Lit]) -> Result<(), AllocError>
+    ensures { OnOk result (out.new.items ≡ out.old.items ++ spaced (more_words (map (raw_of names.now) lits.now))) }
+{
+    for lit in lits {
+        put(out, b";")?;
+        put_literal(out, names, lit)?;
+    }
+    Ok(())
+}
+
+/// Literals with a semicolon between two.
+pub(crate) fn put_literals(out: &mut Vec<u8>, names: &Names, lits: &[Lit]) -> Result<(), AllocError>
+    ensures { OnOk result (out.new.items ≡ out.old.items ++ spaced (list_words names.now lits.now)) }
+{
+    let Some((first, rest)) = lits.split_first() else {
+        return Ok(());
+    };
+    put_literal(out, names, first)?;
+    put_more_literals(out, names, rest)
 }
 
 /// A line of a word and a literal.

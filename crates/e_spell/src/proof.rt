@@ -1,21 +1,23 @@
-//! The lines of a proof, each with its certificates below it.
+//! The lines of a proof, each with its certificates below it, and then the blocks inside it.
 ghost use Rattle.std.specs.Prelude.{◌≡◌, ◌++◌, ◌∷◌, [], codes, map, OnOk};
 ghost use Rattle.e_text.specs.Tokens.{spaced};
+ghost use Rattle.e_deriv.specs.PlainStep.{plain_step};
+ghost use Rattle.e_deriv.specs.Script.{script_of, close_script};
 ghost use Rattle.e_book.specs.Canonical.{name_of_object};
-ghost use Rattle.e_spell.specs.Parts.{citation_words, construction_words, certs_text, step_text, steps_text, names_after, contradiction_text, close_text, proof_text};
+ghost use Rattle.e_spell.specs.Parts.{citation_words, construction_words, certs_text, claim_text, superposition_text, step_text, steps_text, names_after, script_text, contradicted_text, proof_text};
 
 use crate::certificates::{put_against_of, put_cert_of, put_certs};
-use crate::constructions::put_let;
-use crate::literals::{put_literal, put_literal_line, put_objects};
+use crate::constructions::{put_let, put_superpose};
+use crate::literals::{put_literal, put_literal_line, put_literals, put_objects};
 use crate::rules::put_rule;
-use crate::scope::name_new;
+use crate::scope::{name_new, with_copies};
 use crate::words::{end_line, put, put_line};
 use e_clause::{Against, By, Cert};
-use e_construct::Construction;
+use e_construct::{Construction, Superpose};
 use e_deriv::{Block, Close, Names, Step};
-use e_literal::Obj;
+use e_literal::{Lit, Obj};
 use e_text::Name;
-use std::alloc::AllocError;
+use std::alloc::{AllocError, Global};
 
 /// A rule, its objects and the literal that it gives.
 #[tactic(auto, using(crate::proofs::Spaced::spaced_append))]
@@ -50,8 +52,36 @@ fn put_made(
     put_certs(out, names, certs)
 }
 
-fn put_step(out: &mut Vec<u8>, names: &Names, step: &Step) -> Result<(), AllocError>
-    ensures { OnOk result (out.new.items ≡ out.old.items ++ step_text names.now step.now) }
+/// The line of a claim.
+fn put_claim(out: &mut Vec<u8>, names: &Names, shown: &[Lit]) -> Result<(), AllocError>
+    ensures { OnOk result (out.new.items ≡ out.old.items ++ claim_text names.now shown.now) }
+{
+    out.extend_from_slice(b"claim")?;
+    put_literals(out, names, shown)?;
+    end_line(out)
+}
+
+/// The line of a superposition, and a certificate for each literal that it needs, with the names in scope before it.
+fn put_superposed(
+    out: &mut Vec<u8>,
+    names: &Names,
+    form: Superpose,
+    new: &[Name],
+    shown: &[Lit],
+    certs: &[Cert],
+) -> Result<(), AllocError>
+    ensures { OnOk result (out.new.items ≡ out.old.items ++ (superposition_text names.now form new.now shown.now ++ certs_text names.now certs.now)) }
+{
+    put_superpose(out, names, form, new, shown)?;
+    put_certs(out, names, certs)
+}
+
+/// A step, and the block inside it. An inner block begins with the names before its step, and with those of the copied
+/// points.
+#[cycle(put_block)]
+#[tactic(auto, using(crate::proofs::ScriptTexts::plain))]
+fn put_step(alloc: Global, out: &mut Vec<u8>, names: &Names, step: &Step) -> Result<(), AllocError>
+    ensures { OnOk result (out.new.items ≡ out.old.items ++ step_text names.now (plain_step step.now)) }
 {
     match step {
         Step::Cite(by) => put_by(out, names, by),
@@ -64,16 +94,38 @@ fn put_step(out: &mut Vec<u8>, names: &Names, step: &Step) -> Result<(), AllocEr
             names: new,
             certs,
         } => put_made(out, names, form, new.items(), certs.items()),
+        Step::Claim { shown, inner } => {
+            put_claim(out, names, shown.items())?;
+            let inside = names.copy(alloc)?;
+            put_block(alloc, out, inside, inner)
+        }
+        Step::Superposed {
+            form,
+            names: new,
+            shown,
+            certs,
+            inner,
+        } => {
+            put_superposed(out, names, *form, new.items(), shown.items(), certs.items())?;
+            let inside = with_copies(alloc, names, *form, new.items())?;
+            put_block(alloc, out, inside, inner)
+        }
     }
 }
 
 /// The steps, each with the names in scope before it: those of new objects come into scope behind the step.
-fn put_steps(out: &mut Vec<u8>, names: &mut Names, steps: &[Step]) -> Result<(), AllocError>
-    ensures text { OnOk result (out.new.items ≡ out.old.items ++ steps_text names.old steps.now) }
-    ensures names { OnOk result (names.new ≡ names_after names.old steps.now) }
+#[cycle(put_block)]
+fn put_steps(
+    alloc: Global,
+    out: &mut Vec<u8>,
+    names: &mut Names,
+    steps: &[Step],
+) -> Result<(), AllocError>
+    ensures text { OnOk result (out.new.items ≡ out.old.items ++ steps_text names.old (map plain_step steps.now)) }
+    ensures names { OnOk result (names.new ≡ names_after names.old (map plain_step steps.now)) }
 {
     for step in steps {
-        put_step(out, names, step)?;
+        put_step(alloc, out, names, step)?;
         name_new(names, step)?;
     }
     Ok(())
@@ -93,14 +145,22 @@ fn put_contradiction(
     names: &Names,
     against: &Option<Against>,
 ) -> Result<(), AllocError>
-    ensures { OnOk result (out.new.items ≡ out.old.items ++ ((codes "contradiction" ++ 10 ∷ []) ++ contradiction_text names.now against.now)) }
+    ensures { OnOk result (out.new.items ≡ out.old.items ++ contradicted_text names.now against.now) }
 {
     put_line(out, b"contradiction")?;
     put_against_of(out, names, against)
 }
 
-fn put_close(out: &mut Vec<u8>, names: &Names, close: &Close) -> Result<(), AllocError>
-    ensures { OnOk result (out.new.items ≡ out.old.items ++ close_text names.now close.now) }
+/// A close. Each block of a split begins with the names before it.
+#[cycle(put_block)]
+#[tactic(auto, using(crate::proofs::ScriptTexts::closes))]
+fn put_close(
+    alloc: Global,
+    out: &mut Vec<u8>,
+    names: &Names,
+    close: &Close,
+) -> Result<(), AllocError>
+    ensures { OnOk result (out.new.items ≡ out.old.items ++ script_text names.now (close_script close.now)) }
 {
     match close {
         Close::Qed { objects, certs } => {
@@ -108,16 +168,41 @@ fn put_close(out: &mut Vec<u8>, names: &Names, close: &Close) -> Result<(), Allo
             put_certs(out, names, certs.items())
         }
         Close::Contradiction { against } => put_contradiction(out, names, against),
+        Close::Cases { lit, first, second } => {
+            put_literal_line(out, b"cases", names, lit)?;
+            put_block(alloc, out, names.copy(alloc)?, first)?;
+            put_line(out, b"else")?;
+            put_block(alloc, out, names.copy(alloc)?, second)
+        }
     }
 }
 
-/// The lines from behind the word proof to the theorem's end, where these names are in scope before the first.
-pub(crate) fn put_proof(out: &mut Vec<u8>, names: Names, block: &Block) -> Result<(), AllocError>
-    ensures { OnOk result (out.new.items ≡ out.old.items ++ proof_text names block.now) }
+/// The lines of a block, where these names are in scope before the first.
+#[cycle(put_block)]
+#[tactic(auto, using(crate::proofs::ScriptTexts::blocks))]
+fn put_block(
+    alloc: Global,
+    out: &mut Vec<u8>,
+    names: Names,
+    block: &Block,
+) -> Result<(), AllocError>
+    ensures { OnOk result (out.new.items ≡ out.old.items ++ script_text names (script_of block.now)) }
 {
     let mut names = names;
-    put_steps(out, &mut names, &block.steps)?;
-    put_close(out, &names, &block.close)?;
+    put_steps(alloc, out, &mut names, &block.steps)?;
+    put_close(alloc, out, &names, &block.close)
+}
+
+/// The lines from behind the word proof to the theorem's end, where these names are in scope before the first.
+pub(crate) fn put_proof(
+    alloc: Global,
+    out: &mut Vec<u8>,
+    names: Names,
+    block: &Block,
+) -> Result<(), AllocError>
+    ensures { OnOk result (out.new.items ≡ out.old.items ++ proof_text names (script_of block.now)) }
+{
+    put_block(alloc, out, names, block)?;
     put_line(out, b"end")?;
     Ok(())
 }

@@ -1,10 +1,13 @@
 //! The names of the objects in scope while the lines of a proof are written.
 ghost use Rattle.std.specs.Prelude.{◌≡◌, take, IfOk, OnOk};
+ghost use Rattle.e_construct.specs.Superposing.{made};
 ghost use Rattle.e_deriv.specs.Naming.{first_names, named};
+ghost use Rattle.e_deriv.specs.PlainStep.{plain_step};
 ghost use Rattle.e_spell.specs.Counts.{scope_of_counts};
 ghost use Rattle.e_spell.specs.Parts.{names_behind};
 
 use crate::declarations::Counts;
+use e_construct::Superpose;
 use e_deriv::{Names, Step};
 use e_literal::{Items, Sort};
 use e_text::Name;
@@ -38,12 +41,27 @@ fn name_all(names: &mut Names, sorts: &[Sort], new: &[Name]) -> Result<(), Alloc
     Ok(())
 }
 
-/// The names of the objects that a step makes come into scope.
+/// Equal names, and those of the copied points.
+pub(crate) fn with_copies(
+    alloc: Global,
+    names: &Names,
+    form: Superpose,
+    copies: &[Name],
+) -> Result<Names, AllocError>
+    ensures { IfOk result (λ n. n ≡ named names.now made copies.now) }
+{
+    let mut inside = names.copy(alloc)?;
+    name_all(&mut inside, form.made(), copies)?;
+    Ok(inside)
+}
+
+/// The names of the objects that a step makes come into scope. Those of the block inside it are gone behind it.
+#[tactic(auto, using(crate::proofs::ScriptTexts::plain))]
 pub(crate) fn name_new(names: &mut Names, step: &Step) -> Result<(), AllocError>
-    ensures { OnOk result (names.new ≡ names_behind names.old step.now) }
+    ensures { OnOk result (names.new ≡ names_behind names.old (plain_step step.now)) }
 {
     match step {
-        Step::Cite(_) | Step::Hence { .. } => Ok(()),
+        Step::Cite(_) | Step::Hence { .. } | Step::Claim { .. } | Step::Superposed { .. } => Ok(()),
         Step::Make {
             form,
             names: new,

@@ -4,7 +4,7 @@ use crate::certificates::{put_against_of, put_certs};
 use crate::{spell, spell_stop};
 use e_book::Theorem;
 use e_clause::{Against, By, Cert, MetricCert, Part, RowName, Rule, Sum, Sums, TransferCert};
-use e_construct::{Construction, Shape};
+use e_construct::{Construction, Shape, Superpose};
 use e_deriv::{Block, Close, Names, Step, Stop, Wanted};
 use e_literal::{Atom, Form, Items, Lit, Mono, Obj, Sort, Term, Values};
 use e_text::{Name, Title};
@@ -81,23 +81,23 @@ fn facts(alloc: Global) -> Result<Items<Cert>, Fail> {
 }
 
 // the name of a made object is free in the proof
-fn construction(alloc: Global) -> Result<Step, Fail> {
+fn construction(alloc: Global, new: &[u8]) -> Result<Step, Fail> {
     Ok(Step::Make {
         form: Construction {
             shape: Shape::OnLine,
             args: Items::new(vec![in alloc; line(0)]?),
             avoid: Items::new(vec![in alloc; point(1)]?),
         },
-        names: Items::new(vec![in alloc; name(b"q")?]?),
+        names: Items::new(vec![in alloc; name(new)?]?),
         certs: facts(alloc)?,
     })
 }
 
-fn citation(alloc: Global) -> Result<Step, Fail> {
+fn citation(alloc: Global, lit: Lit) -> Result<Step, Fail> {
     Ok(Step::Cite(By {
         rule: Rule::named(b"b1b").ok_or("b1b")?,
         args: Items::new(vec![in alloc; point(0), point(1)]?),
-        lit: apart(2, 1),
+        lit,
     }))
 }
 
@@ -133,7 +133,11 @@ made points c\nmade lines M\nshow not on c M\nproof\nlet q on L avoid b'\n| fact
 hence a != q\n| fact\nqed q L\n| fact\nend\n";
 
 fn steps(alloc: Global) -> Result<Vec<Step>, Fail> {
-    Ok(vec![in alloc; construction(alloc)?, citation(alloc)?, hence()]?)
+    Ok(vec![in alloc;
+        construction(alloc, b"q")?,
+        citation(alloc, apart(2, 1))?,
+        hence(),
+    ]?)
 }
 
 fn spelled(alloc: Global, steps: Vec<Step>, close: Close) -> Result<Vec<u8>, Fail> {
@@ -155,6 +159,82 @@ fn a_contradiction_has_its_certificate_below_it(rt: HostRuntime) -> Result<(), F
     let close = Close::Contradiction { against };
     let text = spelled(rt.alloc(), Vec::new(rt.alloc()), close)?;
     assert!(rt; text.ends_with(b"\nproof\ncontradiction\n| clash b' != a\nend\n"));
+    Ok(())
+}
+
+// ---- blocks inside a block
+
+fn block(alloc: Global, step: Step, close: Close) -> Result<Box<Block>, Fail> {
+    let steps = vec![in alloc; step]?;
+    Ok(Box::new(alloc, Block { steps, close })?)
+}
+
+// two literals of a and b'
+fn both(alloc: Global) -> Result<Items<Lit>, Fail> {
+    Ok(Items::new(vec![in alloc; apart(0, 1), apart(1, 0)]?))
+}
+
+const PLACED: Superpose = Superpose {
+    points: [0, 1, 0, 1, 0, 1],
+    lines: [0, 0],
+};
+
+// the names of the copied points
+fn copies(alloc: Global) -> Result<Items<Name>, Fail> {
+    Ok(Items::new(vec![in alloc; name(b"p")?, name(b"r")?]?))
+}
+
+// a block in which the copied points are in scope
+fn copied(alloc: Global) -> Result<Box<Block>, Fail> {
+    let inner = citation(alloc, apart(2, 3))?;
+    block(alloc, inner, Close::Contradiction { against: None })
+}
+
+fn superposed(alloc: Global) -> Result<Step, Fail> {
+    let names = copies(alloc)?;
+    let shown = both(alloc)?;
+    let certs = facts(alloc)?;
+    let inner = copied(alloc)?;
+    Ok(Step::Superposed {
+        form: PLACED,
+        names,
+        shown,
+        certs,
+        inner,
+    })
+}
+
+// a point is made in its block
+fn claimed(alloc: Global) -> Result<Step, Fail> {
+    let inner = construction(alloc, b"s")?;
+    Ok(Step::Claim {
+        shown: both(alloc)?,
+        inner: block(alloc, inner, closed(alloc)?)?,
+    })
+}
+
+// a point is made in each of its blocks
+fn split(alloc: Global) -> Result<Close, Fail> {
+    Ok(Close::Cases {
+        lit: apart(0, 1),
+        first: block(alloc, construction(alloc, b"q")?, closed(alloc)?)?,
+        second: block(alloc, construction(alloc, b"t")?, closed(alloc)?)?,
+    })
+}
+
+const INSIDE: &[u8] = b"\nproof\n\
+superpose a b' a L onto b' a b' L as p r show a != b' ; b' != a\n| fact\n\
+by b1b a b' : p != r\ncontradiction\n\
+claim a != b' ; b' != a\nlet s on L avoid b'\n| fact\nqed s L\n| fact\n\
+cases a != b'\nlet q on L avoid b'\n| fact\nqed q L\n| fact\n\
+else\nlet t on L avoid b'\n| fact\nqed t L\n| fact\nend\n";
+
+#[test]
+fn behind_a_block_the_names_are_those_before_it(rt: HostRuntime) -> Result<(), Fail> {
+    let alloc = rt.alloc();
+    let steps = vec![in alloc; superposed(alloc)?, claimed(alloc)?]?;
+    let text = spelled(alloc, steps, split(alloc)?)?;
+    assert!(rt; text.ends_with(INSIDE));
     Ok(())
 }
 

@@ -1,1 +1,5 @@
 pub mod Statements
+pub mod Faults
+pub mod Pattern
+pub mod Choice
+pub mod WideChoice

@@ -1,6 +1,12 @@
-//! Statements of theorems.
+//! Statements of theorems, and their use at arguments.
 #![tactic(auto)]
 
+mod application;
+mod pattern;
 mod statement;
+#[cfg(test)]
+mod tests;
 
+pub use application::{Applied, UseFault, use_of};
+pub use pattern::is_pattern;
 pub use statement::Statement;

@@ -1,15 +1,17 @@
 -- What an instance needs: which literals stand, which parts are good, and what is wide.
-use Rattle.std.proofs.Common.{◌≡◌, ℕ, zero, suc, ◌<◌, List, [], ◌∷◌, refl, sym, ap, ◌∙◌, subst, arith, Bool, true, false, cond, not, ◌&&◌, ◌||◌, true≢false, eqb, get_or, length, map, take, ◌+◌, ◌++◌, ◌⊎◌, inl, inr, Option, Some, None}
-use Rattle.std.specs.Prelude.{slice_get, filter, All, Contains, IsTrue, MatchBool}
+use Rattle.std.proofs.Common.{◌≡◌, ℕ, zero, suc, ◌<◌, ◌≤◌, List, [], ◌∷◌, refl, sym, ap, ◌∙◌, subst, arith, Bool, true, false, cond, not, ◌&&◌, ◌||◌, true≢false, eqb, get_or, length, map, take, ◌+◌, ◌++◌, ◌⊎◌, inl, inr, Option, Some, None}
+use Rattle.std.specs.Prelude.{nat_le, slice_get, filter, All, Contains, IsTrue, MatchBool}
 use Rattle.std.specs.Option.{option_map_or}
 use Rattle.std.specs.List.{list_all, list_any, AllZip}
+use Rattle.std.proofs.lemmas.Bool.Decides.{nat_tests}
 use Rattle.std.proofs.lemmas.List.Elements.{All-cons, All-head, All-tail, All-nil, Contains-get_or}
 use Rattle.e_literal.specs.declared.object.Obj.{Obj}
 use Rattle.e_literal.specs.declared.object.Scope.{Scope}
 use Rattle.e_literal.specs.declared.literal.Lit.{Lit}
 use Rattle.e_literal.specs.Literal.{negation, is_in_scope, all_in_scope}
 use Rattle.e_literal.specs.WellFormed.{is_well_formed}
-use Rattle.e_clause.specs.Judged.{is_good, are_good}
+use Rattle.e_clause.specs.Assignment.{terms_of_lits}
+use Rattle.e_clause.specs.Judged.{is_good, are_good, are_few, are_good_facts}
 use Rattle.e_literal.specs.Same.{same_lit}
 use Rattle.e_literal.specs.Facts.{has, has_all, others, is_metric}
 use Rattle.e_literal.proofs.Terms.{eqb_is, both, and_left, and_right, or_left, or_right, or_either, yes_or_no}
@@ -248,11 +250,20 @@ one_more_part R xs ps i d p less all here =
 
 -- ---- good facts
 
+le_is : (a b : ℕ) → nat_le a b ≡ true → a ≤ b
+le_is a b h = grind (arith, nat_tests)
+
+pub facts_few : (s : Scope) (facts : List Lit) → are_good_facts s facts ≡ true → length (terms_of_lits facts) ≤ 1100
+facts_few s facts h = le_is (length (terms_of_lits facts)) 1100 (and_right (are_good s facts) (are_few facts) h)
+
 pub facts_well : (scope : Scope) (facts : List Lit) → are_good scope facts ≡ true → list_all is_well_formed facts ≡ true
 facts_well scope [] good = refl
 facts_well scope (l ∷ ls) good =
     let here = and_left (is_good scope l) (are_good scope ls) good in
     both (is_well_formed l) (list_all is_well_formed ls) (and_right (all_in_scope scope l) (is_well_formed l) here) (facts_well scope ls (and_right (is_good scope l) (are_good scope ls) good))
+
+pub good_facts_well : (scope : Scope) (facts : List Lit) → are_good_facts scope facts ≡ true → list_all is_well_formed facts ≡ true
+good_facts_well scope facts h = facts_well scope facts (and_left (are_good scope facts) (are_few facts) h)
 
 pub facts_over : (scope : Scope) (facts : List Lit) → are_good scope facts ≡ true → list_all (all_in_scope scope) facts ≡ true
 facts_over scope [] good = refl

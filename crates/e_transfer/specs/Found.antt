@@ -1,8 +1,9 @@
 -- What a search for a transfer answers.
-use Rattle.std.specs.Prelude.{ℕ, List, IsTrue}
+use Rattle.std.specs.Prelude.{ℕ, List, IsTrue, Option, Some, None}
 use Rattle.e_literal.specs.declared.object.Scope.{Scope}
 use Rattle.e_literal.specs.declared.literal.Lit.{Lit}
 use Rattle.e_literal.specs.Rows.{Row}
+use Rattle.e_clause.specs.declared.cert.TransferCert.{TransferCert}
 use Rattle.e_clause.specs.Transfer.{TransferConsequence}
 use Rattle.e_clause.specs.TransferCertificate.{transfer_certifies, transfer_in}
 use Rattle.e_clause.specs.Wide.{TransferFromFacts, IsTransferSystem, HasWidth}
@@ -24,3 +25,8 @@ abbrev pub IsFound : Scope → List Lit → Lit → Found → Type 0
 IsFound scope facts goal (Yes cert) = IsTrue (transfer_in scope cert) × IsTrue (transfer_certifies facts goal cert)
 IsFound scope facts goal No = ¬ TransferConsequence scope facts goal
 IsFound scope facts goal (TooWide w) = IsTooWideTransfer scope facts goal w
+
+-- a certificate; or no transfer gives the goal from facts alone
+abbrev pub IsFoundByFacts : Scope → List Lit → Lit → Option TransferCert → Type 0
+IsFoundByFacts scope facts goal (Some cert) = IsTrue (transfer_in scope cert) × IsTrue (transfer_certifies facts goal cert)
+IsFoundByFacts scope facts goal None = ¬ TransferFromFacts scope facts goal

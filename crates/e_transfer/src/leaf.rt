@@ -5,8 +5,10 @@ ghost use Rattle.std.specs.List.{list_all};
 ghost use Rattle.e_literal.specs.Facts.{has};
 ghost use Rattle.e_literal.specs.Literal.{all_in_scope, is_in_scope};
 ghost use Rattle.e_literal.specs.WellFormed.{is_well_formed};
+ghost use Rattle.e_clause.specs.Laws.{is_good_wanted};
 ghost use Rattle.e_clause.specs.Metric.{MetricConsequence};
 ghost use Rattle.e_clause.specs.RuleKinds.{is_transfer};
+ghost use Rattle.e_metric.specs.Told.{IsTold, IfNo};
 ghost use Rattle.e_transfer.specs.Giving;
 ghost use Rattle.e_transfer.specs.Giving.{PartIs, PartsAre, InstanceIs, passed_over};
 
@@ -39,6 +41,18 @@ fn is_refuted(sought: &Sought, need: &Lit) -> bool
         || (sought.spread_model && refutes(facts, true, sought.values, need))
 }
 
+/// Whether the metric literal follows from the facts, by what is known of them.
+fn told(alloc: Global, sought: &Sought, need: &Lit) -> Result<Metric, AllocError>
+    requires well_formed { IsTrue (is_good_wanted (Some need.now)) }
+    ensures told { IfOk result (IsTold sought.now.facts.now (Some need.now)) }
+    ensures no { IfOk result (λ m. IfNo m (¬ MetricConsequence sought.now.facts.now need.now)) }
+{
+    match sought.known {
+        Some(known) => known.follows(alloc, need),
+        None => follows(alloc, sought.facts, need),
+    }
+}
+
 /// Why a needed literal stands, or that it does not, or that one of its systems is too wide. A fact stands by itself.
 fn part_of(alloc: Global, sought: &Sought, need: &Lit) -> Result<Verdict<Part>, AllocError>
     requires well_formed { IsTrue (is_well_formed need.now) }
@@ -54,7 +68,7 @@ fn part_of(alloc: Global, sought: &Sought, need: &Lit) -> Result<Verdict<Part>, 
     if is_refuted(sought, need) {
         return Ok(Verdict::Refuse);
     }
-    match follows(alloc, sought.facts, need)? {
+    match told(alloc, sought, need)? {
         Metric::Yes(cert) => Ok(Verdict::Keep(Part::Metric(cert))),
         Metric::No(_) => Ok(Verdict::Refuse),
         Metric::TooWide(width) => Ok(too_wide(sought.means, width)),

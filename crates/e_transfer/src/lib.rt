@@ -23,5 +23,5 @@ pub mod ties;
 pub mod walk;
 
 pub use conditions::{are_good_facts, is_good_literal};
-pub use finding::{Found, find};
+pub use finding::{Found, find, find_by_facts, find_by_sums};
 pub use walk::{Outcome, Span, Task, Verdict, search};

@@ -4,6 +4,7 @@ use crate::{Found, are_good_facts, find, is_good_literal};
 use e_clause::{Rule, instance};
 use e_facts::Facts;
 use e_literal::{Atom, Form, Lit, Mono, Obj, Scope, Sort, Term, copy, negate};
+use e_metric::Known;
 use std::alloc::{AllocError, Global};
 use std::process::Abort;
 use std::test::Fail;
@@ -15,6 +16,7 @@ const SCOPE: Scope = Scope {
 };
 
 // Whether the goal is found, or none where it cannot be told.
+#[tactic(auto, using(crate::proofs::Needing::good_facts_well))]
 fn is_found(
     rt: &impl Abort,
     alloc: Global,
@@ -24,7 +26,8 @@ fn is_found(
     assert!(rt; are_good_facts(SCOPE, facts));
     assert!(rt; is_good_literal(SCOPE, goal));
     assert!(rt; !facts.has(goal));
-    match find(alloc, SCOPE, facts, goal)? {
+    let known = Known::of(alloc, facts)?;
+    match find(alloc, SCOPE, facts, &known, goal)? {
         Found::Yes(_) => Ok(Some(true)),
         Found::No => Ok(Some(false)),
         Found::TooWide(_) => Ok(None),

@@ -9,7 +9,7 @@ use Rattle.e_clause.specs.Wide.{IsTooWideLit}
 use Rattle.e_deriv.specs.declared.stop.Wanted.{Wanted}
 use Rattle.e_deriv.specs.declared.stop.Wanted.TheVariants.{Literal, Contradiction as AContradiction}
 use Rattle.e_deriv.specs.declared.names.Names.{Names}
-use Rattle.e_deriv.specs.Script.{Script, Cite, Hence, Make, Qed, Contradiction}
+use Rattle.e_deriv.specs.Script.{Script, Cite, Hence, Make, Claim, Superposed, Qed, Contradiction, Cases}
 use Rattle.e_deriv.specs.Lines.{Line}
 use Rattle.e_deriv.specs.Steps.{needs}
 use Rattle.e_deriv.specs.Refused.{SomeIsWide, IsWideAt, IsTooWide}
@@ -54,7 +54,10 @@ wide_line x (Contradiction against) (Literal l) w h = absurd h
 wide_line x (Cite by rest) (Literal l) w h = some_wide x l w h
 wide_line x (Hence lit cert rest) (Literal l) w h = some_wide x l w h
 wide_line x (Make form names certs rest) (Literal l) w h = some_wide x l w h
+wide_line x (Claim shown inner rest) (Literal l) w h = some_wide x l w h
+wide_line x (Superposed form names shown certs inner rest) (Literal l) w h = some_wide x l w h
 wide_line x (Qed objects certs) (Literal l) w h = some_wide x l w h
+wide_line x (Cases lit first second) (Literal l) w h = some_wide x l w h
 wide_line x here AContradiction w h = absurd h
 
 pub widens_so : (lines : Rest) (theorems : List Entry) (known : List Headed) (rest : Rest) (title : List ℕ) (step : ℕ) (wanted : Wanted) (width : ℕ) (names : Names)

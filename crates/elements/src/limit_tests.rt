@@ -30,6 +30,19 @@ theorem T/points =>  a% => 41 =>  a000/ => fault 2 name-taken/exit 2
 theorem T/points a/given a = a/show a = a/proof/ => hence a = a/ => 1023 => qed/end/ => accepted 1/exit 0
 theorem T/points a/given a = a/show a = a/proof/ => hence a = a/ => 1024 => qed/end/ => fault 1030 limit steps/exit 2
 theorem T/points a/given a = a/show a = a/proof/ => hence a = a/ => 1025 =>  => fault 1030 limit steps/exit 2
+* Blocks one inside the other: 32. The literals of a claim count behind its block, and those inside are gone.
+theorem T/points a/given a = a/show a = a/proof/ => claim a = a/ => 31 => qed/qed/qed/qed/qed/qed/qed/qed/qed/qed/qed/qed/qed/qed/qed/qed/qed/qed/qed/qed/qed/qed/qed/qed/qed/qed/qed/qed/qed/qed/qed/qed/end/ => accepted 1/exit 0
+theorem T/points a/given a = a/show a = a/proof/ => claim a = a/ => 32 =>  => fault 37 limit depth/exit 2
+theorem T/points a/given a = a/show a = a/proof/ => claim a = a/ => 31 => cases a = a/ => fault 37 limit depth/exit 2
+theorem T/points a/ => given a = a/ => 2046 => show a = a/proof/claim a = a/hence a = a/hence a = a/qed/hence a = a/qed/end/ => accepted 1/exit 0
+theorem T/points a/ => given a = a/ => 2047 => show a = a/proof/claim a = a ; a = a/qed/ => fault 2053 limit facts/exit 2
+theorem T/points a/ => given a = a/ => 2048 => show a = a/proof/claim a = a/hence b = a/ => fault 2054 unknown-name/exit 2
+theorem T/points a/ => given a = a/ => 2048 => show a = a/proof/cases a = a/ => fault 2053 limit facts/exit 2
+theorem T/points a/ => given right + right + right + right + right + right + right + right = 0/ => 128 => show a = a/proof/claim right = 0/qed/ => fault 134 limit terms/exit 2
+theorem T/points a/ => given right + right + right + right + right + right + right + right = 0/ => 128 => show a = a/proof/cases right = 0/ => fault 133 limit terms/exit 2
+theorem T/points a/given a = a/show a = a/proof/ => hence a = a/ => 1022 => claim a = a/qed/qed/end/ => fault 1030 limit steps/exit 2
+theorem T/points a/given a = a/show a = a/proof/ => hence a = a/ => 1021 => claim a = a/qed/qed/end/ => accepted 1/exit 0
+theorem T/points a/given a = a/show a = a/proof/claim a = a ; =>  right +  => 32 => right = 0/ => fault 6 limit monomials/exit 2
 * Literals that are facts, repeats counted: 2,048.
 theorem T/points a/ => given a = a/ => 2048 => show a = a/proof/qed/end/ => accepted 1/exit 0
 theorem T/points a/ => given a = a/ => 2049 =>  => fault 2051 limit facts/exit 2

@@ -1,6 +1,8 @@
 //! `elements`: a proof checker for System E.
 #![tactic(auto)]
 
+#[cfg(test)]
+mod block_tests;
 mod blocks;
 mod checker;
 mod input;

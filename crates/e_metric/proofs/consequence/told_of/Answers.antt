@@ -5,42 +5,45 @@ use Rattle.e_metric.specs.Certificate.{sums_of}
 use Rattle.std.specs.Prelude.{option_copied}
 use Rattle.e_fraction.specs.Views.{all_seen}
 use Rattle.e_simplex.specs.Answer.{IsVerdict, AreValuesOf, IsRefuted, assigned}
-use Rattle.e_metric.proofs.Telling.{few_rows, small_rows, short_rows, solved, too_wide, refuted}
+use Rattle.e_clause.specs.System.{system}
+use Rattle.e_metric.proofs.Reordered.{same_order}
+use Rattle.e_metric.proofs.Telling.{few_rows, small_rows, short_rows, solved, too_wide, refuted, system_width}
 use Rattle.e_metric.proofs.consequence.told_of.Goals as goal
 
 pub decide-requires-clause-few : goal.decide-requires-clause-few
-decide-requires-clause-few c = few_rows c.args.which c.args.facts.now (option_copied c.args.wanted) c.in_ok-named.named.items c.in_ok-named.ensures.rows c.in_ok-named.ensures.limited c.requires.facts c.requires.few c.requires.wanted c.deref.result.now (c.deref.ensures.value ∙ c.in_ok-names.ensures.rows)
+decide-requires-clause-few c = few_rows c.args.which c.args.facts.now (option_copied c.args.wanted) (system c.args.which c.args.facts.now (option_copied c.args.wanted)) (same_order (system c.args.which c.args.facts.now (option_copied c.args.wanted))) c.in_ok-named.named.items c.in_ok-named.ensures.rows c.in_ok-named.ensures.limited c.requires.facts c.requires.few c.requires.wanted c.deref.result.now (c.deref.ensures.value ∙ c.in_ok-names.ensures.rows)
 
 pub decide-requires-clause-coefficients : goal.decide-requires-clause-coefficients
-decide-requires-clause-coefficients c = small_rows c.args.which c.args.facts.now (option_copied c.args.wanted) c.in_ok-named.named.items c.in_ok-named.ensures.rows c.in_ok-named.ensures.limited c.requires.facts c.requires.few c.requires.wanted c.deref.result.now (c.deref.ensures.value ∙ c.in_ok-names.ensures.rows)
+decide-requires-clause-coefficients c = small_rows c.args.which c.args.facts.now (option_copied c.args.wanted) (system c.args.which c.args.facts.now (option_copied c.args.wanted)) (same_order (system c.args.which c.args.facts.now (option_copied c.args.wanted))) c.in_ok-named.named.items c.in_ok-named.ensures.rows c.in_ok-named.ensures.limited c.requires.facts c.requires.few c.requires.wanted c.deref.result.now (c.deref.ensures.value ∙ c.in_ok-names.ensures.rows)
 
 pub decide-requires-clause-short : goal.decide-requires-clause-short
-decide-requires-clause-short c = short_rows c.args.which c.args.facts.now (option_copied c.args.wanted) c.in_ok-named.named.items c.in_ok-named.ensures.rows c.in_ok-named.ensures.limited c.requires.facts c.requires.few c.requires.wanted c.deref.result.now (c.deref.ensures.value ∙ c.in_ok-names.ensures.rows)
+decide-requires-clause-short c = short_rows c.args.which c.args.facts.now (option_copied c.args.wanted) (system c.args.which c.args.facts.now (option_copied c.args.wanted)) (same_order (system c.args.which c.args.facts.now (option_copied c.args.wanted))) c.in_ok-named.named.items c.in_ok-named.ensures.rows c.in_ok-named.ensures.limited c.requires.facts c.requires.few c.requires.wanted c.deref.result.now (c.deref.ensures.value ∙ c.in_ok-names.ensures.rows)
 
 pub sums_of-requires-clause-few : goal.sums_of-requires-clause-few
-sums_of-requires-clause-few c = few_rows c.args.which c.args.facts.now (option_copied c.args.wanted) c.in_ok-named.named.items c.in_ok-named.ensures.rows c.in_ok-named.ensures.limited c.requires.facts c.requires.few c.requires.wanted c.deref-in-Absurd.result.now (c.deref-in-Absurd.ensures.value ∙ c.in_ok-names.ensures.rows)
+sums_of-requires-clause-few c = few_rows c.args.which c.args.facts.now (option_copied c.args.wanted) (system c.args.which c.args.facts.now (option_copied c.args.wanted)) (same_order (system c.args.which c.args.facts.now (option_copied c.args.wanted))) c.in_ok-named.named.items c.in_ok-named.ensures.rows c.in_ok-named.ensures.limited c.requires.facts c.requires.few c.requires.wanted c.deref-in-Absurd.result.now (c.deref-in-Absurd.ensures.value ∙ c.in_ok-names.ensures.rows)
 
 pub sums_of-requires-clause-coefficients : goal.sums_of-requires-clause-coefficients
-sums_of-requires-clause-coefficients c = small_rows c.args.which c.args.facts.now (option_copied c.args.wanted) c.in_ok-named.named.items c.in_ok-named.ensures.rows c.in_ok-named.ensures.limited c.requires.facts c.requires.few c.requires.wanted c.deref-in-Absurd.result.now (c.deref-in-Absurd.ensures.value ∙ c.in_ok-names.ensures.rows)
+sums_of-requires-clause-coefficients c = small_rows c.args.which c.args.facts.now (option_copied c.args.wanted) (system c.args.which c.args.facts.now (option_copied c.args.wanted)) (same_order (system c.args.which c.args.facts.now (option_copied c.args.wanted))) c.in_ok-named.named.items c.in_ok-named.ensures.rows c.in_ok-named.ensures.limited c.requires.facts c.requires.few c.requires.wanted c.deref-in-Absurd.result.now (c.deref-in-Absurd.ensures.value ∙ c.in_ok-names.ensures.rows)
 
 pub returns-in-Holds : goal.returns-in-Holds
 returns-in-Holds c =
     let v : IsVerdict (all_seen c.deref.result.now) c.in_ok-values.field-0 = c.in_ok-values.ensures.verdict in
     let h : AreValuesOf (all_seen c.deref.result.now) c.in-Holds.values = subst (IsVerdict (all_seen c.deref.result.now)) c.in-Holds.is v in
-    solved c.args.which c.args.facts.now (option_copied c.args.wanted) c.in_ok-named.named.items c.in_ok-named.ensures.rows c.in_ok-named.ensures.limited c.requires.facts c.requires.few c.requires.wanted c.deref.result.now (c.deref.ensures.value ∙ c.in_ok-names.ensures.rows) (assigned c.in-Holds.values) h.satisfy
+    solved c.args.which c.args.facts.now (option_copied c.args.wanted) (system c.args.which c.args.facts.now (option_copied c.args.wanted)) (same_order (system c.args.which c.args.facts.now (option_copied c.args.wanted))) c.in_ok-named.named.items c.in_ok-named.ensures.rows c.in_ok-named.ensures.limited c.requires.facts c.requires.few c.requires.wanted c.deref.result.now (c.deref.ensures.value ∙ c.in_ok-names.ensures.rows) (assigned c.in-Holds.values) h.satisfy
 
 pub returns-in-TooWide : goal.returns-in-TooWide
 returns-in-TooWide c =
     let v : IsVerdict (all_seen c.deref.result.now) c.in_ok-values.field-0 = c.in_ok-values.ensures.verdict in
     let h : IsWide (all_seen c.deref.result.now) × (2 ^ 63 ≤ width (all_seen c.deref.result.now)) = subst (IsVerdict (all_seen c.deref.result.now)) c.in-TooWide.is v in
-    too_wide c.args.which c.args.facts.now (option_copied c.args.wanted) c.in_ok-named.named.items c.in_ok-named.ensures.rows c.in_ok-named.ensures.limited c.requires.facts c.requires.few c.requires.wanted c.deref.result.now (c.deref.ensures.value ∙ c.in_ok-names.ensures.rows) c.width.result
-    (c.width.ensures.value ∙ ap (λ rs. width (all_seen rs)) (c.deref-in-TooWide.ensures.value ∙ sym c.deref.ensures.value)) h.0 h.1
+    too_wide c.args.which c.args.facts.now (option_copied c.args.wanted) (system c.args.which c.args.facts.now (option_copied c.args.wanted)) (same_order (system c.args.which c.args.facts.now (option_copied c.args.wanted))) c.in_ok-named.named.items c.in_ok-named.ensures.rows c.in_ok-named.ensures.limited c.requires.facts c.requires.few c.requires.wanted c.deref.result.now (c.deref.ensures.value ∙ c.in_ok-names.ensures.rows) c.width.result
+    (c.width.ensures.value ∙ ap (λ rs. width (all_seen rs)) (c.deref-in-TooWide.ensures.value ∙ sym c.deref.ensures.value)
+    ∙ system_width c.args.which c.args.facts.now (option_copied c.args.wanted) c.in_ok-named.named.items c.in_ok-named.ensures.rows c.deref.result.now (c.deref.ensures.value ∙ c.in_ok-names.ensures.rows)) h.0
 
 pub returns-in_ok-sums-in-Absurd : goal.returns-in_ok-sums-in-Absurd
 returns-in_ok-sums-in-Absurd c =
     let v : IsVerdict (all_seen c.deref.result.now) c.in_ok-values.field-0 = c.in_ok-values.ensures.verdict in
     let h : IsRefuted (all_seen c.deref.result.now) c.in-Absurd.absurdity = subst (IsVerdict (all_seen c.deref.result.now)) c.in-Absurd.is v in
-    refuted c.args.which c.args.facts.now (option_copied c.args.wanted) c.in_ok-named.named.items c.in_ok-named.ensures.rows c.in_ok-named.ensures.limited c.requires.facts c.requires.few c.requires.wanted c.deref.result.now (c.deref.ensures.value ∙ c.in_ok-names.ensures.rows)
+    refuted c.args.which c.args.facts.now (option_copied c.args.wanted) (system c.args.which c.args.facts.now (option_copied c.args.wanted)) (same_order (system c.args.which c.args.facts.now (option_copied c.args.wanted))) c.in_ok-named.named.items c.in_ok-named.ensures.rows c.in_ok-named.ensures.limited c.requires.facts c.requires.few c.requires.wanted c.deref.result.now (c.deref.ensures.value ∙ c.in_ok-names.ensures.rows)
     c.in_ok-names.names.items c.deref-in-Absurd-2.result.now c.in-Absurd.absurdity c.in_ok-sums-in-Absurd.sums
     c.in_ok-names.ensures.names (c.deref-in-Absurd-2.ensures.value ∙ c.in_ok-terms-in-Absurd.ensures) h.refutes
     (c.in_ok-sums-in-Absurd.ensures ∙ ap (λ rs. sums_of c.in_ok-names.names.items rs c.deref-in-Absurd-2.result.now c.in-Absurd.absurdity) (c.deref-in-Absurd.ensures.value ∙ sym c.deref.ensures.value))

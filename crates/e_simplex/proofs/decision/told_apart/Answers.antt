@@ -8,28 +8,35 @@ use Rattle.e_fraction.proofs.Wideness.{wide_rows_width}
 use Rattle.e_simplex.proofs.Refuting.{length_seen, solved_further, solved_wide, solved_apart}
 use Rattle.e_simplex.proofs.NamedLines.{further_lines}
 use Rattle.e_simplex.proofs.Picked.{wide_apart}
+use Rattle.e_simplex.proofs.Places.{all_continued}
 use Rattle.e_simplex.proofs.Assigning.{values_answered}
 use Rattle.e_simplex.proofs.decision.told_apart.Goals as goal
 
+pub lines_where-requires-clause-named : goal.lines_where-requires-clause-named
+lines_where-requires-clause-named c = all_continued c.args.terms.now c.args.columns.now (all_seen c.args.rows.now) c.requires.continues c.requires.named
+
+pub refuted_both-requires-clause-named : goal.refuted_both-requires-clause-named
+refuted_both-requires-clause-named c = all_continued c.args.terms.now c.args.columns.now (all_seen c.args.rows.now) c.requires.continues c.requires.named
+
 pub keep_apart-requires-clause-forms : goal.keep_apart-requires-clause-forms
 keep_apart-requires-clause-forms c =
-    solved_further c.args.solved.now (length c.args.terms.now + 1) (named_lines false c.args.terms.now (all_seen c.args.rows.now)) (named_lines true c.args.terms.now (all_seen c.args.rows.now)) c.deref.result.now
+    solved_further c.args.solved.now (length c.args.columns.now + 1) (named_lines false c.args.columns.now (all_seen c.args.rows.now)) (named_lines true c.args.columns.now (all_seen c.args.rows.now)) c.deref.result.now
     c.requires.solved (c.deref.ensures.value ∙ c.in_ok-forms.ensures.value)
-    (further_lines c.args.terms.now (all_seen c.args.rows.now) c.requires.counted (omega (arith, length_seen c.args.rows.now, c.requires.few)) c.requires.named c.requires.solved.fit.small
+    (further_lines c.args.columns.now (all_seen c.args.rows.now) c.requires.counted (omega (arith, length_seen c.args.rows.now, c.requires.few)) (all_continued c.args.terms.now c.args.columns.now (all_seen c.args.rows.now) c.requires.continues c.requires.named) c.requires.solved.fit.small
     (subst AllSmallLines c.in_ok-forms.ensures.value c.in_ok-forms.ensures.small))
 
 pub returns-in-TooWide : goal.returns-in-TooWide
 returns-in-TooWide c =
     let h = rw c.in-TooWide.is at c.in_ok-keep_apart.ensures in
-    let w = wide_apart c.args.terms.now (all_seen c.args.rows.now) c.requires.once c.requires.named
-    (solved_wide c.args.solved.now (length c.args.terms.now + 1) (named_lines false c.args.terms.now (all_seen c.args.rows.now)) (named_lines true c.args.terms.now (all_seen c.args.rows.now)) c.deref.result.now
+    let w = wide_apart c.args.columns.now (all_seen c.args.rows.now) c.requires.columns (all_continued c.args.terms.now c.args.columns.now (all_seen c.args.rows.now) c.requires.continues c.requires.named)
+    (solved_wide c.args.solved.now (length c.args.columns.now + 1) (named_lines false c.args.columns.now (all_seen c.args.rows.now)) (named_lines true c.args.columns.now (all_seen c.args.rows.now)) c.deref.result.now
     c.requires.solved (c.deref.ensures.value ∙ c.in_ok-forms.ensures.value) h) in
     (w, wide_rows_width (all_seen c.args.rows.now) w)
 
 pub returns-in-Found : goal.returns-in-Found
 returns-in-Found c =
     let h = rw c.in-Found.is at c.in_ok-keep_apart.ensures in
-    values_answered c.args.terms.now (all_seen c.args.rows.now) c.in-Found.values.items c.in_ok-values-in-Found.values c.requires.once c.requires.named
-    (solved_apart c.args.solved.now (length c.args.terms.now + 1) (named_lines false c.args.terms.now (all_seen c.args.rows.now)) (named_lines true c.args.terms.now (all_seen c.args.rows.now)) c.deref.result.now
+    values_answered c.args.terms.now c.args.columns.now (all_seen c.args.rows.now) c.in-Found.values.items c.in_ok-values-in-Found.values c.requires.once c.requires.named c.requires.continues
+    (solved_apart c.args.solved.now (length c.args.columns.now + 1) (named_lines false c.args.columns.now (all_seen c.args.rows.now)) (named_lines true c.args.columns.now (all_seen c.args.rows.now)) c.deref.result.now
     c.in-Found.values.items c.requires.solved (c.deref.ensures.value ∙ c.in_ok-forms.ensures.value) h)
     (subst (λ v. PairedTo (length c.args.terms.now) c.args.terms.now v c.in_ok-values-in-Found.values) c.deref-in-Found.ensures.value c.in_ok-values-in-Found.ensures)

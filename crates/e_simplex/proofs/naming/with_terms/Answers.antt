@@ -2,8 +2,8 @@ use Rattle.std.proofs.Common.{◌≡◌, List, ap, sym, ◌∙◌, subst, length
 use Rattle.e_literal.specs.declared.object.Term.{Term}
 use Rattle.e_literal.specs.declared.object.Term.TheVariants.{Seg}
 use Rattle.e_fraction.specs.Views.{all_seen}
-use Rattle.e_simplex.specs.Naming.{place_of, FormNamed}
-use Rattle.e_simplex.proofs.Places.{all_more, form_all, terms_new, terms_old}
+use Rattle.e_simplex.specs.Naming.{place_of, Continues, FormNamed}
+use Rattle.e_simplex.proofs.Places.{all_more, continues_push, form_all, terms_new, terms_old}
 use Rattle.e_simplex.proofs.naming.with_terms.Goals.{then-place-len+in_ok-push, else-place-len}
 use Rattle.e_simplex.proofs.naming.with_terms.Goals as goal
 
@@ -16,11 +16,22 @@ loop-k-preserved c =
       | then-place-len+in_ok-push w ↦ (let t = terms_new c.loop-k.terms.items c.if-place-len.terms.items (all_seen (take c.args.i c.args.rows.now)) c.summands-form.result.now c.loop-k.k (pos 0, Seg 0 0)
           c.loop-k-test.true (ap (λ u. u.items) w.terms-is ∙ w.in_ok-push.ensures.items) (sym v ∙ sym c.place.ensures.value ∙ w.if-place-len.true ∙ n)
           c.loop-k.invariant.once c.loop-k.invariant.before c.loop-k.invariant.form in
-          record { once = t.0; before = t.1.0; form = t.1.1 })
+          record {
+            once = t.0;
+            before = t.1.0;
+            form = t.1.1;
+            continues = subst (Continues c.args.terms.items) (sym (ap (λ u. u.items) w.terms-is ∙ w.in_ok-push.ensures.items))
+                (continues_push c.args.terms.items c.loop-k.terms.items (get_or {A = ℤ × Term} c.summands-form.result.now c.loop-k.k (pos 0, Seg 0 0)).1 c.loop-k.invariant.continues);
+          })
       | else-place-len w ↦ (let t = terms_old c.loop-k.terms.items c.if-place-len.terms.items (all_seen (take c.args.i c.args.rows.now)) c.summands-form.result.now c.loop-k.k (pos 0, Seg 0 0)
           c.loop-k-test.true (ap (λ u. u.items) w.terms-is) (λ q. w.if-place-len.false (c.place.ensures.value ∙ v ∙ q ∙ sym n))
           c.loop-k.invariant.once c.loop-k.invariant.before c.loop-k.invariant.form in
-          record { once = t.0; before = t.1.0; form = t.1.1 })
+          record {
+            once = t.0;
+            before = t.1.0;
+            form = t.1.1;
+            continues = subst (Continues c.args.terms.items) (sym (ap (λ u. u.items) w.terms-is)) c.loop-k.invariant.continues;
+          })
     ]
 
 pub returns-clause-all : goal.returns-clause-all

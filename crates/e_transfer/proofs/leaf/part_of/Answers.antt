@@ -4,14 +4,9 @@ use Rattle.e_literal.specs.Facts.{is_metric}
 use Rattle.e_literal.proofs.Terms.{both, and_left}
 use Rattle.e_clause.specs.Judged.{are_good, are_few}
 use Rattle.e_clause.specs.MetricCertificate.{sums_refute}
-use Rattle.e_transfer.proofs.Needing.{facts_well, facts_over, told_yes}
+use Rattle.e_transfer.proofs.Needing.{facts_over, told_yes}
 use Rattle.e_transfer.proofs.Modelling.{insufficient}
 use Rattle.e_transfer.proofs.leaf.part_of.Goals as goal
-
-pub follows-requires-clause-facts : goal.follows-requires-clause-facts
-follows-requires-clause-facts c =
-    let s = c.args.sought.now in
-    facts_well s.scope s.facts.now (and_left (are_good s.scope s.facts.now) (are_few s.facts.now) s.good)
 
 pub returns-in-Yes : goal.returns-in-Yes
 returns-in-Yes c =

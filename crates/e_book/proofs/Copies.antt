@@ -1,0 +1,18 @@
+-- The line of a superposition.
+use Rattle.std.proofs.Common.{◌≡◌, List, Result, Ok, refl}
+use Rattle.e_literal.specs.declared.literal.Lit.{Lit}
+use Rattle.e_construct.specs.declared.superpose.Superpose.{Superpose}
+use Rattle.e_construct.specs.Superposing as superposing
+use Rattle.e_deriv.specs.Naming.{named}
+use Rattle.e_book.specs.declared.blocks.Opened.TheVariants as opened
+use Rattle.e_book.specs.declared.draft.Draft.{Draft}
+use Rattle.e_book.specs.declared.superposes.RawSuperpose.{RawSuperpose}
+use Rattle.e_book.specs.Scope.{scope_of_names}
+use Rattle.e_book.specs.Superposes.{superpose_in}
+use Rattle.e_book.specs.Steps.{few_objects, copies_begun, superposed}
+
+pub superposed_is : (d : Draft) (raw : RawSuperpose) (form : Superpose) (shown : List Lit) (u : Unit {0}) → superpose_in d.in_scope raw ≡ Ok (form, shown)
+    → few_objects (named d.in_scope superposing.made raw.new) ≡ Ok u
+    → superposed d raw ≡ copies_begun d (opened.Superpose form raw.new shown) (named d.in_scope superposing.made raw.new) (superposing.gives form (scope_of_names d.in_scope)) raw.shown
+unfolding superposed copies_begun
+superposed_is d raw form shown u placed few = rw (placed, few) refl

@@ -1,0 +1,83 @@
+-- What is known of a draft while its lines come.
+use Rattle.std.proofs.Common.{◌≡◌, ℕ, ◌≤◌, true, false, List, [], length}
+use Rattle.std.specs.List.{list_all}
+use Rattle.e_literal.specs.declared.object.Sort.{Sort}
+use Rattle.e_literal.specs.declared.literal.Lit.{Lit}
+use Rattle.e_literal.specs.Literal.{all_in_scope}
+use Rattle.e_literal.specs.Scopes.{nothing, grown}
+use Rattle.e_literal.specs.WellFormed.{is_well_formed}
+use Rattle.e_theorem.specs.Statements.{stated}
+use Rattle.e_deriv.specs.declared.names.Names.{Names}
+use Rattle.e_deriv.specs.Script.{Script, size}
+use Rattle.e_deriv.specs.PlainStep.{PlainStep, all_before}
+use Rattle.e_deriv.specs.Naming.{declared_names}
+use Rattle.e_book.specs.declared.blocks.Outer.{Outer}
+use Rattle.e_book.specs.declared.draft.Place.{Place}
+use Rattle.e_book.specs.declared.draft.Place.TheVariants.{Declaring, Giving, Making, Showing, Proving, Splitting, Closed, Done}
+use Rattle.e_book.specs.declared.draft.Draft.{Draft}
+use Rattle.e_book.specs.Limits.{most_steps, most_facts, most_terms, count_monomials}
+use Rattle.e_book.specs.Headed.{Headed, is_known}
+use Rattle.e_book.specs.Scope.{scope_of_names}
+use Rattle.e_book.specs.Steps.{FewNamed}
+use Rattle.e_book.specs.Entry.{script_of_close, statement_of_draft}
+use Rattle.e_book.specs.Fits.{NamesDiffer}
+use Rattle.e_book.proofs.FittingScripts.{Spot, spot, ScriptFits}
+use Rattle.e_book.proofs.OpenBlocks.{Open}
+
+-- the title, the names and the statement, so far
+pub record Head (known : List Headed) (title : List ℕ) (ns : Names) (declared : List Sort) (gs : List Lit) (made : List Sort) (ls : List Lit) : Type 0 where
+  pub new : is_known known title ≡ false
+  pub scope : grown (grown nothing declared) made ≡ scope_of_names ns
+  pub differ : NamesDiffer ns
+  pub few : FewNamed ns
+  pub given : list_all (all_in_scope (grown nothing declared)) gs ≡ true
+  pub shown : list_all (all_in_scope (scope_of_names ns)) ls ≡ true
+  pub good_given : list_all is_well_formed gs ≡ true
+  pub good_shown : list_all is_well_formed ls ≡ true
+  pub few_given : length gs ≤ most_facts
+  pub few_terms : count_monomials gs ≤ most_terms
+
+abbrev pub HeadOf : List Headed → Draft → Type 0
+HeadOf known d = Head known d.title d.names d.declared d.given d.made d.shown
+
+-- where the first line of the proof stands
+abbrev pub start : Draft → Spot
+start d = spot (declared_names (stated (statement_of_draft d)) d.names) (length d.given) (count_monomials d.given)
+
+-- no line of the proof has come
+pub record NoProof (gs : List Lit) (ss : List PlainStep) (os : List Outer) (n k m : ℕ) : Type 0 where
+  pub steps : ss ≡ []
+  pub outers : os ≡ []
+  pub lines : n ≡ 0
+  pub facts : k ≡ length gs
+  pub terms : m ≡ count_monomials gs
+
+abbrev pub NoProofOf : Draft → Type 0
+NoProofOf d = NoProof d.given d.steps d.outers d.lines d.facts d.terms
+
+-- lines of the proof may come
+abbrev pub OpenOf : Draft → Type 0
+OpenOf d = Open (start d) d.made d.outers d.steps (spot d.in_scope d.facts d.terms) d.lines
+
+-- the proof is closed
+pub record Shut (at : Spot) (made : List Sort) (script : Script) : Type 0 where
+  pub fits : ScriptFits at made 0 script
+  pub short : size script ≤ most_steps
+
+abbrev pub ShutOf : Draft → Type 0
+ShutOf d = Shut (start d) d.made (all_before d.steps (script_of_close d.close))
+
+-- what has come and what has not, at a place
+abbrev pub Body : Place → Draft → Type 0
+Body Declaring d = (d.given ≡ []) × (d.made ≡ []) × (d.shown ≡ []) × NoProofOf d
+Body Giving d = (d.made ≡ []) × (d.shown ≡ []) × NoProofOf d
+Body Making d = (d.shown ≡ []) × NoProofOf d
+Body Showing d = NoProofOf d
+Body Proving d = OpenOf d
+Body Splitting d = OpenOf d
+Body Closed d = ShutOf d
+Body Done d = ShutOf d
+
+pub record Good (known : List Headed) (d : Draft) : Type 0 where
+  pub head : HeadOf known d
+  pub body : Body d.place d

@@ -1,0 +1,126 @@
+-- The blocks that are interrupted.
+use Rattle.std.proofs.Common.{◌≡◌, ℕ, ◌+◌, ◌≤◌, Bool, List, [], ◌∷◌, ◌++◌, length, reverse, Option, Some, None, Result, Ok, Err, refl, sym, ap, subst, ◌∙◌, arith}
+use Rattle.std.specs.List.{list_any}
+use Rattle.std.proofs.lemmas.List.Sorted.{list_any-IsPermutation, IsPermutation-reverse}
+use Rattle.e_literal.specs.declared.literal.Lit.{Lit}
+use Rattle.e_deriv.specs.Script.{Script}
+use Rattle.e_deriv.specs.PlainStep.{PlainStep, Claimed, Copied, all_before}
+use Rattle.e_book.specs.declared.blocks.Outer.{Outer}
+use Rattle.e_book.specs.declared.blocks.Opened.{Opened}
+use Rattle.e_book.specs.declared.blocks.Opened.TheVariants as opened
+use Rattle.e_book.specs.declared.draft.Draft.{Draft}
+use Rattle.e_book.specs.declared.fault.Kind.{Kind}
+use Rattle.e_book.specs.declared.fault.What.TheVariants as limits
+use Rattle.e_book.specs.declared.fault.Trouble.{Trouble}
+use Rattle.e_book.specs.declared.steps.CloseLine.{CloseLine}
+use Rattle.e_book.specs.declared.steps.CloseLine.TheVariants as closes
+use Rattle.e_book.specs.Reading.{◌>>=◌, Fails, Moves}
+use Rattle.e_book.specs.Entry.{script_of_close}
+use Rattle.e_book.specs.Limits.{most_facts, most_depth, within}
+use Rattle.e_book.specs.Steps.{terms_after, counted_from, resumed, closed_inside, closed, ClosesInside, FitsOuter, AllFit, FitsScope}
+
+-- a test finds something in a list whichever way it goes
+pub any_reversed : {X : Type 0} (p : X → Bool) (xs : List X) → list_any p (reverse xs) ≡ list_any p xs
+any_reversed p xs = sym (list_any-IsPermutation p xs (reverse xs) (IsPermutation-reverse xs))
+
+-- ---- closing looks at neither the steps nor the blocks around that a draft has
+
+abbrev resumed_by : Draft → Outer → List Outer → ℕ → PlainStep → Result (Unit {0}) Kind → Result ℕ Kind → Result Draft Kind
+resumed_by d o os n s few terms = (few >>= λ u. terms >>= λ m. Ok (record d { facts = n; terms = m })) >>= λ e. Ok (record e { steps = o.steps ++ s ∷ []; in_scope = o.in_scope; outers = os })
+
+resumed_by_alike : (d : Draft) (xs : List Outer) (ss : List PlainStep) (o : Outer) (os : List Outer) (n : ℕ) (s : PlainStep) (few : Result (Unit {0}) Kind) (terms : Result ℕ Kind)
+    → resumed_by (record d { outers = xs; steps = ss }) o os n s few terms ≡ resumed_by d o os n s few terms
+resumed_by_alike d xs ss o os n s (Ok u) (Ok m) = refl
+resumed_by_alike d xs ss o os n s (Ok u) (Err e) = refl
+resumed_by_alike d xs ss o os n s (Err e) terms = refl
+
+resumed_alike : (d : Draft) (xs : List Outer) (ss : List PlainStep) (o : Outer) (os : List Outer) (shown : List Lit) (s : PlainStep)
+    → resumed (record d { outers = xs; steps = ss }) o os shown s ≡ resumed d o os shown s
+unfolding resumed counted_from
+resumed_alike d xs ss o os shown s =
+    resumed_by_alike d xs ss o os (o.facts + length shown) s (within (o.facts + length shown) most_facts limits.Facts) (terms_after o.terms shown)
+
+-- nor at its steps, which were taken out
+pub emptied : (d : Draft) (o : Outer) (os : List Outer) (shown : List Lit) (s : PlainStep) → resumed d o os shown s ≡ resumed (record d { steps = [] }) o os shown s
+emptied d o os shown s = sym (resumed_alike d d.outers [] o os shown s)
+
+inside_alike : (d : Draft) (xs : List Outer) (ss : List PlainStep) (o : Outer) (os : List Outer) (inner : Script) (again : CloseLine → Result Draft Kind) (what : Opened)
+    → closed_inside (record d { outers = xs; steps = ss }) o os inner again what ≡ closed_inside d o os inner again what
+inside_alike d xs ss o os inner again (opened.Claim shown) = resumed_alike d xs ss o os shown (Claimed shown inner)
+inside_alike d xs ss o os inner again (opened.Superpose form names shown) = resumed_alike d xs ss o os shown (Copied form names shown [] inner)
+inside_alike d xs ss o os inner again (opened.First lit) = refl
+inside_alike d xs ss o os inner again (opened.Second lit first) = refl
+
+again_alike : (d : Draft) (xs : List Outer) (ss : List PlainStep) (o : Outer) (os : List Outer) (inner : Script) (f g : CloseLine → Result Draft Kind) (what : Opened)
+    → ((c : CloseLine) → f c ≡ g c) → closed_inside (record d { outers = xs; steps = ss }) o os inner f what ≡ closed_inside d o os inner g what
+again_alike d xs ss o os inner f g (opened.Claim shown) same = resumed_alike d xs ss o os shown (Claimed shown inner)
+again_alike d xs ss o os inner f g (opened.Superpose form names shown) same = resumed_alike d xs ss o os shown (Copied form names shown [] inner)
+again_alike d xs ss o os inner f g (opened.First lit) same = refl
+again_alike d xs ss o os inner f g (opened.Second lit first) same = same (closes.Cases lit first inner)
+
+closed_alike : (d : Draft) (xs : List Outer) (ss : List PlainStep) (os : List Outer) (steps : List PlainStep) (close : CloseLine)
+    → closed (record d { outers = xs; steps = ss }) os steps close ≡ closed d os steps close
+unfolding closed
+closed_alike d xs ss [] steps close = refl
+closed_alike d xs ss (o ∷ os) steps close =
+    again_alike d xs ss o os (all_before steps (script_of_close close)) (λ c. closed (record d { outers = xs; steps = ss }) os o.steps c) (λ c. closed d os o.steps c) o.opened
+    (λ c. closed_alike d xs ss os o.steps c)
+
+-- ---- the innermost of the blocks around is taken out
+
+top_alike : (d : Draft) (o : Outer) (os : List Outer) (close : CloseLine) → d.outers ≡ o ∷ os
+    → closed_inside (record d { outers = os }) o os (all_before d.steps (script_of_close close)) (λ c. closed d os o.steps c) o.opened ≡ closed d d.outers d.steps close
+unfolding closed
+top_alike d o os close is =
+    inside_alike d os d.steps o os (all_before d.steps (script_of_close close)) (λ c. closed d os o.steps c) o.opened
+    ∙ ap (λ (xs : List Outer). closed d xs d.steps close) (sym is)
+
+-- closing stops there, or goes on, or fails
+pub top_stops : (d q : Draft) (o : Outer) (os : List Outer) (close : CloseLine) → d.outers ≡ o ∷ os → ClosesInside (record d { outers = os }) o close (Ok None) q
+    → closed d d.outers d.steps close ≡ Ok q
+top_stops d q o os close is inside = sym (top_alike d o os close is) ∙ inside (λ c. closed d os o.steps c)
+
+pub top_goes_on : (d q new : Draft) (o : Outer) (os : List Outer) (close next : CloseLine) (result : Result (Unit {0}) Trouble) → d.outers ≡ o ∷ os
+    → ClosesInside (record d { outers = os }) o close (Ok (Some next)) q → Moves result new (closed q q.outers q.steps next) → Moves result new (closed d d.outers d.steps close)
+top_goes_on d q new o os close next result is inside moves =
+    let again : CloseLine → Result Draft Kind = λ c. closed d os o.steps c in
+    let p : Draft = record d { outers = os; steps = o.steps } in
+    let there : closed q q.outers q.steps next ≡ closed p os o.steps next = ap (λ (x : Draft). closed x x.outers x.steps next) inside.1 in
+    subst (Moves result new) (there ∙ closed_alike d os o.steps os o.steps next ∙ sym (inside.0 again) ∙ top_alike d o os close is) moves
+
+pub top_fails : (d q : Draft) (o : Outer) (os : List Outer) (close : CloseLine) (e : Trouble) → d.outers ≡ o ∷ os → ClosesInside (record d { outers = os }) o close (Err e) q
+    → Fails e (closed d d.outers d.steps close)
+top_fails d q o os close e is inside = subst (Fails e) (top_alike d o os close is) (inside (λ c. closed d os o.steps c))
+
+pub bottom_closes : (d : Draft) (close : CloseLine) → d.outers ≡ [] → closed d d.outers d.steps close ≡ closed d [] d.steps close
+bottom_closes d close is = ap (λ (xs : List Outer). closed d xs d.steps close) is
+
+-- ---- what fits
+
+pub record TopFits (d : Draft) (o : Outer) (os : List Outer) : Type 0 where
+  pub draft : FitsScope (record d { outers = os })
+  pub room : length os + 2 ≤ most_depth
+  pub outer : FitsOuter o
+
+pub top_fits : (d : Draft) (o : Outer) (os : List Outer) → d.outers ≡ o ∷ os → FitsScope d → TopFits d o os
+top_fits d o os is f =
+    let all = subst AllFit is f.outers in
+    let deep : length (o ∷ os) + 1 ≤ most_depth = subst (λ (xs : List Outer). length xs + 1 ≤ most_depth) is f.shallow in
+    record {
+      draft = record { names = f.names; in_scope = f.in_scope; declared = f.declared; lines = f.lines; facts = f.facts; terms = f.terms; outers = all.1; shallow = omega (arith, deep) };
+      room = omega (arith, deep);
+      outer = all.0;
+    }
+
+-- ---- what a block shows is too much
+
+pub resumed_fails : (d p new : Draft) (o : Outer) (close : CloseLine) (shown : List Lit) (step : PlainStep) (inner : Script) (what : Opened) (e : Trouble) → o.opened ≡ what → p ≡ record d { steps = [] }
+    → inner ≡ all_before d.steps (script_of_close close) → ((again : CloseLine → Result Draft Kind) → closed_inside d o d.outers inner again what ≡ resumed d o d.outers shown step)
+    → Fails e (resumed p (record o { opened = what }) p.outers shown step) → ClosesInside d o close (Err e) new
+resumed_fails d p new o close shown step inner what e is taken block shows fails again =
+    let whole : record o { opened = what } ≡ o = sym (ap (λ (x : Opened). record o { opened = x }) is) in
+    let there : resumed p (record o { opened = what }) p.outers shown step ≡ resumed d o d.outers shown step =
+    ap (λ (x : Outer). resumed p x p.outers shown step) whole ∙ ap (λ (x : Draft). resumed x o x.outers shown step) taken ∙ sym (emptied d o d.outers shown step) in
+    let here : closed_inside d o d.outers (all_before d.steps (script_of_close close)) again o.opened ≡ resumed d o d.outers shown step =
+    ap (λ (s : Script). closed_inside d o d.outers s again o.opened) (sym block) ∙ ap (λ (x : Opened). closed_inside d o d.outers inner again x) is ∙ shows again in
+    subst (Fails e) (there ∙ sym here) fails

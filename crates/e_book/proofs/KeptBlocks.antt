@@ -1,0 +1,323 @@
+-- Each line of a proof keeps what is known of a draft.
+use Rattle.std.proofs.Common.{◌≡◌, ℕ, ◌+◌, ◌≤◌, true, cond, ◌||◌, List, [], ◌∷◌, ◌++◌, length, None, Result, Ok, refl, sym, ap, subst, ◌∙◌, arith}
+use Rattle.std.specs.List.{list_all}
+use Rattle.e_literal.specs.declared.object.Sort.{Sort}
+use Rattle.e_literal.specs.declared.object.Obj.{Obj}
+use Rattle.e_literal.specs.declared.literal.Lit.{Lit}
+use Rattle.e_literal.specs.Literal.{all_in_scope}
+use Rattle.e_literal.specs.WellFormed.{is_well_formed}
+use Rattle.e_construct.specs.declared.construction.Construction.{Construction}
+use Rattle.e_construct.specs.declared.superpose.Superpose.{Superpose}
+use Rattle.e_construct.specs.Construct.{made, gives}
+use Rattle.e_construct.specs.Superposing as superposing
+use Rattle.e_deriv.specs.declared.names.Names.{Names}
+use Rattle.e_deriv.specs.Script.{Script, Cases, size}
+use Rattle.e_deriv.specs.PlainStep.{PlainStep, Cited, Inferred, Made, Claimed, Copied, all_before}
+use Rattle.e_deriv.specs.Naming.{named}
+use Rattle.e_book.specs.declared.fault.Kind.{Kind}
+use Rattle.e_book.specs.declared.fault.What.TheVariants as limits
+use Rattle.e_book.specs.declared.literal.RawLit.{RawLit}
+use Rattle.e_book.specs.declared.lets.RawLet.{RawLet}
+use Rattle.e_book.specs.declared.superposes.RawSuperpose.{RawSuperpose}
+use Rattle.e_book.specs.declared.blocks.Outer.{Outer}
+use Rattle.e_book.specs.declared.blocks.Opened.{Opened}
+use Rattle.e_book.specs.declared.blocks.Opened.TheVariants as opened
+use Rattle.e_book.specs.declared.form.Form.TheVariants as forms
+use Rattle.e_book.specs.declared.steps.CloseLine.{CloseLine}
+use Rattle.e_book.specs.declared.steps.CloseLine.TheVariants as closes
+use Rattle.e_book.specs.declared.draft.Place.{Place}
+use Rattle.e_book.specs.declared.draft.Place.TheVariants.{Proving, Splitting, Closed}
+use Rattle.e_book.specs.declared.draft.Draft.{Draft}
+use Rattle.e_book.specs.Reading.{◌>>=◌}
+use Rattle.e_book.specs.Limits.{most_steps, most_depth, most_facts, most_terms, within, monomials, count_monomials}
+use Rattle.e_book.specs.Headed.{Headed}
+use Rattle.e_book.specs.Blocks.{is_claim, has_claim, made_in}
+use Rattle.e_book.specs.Scope.{scope_of_names, lit_in, lits_in, by_in, let_in, qed_in}
+use Rattle.e_book.specs.Superposes.{superpose_in}
+use Rattle.e_book.specs.Steps.{count_monos, few_monos, terms_after, with_terms, few_objects, with_step, built, outer_of, deeper, claimed, superposed, split, counted_from, resumed, closed_inside, closed, shut, stepped}
+use Rattle.e_book.specs.Entry.{script_of_close}
+use Rattle.e_book.proofs.Answered.{within_ok}
+use Rattle.e_book.proofs.Differ.{both}
+use Rattle.e_book.proofs.InScope.{bind_ok, ok_is, read_ok, lit_in_scope, each_all}
+use Rattle.e_book.proofs.SaidLits.{LitsSaid}
+use Rattle.e_book.proofs.SaidForms.{Said, by_plain}
+use Rattle.e_book.proofs.WellRead.{good_lits}
+use Rattle.e_book.proofs.KeptSums.{FewMonos, few_ok, terms_added, terms_within, one_lit, one_count}
+use Rattle.e_book.proofs.Citations.{by_fits}
+use Rattle.e_book.proofs.Building.{let_fits, superpose_fits, qed_fits}
+use Rattle.e_book.proofs.FittingScripts.{Spot, spot, with_lit, ScriptFits, ShownFit, CopyFits, SplitFits, fits_cited, fits_inferred, fits_made, fits_claimed, fits_copied, fits_qed, fits_contradiction, fits_split}
+use Rattle.e_book.proofs.OpenBlocks.{StepsFit, begun_by, OpenedFits, spot_of, first_spot, level, OuterFits, OutersFit, count_lines, lines_first, lines_around, Open, level_is, size_is, open_more, open_inner, open_again}
+use Rattle.e_book.proofs.Drafts.{HeadOf, start, OpenOf, Body, Good}
+
+-- ---- the place
+
+open_at : (d : Draft) → d.place ≡ Proving → Body d.place d → OpenOf d
+open_at d at b = subst (λ (p : Place). Body p d) at b
+
+still_open : (x : Draft) → x.place ≡ Proving → OpenOf x → Body x.place x
+still_open x at o = subst (λ (p : Place). Body p x) (sym at) o
+
+abbrev here : Draft → Spot
+here d = spot d.in_scope d.facts d.terms
+
+-- ---- literals that are read
+
+pub lits_within : (ns : Names) (raws : List RawLit) (ls : List Lit) → lits_in ns raws ≡ Ok ls → list_all (all_in_scope (scope_of_names ns)) ls ≡ true
+lits_within ns raws ls e = each_all (lit_in ns) (all_in_scope (scope_of_names ns)) (lit_in_scope ns) raws ls e
+
+shown_fit : (d : Draft) (raws : List RawLit) (ls : List Lit) → lits_in d.in_scope raws ≡ Ok ls → LitsSaid raws → FewMonos raws → ShownFit (here d) ls
+shown_fit d raws ls e said few = record { over = lits_within d.in_scope raws ls e; good = good_lits d.in_scope raws ls e said few.short few.small }
+
+good_one : (ns : Names) (r : RawLit) (l : Lit) → lit_in ns r ≡ Ok l → Said (forms.Hence r) → FewMonos (r ∷ []) → is_well_formed l ≡ true
+good_one ns r l e said few = (both (is_well_formed l) true (good_lits ns (r ∷ []) (l ∷ []) (one_lit ns r l e) (said, tt) few.short few.small)).0
+
+-- ---- steps
+
+-- what one more step leaves
+record Stepped (x e : Draft) (s : PlainStep) (n : ℕ) : Type 0 where
+  few : x.lines + 1 ≤ most_steps
+  facts : x.facts + n ≤ most_facts
+  is : record x { lines = x.lines + 1; steps = x.steps ++ s ∷ []; facts = x.facts + n } ≡ e
+
+step_taken : (x e : Draft) (s : PlainStep) (n : ℕ) → with_step x s n ≡ Ok e → Stepped x e s n
+unfolding with_step
+step_taken x e s n h =
+    let y : Draft = record x { lines = x.lines + 1; steps = x.steps ++ s ∷ []; facts = x.facts + n } in
+    let a = bind_ok (within (x.lines + 1) most_steps limits.Steps) (λ few. within (x.facts + n) most_facts limits.Facts >>= λ none. read_ok y) e h in
+    let b = bind_ok (within (x.facts + n) most_facts limits.Facts) (λ none. read_ok y) e a.2 in
+    record { few = within_ok _ _ _ a.0 a.1; facts = within_ok _ _ _ b.0 b.1; is = ok_is y e b.2 }
+
+pub keeps_by : (known : List Headed) (d e : Draft) (r : List ℕ) (ns : List (List ℕ)) (l : RawLit) → Good known d → d.place ≡ Proving → Said (forms.By r ns l) → stepped d (forms.By r ns l) ≡ Ok e → Good known e
+unfolding stepped
+keeps_by known d e r ns l g at said h =
+    let b = bind_ok (by_in d.in_scope r ns l) (λ b. with_step d (Cited b) 1) e h in
+    let s = step_taken d e (Cited b.0) 1 b.2 in
+    let x : Draft = record d { lines = d.lines + 1; steps = d.steps ++ Cited b.0 ∷ []; facts = d.facts + 1 } in
+    let o = open_more (start d) d.made d.outers d.steps (here d) (here x) d.lines (Cited b.0) (open_at d at g.body) refl
+    (λ rest fit. fits_cited (here d) (made_in d.outers d.made) (level d.outers) b.0 rest (by_fits d.in_scope r ns l b.0 b.1) (by_plain d.in_scope r ns l b.0 said b.1) s.facts fit) in
+    subst (λ (y : Draft). Good known y) s.is (record { head = g.head; body = still_open x at o })
+
+pub keeps_hence : (known : List Headed) (d e : Draft) (r : RawLit) → Good known d → d.place ≡ Proving → Said (forms.Hence r) → stepped d (forms.Hence r) ≡ Ok e → Good known e
+unfolding stepped
+keeps_hence known d e r g at said h =
+    let l = bind_ok (lit_in d.in_scope r) (λ l. with_step d (Inferred l None) 1 >>= λ x. with_terms x (r ∷ [])) e h in
+    let x = bind_ok (with_step d (Inferred l.0 None) 1) (λ x. with_terms x (r ∷ [])) e l.2 in
+    let s = step_taken d x.0 (Inferred l.0 None) 1 x.1 in
+    let y : Draft = record d { lines = d.lines + 1; steps = d.steps ++ Inferred l.0 None ∷ []; facts = d.facts + 1 } in
+    let t = terms_added y e (r ∷ []) (ap (λ (z : Draft). with_terms z (r ∷ [])) s.is ∙ x.2) in
+    let z : Draft = record y { terms = d.terms + count_monos (r ∷ []) } in
+    let n = one_count d.in_scope r l.0 l.1 in
+    let same : here z ≡ with_lit (here d) l.0 = ap (λ (k : ℕ). spot d.in_scope (d.facts + 1) (d.terms + k)) n in
+    let o = open_more (start d) d.made d.outers d.steps (here d) (here z) d.lines (Inferred l.0 None) (open_at d at g.body) refl
+    (λ rest fit. fits_inferred (here d) (made_in d.outers d.made) (level d.outers) l.0 rest (lit_in_scope d.in_scope r l.0 l.1) (good_one d.in_scope r l.0 l.1 said t.few) s.facts (omega (arith, t.within, n))
+    (subst (λ (at : Spot). ScriptFits at (made_in d.outers d.made) (level d.outers) rest) same fit)) in
+    subst (λ (y : Draft). Good known y) t.is (record { head = g.head; body = still_open z at o })
+
+keeps_built : (known : List Headed) (d e : Draft) (l : RawLet) → Good known d → d.place ≡ Proving → built d l ≡ Ok e → Good known e
+unfolding built
+keeps_built known d e l g at h =
+    let s = scope_of_names d.in_scope in
+    let after : Construction → Names = λ f. named d.in_scope (made f) l.new in
+    let then : Construction → Result Draft Kind = λ f. with_step (record d { in_scope = after f }) (Made f l.new []) (length (gives f s)) in
+    let f = bind_ok (let_in d.in_scope l) (λ f. few_objects (after f) >>= λ few. then f) e h in
+    let w = bind_ok (few_objects (after f.0)) (λ few. then f.0) e f.2 in
+    let t = step_taken (record d { in_scope = after f.0 }) e (Made f.0 l.new []) (length (gives f.0 s)) w.2 in
+    let x : Draft = record d { in_scope = after f.0; lines = d.lines + 1; steps = d.steps ++ Made f.0 l.new [] ∷ []; facts = d.facts + length (gives f.0 s) } in
+    let o = open_more (start d) d.made d.outers d.steps (here d) (here x) d.lines (Made f.0 l.new []) (open_at d at g.body) refl
+    (λ rest fit. fits_made (here d) (made_in d.outers d.made) (level d.outers) f.0 l.new [] rest (let_fits d.in_scope l f.0 f.1) w.1 t.facts fit) in
+    subst (λ (y : Draft). Good known y) t.is (record { head = g.head; body = still_open x at o })
+
+pub keeps_let : (known : List Headed) (d e : Draft) (l : RawLet) → Good known d → d.place ≡ Proving → stepped d (forms.Let l) ≡ Ok e → Good known e
+unfolding stepped
+keeps_let known d e l g at h = keeps_built known d e l g at h
+
+-- ---- an inner block begins
+
+record Deeper (d e : Draft) (op : Opened) (n : ℕ) : Type 0 where
+  deep : level d.outers + 2 ≤ most_depth
+  facts : d.facts + n ≤ most_facts
+  is : record d { lines = d.lines + 1; outers = outer_of d op ∷ d.outers; steps = []; facts = d.facts + n } ≡ e
+
+goes_deeper : (d e : Draft) (op : Opened) (n : ℕ) → deeper d op n ≡ Ok e → Deeper d e op n
+unfolding deeper
+goes_deeper d e op n h =
+    let y : Draft = record d { lines = d.lines + 1; outers = outer_of d op ∷ d.outers; steps = []; facts = d.facts + n } in
+    let a = bind_ok (within (d.lines + 1) most_steps limits.Steps) (λ few. within (length d.outers + 2) most_depth limits.Depth >>= λ shallow. within (d.facts + n) most_facts limits.Facts >>= λ none. read_ok y) e h in
+    let b = bind_ok (within (length d.outers + 2) most_depth limits.Depth) (λ shallow. within (d.facts + n) most_facts limits.Facts >>= λ none. read_ok y) e a.2 in
+    let c = bind_ok (within (d.facts + n) most_facts limits.Facts) (λ none. read_ok y) e b.2 in
+    let deep = within_ok _ _ _ b.0 b.1 in
+    record { deep = omega (arith, deep, level_is d.outers); facts = within_ok _ _ _ c.0 c.1; is = ok_is y e c.2 }
+
+-- the block inside, up to its first line
+opens : (d : Draft) (op : Opened) (to : Spot) → OpenOf d → OpenedFits (here d) (made_in d.outers d.made) (level d.outers) op → lines_first op ≡ 0 → level d.outers + 2 ≤ most_depth → begun_by (here d) op ≡ to
+    → Open (start d) d.made (outer_of d op ∷ d.outers) [] to (d.lines + 1)
+opens d op to o fit none deep is =
+    subst (λ (at : Spot). Open (start d) d.made (outer_of d op ∷ d.outers) [] at (d.lines + 1)) is
+    (open_inner (start d) d.made d.outers (outer_of d op) d.lines o fit none deep)
+
+keeps_claimed : (known : List Headed) (d e : Draft) (raws : List RawLit) → Good known d → d.place ≡ Proving → LitsSaid raws → claimed d raws ≡ Ok e → Good known e
+unfolding claimed
+keeps_claimed known d e raws g at said h =
+    let ls = bind_ok (lits_in d.in_scope raws) (λ ls. deeper d (opened.Claim ls) 0 >>= λ x. few_monos raws >>= λ few. read_ok x) e h in
+    let op = opened.Claim ls.0 in
+    let x = bind_ok (deeper d op 0) (λ x. few_monos raws >>= λ few. read_ok x) e ls.2 in
+    let f = bind_ok (few_monos raws) (λ few. read_ok x.0) e x.2 in
+    let w = goes_deeper d x.0 op 0 x.1 in
+    let y : Draft = record d { lines = d.lines + 1; outers = outer_of d op ∷ d.outers; steps = []; facts = d.facts + 0 } in
+    let same : here d ≡ here y = ap (λ (n : ℕ). spot d.in_scope n d.terms) (omega arith) in
+    let o = opens d op (here y) (open_at d at g.body) (shown_fit d raws ls.0 ls.1 said (few_ok raws f.0 f.1)) refl w.deep same in
+    subst (λ (z : Draft). Good known z) (w.is ∙ ok_is x.0 e f.2) (record { head = g.head; body = still_open y at o })
+
+pub keeps_claim : (known : List Headed) (d e : Draft) (raws : List RawLit) → Good known d → d.place ≡ Proving → Said (forms.Claim raws) → stepped d (forms.Claim raws) ≡ Ok e → Good known e
+unfolding stepped
+keeps_claim known d e raws g at said h = keeps_claimed known d e raws g at said.1 h
+
+keeps_superposed : (known : List Headed) (d e : Draft) (raw : RawSuperpose) → Good known d → d.place ≡ Proving → Said (forms.Superpose raw) → superposed d raw ≡ Ok e → Good known e
+unfolding superposed
+keeps_superposed known d e raw g at said h =
+    let given : Superpose → List Lit = λ form. superposing.gives form (scope_of_names d.in_scope) in
+    let after = named d.in_scope superposing.made raw.new in
+    let then : Draft → ℕ → Result Draft Kind = λ x n. read_ok (record x { in_scope = after; terms = n }) in
+    let p = bind_ok (superpose_in d.in_scope raw) (λ p. few_objects after >>= λ objects. deeper d (opened.Superpose p.0 raw.new p.1) (length (given p.0)) >>= λ x. few_monos raw.shown >>= λ few. terms_after x.terms (given p.0) >>= λ n. then x n) e h in
+    let form = p.0.0 in
+    let op = opened.Superpose form raw.new p.0.1 in
+    let b = bind_ok (few_objects after) (λ objects. deeper d op (length (given form)) >>= λ x. few_monos raw.shown >>= λ few. terms_after x.terms (given form) >>= λ n. then x n) e p.2 in
+    let x = bind_ok (deeper d op (length (given form))) (λ x. few_monos raw.shown >>= λ few. terms_after x.terms (given form) >>= λ n. then x n) e b.2 in
+    let f = bind_ok (few_monos raw.shown) (λ few. terms_after x.0.terms (given form) >>= λ n. then x.0 n) e x.2 in
+    let n = bind_ok (terms_after x.0.terms (given form)) (λ n. then x.0 n) e f.2 in
+    let w = goes_deeper d x.0 op (length (given form)) x.1 in
+    let y : Draft = record d { lines = d.lines + 1; outers = outer_of d op ∷ d.outers; steps = []; facts = d.facts + length (given form) } in
+    let t = terms_within d.terms n.0 (given form) (ap (λ (z : Draft). terms_after z.terms (given form)) w.is ∙ n.1) in
+    let z : Draft = record y { in_scope = after; terms = d.terms + count_monomials (given form) } in
+    let z-is : z ≡ e = ap (λ (k : ℕ). record y { in_scope = after; terms = k }) t.1 ∙ ap (λ (v : Draft). record v { in_scope = after; terms = n.0 }) w.is ∙ ok_is (record x.0 { in_scope = after; terms = n.0 }) e n.2 in
+    let c = superpose_fits d.in_scope raw p.0 p.1 in
+    let copy : CopyFits (here d) form raw.new = record { fits = c.fits; free = c.free; count = said.1; objects = b.1; facts = w.facts; terms = t.0 } in
+    let o = opens d op (here z) (open_at d at g.body) (copy, shown_fit d raw.shown p.0.1 c.lits said.3 (few_ok raw.shown f.0 f.1)) refl w.deep refl in
+    subst (λ (v : Draft). Good known v) z-is (record { head = g.head; body = still_open z at o })
+
+pub keeps_superpose : (known : List Headed) (d e : Draft) (raw : RawSuperpose) → Good known d → d.place ≡ Proving → Said (forms.Superpose raw) → stepped d (forms.Superpose raw) ≡ Ok e → Good known e
+unfolding stepped
+keeps_superpose known d e raw g at said h = keeps_superposed known d e raw g at said h
+
+keeps_split : (known : List Headed) (d e : Draft) (r : RawLit) → Good known d → d.place ≡ Proving → Said (forms.Cases r) → split d r ≡ Ok e → Good known e
+unfolding split
+keeps_split known d e r g at said h =
+    let l = bind_ok (lit_in d.in_scope r) (λ l. deeper d (opened.First l) 1 >>= λ x. with_terms x (r ∷ [])) e h in
+    let op = opened.First l.0 in
+    let x = bind_ok (deeper d op 1) (λ x. with_terms x (r ∷ [])) e l.2 in
+    let w = goes_deeper d x.0 op 1 x.1 in
+    let y : Draft = record d { lines = d.lines + 1; outers = outer_of d op ∷ d.outers; steps = []; facts = d.facts + 1 } in
+    let t = terms_added y e (r ∷ []) (ap (λ (z : Draft). with_terms z (r ∷ [])) w.is ∙ x.2) in
+    let z : Draft = record y { terms = d.terms + count_monos (r ∷ []) } in
+    let n = one_count d.in_scope r l.0 l.1 in
+    let same : with_lit (here d) l.0 ≡ here z = ap (λ (k : ℕ). spot d.in_scope (d.facts + 1) (d.terms + k)) (sym n) in
+    let fit : SplitFits (here d) l.0 = record { over = lit_in_scope d.in_scope r l.0 l.1; good = good_one d.in_scope r l.0 l.1 said t.few; facts = w.facts; terms = omega (arith, t.within, n) } in
+    let o = opens d op (here z) (open_at d at g.body) fit refl w.deep same in
+    subst (λ (y : Draft). Good known y) t.is (record { head = g.head; body = still_open z at o })
+
+pub keeps_cases : (known : List Headed) (d e : Draft) (r : RawLit) → Good known d → d.place ≡ Proving → Said (forms.Cases r) → stepped d (forms.Cases r) ≡ Ok e → Good known e
+unfolding stepped
+keeps_cases known d e r g at said h = keeps_split known d e r g at said h
+
+pub keeps_else : (known : List Headed) (d e : Draft) → Good known d → d.place ≡ Splitting → stepped d forms.Else ≡ Ok e → Good known e
+unfolding stepped
+keeps_else known d e g at h =
+    subst (λ (y : Draft). Good known y) (ok_is (record d { place = Proving }) e h) (record { head = g.head; body = subst (λ (p : Place). Body p d) at g.body })
+
+-- ---- a block is closed
+
+record Resumed (d e : Draft) (o : Outer) (os : List Outer) (shown : List Lit) (s : PlainStep) : Type 0 where
+  facts : o.facts + length shown ≤ most_facts
+  terms : o.terms + count_monomials shown ≤ most_terms
+  is : record d { facts = o.facts + length shown; terms = o.terms + count_monomials shown; steps = o.steps ++ s ∷ []; in_scope = o.in_scope; outers = os } ≡ e
+
+goes_on : (d e : Draft) (o : Outer) (os : List Outer) (shown : List Lit) (s : PlainStep) → resumed d o os shown s ≡ Ok e → Resumed d e o os shown s
+unfolding resumed counted_from
+goes_on d e o os shown s h =
+    let n = o.facts + length shown in
+    let then : Draft → Draft = λ x. record x { steps = o.steps ++ s ∷ []; in_scope = o.in_scope; outers = os } in
+    let counted : ℕ → Draft = λ t. record d { facts = n; terms = t } in
+    let x = bind_ok (counted_from d o.facts o.terms shown) (λ x. read_ok (then x)) e h in
+    let f = bind_ok (within n most_facts limits.Facts) (λ few. terms_after o.terms shown >>= λ t. read_ok (counted t)) x.0 x.1 in
+    let t = bind_ok (terms_after o.terms shown) (λ t. read_ok (counted t)) x.0 f.2 in
+    let w = terms_within o.terms t.0 shown t.1 in
+    record { facts = within_ok _ _ _ f.0 f.1; terms = w.0; is = ap (λ (k : ℕ). then (counted k)) w.1 ∙ ap then (ok_is (counted t.0) x.0 t.2) ∙ ok_is (then x.0) e x.2 }
+
+-- the made objects of the goal of a block inside
+abbrev made_inside : Opened → List Outer → List Sort → List Sort
+made_inside op os sorts = cond (is_claim op || has_claim os) [] sorts
+
+size_split : (lit : Lit) (first second : Script) → size (Cases lit first second) ≡ 1 + size first + size second
+unfolding size
+size_split lit first second = refl
+
+-- an inner block is closed; what closing the block around it leaves is good
+closes_inside : (known : List Headed) (d e : Draft) (o : Outer) (os : List Outer) (inner : Script) (again : CloseLine → Result Draft Kind) (op : Opened) → HeadOf known d → d.place ≡ Proving
+    → StepsFit (first_spot (start d) os) (made_in os d.made) (level os) o.steps (spot_of o) → OpenedFits (spot_of o) (made_in os d.made) (level os) op → OutersFit (start d) d.made os
+    → ScriptFits (begun_by (spot_of o) op) (made_inside op os d.made) (level os + 1) inner → d.lines ≡ size inner + (1 + lines_first op + count_lines o.steps + lines_around os) → level os + 1 + 1 ≤ most_depth
+    → ((c : CloseLine) → ScriptFits (first_spot (start d) os) (made_in os d.made) (level os) (all_before o.steps (script_of_close c)) → d.lines ≡ size (all_before o.steps (script_of_close c)) + lines_around os
+    → again c ≡ Ok e → Good known e)
+    → closed_inside d o os inner again op ≡ Ok e → Good known e
+closes_inside known d e o os inner again (opened.Claim shown) head at steps shows around fit n deep next h =
+    let s = Claimed shown inner in
+    let r = goes_on d e o os shown s h in
+    let x : Draft = record d { facts = o.facts + length shown; terms = o.terms + count_monomials shown; steps = o.steps ++ s ∷ []; in_scope = o.in_scope; outers = os } in
+    let b = open_again (start d) d.made os o (here x) d.lines s steps around (omega (arith, deep)) (omega (arith, n))
+    (λ rest f. fits_claimed (spot_of o) (made_in os d.made) (level os) shown inner rest shows fit r.facts r.terms f) in
+    subst (λ (y : Draft). Good known y) r.is (record { head = head; body = still_open x at b })
+closes_inside known d e o os inner again (opened.Superpose form names shown) head at steps copies around fit n deep next h =
+    let s = Copied form names shown [] inner in
+    let r = goes_on d e o os shown s h in
+    let x : Draft = record d { facts = o.facts + length shown; terms = o.terms + count_monomials shown; steps = o.steps ++ s ∷ []; in_scope = o.in_scope; outers = os } in
+    let b = open_again (start d) d.made os o (here x) d.lines s steps around (omega (arith, deep)) (omega (arith, n))
+    (λ rest f. fits_copied (spot_of o) (made_in os d.made) (level os) form names shown [] inner rest copies.0 copies.1 fit r.facts r.terms f) in
+    subst (λ (y : Draft). Good known y) r.is (record { head = head; body = still_open x at b })
+closes_inside known d e o os inner again (opened.First lit) head at steps splits around fit n deep next h =
+    let o2 : Outer = record o { opened = opened.Second lit inner } in
+    let x : Draft = record d { steps = []; in_scope = o.in_scope; facts = o.facts + 1; terms = o.terms + monomials lit.atom; outers = o2 ∷ os; place = Splitting } in
+    let f : OuterFits (start d) d.made os o2 = record { steps = steps; opened = (splits, fit) } in
+    let b : OpenOf x = record { steps = λ rest r. r; outers = (f, around); lines = omega (arith, n); shallow = deep } in
+    subst (λ (y : Draft). Good known y) (ok_is x e h) (record { head = head; body = b })
+closes_inside known d e o os inner again (opened.Second lit first) head at steps splits around fit n deep next h =
+    let close = closes.Cases lit first inner in
+    let whole = steps (Cases lit first inner) (fits_split (spot_of o) (made_in os d.made) (level os) lit first inner splits.0 splits.1 fit) in
+    next close whole (omega (arith, n, size_is o.steps (Cases lit first inner), size_split lit first inner)) h
+
+-- a block is closed, and with it those blocks around it that end with a split
+closes_block : (known : List Headed) (d e : Draft) (os : List Outer) (ss : List PlainStep) (close : CloseLine) → HeadOf known d → d.place ≡ Proving → OutersFit (start d) d.made os
+    → ScriptFits (first_spot (start d) os) (made_in os d.made) (level os) (all_before ss (script_of_close close)) → d.lines ≡ size (all_before ss (script_of_close close)) + lines_around os → d.lines ≤ most_steps
+    → level os + 1 ≤ most_depth → closed d os ss close ≡ Ok e → Good known e
+unfolding closed
+closes_block known d e [] ss close head at around fit n few deep h =
+    let x : Draft = record d { steps = ss; outers = []; close = close; place = Closed } in
+    subst (λ (y : Draft). Good known y) (ok_is x e h) (record { head = head; body = record { fits = fit; short = omega (arith, n, few) } })
+closes_block known d e (o ∷ os) ss close head at around fit n few deep h =
+    closes_inside known d e o os (all_before ss (script_of_close close)) (λ c. closed d os o.steps c) o.opened head at around.0.steps around.0.opened around.1 fit n deep
+    (λ c f k again. closes_block known d e os o.steps c head at around.1 f k few (omega (arith, deep)) again) h
+
+keeps_shut : (known : List Headed) (d e : Draft) (close : CloseLine) → Good known d → d.place ≡ Proving → ScriptFits (here d) (made_in d.outers d.made) (level d.outers) (script_of_close close) → size (script_of_close close) ≡ 1
+    → shut d close ≡ Ok e → Good known e
+unfolding shut
+keeps_shut known d e close g at fit one h =
+    let x : Draft = record d { lines = d.lines + 1 } in
+    let w = bind_ok (within (d.lines + 1) most_steps limits.Steps) (λ few. closed x d.outers d.steps close) e h in
+    let o = open_at d at g.body in
+    closes_block known x e d.outers d.steps close g.head at o.outers (o.steps (script_of_close close) fit) (omega (arith, o.lines, one, size_is d.steps (script_of_close close))) (within_ok _ _ _ w.0 w.1) o.shallow w.2
+
+one_line : (os : List Obj) → size (script_of_close (closes.Qed os)) ≡ 1
+unfolding size
+one_line os = refl
+
+pub keeps_qed : (known : List Headed) (d e : Draft) (ns : List (List ℕ)) → Good known d → d.place ≡ Proving → stepped d (forms.Qed ns) ≡ Ok e → Good known e
+unfolding stepped
+keeps_qed known d e ns g at h =
+    let sorts = made_in d.outers d.made in
+    let os = bind_ok (qed_in d.in_scope sorts ns) (λ os. shut d (closes.Qed os)) e h in
+    let o = open_at d at g.body in
+    keeps_shut known d e (closes.Qed os.0) g at (fits_qed (here d) sorts (level d.outers) os.0 (qed_fits d.in_scope sorts ns os.0 os.1) o.shallow) (one_line os.0) os.2
+
+pub keeps_contradiction : (known : List Headed) (d e : Draft) → Good known d → d.place ≡ Proving → stepped d forms.Contradiction ≡ Ok e → Good known e
+unfolding stepped size
+keeps_contradiction known d e g at h =
+    let o = open_at d at g.body in
+    keeps_shut known d e closes.Contradiction g at (fits_contradiction (here d) (made_in d.outers d.made) (level d.outers) o.shallow) refl h

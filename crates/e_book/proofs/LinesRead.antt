@@ -1,0 +1,229 @@
+-- Each line of a proof is read from its canonical spelling.
+use Rattle.std.proofs.Common.{◌≡◌, ℕ, ◌+◌, ◌≤◌, false, true, eqb, ltb, ◌&&◌, List, [], ◌∷◌, ◌++◌, length, map, None, Ok, refl, sym, ap, subst, ◌∙◌, arith}
+use Rattle.std.proofs.lemmas.Bool.{le-ltb, eq-eqb}
+use Rattle.std.proofs.lemmas.List.{length-map}
+use Rattle.e_literal.specs.declared.object.Sort.{Sort}
+use Rattle.e_literal.specs.declared.object.Obj.{Obj}
+use Rattle.e_literal.specs.declared.literal.Lit.{Lit}
+use Rattle.e_literal.specs.Literal.{is_in_scope}
+use Rattle.e_literal.specs.Scopes.{same_sort, are_of_sorts}
+use Rattle.e_clause.specs.declared.cert.By.{By}
+use Rattle.e_construct.specs.declared.construction.Construction.{Construction}
+use Rattle.e_construct.specs.declared.superpose.Superpose.{Superpose}
+use Rattle.e_construct.specs.Construct.{made, gives}
+use Rattle.e_construct.specs.Superposing as superposing
+use Rattle.e_deriv.specs.declared.names.Names.{Names}
+use Rattle.e_deriv.specs.Naming.{named}
+use Rattle.e_deriv.specs.PlainStep.{PlainStep, Cited, Inferred, Made, Claimed, Copied, all_before}
+use Rattle.e_deriv.specs.Script.{Script}
+use Rattle.e_deriv.specs.Steps.{is_citation}
+use Rattle.e_book.specs.declared.blocks.Outer.{Outer}
+use Rattle.e_book.specs.declared.blocks.Opened.{Opened}
+use Rattle.e_book.specs.declared.blocks.Opened.TheVariants as opened
+use Rattle.e_book.specs.declared.steps.CloseLine.{CloseLine}
+use Rattle.e_book.specs.declared.steps.CloseLine.TheVariants as closes
+use Rattle.e_book.specs.declared.draft.Place.TheVariants.{Proving, Splitting}
+use Rattle.e_book.specs.declared.draft.Draft.{Draft}
+use Rattle.e_book.specs.Limits.{most_steps, most_depth, most_facts, most_terms, monomials, count_monomials}
+use Rattle.e_book.specs.Blocks.{made_in}
+use Rattle.e_book.specs.Scope.{scope_of_names, object_as, objects_of_sorts, qed_in}
+use Rattle.e_book.specs.Steps.{count_monos, few_objects, with_step, with_terms, built, deeper, claimed, superposed, split, counted_from, resumed, closed, shut, stepped, step}
+use Rattle.e_book.specs.Entry.{script_of_close}
+use Rattle.e_book.specs.Fits.{is_diagram_lit}
+use Rattle.e_book.specs.Canonical.{raw_of, name_of_object, by_form, hence_form, let_form, claim_form, superpose_form, cases_form, else_form, qed_form, contradiction_form}
+use Rattle.e_book.proofs.Differ.{both}
+use Rattle.e_book.proofs.Respelled.{as_read}
+use Rattle.e_book.proofs.Lookups.{InOrder, object_again, sorts_same}
+use Rattle.e_book.proofs.LitLookups.{lit_number_again}
+use Rattle.e_book.proofs.ShortLits.{few_again, all_few_again, count_again}
+use Rattle.e_book.proofs.PlainLits.{Plain, PlainLit, lits_number_again}
+use Rattle.e_book.proofs.Cited.{by_number_again}
+use Rattle.e_book.proofs.Building.{GoodLet}
+use Rattle.e_book.proofs.Built.{of_sorts_length, let_number_again}
+use Rattle.e_book.proofs.Superposed.{GoodSuperpose, superpose_number_again}
+
+-- where a line of a proof stands: the open block, and the blocks around it
+pub record Inside : Type 0 where
+  pub outers : List Outer
+  pub in_scope : Names
+  pub steps : List PlainStep
+  pub lines : ℕ
+  pub facts : ℕ
+  pub terms : ℕ
+
+-- a draft in its proof, there
+abbrev pub proving : Draft → Inside → Draft
+proving d i = record d { in_scope = i.in_scope; steps = i.steps; lines = i.lines; facts = i.facts; terms = i.terms; outers = i.outers; place = Proving }
+
+-- and behind the first block of a split
+abbrev pub splitting : Draft → Inside → Draft
+splitting d i = record (proving d i) { place = Splitting }
+
+-- behind one more step, with so many more facts
+abbrev pub behind : Inside → PlainStep → ℕ → Inside
+behind i s facts = record i { steps = i.steps ++ s ∷ []; lines = i.lines + 1; facts = i.facts + facts }
+
+-- the open block, which an inner one interrupts
+abbrev pub outer : Inside → Opened → Outer
+outer i o = record { steps = i.steps; in_scope = i.in_scope; facts = i.facts; terms = i.terms; opened = o }
+
+-- in an inner block, which begins with so many more facts
+abbrev pub deep : Inside → Opened → ℕ → Inside
+deep i o facts = record i { outers = outer i o ∷ i.outers; steps = []; lines = i.lines + 1; facts = i.facts + facts }
+
+-- with so many more monomials
+abbrev pub written : Inside → ℕ → Inside
+written i terms = record i { terms = i.terms + terms }
+
+-- in the block of a superposition
+abbrev pub copied : Inside → Superpose → List (List ℕ) → List Lit → Inside
+copied i form names shown =
+    let given = superposing.gives form (scope_of_names i.in_scope) in
+    record (written (deep i (opened.Superpose form names shown) (length given)) (count_monomials given)) { in_scope = named i.in_scope superposing.made names }
+
+-- behind an inner block that shows these literals, whose last line has this number
+abbrev pub resume : Inside → ℕ → PlainStep → List Lit → Inside
+resume i lines s shown = record i { steps = i.steps ++ s ∷ []; lines = lines; facts = i.facts + length shown; terms = i.terms + count_monomials shown }
+
+-- in the second block of a split
+abbrev pub second : Inside → ℕ → Lit → Script → Inside
+second i lines lit first =
+    record i { outers = outer i (opened.Second lit first) ∷ i.outers; steps = []; lines = lines; facts = i.facts + 1; terms = i.terms + monomials lit.atom }
+
+-- ---- lines of the open block
+
+pub step_cite : (d : Draft) (i : Inside) (b : By) → InOrder i.in_scope → is_citation (scope_of_names i.in_scope) b ≡ true → is_diagram_lit b.lit ≡ true → i.lines + 1 ≤ most_steps → i.facts + 1 ≤ most_facts
+    → step (proving d i) (by_form i.in_scope b) ≡ Ok (proving d (behind i (Cited b) 1))
+unfolding step stepped with_step
+step_cite d i b o h p few most =
+    let room : ltb most_steps (i.lines + 1) ≡ false = le-ltb _ _ few in
+    let place : ltb most_facts (i.facts + 1) ≡ false = le-ltb _ _ most in
+    rw (by_number_again i.in_scope b o h p, room, place) refl
+
+pub step_hence : (d : Draft) (i : Inside) (l : Lit) → InOrder i.in_scope → PlainLit i.in_scope l → i.lines + 1 ≤ most_steps → i.facts + 1 ≤ most_facts → i.terms + monomials l.atom ≤ most_terms
+    → step (proving d i) (hence_form i.in_scope l) ≡ Ok (proving d (written (behind i (Inferred l None) 1) (monomials l.atom)))
+unfolding step stepped with_step with_terms
+step_hence d i l o p few most short =
+    let room : ltb most_steps (i.lines + 1) ≡ false = le-ltb _ _ few in
+    let place : ltb most_facts (i.facts + 1) ≡ false = le-ltb _ _ most in
+    let more : ltb most_terms (i.terms + count_monos (raw_of i.in_scope l ∷ [])) ≡ false = le-ltb _ _ (omega (arith, short, count_again i.in_scope l)) in
+    rw (lit_number_again i.in_scope l o p.within p.good, room, place, few_again i.in_scope l p.good, more) (ap (λ (n : ℕ). Ok (proving d (written (behind i (Inferred l None) 1) n))) (count_again i.in_scope l))
+
+pub step_let : (d : Draft) (i : Inside) (form : Construction) (names : List (List ℕ)) → InOrder i.in_scope → GoodLet i.in_scope form names → few_objects (named i.in_scope (made form) names) ≡ Ok tt
+    → i.lines + 1 ≤ most_steps → i.facts + length (gives form (scope_of_names i.in_scope)) ≤ most_facts
+    → step (proving d i) (as_read (let_form i.in_scope form names))
+    ≡ Ok (proving d (record (behind i (Made form names []) (length (gives form (scope_of_names i.in_scope)))) { in_scope = named i.in_scope (made form) names }))
+unfolding step stepped built with_step
+step_let d i form names o h fit few most =
+    let room : ltb most_steps (i.lines + 1) ≡ false = le-ltb _ _ few in
+    let place : ltb most_facts (i.facts + length (gives form (scope_of_names i.in_scope))) ≡ false = le-ltb _ _ most in
+    rw (let_number_again i.in_scope form names o h, fit, room, place) refl
+
+-- ---- lines that begin an inner block
+
+deeper_again : (d : Draft) (i : Inside) (o : Opened) (given : ℕ) → i.lines + 1 ≤ most_steps → length i.outers + 2 ≤ most_depth → i.facts + given ≤ most_facts
+    → deeper (proving d i) o given ≡ Ok (proving d (deep i o given))
+unfolding deeper
+deeper_again d i o given few shallow most =
+    let room : ltb most_steps (i.lines + 1) ≡ false = le-ltb _ _ few in
+    let deep : ltb most_depth (length i.outers + 2) ≡ false = le-ltb _ _ shallow in
+    let place : ltb most_facts (i.facts + given) ≡ false = le-ltb _ _ most in
+    rw (room, deep, place) refl
+
+pub step_claim : (d : Draft) (i : Inside) (shown : List Lit) → InOrder i.in_scope → Plain i.in_scope shown → i.lines + 1 ≤ most_steps → length i.outers + 2 ≤ most_depth → i.facts + 0 ≤ most_facts
+    → step (proving d i) (claim_form i.in_scope shown) ≡ Ok (proving d (deep i (opened.Claim shown) 0))
+unfolding step stepped claimed
+step_claim d i shown o p few shallow most =
+    rw (lits_number_again i.in_scope shown o p, deeper_again d i (opened.Claim shown) 0 few shallow most, all_few_again i.in_scope shown p.good) refl
+
+pub step_superpose : (d : Draft) (i : Inside) (form : Superpose) (names : List (List ℕ)) (shown : List Lit) → GoodSuperpose i.in_scope form names shown → few_objects (named i.in_scope superposing.made names) ≡ Ok tt
+    → i.lines + 1 ≤ most_steps → length i.outers + 2 ≤ most_depth
+    → i.facts + length (superposing.gives form (scope_of_names i.in_scope)) ≤ most_facts → i.terms + count_monomials (superposing.gives form (scope_of_names i.in_scope)) ≤ most_terms
+    → step (proving d i) (superpose_form i.in_scope form names shown)
+    ≡ Ok (proving d (copied i form names shown))
+unfolding step stepped superposed
+step_superpose d i form names shown g fit few shallow most short =
+    let given = superposing.gives form (scope_of_names i.in_scope) in
+    let more : ltb most_terms (i.terms + count_monomials given) ≡ false = le-ltb _ _ short in
+    rw (superpose_number_again i.in_scope form names shown g, fit, deeper_again d i (opened.Superpose form names shown) (length given) few shallow most, all_few_again i.in_scope shown g.plain.good, more) refl
+
+pub step_cases : (d : Draft) (i : Inside) (l : Lit) → InOrder i.in_scope → PlainLit i.in_scope l → i.lines + 1 ≤ most_steps → length i.outers + 2 ≤ most_depth → i.facts + 1 ≤ most_facts → i.terms + monomials l.atom ≤ most_terms
+    → step (proving d i) (cases_form i.in_scope l) ≡ Ok (proving d (written (deep i (opened.First l) 1) (monomials l.atom)))
+unfolding step stepped split with_terms
+step_cases d i l o p few shallow most short =
+    let more : ltb most_terms (i.terms + count_monos (raw_of i.in_scope l ∷ [])) ≡ false = le-ltb _ _ (omega (arith, short, count_again i.in_scope l)) in
+    rw (lit_number_again i.in_scope l o p.within p.good, deeper_again d i (opened.First l) 1 few shallow most, few_again i.in_scope l p.good, more)
+    (ap (λ (n : ℕ). Ok (proving d (written (deep i (opened.First l) 1) n))) (count_again i.in_scope l))
+
+pub step_else : (d : Draft) (i : Inside) → step (splitting d i) else_form ≡ Ok (proving d i)
+unfolding step stepped
+step_else d i = refl
+
+-- ---- lines that close a block
+
+objects_read : (ns : Names) (sorts : List Sort) (os : List Obj) → InOrder ns → are_of_sorts (scope_of_names ns) sorts os ≡ true → objects_of_sorts ns sorts (map (name_of_object ns) os) ≡ Ok os
+objects_read ns [] [] o h = refl
+objects_read ns [] (x ∷ os) o h = absurd cc
+objects_read ns (sort ∷ sorts) [] o h = absurd cc
+objects_read ns (sort ∷ sorts) (x ∷ os) o h =
+    let p = both (same_sort sort x.sort) (is_in_scope (scope_of_names ns) x && are_of_sorts (scope_of_names ns) sorts os) h in
+    let q = both (is_in_scope (scope_of_names ns) x) (are_of_sorts (scope_of_names ns) sorts os) p.1 in
+    let one : object_as ns sort (name_of_object ns x) ≡ Ok x = subst (λ (t : Sort). object_as ns t (name_of_object ns x) ≡ Ok x) (sym (sorts_same sort x.sort p.0)) (object_again ns x o q.0) in
+    rw (one, objects_read ns sorts os o q.1) refl
+
+qed_read : (ns : Names) (sorts : List Sort) (os : List Obj) → InOrder ns → are_of_sorts (scope_of_names ns) sorts os ≡ true → qed_in ns sorts (map (name_of_object ns) os) ≡ Ok os
+unfolding qed_in
+qed_read ns sorts os o h =
+    let count : eqb (length (map (name_of_object ns) os)) (length sorts) ≡ true = eq-eqb _ _ (length-map os (name_of_object ns) ∙ of_sorts_length (scope_of_names ns) sorts os h) in
+    rw count (objects_read ns sorts os o h)
+
+pub step_qed : (d : Draft) (i : Inside) (os : List Obj) → InOrder i.in_scope → are_of_sorts (scope_of_names i.in_scope) (made_in i.outers d.made) os ≡ true → i.lines + 1 ≤ most_steps
+    → step (proving d i) (qed_form i.in_scope os) ≡ closed (proving d (record i { lines = i.lines + 1 })) i.outers i.steps (closes.Qed os)
+unfolding step stepped shut
+step_qed d i os o h few =
+    let room : ltb most_steps (i.lines + 1) ≡ false = le-ltb _ _ few in
+    rw (qed_read i.in_scope (made_in i.outers d.made) os o h, room) refl
+
+pub step_contradiction : (d : Draft) (i : Inside) → i.lines + 1 ≤ most_steps → step (proving d i) contradiction_form ≡ closed (proving d (record i { lines = i.lines + 1 })) i.outers i.steps closes.Contradiction
+unfolding step stepped shut
+step_contradiction d i few =
+    let room : ltb most_steps (i.lines + 1) ≡ false = le-ltb _ _ few in
+    rw room refl
+
+-- ---- what comes behind a block that is closed
+
+-- the close of a block with these steps
+abbrev pub Closes : List PlainStep → CloseLine → Script → Type 0
+Closes steps close inner = all_before steps (script_of_close close) ≡ inner
+
+resumed_again : (d : Draft) (i last : Inside) (o : Opened) (s : PlainStep) (shown : List Lit) → i.facts + length shown ≤ most_facts → i.terms + count_monomials shown ≤ most_terms
+    → resumed (proving d last) (outer i o) i.outers shown s ≡ Ok (proving d (resume i last.lines s shown))
+unfolding resumed counted_from
+resumed_again d i last o s shown most short =
+    let place : ltb most_facts (i.facts + length shown) ≡ false = le-ltb _ _ most in
+    let more : ltb most_terms (i.terms + count_monomials shown) ≡ false = le-ltb _ _ short in
+    rw (place, more) refl
+
+pub claim_closed : (d : Draft) (i last : Inside) (shown : List Lit) (steps : List PlainStep) (close : CloseLine) (inner : Script) → Closes steps close inner → i.facts + length shown ≤ most_facts → i.terms + count_monomials shown ≤ most_terms
+    → closed (proving d last) (outer i (opened.Claim shown) ∷ i.outers) steps close ≡ Ok (proving d (resume i last.lines (Claimed shown inner) shown))
+unfolding closed
+claim_closed d i last shown steps close inner e most short =
+    ap (λ (x : Script). resumed (proving d last) (outer i (opened.Claim shown)) i.outers shown (Claimed shown x)) e ∙ resumed_again d i last (opened.Claim shown) (Claimed shown inner) shown most short
+
+pub superpose_closed : (d : Draft) (i last : Inside) (form : Superpose) (names : List (List ℕ)) (shown : List Lit) (steps : List PlainStep) (close : CloseLine) (inner : Script) → Closes steps close inner
+    → i.facts + length shown ≤ most_facts → i.terms + count_monomials shown ≤ most_terms
+    → closed (proving d last) (outer i (opened.Superpose form names shown) ∷ i.outers) steps close ≡ Ok (proving d (resume i last.lines (Copied form names shown [] inner) shown))
+unfolding closed
+superpose_closed d i last form names shown steps close inner e most short =
+    let o = opened.Superpose form names shown in
+    ap (λ (x : Script). resumed (proving d last) (outer i o) i.outers shown (Copied form names shown [] x)) e ∙ resumed_again d i last o (Copied form names shown [] inner) shown most short
+
+pub first_closed : (d : Draft) (i last : Inside) (lit : Lit) (steps : List PlainStep) (close : CloseLine) (inner : Script) → Closes steps close inner
+    → closed (proving d last) (outer i (opened.First lit) ∷ i.outers) steps close ≡ Ok (splitting d (second i last.lines lit inner))
+unfolding closed
+first_closed d i last lit steps close inner e = ap (λ (x : Script). Ok (splitting d (second i last.lines lit x))) e
+
+pub second_closed : (d : Draft) (i last : Inside) (lit : Lit) (first : Script) (steps : List PlainStep) (close : CloseLine) (inner : Script) → Closes steps close inner
+    → closed (proving d last) (outer i (opened.Second lit first) ∷ i.outers) steps close ≡ closed (proving d last) i.outers i.steps (closes.Cases lit first inner)
+unfolding closed
+second_closed d i last lit first steps close inner e = ap (λ (x : Script). closed (proving d last) i.outers i.steps (closes.Cases lit first x)) e

@@ -1,0 +1,17 @@
+use Rattle.std.proofs.Common.{◌≡◌, Result, Ok, sym, ap, subst, ◌∙◌, arith}
+use Rattle.e_book.specs.declared.draft.Draft.{Draft}
+use Rattle.e_book.specs.declared.fault.Kind.{Kind}
+use Rattle.e_book.specs.Reading.{Moves}
+use Rattle.e_book.specs.Superposes.{superpose_in}
+use Rattle.e_book.specs.Steps.{superposed}
+use Rattle.e_book.proofs.Copies.{superposed_is}
+use Rattle.e_book.proofs.draft.Draft.superpose.Goals as goal
+
+pub returns-clause-value : goal.returns-clause-value
+returns-clause-value c =
+    let d = c.args.self.now in
+    let raw = c.args.raw.now in
+    let form = c.in_ok-form.field-0.form in
+    let shown = c.in_ok-form.field-0.shown in
+    let is = superposed_is d raw form shown c.in_ok-few_objects.field-0 c.in_ok-form.ensures (grind arith) in
+    subst (λ (r : Result Draft Kind). Moves c.begin_copies.result c.begin_copies.new.self r) (grind (arith, is)) c.begin_copies.ensures.value

@@ -1,0 +1,131 @@
+//! The lines of superpositions.
+ghost use Rattle.std.specs.Prelude.{◌≡◌, IfOk, map, take, drop};
+ghost use Rattle.e_construct.specs.Views.{piece_said};
+ghost use Rattle.e_book.specs.Reading.{texts, Gives};
+ghost use Rattle.e_book.specs.Scope.{FewNames};
+ghost use Rattle.e_book.specs.Superposes.{superpose_pieces, head_of, superpose_of, placed_in, superpose_in};
+
+use crate::fault::{Kind, Trouble};
+use crate::lets::{are_words_of, names_at};
+use crate::literal::{RawLit, lits_of};
+use crate::scope::{fresh, number_of, put_lits};
+use e_construct::{Piece, Superpose};
+use e_deriv::Names;
+use e_literal::{Items, Lit, Sort};
+use e_text::Name;
+use std::alloc::Global;
+
+/// A superposition with its names as they are spelled, from left to right.
+#[derive(Debug, Drop)]
+pub struct RawSuperpose {
+    /// The triangle and its line, and then the place and its line.
+    pub args: Items<Name>,
+    /// The names of the copied points.
+    pub new: Items<Name>,
+    /// What its block shows.
+    pub shown: Items<RawLit>,
+}
+
+/// How many words stand before the literals.
+const HEAD: usize = 13;
+
+static PIECES: [Piece; 13] = [
+    Piece::Argument,
+    Piece::Argument,
+    Piece::Argument,
+    Piece::Argument,
+    Piece::Word(b"onto"),
+    Piece::Argument,
+    Piece::Argument,
+    Piece::Argument,
+    Piece::Argument,
+    Piece::Word(b"as"),
+    Piece::New,
+    Piece::New,
+    Piece::Word(b"show"),
+];
+
+/// The pieces of the head of a line.
+fn pieces() -> &'static [Piece]
+    ensures { map piece_said result.now ≡ superpose_pieces }
+{
+    &PIECES
+}
+
+/// The words up to `show`, and those behind them.
+fn parted<'a, 'b>(words: &'a [&'b [u8]]) -> (&'a [&'b [u8]], &'a [&'b [u8]])
+    ensures head { texts result.0.now ≡ take 13 (texts words.now) }
+    ensures rest { texts result.1.now ≡ drop 13 (texts words.now) }
+{
+    words.split_at(HEAD.min(words.len()))
+}
+
+/// The words up to `show`, and those of the literals.
+#[tactic(auto, unfolding(crate::specs::Superposes::head_of))]
+fn head_of(alloc: Global, head: &[&[u8]], rest: &[&[u8]]) -> Result<RawSuperpose, Trouble>
+    ensures { Gives (λ s. s) result (head_of (texts head.now) (texts rest.now)) }
+{
+    if !are_words_of(pieces(), head) {
+        return Err(Trouble::Fault(Kind::Malformed));
+    }
+    let new = names_at(alloc, true, pieces(), head)?;
+    let args = names_at(alloc, false, pieces(), head)?;
+    let shown = lits_of(alloc, rest)?;
+    Ok(RawSuperpose { args, new, shown })
+}
+
+/// What stands behind `superpose`: the objects, the new names, and at least one literal.
+#[tactic(auto, unfolding(crate::specs::Superposes::superpose_of))]
+pub(crate) fn superpose_of(alloc: Global, words: &[&[u8]]) -> Result<RawSuperpose, Trouble>
+    ensures { Gives (λ s. s) result (superpose_of (texts words.now)) }
+{
+    let (head, rest) = parted(words);
+    head_of(alloc, head, rest)
+}
+
+/// The points and lines, as they stand there.
+#[tactic(auto, unfolding(crate::specs::Superposes::placed_in))]
+fn placed_in(names: &Names, args: &[Name]) -> Result<Superpose, Trouble>
+    requires { FewNames names.now }
+    ensures { Gives (λ s. s) result (placed_in names.now args.now) }
+{
+    let [a, b, c, k, d, g, h, l] = args else {
+        return Err(Trouble::Fault(Kind::Malformed));
+    };
+    let a = number_of(names, Sort::Point, *a)?;
+    let b = number_of(names, Sort::Point, *b)?;
+    let c = number_of(names, Sort::Point, *c)?;
+    let k = number_of(names, Sort::Line, *k)?;
+    let d = number_of(names, Sort::Point, *d)?;
+    let g = number_of(names, Sort::Point, *g)?;
+    let h = number_of(names, Sort::Point, *h)?;
+    let l = number_of(names, Sort::Line, *l)?;
+    Ok(Superpose {
+        points: [a, b, c, d, g, h],
+        lines: [k, l],
+    })
+}
+
+/// A superposition, and the literals that its block shows.
+#[derive(Debug, Drop)]
+pub(crate) struct Placement {
+    pub form: Superpose,
+    pub shown: Items<Lit>,
+}
+
+/// The objects, then the new names, then the literals; the leftmost fault.
+#[tactic(auto, unfolding(crate::specs::Superposes::superpose_in))]
+pub(crate) fn superpose_in(
+    alloc: Global,
+    names: &Names,
+    raw: &RawSuperpose,
+) -> Result<Placement, Trouble>
+    requires { FewNames names.now }
+    ensures { Gives (λ p. (p.form, p.shown)) result (superpose_in names.now raw.now) }
+{
+    let form = placed_in(names, raw.args.items())?;
+    fresh(names, raw.new.items())?;
+    let mut shown = Items::empty(alloc);
+    put_lits(alloc, names, raw.shown.items(), &mut shown)?;
+    Ok(Placement { form, shown })
+}

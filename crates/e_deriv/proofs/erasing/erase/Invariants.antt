@@ -1,7 +1,0 @@
-use Rattle.std.proofs.Common.{◌≡◌, drop}
-use Rattle.e_deriv.specs.Script.{erased, script_of, steps_script, close_script}
-use Rattle.e_deriv.proofs.erasing.erase.Given as goal
-
-abbrev pub invariant-loop-step : goal.invariant-loop-step
-invariant-loop-step l =
-    steps_script l.steps.items (erased (steps_script (drop l.step-index l.block.steps.items) (close_script l.block.close))) ≡ erased (script_of l.block)

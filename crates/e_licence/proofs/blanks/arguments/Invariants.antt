@@ -1,0 +1,7 @@
+use Rattle.std.proofs.Common.{◌≡◌, ◌++◌, drop, length}
+use Rattle.e_licence.specs.Filling.{filled}
+use Rattle.e_licence.proofs.blanks.arguments.Given as goal
+
+abbrev pub invariant-loop-object : goal.invariant-loop-object
+invariant-loop-object l =
+    l.args.items ++ filled l.scope (drop (length l.yielded) l.declared) (drop (length l.yielded) l.pattern) l.rest ≡ filled l.scope l.declared l.pattern l.part

@@ -1,0 +1,249 @@
+//! The blanks of an application, filled by the least good choice.
+
+ghost use Rattle.std.specs.Prelude.{◌≡◌, ◌-◌, ◌<◌, ◌^◌, ◌==◌, IsTrue, IfOk, length, take};
+ghost use Rattle.std.specs.List.{list_any};
+ghost use Rattle.e_literal.specs.Scopes.{nothing, next_objects as declared_objects};
+ghost use Rattle.e_literal.specs.Use.{is_statement};
+ghost use Rattle.e_theorem.specs.Pattern.{is_pattern};
+ghost use Rattle.e_theorem.specs.Statements.{stated};
+ghost use Rattle.e_licence.specs.Filling;
+ghost use Rattle.e_licence.specs.Filling.{IsKept, IsWanted, OneIs, AllIs, SomeIsWideAt};
+ghost use Rattle.e_licence.specs.Fills.{FilledIs};
+
+use crate::context::Context;
+use crate::licensing::{Licensed, licence};
+use crate::limits::is_good;
+use e_literal::{Items, Lit, Map, Obj, Scope, count, next_objects, renamed};
+use e_theorem::Statement;
+use e_transfer::{Outcome, Span, Task, Verdict, search};
+use std::alloc::{AllocError, Global};
+
+/// What is answered on the blanks of an application.
+#[derive(Debug, Drop)]
+pub enum Filled {
+    /// All arguments, with the least good choice for the blanks.
+    Found(Items<Obj>),
+    /// No choice is good.
+    None,
+    /// Under a choice that is not above the least good one, if there is one, a given literal is wide, and this is the width
+    /// of one of its systems.
+    TooWide(u128),
+}
+
+/// The choices for the blanks of an application.
+#[derive(Drop)]
+struct Blanks<'a> {
+    context: &'a Context,
+    statement: &'a Statement,
+    pattern: &'a [Option<Obj>],
+    declared: Vec<Obj>,
+    ghost declares: { declared.items ≡ declared_objects nothing statement.now.declared },
+    ghost fits: { IsTrue (is_pattern (stated statement.now) context.now.scope pattern.now) },
+}
+
+/// The least good choice for the blanks of an application of the statement: arguments that agree with the pattern, with
+/// which each given literal is allowed, compared in declared order by the objects' numbers.
+///
+/// The blanks are filled in declared order, the lowest number first, and a choice is given up at the first given literal
+/// that is not allowed, as soon as its objects are known. It fails only for want of memory.
+pub fn match_blanks(
+    alloc: Global,
+    context: &Context,
+    statement: &Statement,
+    pattern: &[Option<Obj>],
+) -> Result<Filled, AllocError>
+    requires states { IsTrue (is_statement (stated statement.now)) }
+    requires fits { IsTrue (is_pattern (stated statement.now) context.now.scope pattern.now) }
+    requires few { length statement.now.declared < 2 ^ 16 }
+    ensures { IfOk result (FilledIs (stated statement.now) context.now pattern.now) }
+{
+    let declared = next_objects(alloc, NOTHING, statement.declared.items())?;
+    let spans = spans(alloc, context.scope(), &declared, pattern)?;
+    if has_empty(&spans) {
+        return Ok(Filled::None);
+    }
+    let blanks = Blanks {
+        context,
+        statement,
+        pattern,
+        declared,
+    };
+    let mut chosen = Vec::new(alloc);
+    match search(alloc, &blanks, &spans, &mut chosen)? {
+        Outcome::Found(()) => {
+            let args = arguments(alloc, context.scope(), &blanks.declared, pattern, &chosen)?;
+            Ok(Filled::Found(Items::new(args)))
+        }
+        Outcome::Nothing => Ok(Filled::None),
+        Outcome::Stop(width) => Ok(Filled::TooWide(width)),
+    }
+}
+
+const NOTHING: Scope = Scope {
+    points: 0,
+    lines: 0,
+    circles: 0,
+};
+
+/// For each blank the numbers in scope.
+#[tactic(auto, using(crate::proofs::Choosing::ending))]
+fn spans(
+    alloc: Global,
+    scope: Scope,
+    declared: &[Obj],
+    pattern: &[Option<Obj>],
+) -> Result<Vec<Span>, AllocError>
+    ensures { IfOk result (λ spans. spans.items ≡ Filling.spans_of scope declared.now pattern.now) }
+{
+    let mut spans = Vec::new(alloc);
+    for (object, entry) in declared.iter().zip(pattern) {
+        if entry.is_none() {
+            spans.push(Span {
+                from: 0,
+                to: count(scope, object.sort),
+            })?;
+        }
+    }
+    Ok(spans)
+}
+
+/// Whether a blank has no number in scope.
+fn has_empty(spans: &[Span]) -> bool
+    ensures { result ≡ list_any (λ s. s.to == 0) spans.now }
+{
+    spans.iter().any(|span| span.to == 0)
+}
+
+/// The arguments by the first numbers of a choice; where none is left, objects that are not in scope.
+#[tactic(auto, using(crate::proofs::Choosing::ending))]
+fn arguments(
+    alloc: Global,
+    scope: Scope,
+    declared: &[Obj],
+    pattern: &[Option<Obj>],
+    part: &[u16],
+) -> Result<Vec<Obj>, AllocError>
+    ensures { IfOk result (λ args. args.items ≡ Filling.filled scope declared.now pattern.now part.now) }
+{
+    let mut rest = part;
+    let mut args = Vec::new(alloc);
+    for (object, entry) in declared.iter().zip(pattern) {
+        args.push(argument(scope, *object, *entry, rest))?;
+        rest = left(*entry, rest);
+    }
+    Ok(args)
+}
+
+/// The argument for a declared object.
+fn argument(scope: Scope, declared: Obj, entry: Option<Obj>, rest: &[u16]) -> Obj
+    ensures { result ≡ Filling.argument scope declared entry rest.now }
+{
+    match (entry, rest) {
+        (Some(object), _) => object,
+        (None, [num, ..]) => Obj {
+            sort: declared.sort,
+            num: *num,
+        },
+        (None, []) => Obj {
+            sort: declared.sort,
+            num: count(scope, declared.sort),
+        },
+    }
+}
+
+/// The numbers that are left after it.
+fn left(entry: Option<Obj>, rest: &[u16]) -> &[u16]
+    ensures { result.now ≡ Filling.left entry rest.now }
+{
+    match (entry, rest) {
+        (None, [_, left @ ..]) => left,
+        (None, []) | (Some(_), _) => rest,
+    }
+}
+
+impl<'a> Blanks<'a> {
+    /// The images of the declared objects by the first numbers of a choice.
+    fn images(&self, alloc: Global, part: &[u16]) -> Result<Map, AllocError>
+        ensures { IfOk result (λ map. map ≡ Filling.images self.now.context.now.scope self.now.declared.items self.now.pattern.now part.now) }
+    {
+        let scope = self.context.scope();
+        let args = arguments(alloc, scope, &self.declared, self.pattern, part)?;
+        let images = Map::paired(alloc, &self.declared, &args)?;
+        Ok(images)
+    }
+
+    /// Judges a given literal whose objects are all known now, and were not before.
+    fn judge_one(
+        &self,
+        alloc: Global,
+        lit: &Lit,
+        images: &Map,
+        earlier: &Map,
+        first: bool,
+    ) -> Result<Verdict<()>, AllocError>
+        ensures { IfOk result (OneIs self.now.context.now images.now earlier.now first lit.now) }
+    {
+        let scope = self.context.scope();
+        let image = renamed(alloc, lit, images)?;
+        if !is_good(scope, &image) {
+            return Ok(Verdict::Keep(()));
+        }
+        if !first && is_good(scope, &renamed(alloc, lit, earlier)?) {
+            return Ok(Verdict::Keep(()));
+        }
+        match licence(alloc, self.context, &image)? {
+            Licensed::Yes(_) => Ok(Verdict::Keep(())),
+            Licensed::No(_) => Ok(Verdict::Refuse),
+            Licensed::TooWide(width) => Ok(Verdict::Stop(width)),
+        }
+    }
+
+    /// Judges the given literals whose objects are all known now, and were not before, up to the first that is not allowed.
+    fn judge_all(
+        &self,
+        alloc: Global,
+        images: &Map,
+        earlier: &Map,
+        first: bool,
+    ) -> Result<Verdict<()>, AllocError>
+        ensures { IfOk result (AllIs self.now.context.now images.now earlier.now first self.now.statement.now.given) }
+    {
+        for lit in self.statement.given.items() {
+            match self.judge_one(alloc, lit, images, earlier, first)? {
+                Verdict::Keep(()) => {}
+                Verdict::Refuse => return Ok(Verdict::Refuse),
+                Verdict::Stop(width) => return Ok(Verdict::Stop(width)),
+            }
+        }
+        Ok(Verdict::Keep(()))
+    }
+}
+
+/// The part without its last number.
+fn front(part: &[u16]) -> &[u16]
+    ensures { result.now ≡ take (length part.now - 1) part.now }
+{
+    match part {
+        [] => part,
+        [front @ .., _] => front,
+    }
+}
+
+impl<'a> Task for Blanks<'a> {
+    type Proof = ();
+
+    ghost wanted = { λ s c. IsWanted s.context.now s.declared.items s.pattern.now s.statement.now.given c };
+
+    ghost kept = { λ s part. IsKept s.context.now s.declared.items s.pattern.now s.statement.now.given part };
+
+    ghost shown = { λ s part p. Unit {0} };
+
+    ghost wide = { λ s part w. SomeIsWideAt s.context.now (Filling.images s.context.now.scope s.declared.items s.pattern.now part) s.statement.now.given w };
+
+    fn judge(&self, alloc: Global, part: &[u16]) -> Result<Verdict<()>, AllocError> {
+        let images = self.images(alloc, part)?;
+        let earlier = self.images(alloc, front(part))?;
+        let verdict = self.judge_all(alloc, &images, &earlier, part.is_empty())?;
+        Ok(verdict)
+    }
+}

@@ -1,0 +1,247 @@
+-- Rows in another order: they have the same solutions, and minors of the same sizes.
+use Rattle.std.proofs.Common.{◌≡◌, ℕ, suc, List, [], ◌∷◌, ◌++◌, map, length, get_or, refl, sym, ap, ap₂, ◌∙◌, subst, arith, ◌⊎◌, inl, inr}
+use Rattle.std.specs.Prelude.{unsigned_abs}
+use Rattle.std.proofs.Common.{length-append}
+use Rattle.std.proofs.lemmas.List.{map-append}
+use lib.IntN.{ℤ, neg_ℤ}
+use borrow.Author.Differences.{abs_is}
+use Rattle.e_literal.specs.Rows.{Row}
+use Rattle.e_literal.specs.Minor.{determinant, Column, Constants, SignedRow, entry, IsWide, IsPart}
+use Rattle.e_literal.proofs.Arith.{sums}
+use Rattle.e_clause.specs.System.{NamedRow}
+use Rattle.e_clause.proofs.Named.{Each}
+use Rattle.e_fraction.specs.Det.{det}
+use Rattle.e_fraction.proofs.Expand.{expand-same, expand-neg, expand_twice}
+use Rattle.e_fraction.proofs.Named.{numbered, det_named}
+
+abbrev row_of : NamedRow → Row
+row_of n = n.row
+
+-- the first rows are the second, in some order
+pub record AreReordered (ns ms : List NamedRow) : Type 1 where
+  pub each : (P : NamedRow → Type 0) → Each P ms → Each P ns
+  pub back : (P : NamedRow → Type 0) → Each P ns → Each P ms
+  pub wide : IsWide (map row_of ns) → IsWide (map row_of ms)
+  pub many : length ns ≡ length ms
+
+pub same_order : (ns : List NamedRow) → AreReordered ns ns
+same_order ns = record { each = λ P h. h; back = λ P h. h; wide = λ h. h; many = refl }
+
+pub one_order : (ns ms os : List NamedRow) → AreReordered ns ms → AreReordered ms os → AreReordered ns os
+one_order ns ms os h k = record {
+  each = λ P e. h.each P (k.each P e);
+  back = λ P e. k.back P (h.back P e);
+  wide = λ w. k.wide (h.wide w);
+  many = h.many ∙ k.many;
+}
+
+-- ---- determinants
+
+-- equal determinants, or each the negative of the other
+abbrev UpToSign : List (ℕ → ℤ) → List (ℕ → ℤ) → Type 0
+UpToSign rs qs = ((cs : List ℕ) → det rs cs ≡ det qs cs) ⊎ ((cs : List ℕ) → det rs cs ≡ neg_ℤ (det qs cs))
+
+up_to_signs : (ps qs rs : List (ℕ → ℤ)) → UpToSign ps qs → UpToSign qs rs → UpToSign ps rs
+up_to_signs ps qs rs (inl h) (inl k) = inl (λ cs. h cs ∙ k cs)
+up_to_signs ps qs rs (inl h) (inr k) = inr (λ cs. h cs ∙ k cs)
+up_to_signs ps qs rs (inr h) (inl k) = inr (λ cs. h cs ∙ ap neg_ℤ (k cs))
+up_to_signs ps qs rs (inr h) (inr k) = inl (λ cs. omega (arith, sums, h cs, k cs))
+
+up_to_sign-cons : (r : ℕ → ℤ) (rs qs : List (ℕ → ℤ)) → UpToSign rs qs → UpToSign (r ∷ rs) (r ∷ qs)
+up_to_sign-cons r rs qs (inl h) = inl (expand-same r (det rs) (det qs) h)
+up_to_sign-cons r rs qs (inr h) = inr (λ cs. expand-same r (det rs) (λ ds. neg_ℤ (det qs ds)) h cs ∙ expand-neg r (det qs) cs)
+
+up_to_sign-append : (xs rs qs : List (ℕ → ℤ)) → UpToSign rs qs → UpToSign (xs ++ rs) (xs ++ qs)
+up_to_sign-append [] rs qs h = h
+up_to_sign-append (x ∷ xs) rs qs h = up_to_sign-cons x (xs ++ rs) (xs ++ qs) (up_to_sign-append xs rs qs h)
+
+two_rows : (r s : ℕ → ℤ) (qs : List (ℕ → ℤ)) → UpToSign (r ∷ s ∷ qs) (s ∷ r ∷ qs)
+two_rows r s qs = inr (λ cs. omega (arith, sums, expand_twice r s (det qs) cs))
+
+-- a row is put behind some
+one_behind : (r : ℕ → ℤ) (xs ys : List (ℕ → ℤ)) → UpToSign (r ∷ (xs ++ ys)) (xs ++ r ∷ ys)
+one_behind r [] ys = inl (λ cs. refl)
+one_behind r (x ∷ xs) ys =
+    up_to_signs (r ∷ x ∷ (xs ++ ys)) (x ∷ r ∷ (xs ++ ys)) (x ∷ (xs ++ r ∷ ys))
+    (two_rows r x (xs ++ ys)) (up_to_sign-cons x (r ∷ (xs ++ ys)) (xs ++ r ∷ ys) (one_behind r xs ys))
+
+blocks_swapped : (xs ys zs : List (ℕ → ℤ)) → UpToSign (xs ++ (ys ++ zs)) (ys ++ (xs ++ zs))
+blocks_swapped [] ys zs = inl (λ cs. refl)
+blocks_swapped (x ∷ xs) ys zs =
+    up_to_signs (x ∷ (xs ++ (ys ++ zs))) (x ∷ (ys ++ (xs ++ zs))) (ys ++ x ∷ (xs ++ zs))
+    (up_to_sign-cons x (xs ++ (ys ++ zs)) (ys ++ (xs ++ zs)) (blocks_swapped xs ys zs)) (one_behind x ys (xs ++ zs))
+
+same_size : (rs qs : List (ℕ → ℤ)) (cs : List ℕ) → UpToSign rs qs → unsigned_abs (det rs cs) ≡ unsigned_abs (det qs cs)
+same_size rs qs cs (inl h) = ap unsigned_abs (h cs)
+same_size rs qs cs (inr h) = omega (arith, sums, h cs, abs_is (det rs cs), abs_is (det qs cs))
+
+-- ---- the same over terms
+
+-- the places in a list of columns
+abbrev places : ℕ → List Column → List ℕ
+places k [] = []
+places k (c ∷ cs) = k ∷ places (suc k) cs
+
+abbrev column_at : List Column → ℕ → Column
+column_at cs n = get_or cs n Constants
+
+get_behind : (ds : List Column) (c : Column) (cs : List Column) → get_or (ds ++ c ∷ cs) (length ds) Constants ≡ c
+get_behind [] c cs = refl
+get_behind (d ∷ ds) c cs = get_behind ds c cs
+
+append_one : (ds : List Column) (c : Column) (cs : List Column) → (ds ++ c ∷ []) ++ cs ≡ ds ++ c ∷ cs
+append_one [] c cs = refl
+append_one (d ∷ ds) c cs = ap (λ xs. d ∷ xs) (append_one ds c cs)
+
+places_behind : (ds cs : List Column) → map (column_at (ds ++ cs)) (places (length ds) cs) ≡ cs
+places_behind ds [] = refl
+places_behind ds (c ∷ cs) =
+    ap₂ {A = Column} {B = List Column} (λ x xs. x ∷ xs) (get_behind ds c cs)
+    (ap₂ {A = List Column} {B = ℕ} (λ es n. map (column_at es) (places n cs)) (sym (append_one ds c cs)) (sym more) ∙ places_behind (ds ++ c ∷ []) cs)
+  where
+    more : length (ds ++ c ∷ []) ≡ suc (length ds)
+    more = omega (arith, length-append ds (c ∷ []))
+
+numbered_append : (name : ℕ → Column) (xs ys : List (Column → ℤ)) → numbered name (xs ++ ys) ≡ numbered name xs ++ numbered name ys
+numbered_append name [] ys = refl
+numbered_append name (x ∷ xs) ys = ap (λ v. (λ n. x (name n)) ∷ v) (numbered_append name xs ys)
+
+module _ (columns : List Column) where
+  abbrev name : ℕ → Column
+  name = column_at columns
+
+  abbrev lines : List SignedRow → List (ℕ → ℤ)
+  lines ss = numbered name (map entry ss)
+
+  lines_append : (xs ys : List SignedRow) → lines (xs ++ ys) ≡ lines xs ++ lines ys
+  lines_append xs ys = ap (numbered name) (map-append entry xs ys) ∙ numbered_append name (map entry xs) (map entry ys)
+
+  determinant_is : (ss : List SignedRow) → det (lines ss) (places 0 columns) ≡ determinant (map entry ss) columns
+  determinant_is ss = det_named name (map entry ss) (places 0 columns) ∙ ap (determinant (map entry ss)) (places_behind [] columns)
+
+  four_lines : (as' bs cs ds : List SignedRow) → lines (as' ++ (bs ++ (cs ++ ds))) ≡ lines as' ++ (lines bs ++ (lines cs ++ lines ds))
+  four_lines as' bs cs ds =
+      lines_append as' (bs ++ (cs ++ ds))
+      ∙ ap (λ v. lines as' ++ v) (lines_append bs (cs ++ ds) ∙ ap (λ v. lines bs ++ v) (lines_append cs ds))
+
+  sizes_are : (as' bs cs ds : List SignedRow)
+      → unsigned_abs (determinant (map entry (as' ++ (bs ++ (cs ++ ds)))) columns) ≡ unsigned_abs (determinant (map entry (as' ++ (cs ++ (bs ++ ds)))) columns)
+  sizes_are as' bs cs ds =
+      ap unsigned_abs (sym (determinant_is (as' ++ (bs ++ (cs ++ ds)))) ∙ ap (λ v. det v (places 0 columns)) (four_lines as' bs cs ds))
+      ∙ same_size (lines as' ++ (lines bs ++ (lines cs ++ lines ds))) (lines as' ++ (lines cs ++ (lines bs ++ lines ds))) (places 0 columns)
+      (up_to_sign-append (lines as') (lines bs ++ (lines cs ++ lines ds)) (lines cs ++ (lines bs ++ lines ds)) (blocks_swapped (lines bs) (lines cs) (lines ds)))
+      ∙ ap unsigned_abs (ap (λ v. det v (places 0 columns)) (sym (four_lines as' cs bs ds)) ∙ determinant_is (as' ++ (cs ++ (bs ++ ds))))
+
+-- ---- parts
+
+abbrev given : SignedRow → Row
+given s = s.row
+
+record Split (chosen : List SignedRow) (xs zs : List Row) : Type 0 where
+  left : List SignedRow
+  right : List SignedRow
+  joined : chosen ≡ left ++ right
+  left_part : IsPart (map given left) xs
+  right_part : IsPart (map given right) zs
+
+split_part : (cs : List SignedRow) (xs zs : List Row) → IsPart (map given cs) (xs ++ zs) → Split cs xs zs
+split_part cs [] zs h = record { left = []; right = cs; joined = refl; left_part = refl; right_part = h }
+split_part cs (x ∷ xs) zs (inl h) = (let s = split_part cs xs zs h in
+    record { left = s.left; right = s.right; joined = s.joined; left_part = inl s.left_part; right_part = s.right_part })
+split_part [] (x ∷ xs) zs (inr (qs, e, h)) = absurd (cc)
+split_part (c ∷ cs) (x ∷ xs) zs (inr (qs, e, h)) =
+    (let first : c.row ≡ x = cc in
+    let rest : map given cs ≡ qs = cc in
+    let s = split_part cs xs zs (subst (λ v. IsPart v (xs ++ zs)) (sym rest) h) in
+    record {
+      left = c ∷ s.left;
+      right = s.right;
+      joined = ap (λ v. c ∷ v) s.joined;
+      left_part = inr (map given s.left, ap (λ r. r ∷ map given s.left) first, s.left_part);
+      right_part = s.right_part;
+    })
+
+join_parts : (ps qs xs zs : List Row) → IsPart ps xs → IsPart qs zs → IsPart (ps ++ qs) (xs ++ zs)
+join_parts ps qs [] zs h k = subst (λ v. IsPart (v ++ qs) zs) (sym h) k
+join_parts ps qs (x ∷ xs) zs (inl h) k = inl (join_parts ps qs xs zs h k)
+join_parts ps qs (x ∷ xs) zs (inr (rs, e, h)) k = inr (rs ++ qs, ap (λ v. v ++ qs) e, join_parts rs qs xs zs h k)
+
+join_chosen : (ls rs : List SignedRow) (xs zs : List Row) → IsPart (map given ls) xs → IsPart (map given rs) zs → IsPart (map given (ls ++ rs)) (xs ++ zs)
+join_chosen ls rs xs zs h k = subst (λ v. IsPart v (xs ++ zs)) (sym (map-append given ls rs)) (join_parts (map given ls) (map given rs) xs zs h k)
+
+wide_blocks : (xs ys zs ws : List Row) → IsWide (xs ++ (ys ++ (zs ++ ws))) → IsWide (xs ++ (zs ++ (ys ++ ws)))
+wide_blocks xs ys zs ws h =
+    (let s = split_part h.chosen xs (ys ++ (zs ++ ws)) h.is_part in
+    let t = split_part s.right ys (zs ++ ws) s.right_part in
+    let u = split_part t.right zs ws t.right_part in
+    let is : h.chosen ≡ s.left ++ (t.left ++ (u.left ++ u.right)) = s.joined ∙ ap (λ v. s.left ++ v) (t.joined ∙ ap (λ v. t.left ++ v) u.joined) in
+    let new = s.left ++ (u.left ++ (t.left ++ u.right)) in
+    record {
+      chosen = new;
+      is_part = join_chosen s.left (u.left ++ (t.left ++ u.right)) xs (zs ++ (ys ++ ws)) s.left_part
+          (join_chosen u.left (t.left ++ u.right) zs (ys ++ ws) u.left_part (join_chosen t.left u.right ys ws t.left_part u.right_part));
+      columns = h.columns;
+      square = omega (
+        arith,
+        h.square,
+        ap (λ (v : List SignedRow). length v) is,
+        length-append s.left (t.left ++ (u.left ++ u.right)),
+        length-append t.left (u.left ++ u.right),
+        length-append u.left u.right,
+        length-append s.left (u.left ++ (t.left ++ u.right)),
+        length-append u.left (t.left ++ u.right),
+        length-append t.left u.right,
+      );
+      is_large = omega (
+        arith,
+        h.is_large,
+        ap (λ v. unsigned_abs (determinant (map entry v) h.columns)) is,
+        sizes_are h.columns s.left t.left u.left u.right,
+      );
+    })
+
+-- ---- named rows
+
+each_left : (P : NamedRow → Type 0) (xs ys : List NamedRow) → Each P (xs ++ ys) → Each P xs
+each_left P [] ys h = tt
+each_left P (x ∷ xs) ys h = (h.0, each_left P xs ys h.1)
+
+each_right : (P : NamedRow → Type 0) (xs ys : List NamedRow) → Each P (xs ++ ys) → Each P ys
+each_right P [] ys h = h
+each_right P (x ∷ xs) ys h = each_right P xs ys h.1
+
+pub each_both : (P : NamedRow → Type 0) (xs ys : List NamedRow) → Each P xs → Each P ys → Each P (xs ++ ys)
+each_both P [] ys h k = k
+each_both P (x ∷ xs) ys h k = (h.0, each_both P xs ys h.1 k)
+
+each_blocks : (P : NamedRow → Type 0) (xs ys zs ws : List NamedRow) → Each P (xs ++ (ys ++ (zs ++ ws))) → Each P (xs ++ (zs ++ (ys ++ ws)))
+each_blocks P xs ys zs ws h =
+    let first = each_left P xs (ys ++ (zs ++ ws)) h in
+    let later = each_right P xs (ys ++ (zs ++ ws)) h in
+    let second = each_left P ys (zs ++ ws) later in
+    let rest = each_right P ys (zs ++ ws) later in
+    each_both P xs (zs ++ (ys ++ ws)) first
+    (each_both P zs (ys ++ ws) (each_left P zs ws rest) (each_both P ys ws second (each_right P zs ws rest)))
+
+rows_of_four : (xs ys zs ws : List NamedRow) → map row_of (xs ++ (ys ++ (zs ++ ws))) ≡ map row_of xs ++ (map row_of ys ++ (map row_of zs ++ map row_of ws))
+rows_of_four xs ys zs ws =
+    map-append row_of xs (ys ++ (zs ++ ws))
+    ∙ ap (λ v. map row_of xs ++ v) (map-append row_of ys (zs ++ ws) ∙ ap (λ v. map row_of ys ++ v) (map-append row_of zs ws))
+
+-- two neighbouring blocks change places
+pub blocks : (xs ys zs ws : List NamedRow) → AreReordered (xs ++ (ys ++ (zs ++ ws))) (xs ++ (zs ++ (ys ++ ws)))
+blocks xs ys zs ws = record {
+  each = λ P h. each_blocks P xs zs ys ws h;
+  back = λ P h. each_blocks P xs ys zs ws h;
+  wide = λ h. subst IsWide (sym (rows_of_four xs zs ys ws))
+      (wide_blocks (map row_of xs) (map row_of ys) (map row_of zs) (map row_of ws) (subst IsWide (rows_of_four xs ys zs ws) h));
+  many = omega (
+    arith,
+    length-append xs (ys ++ (zs ++ ws)),
+    length-append ys (zs ++ ws),
+    length-append zs ws,
+    length-append xs (zs ++ (ys ++ ws)),
+    length-append zs (ys ++ ws),
+    length-append ys ws,
+  );
+}

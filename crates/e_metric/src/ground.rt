@@ -1,0 +1,180 @@
+// The facts of one kind, whose rows have a solution, and what is told of goals from there.
+
+ghost use Rattle.std.specs.Prelude.{◌≡◌, ◌≤◌, ◌++◌, length, option_copied, IsTrue, IfOk, OnOk, Some, None};
+ghost use Rattle.std.specs.List.{list_all};
+ghost use Rattle.e_literal.specs.WellFormed.{is_well_formed};
+ghost use Rattle.e_literal.specs.Width;
+ghost use Rattle.e_clause.specs.Assignment.{terms_of_lits};
+ghost use Rattle.e_clause.specs.Laws.{is_good_wanted};
+ghost use Rattle.e_clause.specs.System;
+ghost use Rattle.e_clause.specs.System.{system, rows_of_system};
+ghost use Rattle.e_fraction.specs.Views.{all_seen};
+ghost use Rattle.e_simplex.specs.Answer.{AreValuesOf};
+ghost use Rattle.e_metric.specs.Further.{further, extended};
+ghost use Rattle.e_metric.specs.Kept.{AreNamed, IsGround};
+ghost use Rattle.e_metric.specs.Listed;
+ghost use Rattle.e_metric.specs.Told.{IsToldOf};
+
+use crate::certificates::{copied, sums_of};
+use crate::consequence::{Metric, split, summed_terms};
+use crate::evaluating::{are_so, extended};
+use crate::listing::fresh_terms;
+use crate::systems::{rows_of_goal, system};
+use e_clause::{MetricCert, RowName};
+use e_facts::Facts;
+use e_fraction::{Row, Signed};
+use e_literal::{Kind, Lit, Term, Values};
+use e_simplex::{Settled, Verdict, width};
+use std::alloc::{AllocError, Global};
+
+/// The rows of the facts of one kind with their names and their terms, and what is settled of them.
+#[derive(Drop)]
+pub struct Ground {
+    pub names: Vec<RowName>,
+    pub rows: Vec<Row>,
+    pub terms: Vec<Term>,
+    pub settled: Settled,
+}
+
+// An equal row.
+fn copied_row(alloc: Global, row: &Row) -> Result<Row, AllocError>
+    ensures { IfOk result (λ r. r ≡ row.now) }
+{
+    let summands = Vec::from_slice(alloc, row.form.summands())?;
+    Ok(Row {
+        kind: row.kind,
+        form: Signed::new(summands),
+    })
+}
+
+// Puts equal rows last.
+fn add_rows(rows: &mut Vec<Row>, alloc: Global, more: &[Row]) -> Result<(), AllocError>
+    ensures { OnOk result (rows.new.items ≡ rows.old.items ++ more.now) }
+{
+    for row in more {
+        rows.push(copied_row(alloc, row)?)?;
+    }
+    Ok(())
+}
+
+/// Equal rows.
+pub fn copied_rows(alloc: Global, rows: &[Row]) -> Result<Vec<Row>, AllocError>
+    ensures { IfOk result (λ v. v.items ≡ rows.now) }
+{
+    let mut copies = Vec::new(alloc);
+    add_rows(&mut copies, alloc, rows)?;
+    Ok(copies)
+}
+
+// Puts equal names last.
+fn add_names(names: &mut Vec<RowName>, alloc: Global, more: &[RowName]) -> Result<(), AllocError>
+    ensures { OnOk result (names.new.items ≡ names.old.items ++ more.now) }
+{
+    for name in more {
+        names.push(copied(alloc, name)?)?;
+    }
+    Ok(())
+}
+
+/// The width of the system of a kind.
+pub fn system_width(
+    alloc: Global,
+    which: Kind,
+    facts: &Facts,
+    goal: &Lit,
+) -> Result<u128, AllocError>
+    requires facts { IsTrue (list_all is_well_formed facts.now) }
+    requires goal { IsTrue (is_good_wanted (Some goal.now)) }
+    ensures { IfOk result (λ w. w ≡ Width.width (rows_of_system which facts.now (Some goal.now))) }
+{
+    let named = system(alloc, which, facts, Some(goal))?;
+    let (_, rows) = split(alloc, named)?;
+    Ok(width(&rows))
+}
+
+impl Ground {
+    // The names of the rows, and these.
+    fn names_with(&self, alloc: Global, more: &[RowName]) -> Result<Vec<RowName>, AllocError>
+        ensures { IfOk result (λ v. v.items ≡ self.now.names.items ++ more.now) }
+    {
+        let mut names = Vec::new(alloc);
+        add_names(&mut names, alloc, &self.names)?;
+        add_names(&mut names, alloc, more)?;
+        Ok(names)
+    }
+
+    // The rows, and these.
+    fn rows_with(&self, alloc: Global, more: &[Row]) -> Result<Vec<Row>, AllocError>
+        ensures { IfOk result (λ v. v.items ≡ self.now.rows.items ++ more.now) }
+    {
+        let mut rows = copied_rows(alloc, &self.rows)?;
+        add_rows(&mut rows, alloc, more)?;
+        Ok(rows)
+    }
+
+    // What is told where the goal has these rows, by what is settled.
+    fn decided(
+        &self,
+        alloc: Global,
+        which: Kind,
+        facts: &Facts,
+        goal: &Lit,
+        names: &[RowName],
+        rows: &[Row],
+    ) -> Result<Metric, AllocError>
+        requires ground { IsGround which facts.now self.now }
+        requires facts { IsTrue (list_all is_well_formed facts.now) }
+        requires few { length (terms_of_lits facts.now) ≤ 1100 }
+        requires goal { IsTrue (is_good_wanted (Some goal.now)) }
+        requires more { AreNamed (further which facts.now goal.now) names.now rows.now }
+        ensures { IfOk result (IsToldOf which facts.now (Some goal.now)) }
+    {
+        match self.settled.decide_with(alloc, rows)? {
+            Verdict::Holds(values) => Ok(Metric::No(values)),
+            Verdict::TooWide => {
+                let width = system_width(alloc, which, facts, goal)?;
+                Ok(Metric::TooWide(width))
+            }
+            Verdict::Absurd(absurdity) => {
+                let names = self.names_with(alloc, names)?;
+                let rows = self.rows_with(alloc, rows)?;
+                let terms = summed_terms(alloc, which, facts, Some(goal))?;
+                let sums = sums_of(alloc, names, &rows, &terms, &absurdity)?;
+                Ok(Metric::Yes(MetricCert { sums }))
+            }
+        }
+    }
+
+    /// What the system of the facts and the goal tells. Where the goal is false with the values that the facts have
+    /// already, no linear question is asked.
+    pub fn ask(
+        &self,
+        alloc: Global,
+        which: Kind,
+        facts: &Facts,
+        goal: &Lit,
+    ) -> Result<Metric, AllocError>
+        requires ground { IsGround which facts.now self.now }
+        requires facts { IsTrue (list_all is_well_formed facts.now) }
+        requires few { length (terms_of_lits facts.now) ≤ 1100 }
+        requires goal { IsTrue (is_good_wanted (Some goal.now)) }
+        ensures { IfOk result (IsToldOf which facts.now (Some goal.now)) }
+    {
+        let fresh = fresh_terms(alloc, which, &self.terms, goal)?;
+        let named = rows_of_goal(alloc, which, facts, &fresh, goal)?;
+        let (names, rows) = split(alloc, named)?;
+        let values = extended(alloc, facts, self.settled.values().items(), &fresh)?;
+        if are_so(values.items(), &rows) {
+            return Ok(Metric::No(values));
+        }
+        self.decided(alloc, which, facts, goal, &names, &rows)
+    }
+
+    /// The values that the facts have.
+    pub fn values(&self, alloc: Global) -> Result<Values, AllocError>
+        ensures { IfOk result (AreValuesOf (all_seen self.now.settled)) }
+    {
+        let pairs = Vec::from_slice(alloc, self.settled.values().items())?;
+        Ok(Values::new(pairs))
+    }
+}

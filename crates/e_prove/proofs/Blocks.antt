@@ -1,0 +1,277 @@
+-- Blocks whose lines are judged one after another, and what the code says of them.
+use Rattle.std.proofs.Common.{◌≡◌, ℕ, ◌+◌, ◌*◌, ◌≤◌, ◌<◌, ◌^◌, List, [], ◌∷◌, ◌++◌, length, drop, get_or, refl, sym, ap, ◌∙◌, subst, Bool, true, Option, Result, Ok, Err, arith, Box, Global}
+use Rattle.std.proofs.lemmas.Grind.{common_steps}
+use Rattle.std.specs.Prelude.{IsTrue, IfOk, IfErr, OnOk, take}
+use Rattle.e_literal.specs.declared.literal.Lit.{Lit}
+use Rattle.e_literal.specs.declared.object.Obj.{Obj}
+use Rattle.e_literal.specs.Literal.{negation}
+use Rattle.e_literal.specs.Facts.{joined, joined_all}
+use Rattle.e_clause.specs.declared.cert.By.{By}
+use Rattle.e_clause.specs.declared.cert.Cert.{Cert}
+use Rattle.e_clause.specs.declared.cert.Against.{Against}
+use Rattle.e_clause.specs.Certify.{certify_all}
+use Rattle.e_clause.specs.Judged.{are_good_facts}
+use Rattle.e_construct.specs.declared.construction.Construction.{Construction}
+use Rattle.e_construct.specs.declared.superpose.Superpose.{Superpose}
+use Rattle.e_construct.specs.Superposing as superposing
+use Rattle.e_deriv.specs.declared.block.Block.{Block}
+use Rattle.e_deriv.specs.declared.block.Step.{Step}
+use Rattle.e_deriv.specs.declared.block.Step.TheVariants.{Cite as CiteStep, Hence as HenceStep, Make as MakeStep, Claim as ClaimStep, Superposed as SuperposedStep}
+use Rattle.e_deriv.specs.declared.block.Close.{Close}
+use Rattle.e_deriv.specs.declared.block.Close.TheVariants.{Qed as QedClose, Contradiction as ContradictionClose, Cases as CasesClose}
+use Rattle.e_deriv.specs.declared.names.Names.{Names}
+use Rattle.e_deriv.specs.declared.stop.Stop.{Stop}
+use Rattle.e_deriv.specs.declared.stop.Stop.TheVariants as stop
+use Rattle.e_deriv.specs.Script.{Script, Claim, Superposed, Cases, script_of, step_script, steps_script, close_script, size}
+use Rattle.e_deriv.specs.Goal.{Goal, goal_of}
+use Rattle.e_deriv.proofs.Scripts.{steps_at, steps_script-append, step_script-Claim, step_script-Superposed, close_script-Cases}
+use Rattle.e_prove.specs.declared.halt.Halt.{Halt}
+use Rattle.e_prove.specs.declared.standing.Standing.{Standing}
+use Rattle.e_prove.specs.declared.standing.Outer.{Outer}
+use Rattle.e_prove.specs.declared.block.ProvedBlock.{ProvedBlock}
+use Rattle.e_prove.specs.declared.block.ProvedStep.{ProvedStep}
+use Rattle.e_prove.specs.declared.block.ProvedClose.{ProvedClose}
+use Rattle.e_prove.specs.Contexts.{after_literal, after_superposed, after_block, after_inner, left_for, outer_of}
+use Rattle.e_prove.specs.Halts.{HaltsIn, UnlessNoMemory, StopOf}
+use Rattle.e_prove.specs.Passing.{IsReadyFor, IsReadyStep, IsDerived, KeepsFacts, StopsWithin, IsPassed, StepStops}
+use Rattle.e_prove.proofs.Keeping.{stay_on, stay_joined, stay_all, all_stay, no_fewer}
+use Rattle.e_prove.proofs.Passing.{passed_none, passed_more, passed_as, stops_first, names_kept}
+use Rattle.e_prove.proofs.Inside.{ClaimReady, claim_stops, passed_claim, SuperposedReady, Certifies, superposed_stops, passed_superposed, superposed_halts, SplitReady, split_ready, split_derives, split_first, split_second, some_lines}
+
+pub on_ok : {A E : Type 0} (p : Type 0) (r : Result A E) → p → OnOk r p
+on_ok p (Ok a) h = h
+on_ok p (Err e) h = tt
+
+-- ---- the steps of a block
+
+-- the step at this place behind those before it
+front : (items seen : List Step) (i : ℕ) (s : Step) (d : Script) → seen ≡ items → i < length seen → s ≡ get_or seen i s →
+    steps_script (take i items) (step_script s d) ≡ steps_script (take (i + 1) items) d
+front items seen i s d same lt is =
+    let e : take i seen ++ s ∷ [] ≡ take (i + 1) seen = grind (arith, common_steps) in
+    let f : take i items ++ s ∷ [] ≡ take (i + 1) items = subst (λ xs. take i xs ++ s ∷ [] ≡ take (i + 1) xs) same e in
+    sym (steps_script-append (take i items) (s ∷ []) d) ∙ ap (λ xs. steps_script xs d) f
+
+parts : (items : List Step) (i : ℕ) (d : Script) → steps_script (take i items) (steps_script (drop i items) d) ≡ steps_script items d
+parts items i d =
+    let e : take i items ++ drop i items ≡ items = grind (arith, common_steps) in
+    sym (steps_script-append (take i items) (drop i items) d) ∙ ap (λ xs. steps_script xs d) e
+
+whole : (items seen : List Step) (i : ℕ) (s : Step) (d : Script) → seen ≡ items → i < length seen → s ≡ get_or seen i s →
+    steps_script (take i items) (step_script s (steps_script (drop (i + 1) items) d)) ≡ steps_script items d
+whole items seen i s d same lt is = ap (steps_script (take i items)) (sym (steps_at items seen d i s same lt is)) ∙ parts items i d
+
+pub passed_start : (items new : List Step) (x : Standing) (n : ℕ) → new ≡ [] → IsPassed (steps_script (take 0 items)) x n (steps_script new) x n
+passed_start items new x n e =
+    passed_as (λ d. d) (λ d. d) (steps_script (take 0 items)) (steps_script new) x x n n (λ d. refl) (λ d. ap (λ xs. steps_script xs d) (sym e))
+    (passed_none x n (all_stay x.context.facts))
+
+pub step_ready : (items seen done : List Step) (close : Script) (i : ℕ) (s : Step) (x y : Standing) (goal : Goal) (first n : ℕ) → seen ≡ items → i < length seen → s ≡ get_or seen i s →
+    IsPassed (steps_script (take i items)) x first (steps_script done) y n → IsReadyFor (steps_script items close) x goal → first + size (steps_script items close) < 2 ^ 32 → IsReadyStep s y n
+step_ready items seen done close i s x y goal first n same lt is p r few =
+    let left = steps_script (drop (i + 1) items) close in
+    let e = whole items seen i s close same lt is in
+    let count = p.number (step_script s left) in
+    let size_is = ap size e in
+    record {
+      rest = left;
+      goal = goal;
+      ready = p.ready (step_script s left) goal (subst (λ d. IsReadyFor d x goal) (sym e) r);
+      few = omega (arith, count, size_is, few);
+    }
+
+pub step_stops : (items seen done : List Step) (close : Script) (i : ℕ) (s : Step) (x y : Standing) (goal : Goal) (first n : ℕ) (t : Stop) → seen ≡ items → i < length seen → s ≡ get_or seen i s →
+    IsPassed (steps_script (take i items)) x first (steps_script done) y n → IsReadyFor (steps_script items close) x goal → StepStops s y n t → StopsWithin (steps_script items close) x goal first t
+step_stops items seen done close i s x y goal first n t same lt is p r k =
+    let left = steps_script (drop (i + 1) items) close in
+    let e = whole items seen i s close same lt is in
+    let ready = subst (λ d. IsReadyFor d x goal) (sym e) r in
+    subst (λ d. StopsWithin d x goal first t) e (p.stops (step_script s left) goal t ready (k left goal (p.ready (step_script s left) goal ready)))
+
+pub step_passed : (items seen done grown : List Step) (i : ℕ) (s d : Step) (x y z : Standing) (first n m : ℕ) → seen ≡ items → i < length seen → s ≡ get_or seen i s → grown ≡ done ++ d ∷ [] →
+    IsPassed (steps_script (take i items)) x first (steps_script done) y n → IsPassed (step_script s) y n (step_script d) z m →
+    IsPassed (steps_script (take (i + 1) items)) x first (steps_script grown) z m
+step_passed items seen done grown i s d x y z first n m same lt is more p q =
+    passed_as (λ w. steps_script (take i items) (step_script s w)) (λ w. steps_script done (step_script d w)) (steps_script (take (i + 1) items)) (steps_script grown) x z first m
+    (λ w. front items seen i s w same lt is) (λ w. sym (steps_script-append done (d ∷ []) w) ∙ ap (λ xs. steps_script xs w) (sym more))
+    (passed_more (steps_script (take i items)) (steps_script done) (step_script s) (step_script d) x y z first n m (stay_on x.context.facts y.context.facts z.context.facts p.kept q.kept) p q)
+
+-- ---- the close of a block
+
+all_taken : (items seen : List Step) (i : ℕ) (d : Script) → seen ≡ items → length seen ≤ i → steps_script (take i items) d ≡ steps_script items d
+all_taken items seen i d same le =
+    let e : take i seen ≡ seen = grind (arith, common_steps) in
+    ap (λ xs. steps_script xs d) (subst (λ xs. take i xs ≡ xs) same e)
+
+pub close_ready : (items seen done : List Step) (close : Script) (i : ℕ) (x y : Standing) (goal : Goal) (first n : ℕ) → seen ≡ items → length seen ≤ i →
+    IsPassed (steps_script (take i items)) x first (steps_script done) y n → IsReadyFor (steps_script items close) x goal → IsReadyFor close y goal
+close_ready items seen done close i x y goal first n same le p r =
+    p.ready close goal (subst (λ d. IsReadyFor d x goal) (sym (all_taken items seen i close same le)) r)
+
+pub close_few : (items seen done : List Step) (close : Script) (i : ℕ) (x y : Standing) (first n : ℕ) → seen ≡ items → length seen ≤ i →
+    IsPassed (steps_script (take i items)) x first (steps_script done) y n → first + size (steps_script items close) ≡ n + size close
+close_few items seen done close i x y first n same le p =
+    ap (λ d. first + size d) (sym (all_taken items seen i close same le)) ∙ p.number close
+
+pub close_derived : (items seen done : List Step) (close derived : Script) (i : ℕ) (x y : Standing) (goal : Goal) (first n : ℕ) → seen ≡ items → length seen ≤ i →
+    IsPassed (steps_script (take i items)) x first (steps_script done) y n → IsReadyFor (steps_script items close) x goal → IsDerived close y goal derived →
+    IsDerived (steps_script items close) x goal (steps_script done derived)
+close_derived items seen done close derived i x y goal first n same le p r d =
+    let e = all_taken items seen i close same le in
+    subst (λ w. IsDerived w x goal (steps_script done derived)) e (p.derives close derived goal (subst (λ w. IsReadyFor w x goal) (sym e) r) d)
+
+pub close_stops : (items seen done : List Step) (close : Script) (i : ℕ) (x y : Standing) (goal : Goal) (first n : ℕ) (t : Stop) → seen ≡ items → length seen ≤ i →
+    IsPassed (steps_script (take i items)) x first (steps_script done) y n → IsReadyFor (steps_script items close) x goal → StopsWithin close y goal n t → StopsWithin (steps_script items close) x goal first t
+close_stops items seen done close i x y goal first n t same le p r k =
+    let e = all_taken items seen i close same le in
+    subst (λ w. StopsWithin w x goal first t) e (p.stops close goal t (subst (λ w. IsReadyFor w x goal) (sym e) r) k)
+
+pub kept_on : (x y z : Standing) → KeepsFacts x y → KeepsFacts y z → KeepsFacts x z
+kept_on x y z h k = stay_on x.context.facts y.context.facts z.context.facts h k
+
+-- ---- blocks that are left
+
+pub kept_literal : (lit : Lit) (x y z : Standing) → y ≡ after_literal lit x → KeepsFacts y z → KeepsFacts x z
+kept_literal lit x y z e k = kept_on x y z (subst (λ w. KeepsFacts x w) (sym e) (stay_joined x.context.facts lit)) k
+
+pub kept_superposed : (form : Superpose) (names : List (List ℕ)) (x y z : Standing) → y ≡ after_superposed form names x → KeepsFacts y z → KeepsFacts x z
+kept_superposed form names x y z e k = kept_on x y z (subst (λ w. KeepsFacts x w) (sym e) (stay_all x.context.facts (superposing.gives form x.context.scope))) k
+
+pub few_left : (o : Outer) (x z : Standing) → o ≡ outer_of x → KeepsFacts x z → o.mark.facts ≤ length z.context.facts
+few_left o x z e k = subst (λ m. m.mark.facts ≤ length z.context.facts) (sym e) (no_fewer x.context.facts z.context.facts k)
+
+pub good_left_for : (o : Outer) (x z : Standing) → o ≡ outer_of x → KeepsFacts x z → are_good_facts x.context.scope x.context.facts ≡ true →
+    are_good_facts o.mark.scope (take o.mark.facts z.context.facts) ≡ true
+good_left_for o x z e k h =
+    subst (λ m. are_good_facts m.mark.scope (take m.mark.facts z.context.facts) ≡ true) (sym e) (subst (λ fs. are_good_facts x.context.scope fs ≡ true) (sym k) h)
+
+pub good_behind : (o : Outer) (x z : Standing) (shown seen : List Lit) → o ≡ outer_of x → KeepsFacts x z → seen ≡ shown → are_good_facts x.context.scope (joined_all x.context.facts shown) ≡ true →
+    are_good_facts o.mark.scope (joined_all (take o.mark.facts z.context.facts) seen) ≡ true
+good_behind o x z shown seen e k same h =
+    subst (λ m. are_good_facts m.mark.scope (joined_all (take m.mark.facts z.context.facts) seen) ≡ true) (sym e)
+    (subst (λ fs. are_good_facts x.context.scope (joined_all fs seen) ≡ true) (sym k) (subst (λ ls. are_good_facts x.context.scope (joined_all x.context.facts ls) ≡ true) (sym same) h))
+
+with_facts : (x : Standing) (fs : List Lit) → fs ≡ x.context.facts → (record { context = record { scope = x.context.scope; facts = fs }; names = x.names }) ≡ x
+with_facts x fs e = ap (λ gs. record { context = record { scope = x.context.scope; facts = gs }; names = x.names }) e
+
+pub left_is : (o : Outer) (x z w : Standing) → o ≡ outer_of x → KeepsFacts x z → w ≡ left_for o z → w ≡ x
+left_is o x z w e k is = is ∙ ap (λ m. left_for m z) e ∙ with_facts x (take (length x.context.facts) z.context.facts) k
+
+pub behind_is : (o : Outer) (x z w : Standing) (shown seen : List Lit) → o ≡ outer_of x → KeepsFacts x z → seen ≡ shown → w ≡ after_inner o seen z → w ≡ after_block shown x
+behind_is o x z w shown seen e k same is =
+    is ∙ ap (λ m. after_inner m seen z) e
+    ∙ ap (λ fs. record { context = record { scope = x.context.scope; facts = joined_all fs seen }; names = x.names }) k
+    ∙ ap (λ ls. after_block ls x) same
+
+-- ---- a claim
+
+pub claim_passed : (step : Step) (shown seen : List Lit) (inner : Box Block Global) (x z after : Standing) (n : ℕ) (o : Outer) (proved : ProvedBlock) (r : Result ProvedStep Stop) →
+    step ≡ ClaimStep shown inner → seen ≡ shown → ClaimReady shown (script_of inner.value) x → IsDerived (script_of inner.value) x (goal_of shown) (script_of proved.block) →
+    proved.next ≡ n + 1 + size (script_of inner.value) → o ≡ outer_of x → KeepsFacts x z → IfOk r (λ p. (rest : Script) → step_script p.step rest ≡ Claim seen (script_of proved.block) rest) →
+    IfOk r (λ p. p.next ≡ proved.next) → OnOk r (after ≡ after_inner o seen z) → IfOk r (λ p. IsPassed (step_script step) x n (step_script p.step) after p.next)
+claim_passed step shown seen inner x z after n o proved (Err t) is same ready d count e k a b c = tt
+claim_passed step shown seen inner x z after n o proved (Ok p) is same ready d count e k a b c =
+    let S = script_of inner.value in
+    let D = script_of proved.block in
+    let base = passed_claim shown S D x n proved.next ready.over d count in
+    let here = subst (λ w. IsPassed (Claim shown S) x n (Claim shown D) w proved.next) (sym (behind_is o x z after shown seen e k same c)) base in
+    passed_as (Claim shown S) (Claim shown D) (step_script step) (step_script p.step) x after n p.next
+    (λ w. sym (ap (λ s. step_script s w) is ∙ step_script-Claim shown inner w)) (λ w. sym (a w ∙ ap (λ ls. Claim ls D w) same))
+    (subst (λ m. IsPassed (Claim shown S) x n (Claim shown D) after m) (sym b) here)
+
+pub claim_stopped : (step : Step) (shown : List Lit) (inner : Box Block Global) (x : Standing) (n : ℕ) (t : Stop) → step ≡ ClaimStep shown inner → ClaimReady shown (script_of inner.value) x →
+    StopsWithin (script_of inner.value) x (goal_of shown) (n + 1) t → StepStops step x n t
+claim_stopped step shown inner x n t is ready k rest goal r =
+    subst (λ w. StopsWithin w x goal n t) (sym (ap (λ s. step_script s rest) is ∙ step_script-Claim shown inner rest))
+    (claim_stops shown (script_of inner.value) rest x goal n t ready.over k)
+
+-- ---- a superposition
+
+pub superposed_passed : (step : Step) (form : Superpose) (names named : List (List ℕ)) (shown seen : List Lit) (written certs : List Cert) (inner : Box Block Global) (x z after : Standing) (n : ℕ) (o : Outer) (proved : ProvedBlock)
+    (r : Result ProvedStep Stop) → step ≡ SuperposedStep form names shown written inner → named ≡ names → seen ≡ shown → SuperposedReady form names shown (script_of inner.value) x → Certifies form x certs →
+    IsDerived (script_of inner.value) (after_superposed form names x) (goal_of shown) (script_of proved.block) → proved.next ≡ n + 1 + size (script_of inner.value) → o ≡ outer_of x → KeepsFacts x z →
+    IfOk r (λ p. (rest : Script) → step_script p.step rest ≡ Superposed form named seen certs (script_of proved.block) rest) → IfOk r (λ p. p.next ≡ proved.next) → OnOk r (after ≡ after_inner o seen z) →
+    IfOk r (λ p. IsPassed (step_script step) x n (step_script p.step) after p.next)
+superposed_passed step form names named shown seen written certs inner x z after n o proved (Err t) is given same ready cs d count e k a b c = tt
+superposed_passed step form names named shown seen written certs inner x z after n o proved (Ok p) is given same ready cs d count e k a b c =
+    let S = script_of inner.value in
+    let D = script_of proved.block in
+    let base = passed_superposed form names shown written certs S D x n proved.next ready.fits ready.over cs d count in
+    let here = subst (λ w. IsPassed (Superposed form names shown written S) x n (Superposed form names shown certs D) w proved.next) (sym (behind_is o x z after shown seen e k same c)) base in
+    passed_as (Superposed form names shown written S) (Superposed form names shown certs D) (step_script step) (step_script p.step) x after n p.next
+    (λ w. sym (ap (λ s. step_script s w) is ∙ step_script-Superposed form names shown written inner w))
+    (λ w. sym (a w ∙ ap (λ ns. Superposed form ns seen certs D w) given ∙ ap (λ ls. Superposed form names ls certs D w) same))
+    (subst (λ m. IsPassed (Superposed form names shown written S) x n (Superposed form names shown certs D) after m) (sym b) here)
+
+pub superposed_stopped : (step : Step) (form : Superpose) (names : List (List ℕ)) (shown : List Lit) (written certs : List Cert) (inner : Box Block Global) (x : Standing) (n : ℕ) (t : Stop) →
+    step ≡ SuperposedStep form names shown written inner → SuperposedReady form names shown (script_of inner.value) x → Certifies form x certs →
+    StopsWithin (script_of inner.value) (after_superposed form names x) (goal_of shown) (n + 1) t → StepStops step x n t
+superposed_stopped step form names shown written certs inner x n t is ready cs k rest goal r =
+    subst (λ w. StopsWithin w x goal n t) (sym (ap (λ s. step_script s rest) is ∙ step_script-Superposed form names shown written inner rest))
+    (superposed_stops form names shown written certs (script_of inner.value) rest x goal n t ready.fits ready.over cs k)
+
+pub superposed_refused : (step : Step) (form : Superpose) (names : List (List ℕ)) (shown : List Lit) (written : List Cert) (inner : Box Block Global) (x after : Standing) (n : ℕ) (h : Halt) (t : Stop) →
+    step ≡ SuperposedStep form names shown written inner → HaltsIn x.context (superposing.needs form) h → UnlessNoMemory (after ≡ x) h → StopOf h n after.names t → StepStops step x n t
+superposed_refused step form names shown written inner x after n h t is k m e rest goal r =
+    subst (λ w. StopsWithin w x goal n t) (sym (ap (λ s. step_script s rest) is ∙ step_script-Superposed form names shown written inner rest))
+    (stops_first (Superposed form names shown written (script_of inner.value) rest) x goal n h t (superposed_halts form names shown written (script_of inner.value) rest x goal h k) (names_kept h n x after t m e))
+
+-- ---- a split
+
+pub split_parts : (close : Close) (lit : Lit) (first second : Box Block Global) (x : Standing) (goal : Goal) → close ≡ CasesClose lit first second → IsReadyFor (close_script close) x goal →
+    SplitReady lit (script_of first.value) (script_of second.value) x goal
+split_parts close lit first second x goal is r =
+    split_ready lit (script_of first.value) (script_of second.value) x goal (subst (λ d. IsReadyFor d x goal) (ap close_script is ∙ close_script-Cases lit first second) r)
+
+cases_size : (lit : Lit) (first second : Script) → size (Cases lit first second) ≡ 1 + size first + size second
+unfolding size
+cases_size lit first second = refl
+
+pub split_size : (close : Close) (lit : Lit) (first second : Box Block Global) → close ≡ CasesClose lit first second → size (close_script close) ≡ 1 + size (script_of first.value) + size (script_of second.value)
+split_size close lit first second is =
+    ap size (ap close_script is ∙ close_script-Cases lit first second) ∙ cases_size lit (script_of first.value) (script_of second.value)
+
+pub split_derived : (close : Close) (lit : Lit) (first second : Box Block Global) (one other : Block) (x : Standing) (goal : Goal) (r : Result ProvedClose Stop) → close ≡ CasesClose lit first second →
+    SplitReady lit (script_of first.value) (script_of second.value) x goal → IsDerived (script_of first.value) (after_literal lit x) goal (script_of one) →
+    IsDerived (script_of second.value) (after_literal (negation lit) x) goal (script_of other) → IfOk r (λ p. close_script p.close ≡ Cases lit (script_of one) (script_of other)) →
+    IfOk r (λ p. IsDerived (close_script close) x goal (close_script p.close))
+split_derived close lit first second one other x goal (Err t) is ready d e a = tt
+split_derived close lit first second one other x goal (Ok p) is ready d e a =
+    subst (λ w. IsDerived w x goal (close_script p.close)) (sym (ap close_script is ∙ close_script-Cases lit first second))
+    (subst (IsDerived (Cases lit (script_of first.value) (script_of second.value)) x goal) (sym a)
+    (split_derives lit (script_of first.value) (script_of second.value) (script_of one) (script_of other) x goal ready.over d e))
+
+pub split_stops_first : (close : Close) (lit : Lit) (first second : Box Block Global) (x : Standing) (goal : Goal) (n : ℕ) (t : Stop) → close ≡ CasesClose lit first second →
+    SplitReady lit (script_of first.value) (script_of second.value) x goal → StopsWithin (script_of first.value) (after_literal lit x) goal (n + 1) t → StopsWithin (close_script close) x goal n t
+split_stops_first close lit first second x goal n t is ready k =
+    subst (λ w. StopsWithin w x goal n t) (sym (ap close_script is ∙ close_script-Cases lit first second))
+    (split_first lit (script_of first.value) (script_of second.value) x goal n t ready.over k)
+
+pub split_stops_second : (close : Close) (lit : Lit) (first second : Box Block Global) (one : Block) (x : Standing) (goal : Goal) (n next : ℕ) (t : Stop) → close ≡ CasesClose lit first second →
+    SplitReady lit (script_of first.value) (script_of second.value) x goal → IsDerived (script_of first.value) (after_literal lit x) goal (script_of one) → next ≡ n + 1 + size (script_of first.value) →
+    StopsWithin (script_of second.value) (after_literal (negation lit) x) goal next t → StopsWithin (close_script close) x goal n t
+split_stops_second close lit first second one x goal n next t is ready d count k =
+    subst (λ w. StopsWithin w x goal n t) (sym (ap close_script is ∙ close_script-Cases lit first second))
+    (split_second lit (script_of first.value) (script_of second.value) (script_of one) x goal n next t ready.over d count k)
+
+-- ---- lines alone
+
+pub cite_one : (by : By) (rest : Script) → size (step_script (CiteStep by) rest) ≡ 1 + size rest
+unfolding step_script size
+cite_one by rest = refl
+
+pub hence_one : (lit : Lit) (cert : Option Cert) (rest : Script) → size (step_script (HenceStep lit cert) rest) ≡ 1 + size rest
+unfolding step_script size
+hence_one lit cert rest = refl
+
+pub make_one : (form : Construction) (names : List (List ℕ)) (certs : List Cert) (rest : Script) → size (step_script (MakeStep form names certs) rest) ≡ 1 + size rest
+unfolding step_script size
+make_one form names certs rest = refl
+
+pub qed_one : (objects : List Obj) (certs : List Cert) → size (close_script (QedClose objects certs)) ≡ 1
+unfolding close_script size
+qed_one objects certs = refl
+
+pub contradiction_one : (against : Option Against) → size (close_script (ContradictionClose against)) ≡ 1
+unfolding close_script size
+contradiction_one against = refl

@@ -1,0 +1,19 @@
+use Rattle.std.specs.Prelude.{take}
+use Rattle.e_deriv.specs.Script.{steps_script}
+use Rattle.e_prove.specs.Passing.{IsPassed}
+use Rattle.e_prove.proofs.block.+block.Given as goal
+
+abbrev pub decreases-prove_block : goal.decreases-prove_block
+decreases-prove_block l = goal.size-prove_block l
+
+abbrev pub decreases-prove_close : goal.decreases-prove_close
+decreases-prove_close l = goal.size-prove_close l
+
+abbrev pub decreases-prove_step : goal.decreases-prove_step
+decreases-prove_step l = goal.size-prove_step l
+
+abbrev pub invariant-prove_block-loop-step : goal.invariant-prove_block-loop-step
+invariant-prove_block-loop-step l =
+    record {
+      passed : IsPassed (steps_script (take l.step-index l.block.steps.items)) l.initial.standing l.first (steps_script l.steps.items) l.standing l.number;
+    }

@@ -1,0 +1,11 @@
+use Rattle.std.proofs.Common.{take}
+use Rattle.std.specs.Prelude.{◌≡◌, IsTrue}
+use Rattle.e_clause.specs.Certify.{certify_all}
+use Rattle.e_prove.proofs.licence.judged.Given as goal
+
+abbrev pub invariant-loop-lit : goal.invariant-loop-lit
+invariant-loop-lit l =
+    record {
+      same : l.judge ≡ l.context;
+      certified : IsTrue (certify_all l.context.scope l.context.facts (take l.lit-index l.lits) l.certs.items);
+    }

@@ -1,7 +1,0 @@
-use Rattle.std.proofs.Common.{take}
-use Rattle.std.specs.Prelude.{IsTrue}
-use Rattle.e_clause.specs.Certify.{certify_all}
-use Rattle.e_prove.proofs.licence.licences.Given as goal
-
-abbrev pub invariant-loop-lit : goal.invariant-loop-lit
-invariant-loop-lit l = IsTrue (certify_all l.context.scope l.context.facts (take l.lit-index l.lits) l.certs.items)

@@ -1,0 +1,10 @@
+use Rattle.std.proofs.Common.{◌≡◌, drop}
+use Rattle.e_literal.specs.Facts.{joined_all}
+use Rattle.e_prove.proofs.standing.join_copies.Given as goal
+
+abbrev pub invariant-loop-lit : goal.invariant-loop-lit
+invariant-loop-lit l =
+    record {
+      scope : l.context.scope ≡ l.initial.context.scope;
+      whole : joined_all l.context.facts (drop l.lit-index l.lits) ≡ joined_all l.initial.context.facts l.lits;
+    }

@@ -1,0 +1,100 @@
+//! What is left of an inner block.
+ghost use Rattle.std.specs.Prelude.{◌≡◌, ◌≤◌, List, length, take, IfOk, IfErr, OnOk, IsTrue};
+ghost use Rattle.e_literal.specs.Facts.{joined_all};
+ghost use Rattle.e_clause.specs.Judged.{are_good_facts};
+ghost use Rattle.e_deriv.specs.Script.{Script, Claim, Superposed, Cases, script_of, step_script, close_script};
+ghost use Rattle.e_deriv.specs.declared.stop.Stop.TheVariants.{NoMemory};
+ghost use Rattle.e_prove.specs.Contexts.{after_inner};
+
+use crate::block::{ProvedBlock, ProvedClose, ProvedStep};
+use crate::standing::{Outer, Standing};
+use e_clause::Cert;
+use e_construct::Superpose;
+use e_deriv::{Close, Step, Stop, copy_lits};
+use e_literal::{Items, Lit, copy};
+use e_text::Name;
+use std::alloc::Global;
+
+/// A superposition with its certificates, without its block.
+#[derive(Debug, Drop)]
+pub struct Head<'a> {
+    pub form: &'a Superpose,
+    pub names: &'a [Name],
+    pub certs: Vec<Cert>,
+}
+
+/// A claim whose block is proved: what it shows are facts where the block was entered.
+#[tactic(auto, using(e_deriv::proofs::Scripts::scripts))]
+pub fn claimed(
+    alloc: Global,
+    shown: &[Lit],
+    proved: ProvedBlock,
+    outer: Outer,
+    standing: &mut Standing,
+) -> Result<ProvedStep, Stop>
+    requires few { outer.mark.facts ≤ length standing.old.context.facts }
+    requires good { IsTrue (are_good_facts outer.mark.scope (joined_all (take outer.mark.facts standing.old.context.facts) shown.now)) }
+    ensures step { IfOk result (λ p. (rest : Script) → step_script p.step rest ≡ Claim shown.now (script_of proved.block) rest) }
+    ensures next { IfOk result (λ p. p.next ≡ proved.next) }
+    ensures after { OnOk result (standing.new ≡ after_inner outer shown.now standing.old) }
+    ensures err { IfErr result (λ s. s ≡ NoMemory) }
+{
+    standing.leave_with(alloc, outer, shown)?;
+    let ProvedBlock { block, next } = proved;
+    let step = Step::Claim {
+        shown: copy_lits(alloc, shown)?,
+        inner: Box::new(alloc, block)?,
+    };
+    Ok(ProvedStep { step, next })
+}
+
+/// A superposition whose block is proved: what it shows are facts where the block was entered.
+#[tactic(auto, using(e_deriv::proofs::Scripts::scripts))]
+pub fn superposed(
+    alloc: Global,
+    head: Head,
+    shown: &[Lit],
+    proved: ProvedBlock,
+    outer: Outer,
+    standing: &mut Standing,
+) -> Result<ProvedStep, Stop>
+    requires few { outer.mark.facts ≤ length standing.old.context.facts }
+    requires good { IsTrue (are_good_facts outer.mark.scope (joined_all (take outer.mark.facts standing.old.context.facts) shown.now)) }
+    ensures step { IfOk result (λ p. (rest : Script) → step_script p.step rest ≡ Superposed head.entry.form.now head.entry.names.now shown.now head.entry.certs.items (script_of proved.block) rest) }
+    ensures next { IfOk result (λ p. p.next ≡ proved.next) }
+    ensures after { OnOk result (standing.new ≡ after_inner outer shown.now standing.old) }
+    ensures err { IfErr result (λ s. s ≡ NoMemory) }
+{
+    standing.leave_with(alloc, outer, shown)?;
+    let Head { form, names, certs } = head;
+    let ProvedBlock { block, next } = proved;
+    let step = Step::Superposed {
+        form: *form,
+        names: Items::new(Vec::from_slice(alloc, names)?),
+        shown: copy_lits(alloc, shown)?,
+        certs: Items::new(certs),
+        inner: Box::new(alloc, block)?,
+    };
+    Ok(ProvedStep { step, next })
+}
+
+/// A split whose blocks are proved.
+#[tactic(auto, using(e_deriv::proofs::Scripts::scripts))]
+pub fn split(
+    alloc: Global,
+    lit: &Lit,
+    first: ProvedBlock,
+    second: ProvedBlock,
+) -> Result<ProvedClose, Stop>
+    ensures close { IfOk result (λ p. close_script p.close ≡ Cases lit.now (script_of first.block) (script_of second.block)) }
+    ensures next { IfOk result (λ p. p.next ≡ second.next) }
+    ensures err { IfErr result (λ s. s ≡ NoMemory) }
+{
+    let next = second.next;
+    let close = Close::Cases {
+        lit: copy(alloc, lit)?,
+        first: Box::new(alloc, first.block)?,
+        second: Box::new(alloc, second.block)?,
+    };
+    Ok(ProvedClose { close, next })
+}

@@ -1,0 +1,11 @@
+use Rattle.std.proofs.Common.{take}
+use Rattle.e_fraction.specs.Views.{all_seen}
+use Rattle.e_simplex.specs.Naming.{AreOnce, AllNamed, Continues}
+use Rattle.e_simplex.proofs.naming.terms_with.Given as goal
+
+abbrev pub invariant-loop-i : goal.invariant-loop-i
+invariant-loop-i l = record {
+  once : AreOnce l.all.items;
+  all : AllNamed l.all.items (all_seen (take l.i l.rows));
+  continues : Continues l.terms l.all.items;
+}

@@ -1,0 +1,191 @@
+//! Rows that are solved once, and asked about with further rows.
+
+ghost use Rattle.std.specs.Prelude.{◌≡◌, ℕ, ◌++◌, ◌+◌, ◌<◌, ◌≤◌, ◌^◌, length, IfOk, IsTrue};
+ghost use Rattle.e_literal.specs.Minor.{IsWide};
+ghost use Rattle.e_literal.specs.Solution.{HasSolution};
+ghost use Rattle.e_fraction.specs.Limits.{all_small};
+ghost use Rattle.e_fraction.specs.Views.{all_seen};
+ghost use Rattle.e_simplex.specs.Answer.{AreValuesOf, IsVerdict, IsHolds, IsAbsurd};
+ghost use Rattle.e_simplex.specs.Naming;
+ghost use Rattle.e_simplex.specs.Naming.{AreOnce, AllNamed, Continues, named_lines};
+ghost use Rattle.e_simplex.specs.Settling.{IsSettling};
+ghost use Rattle.e_simplex.specs.Solved.{IsSolved};
+ghost use Rattle.e_simplex.specs.Standing.{IsTableFor};
+
+use crate::decision::{Absurdity, Verdict, decide, refuted_once, told, told_apart};
+use crate::naming::{lines_where, padded, terms_of, terms_with};
+use crate::solved::{Outcome, Solved, solve_lines};
+use e_fraction::{Row, Signed};
+use e_literal::{Term, Values};
+use std::alloc::{AllocError, Global};
+use std::marker::Model;
+
+/// How many terms a question may have that no settled row has, without all rows being solved again.
+const SPARE: usize = 16;
+
+/// Rows that have a solution: their table, solved, and values that satisfy them. Contracts see the rows.
+#[derive(Drop)]
+pub struct Settled {
+    rows: Vec<Row>,
+    terms: Vec<Term>,
+    solved: Solved,
+    values: Values,
+}
+
+impl Model for Settled {
+    ghost use Rattle.std.specs.Prelude.{List};
+    ghost use Rattle.e_fraction.specs.declared.row.Row.{Row};
+    ghost use Rattle.e_simplex.specs.Standing.{IsStanding};
+
+    ghost Value = { List Row };
+
+    ghost view = { λ s. s.rows.items };
+
+    ghost invariant = { λ s. IsStanding s.rows.items s.terms.items s.solved s.values };
+}
+
+/// Rows, settled, or that no values satisfy, or with a large minor.
+#[derive(Drop)]
+pub enum Settling {
+    Settled(Settled),
+    Absurd(Absurdity),
+    TooWide,
+}
+
+/// An equal row.
+fn copy_of_row(alloc: Global, row: &Row) -> Result<Row, AllocError>
+    ensures { IfOk result (λ r. r ≡ row.now) }
+{
+    Ok(Row {
+        kind: row.kind,
+        form: Signed::new(Vec::from_slice(alloc, row.form.summands())?),
+    })
+}
+
+/// The rows, and more.
+fn rows_with(alloc: Global, rows: &[Row], more: &[Row]) -> Result<Vec<Row>, AllocError>
+    ensures { IfOk result (λ v. v.items ≡ rows.now ++ more.now) }
+{
+    let mut all = Vec::new(alloc);
+    for old in rows {
+        all.push(copy_of_row(alloc, old)?)?;
+    }
+    for further in more {
+        all.push(copy_of_row(alloc, further)?)?;
+    }
+    Ok(all)
+}
+
+/// What comes of rows whose table is solved.
+fn settled_rows(
+    alloc: Global,
+    rows: Vec<Row>,
+    terms: Vec<Term>,
+    columns: &[Term],
+    solved: Solved,
+) -> Result<Settling, AllocError>
+    requires few { length rows.items ≤ 4096 }
+    requires coefficients { IsTrue (all_small rows.items) }
+    requires short { IsTrue (Naming.have_short_forms rows.items) }
+    requires once { AreOnce terms.items }
+    requires named { AllNamed terms.items (all_seen rows.items) }
+    requires columns { AreOnce columns.now }
+    requires continues { Continues terms.items columns.now }
+    requires counted { length columns.now < 2 ^ 63 }
+    requires solved { IsSolved (length columns.now + 1) (named_lines Rattle.std.specs.Prelude.false columns.now (all_seen rows.items)) solved }
+    ensures { IfOk result (IsSettling rows.items) }
+{
+    let mut pivots = 0;
+    match told_apart(alloc, &rows, &terms, columns, &solved, &mut pivots)? {
+        Verdict::TooWide => Ok(Settling::TooWide),
+        Verdict::Absurd(absurdity) => Ok(Settling::Absurd(absurdity)),
+        Verdict::Holds(values) => Ok(Settling::Settled(Settled {
+            rows,
+            terms,
+            solved,
+            values,
+        })),
+    }
+}
+
+/// Solves rows, to be asked about with further rows. The conditions are those of [`decide`]. The answer is `Settled`
+/// where values satisfy every row, or `Absurd` with multipliers that refute the rows, or `TooWide`, which comes only
+/// where some minor of the rows has size at least 2^63, and the width with it.
+pub fn settle(alloc: Global, rows: Vec<Row>) -> Result<Settling, AllocError>
+    requires few { length rows.items ≤ 4096 }
+    requires coefficients { IsTrue (all_small rows.items) }
+    requires short { IsTrue (Naming.have_short_forms rows.items) }
+    ensures { IfOk result (IsSettling rows.items) }
+{
+    let terms = terms_of(alloc, &rows)?;
+    let columns = padded(alloc, &terms, terms.len() + SPARE)?;
+    let lines = lines_where(alloc, false, &columns, &rows)?;
+    let mut pivots = 0;
+    match solve_lines(alloc, lines, columns.len() + 1, &mut pivots)? {
+        Outcome::TooWide => Ok(Settling::TooWide),
+        Outcome::Absurd(weights) => {
+            let once = refuted_once(alloc, &rows, &columns, &weights)?;
+            Ok(Settling::Absurd(once))
+        }
+        Outcome::Holds(solved) => settled_rows(alloc, rows, terms, &columns, solved),
+    }
+}
+
+/// What comes of rows whose table is solved and further rows, from the solved table. Where those have more new terms
+/// than the table has columns to spare, all rows are decided from nothing.
+fn decided_with(
+    alloc: Global,
+    rows: &[Row],
+    terms: &[Term],
+    solved: &Solved,
+    more: &[Row],
+) -> Result<Verdict, AllocError>
+    requires few { length (rows.now ++ more.now) ≤ 4096 }
+    requires coefficients { IsTrue (all_small (rows.now ++ more.now)) }
+    requires short { IsTrue (Naming.have_short_forms (rows.now ++ more.now)) }
+    requires table { IsTableFor rows.now terms.now solved.now }
+    ensures { IfOk result (IsVerdict (all_seen (rows.now ++ more.now))) }
+{
+    let all = rows_with(alloc, rows, more)?;
+    let terms = terms_with(alloc, terms, more)?;
+    let columns = padded(alloc, &terms, solved.columns() - 1)?;
+    if columns.len() + 1 != solved.columns() {
+        let verdict = decide(alloc, &all)?;
+        return Ok(verdict);
+    }
+    let lines = lines_where(alloc, false, &columns, more)?;
+    let mut pivots = 0;
+    let outcome = solved.with_all(alloc, &lines, &mut pivots)?;
+    let verdict = told(alloc, &all, &terms, &columns, &outcome, &mut pivots)?;
+    Ok(verdict)
+}
+
+impl Settled {
+    /// The rows, in order.
+    pub fn rows(&self) -> &[Row]
+        ensures { result.now ≡ self.now }
+    {
+        &self.rows
+    }
+
+    /// Values that satisfy every row.
+    pub fn values(&self) -> &Values
+        ensures { AreValuesOf (all_seen self.now) result.now }
+    {
+        &self.values
+    }
+
+    /// [`decide`] of the rows and more behind them, from the solved table; the rows stay as they are. Where `more` has
+    /// over 16 terms that no settled row has, all rows are decided from nothing.
+    pub fn decide_with(&self, alloc: Global, more: &[Row]) -> Result<Verdict, AllocError>
+        requires few { length (self.now ++ more.now) ≤ 4096 }
+        requires coefficients { IsTrue (all_small (self.now ++ more.now)) }
+        requires short { IsTrue (Naming.have_short_forms (self.now ++ more.now)) }
+        ensures verdict { IfOk result (IsVerdict (all_seen (self.now ++ more.now))) }
+        ensures holds { IfOk result (λ v. ¬ IsWide (all_seen (self.now ++ more.now)) → HasSolution (all_seen (self.now ++ more.now)) → IsHolds v) }
+        ensures absurd { IfOk result (λ v. ¬ IsWide (all_seen (self.now ++ more.now)) → ¬ HasSolution (all_seen (self.now ++ more.now)) → IsAbsurd v) }
+    {
+        let verdict = decided_with(alloc, &self.rows, &self.terms, &self.solved, more)?;
+        Ok(verdict)
+    }
+}

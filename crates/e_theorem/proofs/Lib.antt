@@ -1,0 +1,4 @@
+pub mod Imaging
+pub mod Patterns
+pub mod Renaming
+pub mod Uses

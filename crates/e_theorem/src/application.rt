@@ -1,0 +1,137 @@
+//! The use of a statement: its literals at arguments for the declared objects and new objects for the made ones.
+
+ghost use Rattle.std.specs.Prelude.{◌≡◌, ◌<◌, ◌+◌, ◌^◌, ◌++◌, IsTrue, IfOk, IfErr, length, map as map_list};
+ghost use Rattle.e_literal.specs.declared.object.Obj.{Obj as Object};
+ghost use Rattle.e_literal.specs.Rename.{image_in, renamed as at_images};
+ghost use Rattle.e_literal.specs.Scopes;
+ghost use Rattle.e_literal.specs.Use.{are_arguments, image, needs_of_use, gives_of_use, scope_of};
+ghost use Rattle.e_theorem.specs.Statements.{stated};
+ghost use Rattle.e_theorem.specs.Faults.{FaultIs};
+ghost use Rattle.e_theorem.specs.declared.application.UseFault.TheVariants.{NoMemory};
+
+use crate::statement::Statement;
+use e_literal::{Items, Lit, Map, Obj, Scope, Sort, count, grown, next_objects, renamed};
+use std::alloc::{AllocError, Global};
+use thiserror::Error;
+
+/// What a use of a statement needs and gives, each in the statement's order.
+#[derive(Debug, Drop)]
+pub struct Applied {
+    pub needs: Items<Lit>,
+    pub gives: Items<Lit>,
+}
+
+/// Why a statement has no use at some arguments.
+#[derive(Debug, Drop, PartialEq, Eq, Error)]
+pub enum UseFault {
+    /// They are not one object in scope for each declared object, of its sort.
+    #[error("the arguments do not fit the declared objects")]
+    BadArgs,
+    /// Want of memory.
+    #[error("out of memory")]
+    NoMemory,
+}
+
+impl From<AllocError> for UseFault {
+    ghost from_gives = { λ _ e. e ≡ NoMemory };
+
+    fn from(_e: AllocError) -> UseFault {
+        UseFault::NoMemory
+    }
+}
+
+/// The use of the statement at these arguments: its given literals with the arguments for the declared objects, and
+/// its shown literals with the next objects of the scope for the made ones too.
+///
+/// `BadArgs` exactly where the arguments are not one object in scope for each declared object, of its sort.
+pub fn use_of(
+    alloc: Global,
+    statement: &Statement,
+    args: &[Obj],
+    scope: Scope,
+) -> Result<Applied, UseFault>
+    requires few { length statement.now.declared + length statement.now.made < 2 ^ 16 }
+    requires points { scope.points + length statement.now.made < 2 ^ 16 }
+    requires lines { scope.lines + length statement.now.made < 2 ^ 16 }
+    requires circles { scope.circles + length statement.now.made < 2 ^ 16 }
+    ensures fit { IfOk result (λ _. IsTrue (are_arguments (stated statement.now) scope args.now)) }
+    ensures needs { IfOk result (λ a. a.needs ≡ needs_of_use (stated statement.now) args.now scope) }
+    ensures gives { IfOk result (λ a. a.gives ≡ gives_of_use (stated statement.now) args.now scope) }
+    ensures err { IfErr result (FaultIs (stated statement.now) args.now scope) }
+{
+    if !are_of_sorts(scope, statement.declared.items(), args) {
+        return Err(UseFault::BadArgs);
+    }
+    let images = images(alloc, statement, args, scope)?;
+    Ok(Applied {
+        needs: at(alloc, statement.given.items(), &images)?,
+        gives: at(alloc, statement.shown.items(), &images)?,
+    })
+}
+
+const NOTHING: Scope = Scope {
+    points: 0,
+    lines: 0,
+    circles: 0,
+};
+
+// The images of the statement's objects: the arguments, and the next objects of the scope.
+fn images(
+    alloc: Global,
+    statement: &Statement,
+    args: &[Obj],
+    scope: Scope,
+) -> Result<Map, AllocError>
+    requires fit { IsTrue (are_arguments (stated statement.now) scope args.now) }
+    requires few { length statement.now.declared + length statement.now.made < 2 ^ 16 }
+    requires points { scope.points + length statement.now.made < 2 ^ 16 }
+    requires lines { scope.lines + length statement.now.made < 2 ^ 16 }
+    requires circles { scope.circles + length statement.now.made < 2 ^ 16 }
+    ensures { IfOk result (λ m. (o : Object) → image_in m o ≡ image (stated statement.now) args.now scope o) }
+{
+    let sources = objects(alloc, statement)?;
+    let mut targets = Vec::from_slice(alloc, args)?;
+    targets.extend_from_slice(&next_objects(alloc, scope, statement.made.items())?)?;
+    let images = Map::paired(alloc, &sources, &targets)?;
+    Ok(images)
+}
+
+// The declared and the made objects.
+fn objects(alloc: Global, statement: &Statement) -> Result<Vec<Obj>, AllocError>
+    requires few { length statement.now.declared + length statement.now.made < 2 ^ 16 }
+    ensures { IfOk result (λ os. os.items ≡ Scopes.next_objects Scopes.nothing statement.now.declared ++ Scopes.next_objects (scope_of (stated statement.now)) statement.now.made) }
+{
+    let declared = statement.declared.items();
+    let mut objects = next_objects(alloc, NOTHING, declared)?;
+    let made = next_objects(alloc, grown(NOTHING, declared), statement.made.items())?;
+    objects.extend_from_slice(&made)?;
+    Ok(objects)
+}
+
+// The literals with the images of their objects.
+fn at(alloc: Global, lits: &[Lit], images: &Map) -> Result<Items<Lit>, AllocError>
+    ensures { IfOk result (λ ls. ls ≡ map_list (at_images (image_in images.now)) lits.now) }
+{
+    let mut at = Items::empty(alloc);
+    for lit in lits {
+        at.push(renamed(alloc, lit, images)?)?;
+    }
+    Ok(at)
+}
+
+// Whether the objects are as many as the sorts, of these sorts, and in scope.
+#[tactic(auto, using(crate::proofs::Imaging::objects))]
+fn are_of_sorts(scope: Scope, sorts: &[Sort], objects: &[Obj]) -> bool
+    ensures { result ≡ Scopes.are_of_sorts scope sorts.now objects.now }
+{
+    match (sorts, objects) {
+        ([], []) => true,
+        ([sort, sorts @ ..], [object, objects @ ..]) => {
+            *sort == object.sort
+                && object.num < count(scope, object.sort)
+                && are_of_sorts(scope, sorts, objects)
+        }
+        ([], [_, ..]) => false,
+        ([_, ..], []) => false,
+    }
+}
