@@ -4,6 +4,7 @@
 //! the limits are asked. So the first thing that is wrong with a book is one thing at one line.
 #![tactic(auto)]
 
+mod applies;
 mod blocks;
 mod book;
 mod draft;
@@ -22,6 +23,7 @@ mod terms;
 mod theorem;
 mod words;
 
+pub use applies::RawApply;
 pub use blocks::{Closed, Opened, Outer, Outers};
 pub use book::next_theorem;
 pub use draft::{Draft, Place};

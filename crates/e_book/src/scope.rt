@@ -248,7 +248,7 @@ pub(crate) fn put_lits(
 }
 
 #[tactic(auto, unfolding(crate::specs::Scope::object_as))]
-fn object_as(names: &Names, sort: Sort, name: Name) -> Result<Obj, Trouble>
+pub(crate) fn object_as(names: &Names, sort: Sort, name: Name) -> Result<Obj, Trouble>
     requires { FewNames names.now }
     ensures { Gives (λ o. o) result (object_as names.now sort name) }
 {

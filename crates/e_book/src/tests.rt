@@ -8,7 +8,7 @@ use std::process::Abort;
 use std::test::Fail;
 
 /// How many theorems a book has, or its first fault.
-#[tactic(auto, using(crate::proofs::LineCount::few_lines))]
+#[tactic(auto, using(crate::proofs::LineCount::few_lines, crate::proofs::Fitting::one_more_stated))]
 fn answer(alloc: Global, text: &[u8]) -> Result<u32, BookFault>
     requires { length text.now < 2 ^ 20 }
 {
@@ -40,6 +40,10 @@ const MADE: &str =
 
 /// Before a line of a proof where a triangle and a place stand.
 const PLACED: &str = "theorem T/points a b c d g h/lines K L/show a = a/proof/";
+
+/// Before a line of a proof behind other theorems.
+const USED: &str =
+    "theorem E/show 0 < right/proof/qed/end/theorem F/points a b/lines L/circles A/made points m n/made lines N/show on m N ; seg a m = seg b n/proof/contradiction/end/theorem as/points a/show a = a/proof/qed/end/theorem W/points a b c d g h i/show a = a/proof/qed/end/theorem T/points a b c/lines L M/circles A B/show a = a/proof/";
 
 /// Behind each ~ an answer, and the books that have it; @ stands for the number of the last line. A row is a head and lines
 /// with a slash between two; {N*TEXT} is the text N times, with its number for $.
@@ -187,6 +191,29 @@ placed superpose a b c K onto d g h as p q show a = a
 placed superpose a b c K to d g h L as p q show a = a
 placed superpose a b c K onto d g h L as p q show a = a/qed a
 placed superpose a b c K onto d g h L as p q show a = a/qed/else
+used apply
+used apply 1
+used apply as as
+used apply E as
+used apply E on
+used apply as 2
+used apply F a b L A as _ n N
+used apply F a b L A as m n on
+used apply F a b L A as m as n N
+used apply Q _ on
+used apply W _ _ _ _ _ _ on
+used apply E a
+used apply as
+used apply as q q
+used apply F a b L as m n N
+used apply F a b L A
+used apply F q b L A as m n
+used apply F a b L A as a b c L
+used apply E as p
+used apply as L as a
+used qed/apply E
+stated apply E
+stated show a = a/apply E
 ~line @ uses an unknown name
 stated given on a q
 stated given on q L
@@ -229,6 +256,17 @@ placed superpose a b c L onto q g h L as q a show a = a
 placed superpose a b c K onto d g h L as p q show a = p
 placed superpose a b c K onto d g h L as p q show a = a ; seg d p = seg a b
 placed superpose a b c K onto d g h L as p q show a = a/hence p = q/qed/hence p = q
+used apply Q
+used apply Q L as a
+used apply T a
+used apply as q
+used apply F a q L A as m n N
+used apply F q a a A as m n N
+used apply F a b L q as a a a
+used apply F m b L A as m n N
+used apply F _ _ _ _ as m n N/hence on m q
+used claim a = a/apply F a b L A as m n N/qed/hence m = m
+book theorem U/points a/show a = a/proof/apply V a
 ~line @ gives a name that is taken
 book theorem T/points a a
 stated lines a
@@ -250,6 +288,11 @@ placed superpose a b c K onto d g h L as p a show a = a
 placed superpose a b c K onto d g h L as p p show L = a
 placed superpose a b c K onto d g h L as p q show a = a/let p point
 placed superpose a b c K onto d g h L as p q show a = a/superpose a b c K onto d g h L as r p show a = a
+used apply F a b L A as a n N
+used apply F a b L A as m m N
+used apply F _ _ _ _ as m n A
+used let m point/apply F a b L A as m n N
+used apply F a b L A as m n N/apply F a b L A as p q N
 ~line @ has an object of a wrong sort
 stated given on a a
 stated given on L L
@@ -294,6 +337,11 @@ proof claim a = b ; L = a
 proof cases L = a
 placed superpose a b c d onto d g h L as p q show a = a
 placed superpose a b c K onto d g L h as p q show a = a
+used apply as L
+used apply F a A L q as m n N
+used apply F a b a A as a a a
+used apply W _ _ _ _ _ _ A
+used apply F a b L A as m n N/apply as N
 ~line @ passes the limit on Points
 book theorem T/points{41* a$}
 stated points{38* a$}
@@ -303,13 +351,17 @@ book theorem T/points{39* a$}/lines L/circles A/show a0 = a0/proof/let p q meet 
 book theorem T/points{39* a$}/show a0 = a0/proof/let p point/let q point
 book theorem T/points a b c d g h{33* a$}/lines K L/show a = a/proof/superpose a b c K onto d g h L as p q show a = a
 book theorem T/points a b c d g h{33* a$}/lines K L/show a = a/proof/{31*claim a = a/}superpose a b c K onto d g h L as p q show a = a
+book theorem F/points a/made points m n/made lines N/show a = m/proof/contradiction/end/theorem T/points{39* a$}/lines{24* L$}/show a0 = a0/proof/apply F a0 as m n N
+book theorem F/points a/made points m/show a = m/proof/contradiction/end/theorem T/points{39* a$}/show a0 = a0/proof/apply F a0 as m/apply F m as n
 ~line @ passes the limit on Lines
 book theorem T/lines{25* L$}
 book theorem T/lines{24* L$}/made lines N
 book theorem T/points a b/lines{24* L$}/show a = a/proof/let N line a b
+book theorem F/points a/made circles B/made lines N/show on a N/proof/contradiction/end/theorem T/points a/lines{24* L$}/circles{16* A$}/show a = a/proof/apply F a as B N
 ~line @ passes the limit on Circles
 book theorem T/circles{17* A$}
 book theorem T/points a b/circles{16* A$}/show a = a/proof/let C circle a b
+book theorem F/points a/made circles B/show on a B/proof/contradiction/end/theorem T/points a/circles{16* A$}/show a = a/proof/{1024*hence a = a/}apply F a as B
 ~line @ passes the limit on Facts
 stated {2048*given a = a/}given a = a
 stated {1024*given a = a ; a = a/}given 1000001 seg a b = 0
@@ -325,6 +377,10 @@ stated {2047*given a = a/}show a = a/proof/claim a = a/hence a = a/qed/hence a =
 stated {2047*given a = a/}show a = a/proof/cases a = a/qed/else/hence a = a
 stated {2048*given a = a/}show a = a/proof/cases 1000001 seg a b = 0
 book theorem T/points a b c d g h/lines K L/{2043*given a = a/}show a = a/proof/superpose a b c K onto d g h L as p q show 1000001 seg a b = 0
+book theorem S/points a/show a = a ; a = a/proof/qed/end/theorem T/points a/{2047*given a = a/}show a = a/proof/apply S a
+book theorem S/points a/show a = a ; a = a/proof/qed/end/theorem T/points a/{2045*given a = a/}show a = a/proof/apply S a/apply S a
+book theorem S/points a/show a = a/proof/qed/end/theorem T/points a/{2047*given a = a/}show a = a/proof/apply S a/hence a = a
+book theorem W/points a b c d g h i/show 0 < right/proof/qed/end/theorem T/points a/{256*given right + right = right + right/}{1792*given a = a/}show a = a/proof/apply W _ _ _ _ _ _ _
 ~line @ passes the limit on Steps
 proof {1024*hence a = a/}qed
 proof {1024*hence a = a/}contradiction
@@ -336,6 +392,10 @@ proof {512*claim a = a/qed/}cases a = a
 proof {511*claim a = a/qed/}cases a = a/qed/else/qed
 proof {993*hence a = a/}{31*claim a = a/}claim a = a
 placed {512*claim a = a/qed/}superpose a b c K onto d g h L as p q show a = a
+used {1024*hence a = a/}apply E
+used {1024*apply E/}qed
+used {1024*hence a = a/}apply W _ _ _ _ _ _ _
+book theorem S/points a/show a = a/proof/qed/end/theorem T/points a/{1024*given a = a/}show a = a/proof/{1024*hence a = a/}apply S a
 ~line @ passes the limit on Depth
 proof {31*claim a = a/}claim a = a ; 1000001 seg a b = 0
 proof {31*cases a = a/}cases a = a
@@ -365,6 +425,13 @@ stated {256*given right + right = right + right/}show right = 0/proof/claim 0 < 
 stated {255*given right + right = right + right/}show right = 0/proof/hence right = right + right/claim 0 < right/qed/hence right = 0
 stated {255*given right + right = right + right/}show right = 0/proof/hence right = right + right/cases 0 < right/qed/else/hence 0 < right
 book theorem T/points a b c d g h/lines K L/{256*given right + right = right + right/}show a = a/proof/superpose a b c K onto d g h L as p q show a = a
+book theorem S/points a/show 0 < right ; a = a/proof/qed/end/theorem T/points a/{256*given right + right = right + right/}show a = a/proof/apply S a
+book theorem S/points a/show right + right = right ; 0 < right/proof/qed/end/theorem T/points a/{255*given right + right = right + right/}show a = a/proof/apply S a/apply S a
+book theorem S/points a/show 0 < right/proof/qed/end/theorem T/points a/{255*given right + right = right + right/}show a = a/proof/{4*apply S a/}hence 0 < right
+book theorem W/points a b c d g h i/show 0 < right/proof/qed/end/theorem T/points a/{256*given right + right = right + right/}show a = a/proof/apply W _ _ _ _ _ _ _
+~line @ passes the limit on Blanks
+used apply W _ _ _ _ _ _ _
+used claim a = a/apply W _ _ _ _ _ _ _
 ~the text ends inside a theorem, at line @
 book theorem T/
 stated #/# more/
@@ -374,6 +441,8 @@ proof claim a = b/qed/
 proof cases a = b/qed/
 proof cases a = b/qed/else/qed/
 proof {31*claim a = a/}
+used apply F _ b _ A as m n N/
+used apply W _ _ _ _ _ _ a/
 ~0 theorems
 book / # theorem/\t/
 ~1 theorems
@@ -414,7 +483,16 @@ placed {30*claim a = a/}superpose a b c K onto d g h L as p q show a = a/qed/{30
 placed superpose a b c K onto d g h L as p q show 0 < right ; a = b/hence p = q/qed/let p point/hence 0 < right/let q point/qed/end
 placed cases a = b/superpose a b c K onto d g h L as p q show a = a/qed/qed/else/superpose a b c K onto d g h L as p q show a = a/contradiction/contradiction/end
 ~2 theorems
-proof qed/end/theorem T.2-x_/points a/show a = a/proof/contradiction/end";
+proof qed/end/theorem T.2-x_/points a/show a = a/proof/contradiction/end
+book theorem S/points a/show a = a ; a = a/proof/qed/end/theorem T/points a/{2046*given a = a/}show a = a/proof/apply S a/qed/end
+book theorem S/points a/show 0 < right/proof/qed/end/theorem T/points a/{255*given right + right = right + right/}show a = a/proof/{4*apply S _/}qed/end
+book theorem F/points a/made points m n/show a = m/proof/contradiction/end/theorem T/points{38* a$}/show a0 = a0/proof/apply F a0 as m n/qed/end
+book theorem F/points a/made lines N/made circles B/show on a N/proof/contradiction/end/theorem T/points a/lines{23* L$}/circles{15* A$}/show a = a/proof/claim a = a/apply F a as N B/qed/apply F a as N B/qed/end
+~5 theorems
+used apply E/apply F a a L A as m n N/apply as n/hence on m N/apply W _ _ _ _ _ _ a/qed/end
+used {1023*apply E/}contradiction/end
+used claim a = a/apply F a b L A as m n N/qed/apply F _ b _ A as m n O/hence on n O/qed/end
+used cases a = b/apply as _/qed/else/apply F _ b M _ as m n N/apply as m/contradiction/end";
 
 /// The lines of a head.
 fn head(mark: &str) -> &'static str {
@@ -429,6 +507,9 @@ fn head(mark: &str) -> &'static str {
     }
     if mark == "placed" {
         return PLACED;
+    }
+    if mark == "used" {
+        return USED;
     }
     ""
 }

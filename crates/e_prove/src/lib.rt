@@ -1,6 +1,7 @@
 //! The derivation of a theorem: each line of its script judged in order.
 #![tactic(auto)]
 
+mod application;
 mod block;
 mod close;
 mod halt;

@@ -1,6 +1,7 @@
 //! The one spelling of a derivation: each line of a theorem with the certificates that it needs.
 #![tactic(auto)]
 
+mod applications;
 mod certificates;
 mod constructions;
 mod declarations;

@@ -2,7 +2,7 @@
 
 use crate::certificates::{put_against_of, put_certs};
 use crate::{spell, spell_stop};
-use e_book::Theorem;
+use e_book::{Known, Theorem};
 use e_clause::{Against, By, Cert, MetricCert, Part, RowName, Rule, Sum, Sums, TransferCert};
 use e_construct::{Construction, Shape, Superpose};
 use e_deriv::{Block, Close, Names, Step, Stop, Wanted};
@@ -140,9 +140,16 @@ fn steps(alloc: Global) -> Result<Vec<Step>, Fail> {
     ]?)
 }
 
+// a theorem of two points and a line, which makes a point and a line
+fn known(alloc: Global) -> Result<Known, Fail> {
+    let mut known = Known::new(alloc);
+    known.add(Title::read(b"I.3").ok_or("a title")?, statement(alloc)?)?;
+    Ok(known)
+}
+
 fn spelled(alloc: Global, steps: Vec<Step>, close: Close) -> Result<Vec<u8>, Fail> {
     let deriv = Block { steps, close };
-    Ok(spell(alloc, &theorem(alloc)?, &deriv)?)
+    Ok(spell(alloc, &known(alloc)?, &theorem(alloc)?, &deriv)?)
 }
 
 #[test]
@@ -159,6 +166,34 @@ fn a_contradiction_has_its_certificate_below_it(rt: HostRuntime) -> Result<(), F
     let close = Close::Contradiction { against };
     let text = spelled(rt.alloc(), Vec::new(rt.alloc()), close)?;
     assert!(rt; text.ends_with(b"\nproof\ncontradiction\n| clash b' != a\nend\n"));
+    Ok(())
+}
+
+// ---- earlier theorems
+
+fn applied(alloc: Global) -> Result<Step, Fail> {
+    let args = vec![in alloc; Some(point(0)), None, Some(line(0))]?;
+    Ok(Step::Apply {
+        theorem: 0,
+        args: Items::new(args),
+        names: Items::new(vec![in alloc; name(b"q")?, name(b"K")?]?),
+        certs: facts(alloc)?,
+    })
+}
+
+const APPLIED: &[u8] = b"\nproof\napply I.3 a _ L as q K\n| fact\nby b1b a b' : q != b'\n\
+qed q K\n| fact\nend\n";
+
+#[test]
+fn an_earlier_theorem_stands_by_its_title(rt: HostRuntime) -> Result<(), Fail> {
+    let alloc = rt.alloc();
+    let steps = vec![in alloc; applied(alloc)?, citation(alloc, apart(2, 1))?]?;
+    let close = Close::Qed {
+        objects: Items::new(vec![in alloc; point(2), line(1)]?),
+        certs: facts(alloc)?,
+    };
+    let text = spelled(alloc, steps, close)?;
+    assert!(rt; text.ends_with(APPLIED));
     Ok(())
 }
 
@@ -381,6 +416,8 @@ const NO_VALUES: &[u8] = b"unlicensed T 1024\n| wanted a != b'\n";
 const VALUES: &[u8] = b"unlicensed T 1024\n| wanted contradiction\n| value seg a b' 0\n\
 | value right 340282366920938463463374607431768211455\n";
 
+const NO_MATCH: &[u8] = b"unlicensed T 1024\n| wanted match\n";
+
 const TOO_WIDE: &[u8] =
     b"too-wide T 3\n| wanted seg a b' = seg b' c\n| width 4000008000004000000000000\n";
 
@@ -395,6 +432,13 @@ fn a_diagram_literal_has_no_values(rt: HostRuntime) -> Result<(), Fail> {
 fn values_stand_one_a_line(rt: HostRuntime) -> Result<(), Fail> {
     let text = unlicensed(rt.alloc(), Wanted::Contradiction, values(rt.alloc())?)?;
     assert!(rt; text.as_slice() == VALUES);
+    Ok(())
+}
+
+#[test]
+fn no_choice_for_blanks_is_no_match(rt: HostRuntime) -> Result<(), Fail> {
+    let text = unlicensed(rt.alloc(), Wanted::Match, None)?;
+    assert!(rt; text.as_slice() == NO_MATCH);
     Ok(())
 }
 

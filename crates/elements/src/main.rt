@@ -2,6 +2,8 @@
 #![tactic(auto)]
 
 #[cfg(test)]
+mod apply_tests;
+#[cfg(test)]
 mod block_tests;
 mod blocks;
 mod checker;
