@@ -5,7 +5,7 @@ use Rattle.e_literal.specs.declared.literal.Atom.TheVariants.{Between}
 use Rattle.e_literal.specs.Facts.{joined}
 use Rattle.e_clause.specs.Judged.{are_good_facts}
 use Rattle.e_licence.specs.Contexts.{Basis}
-use Rattle.e_licence.proofs.tests.a_context_grows.Goals as goal
+use Rattle.judging_tests.proofs.licensing.a_context_grows.Goals as goal
 
 abbrev four_points : Scope
 four_points = record { points = 4; lines = 0; circles = 0 }

@@ -1,10 +1,11 @@
 // What no clause can say: that calls succeed, and which instances are found.
 
-use crate::{Found, are_good_facts, find, is_good_literal};
+use crate::literals::{facts_of, lit};
 use e_clause::{Rule, instance};
 use e_facts::Facts;
-use e_literal::{Atom, Form, Lit, Mono, Obj, Scope, Sort, Term, copy, negate};
-use e_metric::Known;
+use e_literal::{Lit, Obj, Scope, Sort, copy, negate};
+use e_metric::{Known, are_few_facts};
+use e_transfer::{Found, are_good_facts, find, is_good_literal};
 use std::alloc::{AllocError, Global};
 use std::process::Abort;
 use std::test::Fail;
@@ -16,7 +17,6 @@ const SCOPE: Scope = Scope {
 };
 
 // Whether the goal is found, or none where it cannot be told.
-#[tactic(auto, using(crate::proofs::Needing::good_facts_well))]
 fn is_found(
     rt: &impl Abort,
     alloc: Global,
@@ -24,6 +24,7 @@ fn is_found(
     goal: &Lit,
 ) -> Result<Option<bool>, AllocError> {
     assert!(rt; are_good_facts(SCOPE, facts));
+    assert!(rt; are_few_facts(facts));
     assert!(rt; is_good_literal(SCOPE, goal));
     assert!(rt; !facts.has(goal));
     let known = Known::of(alloc, facts)?;
@@ -95,52 +96,18 @@ fn each_literal_of_a_clause_is_found_from_all_others(rt: HostRuntime) -> Result<
     Ok(())
 }
 
-// So many times the angle between the points 1 and `point` at 0.
-fn angle(alloc: Global, coeff: u32, point: u16) -> Result<Form, AllocError> {
-    let mut monos = Vec::new(alloc);
-    monos.push(Mono {
-        coeff,
-        term: Term::Ang(1, 0, point),
-    })?;
-    Ok(Form::new(monos))
-}
-
-// The area of the points 0, 1 and `point`.
-fn area(alloc: Global, point: u16) -> Result<Form, AllocError> {
-    let mut monos = Vec::new(alloc);
-    monos.push(Mono {
-        coeff: 1,
-        term: Term::Area(0, 1, point),
-    })?;
-    Ok(Form::new(monos))
-}
-
-fn is(atom: Atom) -> Lit {
-    Lit { neg: false, atom }
-}
-
-// The points 0 and 1 on a line, and the angles between 1 and 2, and between 1 and 5, at 0 in a proportion that needs wide
-// numbers.
-fn wide_facts(alloc: Global) -> Result<Facts, AllocError> {
-    let mut facts = Facts::new(alloc);
-    facts.add(is(Atom::On(0, 0)))?;
-    facts.add(is(Atom::On(1, 0)))?;
-    facts.add(negate(is(Atom::EqP(0, 1))))?;
-    facts.add(negate(is(Atom::EqP(0, 2))))?;
-    for (x, y) in [(2, 3), (3, 4), (4, 5), (5, 6)] {
-        facts.add(is(Atom::MagEq(angle(alloc, 1_000_000, x)?, angle(alloc, 999_983, y)?)))?;
-    }
-    Ok(facts)
-}
+// The points `a` and `b` on a line, and angles at `a` in a proportion that needs wide numbers.
+const WIDE: &str = "aL bL !a=b !a=c \
+    1000000*bac=999983*bad 1000000*bad=999983*bae 1000000*bae=999983*baf 1000000*baf=999983*bag";
 
 #[test]
 fn what_is_too_wide_does_not_hide_what_is_found(rt: HostRuntime) -> Result<(), Fail> {
     let alloc = rt.alloc();
-    let goal = is(Atom::On(2, 0));
-    let mut facts = wide_facts(alloc)?;
+    let goal = lit(alloc, "cL")?;
+    let mut facts = facts_of(alloc, WIDE)?;
     assert!(rt; is_found(&rt, alloc, &facts, &goal)?.is_none());
-    facts.add(is(Atom::MagEq(area(alloc, 2)?, area(alloc, 3)?)))?;
-    facts.add(is(Atom::MagEq(area(alloc, 3)?, Form::new(Vec::new(alloc)))))?;
+    facts.add(lit(alloc, "^abc=^abd")?)?;
+    facts.add(lit(alloc, "^abd=0")?)?;
     assert!(rt; is_found(&rt, alloc, &facts, &goal)? == Some(true));
     Ok(())
 }

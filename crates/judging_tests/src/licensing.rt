@@ -1,12 +1,13 @@
 // Worked steps, whose answers were found by hand.
 
-use crate::{
+use crate::literals::{facts_of, lit};
+use e_clause::{Against, Cert, Part};
+use e_facts::{Added, Facts};
+use e_licence::{
     Context, Filled, Licensed, Refuted, against, are_good_facts, is_good, is_statement, licence,
     match_blanks,
 };
-use e_clause::{Against, Cert, Part};
-use e_facts::{Added, Facts};
-use e_literal::{Atom, Form, Items, Lit, Mono, Obj, Scope, Sort, Term, Values};
+use e_literal::{Atom, Items, Lit, Obj, Scope, Sort};
 use e_theorem::{Statement, is_pattern};
 use std::alloc::{AllocError, Global};
 use std::process::Abort;
@@ -18,73 +19,13 @@ const SCOPE: Scope = Scope {
     circles: 0,
 };
 
-// Points are the letters from `a` on.
-fn point(text: &str, at: usize) -> u16 {
-    match text.as_bytes().get(at) {
-        Some(letter) => u16::from(letter.saturating_sub(b'a')),
-        None => 0,
-    }
-}
-
-// The sum of the segments between `+`, where `9` stands for the coefficient 1,000,000; `0` is the empty sum.
-fn form(alloc: Global, text: &str) -> Result<Form, AllocError> {
-    let mut monos = Vec::new(alloc);
-    if text != "0" {
-        for pair in text.split('+') {
-            let (coeff, pair) = match pair.strip_prefix('9') {
-                Some(rest) => (1_000_000, rest),
-                None => (1, pair),
-            };
-            let term = Term::Seg(point(pair, 0), point(pair, 1));
-            monos.push(Mono { coeff, term })?;
-        }
-    }
-    Ok(Form::new(monos))
-}
-
-// Lines are the letters from `L` on.
-fn line(text: &str, at: usize) -> u16 {
-    match text.as_bytes().get(at) {
-        Some(letter) => u16::from(letter.saturating_sub(b'L')),
-        None => 0,
-    }
-}
-
-// `ab<cd` and `ab=cd` of segments, `a=b` of points, `aL` where the point is on the line, `abc` where the second lies between.
-fn atom(alloc: Global, text: &str) -> Result<Atom, AllocError> {
-    if let Some((x, y)) = text.split_once('<') {
-        return Ok(Atom::MagLt(form(alloc, x)?, form(alloc, y)?));
-    }
-    match text.split_once('=') {
-        Some((x, y)) if x.len() == 1 => Ok(Atom::EqP(point(x, 0), point(y, 0))),
-        Some((x, y)) => Ok(Atom::MagEq(form(alloc, x)?, form(alloc, y)?)),
-        None if text.len() == 2 => Ok(Atom::On(point(text, 0), line(text, 1))),
-        None => Ok(Atom::Between(point(text, 0), point(text, 1), point(text, 2))),
-    }
-}
-
-// `!` stands for not.
-fn lit(alloc: Global, text: &str) -> Result<Lit, AllocError> {
-    let (neg, text) = match text.strip_prefix('!') {
-        Some(rest) => (true, rest),
-        None => (false, text),
-    };
-    let atom = atom(alloc, text)?;
-    Ok(Lit { neg, atom })
-}
-
 fn context(
     rt: &impl Abort,
     alloc: Global,
     scope: Scope,
     text: &str,
 ) -> Result<Context, AllocError> {
-    let mut facts = Facts::new(alloc);
-    for word in text.split(' ') {
-        if !word.is_empty() {
-            facts.add(lit(alloc, word)?)?;
-        }
-    }
+    let facts = facts_of(alloc, text)?;
     assert!(rt; are_good_facts(scope, &facts));
     Ok(Context::new(scope, facts))
 }
@@ -113,7 +54,8 @@ fn word(licensed: &Licensed) -> &'static str {
 }
 
 // Facts, a literal, and what is answered.
-const STEPS: &str = "\
+fn steps() -> &'static str {
+    "\
 abc:abc:fact
 ab<cd:ba<dc:fact
 ab<cd cd<ab:ab<cd:fact
@@ -125,11 +67,12 @@ ab=0:a=b:transfer
 abc:bac:no
 :abc:no
 :ab<cd:values
-ab<cd:cd<ab:values";
+ab<cd:cd<ab:values"
+}
 
 #[test]
 fn what_is_allowed(rt: HostRuntime) -> Result<(), Fail> {
-    for step in STEPS.split('\n') {
+    for step in steps().split('\n') {
         let Some((facts, rest)) = step.split_once(':') else {
             panic!(&rt; "no facts");
         };
@@ -142,32 +85,17 @@ fn what_is_allowed(rt: HostRuntime) -> Result<(), Fail> {
     Ok(())
 }
 
-fn value(values: &Values, at: usize) -> u128 {
-    match values.items().get(at) {
-        Some(pair) => pair.1,
-        None => 0,
-    }
-}
-
-#[test]
-fn values_show_that_a_literal_does_not_follow(rt: HostRuntime) -> Result<(), Fail> {
-    let Licensed::No(Some(values)) = licensed(&rt, rt.alloc(), "ab<cd", "cd<ab")? else {
-        panic!(&rt; "it is allowed");
-    };
-    assert_eq!(rt; values.items().len(), 3);
-    assert!(rt; value(&values, 0) < value(&values, 1) && 1 <= value(&values, 2));
-    Ok(())
-}
-
 // Facts, and what is answered on whether they contradict each other.
-const CONTRADICTIONS: &str = "\
+fn contradictions() -> &'static str {
+    "\
 abc !abc:clash
 !abc bac abc:clash
 ab<cd !ab<cd:sums
 ab<cd cd<ab:sums
 abc bac:values
 ab<cd:values
-:values";
+:values"
+}
 
 fn word_against(refuted: &Refuted) -> &'static str {
     match refuted {
@@ -180,7 +108,7 @@ fn word_against(refuted: &Refuted) -> &'static str {
 
 #[test]
 fn what_contradicts(rt: HostRuntime) -> Result<(), Fail> {
-    for step in CONTRADICTIONS.split('\n') {
+    for step in contradictions().split('\n') {
         let Some((facts, answer)) = step.split_once(':') else {
             panic!(&rt; "no facts");
         };
@@ -210,7 +138,8 @@ fn a_context_grows(rt: HostRuntime) -> Result<(), Fail> {
 
 // The number of the points and of the lines in scope, the facts, the sorts of the declared objects, the given literals, the
 // arguments with `_` for blanks, and what is answered.
-const BLANKS: &str = "\
+fn blanks() -> &'static str {
+    "\
 1 2:aL aM:pl:aL:a_:aL
 1 2:aL aM:pl:aL:_M:aM
 1 2:!aL:pl:aL:a_:none
@@ -224,9 +153,10 @@ const BLANKS: &str = "\
 2 0::pp::__:aa
 4 0:ab<cd:pppp:ab<cd:____:aacd
 4 0:ab<cd:pppp:ab<cd:dc__:none
-6 0:9ab=bc 9bc=cd 9cd=de 9de=ef:pppp:ab=cd:abef:too wide
-6 0:9ab=bc 9bc=cd 9cd=de 9de=ef:pppp:ab=cd:dc_c:too wide
-6 0:9ab=bc 9bc=cd 9cd=de 9de=ef:pppp:9ab=cd:_bbc:abbc";
+6 0:1000000*ab=bc 1000000*bc=cd 1000000*cd=de 1000000*de=ef:pppp:ab=cd:abef:too wide
+6 0:1000000*ab=bc 1000000*bc=cd 1000000*cd=de 1000000*de=ef:pppp:ab=cd:dc_c:too wide
+6 0:1000000*ab=bc 1000000*bc=cd 1000000*cd=de 1000000*de=ef:pppp:1000000*ab=cd:_bbc:abbc"
+}
 
 fn part(row: &'static str, number: usize) -> &'static str {
     row.split(':').nth(number).unwrap_or("")
@@ -311,7 +241,7 @@ fn filled(rt: &impl Abort, alloc: Global, row: &'static str) -> Result<String, A
 
 #[test]
 fn blanks_are_filled(rt: HostRuntime) -> Result<(), Fail> {
-    for row in BLANKS.split('\n') {
+    for row in blanks().split('\n') {
         let filled = filled(&rt, rt.alloc(), row)?;
         assert_eq!(rt; filled.as_str(), part(row, 5), "{row}");
     }
