@@ -38,6 +38,3 @@ pub use sum::{RawMono, RawTerm};
 pub use superposes::RawSuperpose;
 pub use theorem::Theorem;
 pub use words::{Words, collected};
-
-#[cfg(test)]
-mod tests;
