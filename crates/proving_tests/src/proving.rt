@@ -1,10 +1,10 @@
 //! Theorems that are read and judged: what comes back is a derivation, or the line that stops.
 ghost use Rattle.std.specs.Prelude.{◌<◌, ◌^◌, length};
 
-use crate::prove;
 use e_book::{Known, next_theorem};
 use e_deriv::{Block, Step, Stop};
 use e_literal::Obj;
+use e_prove::prove;
 use e_text::Lines;
 use std::alloc::Global;
 use std::test::Fail;
@@ -233,7 +233,11 @@ fn answer_behind(alloc: Global, text: &[u8]) -> Result<String, Fail>
     requires { length text.now < 2 ^ 20 }
 {
     match judged_behind(alloc, text) {
-        Ok(Ok(block)) => Ok(format!(in alloc; "{}{:?}", applications_said(alloc, &block)?, &block.close)?),
+        Ok(Ok(block)) => Ok(format!(in alloc;
+            "{}{:?}",
+            applications_said(alloc, &block)?,
+            &block.close
+        )?),
         Ok(Err(stop)) => stop_said(alloc, &stop),
         Err(fail) => Err(fail),
     }

@@ -3,7 +3,7 @@ use Rattle.std.specs.List.{list_all}
 use Rattle.e_deriv.specs.Fitting.{is_small_statement}
 use Rattle.e_book.specs.Headed.{stated_by}
 use Rattle.e_book.specs.Book.{last_line}
-use Rattle.e_book.proofs.tests.answer.Given as goal
+use Rattle.proving_tests.proofs.reading.answer.Given as goal
 
 abbrev pub invariant-loop-known : goal.invariant-loop-known
 invariant-loop-known l = record {

@@ -1,14 +1,14 @@
 //! Books with their faults, at each form of line that can have them, and books that are read.
 ghost use Rattle.std.specs.Prelude.{◌+◌, ◌<◌, ◌^◌, length};
 
-use crate::{BookFault, Known, Theorem, next_theorem};
+use e_book::{BookFault, Known, Theorem, next_theorem};
 use e_text::Lines;
 use std::alloc::Global;
 use std::process::Abort;
 use std::test::Fail;
 
 /// How many theorems a book has, or its first fault.
-#[tactic(auto, using(crate::proofs::LineCount::few_lines, crate::proofs::Fitting::one_more_stated))]
+#[tactic(auto, using(e_book::proofs::LineCount::few_lines, e_book::proofs::Fitting::one_more_stated))]
 fn answer(alloc: Global, text: &[u8]) -> Result<u32, BookFault>
     requires { length text.now < 2 ^ 20 }
 {
