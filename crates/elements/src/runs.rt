@@ -84,18 +84,6 @@ pub fn answer(alloc: Global, book: &str) -> Result<String, AllocError> {
     told(alloc, "check", book, None, None)
 }
 
-/// The same without the lines that begin with a bar.
-pub fn steps_answer(alloc: Global, book: &str) -> Result<String, AllocError> {
-    let mut text = String::new(alloc);
-    for line in answer(alloc, book)?.as_str().split('/') {
-        if !line.starts_with('|') {
-            text.push_str(line)?;
-            text.push_str("/")?;
-        }
-    }
-    Ok(text)
-}
-
 /// The part of a row of a test that stands there between its marks ` => `.
 pub fn part<'a>(row: &'a str, number: usize) -> &'a str {
     row.split(" => ").nth(number).unwrap_or("")
