@@ -124,6 +124,10 @@ answered text end old new (status.Fault f) h w =
     let o = w.outputs in
     answered_so text end (status.Fault f) (theorems_of o.derived) o.known o.rest (ends.Faulty f) h o.begins o.holds refl
 answered text end old new status.Usage h w = absurd w
+answered text end old new (status.Verified n) h w = absurd w
+answered text end old new (status.Bad title step) h w = absurd w
+answered text end old new (status.Garbled line) h w = absurd w
+answered text end old new status.TextLimit h w = absurd w
 answered text (ends.Accepted n) old new status.ReadFault h w = tt
 answered text (ends.Unlicensed a b c d) old new status.ReadFault h w = tt
 answered text (ends.Faulty f) old new status.ReadFault h w = tt

@@ -101,6 +101,10 @@ Outputs lines status.ReadFault out = CutOff lines read_fault_line out
 Outputs lines status.NoMemory out = CutOff lines no_memory_line out
 Outputs lines status.WriteFault out = ⊥
 Outputs lines status.Usage out = ⊥
+Outputs lines (status.Verified n) out = ⊥
+Outputs lines (status.Bad title step) out = ⊥
+Outputs lines (status.Garbled line) out = ⊥
+Outputs lines status.TextLimit out = ⊥
 
 -- the bytes of this answer were written
 pub record WroteAll (lines : Rest) (old new : Option (List ℕ)) (answer : Status) : Type 0 where
@@ -126,6 +130,10 @@ Checks lines old new (status.Fault f) = WroteAll lines old new (status.Fault f)
 Checks lines old new status.ReadFault = WroteAll lines old new status.ReadFault
 Checks lines old new status.NoMemory = WroteAll lines old new status.NoMemory
 Checks lines old new status.Usage = ⊥
+Checks lines old new (status.Verified n) = ⊥
+Checks lines old new (status.Bad title step) = ⊥
+Checks lines old new (status.Garbled line) = ⊥
+Checks lines old new status.TextLimit = ⊥
 
 -- the answer of an outcome, or that a line is too wide where one is that is reached; a fault of the source or the sink,
 -- and want of memory, can come in place of it
@@ -164,9 +172,23 @@ abbrev pub IsAccepted : Status → Type 0
 IsAccepted (status.Accepted n) = Unit {0}
 IsAccepted _ = ⊥
 
+abbrev pub IsVerified : Status → Type 0
+IsVerified (status.Verified n) = Unit {0}
+IsVerified _ = ⊥
+
+-- the source had to be read to its end
+abbrev pub IsWhole : Status → Type 0
+IsWhole (status.Accepted n) = Unit {0}
+IsWhole (status.Verified n) = Unit {0}
+IsWhole _ = ⊥
+
 -- the status with which the program exits
 abbrev pub exit_of : Status → ℕ
 exit_of (status.Accepted n) = 0
+exit_of (status.Verified n) = 0
+exit_of (status.Bad title step) = 1
+exit_of (status.Garbled line) = 2
+exit_of status.TextLimit = 2
 exit_of (status.Unlicensed title step wanted values) = 1
 exit_of (status.TooWide title step wanted width) = 8
 exit_of (status.Fault f) = 2

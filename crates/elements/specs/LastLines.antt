@@ -58,3 +58,16 @@ read_fault_line = codes "read fault\n"
 
 abbrev pub no_memory_line : List ℕ
 no_memory_line = codes "no memory\n"
+
+abbrev pub verified_line : ℕ → List ℕ
+verified_line n = codes "verified " ++ (decimal n ++ codes "\n")
+
+-- the theorem and the number of its line
+abbrev pub bad_line : List ℕ → ℕ → List ℕ
+bad_line title step = codes "bad " ++ (title ++ (codes " " ++ (decimal step ++ codes "\n")))
+
+abbrev pub garbled_line : ℕ → List ℕ
+garbled_line line = codes "garbled " ++ (decimal line ++ codes "\n")
+
+abbrev pub text_limit_line : List ℕ
+text_limit_line = codes "text limit\n"

@@ -4,4 +4,5 @@ pub mod Outcome
 pub mod LastLines
 pub mod Answers
 pub mod Endings
+pub mod Verifying
 pub mod Laws

@@ -6,3 +6,8 @@ use Rattle.std.specs.Str.{bytes_eq}
 abbrev pub is_check : List (List ℕ) → Bool
 is_check (word ∷ []) = bytes_eq word (codes "check")
 is_check _ = false
+
+-- the one word verify
+abbrev pub is_verify : List (List ℕ) → Bool
+is_verify (word ∷ []) = bytes_eq word (codes "verify")
+is_verify _ = false

@@ -7,7 +7,7 @@ ghost use Rattle.elements.specs.LastLines.{head_line};
 ghost use Rattle.elements.specs.Endings.{Closes, IsEnding, last_lines, answer_of};
 
 use crate::blocks::{Broken, Ending, blocks};
-use crate::input::{InputFault, MOST_BYTES, read_book};
+use crate::input::{InputFault, MOST_BYTES, read_text};
 use crate::output::{accepted, fault};
 use crate::status::Status;
 use e_deriv::Stop;
@@ -119,7 +119,7 @@ pub fn check<S: Source, K: Sink>(alloc: Global, source: &mut S, sink: &mut K) ->
     let Ok(()) = write_all(sink, b"derivation 1\n") else {
         return Status::WriteFault;
     };
-    let text = match read_book(alloc, source) {
+    let text = match read_text(alloc, source, MOST_BYTES) {
         Ok(text) => text,
         Err(InputFault::ReadFault) => return close(sink, b"read fault\n", Status::ReadFault),
         Err(InputFault::NoMemory) => return close(sink, b"no memory\n", Status::NoMemory),

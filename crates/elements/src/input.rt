@@ -1,5 +1,5 @@
-//! The bytes of a book.
-ghost use Rattle.std.specs.Prelude.{◌≡◌, ◌≤◌, ◌+◌, IfOk, IsErrOf, vec_len};
+//! The bytes of a source.
+ghost use Rattle.std.specs.Prelude.{◌≡◌, ◌≤◌, ◌+◌, ◌^◌, IfOk, IsErrOf, vec_len};
 ghost use Rattle.e_io.specs.Bytes.{Rose};
 ghost use Rattle.elements.specs.Input.{IsTextOf, IsAtEnd};
 ghost use Rattle.elements.specs.declared.input.InputFault.TheVariants.{NoMemory, ReadFault};
@@ -9,6 +9,9 @@ use std::alloc::{AllocError, Global};
 
 /// The most bytes that a book may have.
 pub const MOST_BYTES: usize = 4_194_304;
+
+/// The most bytes that a derivation text may have.
+pub const MOST_TEXT: usize = 1 << 60;
 
 /// Why no bytes came.
 #[derive(Debug, Drop)]
@@ -25,18 +28,23 @@ impl From<AllocError> for InputFault {
     }
 }
 
-/// The bytes of a source up to its end, or where it has more than a book may have, that many and one.
-pub fn read_book<S: Source>(alloc: Global, source: &mut S) -> Result<Vec<u8>, InputFault>
-    ensures text { IfOk result (λ v. IsTextOf (MOST_BYTES + 1) (S.left source.old) v.items) }
-    ensures few { IfOk result (λ v. vec_len v ≤ MOST_BYTES + 1) }
-    ensures end { IfOk result (λ v. vec_len v ≤ MOST_BYTES → IsAtEnd (S.left source.new)) }
+/// The bytes of a source up to its end, or where it has more than so many, that many and one.
+pub fn read_text<S: Source>(
+    alloc: Global,
+    source: &mut S,
+    most: usize,
+) -> Result<Vec<u8>, InputFault>
+    requires { most ≤ 2 ^ 60 }
+    ensures text { IfOk result (λ v. IsTextOf (most + 1) (S.left source.old) v.items) }
+    ensures few { IfOk result (λ v. vec_len v ≤ most + 1) }
+    ensures end { IfOk result (λ v. vec_len v ≤ most → IsAtEnd (S.left source.new)) }
     ensures rises { S.faults source.old ≤ S.faults source.new }
     ensures cause { IsErrOf result InputFault.ReadFault → Rose (S.faults source.old) (S.faults source.new) }
 {
     let mut text = Vec::new(alloc);
     let mut buffer = [0u8; 4096];
-    while text.len() <= MOST_BYTES {
-        let room = (MOST_BYTES + 1 - text.len()).min(4096);
+    while text.len() <= most {
+        let room = (most + 1 - text.len()).min(4096);
         match source.read(&mut buffer[..room]) {
             Err(_) => return Err(InputFault::ReadFault),
             Ok(0) => return Ok(text),

@@ -22,6 +22,7 @@ mod runs;
 mod status;
 #[cfg(test)]
 mod tests;
+mod verifier;
 
 use e_io::{StdSink, StdSource};
 pub use runner::run;

@@ -1,13 +1,14 @@
 //! The last lines of an answer.
 ghost use Rattle.std.specs.Prelude.{◌≡◌, ◌++◌, [], IfOk, OnOk, codes, decimal};
-ghost use Rattle.elements.specs.LastLines.{accepted_line, fault_line, fault_words, faulty_line, what_word};
+ghost use Rattle.elements.specs.LastLines.{accepted_line, verified_line, bad_line, garbled_line, fault_line, fault_words, faulty_line, what_word};
 
 use e_book::{BookFault, What};
+use e_text::Title;
 use itoa::Buffer;
 use std::alloc::{AllocError, Global};
 
 /// A word, a number and what follows them.
-fn line_with(alloc: Global, word: &[u8], number: u32, after: &[u8]) -> Result<Vec<u8>, AllocError>
+fn line_with(alloc: Global, word: &[u8], number: u64, after: &[u8]) -> Result<Vec<u8>, AllocError>
     ensures { IfOk result (λ v. v.items ≡ word.now ++ (decimal number ++ after.now)) }
 {
     let mut buffer = Buffer::new();
@@ -21,7 +22,32 @@ fn line_with(alloc: Global, word: &[u8], number: u32, after: &[u8]) -> Result<Ve
 pub fn accepted(alloc: Global, theorems: u32) -> Result<Vec<u8>, AllocError>
     ensures { IfOk result (λ v. v.items ≡ accepted_line theorems) }
 {
-    line_with(alloc, b"accepted ", theorems, b"\n")
+    line_with(alloc, b"accepted ", u64::from(theorems), b"\n")
+}
+
+/// The line of a verified derivation text.
+pub fn verified(alloc: Global, theorems: u32) -> Result<Vec<u8>, AllocError>
+    ensures { IfOk result (λ v. v.items ≡ verified_line theorems) }
+{
+    line_with(alloc, b"verified ", u64::from(theorems), b"\n")
+}
+
+/// The line of a step that is not certified.
+pub fn bad(alloc: Global, title: Title, step: u32) -> Result<Vec<u8>, AllocError>
+    ensures { IfOk result (λ v. v.items ≡ bad_line title step) }
+{
+    let number = line_with(alloc, b" ", u64::from(step), b"\n")?;
+    let mut line = Vec::from_slice(alloc, b"bad ")?;
+    line.extend_from_slice(title.bytes())?;
+    line.extend_from_slice(&number)?;
+    Ok(line)
+}
+
+/// The line of a line that has no form at its place.
+pub fn garbled(alloc: Global, number: u64) -> Result<Vec<u8>, AllocError>
+    ensures { IfOk result (λ v. v.items ≡ garbled_line number) }
+{
+    line_with(alloc, b"garbled ", number, b"\n")
 }
 
 /// The word of a limit.
@@ -85,5 +111,5 @@ pub fn fault(alloc: Global, fault: &BookFault) -> Result<Vec<u8>, AllocError>
     ensures { IfOk result (λ v. v.items ≡ fault_line fault.now) }
 {
     let words = words_of(alloc, fault)?;
-    line_with(alloc, b"fault ", line_of(fault), &words)
+    line_with(alloc, b"fault ", u64::from(line_of(fault)), &words)
 }

@@ -14,6 +14,10 @@ pub enum Status {
     Accepted {
         theorems: u32,
     },
+    /// Each line of the derivation text has a form, and each certificate certifies at its own line.
+    Verified {
+        theorems: u32,
+    },
     /// The first line that is not licensed, and what it lacks.
     Unlicensed {
         title: Title,
@@ -31,8 +35,19 @@ pub enum Status {
         /// The width of the system.
         width: u128,
     },
+    /// The first line of the derivation text that is not certified.
+    Bad {
+        title: Title,
+        step: u32,
+    },
     /// The first fault of the book.
     Fault(BookFault),
+    /// The first line of the derivation text that has no form at its place.
+    Garbled {
+        line: u64,
+    },
+    /// The derivation text has more than 2^60 bytes.
+    TextLimit,
     /// The words are no command.
     Usage,
     /// The source failed.
@@ -48,9 +63,9 @@ pub fn exit_code(status: &Status) -> u8
     ensures { result ≡ exit_of status.now }
 {
     match status {
-        Status::Accepted { .. } => 0,
-        Status::Unlicensed { .. } => 1,
-        Status::Fault(_) => 2,
+        Status::Accepted { .. } | Status::Verified { .. } => 0,
+        Status::Unlicensed { .. } | Status::Bad { .. } => 1,
+        Status::Fault(_) | Status::Garbled { .. } | Status::TextLimit => 2,
         Status::Usage => 3,
         Status::ReadFault => 4,
         Status::WriteFault => 5,

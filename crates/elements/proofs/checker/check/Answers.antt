@@ -21,17 +21,17 @@ returns-in-Err-NoMemory-clause-checks g c =
 
 pub check_lines-requires-clause-few : goal.check_lines-requires-clause-few
 check_lines-requires-clause-few g c =
-    rw c.new-lines.ensures (omega (arith, length-lines_of (record { longest = 1600; most = 4194304 }) (record { line = 1; before = 0 }) c.deref.result.now, c.deref.ensures.len, c.in-Ok-read_book.ensures.few))
+    rw c.new-lines.ensures (omega (arith, length-lines_of (record { longest = 1600; most = 4194304 }) (record { line = 1; before = 0 }) c.deref.result.now, c.deref.ensures.len, c.in-Ok-read_text.ensures.few))
 
 pub returns-clause-checks : goal.returns-clause-checks
 returns-clause-checks g c =
-    read_book_lines (g.S.Source.left c.args.source.now) c.in-Ok-read_book.text.items (g.K.Sink.written c.args.sink.now) (g.K.Sink.written c.check_lines.new.sink) c.check_lines.result c.in-Ok-read_book.ensures.text
-    (checks_at c.new-lines.result.lines (lines_of_book c.in-Ok-read_book.text.items) (g.K.Sink.written c.args.sink.now) (g.K.Sink.written c.check_lines.new.sink) c.check_lines.result (ap (λ (a : Ahead). a.lines) c.new-lines.ensures ∙ ap lines_of_book c.deref.ensures.value) (c.check_lines.ensures.checks (g.K.Sink.written c.args.sink.now) c.in-Ok.ensures.ok))
+    read_book_lines (g.S.Source.left c.args.source.now) c.in-Ok-read_text.text.items (g.K.Sink.written c.args.sink.now) (g.K.Sink.written c.check_lines.new.sink) c.check_lines.result c.in-Ok-read_text.ensures.text
+    (checks_at c.new-lines.result.lines (lines_of_book c.in-Ok-read_text.text.items) (g.K.Sink.written c.args.sink.now) (g.K.Sink.written c.check_lines.new.sink) c.check_lines.result (ap (λ (a : Ahead). a.lines) c.new-lines.ensures ∙ ap lines_of_book c.deref.ensures.value) (c.check_lines.ensures.checks (g.K.Sink.written c.args.sink.now) c.in-Ok.ensures.ok))
 
 pub returns-clause-end : goal.returns-clause-end
 returns-clause-end g c =
-    λ h. c.in-Ok-read_book.ensures.end (omega (
+    λ h. c.in-Ok-read_text.ensures.end (omega (
       arith,
-      read_is_short (g.K.Sink.written c.args.sink.now) (g.K.Sink.written c.check_lines.new.sink) c.in-Ok-read_book.text.items c.check_lines.result h
-          (checks_at c.new-lines.result.lines (lines_of_book c.in-Ok-read_book.text.items) (g.K.Sink.written c.args.sink.now) (g.K.Sink.written c.check_lines.new.sink) c.check_lines.result (ap (λ (a : Ahead). a.lines) c.new-lines.ensures ∙ ap lines_of_book c.deref.ensures.value) (c.check_lines.ensures.checks (g.K.Sink.written c.args.sink.now) c.in-Ok.ensures.ok)),
+      read_is_short (g.K.Sink.written c.args.sink.now) (g.K.Sink.written c.check_lines.new.sink) c.in-Ok-read_text.text.items c.check_lines.result h
+          (checks_at c.new-lines.result.lines (lines_of_book c.in-Ok-read_text.text.items) (g.K.Sink.written c.args.sink.now) (g.K.Sink.written c.check_lines.new.sink) c.check_lines.result (ap (λ (a : Ahead). a.lines) c.new-lines.ensures ∙ ap lines_of_book c.deref.ensures.value) (c.check_lines.ensures.checks (g.K.Sink.written c.args.sink.now) c.in-Ok.ensures.ok)),
     ))

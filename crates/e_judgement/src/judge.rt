@@ -1,0 +1,94 @@
+//! A derivation text, theorem by theorem.
+ghost use Rattle.std.specs.Prelude.{◌≡◌, ◌≤◌, ◌<◌, ◌^◌, ◌+◌, ◌++◌, ◌∷◌, [], false, length, IfOk, OnOk, IsTrue};
+ghost use Rattle.e_text.specs.Lines.{seen, fault_line};
+ghost use Rattle.e_book.specs.Book.{last_line};
+ghost use Rattle.e_book.specs.Headed.{headed, is_known};
+ghost use Rattle.e_judgement.specs.Judged.{is_lf_end, is_head, number_of, JudgesText, JudgesLines, JudgedBehind, IsJudged};
+
+use crate::judgement::Judgement;
+use e_book::{Known, Theorem};
+use e_read::{Piece, TextFault, read};
+use e_text::{Line, LineEnd, LineFault, Lines};
+use e_verify::{Reject, verify};
+use std::alloc::{AllocError, Global};
+
+/// The most bytes that a line of a derivation text may have.
+const LONGEST_LINE: usize = 262_144;
+
+/// Whether a line is the first one of a derivation text.
+fn is_head(line: &Line) -> bool
+    ensures { result ≡ is_head (seen line.now) }
+{
+    matches!(line.end, LineEnd::Lf) && line.bytes == b"derivation 1".as_slice()
+}
+
+/// The number of a line, or of the line that has the fault.
+fn number_of(line: &Result<Line, LineFault>) -> u64
+{
+    match line {
+        Ok(line) => line.number,
+        Err(LineFault::Bytes { line }) => *line,
+        Err(LineFault::LineBytes { line }) => *line,
+        Err(LineFault::NotAscii { line }) => *line,
+    }
+}
+
+/// Behind the last line of a text nothing stands.
+fn behind_the_last(lines: &mut Lines, theorems: u32) -> Judgement
+    ensures { result ≡ JudgedBehind theorems lines.old.lines }
+{
+    match lines.next() {
+        None => Judgement::Verified { theorems },
+        Some(line) => Judgement::Garbled {
+            line: number_of(&line),
+        },
+    }
+}
+
+/// Keeps the title and the statement of a theorem.
+fn keep(known: &mut Known, theorem: Theorem) -> Result<(), AllocError>
+    requires { is_known known.old theorem.title ≡ false }
+    ensures { OnOk result (known.new ≡ known.old ++ headed theorem.title theorem.statement ∷ []) }
+{
+    known.add(theorem.title, theorem.statement)
+}
+
+/// Judges the theorems one after another.
+fn judge_theorems(alloc: Global, lines: &mut Lines) -> Result<Judgement, AllocError>
+    ensures { IfOk result (λ j. IsJudged (last_line lines.old) lines.old.lines j) }
+{
+    let mut known = Known::new(alloc);
+    loop {
+        let theorem = match read(alloc, lines, &known) {
+            Ok(Piece::Theorem(theorem)) => theorem,
+            Ok(Piece::Last { theorems }) => return Ok(behind_the_last(lines, theorems)),
+            Err(TextFault::Garbled { line }) => return Ok(Judgement::Garbled { line }),
+            Err(TextFault::NoMemory) => return Err(AllocError),
+        };
+        match verify(alloc, known.statements(), &theorem.statement, &theorem.block) {
+            Ok(()) => keep(&mut known, theorem)?,
+            Err(Reject::Bad { step }) => {
+                let title = theorem.title;
+                return Ok(Judgement::Bad { title, step });
+            }
+            Err(Reject::NoMemory) => return Err(AllocError),
+        }
+    }
+}
+
+/// Judges a derivation text. It fails only for want of memory.
+///
+/// The text is verified exactly where it is the head line `derivation 1`, blocks in which each line has its form and each
+/// certificate certifies at its own line, and the line `accepted N` with their number, and nothing stands behind that. Else the
+/// first block in which something is wrong decides: it is garbled at its first line that has no form at its place, or, where each
+/// has one, bad at its first line that is not certified. No search is part of this.
+pub fn judge(alloc: Global, text: &[u8]) -> Result<Judgement, AllocError>
+    requires { length text.now ≤ 2 ^ 60 }
+    ensures { IfOk result (λ j. JudgesText text.now j) }
+{
+    let mut lines = Lines::new(text, LONGEST_LINE, u64::MAX);
+    match lines.next() {
+        Some(Ok(line)) if is_head(&line) => judge_theorems(alloc, &mut lines),
+        _ => Ok(Judgement::Garbled { line: 1 }),
+    }
+}

@@ -1,0 +1,14 @@
+//! What a derivation text is judged to be.
+
+use e_text::Title;
+
+/// How a derivation text is judged.
+#[derive(Clone, Copy, Debug, PartialEq, Eq)]
+pub enum Judgement {
+    /// Each line has a form, and each certificate certifies at its own line.
+    Verified { theorems: u32 },
+    /// The first line that is not certified: the theorem, and the number of the line among its steps and closes.
+    Bad { title: Title, step: u32 },
+    /// The first line that has no form at its place.
+    Garbled { line: u64 },
+}

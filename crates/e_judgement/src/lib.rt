@@ -1,0 +1,10 @@
+//! The judgement of a derivation text: verified, bad at the first line that is not certified, or garbled at the first line that has
+//! no form at its place. Its theorems are judged one after another, each whole, by those before it.
+#![tactic(auto)]
+
+mod judge;
+mod judgement;
+pub mod laws;
+
+pub use judge::judge;
+pub use judgement::Judgement;
