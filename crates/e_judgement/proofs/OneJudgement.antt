@@ -1,0 +1,130 @@
+-- A derivation text has one judgement.
+use Rattle.std.proofs.Common.{◌≡◌, inl, inr, ℕ, ◌+◌, Bool, true, false, List, [], ◌∷◌, length, Result, Ok, Err, refl, sym, ap, subst, ◌∙◌}
+use Rattle.std.specs.Prelude.{IsTrue, IsFalse}
+use Rattle.std.specs.List.{list_all}
+use Rattle.e_text.specs.Lines.{Seen}
+use Rattle.e_theorem.specs.Statements.{stated}
+use Rattle.e_deriv.specs.Lines.{Line, first_failure}
+use Rattle.e_deriv.specs.Certified.{is_certified, derivation_lines, verdict}
+use Rattle.e_book.specs.Headed.{Headed, stated_by}
+use Rattle.e_book.specs.Entry.{Entry}
+use Rattle.e_read.specs.Text.{at_start, piece_from, Piece, Derived, Last}
+use Rattle.e_judgement.specs.declared.judgement.Judgement.{Judgement}
+use Rattle.e_judgement.specs.declared.judgement.Judgement.TheVariants.{Bad, Garbled}
+use Rattle.e_judgement.specs.Judged.{Rest, with_theorem, ReadsNext, IsCertified, Passes, JudgedBehind, EndsThere, BreaksThere, FailsThere, Closes, IsJudged, is_head, JudgesLines, JudgesText, lines_of_text}
+
+-- what reading gives
+abbrev Answer : Type 0
+Answer = Result (Piece × Rest) ℕ
+
+abbrev found : Entry → Rest → Answer
+found t rest = Ok (Derived t, rest)
+
+abbrev ended : Rest → Answer
+ended rest = Ok (Last, rest)
+
+abbrev broken : ℕ → Answer
+broken line = Err line
+
+same_entry : (t u : Entry) (xs ys : Rest) → found t xs ≡ found u ys → t ≡ u
+same_entry t u xs ys e = cc
+
+same_rest : (t u : Entry) (xs ys : Rest) → found t xs ≡ found u ys → xs ≡ ys
+same_rest t u xs ys e = cc
+
+same_end : (xs ys : Rest) → ended xs ≡ ended ys → xs ≡ ys
+same_end xs ys e = cc
+
+same_line : (n m : ℕ) → broken n ≡ broken m → n ≡ m
+same_line n m e = cc
+
+found_not_ended : (t : Entry) (xs ys : Rest) → found t xs ≡ ended ys → ⊥
+found_not_ended t xs ys e = cc
+
+found_not_broken : (t : Entry) (xs : Rest) (n : ℕ) → found t xs ≡ broken n → ⊥
+found_not_broken t xs n e = cc
+
+ended_not_broken : (xs : Rest) (n : ℕ) → ended xs ≡ broken n → ⊥
+ended_not_broken xs n e = cc
+
+same_step : (n m : ℕ) → Err {A = ℕ} n ≡ Err m → n ≡ m
+same_step n m e = cc
+
+-- where each line passes there is no first failure
+no_failure : (p : Line → Bool) (xs : List Line) (n k : ℕ) → list_all p xs ≡ true → first_failure p xs n ≡ Err k → ⊥
+no_failure p [] n k h e = cc
+no_failure p (x ∷ xs) n k h e = by (p x) h e
+  where
+    by : (b : Bool) → (if b then list_all p xs else false) ≡ true → (if b then first_failure p xs (n + 1) else Err n) ≡ Err k → ⊥
+    by true h e = no_failure p xs (n + 1) k h e
+    by false h e = cc
+
+certified_no_failure : (known : List Headed) (t : Entry) (step : ℕ) → IsCertified known t → verdict (stated_by known) (stated t.statement) t.script ≡ Err step → ⊥
+certified_no_failure known t step c e =
+    no_failure (is_certified (stated_by known)) (derivation_lines (stated_by known) (stated t.statement) t.script) 1 step c e
+
+same_bad : (known : List Headed) (t u : Entry) (n m : ℕ) → t ≡ u → verdict (stated_by known) (stated t.statement) t.script ≡ Err n → verdict (stated_by known) (stated u.statement) u.script ≡ Err m → Bad t.title n ≡ Bad u.title m
+same_bad known t u n m e h k =
+    let v = ap (λ (x : Entry). verdict (stated_by known) (stated x.statement) x.script) e in
+    let s = same_step n m (sym h ∙ v ∙ k) in
+    ap (λ (x : Entry). Bad x.title n) e ∙ ap (Bad u.title) s
+
+-- with the same known, the same lines end in one way
+one_close : (last : ℕ) (known : List Headed) (lines : Rest) (a b : Judgement) → Closes last known lines a → Closes last known lines b → a ≡ b
+one_close last known lines a b (inl h) (inl k) = h.2 ∙ ap (JudgedBehind (length known)) (same_end h.0 k.0 (sym h.1 ∙ k.1)) ∙ sym k.2
+one_close last known lines a b (inl h) (inr (inl k)) = absurd (ended_not_broken h.0 k.0 (sym h.1 ∙ k.1))
+one_close last known lines a b (inl h) (inr (inr k)) = absurd (found_not_ended k.0 k.1 h.0 (sym k.3 ∙ h.1))
+one_close last known lines a b (inr (inl h)) (inl k) = absurd (ended_not_broken k.0 h.0 (sym k.1 ∙ h.1))
+one_close last known lines a b (inr (inl h)) (inr (inl k)) = h.2 ∙ ap Garbled (same_line h.0 k.0 (sym h.1 ∙ k.1)) ∙ sym k.2
+one_close last known lines a b (inr (inl h)) (inr (inr k)) = absurd (found_not_broken k.0 k.1 h.0 (sym k.3 ∙ h.1))
+one_close last known lines a b (inr (inr h)) (inl k) = absurd (found_not_ended h.0 h.1 k.0 (sym h.3 ∙ k.1))
+one_close last known lines a b (inr (inr h)) (inr (inl k)) = absurd (found_not_broken h.0 h.1 k.0 (sym h.3 ∙ k.1))
+one_close last known lines a b (inr (inr h)) (inr (inr k)) =
+    h.5 ∙ same_bad known h.0 k.0 h.2 k.2 (same_entry h.0 k.0 h.1 k.1 (sym h.3 ∙ k.3)) h.4 k.4 ∙ sym k.5
+
+-- where the next theorem passes the lines do not end
+no_close : (last : ℕ) (known : List Headed) (lines : Rest) (t : Entry) (after : Rest) (a : Judgement) → ReadsNext last known lines t after → IsCertified known t → Closes last known lines a → ⊥
+no_close last known lines t after a r c (inl h) = found_not_ended t after h.0 (sym r ∙ h.1)
+no_close last known lines t after a r c (inr (inl h)) = found_not_broken t after h.0 (sym r ∙ h.1)
+no_close last known lines t after a r c (inr (inr h)) =
+    certified_no_failure known t h.2 c
+    (ap (λ (x : Entry). verdict (stated_by known) (stated x.statement) x.script) (same_entry t h.0 after h.1 (sym r ∙ h.3)) ∙ h.4)
+
+closes_at : (last : ℕ) (known now : List Headed) (lines rest : Rest) (a : Judgement) → known ≡ now → lines ≡ rest → Closes last now rest a → Closes last known lines a
+closes_at last known now lines rest a e f h =
+    subst (λ (k : List Headed). Closes last k lines a) (sym e) (subst (λ (l : Rest). Closes last now l a) (sym f) h)
+
+passes_at : (last : ℕ) (known now : List Headed) (lines after rest : Rest) (ts : List Entry) (t u : Entry) → u ≡ t → after ≡ lines
+    → Passes last (with_theorem known u) after ts now rest → Passes last (with_theorem known t) lines ts now rest
+passes_at last known now lines after rest ts t u e f h =
+    subst (λ (l : Rest). Passes last (with_theorem known t) l ts now rest) f
+    (subst (λ (x : Entry). Passes last (with_theorem known x) after ts now rest) e h)
+
+-- the same lines are judged in one way
+one_way : (last : ℕ) (known : List Headed) (lines : Rest) (ts us : List Entry) (k1 k2 : List Headed) (r1 r2 : Rest) (a b : Judgement)
+    → Passes last known lines ts k1 r1 → Passes last known lines us k2 r2 → Closes last k1 r1 a → Closes last k2 r2 b → a ≡ b
+one_way last known lines [] [] k1 k2 r1 r2 a b p q h k =
+    one_close last known lines a b (closes_at last known k1 lines r1 a p.0 p.1 h) (closes_at last known k2 lines r2 b q.0 q.1 k)
+one_way last known lines [] (u ∷ us) k1 k2 r1 r2 a b p q h k =
+    absurd (no_close last known lines u q.0 a q.1 q.2 (closes_at last known k1 lines r1 a p.0 p.1 h))
+one_way last known lines (t ∷ ts) [] k1 k2 r1 r2 a b p q h k =
+    absurd (no_close last known lines t p.0 b p.1 p.2 (closes_at last known k2 lines r2 b q.0 q.1 k))
+one_way last known lines (t ∷ ts) (u ∷ us) k1 k2 r1 r2 a b p q h k =
+    let e = sym q.1 ∙ p.1 in
+    one_way last (with_theorem known t) p.0 ts us k1 k2 r1 r2 a b p.3
+    (passes_at last known k2 p.0 q.0 r2 us t u (same_entry u t q.0 p.0 e) (same_rest u t q.0 p.0 e) q.3) h k
+
+one_judged : (last : ℕ) (lines : Rest) (a b : Judgement) → IsJudged last lines a → IsJudged last lines b → a ≡ b
+one_judged last lines a b p q = one_way last [] lines p.theorems q.theorems p.known q.known p.rest q.rest a b p.passes q.passes p.closes q.closes
+
+by_head : (t : Bool) (last : ℕ) (lines : Rest) (a b : Judgement) → (IsTrue t → IsJudged last lines a) × (IsFalse t → a ≡ Garbled 1) → (IsTrue t → IsJudged last lines b) × (IsFalse t → b ≡ Garbled 1) → a ≡ b
+by_head true last lines a b h k = one_judged last lines a b (h.0 refl) (k.0 refl)
+by_head false last lines a b h k = h.1 refl ∙ sym (k.1 refl)
+
+by_lines : (lines : Rest) (a b : Judgement) → JudgesLines lines a → JudgesLines lines b → a ≡ b
+by_lines [] a b h k = h ∙ sym k
+by_lines (Err f ∷ lines) a b h k = h ∙ sym k
+by_lines (Ok l ∷ lines) a b h k = by_head (is_head l) (2 + length lines) lines a b h k
+
+pub one_judgement : (text : List ℕ) (a b : Judgement) → JudgesText text a → JudgesText text b → a ≡ b
+one_judgement text a b h k = by_lines (lines_of_text text) a b h k

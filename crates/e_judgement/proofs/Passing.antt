@@ -1,0 +1,71 @@
+-- The theorems passed so far.
+use Rattle.std.proofs.Common.{◌≡◌, inl, inr, ℕ, ◌+◌, List, [], ◌∷◌, ◌++◌, length, map, Result, Ok, Err, refl, sym, ap, subst, ◌∙◌}
+use Rattle.std.specs.Prelude.{IsTrue, true, ◌&&◌}
+use Rattle.std.specs.List.{list_all}
+use Rattle.std.proofs.lemmas.List.Folds.{list_all-append}
+use Rattle.std.proofs.lemmas.Bool.{and_from}
+use Rattle.e_theorem.specs.Statements.{stated}
+use Rattle.e_deriv.specs.Certified.{verdict}
+use Rattle.e_deriv.specs.Fitting.{is_small_statement}
+use Rattle.e_book.specs.Headed.{Headed, headed, stated_by}
+use Rattle.e_book.specs.Entry.{Entry}
+use Rattle.e_read.specs.Text.{at_start, piece_from, Derived, Last}
+use Rattle.e_judgement.specs.declared.judgement.Judgement.{Judgement}
+use Rattle.e_judgement.specs.declared.judgement.Judgement.TheVariants.{Verified, Bad, Garbled}
+use Rattle.e_judgement.specs.Judged.{Rest, with_theorem, ReadsNext, IsCertified, Passes, JudgedBehind, EndsThere, BreaksThere, FailsThere, Closes, IsJudged}
+
+pub record History (last : ℕ) (lines : Rest) (known : List Headed) (rest : Rest) : Type 0 where
+  pub theorems : List Entry
+  pub passes : Passes last [] lines theorems known rest
+
+-- one more theorem passes
+passes_more : (last : ℕ) (known : List Headed) (lines : Rest) (ts : List Entry) (now : List Headed) (rest : Rest) (t : Entry) (after : Rest)
+    → Passes last known lines ts now rest → ReadsNext last now rest t after → IsCertified now t
+    → Passes last known lines (ts ++ t ∷ []) (with_theorem now t) after
+passes_more last known lines [] now rest t after r h c = (
+  after,
+  subst (λ (k : List Headed). ReadsNext last k lines t after) (sym r.0) (ap (piece_from now last at_start) r.1 ∙ h),
+  subst (λ (k : List Headed). IsCertified k t) (sym r.0) c,
+  (ap (λ (k : List Headed). with_theorem k t) r.0, refl),
+)
+passes_more last known lines (u ∷ us) now rest t after r h c =
+    (r.0, r.1, r.2, passes_more last (with_theorem known u) r.0 us now rest t after r.3 h c)
+
+pub begins : (last : ℕ) (lines : Rest) → History last lines [] lines
+begins last lines = record { theorems = []; passes = (refl, refl) }
+
+pub goes_on : (last : ℕ) (lines : Rest) (known : List Headed) (rest : Rest) (t : Entry) (after : Rest)
+    → History last lines known rest → ReadsNext last known rest t after → IsCertified known t → History last lines (with_theorem known t) after
+goes_on last lines known rest t after h r c =
+    record { theorems = h.theorems ++ t ∷ []; passes = passes_more last [] lines h.theorems known rest t after h.passes r c }
+
+closes_so : (last : ℕ) (lines : Rest) (known : List Headed) (rest : Rest) (j : Judgement) → History last lines known rest → Closes last known rest j → IsJudged last lines j
+closes_so last lines known rest j h c = record { theorems = h.theorems; known = known; rest = rest; passes = h.passes; closes = c }
+
+-- the last line came, and these lines stand behind it
+pub ends_so : (last n : ℕ) (lines : Rest) (known : List Headed) (rest after : Rest) (j : Judgement)
+    → History last lines known rest → n ≡ length known → piece_from known last at_start rest ≡ Ok (Last, after) → j ≡ JudgedBehind n after → IsJudged last lines j
+ends_so last n lines known rest after j h count r e =
+    closes_so last lines known rest j h (inl (after, r, e ∙ ap (λ (k : ℕ). JudgedBehind k after) count))
+
+pub breaks_so : (last line : ℕ) (lines : Rest) (known : List Headed) (rest : Rest) → History last lines known rest → piece_from known last at_start rest ≡ Err line → IsJudged last lines (Garbled line)
+breaks_so last line lines known rest h r = closes_so last lines known rest (Garbled line) h (inr (inl (line, r, refl)))
+
+pub fails_so : (last step : ℕ) (lines : Rest) (known : List Headed) (rest : Rest) (t : Entry) (after : Rest)
+    → History last lines known rest → ReadsNext last known rest t after → verdict (stated_by known) (stated t.statement) t.script ≡ Err step → IsJudged last lines (Bad t.title step)
+fails_so last step lines known rest t after h r e = closes_so last lines known rest (Bad t.title step) h (inr (inr (t, after, step, r, e, refl)))
+
+-- what a call read is what stands ahead
+pub at_last : {A : Type 0} (known : List Headed) (n last : ℕ) (rest : Rest) (a : Result A ℕ) (f : ℕ → Result A ℕ) → n ≡ last → f n ≡ a → f last ≡ a
+at_last known n last rest a f e h = subst (λ (k : ℕ). f k ≡ a) e h
+
+-- each known theorem is a statement, and so is one more
+pub small_more : (known : List Headed) (t : Entry) → IsTrue (list_all is_small_statement (stated_by known)) → IsTrue (is_small_statement (stated t.statement)) → IsTrue (list_all is_small_statement (stated_by (with_theorem known t)))
+small_more [] t h k = ap (λ b. b && true) k
+small_more (u ∷ us) t h k =
+    let a = and_parts (is_small_statement (stated u.statement)) (list_all is_small_statement (stated_by us)) h in
+    ap (λ b. b && list_all is_small_statement (stated_by (with_theorem us t))) a.0 ∙ small_more us t a.1 k
+  where
+    and_parts : (x y : _) → (x && y) ≡ true → (x ≡ true) × (y ≡ true)
+    and_parts true y h = (refl, h)
+    and_parts _ y h = absurd cc

@@ -1,0 +1,20 @@
+use Rattle.std.proofs.Common.{◌≡◌, ◌≤◌, length}
+use Rattle.std.specs.Prelude.{IsTrue}
+use Rattle.std.specs.List.{list_all}
+use Rattle.e_deriv.specs.Fitting.{is_small_statement}
+use Rattle.e_book.specs.Book.{last_line}
+use Rattle.e_book.specs.Headed.{stated_by}
+use Rattle.e_book.specs.Limits.{most_theorems}
+use Rattle.e_judgement.proofs.Passing.{History}
+use Rattle.e_judgement.proofs.judge.judge_theorems.Given as goal
+
+abbrev pub invariant-loop-theorem : goal.invariant-loop-theorem
+invariant-loop-theorem l = record {
+  history : History (last_line l.initial.lines) l.initial.lines.lines l.known l.lines.lines;
+  small : IsTrue (list_all is_small_statement (stated_by l.known));
+  few : length l.known ≤ most_theorems;
+  last : last_line l.lines ≡ last_line l.initial.lines;
+}
+
+abbrev pub decreases-loop-theorem : goal.decreases-loop-theorem
+decreases-loop-theorem l = length l.lines.lines
