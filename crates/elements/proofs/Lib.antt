@@ -4,3 +4,4 @@ mod Closing
 mod OneOutcome
 mod Answering
 mod WholeBook
+mod Verifying
