@@ -221,7 +221,7 @@ fn matched(
     statement: &Statement,
     pattern: &[Option<Obj>],
 ) -> Result<String, AllocError> {
-    assert!(rt; statement.declared.len() + statement.made.len() < 9);
+    assert!(rt; statement.declared.len() < 9 && statement.made.len() < 9);
     assert!(rt; is_statement(statement));
     assert!(rt; is_pattern(statement, pattern, context.scope()));
     match match_blanks(alloc, context, statement, pattern)? {
