@@ -30,18 +30,6 @@ fn context(
     Ok(Context::new(scope, facts))
 }
 
-fn licensed(
-    rt: &impl Abort,
-    alloc: Global,
-    facts: &str,
-    wanted: &str,
-) -> Result<Licensed, AllocError> {
-    let context = context(rt, alloc, SCOPE, facts)?;
-    let wanted = lit(alloc, wanted)?;
-    assert!(rt; is_good(context.scope(), &wanted));
-    licence(alloc, &context, &wanted)
-}
-
 fn word(licensed: &Licensed) -> &'static str {
     match licensed {
         Licensed::Yes(Cert::Plain(Part::Fact)) => "fact",
@@ -51,6 +39,22 @@ fn word(licensed: &Licensed) -> &'static str {
         Licensed::No(Some(_)) => "values",
         Licensed::TooWide(_) => "too wide",
     }
+}
+
+fn licensed(
+    rt: &impl Abort,
+    alloc: Global,
+    facts: &str,
+    wanted: &str,
+) -> Result<&'static str, AllocError> {
+    let wanted = lit(alloc, wanted)?;
+    let context = context(rt, alloc, SCOPE, facts)?;
+    assert!(rt; is_good(context.scope(), &wanted));
+    Ok(word(&licence(alloc, &context, &wanted)?))
+}
+
+fn part(row: &'static str, number: usize) -> &'static str {
+    row.split(':').nth(number).unwrap_or("")
 }
 
 // Facts, a literal, and what is answered.
@@ -73,14 +77,8 @@ ab<cd:cd<ab:values"
 #[test]
 fn what_is_allowed(rt: HostRuntime) -> Result<(), Fail> {
     for step in steps().split('\n') {
-        let Some((facts, rest)) = step.split_once(':') else {
-            panic!(&rt; "no facts");
-        };
-        let Some((wanted, answer)) = rest.split_once(':') else {
-            panic!(&rt; "no literal");
-        };
-        let licensed = licensed(&rt, rt.alloc(), facts, wanted)?;
-        assert_eq!(rt; word(&licensed), answer, "{step}");
+        let licensed = licensed(&rt, rt.alloc(), part(step, 0), part(step, 1))?;
+        assert_eq!(rt; licensed, part(step, 2), "{step}");
     }
     Ok(())
 }
@@ -106,15 +104,16 @@ fn word_against(refuted: &Refuted) -> &'static str {
     }
 }
 
+fn refuted(rt: &impl Abort, alloc: Global, facts: &str) -> Result<&'static str, AllocError> {
+    let context = context(rt, alloc, SCOPE, facts)?;
+    Ok(word_against(&against(alloc, &context)?))
+}
+
 #[test]
 fn what_contradicts(rt: HostRuntime) -> Result<(), Fail> {
     for step in contradictions().split('\n') {
-        let Some((facts, answer)) = step.split_once(':') else {
-            panic!(&rt; "no facts");
-        };
-        let context = context(&rt, rt.alloc(), SCOPE, facts)?;
-        let refuted = against(rt.alloc(), &context)?;
-        assert_eq!(rt; word_against(&refuted), answer, "{step}");
+        let refuted = refuted(&rt, rt.alloc(), part(step, 0))?;
+        assert_eq!(rt; refuted, part(step, 1), "{step}");
     }
     Ok(())
 }
@@ -156,10 +155,6 @@ fn blanks() -> &'static str {
 6 0:1000000*ab=bc 1000000*bc=cd 1000000*cd=de 1000000*de=ef:pppp:ab=cd:abef:too wide
 6 0:1000000*ab=bc 1000000*bc=cd 1000000*cd=de 1000000*de=ef:pppp:ab=cd:dc_c:too wide
 6 0:1000000*ab=bc 1000000*bc=cd 1000000*cd=de 1000000*de=ef:pppp:1000000*ab=cd:_bbc:abbc"
-}
-
-fn part(row: &'static str, number: usize) -> &'static str {
-    row.split(':').nth(number).unwrap_or("")
 }
 
 // The sort of an object: that of a letter, or `p` and `l`.
@@ -219,6 +214,23 @@ fn statement(alloc: Global, row: &'static str) -> Result<Statement, AllocError> 
     })
 }
 
+fn matched(
+    rt: &impl Abort,
+    alloc: Global,
+    context: &Context,
+    statement: &Statement,
+    pattern: &[Option<Obj>],
+) -> Result<String, AllocError> {
+    assert!(rt; statement.declared.len() < 9 && statement.made.len() < 9);
+    assert!(rt; is_statement(statement));
+    assert!(rt; is_pattern(statement, pattern, context.scope()));
+    match match_blanks(alloc, context, statement, pattern)? {
+        Filled::Found(args) => letters(alloc, args.items()),
+        Filled::None => String::from_str(alloc, "none"),
+        Filled::TooWide(_) => String::from_str(alloc, "too wide"),
+    }
+}
+
 fn filled(rt: &impl Abort, alloc: Global, row: &'static str) -> Result<String, AllocError> {
     let (points, lines) = part(row, 0).split_once(' ').unwrap_or(("", ""));
     let scope = Scope {
@@ -226,17 +238,10 @@ fn filled(rt: &impl Abort, alloc: Global, row: &'static str) -> Result<String, A
         lines: lines.parse::<u16>().unwrap_or(0),
         circles: 0,
     };
-    let context = context(rt, alloc, scope, part(row, 1))?;
-    let statement = statement(alloc, row)?;
     let pattern = entries(alloc, part(row, 4))?;
-    assert!(rt; statement.declared.len() + statement.made.len() < 9);
-    assert!(rt; is_statement(&statement));
-    assert!(rt; is_pattern(&statement, &pattern, context.scope()));
-    match match_blanks(alloc, &context, &statement, &pattern)? {
-        Filled::Found(args) => letters(alloc, args.items()),
-        Filled::None => String::from_str(alloc, "none"),
-        Filled::TooWide(_) => String::from_str(alloc, "too wide"),
-    }
+    let statement = statement(alloc, row)?;
+    let context = context(rt, alloc, scope, part(row, 1))?;
+    matched(rt, alloc, &context, &statement, &pattern)
 }
 
 #[test]

@@ -16,23 +16,26 @@ const SCOPE: Scope = Scope {
     circles: 2,
 };
 
-// Whether the goal is found, or none where it cannot be told.
-fn is_found(
+fn word(found: &Found) -> &'static str {
+    match found {
+        Found::Yes(_) => "yes",
+        Found::No => "no",
+        Found::TooWide(_) => "too wide",
+    }
+}
+
+fn found(
     rt: &impl Abort,
     alloc: Global,
     facts: &Facts,
     goal: &Lit,
-) -> Result<Option<bool>, AllocError> {
+) -> Result<&'static str, AllocError> {
     assert!(rt; are_good_facts(SCOPE, facts));
     assert!(rt; are_few_facts(facts));
     assert!(rt; is_good_literal(SCOPE, goal));
     assert!(rt; !facts.has(goal));
     let known = Known::of(alloc, facts)?;
-    match find(alloc, SCOPE, facts, &known, goal)? {
-        Found::Yes(_) => Ok(Some(true)),
-        Found::No => Ok(Some(false)),
-        Found::TooWide(_) => Ok(None),
-    }
+    Ok(word(&find(alloc, SCOPE, facts, &known, goal)?))
 }
 
 // Objects for a rule's variables, each another one of its sort.
@@ -71,25 +74,34 @@ fn others(alloc: Global, lits: &[Lit], place: usize, left_out: usize) -> Result<
     Ok(facts)
 }
 
+// Whether the literal at one place is found from the negations of all others but the one at `left_out`.
+fn found_from_others(
+    rt: &impl Abort,
+    alloc: Global,
+    lits: &[Lit],
+    place: usize,
+    left_out: usize,
+) -> Result<&'static str, AllocError> {
+    assert!(rt; place < lits.len());
+    let facts = others(alloc, lits, place, left_out)?;
+    found(rt, alloc, &facts, &lits[place])
+}
+
 #[test]
 fn each_literal_of_a_clause_is_found_from_all_others(rt: HostRuntime) -> Result<(), Fail> {
-    let alloc = rt.alloc();
     for name in "ms1 ms3 ds3a da1c".split(' ') {
         let Some(rule) = Rule::named(name.as_bytes()) else {
             panic!(&rt; "no rule {name}");
         };
-        let args = distinct(alloc, rule)?;
-        let Ok(lits) = instance(alloc, rule, &args) else {
+        let args = distinct(rt.alloc(), rule)?;
+        let Ok(lits) = instance(rt.alloc(), rule, &args) else {
             panic!(&rt; "no instance of {name}");
         };
         for place in 0..lits.len() {
             for left_out in 0..lits.len() {
-                let facts = others(alloc, &lits, place, left_out)?;
-                let found = is_found(&rt, alloc, &facts, &lits[place])?;
-                assert!(rt;
-                    found == Some(place == left_out),
-                    "{name} {place} {left_out}"
-                );
+                let wanted = if place == left_out { "yes" } else { "no" };
+                let found = found_from_others(&rt, rt.alloc(), &lits, place, left_out)?;
+                assert_eq!(rt; found, wanted, "{name} {place} {left_out}");
             }
         }
     }
@@ -105,9 +117,9 @@ fn what_is_too_wide_does_not_hide_what_is_found(rt: HostRuntime) -> Result<(), F
     let alloc = rt.alloc();
     let goal = lit(alloc, "cL")?;
     let mut facts = facts_of(alloc, WIDE)?;
-    assert!(rt; is_found(&rt, alloc, &facts, &goal)?.is_none());
+    assert_eq!(rt; found(&rt, alloc, &facts, &goal)?, "too wide");
     facts.add(lit(alloc, "^abc=^abd")?)?;
     facts.add(lit(alloc, "^abd=0")?)?;
-    assert!(rt; is_found(&rt, alloc, &facts, &goal)? == Some(true));
+    assert_eq!(rt; found(&rt, alloc, &facts, &goal)?, "yes");
     Ok(())
 }
