@@ -130,14 +130,14 @@ pub(crate) fn count_blanks(pattern: &[Option<Obj>]) -> usize
 
 /// The place of an earlier theorem, and what stands for its declared objects.
 #[derive(Debug, Drop)]
-pub(crate) struct Application {
+pub struct Application {
     pub theorem: u32,
     pub args: Items<Option<Obj>>,
 }
 
 /// The title, then how many arguments and new names there are, then the arguments, then the new names; the leftmost fault.
 #[tactic(auto, unfolding(crate::specs::Applies::apply_in))]
-pub(crate) fn apply_in(
+pub fn apply_in(
     alloc: Global,
     known: &Known,
     names: &Names,

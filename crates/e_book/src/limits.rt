@@ -132,7 +132,7 @@ fn are_small(lits: &[RawLit]) -> bool
 
 /// The limits of each literal: of its monomials, and then of the coefficients of all.
 #[tactic(auto, unfolding(crate::specs::Steps::few_monos))]
-pub(crate) fn few_monos(lits: &[RawLit]) -> Result<(), Trouble>
+pub fn few_monos(lits: &[RawLit]) -> Result<(), Trouble>
     ensures { Gives (λ u. u) result (few_monos lits.now) }
 {
     if !are_short(lits) {
