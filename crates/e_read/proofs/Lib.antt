@@ -1,1 +1,3 @@
-pub mod Filling
+pub mod FilledScripts
+pub mod TakenLines
+pub mod Bridge

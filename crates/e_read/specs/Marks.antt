@@ -22,11 +22,14 @@ abbrev pub sized : Option ℕ → Result ℕ Kind
 sized None = Err Malformed
 sized (Some n) = if nat_lt 0 n && nat_le n (2 ^ 80) then Ok n else Err Malformed
 
+abbrev pub size_of : List ℕ → Result ℤ Kind
+size_of digits = sized (number_of digits) >>= λ n. Ok (pos n)
+
 -- a whole number other than 0, with a minus sign where it is negative
 abbrev pub multiplier_of : List ℕ → Result ℤ Kind
 multiplier_of [] = Err Malformed
 multiplier_of (b ∷ bs) =
-    if b == 45 then (sized (number_of bs) >>= λ n. Ok (neg_ℤ (pos n))) else (sized (number_of (b ∷ bs)) >>= λ n. Ok (pos n))
+    if b == 45 then (size_of bs >>= λ n. Ok (neg_ℤ n)) else size_of (b ∷ bs)
 
 -- ---- rows
 

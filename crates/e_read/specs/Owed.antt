@@ -100,14 +100,14 @@ abbrev pub certificate : OpenTransfer → Cert
 certificate t = Transfer (record { rule = t.rule; args = t.args; parts = t.parts })
 
 -- a transfer that has all its parts is a certificate
-abbrev pub transfer_put : List Lit → List Cert → OpenTransfer → Due
+abbrev pub transfer_put : List Lit → List Cert → OpenTransfer → Result Due Kind
 transfer_put wanted certs t =
-    if length t.parts == t.owed then due.Literals wanted (certs ++ certificate t ∷ []) None else due.Literals wanted certs (Some t)
+    if length t.parts == t.owed then Ok (due.Literals wanted (certs ++ certificate t ∷ []) None) else Ok (due.Literals wanted certs (Some t))
 
 -- what needs no rule certifies a part of the transfer that is begun, and else the next literal
 abbrev pub part_put : Due → Part → Result Due Kind
 part_put (due.Literals wanted certs None) p = if has_more wanted certs then Ok (due.Literals wanted (certs ++ Plain p ∷ []) None) else Err Malformed
-part_put (due.Literals wanted certs (Some t)) p = Ok (transfer_put wanted certs (record t { parts = t.parts ++ p ∷ [] }))
+part_put (due.Literals wanted certs (Some t)) p = transfer_put wanted certs (record t { parts = t.parts ++ p ∷ [] })
 part_put _ p = Err Malformed
 
 -- a metric certificate may be of a contradiction too
@@ -147,7 +147,7 @@ transfer_in ns wanted title raws = do
 -- a transfer is begun for the next literal, and is no part of another one
 abbrev pub transfer_begun : Names → Due → List ℕ → List (List ℕ) → Result Due Kind
 transfer_begun ns (due.Literals wanted certs None) title raws =
-    or_malformed (slice_get wanted (length certs)) >>= λ l. transfer_in ns l title raws >>= λ t. Ok (transfer_put wanted certs t)
+    or_malformed (slice_get wanted (length certs)) >>= λ l. transfer_in ns l title raws >>= λ t. transfer_put wanted certs t
 transfer_begun ns d title raws = Err Malformed
 
 -- ---- lines

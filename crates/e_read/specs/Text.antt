@@ -52,10 +52,14 @@ gone_on known None f = begin known f >>= λ e. Ok (e, owes_nothing)
 gone_on known (Some d) f =
     if is_apart d f then (due_of known d f >>= λ new. step known d f >>= λ e. Ok (e, record { names = d.in_scope; due = new; sums = None })) else Err Malformed
 
+-- nothing is owed any more, and what was read is kept
+abbrev pub all_settled : Reading → Result Reading Kind
+all_settled r = settled r.owed >>= λ k. Ok (record { draft = r.draft; owed = owes_nothing; kept = r.kept ++ option_to_list k })
+
 -- any other line comes where nothing is owed any more
 abbrev pub stepped : List Headed → Reading → List ℕ → Result Reading Kind
 stepped known r line =
-    strict_form line >>= λ f. settled r.owed >>= λ k. gone_on known r.draft f >>= λ e. Ok (record { draft = Some e.0; owed = e.1; kept = r.kept ++ option_to_list k })
+    strict_form line >>= λ f. all_settled r >>= λ s. gone_on known s.draft f >>= λ e. Ok (record { draft = Some e.0; owed = e.1; kept = s.kept })
 
 abbrev pub is_bar : List ℕ → Bool
 is_bar word = bytes_eq word (codes "|")

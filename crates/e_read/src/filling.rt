@@ -1,7 +1,7 @@
 //! A script with certificates at its lines.
 ghost use Rattle.std.specs.Prelude.{◌≡◌, IfOk, OnOk};
-ghost use Rattle.e_deriv.specs.Script.{Script, script_of, step_script, close_script};
-ghost use Rattle.e_read.specs.Filled.{filled, next_certs, next_against, first_cert, Fills, FillsStep, FillsClose};
+ghost use Rattle.e_deriv.specs.Script.{script_of};
+ghost use Rattle.e_read.specs.Filled.{behind_next, next_certs, next_against, first_cert, Fills, FillsStep, FillsClose};
 
 use crate::kept::{Certs, Kept, Queue};
 use e_clause::{Against, Cert};
@@ -12,7 +12,7 @@ use std::alloc::{AllocError, Global};
 /// The certificates of the next line that has some.
 fn next_certs(alloc: Global, queue: &mut Queue) -> Certs
     ensures certs { result ≡ next_certs queue.old }
-    ensures rest { queue.new ≡ Rattle.e_read.specs.Filled.behind_next queue.old }
+    ensures rest { queue.new ≡ behind_next queue.old }
 {
     match queue.pop() {
         Some(Kept::Certs(certs)) => certs,
@@ -23,7 +23,7 @@ fn next_certs(alloc: Global, queue: &mut Queue) -> Certs
 /// The certificate of a contradiction that comes next.
 fn next_against(queue: &mut Queue) -> Option<Against>
     ensures against { result ≡ next_against queue.old }
-    ensures rest { queue.new ≡ Rattle.e_read.specs.Filled.behind_next queue.old }
+    ensures rest { queue.new ≡ behind_next queue.old }
 {
     match queue.pop() {
         Some(Kept::Against(against)) => Some(against),
@@ -34,14 +34,14 @@ fn next_against(queue: &mut Queue) -> Option<Against>
 /// The first certificate of the next line that has some.
 fn next_cert(alloc: Global, queue: &mut Queue) -> Option<Cert>
     ensures cert { result ≡ first_cert (next_certs queue.old) }
-    ensures rest { queue.new ≡ Rattle.e_read.specs.Filled.behind_next queue.old }
+    ensures rest { queue.new ≡ behind_next queue.old }
 {
     next_certs(alloc, queue).into_first()
 }
 
 /// The block with the certificates that come next, in the order of its lines.
 #[cycle(fill)]
-#[tactic(auto, using(crate::proofs::Filling::filling))]
+#[tactic(auto, using(crate::proofs::FilledScripts::filling))]
 pub(crate) fn fill(alloc: Global, block: &Block, queue: &mut Queue) -> Result<Block, AllocError>
     ensures { IfOk result (λ b. Fills (script_of block.now) queue.old (script_of b) queue.new) }
 {
@@ -55,7 +55,7 @@ pub(crate) fn fill(alloc: Global, block: &Block, queue: &mut Queue) -> Result<Bl
 }
 
 #[cycle(fill)]
-#[tactic(auto, using(crate::proofs::Filling::filling))]
+#[tactic(auto, using(crate::proofs::FilledScripts::filling))]
 fn fill_step(alloc: Global, step: &Step, queue: &mut Queue) -> Result<Step, AllocError>
     ensures { IfOk result (λ s. FillsStep step.now queue.old s queue.new) }
 {
@@ -122,7 +122,7 @@ fn fill_step(alloc: Global, step: &Step, queue: &mut Queue) -> Result<Step, Allo
 }
 
 #[cycle(fill)]
-#[tactic(auto, using(crate::proofs::Filling::filling))]
+#[tactic(auto, using(crate::proofs::FilledScripts::filling))]
 fn fill_close(alloc: Global, close: &Close, queue: &mut Queue) -> Result<Close, AllocError>
     ensures { IfOk result (λ c. FillsClose close.now queue.old c queue.new) }
 {

@@ -176,7 +176,7 @@ pub(crate) struct Queue {
 
 impl Model for Queue {
     ghost use Rattle.std.specs.Prelude.{List};
-    ghost use Rattle.std_alloc.specs.Vec.Iter.{into_iter_items};
+    ghost use Rattle.std.specs.Vec.Iter.{into_iter_items};
     ghost use Rattle.e_read.specs.declared.kept.Kept.{Kept};
 
     ghost Value = { List Kept };

@@ -3,7 +3,7 @@ ghost use Rattle.std.specs.Prelude.{◌≡◌, ◌++◌, ◌∷◌, [], codes, m
 ghost use Rattle.e_text.specs.Tokens.{spaced};
 ghost use Rattle.e_construct.specs.Views.{piece_said};
 ghost use Rattle.e_book.specs.Superposes.{superpose_pieces};
-ghost use Rattle.e_book.specs.Canonical.{sort_word, lit_words, filled, line_pieces, avoid_words, let_words, superpose_words, argument_word, made_words, apply_words, line_of};
+ghost use Rattle.e_book.specs.Canonical.{sort_word, lit_words, lits_words, filled, line_pieces, avoid_words, let_words, superpose_words, argument_word, made_words, apply_words, line_of};
 
 use crate::literals::{put_literal, put_literals};
 use crate::words::{put, put_names};
@@ -178,7 +178,7 @@ fn put_named(out: &mut Vec<u8>, word: &[u8], names: &[Name]) -> Result<(), Alloc
 
 /// A word and literals.
 fn put_stated(out: &mut Vec<u8>, word: &[u8], lits: &[RawLit]) -> Result<(), AllocError>
-    ensures { OnOk result (out.new.items ≡ out.old.items ++ (word.now ++ spaced (Rattle.e_book.specs.Canonical.lits_words lits.now))) }
+    ensures { OnOk result (out.new.items ≡ out.old.items ++ (word.now ++ spaced (lits_words lits.now))) }
 {
     out.extend_from_slice(word)?;
     put_literals(out, lits)

@@ -1,8 +1,7 @@
 //! The lines of certificates, told from their words by spelling alone.
-ghost use Rattle.std.specs.Prelude.{◌≡◌, ◌≤◌, ◌^◌, ℤ, pos, neg_ℤ, IfOk};
-ghost use Rattle.e_text.specs.Numerals.{number_of};
-ghost use Rattle.e_book.specs.Reading.{◌>>=◌, texts, Gives};
-ghost use Rattle.e_read.specs.Marks.{sized, multiplier_of, bare_row, row_named, row_of, may_differ, bare, differs_of, transfer_of, row_mark_of, mark_named, mark_of};
+ghost use Rattle.std.specs.Prelude.{◌≡◌};
+ghost use Rattle.e_book.specs.Reading.{texts, Gives};
+ghost use Rattle.e_read.specs.Marks.{size_of, multiplier_of, bare_row, row_named, row_of, may_differ, bare, differs_of, transfer_of, row_mark_of, mark_named, mark_of};
 
 use e_book::{
     Kind, RawLit, RawTerm, Trouble, Words, diagram_lit_of, lit_of, names_of, term_of,
@@ -56,7 +55,7 @@ const MAX_MULTIPLIER: u128 = 1_208_925_819_614_629_174_706_176;
 
 /// The size of a multiplier.
 fn size_of(digits: &[u8]) -> Result<i128, Trouble>
-    ensures { Gives (λ z. z) result (sized (number_of digits.now) >>= λ n. Ok (pos n)) }
+    ensures { Gives (λ z. z) result (size_of digits.now) }
 {
     match number(digits) {
         Some(size) if size > 0 && size <= MAX_MULTIPLIER => Ok(size as i128),

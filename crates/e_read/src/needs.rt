@@ -12,6 +12,7 @@ ghost use Rattle.e_book.specs.Headed.{stated_by};
 ghost use Rattle.e_book.specs.Reading.{Gives, each, or_malformed};
 ghost use Rattle.e_book.specs.Blocks.{made_in};
 ghost use Rattle.e_book.specs.Steps.{FitsScope};
+ghost use Rattle.e_read.specs.Needs;
 ghost use Rattle.e_read.specs.Needs.{open_goal, one_each, needs_in, due_of};
 
 use crate::kept::Certs;
@@ -81,7 +82,7 @@ fn needs_of_use(
     requires draft { FitsScope draft.now }
     requires few { length known.now ≤ most_theorems }
     requires known { IsTrue (list_all is_small_statement (stated_by known.now)) }
-    ensures { Gives (λ l. l) result (Rattle.e_read.specs.Needs.needs_of_use known.now draft.now raw.now) }
+    ensures { Gives (λ l. l) result (Needs.needs_of_use known.now draft.now raw.now) }
 {
     let used = apply_in(alloc, known, &draft.in_scope, raw)?;
     let statement = known.statement(used.theorem as usize);
@@ -90,7 +91,7 @@ fn needs_of_use(
 
 /// What the innermost claim or superposition of these blocks shows, if there is one.
 fn claimed(outers: &[Outer]) -> Option<&[Lit]>
-    ensures { option_map (λ l. l.now) result ≡ Rattle.e_read.specs.Needs.claimed (reverse outers.now) }
+    ensures { option_map (λ l. l.now) result ≡ Needs.claimed (reverse outers.now) }
 {
     let [outers @ .., outer] = outers else {
         return None;
@@ -156,7 +157,7 @@ fn goal_made(draft: &Draft) -> &[Sort]
 /// What a close by `qed` owes.
 fn needs_at_qed(alloc: Global, draft: &Draft, names: &[Name]) -> Result<Items<Lit>, Trouble>
     requires { FitsScope draft.now }
-    ensures { Gives (λ l. l) result (Rattle.e_read.specs.Needs.needs_at_qed draft.now names.now) }
+    ensures { Gives (λ l. l) result (Needs.needs_at_qed draft.now names.now) }
 {
     let objects = qed_in(alloc, &draft.in_scope, goal_made(draft), names)?;
     let needs = goal_with(alloc, draft, objects.items())?;

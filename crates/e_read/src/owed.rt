@@ -192,7 +192,7 @@ fn transfer_put(
     certs: Certs,
     transfer: OpenTransfer,
 ) -> Result<Due, Trouble>
-    ensures { Gives (λ d. d) result (Rattle.std.specs.Prelude.Ok (transfer_put wanted certs transfer)) }
+    ensures { Gives (λ d. d) result (transfer_put wanted certs transfer) }
 {
     let mut certs = certs;
     if transfer.parts.len() != transfer.owed {

@@ -10,7 +10,7 @@ ghost use Rattle.e_book.specs.Entry.{entry_of};
 ghost use Rattle.e_book.specs.Reading.{texts, Gives};
 ghost use Rattle.e_book.specs.Scope.{FewNames};
 ghost use Rattle.e_book.specs.Steps.{FitsScope, no_names};
-ghost use Rattle.e_read.specs.Text.{owes_nothing, at_start, certified, gone_on, stepped, is_bar, worded, is_lf_end, taken, derived, finished, is_end, is_last_line, last_line_of, FitsReading, FitsBegun};
+ghost use Rattle.e_read.specs.Text.{owes_nothing, at_start, certified, gone_on, all_settled, stepped, is_bar, worded, is_lf_end, taken, derived, is_finished, finished, is_end, is_last_line, last_line_of, FitsReading, FitsBegun};
 
 use crate::filling::fill;
 use crate::kept::KeptLines;
@@ -143,14 +143,28 @@ impl Reading {
         ensures fits { IfOk result (FitsReading known.now) }
     {
         let form = strict_form(alloc, line, words)?;
-        let Reading { draft, owed, kept } = self;
-        let mut kept = kept;
-        let read = owed.settled()?;
+        let Reading { draft, owed, kept } = self.settled(alloc)?;
         let Begun { draft, owed } = gone_on(alloc, known, draft, &form)?;
-        kept.push(read)?;
         Ok(Reading {
             draft: Some(draft),
             owed,
+            kept,
+        })
+    }
+
+    /// Nothing is owed any more, and what was read is kept.
+    fn settled(self, alloc: Global) -> Result<Reading, Trouble>
+        requires { FewNames self.owed.names }
+        ensures value { Gives (λ r. r) result (all_settled self) }
+        ensures draft { IfOk result (λ r. r.draft ≡ self.draft) }
+    {
+        let Reading { draft, owed, kept } = self;
+        let mut kept = kept;
+        let read = owed.settled()?;
+        kept.push(read)?;
+        Ok(Reading {
+            draft,
+            owed: owes_nothing(alloc),
             kept,
         })
     }
@@ -212,7 +226,7 @@ impl Reading {
 
     /// Whether the theorem has ended.
     pub(crate) fn is_finished(&self) -> bool
-        ensures { result ≡ Rattle.e_read.specs.Text.is_finished self.now.draft }
+        ensures { result ≡ is_finished self.now.draft }
     {
         match &self.draft {
             None => false,
@@ -222,7 +236,7 @@ impl Reading {
 
     /// The theorem, once it has ended.
     pub(crate) fn into_theorem(self, alloc: Global) -> Result<Theorem, AllocError>
-        requires { IsTrue (Rattle.e_read.specs.Text.is_finished self.draft) }
+        requires { IsTrue (is_finished self.draft) }
         ensures { IfOk result (λ t. finished self.draft self.kept ≡ Some (entry_of t)) }
     {
         let Reading { draft, kept, .. } = self;

@@ -1,6 +1,8 @@
 //! Lines in the one spelling of a derivation.
-ghost use Rattle.std.specs.Prelude.{◌≡◌, not};
+ghost use Rattle.std.specs.Prelude.{◌≡◌, is_some};
 ghost use Rattle.std.specs.List.{list_all};
+ghost use Rattle.e_text.specs.Tokens.{tokens_of};
+ghost use Rattle.e_literal.specs.Scopes.{same_sort};
 ghost use Rattle.e_book.specs.Reading.{texts, Gives};
 ghost use Rattle.e_read.specs.Strict.{is_less, is_direct, are_direct, is_strict, strict_form, is_strict_row, is_strict_mark, strict_mark, ends_with, is_apart};
 
@@ -32,7 +34,7 @@ fn are_direct(lits: &[RawLit]) -> bool
 }
 
 fn have_no_blank(args: &[Option<Name>]) -> bool
-    ensures { result ≡ list_all (λ a. Rattle.std.specs.Prelude.is_some a) args.now }
+    ensures { result ≡ list_all is_some args.now }
 {
     args.iter().all(|argument| argument.is_some())
 }
@@ -56,7 +58,7 @@ fn is_strict(form: &Form) -> bool
 /// The form of a line that is spelled as this form is. The words are those of the line.
 #[tactic(auto, unfolding(crate::specs::Strict::strict_form))]
 pub(crate) fn strict_form(alloc: Global, line: &[u8], words: &[&[u8]]) -> Result<Form, Trouble>
-    requires { texts words.now ≡ Rattle.e_text.specs.Tokens.tokens_of line.now }
+    requires { texts words.now ≡ tokens_of line.now }
     ensures { Gives (λ f. f) result (strict_form line.now) }
 {
     let form = form_of(alloc, words)?;
@@ -104,7 +106,7 @@ pub(crate) fn strict_mark(alloc: Global, line: &[u8], words: &[&[u8]]) -> Result
 }
 
 fn is_sort(a: Sort, b: Sort) -> bool
-    ensures { result ≡ Rattle.e_literal.specs.Scopes.same_sort a b }
+    ensures { result ≡ same_sort a b }
 {
     match (a, b) {
         (Sort::Point, Sort::Point) => true,
