@@ -27,7 +27,7 @@ use Rattle.e_clause.specs.Instance.{Inst}
 use Rattle.e_clause.specs.RuleKinds.{is_diagram_rule}
 use Rattle.e_clause.specs.Assignment.{terms_of_atom, terms_of_lits}
 use Rattle.e_clause.specs.Judged.{is_good, are_good, are_good_facts}
-use Rattle.e_construct.specs.Construct.{made, gives, needs as needs_of_form, fits as fits_form}
+use Rattle.e_construct.specs.Construct.{made, gives, fits as fits_form}
 use Rattle.e_construct.specs.Superposing as superposing
 use Rattle.e_construct.proofs.Moving.{is_plain, is_moved_in, moved_lit, Within, in_more, every, grows}
 use Rattle.e_construct.proofs.Given.{needs_good, gives_good, gives_plain, superposition_needs_good, superposition_gives}

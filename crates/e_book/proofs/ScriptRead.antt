@@ -13,7 +13,7 @@ use Rattle.e_literal.specs.Literal.{negation, all_in_scope}
 use Rattle.e_literal.specs.WellFormed.{is_well_formed}
 use Rattle.e_literal.specs.Scopes.{grown, are_of_sorts}
 use Rattle.e_literal.specs.Facts.{joined, joined_all}
-use Rattle.e_literal.specs.Use.{Stated, gives_of_use}
+use Rattle.e_literal.specs.Use.{gives_of_use}
 use Rattle.e_theorem.specs.Pattern.{is_pattern}
 use Rattle.e_clause.specs.declared.cert.By.{By}
 use Rattle.e_construct.specs.declared.construction.Construction.{Construction}

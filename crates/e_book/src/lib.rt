@@ -41,6 +41,3 @@ pub use superposes::{Placement, RawSuperpose, superpose_in};
 pub use terms::term_in;
 pub use theorem::Theorem;
 pub use words::{Words, collected, names_of};
-
-#[cfg(test)]
-mod tests;

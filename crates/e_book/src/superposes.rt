@@ -115,11 +115,7 @@ pub struct Placement {
 
 /// The objects, then the new names, then the literals; the leftmost fault.
 #[tactic(auto, unfolding(crate::specs::Superposes::superpose_in))]
-pub fn superpose_in(
-    alloc: Global,
-    names: &Names,
-    raw: &RawSuperpose,
-) -> Result<Placement, Trouble>
+pub fn superpose_in(alloc: Global, names: &Names, raw: &RawSuperpose) -> Result<Placement, Trouble>
     requires { FewNames names.now }
     ensures { Gives (λ p. (p.form, p.shown)) result (superpose_in names.now raw.now) }
 {

@@ -1,10 +1,10 @@
 -- Which stops are right.
-use Rattle.std.proofs.Common.{◌≡◌, ℕ, zero, suc, ◌<◌, List, [], ◌∷◌, Option, refl, sym, ap, ◌∙◌, subst, Bool, true, false, true≢false, Some, None, inl, inr, arith}
-use Rattle.std.specs.Prelude.{IsTrue, IsFalse, MatchBool, take, slice_get}
+use Rattle.std.proofs.Common.{◌≡◌, ℕ, zero, suc, ◌<◌, List, [], ◌∷◌, Option, refl, sym, ap, ◌∙◌, subst, Bool, true, false, Some, None, inl, inr, arith}
+use Rattle.std.specs.Prelude.{MatchBool, take, slice_get}
 use Rattle.e_literal.specs.declared.object.Obj.{Obj}
 use Rattle.e_literal.specs.declared.object.Scope.{Scope}
 use Rattle.e_literal.specs.declared.literal.Lit.{Lit}
-use Rattle.e_literal.specs.Use.{Stated, needs_of_use}
+use Rattle.e_literal.specs.Use.{Stated}
 use Rattle.e_clause.specs.Wide.{IsWideLit, IsWideContradiction, IsTooWideLit, IsTooWideContradiction}
 use Rattle.e_theorem.specs.WideChoice.{SomeChoiceIsWide, SomeChoiceIsTooWide}
 use Rattle.e_deriv.specs.declared.stop.Wanted.{Wanted}
@@ -16,10 +16,9 @@ use Rattle.e_deriv.specs.Parts.{has_no_blank}
 use Rattle.e_deriv.specs.Goal.{Goal, facts_of_statement, goal_of_statement}
 use Rattle.e_literal.specs.Use.{scope_of}
 use Rattle.e_deriv.specs.Lines.{Line, theorem_at, proof_lines}
-use Rattle.e_deriv.specs.Steps.{needs_as_written}
 use Rattle.e_deriv.specs.Licensed.{AllLicensed, IsContext, IsFirstUnlicensed}
 use Rattle.e_deriv.specs.Certified.{Certified, derivation_lines}
-use Rattle.e_deriv.specs.Refused.{IsRefused, IsWideAt, IsWideLine, IsTooWide, IsTooWideAt, SomeIsWide}
+use Rattle.e_deriv.specs.Refused.{IsRefused, IsWideLine, IsTooWide, IsTooWideAt, SomeIsWide}
 use Rattle.e_deriv.specs.Laws.{SamePlace}
 use Rattle.e_deriv.proofs.Agreement.{proof_of_certified, licensed_of_proof}
 use Rattle.e_deriv.proofs.Stops.{no_stop_of_licensed, one_stop, one_context, lacks_not, same_length, Earlier, earlier_line, licensed_line, order, some_same, none_is_not_some}

@@ -1,5 +1,5 @@
 -- What an application is judged as.
-use Rattle.std.proofs.Common.{◌≡◌, ℕ, ◌+◌, ◌<◌, ◌≤◌, ◌^◌, List, [], ◌∷◌, length, map, refl, sym, ap, ap₂, ◌∙◌, subst, Bool, true, false, ◌&&◌, true≢false, ltb, Option, Some, None, arith}
+use Rattle.std.proofs.Common.{◌≡◌, ℕ, ◌+◌, ◌<◌, ◌≤◌, ◌^◌, List, [], ◌∷◌, length, refl, sym, ap, ap₂, ◌∙◌, subst, Bool, true, false, ◌&&◌, true≢false, ltb, Option, Some, None, arith}
 use Rattle.std.specs.Prelude.{IsTrue, IsFalse, IfOk, MatchBool, MatchOption, Result, Ok, Err, nat_le, unwrap_or}
 use Rattle.std.proofs.lemmas.Bool.Decides.{nat_tests}
 use Rattle.e_literal.specs.declared.object.Sort.{Sort}
@@ -17,7 +17,6 @@ use Rattle.e_clause.specs.Judged.{are_good}
 use Rattle.e_clause.proofs.Sound.{all_allowed_of_certified}
 use Rattle.e_theorem.specs.Choice.{fills, is_choice, IsLeast}
 use Rattle.e_theorem.specs.Pattern.{is_pattern, are_entries}
-use Rattle.e_theorem.specs.WideChoice.{SomeChoiceIsTooWide}
 use Rattle.e_deriv.specs.declared.block.Step.TheVariants.{Apply as ApplyStep}
 use Rattle.e_deriv.specs.declared.stop.Wanted.TheVariants.{Literal, Match, Contradiction}
 use Rattle.e_deriv.specs.Script.{Apply, step_script, erased}
@@ -35,7 +34,7 @@ use Rattle.e_prove.specs.declared.standing.Standing.{Standing}
 use Rattle.e_prove.specs.Contexts.{after_apply}
 use Rattle.e_prove.specs.Halts.{HaltsIn, HaltsFilling, HaltsApplying, as_match}
 use Rattle.e_prove.specs.Judging.{IsJudged, StepHalts}
-use Rattle.e_prove.specs.Applying.{LitsFitAt, CanApply, IsUse}
+use Rattle.e_prove.specs.Applying.{CanApply, IsUse}
 use Rattle.e_prove.proofs.Licensing.{and_both, and_left, and_right}
 use Rattle.e_prove.proofs.Keeping.{stay_all}
 

@@ -1,8 +1,7 @@
 -- Claims, superpositions and splits, whose blocks are judged.
-use Rattle.std.proofs.Common.{◌≡◌, ℕ, ◌+◌, ◌*◌, ◌≤◌, ◌<◌, ◌^◌, List, [], ◌∷◌, ◌++◌, length, refl, sym, ap, ap₂, ◌∙◌, subst, Bool, true, ◌&&◌, arith}
-use Rattle.std.specs.Prelude.{IsTrue, take}
+use Rattle.std.proofs.Common.{◌≡◌, ℕ, ◌+◌, ◌≤◌, List, [], ◌++◌, length, refl, ap, ap₂, subst, Bool, true, arith}
+use Rattle.std.specs.Prelude.{IsTrue}
 use Rattle.std.specs.List.{list_all}
-use Rattle.e_literal.specs.declared.object.Scope.{Scope}
 use Rattle.e_literal.specs.declared.literal.Lit.{Lit}
 use Rattle.e_literal.specs.Literal.{negation, all_in_scope}
 use Rattle.e_literal.specs.Facts.{joined, joined_all}
@@ -10,21 +9,20 @@ use Rattle.e_literal.specs.Scopes.{grown}
 use Rattle.e_literal.specs.Use.{Stated}
 use Rattle.e_clause.specs.declared.cert.Cert.{Cert}
 use Rattle.e_clause.specs.Certify.{certify_all}
-use Rattle.e_clause.specs.Judged.{are_good, are_good_facts}
+use Rattle.e_clause.specs.Judged.{are_good}
 use Rattle.e_clause.proofs.Sound.{all_allowed_of_certified}
 use Rattle.e_construct.specs.declared.superpose.Superpose.{Superpose}
 use Rattle.e_construct.specs.Superposing as superposing
-use Rattle.e_deriv.specs.declared.names.Names.{Names}
 use Rattle.e_deriv.specs.declared.stop.Stop.{Stop}
 use Rattle.e_deriv.specs.Script.{Script, Cite, Hence, Make, Apply, Claim, Superposed, Qed, Contradiction as AContradiction, Cases, size, erased}
 use Rattle.e_deriv.specs.Goal.{Goal, goal_of}
 use Rattle.e_deriv.specs.Lines.{Line, line, lines}
 use Rattle.e_deriv.specs.Steps.{fits, needs, are_over}
 use Rattle.e_deriv.specs.Naming.{named, names_lines}
-use Rattle.e_deriv.specs.Licensed.{Licensed, AllLicensed}
+use Rattle.e_deriv.specs.Licensed.{Licensed}
 use Rattle.e_deriv.specs.Certified.{is_certified}
 use Rattle.e_deriv.specs.Parts.{filled_by}
-use Rattle.e_deriv.specs.Fitting.{LitsFit, is_small}
+use Rattle.e_deriv.specs.Fitting.{is_small}
 use Rattle.e_deriv.proofs.Agreement.{both_licensed}
 use Rattle.e_deriv.proofs.Stops.{lines_length}
 use Rattle.e_prove.specs.declared.halt.Halt.{Halt}
@@ -33,8 +31,8 @@ use Rattle.e_deriv.specs.declared.stop.Wanted.TheVariants.{Literal, Match, Contr
 use Rattle.e_prove.specs.declared.standing.Standing.{Standing}
 use Rattle.e_prove.specs.Contexts.{after_literal, after_superposed, after_block}
 use Rattle.e_prove.specs.Halts.{HaltsAt, HaltsIn}
-use Rattle.e_prove.specs.Judging.{lines_at, line_at, has_form}
-use Rattle.e_prove.specs.Passing.{IsReadyFor, IsDerived, KeepsFacts, StopIn, StopsWithin, IsPassed}
+use Rattle.e_prove.specs.Judging.{line_at, has_form}
+use Rattle.e_prove.specs.Passing.{IsReadyFor, IsDerived, StopIn, StopsWithin, IsPassed}
 use Rattle.e_prove.proofs.Licensing.{and_both, and_left, and_right}
 use Rattle.e_prove.proofs.Halting.{stop_behind, stop_left, stop_right, names_length, all_left, all_right, all_both, lits_first, lits_second}
 use Rattle.e_prove.proofs.Keeping.{stay_all}

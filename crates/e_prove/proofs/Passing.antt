@@ -1,29 +1,20 @@
 -- What is judged line by line, whatever comes after it.
-use Rattle.std.proofs.Common.{◌≡◌, ℕ, suc, ◌+◌, ◌*◌, ◌≤◌, ◌<◌, ◌^◌, List, [], ◌∷◌, ◌++◌, length, refl, sym, ap, ap₂, ◌∙◌, subst, Bool, true, false, ◌&&◌, Result, Ok, Err, Some, None, arith}
-use Rattle.std.specs.Prelude.{IsTrue, IfOk, IfErr, take}
+use Rattle.std.proofs.Common.{◌≡◌, ℕ, ◌+◌, List, ◌∷◌, refl, sym, ap, ◌∙◌, subst, Bool, true, Result, Ok, Err, arith}
+use Rattle.std.specs.Prelude.{IfOk, IfErr}
 use Rattle.std.specs.List.{list_all}
 use Rattle.e_literal.specs.declared.object.Scope.{Scope}
 use Rattle.e_literal.specs.declared.literal.Lit.{Lit}
-use Rattle.e_literal.specs.Literal.{negation, all_in_scope}
-use Rattle.e_literal.specs.Facts.{joined, joined_all}
-use Rattle.e_literal.specs.Scopes.{grown}
 use Rattle.e_literal.specs.Use.{Stated}
-use Rattle.e_literal.proofs.Growing.{grown_bounds}
-use Rattle.e_clause.specs.declared.cert.Cert.{Cert}
-use Rattle.e_clause.specs.Certify.{certify_all}
-use Rattle.e_clause.specs.Judged.{are_good, are_good_facts}
-use Rattle.e_clause.proofs.Sound.{all_allowed_of_certified}
 use Rattle.e_construct.specs.declared.superpose.Superpose.{Superpose}
-use Rattle.e_construct.specs.Superposing as superposing
 use Rattle.e_deriv.specs.declared.block.Step.{Step}
 use Rattle.e_deriv.specs.declared.block.Close.{Close}
 use Rattle.e_deriv.specs.declared.names.Names.{Names}
 use Rattle.e_deriv.specs.declared.stop.Stop.{Stop}
 use Rattle.e_deriv.specs.declared.stop.Stop.TheVariants as stop
 use Rattle.e_deriv.specs.Script.{Script, Cite, Hence, Make, Apply, Claim, Superposed, Qed, Contradiction, Cases, step_script, close_script, size, erased}
-use Rattle.e_deriv.specs.Goal.{Goal, goal_of}
+use Rattle.e_deriv.specs.Goal.{Goal}
 use Rattle.e_deriv.specs.Lines.{Line, line, lines}
-use Rattle.e_deriv.specs.Steps.{fits, needs, are_over}
+use Rattle.e_deriv.specs.Steps.{fits}
 use Rattle.e_deriv.specs.Naming.{named, names_lines}
 use Rattle.e_deriv.specs.Licensed.{Licensed, AllLicensed}
 use Rattle.e_deriv.specs.Certified.{is_certified}
@@ -31,13 +22,11 @@ use Rattle.e_deriv.specs.Fitting.{LitsFit, is_small}
 use Rattle.e_prove.specs.declared.halt.Halt.{Halt}
 use Rattle.e_prove.specs.declared.halt.Halt.TheVariants as halt
 use Rattle.e_prove.specs.declared.standing.Standing.{Standing}
-use Rattle.e_prove.specs.declared.standing.Outer.{Outer}
 use Rattle.e_prove.specs.declared.block.ProvedStep.{ProvedStep}
 use Rattle.e_prove.specs.declared.block.ProvedClose.{ProvedClose}
-use Rattle.e_prove.specs.Contexts.{after_literal, after_superposed, after_block, after_inner, outer_of}
-use Rattle.e_prove.specs.Halts.{HaltsAt, HaltsIn, UnlessNoMemory, StopOf, ToldOf, stop_of}
+use Rattle.e_prove.specs.Halts.{HaltsAt, UnlessNoMemory, StopOf, ToldOf}
 use Rattle.e_prove.specs.Judging.{IsJudged, StepHalts, IsClosed, CloseHalts, line_at, lines_at, has_form}
-use Rattle.e_prove.specs.Passing.{IsReadyFor, IsReadyStep, IsDerived, KeepsFacts, StopIn, StopsWithin, IsPassed, StepStops}
+use Rattle.e_prove.specs.Passing.{IsReadyFor, IsDerived, KeepsFacts, StopIn, StopsWithin, IsPassed, StepStops}
 use Rattle.e_prove.proofs.Licensing.{and_both, and_left, and_right}
 use Rattle.e_prove.proofs.Halting.{stop_behind, stop_first, tests_again, form_is_blind, scope_is_blind}
 

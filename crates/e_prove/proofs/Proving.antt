@@ -1,6 +1,6 @@
 -- Judging the proof of a statement.
-use Rattle.std.proofs.Common.{◌≡◌, ℕ, suc, ◌+◌, ◌-◌, ◌^◌, ◌<◌, List, [], ◌∷◌, length, ◌≤◌, refl, sym, ap, ◌∙◌, subst, Some, true, arith, Result, Ok, Err}
-use Rattle.std.specs.Prelude.{IsTrue, slice_get, IfOk, IfErr}
+use Rattle.std.proofs.Common.{◌≡◌, ℕ, ◌+◌, ◌^◌, ◌<◌, List, length, ◌≤◌, refl, sym, ap, ◌∙◌, subst, true, arith}
+use Rattle.std.specs.Prelude.{slice_get}
 use Rattle.e_literal.specs.declared.literal.Lit.{Lit}
 use Rattle.e_literal.specs.declared.object.Scope.{Scope}
 use Rattle.e_literal.specs.declared.object.Sort.{Sort}
@@ -12,10 +12,9 @@ use Rattle.e_clause.specs.Judged.{are_good_facts}
 use Rattle.e_deriv.specs.declared.names.Names.{Names}
 use Rattle.e_deriv.specs.declared.stop.Stop.{Stop}
 use Rattle.e_deriv.specs.declared.stop.Stop.TheVariants as stop
-use Rattle.e_deriv.specs.Script.{Script, erased}
+use Rattle.e_deriv.specs.Script.{Script}
 use Rattle.e_deriv.specs.Goal.{Goal, goal_of_statement, facts_of_statement}
 use Rattle.e_deriv.specs.Naming.{names_lines, declared_names}
-use Rattle.e_deriv.specs.Parts.{filled_by}
 use Rattle.e_deriv.specs.Lines.{proof_lines}
 use Rattle.e_deriv.specs.Licensed.{AllLicensed}
 use Rattle.e_deriv.specs.Certified.{Certified}

@@ -1,16 +1,14 @@
 -- What the lines that are ready say of a step, of a close, and of the whole.
-use Rattle.std.proofs.Common.{◌≡◌, ℕ, zero, suc, ◌+◌, ◌*◌, ◌≤◌, ◌<◌, ◌^◌, List, [], ◌∷◌, ◌++◌, length, refl, sym, ap, ◌∙◌, subst, Bool, true, false, ◌&&◌, true≢false, ltb, Option, Some, None, arith, Box, Global}
-use Rattle.std.specs.Prelude.{IsTrue, map, slice_get, unwrap_or}
+use Rattle.std.proofs.Common.{◌≡◌, ℕ, zero, suc, ◌+◌, ◌<◌, ◌^◌, List, [], ◌∷◌, length, refl, sym, ap, subst, true, ltb, Option, arith, Box, Global}
 use Rattle.std.proofs.Common.{get_or}
 use Rattle.std.proofs.lemmas.Bool.Decides.{nat_tests}
 use Rattle.std.specs.List.{list_all}
 use Rattle.e_literal.specs.declared.object.Scope.{Scope}
 use Rattle.e_literal.specs.declared.literal.Lit.{Lit}
-use Rattle.e_literal.specs.Literal.{negation}
 use Rattle.e_literal.specs.Facts.{joined, joined_all}
 use Rattle.e_literal.specs.declared.object.Obj.{Obj}
 use Rattle.e_literal.specs.Scopes.{grown}
-use Rattle.e_literal.specs.Use.{Stated, needs_of_use, gives_of_use}
+use Rattle.e_literal.specs.Use.{Stated, gives_of_use}
 use Rattle.e_theorem.specs.Choice.{is_choice}
 use Rattle.e_theorem.specs.Pattern.{is_pattern}
 use Rattle.e_theorem.specs.declared.statement.Statement.{Statement}
@@ -21,19 +19,16 @@ use Rattle.e_clause.specs.Judged.{is_good, are_good, are_good_facts}
 use Rattle.e_construct.specs.declared.construction.Construction.{Construction}
 use Rattle.e_construct.specs.declared.superpose.Superpose.{Superpose}
 use Rattle.e_construct.specs.Construct.{made, gives, needs as needs_of_form}
-use Rattle.e_construct.specs.Superposing as superposing
 use Rattle.e_deriv.specs.declared.block.Block.{Block}
 use Rattle.e_deriv.specs.declared.block.Step.TheVariants.{Cite as CiteStep, Hence as HenceStep, Make as MakeStep, Apply as ApplyStep, Claim as ClaimStep, Superposed as SuperposedStep}
-use Rattle.e_deriv.specs.declared.block.Close.{Close}
-use Rattle.e_deriv.specs.declared.block.Close.TheVariants.{Qed as QedClose, Contradiction as ContradictionClose, Cases as CasesClose}
-use Rattle.e_deriv.specs.Script.{Script, Cite, Hence, Make, Apply, Claim, Superposed, Qed, Cases, script_of, step_script, close_script, size}
-use Rattle.e_deriv.specs.Goal.{Goal, goal_of, are_for, goal_with}
+use Rattle.e_deriv.specs.Script.{Script, Cite, Hence, Make, Apply, Claim, Superposed, script_of, step_script, size}
+use Rattle.e_deriv.specs.Goal.{Goal, goal_of}
 use Rattle.e_deriv.specs.Parts.{written, filled_in}
 use Rattle.e_deriv.specs.Lines.{Line, line, lines, theorem_at}
 use Rattle.e_deriv.specs.Steps.{fits, needs}
 use Rattle.e_deriv.specs.Fitting.{LitsFit, is_small, is_small_statement}
 use Rattle.e_deriv.proofs.Choices.{written_again}
-use Rattle.e_deriv.proofs.Scripts.{step_script-Claim, step_script-Superposed, close_script-Cases}
+use Rattle.e_deriv.proofs.Scripts.{step_script-Claim, step_script-Superposed}
 use Rattle.e_prove.specs.declared.standing.Standing.{Standing}
 use Rattle.e_prove.specs.Contexts.{HasRoom, after_make, after_superposed, after_literal, after_block}
 use Rattle.e_prove.specs.Judging.{lines_at, line_at, has_form}

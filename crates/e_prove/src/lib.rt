@@ -17,6 +17,3 @@ pub use laws::{
     refused_stops_there,
 };
 pub use prover::prove;
-
-#[cfg(test)]
-mod tests;

@@ -19,6 +19,3 @@ mod writer;
 pub use laws::lines_are_the_theorem;
 pub use stops::spell_stop;
 pub use writer::spell;
-
-#[cfg(test)]
-mod tests;

@@ -1,10 +1,7 @@
-use Rattle.std.proofs.Common.{◌≡◌, subst, true, false}
-use Rattle.std.specs.Prelude.{MatchOption}
 use Rattle.e_theorem.specs.Statements.{stated}
-use Rattle.e_theorem.specs.Choice.{is_choice}
-use Rattle.e_deriv.specs.Parts.{written, has_no_blank}
+use Rattle.e_deriv.specs.Parts.{written}
 use Rattle.e_prove.proofs.Licensing.{err_map}
-use Rattle.e_prove.proofs.Applying.{WrittenIs, written_is, used_is_written, halts_without, halts_with, written_fits, written_needs}
+use Rattle.e_prove.proofs.Applying.{written_is, used_is_written, halts_without, halts_with, written_fits, written_needs}
 use Rattle.e_prove.proofs.application.used.Goals as goal
 
 pub used_at-requires-clause-fit : goal.used_at-requires-clause-fit

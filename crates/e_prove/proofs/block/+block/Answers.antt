@@ -1,5 +1,4 @@
-use Rattle.std.proofs.Common.{◌≡◌, ◌+◌, ◌<◌, length, rules, arith, sym, ap, ◌∙◌, subst, drop, true, IfOk}
-use Rattle.std.specs.Prelude.{IsTrue}
+use Rattle.std.proofs.Common.{◌≡◌, ◌+◌, ◌<◌, length, rules, arith, sym, ap, ◌∙◌, subst, true, IfOk}
 use Rattle.e_literal.specs.Literal.{negation}
 use Rattle.e_literal.specs.Facts.{joined}
 use Rattle.e_clause.specs.Judged.{are_good, are_good_facts}
@@ -12,7 +11,7 @@ use Rattle.e_deriv.specs.Goal.{goal_of, are_for, goal_with}
 use Rattle.e_prove.specs.Contexts.{goal_said, after_literal, after_superposed}
 use Rattle.e_prove.specs.Applying.{CanApply}
 use Rattle.e_prove.specs.Judging.{IsJudged, CloseHalts, StepHalts}
-use Rattle.e_prove.specs.Passing.{IsReadyFor, IsReadyStep, IsDerived, IsPassed, StopsWithin, StepStops, KeepsFacts}
+use Rattle.e_prove.specs.Passing.{IsReadyFor, IsReadyStep, IsDerived, IsPassed, StopsWithin}
 use Rattle.e_prove.proofs.Licensing.{ok_map, err_map}
 use Rattle.e_prove.proofs.Closing.{qed_fits}
 use Rattle.e_prove.proofs.Passing.{told_passed, told_stops, told_close_stops, stops_as_memory}

@@ -2,7 +2,7 @@ use Rattle.std.proofs.Common.{◌≡◌, ◌∙◌, ap, length, arith}
 use Rattle.e_theorem.specs.Statements.{stated, all_stated}
 use Rattle.e_deriv.specs.Script.{script_of}
 use Rattle.e_prove.specs.Contexts.{goal_said}
-use Rattle.e_prove.proofs.Proving.{few_declared, given_good, made_fit, ready_at_start, goal_is, stop_is, names_are}
+use Rattle.e_prove.proofs.Proving.{few_declared, given_good, made_fit, ready_at_start, goal_is, names_are}
 use Rattle.e_prove.proofs.prover.prove_parts.Goals as goal
 
 pub first-requires-clause-few : goal.first-requires-clause-few

@@ -1,4 +1,4 @@
-use Rattle.std.proofs.Common.{◌≡◌, ◌<◌, length, ap, sym, ◌∙◌, arith}
+use Rattle.std.proofs.Common.{◌<◌, length, ap, sym, ◌∙◌, arith}
 use Rattle.e_book.specs.Headed.{theorem_of}
 use Rattle.e_book.proofs.SideBySide.{length_side_by_side, statement_at}
 use Rattle.e_book.proofs.known.Known.statement.Goals as goal
