@@ -1,5 +1,5 @@
 -- A block of a derivation text, line by line.
-use Rattle.std.specs.Prelude.{◌≡◌, ◌≤◌, IfSome, OnSome, ℕ, ◌+◌, Bool, true, false, ◌∷◌, ◌++◌, List, [], length, decimal, codes, Option, Some, None, Result, Ok, Err, if◌then◌else◌}
+use Rattle.std.specs.Prelude.{◌≡◌, IfSome, ℕ, ◌+◌, Bool, true, false, ◌∷◌, ◌++◌, List, [], length, decimal, codes, Option, Some, None, Result, Ok, Err, if◌then◌else◌}
 use Rattle.std.specs.Option.{option_to_list}
 use Rattle.std.specs.Str.{bytes_eq}
 use Rattle.e_text.specs.Tokens.{tokens_of, joined}
@@ -8,14 +8,15 @@ use Rattle.e_text.specs.declared.line.LineEnd.{LineEnd}
 use Rattle.e_text.specs.declared.line.LineEnd.TheVariants as ends
 use Rattle.e_text.specs.declared.line.LineFault.{LineFault}
 use Rattle.e_deriv.specs.declared.names.Names.{Names}
+use Rattle.e_deriv.specs.Script.{erased}
 use Rattle.e_book.specs.declared.fault.Kind.{Kind}
 use Rattle.e_book.specs.declared.fault.Kind.TheVariants.{Malformed}
 use Rattle.e_book.specs.declared.form.Form.{Form}
 use Rattle.e_book.specs.declared.draft.Draft.{Draft}
+use Rattle.e_book.specs.declared.theorem.Theorem.{Theorem}
 use Rattle.e_book.specs.Reading.{◌>>=◌}
 use Rattle.e_book.specs.Headed.{Headed}
 use Rattle.e_book.specs.Entry.{Entry, entry_of, entry_of_draft}
-use Rattle.e_book.specs.Limits.{most_theorems}
 use Rattle.e_book.specs.Scope.{FewNames}
 use Rattle.e_book.specs.Steps.{begin, step, no_names, FitsScope}
 use Rattle.e_book.specs.Book.{is_done}
@@ -133,14 +134,21 @@ TextReads known (Ok (read.Last n)) new from = (n ≡ length known) × (from ≡ 
 TextReads known (Err (faults.Garbled line)) new from = from ≡ Err line
 TextReads known (Err faults.NoMemory) new from = Unit {0}
 
+-- a theorem without its certificates
+abbrev pub bare : Entry → Entry
+bare t = record t { script = erased t.script }
+
+-- what holds of a theorem, where one was read
+abbrev pub OfTheorem : (Theorem → Type 0) → PieceRead → Type 0
+OfTheorem holds (read.Theorem t) = holds t
+OfTheorem holds (read.Last n) = Unit {0}
+
 -- ---- what is known of a block while its lines come: its names and counts are within the limits
 
-pub record FitsReading (known : List Headed) (r : Reading) : Type 0 where
+pub record FitsReading (r : Reading) : Type 0 where
   pub draft : IfSome r.draft FitsScope
-  pub few : OnSome r.draft (length known + 1 ≤ most_theorems)
   pub names : FewNames r.owed.names
 
-pub record FitsBegun (known : List Headed) (d : Draft) (o : Owed) : Type 0 where
+pub record FitsBegun (d : Draft) (o : Owed) : Type 0 where
   pub draft : FitsScope d
-  pub few : length known + 1 ≤ most_theorems
   pub names : FewNames o.names

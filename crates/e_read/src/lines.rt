@@ -24,14 +24,15 @@ fn sort_word(sort: Sort) -> &'static [u8]
 }
 
 /// A citation behind its first word.
-#[tactic(auto, using(e_spell::proofs::Spaced::spaced_append))]
+#[tactic(auto, using(crate::proofs::Spaced::spaced_append))]
 fn put_by(out: &mut Vec<u8>, rule: Title, names: &[Name], lit: &RawLit) -> Result<(), AllocError>
     ensures { OnOk result (out.new.items ≡ out.old.items ++ spaced (rule ∷ (names.now ++ codes ":" ∷ lit_words lit.now))) }
 {
     put(out, rule.bytes())?;
     put_names(out, names)?;
     put(out, b":")?;
-    put_literal(out, lit)
+    put_literal(out, lit)?;
+    Ok(())
 }
 
 /// The pieces of a line, with the names of new objects and of arguments at their places.
@@ -95,12 +96,31 @@ fn put_avoided(out: &mut Vec<u8>, avoid: &[Name]) -> Result<(), AllocError>
 }
 
 /// A construction behind its first word.
-#[tactic(auto, using(e_spell::proofs::Spaced::spaced_append))]
+#[tactic(auto, using(crate::proofs::Spaced::spaced_append))]
+fn put_construction(
+    out: &mut Vec<u8>,
+    shapes: &[Shape],
+    new: &[Name],
+    args: &[Name],
+    avoid: &[Name],
+) -> Result<(), AllocError>
+    ensures { OnOk result (out.new.items ≡ out.old.items ++ spaced (filled (line_pieces shapes.now) new.now args.now ++ avoid_words avoid.now)) }
+{
+    put_shape(out, shapes, new, args)?;
+    put_avoided(out, avoid)?;
+    Ok(())
+}
+
 fn put_let(out: &mut Vec<u8>, raw: &RawLet) -> Result<(), AllocError>
     ensures { OnOk result (out.new.items ≡ out.old.items ++ spaced (let_words raw.now)) }
 {
-    put_shape(out, raw.shapes.items(), raw.new.items(), raw.args.items())?;
-    put_avoided(out, raw.avoid.items())
+    put_construction(
+        out,
+        raw.shapes.items(),
+        raw.new.items(),
+        raw.args.items(),
+        raw.avoid.items(),
+    )
 }
 
 fn put_arguments(out: &mut Vec<u8>, args: &[Option<Name>]) -> Result<(), AllocError>
@@ -134,13 +154,25 @@ fn put_made(out: &mut Vec<u8>, new: &[Name]) -> Result<(), AllocError>
 }
 
 /// The use of an earlier theorem behind its first word.
-#[tactic(auto, using(e_spell::proofs::Spaced::spaced_append))]
+#[tactic(auto, using(crate::proofs::Spaced::spaced_append))]
+fn put_use(
+    out: &mut Vec<u8>,
+    title: Title,
+    args: &[Option<Name>],
+    new: &[Name],
+) -> Result<(), AllocError>
+    ensures { OnOk result (out.new.items ≡ out.old.items ++ spaced (title ∷ (map argument_word args.now ++ made_words new.now))) }
+{
+    put(out, title.bytes())?;
+    put_arguments(out, args)?;
+    put_made(out, new)?;
+    Ok(())
+}
+
 fn put_apply(out: &mut Vec<u8>, raw: &RawApply) -> Result<(), AllocError>
     ensures { OnOk result (out.new.items ≡ out.old.items ++ spaced (apply_words raw.now)) }
 {
-    put(out, raw.title.bytes())?;
-    put_arguments(out, raw.args.items())?;
-    put_made(out, raw.new.items())
+    put_use(out, raw.title, raw.args.items(), raw.new.items())
 }
 
 static SUPERPOSITION: [Piece; 13] = [
@@ -160,12 +192,24 @@ static SUPERPOSITION: [Piece; 13] = [
 ];
 
 /// A superposition behind its first word.
-#[tactic(auto, using(e_spell::proofs::Spaced::spaced_append))]
+#[tactic(auto, using(crate::proofs::Spaced::spaced_append))]
+fn put_superposition(
+    out: &mut Vec<u8>,
+    new: &[Name],
+    args: &[Name],
+    shown: &[RawLit],
+) -> Result<(), AllocError>
+    ensures { OnOk result (out.new.items ≡ out.old.items ++ spaced (filled superpose_pieces new.now args.now ++ lits_words shown.now)) }
+{
+    put_pieces(out, &SUPERPOSITION, new, args)?;
+    put_literals(out, shown)?;
+    Ok(())
+}
+
 fn put_superpose(out: &mut Vec<u8>, raw: &RawSuperpose) -> Result<(), AllocError>
     ensures { OnOk result (out.new.items ≡ out.old.items ++ spaced (superpose_words raw.now)) }
 {
-    put_pieces(out, &SUPERPOSITION, raw.new.items(), raw.args.items())?;
-    put_literals(out, raw.shown.items())
+    put_superposition(out, raw.new.items(), raw.args.items(), raw.shown.items())
 }
 
 /// A word and names.

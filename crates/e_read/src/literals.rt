@@ -28,7 +28,7 @@ fn put_coefficient(out: &mut Vec<u8>, coeff: u32) -> Result<(), AllocError>
     put_number(out, coeff)
 }
 
-#[tactic(auto, using(e_spell::proofs::Spaced::spaced_append))]
+#[tactic(auto, using(crate::proofs::Spaced::spaced_append))]
 fn put_mono(out: &mut Vec<u8>, mono: &RawMono) -> Result<(), AllocError>
     ensures { OnOk result (out.new.items ≡ out.old.items ++ spaced (mono_words mono.now)) }
 {
@@ -37,7 +37,7 @@ fn put_mono(out: &mut Vec<u8>, mono: &RawMono) -> Result<(), AllocError>
 }
 
 /// More monomials, each behind a plus.
-#[tactic(auto, using(e_spell::proofs::Spaced::spaced_append))]
+#[tactic(auto, using(crate::proofs::Spaced::spaced_append))]
 fn put_more(out: &mut Vec<u8>, monos: &[RawMono]) -> Result<(), AllocError>
     ensures { OnOk result (out.new.items ≡ out.old.items ++ spaced (more_monos monos.now)) }
 {
@@ -49,7 +49,7 @@ fn put_more(out: &mut Vec<u8>, monos: &[RawMono]) -> Result<(), AllocError>
 }
 
 /// Monomials with a plus between two, and 0 for none.
-#[tactic(auto, using(e_spell::proofs::Spaced::spaced_append))]
+#[tactic(auto, using(crate::proofs::Spaced::spaced_append))]
 fn put_sum(out: &mut Vec<u8>, sum: &[RawMono]) -> Result<(), AllocError>
     ensures { OnOk result (out.new.items ≡ out.old.items ++ spaced (sum_words sum.now)) }
 {
@@ -71,7 +71,7 @@ fn put_side(out: &mut Vec<u8>, sign: &[u8], sum: &[RawMono]) -> Result<(), Alloc
 }
 
 /// Two sums with a sign between them.
-#[tactic(auto, using(e_spell::proofs::Spaced::spaced_append))]
+#[tactic(auto, using(crate::proofs::Spaced::spaced_append))]
 fn put_sums(
     out: &mut Vec<u8>,
     left: &[RawMono],
@@ -81,7 +81,8 @@ fn put_sums(
     ensures { OnOk result (out.new.items ≡ out.old.items ++ spaced (sums_words left.now sign.now right.now)) }
 {
     put_sum(out, left)?;
-    put_side(out, sign, right)
+    put_side(out, sign, right)?;
+    Ok(())
 }
 
 fn put_atom(out: &mut Vec<u8>, atom: &RawAtom) -> Result<(), AllocError>
@@ -130,7 +131,7 @@ pub(crate) fn put_literal(out: &mut Vec<u8>, lit: &RawLit) -> Result<(), AllocEr
 }
 
 /// More literals, each behind a semicolon.
-#[tactic(auto, using(e_spell::proofs::Spaced::spaced_append))]
+#[tactic(auto, using(crate::proofs::Spaced::spaced_append))]
 fn put_more_literals(out: &mut Vec<u8>, lits: &[RawLit]) -> Result<(), AllocError>
     ensures { OnOk result (out.new.items ≡ out.old.items ++ spaced (more_words lits.now)) }
 {
@@ -142,7 +143,7 @@ fn put_more_literals(out: &mut Vec<u8>, lits: &[RawLit]) -> Result<(), AllocErro
 }
 
 /// Literals with a semicolon between two.
-#[tactic(auto, using(e_spell::proofs::Spaced::spaced_append))]
+#[tactic(auto, using(crate::proofs::Spaced::spaced_append))]
 pub(crate) fn put_literals(out: &mut Vec<u8>, lits: &[RawLit]) -> Result<(), AllocError>
     ensures { OnOk result (out.new.items ≡ out.old.items ++ spaced (lits_words lits.now)) }
 {

@@ -1,12 +1,15 @@
 //! Derivation texts, block by block.
-ghost use Rattle.std.specs.Prelude.{◌≡◌, ◌≤◌, ◌<◌, ◌+◌, length, IfOk, OnOk, IsTrue};
+ghost use Rattle.std.specs.Prelude.{◌≡◌, ◌≤◌, ◌<◌, length, IfOk, OnOk, IsTrue};
 ghost use Rattle.std.specs.List.{list_all};
 ghost use Rattle.e_text.specs.Lines.{fault_line};
+ghost use Rattle.e_theorem.specs.Statements.{stated};
 ghost use Rattle.e_deriv.specs.Fitting.{is_small_statement};
 ghost use Rattle.e_book.specs.Limits.{most_theorems};
 ghost use Rattle.e_book.specs.Headed.{stated_by};
 ghost use Rattle.e_book.specs.Book.{last_line};
-ghost use Rattle.e_read.specs.Text.{at_start, piece_from, TextReads};
+ghost use Rattle.e_book.specs.Entry.{entry_of};
+ghost use Rattle.e_book.specs.HasSpelling.{HasSpelling};
+ghost use Rattle.e_read.specs.Text.{at_start, piece_from, bare, OfTheorem, TextReads};
 
 use crate::reading::Reading;
 use e_book::{Known, Theorem, Trouble};
@@ -57,12 +60,8 @@ fn faulty_line(fault: LineFault) -> u64
     }
 }
 
-/// The next theorem with its derivation, or the last line.
-///
-/// It takes the lines up to the theorem's `end`, or the last line alone. A line is garbled where it is the first that has no form
-/// at its place; after that the lines are not used again. The lines are those of a text with at most 262,144 bytes a line.
-/// The known theorems are statements, as each is that is read.
-pub fn read(alloc: Global, lines: &mut Lines, known: &Known) -> Result<Piece, TextFault>
+/// Reads line by line, up to the end of a theorem or the last line.
+fn read_piece(alloc: Global, lines: &mut Lines, known: &Known) -> Result<Piece, TextFault>
     requires few { length known.now ≤ most_theorems }
     requires known { IsTrue (list_all is_small_statement (stated_by known.now)) }
     ensures read { TextReads known.now result lines.new (piece_from known.now (last_line lines.old) at_start lines.old.lines) }
@@ -97,4 +96,23 @@ pub fn read(alloc: Global, lines: &mut Lines, known: &Known) -> Result<Piece, Te
         reading = next;
     }
     Err(TextFault::Garbled { line: lines.line() })
+}
+
+/// The next theorem with its derivation, or the last line.
+///
+/// It takes the lines up to the theorem's `end`, or the last line alone. A line is garbled where it is the first that has no form
+/// at its place; after that the lines are not used again. The lines are those of a text with at most 262,144 bytes a line.
+/// The known theorems are statements, as each is that is read.
+pub fn read(alloc: Global, lines: &mut Lines, known: &Known) -> Result<Piece, TextFault>
+    requires few { length known.now ≤ most_theorems }
+    requires known { IsTrue (list_all is_small_statement (stated_by known.now)) }
+    ensures read { TextReads known.now result lines.new (piece_from known.now (last_line lines.old) at_start lines.old.lines) }
+    ensures last { OnOk result (last_line lines.new ≡ last_line lines.old) }
+    ensures shorter { OnOk result (length lines.new.lines < length lines.old.lines) }
+    // without its certificates a theorem that is read has a spelling in a book: its title is new, and it is within the limits
+    ensures spelled { IfOk result (OfTheorem (λ t. HasSpelling known.now (bare (entry_of t)))) }
+    // its literals speak of its own objects
+    ensures states { IfOk result (OfTheorem (λ t. IsTrue (is_small_statement (stated t.statement)))) }
+{
+    read_piece(alloc, lines, known)
 }

@@ -1,5 +1,5 @@
 //! A block of a derivation text while its lines come.
-ghost use Rattle.std.specs.Prelude.{◌≡◌, ◌≤◌, ◌+◌, length, IfOk, IfSome, OnSome, IsTrue, Ok, [], None};
+ghost use Rattle.std.specs.Prelude.{◌≡◌, ◌≤◌, length, IfOk, IfSome, IsTrue, Some};
 ghost use Rattle.std.specs.List.{list_all};
 ghost use Rattle.e_text.specs.Lines.{seen};
 ghost use Rattle.e_text.specs.Tokens.{tokens_of};
@@ -63,10 +63,10 @@ fn gone_on(
     form: &Form,
 ) -> Result<Begun, Trouble>
     requires draft { IfSome draft FitsScope }
-    requires few { OnSome draft (length known.now + 1 ≤ most_theorems) }
+    requires few { length known.now ≤ most_theorems }
     requires known { IsTrue (list_all is_small_statement (stated_by known.now)) }
     ensures value { Gives (λ b. (b.draft, b.owed)) result (gone_on known.now draft form.now) }
-    ensures fits { IfOk result (λ b. FitsBegun known.now b.draft b.owed) }
+    ensures fits { IfOk result (λ b. FitsBegun b.draft b.owed) }
 {
     match draft {
         None => {
@@ -83,10 +83,10 @@ fn gone_on(
 /// A line goes on with a theorem.
 fn next_line(alloc: Global, known: &Known, draft: Draft, form: &Form) -> Result<Begun, Trouble>
     requires draft { FitsScope draft }
-    requires few { length known.now + 1 ≤ most_theorems }
+    requires few { length known.now ≤ most_theorems }
     requires known { IsTrue (list_all is_small_statement (stated_by known.now)) }
     ensures value { Gives (λ b. (b.draft, b.owed)) result (gone_on known.now (Some draft) form.now) }
-    ensures fits { IfOk result (λ b. FitsBegun known.now b.draft b.owed) }
+    ensures fits { IfOk result (λ b. FitsBegun b.draft b.owed) }
 {
     if !is_apart(&draft, form) {
         return Err(Trouble::Fault(Kind::Malformed));
@@ -106,7 +106,7 @@ impl Reading {
     /// Before the first line.
     pub(crate) fn new(alloc: Global) -> Reading
         ensures value { result ≡ at_start }
-        ensures fits { IfSome result.draft FitsScope }
+        ensures fits { FitsReading result }
     {
         Reading {
             draft: None,
@@ -137,10 +137,11 @@ impl Reading {
         words: &[&[u8]],
     ) -> Result<Reading, Trouble>
         requires words { texts words.now ≡ tokens_of line.now }
-        requires reading { FitsReading known.now self }
+        requires reading { FitsReading self }
+        requires few { length known.now ≤ most_theorems }
         requires known { IsTrue (list_all is_small_statement (stated_by known.now)) }
         ensures value { Gives (λ r. r) result (stepped known.now self line.now) }
-        ensures fits { IfOk result (FitsReading known.now) }
+        ensures fits { IfOk result FitsReading }
     {
         let form = strict_form(alloc, line, words)?;
         let Reading { draft, owed, kept } = self.settled(alloc)?;
@@ -178,10 +179,11 @@ impl Reading {
         words: &[&[u8]],
     ) -> Result<Reading, Trouble>
         requires words { texts words.now ≡ tokens_of line.now }
-        requires reading { FitsReading known.now self }
+        requires reading { FitsReading self }
+        requires few { length known.now ≤ most_theorems }
         requires known { IsTrue (list_all is_small_statement (stated_by known.now)) }
         ensures value { Gives (λ r. r) result (worded known.now self line.now (texts words.now)) }
-        ensures fits { IfOk result (FitsReading known.now) }
+        ensures fits { IfOk result FitsReading }
     {
         match words {
             [] => Err(Trouble::Fault(Kind::Malformed)),
@@ -202,10 +204,11 @@ impl Reading {
         known: &Known,
         line: Line<'_>,
     ) -> Result<Reading, Trouble>
-        requires reading { FitsReading known.now self }
+        requires reading { FitsReading self }
+        requires few { length known.now ≤ most_theorems }
         requires known { IsTrue (list_all is_small_statement (stated_by known.now)) }
         ensures value { Gives (λ r. r) result (taken known.now self (seen line.entry)) }
-        ensures fits { IfOk result (FitsReading known.now) }
+        ensures fits { IfOk result FitsReading }
     {
         if !matches!(line.end, LineEnd::Lf) {
             return Err(Trouble::Fault(Kind::Malformed));
