@@ -1,6 +1,6 @@
 -- A theorem that is read from a derivation text is read, without its certificates, from the other lines as from a book.
 use Rattle.std.proofs.Common.{◌≡◌, ℕ, Bool, true, false, cond, inl, inr, List, [], ◌∷◌, ◌++◌, Option, Some, None, Result, Ok, Err, refl, sym, ap, subst, ◌∙◌}
-use Rattle.std.specs.Prelude.{◌⊎◌}
+use Rattle.std.specs.Prelude.{◌⊎◌, filter}
 use Rattle.std.specs.Option.{option_to_list}
 use Rattle.e_text.specs.Tokens.{tokens_of}
 use Rattle.e_text.specs.Lines.{Seen, fault_line}
@@ -16,6 +16,7 @@ use Rattle.e_book.proofs.InScope.{bind_ok}
 use Rattle.e_read.specs.declared.kept.Kept.{Kept}
 use Rattle.e_read.specs.declared.reading.Reading.{Reading}
 use Rattle.e_read.specs.Filled.{filled}
+use Rattle.e_read.specs.Laws.{begins_with_bar, is_of_theorem}
 use Rattle.e_read.specs.Text.{Piece, Derived, Last, taken, derived, garbled_at, is_finished, finished, or_on, is_end, piece_from}
 use Rattle.e_read.proofs.TakenLines.{Stepped, line_taken, form_read, not_skipped, book_line}
 
@@ -29,12 +30,20 @@ abbrev pub with_certs : Entry → List Kept → Entry
 with_certs t kept = record t { script = (filled t.script kept).0 }
 
 -- the theorem as the lines without certificates are read
-pub record Plainly (known : List Headed) (last : ℕ) (draft : Option Draft) (t : Entry) (rest : List (Result Seen LineFault)) : Type 0 where
-  pub lines : List (Result Seen LineFault)
+pub record Plainly (known : List Headed) (last : ℕ) (draft : Option Draft) (t : Entry) (lines rest : List (Result Seen LineFault)) : Type 0 where
+  pub front : List (Result Seen LineFault)
+  pub all : lines ≡ front ++ rest
   pub entry : Entry
   pub kept : List Kept
-  pub read : read_from known last draft lines ≡ Ok (Some (entry, rest))
+  pub read : read_from known last draft (filter is_of_theorem front ++ rest) ≡ Ok (Some (entry, rest))
   pub same : t ≡ with_certs entry kept
+
+-- a line of a certificate says nothing of the theorem, and any other line does
+certificate_left : (l : Seen) (front : List (Result Seen LineFault)) → begins_with_bar (tokens_of l.bytes) ≡ true → filter is_of_theorem (Ok l ∷ front) ≡ filter is_of_theorem front
+certificate_left l front h = rw h refl
+
+line_kept : (l : Seen) (front : List (Result Seen LineFault)) → begins_with_bar (tokens_of l.bytes) ≡ false → filter is_of_theorem (Ok l ∷ front) ≡ Ok l ∷ filter is_of_theorem front
+line_kept l front h = rw h refl
 
 ends_or : (b : Bool) (x y z : Result Answer ℕ) → cond b x y ≡ z → ((b ≡ true) × (x ≡ z)) ⊎ ((b ≡ false) × (y ≡ z))
 ends_or true x y z e = inl (refl, e)
@@ -86,7 +95,7 @@ line_read : (known : List Headed) (last : ℕ) (draft : Option Draft) (l : Seen)
     → read_from known last draft (Ok l ∷ after) ≡ cond (is_done d) (Ok (Some (entry_of_draft d, after))) (read_from known last (Some d) after)
 line_read known last draft l d after s e = rw (s, e) refl
 
-pub plainly : (known : List Headed) (last : ℕ) (r : Reading) (lines rest : List (Result Seen LineFault)) (t : Entry) → is_finished r.draft ≡ false → piece_from known last r lines ≡ derives t rest → Plainly known last r.draft t rest
+pub plainly : (known : List Headed) (last : ℕ) (r : Reading) (lines rest : List (Result Seen LineFault)) (t : Entry) → is_finished r.draft ≡ false → piece_from known last r lines ≡ derives t rest → Plainly known last r.draft t lines rest
 plainly known last r [] rest t open e = absurd cc
 plainly known last r (Err f ∷ lines) rest t open e = absurd cc
 plainly known last r (Ok l ∷ lines) rest t unended e =
@@ -100,21 +109,32 @@ plainly known last r (Ok l ∷ lines) rest t unended e =
           let goes = goes_on (finished x.0.draft x.0.kept) lines rest (piece_from known last x.0 lines) t x.2 in
           elim (line_taken known r x.0 l took) [
             | inl c ↦
-                let same = c.3.draft in
+                let same = c.2.draft in
                 let unended_next : is_finished x.0.draft ≡ false = ap is_finished same ∙ unended in
                 elim goes [
                   | inl q ↦ absurd (unfinished x.0.draft x.0.kept q.0 unended_next q.1)
-                  | inr q ↦ subst (λ (d : Option Draft). Plainly known last d t rest) same (plainly known last x.0 lines rest t unended_next q.1)
+                  | inr q ↦ without known last r.draft x.0.draft l lines rest t same c.1 (plainly known last x.0 lines rest t unended_next q.1)
                 ]
-            | inr s ↦ step_plainly known last r x.0 l lines rest t s goes (λ h more. plainly known last x.0 lines rest t h more)
+            | inr s ↦ step_plainly known last r x.0 l lines rest t s.0 s.1 goes (λ h more. plainly known last x.0 lines rest t h more)
           ]
     ]
   where
-    step_plainly : (known : List Headed) (last : ℕ) (r next : Reading) (l : Seen) (lines rest : List (Result Seen LineFault)) (t : Entry) → Stepped known r next l.bytes
+    without : (known : List Headed) (last : ℕ) (old new : Option Draft) (l : Seen) (lines rest : List (Result Seen LineFault)) (t : Entry) → new ≡ old → begins_with_bar (tokens_of l.bytes) ≡ true
+        → Plainly known last new t lines rest → Plainly known last old t (Ok l ∷ lines) rest
+    without known last old new l lines rest t same bar p = record {
+      front = Ok l ∷ p.front;
+      all = ap (λ (ls : List (Result Seen LineFault)). Ok l ∷ ls) p.all;
+      entry = p.entry;
+      kept = p.kept;
+      read = ap (λ (ls : List (Result Seen LineFault)). read_from known last old (ls ++ rest)) (certificate_left l p.front bar) ∙ ap (λ (o : Option Draft). read_from known last o (filter is_of_theorem p.front ++ rest)) (sym same) ∙ p.read;
+      same = p.same;
+    }
+
+    step_plainly : (known : List Headed) (last : ℕ) (r next : Reading) (l : Seen) (lines rest : List (Result Seen LineFault)) (t : Entry) → begins_with_bar (tokens_of l.bytes) ≡ false → Stepped known r next l.bytes
         → ((x : Entry) × (finished next.draft next.kept ≡ Some x) × (derives x lines ≡ derives t rest)) ⊎ ((finished next.draft next.kept ≡ None) × (piece_from known last next lines ≡ derives t rest))
-        → (is_finished next.draft ≡ false → piece_from known last next lines ≡ derives t rest → Plainly known last next.draft t rest)
-        → Plainly known last r.draft t rest
-    step_plainly known last r next l lines rest t s goes more =
+        → (is_finished next.draft ≡ false → piece_from known last next lines ≡ derives t rest → Plainly known last next.draft t lines rest)
+        → Plainly known last r.draft t (Ok l ∷ lines) rest
+    step_plainly known last r next l lines rest t bar s goes more =
         let d = s.draft in
         let form = form_read l.bytes s.form s.spelled in
         let said = not_skipped (tokens_of l.bytes) s.form form.0 in
@@ -125,21 +145,24 @@ plainly known last r (Ok l ∷ lines) rest t unended e =
               let c = closed_is d next.kept q.0 (sym (ap (λ (o : Option Draft). finished o next.kept) draft_is) ∙ q.1) in
               let both = derived_is q.0 t lines rest q.2 in
               record {
-                lines = Ok l ∷ lines;
+                front = Ok l ∷ [];
+                all = ap (λ (ls : List (Result Seen LineFault)). Ok l ∷ ls) both.1;
                 entry = entry_of_draft d;
                 kept = next.kept;
-                read = line_read known last r.draft l d lines said step ∙ rw c.0 (ap (λ (ls : List (Result Seen LineFault)). Ok (Some (entry_of_draft d, ls))) both.1);
+                read = ap (λ (ls : List (Result Seen LineFault)). read_from known last r.draft (ls ++ rest)) (line_kept l [] bar) ∙ line_read known last r.draft l d rest said step ∙ rw c.0 refl;
                 same = sym both.0 ∙ sym c.1;
               }
           | inr q ↦
               let h = still next.draft next.kept q.0 in
-              let rec_ = more h q.1 in
+              let p = more h q.1 in
               let not_done : is_done d ≡ false = sym (ap is_finished draft_is) ∙ h in
               record {
-                lines = Ok l ∷ rec_.lines;
-                entry = rec_.entry;
-                kept = rec_.kept;
-                read = line_read known last r.draft l d rec_.lines said step ∙ rw not_done (sym (ap (λ (o : Option Draft). read_from known last o rec_.lines) draft_is) ∙ rec_.read);
-                same = rec_.same;
+                front = Ok l ∷ p.front;
+                all = ap (λ (ls : List (Result Seen LineFault)). Ok l ∷ ls) p.all;
+                entry = p.entry;
+                kept = p.kept;
+                read = ap (λ (ls : List (Result Seen LineFault)). read_from known last r.draft (ls ++ rest)) (line_kept l p.front bar) ∙ line_read known last r.draft l d (filter is_of_theorem p.front ++ rest) said step
+                    ∙ rw not_done (sym (ap (λ (o : Option Draft). read_from known last o (filter is_of_theorem p.front ++ rest)) draft_is) ∙ p.read);
+                same = p.same;
               }
         ]

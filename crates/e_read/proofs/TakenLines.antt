@@ -25,6 +25,7 @@ use Rattle.e_read.specs.declared.reading.Reading.{Reading}
 use Rattle.e_read.specs.Strict.{is_strict, strict_form, strict_mark, is_apart}
 use Rattle.e_read.specs.Owed.{marked, settled}
 use Rattle.e_read.specs.Needs.{due_of}
+use Rattle.e_read.specs.Laws.{begins_with_bar}
 use Rattle.e_read.specs.Text.{owes_nothing, certified, gone_on, all_settled, stepped, is_bar, worded, is_lf_end, taken}
 
 -- a test that was passed
@@ -95,17 +96,17 @@ stepped_line known r next line e =
 
 -- what a line is that is taken
 pub line_taken : (known : List Headed) (r next : Reading) (l : Seen) → taken known r l ≡ Ok next
-    → ((w : List ℕ) × (ws : List (List ℕ)) × (tokens_of l.bytes ≡ w ∷ ws) × Certified r next l.bytes ws) ⊎ Stepped known r next l.bytes
+    → ((ws : List (List ℕ)) × (begins_with_bar (tokens_of l.bytes) ≡ true) × Certified r next l.bytes ws) ⊎ ((begins_with_bar (tokens_of l.bytes) ≡ false) × Stepped known r next l.bytes)
 unfolding taken
 line_taken known r next l e = by_words (tokens_of l.bytes) refl (passed (is_lf_end l.end) (worded known r l.bytes (tokens_of l.bytes)) next e).1
   where
     by_words : (words : List (List ℕ)) → tokens_of l.bytes ≡ words → worded known r l.bytes words ≡ Ok next
-        → ((w : List ℕ) × (ws : List (List ℕ)) × (tokens_of l.bytes ≡ w ∷ ws) × Certified r next l.bytes ws) ⊎ Stepped known r next l.bytes
+        → ((ws : List (List ℕ)) × (begins_with_bar (tokens_of l.bytes) ≡ true) × Certified r next l.bytes ws) ⊎ ((begins_with_bar (tokens_of l.bytes) ≡ false) × Stepped known r next l.bytes)
     by_words [] same h = absurd cc
     by_words (w ∷ ws) same h =
         elim (either (is_bar w) (certified r l.bytes ws) (stepped known r l.bytes) (Ok next) h) [
-          | inl p ↦ inl (w, ws, same, certified_line r next l.bytes ws p.1)
-          | inr p ↦ inr (stepped_line known r next l.bytes p.1)
+          | inl p ↦ inl (ws, ap begins_with_bar same ∙ p.0, certified_line r next l.bytes ws p.1)
+          | inr p ↦ inr (ap begins_with_bar same ∙ p.0, stepped_line known r next l.bytes p.1)
         ]
 
 -- the form of a line in the one spelling is that of its words

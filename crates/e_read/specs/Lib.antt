@@ -4,3 +4,4 @@ pub mod Owed
 pub mod Needs
 pub mod Filled
 pub mod Text
+pub mod Laws

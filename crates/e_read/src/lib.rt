@@ -4,6 +4,7 @@
 
 mod filling;
 mod kept;
+mod laws;
 mod lines;
 mod literals;
 mod mark;
@@ -15,4 +16,5 @@ mod reading;
 mod strict;
 mod words;
 
+pub use laws::derivations_are_of_books;
 pub use reader::{Piece, TextFault, read};
