@@ -1,0 +1,168 @@
+-- A theorem that is read from a derivation text is read, without its certificates, from the other lines as from a book.
+use Rattle.std.proofs.Common.{◌≡◌, ℕ, Bool, true, false, cond, inl, inr, List, [], ◌∷◌, ◌++◌, Option, Some, None, Result, Ok, Err, refl, sym, ap, subst, ◌∙◌}
+use Rattle.std.specs.Prelude.{◌⊎◌, filter}
+use Rattle.std.specs.Option.{option_to_list}
+use Rattle.e_text.specs.Tokens.{tokens_of}
+use Rattle.e_text.specs.Lines.{Seen, fault_line}
+use Rattle.e_text.specs.declared.line.LineFault.{LineFault}
+use Rattle.e_deriv.specs.Script.{Script}
+use Rattle.e_book.specs.declared.fault.Kind.{Kind}
+use Rattle.e_book.specs.declared.draft.Draft.{Draft}
+use Rattle.e_book.specs.Reading.{◌>>=◌}
+use Rattle.e_book.specs.Headed.{Headed}
+use Rattle.e_book.specs.Entry.{Entry, entry_of_draft}
+use Rattle.e_book.specs.Book.{is_skipped, line_step, is_done, read_from}
+use Rattle.e_book.proofs.InScope.{bind_ok}
+use Rattle.e_read.specs.declared.kept.Kept.{Kept}
+use Rattle.e_read.specs.declared.reading.Reading.{Reading}
+use Rattle.e_read.specs.Filled.{filled}
+use Rattle.e_read.specs.Laws.{begins_with_bar, is_of_theorem}
+use Rattle.e_read.specs.Text.{Piece, Derived, Last, taken, derived, garbled_at, is_finished, finished, or_on, is_end, piece_from}
+use Rattle.e_read.proofs.TakenLines.{Stepped, line_taken, form_read, not_skipped, book_line}
+
+abbrev pub Answer : Type 0
+Answer = Piece × List (Result Seen LineFault)
+
+abbrev pub derives : Entry → List (Result Seen LineFault) → Result Answer ℕ
+derives t rest = Ok (Derived t, rest)
+
+abbrev pub with_certs : Entry → List Kept → Entry
+with_certs t kept = record t { script = (filled t.script kept).0 }
+
+-- the theorem as the lines without certificates are read
+pub record Plainly (known : List Headed) (last : ℕ) (draft : Option Draft) (t : Entry) (lines rest : List (Result Seen LineFault)) : Type 0 where
+  pub front : List (Result Seen LineFault)
+  pub all : lines ≡ front ++ rest
+  pub entry : Entry
+  pub kept : List Kept
+  pub read : read_from known last draft (filter is_of_theorem front ++ rest) ≡ Ok (Some (entry, rest))
+  pub same : t ≡ with_certs entry kept
+
+-- a line of a certificate says nothing of the theorem, and any other line does
+certificate_left : (l : Seen) (front : List (Result Seen LineFault)) → begins_with_bar (tokens_of l.bytes) ≡ true → filter is_of_theorem (Ok l ∷ front) ≡ filter is_of_theorem front
+certificate_left l front h = rw h refl
+
+line_kept : (l : Seen) (front : List (Result Seen LineFault)) → begins_with_bar (tokens_of l.bytes) ≡ false → filter is_of_theorem (Ok l ∷ front) ≡ Ok l ∷ filter is_of_theorem front
+line_kept l front h = rw h refl
+
+ends_or : (b : Bool) (x y z : Result Answer ℕ) → cond b x y ≡ z → ((b ≡ true) × (x ≡ z)) ⊎ ((b ≡ false) × (y ≡ z))
+ends_or true x y z e = inl (refl, e)
+ends_or false x y z e = inr (refl, e)
+
+no_last : (lines rest : List (Result Seen LineFault)) (t : Entry) → let end : Result Answer ℕ = Ok (Last, lines) in end ≡ derives t rest → ⊥
+no_last lines rest t e = absurd cc
+
+pub garbled_ok : {A : Type 0} (n : ℕ) (r : Result A Kind) (x : A) → garbled_at n r ≡ Ok x → r ≡ Ok x
+garbled_ok n (Ok y) x e = cc
+garbled_ok n (Err k) x e = absurd cc
+
+derived_is : (t u : Entry) (lines rest : List (Result Seen LineFault)) → derives t lines ≡ derives u rest → (t ≡ u) × (lines ≡ rest)
+derived_is t u lines rest e = (ap (λ (a : Answer). entry_in t a) (inside _ _ e), ap (λ (a : Answer). a.1) (inside _ _ e)) where
+  entry_in : Entry → Answer → Entry
+  entry_in t (Derived u, ls) = u
+  entry_in t (Last, ls) = t
+
+  inside : (a b : Answer) → let x : Result Answer ℕ = Ok a in x ≡ Ok b → a ≡ b
+  inside a b e = cc
+
+-- how it goes on behind a line that is taken
+goes_on : (t : Option Entry) (lines rest : List (Result Seen LineFault)) (more : Result Answer ℕ) (u : Entry) → or_on t lines more ≡ derives u rest
+    → ((x : Entry) × (t ≡ Some x) × (derives x lines ≡ derives u rest)) ⊎ ((t ≡ None) × (more ≡ derives u rest))
+goes_on None lines rest more u e = inr (refl, e)
+goes_on (Some x) lines rest more u e = inl (x, refl, e)
+
+unfinished : (draft : Option Draft) (kept : List Kept) (x : Entry) → is_finished draft ≡ false → finished draft kept ≡ Some x → ⊥
+unfinished None kept x h e = absurd cc
+unfinished (Some d) kept x h e = absurd (rw h at e)
+
+still : (draft : Option Draft) (kept : List Kept) → finished draft kept ≡ None → is_finished draft ≡ false
+still None kept e = refl
+still (Some d) kept e = open_still (is_done d) (derived d kept) e
+  where
+    open_still : (b : Bool) (x : Entry) → let none : Option Entry = None in cond b (Some x) None ≡ none → b ≡ false
+    open_still true x h = absurd cc
+    open_still false x h = refl
+
+closed_is : (d : Draft) (kept : List Kept) (x : Entry) → finished (Some d) kept ≡ Some x → (is_done d ≡ true) × (derived d kept ≡ x)
+closed_is d kept x e = by_test (is_done d) (derived d kept) e
+  where
+    by_test : (b : Bool) (y : Entry) → cond b (Some y) None ≡ Some x → (b ≡ true) × (y ≡ x)
+    by_test true y h = (refl, cc)
+    by_test false y h = absurd cc
+
+-- a line of a book that is read at the front
+line_read : (known : List Headed) (last : ℕ) (draft : Option Draft) (l : Seen) (d : Draft) (after : List (Result Seen LineFault)) → is_skipped (tokens_of l.bytes) ≡ false → line_step known draft (tokens_of l.bytes) ≡ Ok d
+    → read_from known last draft (Ok l ∷ after) ≡ cond (is_done d) (Ok (Some (entry_of_draft d, after))) (read_from known last (Some d) after)
+line_read known last draft l d after s e = rw (s, e) refl
+
+pub plainly : (known : List Headed) (last : ℕ) (r : Reading) (lines rest : List (Result Seen LineFault)) (t : Entry) → is_finished r.draft ≡ false → piece_from known last r lines ≡ derives t rest → Plainly known last r.draft t lines rest
+plainly known last r [] rest t open e = absurd cc
+plainly known last r (Err f ∷ lines) rest t open e = absurd cc
+plainly known last r (Ok l ∷ lines) rest t unended e =
+    let next : Result Reading ℕ = garbled_at l.number (taken known r l) in
+    let then : Reading → Result Answer ℕ = λ x. or_on (finished x.draft x.kept) lines (piece_from known last x lines) in
+    elim (ends_or (is_end known r.draft l) (Ok (Last, lines)) (next >>= then) (derives t rest) e) [
+      | inl p ↦ absurd (no_last lines rest t p.1)
+      | inr p ↦
+          let x = bind_ok next then (Derived t, rest) p.1 in
+          let took = garbled_ok l.number (taken known r l) x.0 x.1 in
+          let goes = goes_on (finished x.0.draft x.0.kept) lines rest (piece_from known last x.0 lines) t x.2 in
+          elim (line_taken known r x.0 l took) [
+            | inl c ↦
+                let same = c.2.draft in
+                let unended_next : is_finished x.0.draft ≡ false = ap is_finished same ∙ unended in
+                elim goes [
+                  | inl q ↦ absurd (unfinished x.0.draft x.0.kept q.0 unended_next q.1)
+                  | inr q ↦ without known last r.draft x.0.draft l lines rest t same c.1 (plainly known last x.0 lines rest t unended_next q.1)
+                ]
+            | inr s ↦ step_plainly known last r x.0 l lines rest t s.0 s.1 goes (λ h more. plainly known last x.0 lines rest t h more)
+          ]
+    ]
+  where
+    without : (known : List Headed) (last : ℕ) (old new : Option Draft) (l : Seen) (lines rest : List (Result Seen LineFault)) (t : Entry) → new ≡ old → begins_with_bar (tokens_of l.bytes) ≡ true
+        → Plainly known last new t lines rest → Plainly known last old t (Ok l ∷ lines) rest
+    without known last old new l lines rest t same bar p = record {
+      front = Ok l ∷ p.front;
+      all = ap (λ (ls : List (Result Seen LineFault)). Ok l ∷ ls) p.all;
+      entry = p.entry;
+      kept = p.kept;
+      read = ap (λ (ls : List (Result Seen LineFault)). read_from known last old (ls ++ rest)) (certificate_left l p.front bar) ∙ ap (λ (o : Option Draft). read_from known last o (filter is_of_theorem p.front ++ rest)) (sym same) ∙ p.read;
+      same = p.same;
+    }
+
+    step_plainly : (known : List Headed) (last : ℕ) (r next : Reading) (l : Seen) (lines rest : List (Result Seen LineFault)) (t : Entry) → begins_with_bar (tokens_of l.bytes) ≡ false → Stepped known r next l.bytes
+        → ((x : Entry) × (finished next.draft next.kept ≡ Some x) × (derives x lines ≡ derives t rest)) ⊎ ((finished next.draft next.kept ≡ None) × (piece_from known last next lines ≡ derives t rest))
+        → (is_finished next.draft ≡ false → piece_from known last next lines ≡ derives t rest → Plainly known last next.draft t lines rest)
+        → Plainly known last r.draft t (Ok l ∷ lines) rest
+    step_plainly known last r next l lines rest t bar s goes more =
+        let d = s.draft in
+        let form = form_read l.bytes s.form s.spelled in
+        let said = not_skipped (tokens_of l.bytes) s.form form.0 in
+        let step = book_line known r.draft s.form d s.owed (tokens_of l.bytes) form.0 s.gone in
+        let draft_is : next.draft ≡ Some d = ap (λ (x : Reading). x.draft) s.next_is in
+        elim goes [
+          | inl q ↦
+              let c = closed_is d next.kept q.0 (sym (ap (λ (o : Option Draft). finished o next.kept) draft_is) ∙ q.1) in
+              let both = derived_is q.0 t lines rest q.2 in
+              record {
+                front = Ok l ∷ [];
+                all = ap (λ (ls : List (Result Seen LineFault)). Ok l ∷ ls) both.1;
+                entry = entry_of_draft d;
+                kept = next.kept;
+                read = ap (λ (ls : List (Result Seen LineFault)). read_from known last r.draft (ls ++ rest)) (line_kept l [] bar) ∙ line_read known last r.draft l d rest said step ∙ rw c.0 refl;
+                same = sym both.0 ∙ sym c.1;
+              }
+          | inr q ↦
+              let h = still next.draft next.kept q.0 in
+              let p = more h q.1 in
+              let not_done : is_done d ≡ false = sym (ap is_finished draft_is) ∙ h in
+              record {
+                front = Ok l ∷ p.front;
+                all = ap (λ (ls : List (Result Seen LineFault)). Ok l ∷ ls) p.all;
+                entry = p.entry;
+                kept = p.kept;
+                read = ap (λ (ls : List (Result Seen LineFault)). read_from known last r.draft (ls ++ rest)) (line_kept l p.front bar) ∙ line_read known last r.draft l d (filter is_of_theorem p.front ++ rest) said step
+                    ∙ rw not_done (sym (ap (λ (o : Option Draft). read_from known last o (filter is_of_theorem p.front ++ rest)) draft_is) ∙ p.read);
+                same = p.same;
+              }
+        ]

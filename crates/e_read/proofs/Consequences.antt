@@ -1,0 +1,59 @@
+-- What is known of a theorem that is read from a derivation text.
+use Rattle.std.proofs.Common.{◌≡◌, ℕ, true, List, ◌++◌, Option, Some, None, Ok, Err, Result, refl, sym, ap, subst, ◌∙◌}
+use Rattle.std.specs.Prelude.{IfOk, IsTrue, filter}
+use Rattle.e_text.specs.Lines.{Seen, Ahead}
+use Rattle.e_text.specs.declared.line.LineFault.{LineFault}
+use Rattle.e_theorem.specs.Statements.{stated}
+use Rattle.e_deriv.specs.Script.{Script, erased}
+use Rattle.e_deriv.specs.Fitting.{is_small_statement}
+use Rattle.e_book.specs.Headed.{Headed}
+use Rattle.e_book.specs.Entry.{Entry, entry_of}
+use Rattle.e_book.specs.HasSpelling.{HasSpelling}
+use Rattle.e_book.proofs.Answered.{answered, pair}
+use Rattle.e_book.proofs.Fitting.{reading_states}
+use Rattle.e_book.proofs.ReadSpelled.{read_is_spelled}
+use Rattle.e_read.specs.declared.reader.Piece.{Piece}
+use Rattle.e_read.specs.declared.reader.Piece.TheVariants as pieces
+use Rattle.e_read.specs.declared.reader.TextFault.{TextFault}
+use Rattle.e_read.specs.Filled.{filled}
+use Rattle.e_read.specs.Laws.{is_of_theorem, ReadsAsBook}
+use Rattle.e_read.specs.Text.{at_start, piece_from, bare, OfTheorem, TextReads}
+use Rattle.e_read.proofs.Bridge.{derives, with_certs, Plainly, plainly}
+use Rattle.e_read.proofs.Erased.{erased_filled, erased_plain}
+
+-- the theorem without its certificates, as the other lines are read
+record Bare (known : List Headed) (last : ℕ) (t : Entry) (lines rest : List (Result Seen LineFault)) : Type 0 where
+  plain : Plainly known last None t lines rest
+  spelled : HasSpelling known plain.entry
+  same : bare t ≡ plain.entry
+
+bare_is : (known : List Headed) (last : ℕ) (lines rest : List (Result Seen LineFault)) (t : Entry) → piece_from known last at_start lines ≡ derives t rest → Bare known last t lines rest
+bare_is known last lines rest t e =
+    let p = plainly known last at_start lines rest t refl e in
+    let h = read_is_spelled known last p.entry (filter is_of_theorem p.front ++ rest) rest p.read in
+    let script : erased (filled p.entry.script p.kept).0 ≡ p.entry.script = erased_filled p.entry.script p.kept ∙ erased_plain p.entry.script h.script in
+    record { plain = p; spelled = h; same = ap bare p.same ∙ ap (λ (s : Script). record p.entry { script = s }) script }
+
+pub reads_as_book : (known : List Headed) (last : ℕ) (t : Entry) (lines rest : List (Result Seen LineFault)) → piece_from known last at_start lines ≡ derives t rest → ReadsAsBook known last t lines rest
+reads_as_book known last t lines rest e =
+    let b = bare_is known last lines rest t e in
+    record { front = b.plain.front; all = b.plain.all; read = b.plain.read ∙ ap (λ (x : Entry). answered (pair x rest)) (sym b.same) }
+
+pub text_spelled : (known : List Headed) (last : ℕ) (lines rest : List (Result Seen LineFault)) (t : Entry) → piece_from known last at_start lines ≡ derives t rest → HasSpelling known (bare t)
+text_spelled known last lines rest t e = let b = bare_is known last lines rest t e in subst (λ (x : Entry). HasSpelling known x) (sym b.same) b.spelled
+
+pub text_states : (known : List Headed) (last : ℕ) (lines rest : List (Result Seen LineFault)) (t : Entry) → piece_from known last at_start lines ≡ derives t rest → is_small_statement (stated t.statement) ≡ true
+text_states known last lines rest t e = let b = bare_is known last lines rest t e in
+    subst (λ (x : Entry). is_small_statement (stated x.statement) ≡ true) (sym b.same) (reading_states known last (filter is_of_theorem b.plain.front ++ rest) rest b.plain.entry b.plain.read)
+
+pub answer_spelled : (known : List Headed) (last : ℕ) (lines : List (Result Seen LineFault)) (result : Result Piece TextFault) (new : Ahead) → TextReads known result new (piece_from known last at_start lines)
+    → IfOk result (OfTheorem (λ t. HasSpelling known (bare (entry_of t))))
+answer_spelled known last lines (Ok (pieces.Theorem t)) new e = text_spelled known last lines new.lines (entry_of t) e
+answer_spelled known last lines (Ok (pieces.Last n)) new e = tt
+answer_spelled known last lines (Err f) new e = tt
+
+pub answer_states : (known : List Headed) (last : ℕ) (lines : List (Result Seen LineFault)) (result : Result Piece TextFault) (new : Ahead) → TextReads known result new (piece_from known last at_start lines)
+    → IfOk result (OfTheorem (λ t. IsTrue (is_small_statement (stated t.statement))))
+answer_states known last lines (Ok (pieces.Theorem t)) new e = text_states known last lines new.lines (entry_of t) e
+answer_states known last lines (Ok (pieces.Last n)) new e = tt
+answer_states known last lines (Err f) new e = tt

@@ -1,0 +1,8 @@
+pub mod Spaced
+pub mod FilledScripts
+pub mod TakenLines
+pub mod Bridge
+pub mod Erased
+pub mod Consequences
+pub mod Rooms
+pub mod GoalSorts

@@ -1,0 +1,152 @@
+-- What a line does that is taken: it is one of a certificate, or it is read as a line of a book.
+use Rattle.std.proofs.Common.{◌≡◌, ℕ, Bool, true, false, cond, inl, inr, List, [], ◌∷◌, ◌++◌, Option, Some, None, Result, Ok, Err, refl, sym, ap, subst, ◌∙◌}
+use Rattle.std.specs.Prelude.{◌⊎◌, codes, ◌&&◌}
+use Rattle.std.specs.Str.{bytes_eq}
+use Rattle.std.specs.Option.{option_to_list}
+use Rattle.std.proofs.lemmas.Bool.{eqb-true}
+use Rattle.e_text.specs.Tokens.{tokens_of}
+use Rattle.e_text.specs.Lines.{Seen}
+use Rattle.e_book.specs.declared.fault.Kind.{Kind}
+use Rattle.e_book.specs.declared.fault.Kind.TheVariants.{Malformed}
+use Rattle.e_book.specs.declared.form.Form.{Form}
+use Rattle.e_book.specs.declared.draft.Draft.{Draft}
+use Rattle.e_book.specs.Reading.{◌>>=◌}
+use Rattle.e_book.specs.Forms.{form_of, form_named}
+use Rattle.e_book.specs.Headed.{Headed}
+use Rattle.e_book.specs.Steps.{begin, step}
+use Rattle.e_book.specs.Book.{starts_with_hash, is_skipped, line_step}
+use Rattle.e_book.specs.Canonical.{line_of}
+use Rattle.e_book.proofs.InScope.{bind_ok, ok_is}
+use Rattle.e_read.specs.declared.mark.Mark.{Mark}
+use Rattle.e_read.specs.declared.owed.Due.{Due}
+use Rattle.e_read.specs.declared.owed.Owed.{Owed}
+use Rattle.e_read.specs.declared.kept.Kept.{Kept}
+use Rattle.e_read.specs.declared.reading.Reading.{Reading}
+use Rattle.e_read.specs.Strict.{is_strict, strict_form, strict_mark, is_apart}
+use Rattle.e_read.specs.Owed.{marked, settled}
+use Rattle.e_read.specs.Needs.{due_of}
+use Rattle.e_read.specs.Laws.{begins_with_bar}
+use Rattle.e_read.specs.Text.{owes_nothing, certified, gone_on, all_settled, stepped, is_bar, worded, is_lf_end, taken}
+
+-- a test that was passed
+pub passed : {A : Type 0} (b : Bool) (x : Result A Kind) (y : A) → cond b x (Err Malformed) ≡ Ok y → (b ≡ true) × (x ≡ Ok y)
+passed true x y e = (refl, e)
+passed false x y e = absurd cc
+
+either : {A : Type 0} (b : Bool) (x y z : A) → cond b x y ≡ z → ((b ≡ true) × (x ≡ z)) ⊎ ((b ≡ false) × (y ≡ z))
+either true x y z e = inl (refl, e)
+either false x y z e = inr (refl, e)
+
+-- no line of a book begins with #
+hashed : (b : ℕ) (bs : List ℕ) (ws : List (List ℕ)) → b ≡ 35 → form_named (b ∷ bs) ws ≡ Err Malformed
+unfolding form_named
+hashed b bs ws e = subst (λ (x : ℕ). form_named (x ∷ bs) ws ≡ Err Malformed) (sym e) refl
+
+-- a line of a certificate
+pub record Certified (r next : Reading) (line : List ℕ) (words : List (List ℕ)) : Type 0 where
+  pub mark : Mark
+  pub spelled : strict_mark line words ≡ Ok mark
+  pub owed : marked r.owed mark ≡ Ok next.owed
+  pub draft : next.draft ≡ r.draft
+  pub kept : next.kept ≡ r.kept
+
+-- any other line
+pub record Stepped (known : List Headed) (r next : Reading) (line : List ℕ) : Type 0 where
+  pub form : Form
+  pub spelled : strict_form line ≡ Ok form
+  pub read : Option Kept
+  pub settled_is : settled r.owed ≡ Ok read
+  pub draft : Draft
+  pub owed : Owed
+  pub gone : gone_on known r.draft form ≡ Ok (draft, owed)
+  pub next_is : next ≡ record { draft = Some draft; owed = owed; kept = r.kept ++ option_to_list read }
+
+certified_line : (r next : Reading) (line : List ℕ) (words : List (List ℕ)) → certified r line words ≡ Ok next → Certified r next line words
+certified_line r next line words e =
+    let m = bind_ok (strict_mark line words) (λ m. marked r.owed m >>= λ o. Ok (record r { owed = o })) next e in
+    let o = bind_ok (marked r.owed m.0) (λ o. Ok (record r { owed = o })) next m.2 in
+    let is : record r { owed = o.0 } ≡ next = ok_is _ _ o.2 in
+    record {
+      mark = m.0;
+      spelled = m.1;
+      owed = o.1 ∙ ap (λ (x : Reading). Ok x.owed) is;
+      draft = sym (ap (λ (x : Reading). x.draft) is);
+      kept = sym (ap (λ (x : Reading). x.kept) is);
+    }
+
+stepped_line : (known : List Headed) (r next : Reading) (line : List ℕ) → stepped known r line ≡ Ok next → Stepped known r next line
+stepped_line known r next line e =
+    let with_kept : Option Kept → Reading = λ k. record { draft = r.draft; owed = owes_nothing; kept = r.kept ++ option_to_list k } in
+    let end : Reading → Draft × Owed → Reading = λ s x. record { draft = Some x.0; owed = x.1; kept = s.kept } in
+    let f = bind_ok (strict_form line) (λ f. all_settled r >>= λ s. gone_on known s.draft f >>= λ x. Ok (end s x)) next e in
+    let s = bind_ok (all_settled r) (λ s. gone_on known s.draft f.0 >>= λ x. Ok (end s x)) next f.2 in
+    let k = bind_ok (settled r.owed) (λ k. Ok (with_kept k)) s.0 s.1 in
+    let kept_is : with_kept k.0 ≡ s.0 = ok_is (with_kept k.0) s.0 k.2 in
+    let x = bind_ok (gone_on known s.0.draft f.0) (λ x. Ok (end s.0 x)) next s.2 in
+    record {
+      form = f.0;
+      spelled = f.1;
+      read = k.0;
+      settled_is = k.1;
+      draft = x.0.0;
+      owed = x.0.1;
+      gone = ap (λ (q : Reading). gone_on known q.draft f.0) kept_is ∙ x.1;
+      next_is = sym (ap (λ (q : Reading). end q x.0) kept_is ∙ ok_is (end s.0 x.0) next x.2);
+    }
+
+-- what a line is that is taken
+pub line_taken : (known : List Headed) (r next : Reading) (l : Seen) → taken known r l ≡ Ok next
+    → ((ws : List (List ℕ)) × (begins_with_bar (tokens_of l.bytes) ≡ true) × Certified r next l.bytes ws) ⊎ ((begins_with_bar (tokens_of l.bytes) ≡ false) × Stepped known r next l.bytes)
+unfolding taken
+line_taken known r next l e = by_words (tokens_of l.bytes) refl (passed (is_lf_end l.end) (worded known r l.bytes (tokens_of l.bytes)) next e).1
+  where
+    by_words : (words : List (List ℕ)) → tokens_of l.bytes ≡ words → worded known r l.bytes words ≡ Ok next
+        → ((ws : List (List ℕ)) × (begins_with_bar (tokens_of l.bytes) ≡ true) × Certified r next l.bytes ws) ⊎ ((begins_with_bar (tokens_of l.bytes) ≡ false) × Stepped known r next l.bytes)
+    by_words [] same h = absurd cc
+    by_words (w ∷ ws) same h =
+        elim (either (is_bar w) (certified r l.bytes ws) (stepped known r l.bytes) (Ok next) h) [
+          | inl p ↦ inl (ws, ap begins_with_bar same ∙ p.0, certified_line r next l.bytes ws p.1)
+          | inr p ↦ inr (ap begins_with_bar same ∙ p.0, stepped_line known r next l.bytes p.1)
+        ]
+
+-- the form of a line in the one spelling is that of its words
+pub form_read : (line : List ℕ) (f : Form) → strict_form line ≡ Ok f → (form_of (tokens_of line) ≡ Ok f) × ((is_strict f && bytes_eq line (line_of f)) ≡ true)
+unfolding strict_form
+form_read line f e =
+    let g = bind_ok (form_of (tokens_of line)) (λ f. cond (is_strict f && bytes_eq line (line_of f)) (Ok f) (Err Malformed)) f e in
+    let p = passed (is_strict g.0 && bytes_eq line (line_of g.0)) (Ok g.0) f g.2 in
+    let same : g.0 ≡ f = ok_is g.0 f p.1 in
+    subst (λ (x : Form). (form_of (tokens_of line) ≡ Ok x) × ((is_strict x && bytes_eq line (line_of x)) ≡ true)) same (g.1, p.0)
+
+-- words that have a form say something
+pub not_skipped : (words : List (List ℕ)) (f : Form) → form_of words ≡ Ok f → is_skipped words ≡ false
+unfolding form_of
+not_skipped [] f e = absurd cc
+not_skipped ([] ∷ ws) f e = refl
+not_skipped ((b ∷ bs) ∷ ws) f e =
+    elim (either (starts_with_hash (b ∷ bs)) true false (starts_with_hash (b ∷ bs)) (same_bool (starts_with_hash (b ∷ bs)))) [
+      | inl p ↦ absurd (no_form (sym (hashed b bs ws (eqb-true b 35 p.0)) ∙ e))
+      | inr p ↦ p.0
+    ]
+  where
+    same_bool : (x : Bool) → cond x true false ≡ x
+    same_bool true = refl
+    same_bool false = refl
+
+    no_form : let none : Result Form Kind = Err Malformed in none ≡ Ok f → ⊥
+    no_form h = absurd cc
+
+-- a line that goes on is one of a book
+pub book_line : (known : List Headed) (draft : Option Draft) (f : Form) (d : Draft) (o : Owed) (words : List (List ℕ)) → form_of words ≡ Ok f → gone_on known draft f ≡ Ok (d, o) → line_step known draft words ≡ Ok d
+unfolding line_step
+book_line known None f d o words h e =
+    let x = bind_ok (begin known f) (λ x. Ok (x, owes_nothing)) (d, o) e in
+    let same : x.0 ≡ d = ap (λ (p : Draft × Owed). p.0) (ok_is (x.0, owes_nothing) (d, o) x.2) in
+    rw h (x.1 ∙ ap (λ (y : Draft). Ok y) same)
+book_line known (Some a) f d o words h e =
+    let end : Due → Draft → Draft × Owed = λ new x. (x, record { names = a.in_scope; due = new; sums = None }) in
+    let p = passed (is_apart a f) (due_of known a f >>= λ new. step known a f >>= λ x. Ok (end new x)) (d, o) e in
+    let n = bind_ok (due_of known a f) (λ new. step known a f >>= λ x. Ok (end new x)) (d, o) p.1 in
+    let x = bind_ok (step known a f) (λ x. Ok (end n.0 x)) (d, o) n.2 in
+    let same : x.0 ≡ d = ap (λ (q : Draft × Owed). q.0) (ok_is (end n.0 x.0) (d, o) x.2) in
+    rw h (x.1 ∙ ap (λ (y : Draft). Ok y) same)

@@ -1,0 +1,69 @@
+-- A script with certificates at its lines.
+use Rattle.std.specs.Prelude.{◌≡◌, List, [], ◌∷◌, Option, Some, None}
+use Rattle.e_clause.specs.declared.cert.Cert.{Cert}
+use Rattle.e_clause.specs.declared.cert.Against.{Against}
+use Rattle.e_deriv.specs.declared.block.Step.{Step}
+use Rattle.e_deriv.specs.declared.block.Close.{Close}
+use Rattle.e_deriv.specs.Script.{step_script, close_script, Script, Cite, Hence, Make, Apply, Claim, Superposed, Qed, Contradiction, Cases}
+use Rattle.e_read.specs.declared.kept.Kept.{Kept}
+use Rattle.e_read.specs.declared.kept.Kept.TheVariants.{Certs, Against as OfContradiction}
+
+abbrev pub first_cert : List Cert → Option Cert
+first_cert [] = None
+first_cert (c ∷ cs) = Some c
+
+abbrev pub certs_of : Kept → List Cert
+certs_of (Certs cs) = cs
+certs_of (OfContradiction a) = []
+
+abbrev pub against_of : Kept → Option Against
+against_of (Certs cs) = None
+against_of (OfContradiction a) = Some a
+
+-- the certificates of the next line that has some
+abbrev pub next_certs : List Kept → List Cert
+next_certs [] = []
+next_certs (k ∷ ks) = certs_of k
+
+abbrev pub next_against : List Kept → Option Against
+next_against [] = None
+next_against (k ∷ ks) = against_of k
+
+abbrev pub behind_next : List Kept → List Kept
+behind_next [] = []
+behind_next (k ∷ ks) = ks
+
+-- the next is taken out
+abbrev pub NextIs : List Kept → Option Kept → List Kept → Type 0
+NextIs old None new = (old ≡ []) × (new ≡ [])
+NextIs old (Some k) new = old ≡ k ∷ new
+
+-- The script with these certificates, in the order of its lines: at each line that can have some, those that come next. And the
+-- certificates that are left.
+unfoldable pub filled : Script → List Kept → Script × List Kept
+filled (Cite by rest) ks = let r = filled rest ks in (Cite by r.0, r.1)
+filled (Hence lit cert rest) ks = let r = filled rest (behind_next ks) in (Hence lit (first_cert (next_certs ks)) r.0, r.1)
+filled (Make form names certs rest) ks = let r = filled rest (behind_next ks) in (Make form names (next_certs ks) r.0, r.1)
+filled (Apply theorem args names certs rest) ks = let r = filled rest (behind_next ks) in (Apply theorem args names (next_certs ks) r.0, r.1)
+filled (Claim shown inner rest) ks =
+    let i = filled inner ks in
+    let r = filled rest i.1 in (Claim shown i.0 r.0, r.1)
+filled (Superposed form names shown certs inner rest) ks =
+    let i = filled inner (behind_next ks) in
+    let r = filled rest i.1 in (Superposed form names shown (next_certs ks) i.0 r.0, r.1)
+filled (Qed objects certs) ks = (Qed objects (next_certs ks), behind_next ks)
+filled (Contradiction against) ks = (Contradiction (next_against ks), behind_next ks)
+filled (Cases lit first second) ks =
+    let f = filled first ks in
+    let s = filled second f.1 in (Cases lit f.0 s.0, s.1)
+
+-- ---- what the code that fills says: of a block, of a step before whatever comes after it, and of a close
+
+abbrev pub Fills : Script → List Kept → Script → List Kept → Type 0
+Fills old ks new left = filled old ks ≡ (new, left)
+
+abbrev pub FillsStep : Step → List Kept → Step → List Kept → Type 0
+FillsStep old ks new left = (rest : Script) → filled (step_script old rest) ks ≡ (step_script new (filled rest left).0, (filled rest left).1)
+
+abbrev pub FillsClose : Close → List Kept → Close → List Kept → Type 0
+FillsClose old ks new left = filled (close_script old) ks ≡ (close_script new, left)

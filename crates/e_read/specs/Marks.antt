@@ -1,0 +1,121 @@
+-- The lines of certificates, by their spelling alone, and how each is spelled.
+use Rattle.std.specs.Prelude.{ℕ, ℤ, pos, neg_ℤ, ◌^◌, Bool, ◌&&◌, ◌==◌, nat_lt, nat_le, List, [], ◌∷◌, Option, Some, None, Result, Ok, Err, codes, true, false, if◌then◌else◌}
+use Rattle.std.specs.Str.{bytes_eq}
+use Rattle.std.specs.Fmt.{signed_decimal}
+use Rattle.e_text.specs.Tokens.{joined}
+use Rattle.e_text.specs.Numerals.{number_of}
+use Rattle.e_book.specs.declared.fault.Kind.{Kind}
+use Rattle.e_book.specs.declared.fault.Kind.TheVariants.{Malformed}
+use Rattle.e_book.specs.Reading.{◌>>=◌, title_at, end_at, names_of}
+use Rattle.e_book.specs.Sums.{term_of}
+use Rattle.e_book.specs.Literals.{lit_of, diagram_lit_of}
+use Rattle.e_book.specs.Canonical.{term_words, lit_words}
+use Rattle.e_read.specs.declared.mark.RawRow.{RawRow}
+use Rattle.e_read.specs.declared.mark.RawRow.TheVariants as rows
+use Rattle.e_read.specs.declared.mark.Mark.{Mark}
+use Rattle.e_read.specs.declared.mark.Mark.TheVariants as marks
+
+-- ---- multipliers
+
+-- the size of a multiplier: a numeral from 1 to 2 ^ 80
+abbrev pub sized : Option ℕ → Result ℕ Kind
+sized None = Err Malformed
+sized (Some n) = if nat_lt 0 n && nat_le n (2 ^ 80) then Ok n else Err Malformed
+
+abbrev pub size_of : List ℕ → Result ℤ Kind
+size_of digits = sized (number_of digits) >>= λ n. Ok (pos n)
+
+-- a whole number other than 0, with a minus sign where it is negative
+abbrev pub multiplier_of : List ℕ → Result ℤ Kind
+multiplier_of [] = Err Malformed
+multiplier_of (b ∷ bs) =
+    if b == 45 then (size_of bs >>= λ n. Ok (neg_ℤ n)) else size_of (b ∷ bs)
+
+-- ---- rows
+
+abbrev pub bare_row : List (List ℕ) → RawRow → Result RawRow Kind
+bare_row words row = end_at words >>= λ none. Ok row
+
+-- a row, by its first word
+unfoldable pub row_named : List ℕ → List (List ℕ) → Result RawRow Kind
+row_named w ws =
+    if bytes_eq w (codes "fact") then (lit_of ws >>= λ l. Ok (rows.Fact l)) else
+    if bytes_eq w (codes "goal") then bare_row ws rows.Goal else
+    if bytes_eq w (codes "pos") then (term_of ws >>= λ t. Ok (rows.Pos t)) else
+    if bytes_eq w (codes "top") then (term_of ws >>= λ t. Ok (rows.Top t)) else
+    if bytes_eq w (codes "right") then bare_row ws rows.Right else
+    if bytes_eq w (codes "least") then (term_of ws >>= λ t. Ok (rows.Least t)) else
+    if bytes_eq w (codes "above") then bare_row ws rows.Above else
+    if bytes_eq w (codes "below") then bare_row ws rows.Below else Err Malformed
+
+unfoldable pub row_of : List (List ℕ) → Result RawRow Kind
+row_of [] = Err Malformed
+row_of (w ∷ ws) = row_named w ws
+
+-- the rows that can say that a form is not 0
+abbrev pub may_differ : RawRow → Bool
+may_differ (rows.Fact l) = true
+may_differ rows.Goal = true
+may_differ row = false
+
+-- ---- lines
+
+abbrev pub bare : List (List ℕ) → Mark → Result Mark Kind
+bare words mark = end_at words >>= λ none. Ok mark
+
+unfoldable pub differs_of : List (List ℕ) → Result Mark Kind
+differs_of words = row_of words >>= λ r. if may_differ r then Ok (marks.Differs r) else Err Malformed
+
+-- a rule, and the names of its arguments
+unfoldable pub transfer_of : List (List ℕ) → Result Mark Kind
+transfer_of words = do
+  t ← title_at words
+  ns ← names_of t.1
+  Ok (marks.Transfer t.0 ns)
+
+-- a row behind its multiplier
+unfoldable pub row_mark_of : List ℕ → List (List ℕ) → Result Mark Kind
+row_mark_of w ws = do
+  m ← multiplier_of w
+  r ← row_of ws
+  Ok (marks.Row m r)
+
+-- a line of a certificate, by the first word behind the sign `|`
+unfoldable pub mark_named : List ℕ → List (List ℕ) → Result Mark Kind
+mark_named w ws =
+    if bytes_eq w (codes "fact") then bare ws marks.Fact else
+    if bytes_eq w (codes "metric") then bare ws marks.Metric else
+    if bytes_eq w (codes "transfer") then transfer_of ws else
+    if bytes_eq w (codes "clash") then (diagram_lit_of ws >>= λ l. Ok (marks.Clash l)) else
+    if bytes_eq w (codes "sum") then bare ws marks.Sum else
+    if bytes_eq w (codes "differs") then differs_of ws else row_mark_of w ws
+
+unfoldable pub mark_of : List (List ℕ) → Result Mark Kind
+mark_of [] = Err Malformed
+mark_of (w ∷ ws) = mark_named w ws
+
+-- ---- how they are spelled
+
+abbrev pub row_words : RawRow → List (List ℕ)
+row_words (rows.Fact l) = codes "fact" ∷ lit_words l
+row_words rows.Goal = codes "goal" ∷ []
+row_words (rows.Pos t) = codes "pos" ∷ term_words t
+row_words (rows.Top t) = codes "top" ∷ term_words t
+row_words rows.Right = codes "right" ∷ []
+row_words (rows.Least t) = codes "least" ∷ term_words t
+row_words rows.Above = codes "above" ∷ []
+row_words rows.Below = codes "below" ∷ []
+
+-- the words behind the sign
+abbrev pub mark_words : Mark → List (List ℕ)
+mark_words marks.Fact = codes "fact" ∷ []
+mark_words marks.Metric = codes "metric" ∷ []
+mark_words (marks.Transfer rule ns) = codes "transfer" ∷ rule ∷ ns
+mark_words (marks.Clash l) = codes "clash" ∷ lit_words l
+mark_words marks.Sum = codes "sum" ∷ []
+mark_words (marks.Differs r) = codes "differs" ∷ row_words r
+mark_words (marks.Row m r) = signed_decimal m ∷ row_words r
+
+-- a line without its end
+abbrev pub mark_line : Mark → List ℕ
+mark_line mark = joined (codes "|" ∷ mark_words mark)

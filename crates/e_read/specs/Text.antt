@@ -1,0 +1,154 @@
+-- A block of a derivation text, line by line.
+use Rattle.std.specs.Prelude.{◌≡◌, IfSome, ℕ, ◌+◌, Bool, true, false, ◌∷◌, ◌++◌, List, [], length, decimal, codes, Option, Some, None, Result, Ok, Err, if◌then◌else◌}
+use Rattle.std.specs.Option.{option_to_list}
+use Rattle.std.specs.Str.{bytes_eq}
+use Rattle.e_text.specs.Tokens.{tokens_of, joined}
+use Rattle.e_text.specs.Lines.{Seen, Ahead, fault_line}
+use Rattle.e_text.specs.declared.line.LineEnd.{LineEnd}
+use Rattle.e_text.specs.declared.line.LineEnd.TheVariants as ends
+use Rattle.e_text.specs.declared.line.LineFault.{LineFault}
+use Rattle.e_deriv.specs.declared.names.Names.{Names}
+use Rattle.e_deriv.specs.Script.{erased}
+use Rattle.e_book.specs.declared.fault.Kind.{Kind}
+use Rattle.e_book.specs.declared.fault.Kind.TheVariants.{Malformed}
+use Rattle.e_book.specs.declared.form.Form.{Form}
+use Rattle.e_book.specs.declared.draft.Draft.{Draft}
+use Rattle.e_book.specs.declared.theorem.Theorem.{Theorem}
+use Rattle.e_book.specs.Reading.{◌>>=◌}
+use Rattle.e_book.specs.Headed.{Headed}
+use Rattle.e_book.specs.Entry.{Entry, entry_of, entry_of_draft}
+use Rattle.e_book.specs.Scope.{FewNames}
+use Rattle.e_book.specs.Steps.{begin, step, no_names, FitsScope}
+use Rattle.e_book.specs.Book.{is_done}
+use Rattle.e_read.specs.declared.owed.Due.{Due}
+use Rattle.e_read.specs.declared.owed.Due.TheVariants as due
+use Rattle.e_read.specs.declared.owed.Owed.{Owed}
+use Rattle.e_read.specs.declared.kept.Kept.{Kept}
+use Rattle.e_read.specs.declared.reading.Reading.{Reading}
+use Rattle.e_read.specs.declared.reader.Piece.{Piece as PieceRead}
+use Rattle.e_read.specs.declared.reader.Piece.TheVariants as read
+use Rattle.e_read.specs.declared.reader.TextFault.{TextFault}
+use Rattle.e_read.specs.declared.reader.TextFault.TheVariants as faults
+use Rattle.e_read.specs.Strict.{strict_form, strict_mark, is_apart}
+use Rattle.e_read.specs.Owed.{marked, settled}
+use Rattle.e_read.specs.Needs.{due_of}
+use Rattle.e_read.specs.Filled.{filled}
+
+-- ---- lines
+
+abbrev pub owes_nothing : Owed
+owes_nothing = record { names = no_names; due = due.Nothing; sums = None }
+
+-- before the first line of a block
+abbrev pub at_start : Reading
+at_start = record { draft = None; owed = owes_nothing; kept = [] }
+
+-- the line behind a line of a certificate owes the rest
+abbrev pub certified : Reading → List ℕ → List (List ℕ) → Result Reading Kind
+certified r line words = strict_mark line words >>= λ m. marked r.owed m >>= λ o. Ok (record r { owed = o })
+
+-- a line begins a theorem, or goes on with it, and owes certificates of its own
+abbrev pub gone_on : List Headed → Option Draft → Form → Result (Draft × Owed) Kind
+gone_on known None f = begin known f >>= λ e. Ok (e, owes_nothing)
+gone_on known (Some d) f =
+    if is_apart d f then (due_of known d f >>= λ new. step known d f >>= λ e. Ok (e, record { names = d.in_scope; due = new; sums = None })) else Err Malformed
+
+-- nothing is owed any more, and what was read is kept
+abbrev pub all_settled : Reading → Result Reading Kind
+all_settled r = settled r.owed >>= λ k. Ok (record { draft = r.draft; owed = owes_nothing; kept = r.kept ++ option_to_list k })
+
+-- any other line comes where nothing is owed any more
+abbrev pub stepped : List Headed → Reading → List ℕ → Result Reading Kind
+stepped known r line =
+    strict_form line >>= λ f. all_settled r >>= λ s. gone_on known s.draft f >>= λ e. Ok (record { draft = Some e.0; owed = e.1; kept = s.kept })
+
+abbrev pub is_bar : List ℕ → Bool
+is_bar word = bytes_eq word (codes "|")
+
+-- a line by its words: the sign `|` stands before each line of a certificate
+abbrev pub worded : List Headed → Reading → List ℕ → List (List ℕ) → Result Reading Kind
+worded known r line [] = Err Malformed
+worded known r line (w ∷ ws) = if is_bar w then certified r line ws else stepped known r line
+
+abbrev pub is_lf_end : LineEnd → Bool
+is_lf_end ends.Lf = true
+is_lf_end end = false
+
+-- each line ends with a line feed
+unfoldable pub taken : List Headed → Reading → Seen → Result Reading Kind
+taken known r l = if is_lf_end l.end then worded known r l.bytes (tokens_of l.bytes) else Err Malformed
+
+-- ---- blocks
+
+-- what stands ahead: a theorem with its derivation for its script, or the last line
+pub data Piece : Type 0 where
+  Derived : (theorem : Entry) → Piece
+  Last : Piece
+
+-- the last line says how many theorems there are
+abbrev pub last_line_of : ℕ → List ℕ
+last_line_of n = joined (codes "accepted" ∷ decimal n ∷ [])
+
+abbrev pub is_last_line : List Headed → Seen → Bool
+is_last_line known l = if is_lf_end l.end then bytes_eq l.bytes (last_line_of (length known)) else false
+
+-- a theorem with its certificates at their lines
+abbrev pub derived : Draft → List Kept → Entry
+derived d kept = let t = entry_of_draft d in record t { script = (filled t.script kept).0 }
+
+abbrev pub garbled_at : {A : Type 0} → ℕ → Result A Kind → Result A ℕ
+garbled_at line (Ok x) = Ok x
+garbled_at line (Err kind) = Err line
+
+-- the last line of a theorem has come
+abbrev pub is_finished : Option Draft → Bool
+is_finished None = false
+is_finished (Some d) = is_done d
+
+abbrev pub finished : Option Draft → List Kept → Option Entry
+finished None kept = None
+finished (Some d) kept = if is_done d then Some (derived d kept) else None
+
+abbrev pub or_on : Option Entry → List (Result Seen LineFault) → Result (Piece × List (Result Seen LineFault)) ℕ → Result (Piece × List (Result Seen LineFault)) ℕ
+or_on None lines more = more
+or_on (Some t) lines more = Ok (Derived t, lines)
+
+-- the line is the last one of a text, at the place of a theorem's first line
+abbrev pub is_end : List Headed → Option Draft → Seen → Bool
+is_end known None l = is_last_line known l
+is_end known (Some d) l = false
+
+-- the rest of what stands ahead and the lines behind it, or the first line that has no form at its place; last is the number behind
+-- the last line
+abbrev pub piece_from : List Headed → ℕ → Reading → List (Result Seen LineFault) → Result (Piece × List (Result Seen LineFault)) ℕ
+piece_from known last r [] = Err last
+piece_from known last r (Err f ∷ lines) = Err (fault_line f)
+piece_from known last r (Ok line ∷ lines) =
+    if is_end known r.draft line then Ok (Last, lines) else
+    (garbled_at line.number (taken known r line) >>= λ next. or_on (finished next.draft next.kept) lines (piece_from known last next lines))
+
+-- what was answered is what stands ahead, unless memory ran out
+abbrev pub TextReads : List Headed → Result PieceRead TextFault → Ahead → Result (Piece × List (Result Seen LineFault)) ℕ → Type 0
+TextReads known (Ok (read.Theorem t)) new from = from ≡ Ok (Derived (entry_of t), new.lines)
+TextReads known (Ok (read.Last n)) new from = (n ≡ length known) × (from ≡ Ok (Last, new.lines))
+TextReads known (Err (faults.Garbled line)) new from = from ≡ Err line
+TextReads known (Err faults.NoMemory) new from = Unit {0}
+
+-- a theorem without its certificates
+abbrev pub bare : Entry → Entry
+bare t = record t { script = erased t.script }
+
+-- what holds of a theorem, where one was read
+abbrev pub OfTheorem : (Theorem → Type 0) → PieceRead → Type 0
+OfTheorem holds (read.Theorem t) = holds t
+OfTheorem holds (read.Last n) = Unit {0}
+
+-- ---- what is known of a block while its lines come: its names and counts are within the limits
+
+pub record FitsReading (r : Reading) : Type 0 where
+  pub draft : IfSome r.draft FitsScope
+  pub names : FewNames r.owed.names
+
+pub record FitsBegun (d : Draft) (o : Owed) : Type 0 where
+  pub draft : FitsScope d
+  pub names : FewNames o.names

@@ -1,0 +1,151 @@
+//! A script with certificates at its lines.
+ghost use Rattle.std.specs.Prelude.{◌≡◌, IfOk, OnOk};
+ghost use Rattle.e_deriv.specs.Script.{script_of};
+ghost use Rattle.e_read.specs.Filled.{behind_next, next_certs, next_against, first_cert, Fills, FillsStep, FillsClose};
+
+use crate::kept::{Certs, Kept, Queue};
+use e_clause::{Against, Cert};
+use e_deriv::{Block, Close, Step, copy_by, copy_construction, copy_lits};
+use e_literal::{Items, copy};
+use std::alloc::{AllocError, Global};
+
+/// The certificates of the next line that has some.
+fn next_certs(alloc: Global, queue: &mut Queue) -> Certs
+    ensures certs { result ≡ next_certs queue.old }
+    ensures rest { queue.new ≡ behind_next queue.old }
+{
+    match queue.pop() {
+        Some(Kept::Certs(certs)) => certs,
+        Some(Kept::Against(_)) | None => Certs::new(alloc),
+    }
+}
+
+/// The certificate of a contradiction that comes next.
+fn next_against(queue: &mut Queue) -> Option<Against>
+    ensures against { result ≡ next_against queue.old }
+    ensures rest { queue.new ≡ behind_next queue.old }
+{
+    match queue.pop() {
+        Some(Kept::Against(against)) => Some(against),
+        Some(Kept::Certs(_)) | None => None,
+    }
+}
+
+/// The first certificate of the next line that has some.
+fn next_cert(alloc: Global, queue: &mut Queue) -> Option<Cert>
+    ensures cert { result ≡ first_cert (next_certs queue.old) }
+    ensures rest { queue.new ≡ behind_next queue.old }
+{
+    next_certs(alloc, queue).into_first()
+}
+
+/// The block with the certificates that come next, in the order of its lines.
+#[cycle(fill)]
+#[tactic(auto, using(crate::proofs::FilledScripts::filling))]
+pub(crate) fn fill(alloc: Global, block: &Block, queue: &mut Queue) -> Result<Block, AllocError>
+    ensures { IfOk result (λ b. Fills (script_of block.now) queue.old (script_of b) queue.new) }
+{
+    let mut steps = Vec::new(alloc);
+    for step in &block.steps {
+        let step = fill_step(alloc, step, queue)?;
+        steps.push(step)?;
+    }
+    let close = fill_close(alloc, &block.close, queue)?;
+    Ok(Block { steps, close })
+}
+
+#[cycle(fill)]
+#[tactic(auto, using(crate::proofs::FilledScripts::filling))]
+fn fill_step(alloc: Global, step: &Step, queue: &mut Queue) -> Result<Step, AllocError>
+    ensures { IfOk result (λ s. FillsStep step.now queue.old s queue.new) }
+{
+    match step {
+        Step::Cite(by) => Ok(Step::Cite(copy_by(alloc, by)?)),
+        Step::Hence { lit, .. } => {
+            let lit = copy(alloc, lit)?;
+            let cert = next_cert(alloc, queue);
+            Ok(Step::Hence { lit, cert })
+        }
+        Step::Make { form, names, .. } => {
+            let form = copy_construction(alloc, form)?;
+            let names = Vec::from_slice(alloc, names.items())?;
+            let certs = next_certs(alloc, queue).into_items();
+            Ok(Step::Make {
+                form,
+                names: Items::new(names),
+                certs,
+            })
+        }
+        Step::Apply {
+            theorem,
+            args,
+            names,
+            ..
+        } => {
+            let args = Vec::from_slice(alloc, args.items())?;
+            let new = Vec::from_slice(alloc, names.items())?;
+            let certs = next_certs(alloc, queue).into_items();
+            Ok(Step::Apply {
+                theorem: *theorem,
+                args: Items::new(args),
+                names: Items::new(new),
+                certs,
+            })
+        }
+        Step::Claim { shown, inner } => {
+            let shown = copy_lits(alloc, shown.items())?;
+            let inner = fill(alloc, inner, queue)?;
+            let inner = Box::new(alloc, inner)?;
+            Ok(Step::Claim { shown, inner })
+        }
+        Step::Superposed {
+            form,
+            names,
+            shown,
+            inner,
+            ..
+        } => {
+            let copied = Vec::from_slice(alloc, names.items())?;
+            let shown = copy_lits(alloc, shown.items())?;
+            let certs = next_certs(alloc, queue).into_items();
+            let inner = fill(alloc, inner, queue)?;
+            let inner = Box::new(alloc, inner)?;
+            Ok(Step::Superposed {
+                form: *form,
+                names: Items::new(copied),
+                shown,
+                certs,
+                inner,
+            })
+        }
+    }
+}
+
+#[cycle(fill)]
+#[tactic(auto, using(crate::proofs::FilledScripts::filling))]
+fn fill_close(alloc: Global, close: &Close, queue: &mut Queue) -> Result<Close, AllocError>
+    ensures { IfOk result (λ c. FillsClose close.now queue.old c queue.new) }
+{
+    match close {
+        Close::Qed { objects, .. } => {
+            let objects = Vec::from_slice(alloc, objects.items())?;
+            let certs = next_certs(alloc, queue).into_items();
+            Ok(Close::Qed {
+                objects: Items::new(objects),
+                certs,
+            })
+        }
+        Close::Contradiction { .. } => {
+            let against = next_against(queue);
+            Ok(Close::Contradiction { against })
+        }
+        Close::Cases { lit, first, second } => {
+            let lit = copy(alloc, lit)?;
+            let first = fill(alloc, first, queue)?;
+            let first = Box::new(alloc, first)?;
+            let second = fill(alloc, second, queue)?;
+            let second = Box::new(alloc, second)?;
+            Ok(Close::Cases { lit, first, second })
+        }
+    }
+}

@@ -1,0 +1,23 @@
+//! Derivation texts read back: each theorem with a certificate at each place that needs one, or the first line that has no form
+//! at its place.
+#![tactic(auto)]
+
+mod filling;
+mod kept;
+mod laws;
+mod lines;
+mod literals;
+mod mark;
+mod marks;
+mod needs;
+mod owed;
+mod reader;
+mod reading;
+mod strict;
+mod words;
+
+pub use laws::derivations_are_of_books;
+pub use reader::{Piece, TextFault, read};
+
+#[cfg(test)]
+mod tests;

@@ -1,0 +1,216 @@
+//! The lines of certificates, told from their words by spelling alone.
+ghost use Rattle.std.specs.Prelude.{◌≡◌};
+ghost use Rattle.e_book.specs.Reading.{texts, Gives};
+ghost use Rattle.e_read.specs.Marks.{size_of, multiplier_of, bare_row, row_named, row_of, may_differ, bare, differs_of, transfer_of, row_mark_of, mark_named, mark_of};
+
+use e_book::{
+    Kind, RawLit, RawTerm, Trouble, Words, diagram_lit_of, lit_of, names_of, term_of,
+};
+use e_literal::Items;
+use e_text::{Name, Title, is, number};
+use std::alloc::Global;
+
+/// A row of a sum with its names as they are spelled.
+#[derive(Debug, Drop)]
+pub enum RawRow {
+    /// `fact LITERAL`
+    Fact(RawLit),
+    /// `goal`
+    Goal,
+    /// `pos TERM`
+    Pos(RawTerm),
+    /// `top TERM`
+    Top(RawTerm),
+    /// `right`
+    Right,
+    /// `least TERM`
+    Least(RawTerm),
+    /// `above`
+    Above,
+    /// `below`
+    Below,
+}
+
+/// A line of a certificate, behind its sign.
+#[derive(Debug, Drop)]
+pub enum Mark {
+    /// `fact`
+    Fact,
+    /// `metric`
+    Metric,
+    /// `transfer RULE NAMES`
+    Transfer(Title, Items<Name>),
+    /// `clash LITERAL`
+    Clash(RawLit),
+    /// `sum`
+    Sum,
+    /// `differs goal` or `differs fact LITERAL`
+    Differs(RawRow),
+    /// `MULTIPLIER ROW`
+    Row(i128, RawRow),
+}
+
+/// The largest size of a multiplier, 2 to the power of 80.
+const MAX_MULTIPLIER: u128 = 1_208_925_819_614_629_174_706_176;
+
+/// The size of a multiplier.
+fn size_of(digits: &[u8]) -> Result<i128, Trouble>
+    ensures { Gives (λ z. z) result (size_of digits.now) }
+{
+    match number(digits) {
+        Some(size) if size > 0 && size <= MAX_MULTIPLIER => Ok(size as i128),
+        _ => Err(Trouble::Fault(Kind::Malformed)),
+    }
+}
+
+/// A whole number other than 0, with a minus sign where it is negative.
+fn multiplier_of(word: &[u8]) -> Result<i128, Trouble>
+    ensures { Gives (λ m. m) result (multiplier_of word.now) }
+{
+    match word {
+        [] => Err(Trouble::Fault(Kind::Malformed)),
+        [b'-', digits @ ..] => {
+            let size = size_of(digits)?;
+            Ok(-size)
+        }
+        digits => size_of(digits),
+    }
+}
+
+fn bare_row(words: Words, row: RawRow) -> Result<RawRow, Trouble>
+    ensures { Gives (λ r. r) result (bare_row words.entry row) }
+{
+    words.end()?;
+    Ok(row)
+}
+
+/// A row, by its first word.
+#[tactic(auto, unfolding(crate::specs::Marks::row_named))]
+fn row_named(alloc: Global, word: &[u8], rest: &[&[u8]]) -> Result<RawRow, Trouble>
+    ensures { Gives (λ r. r) result (row_named word.now (texts rest.now)) }
+{
+    let words = Words::new(rest);
+    if is(word, b"fact") {
+        return Ok(RawRow::Fact(lit_of(alloc, rest)?));
+    }
+    if is(word, b"goal") {
+        return bare_row(words, RawRow::Goal);
+    }
+    if is(word, b"pos") {
+        return Ok(RawRow::Pos(term_of(rest)?));
+    }
+    if is(word, b"top") {
+        return Ok(RawRow::Top(term_of(rest)?));
+    }
+    if is(word, b"right") {
+        return bare_row(words, RawRow::Right);
+    }
+    if is(word, b"least") {
+        return Ok(RawRow::Least(term_of(rest)?));
+    }
+    if is(word, b"above") {
+        return bare_row(words, RawRow::Above);
+    }
+    if is(word, b"below") {
+        return bare_row(words, RawRow::Below);
+    }
+    Err(Trouble::Fault(Kind::Malformed))
+}
+
+#[tactic(auto, unfolding(crate::specs::Marks::row_of))]
+fn row_of(alloc: Global, words: &[&[u8]]) -> Result<RawRow, Trouble>
+    ensures { Gives (λ r. r) result (row_of (texts words.now)) }
+{
+    match words {
+        [] => Err(Trouble::Fault(Kind::Malformed)),
+        [word, rest @ ..] => row_named(alloc, word, rest),
+    }
+}
+
+/// Whether the row can say that a form is not 0.
+fn may_differ(row: &RawRow) -> bool
+    ensures { result ≡ may_differ row.now }
+{
+    matches!(row, RawRow::Fact(_) | RawRow::Goal)
+}
+
+fn bare(words: Words, mark: Mark) -> Result<Mark, Trouble>
+    ensures { Gives (λ m. m) result (bare words.entry mark) }
+{
+    words.end()?;
+    Ok(mark)
+}
+
+#[tactic(auto, unfolding(crate::specs::Marks::differs_of))]
+fn differs_of(alloc: Global, words: &[&[u8]]) -> Result<Mark, Trouble>
+    ensures { Gives (λ m. m) result (differs_of (texts words.now)) }
+{
+    let row = row_of(alloc, words)?;
+    if may_differ(&row) {
+        Ok(Mark::Differs(row))
+    } else {
+        Err(Trouble::Fault(Kind::Malformed))
+    }
+}
+
+/// A rule, and the names of its arguments.
+#[tactic(auto, unfolding(crate::specs::Marks::transfer_of, e_book::specs::Reading::title_at, e_book::specs::Reading::word_at))]
+fn transfer_of(alloc: Global, words: &[&[u8]]) -> Result<Mark, Trouble>
+    ensures { Gives (λ m. m) result (transfer_of (texts words.now)) }
+{
+    let [title, rest @ ..] = words else {
+        return Err(Trouble::Fault(Kind::Malformed));
+    };
+    let Some(title) = Title::read(title) else {
+        return Err(Trouble::Fault(Kind::Malformed));
+    };
+    let names = names_of(alloc, rest)?;
+    Ok(Mark::Transfer(title, names))
+}
+
+/// A row behind its multiplier.
+#[tactic(auto, unfolding(crate::specs::Marks::row_mark_of))]
+fn row_mark_of(alloc: Global, word: &[u8], rest: &[&[u8]]) -> Result<Mark, Trouble>
+    ensures { Gives (λ m. m) result (row_mark_of word.now (texts rest.now)) }
+{
+    let multiplier = multiplier_of(word)?;
+    let row = row_of(alloc, rest)?;
+    Ok(Mark::Row(multiplier, row))
+}
+
+#[tactic(auto, unfolding(crate::specs::Marks::mark_named))]
+fn mark_named(alloc: Global, word: &[u8], rest: &[&[u8]]) -> Result<Mark, Trouble>
+    ensures { Gives (λ m. m) result (mark_named word.now (texts rest.now)) }
+{
+    let words = Words::new(rest);
+    if is(word, b"fact") {
+        return bare(words, Mark::Fact);
+    }
+    if is(word, b"metric") {
+        return bare(words, Mark::Metric);
+    }
+    if is(word, b"transfer") {
+        return transfer_of(alloc, rest);
+    }
+    if is(word, b"clash") {
+        return Ok(Mark::Clash(diagram_lit_of(alloc, rest)?));
+    }
+    if is(word, b"sum") {
+        return bare(words, Mark::Sum);
+    }
+    if is(word, b"differs") {
+        return differs_of(alloc, rest);
+    }
+    row_mark_of(alloc, word, rest)
+}
+
+/// The form of a line of a certificate, by the words behind its sign alone.
+#[tactic(auto, unfolding(crate::specs::Marks::mark_of))]
+pub(crate) fn mark_of(alloc: Global, words: &[&[u8]]) -> Result<Mark, Trouble>
+    ensures { Gives (λ m. m) result (mark_of (texts words.now)) }
+{
+    match words {
+        [] => Err(Trouble::Fault(Kind::Malformed)),
+        [word, rest @ ..] => mark_named(alloc, word, rest),
+    }
+}

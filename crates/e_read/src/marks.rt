@@ -1,0 +1,73 @@
+//! The line of each form of certificate, spelled with the names that it has.
+ghost use Rattle.std.specs.Prelude.{◌≡◌, ◌++◌, ◌∷◌, [], codes, OnOk};
+ghost use Rattle.e_text.specs.Tokens.{spaced};
+ghost use Rattle.e_book.specs.Canonical.{term_words};
+ghost use Rattle.e_read.specs.Marks.{row_words, mark_words, mark_line};
+
+use crate::literals::{put_literal, put_term};
+use crate::mark::{Mark, RawRow};
+use crate::words::{put, put_names, put_number};
+use e_book::RawTerm;
+use std::alloc::AllocError;
+
+/// A row that is said of a term.
+fn put_term_row(out: &mut Vec<u8>, word: &[u8], term: &RawTerm) -> Result<(), AllocError>
+    ensures { OnOk result (out.new.items ≡ out.old.items ++ spaced (word.now ∷ term_words term.now)) }
+{
+    put(out, word)?;
+    put_term(out, term)
+}
+
+fn put_row(out: &mut Vec<u8>, row: &RawRow) -> Result<(), AllocError>
+    ensures { OnOk result (out.new.items ≡ out.old.items ++ spaced (row_words row.now)) }
+{
+    match row {
+        RawRow::Fact(lit) => {
+            put(out, b"fact")?;
+            put_literal(out, lit)
+        }
+        RawRow::Goal => put(out, b"goal"),
+        RawRow::Pos(term) => put_term_row(out, b"pos", term),
+        RawRow::Top(term) => put_term_row(out, b"top", term),
+        RawRow::Right => put(out, b"right"),
+        RawRow::Least(term) => put_term_row(out, b"least", term),
+        RawRow::Above => put(out, b"above"),
+        RawRow::Below => put(out, b"below"),
+    }
+}
+
+/// A line of a certificate behind its sign.
+fn put_words(out: &mut Vec<u8>, mark: &Mark) -> Result<(), AllocError>
+    ensures { OnOk result (out.new.items ≡ out.old.items ++ spaced (mark_words mark.now)) }
+{
+    match mark {
+        Mark::Fact => put(out, b"fact"),
+        Mark::Metric => put(out, b"metric"),
+        Mark::Transfer(rule, names) => {
+            put(out, b"transfer")?;
+            put(out, rule.bytes())?;
+            put_names(out, names.items())
+        }
+        Mark::Clash(lit) => {
+            put(out, b"clash")?;
+            put_literal(out, lit)
+        }
+        Mark::Sum => put(out, b"sum"),
+        Mark::Differs(row) => {
+            put(out, b"differs")?;
+            put_row(out, row)
+        }
+        Mark::Row(multiplier, row) => {
+            put_number(out, *multiplier)?;
+            put_row(out, row)
+        }
+    }
+}
+
+/// The line of a certificate, without its end.
+pub(crate) fn put_mark(out: &mut Vec<u8>, mark: &Mark) -> Result<(), AllocError>
+    ensures { OnOk result (out.new.items ≡ out.old.items ++ mark_line mark.now) }
+{
+    out.extend_from_slice(b"|")?;
+    put_words(out, mark)
+}

@@ -1,0 +1,208 @@
+//! What certificates a line owes.
+ghost use Rattle.std.specs.Prelude.{◌≡◌, ◌≤◌, ◌<◌, ◌+◌, ◌^◌, IfOk, IsTrue, length, map, Option, Some, None, reverse};
+ghost use Rattle.std.specs.Option.{option_map};
+ghost use Rattle.std.specs.List.{list_all};
+ghost use Rattle.e_literal.specs.Rename;
+ghost use Rattle.e_literal.specs.Rename.{image_in, paired};
+ghost use Rattle.e_theorem.specs.Statements.{stated};
+ghost use Rattle.e_deriv.specs.Fitting.{is_small_statement};
+ghost use Rattle.e_deriv.specs.Goal;
+ghost use Rattle.e_book.specs.Limits.{most_theorems};
+ghost use Rattle.e_book.specs.Headed.{stated_by};
+ghost use Rattle.e_book.specs.Reading.{Gives, each, or_malformed};
+ghost use Rattle.e_book.specs.Blocks.{made_in};
+ghost use Rattle.e_book.specs.Steps.{FitsScope};
+ghost use Rattle.e_read.specs.Needs;
+ghost use Rattle.e_read.specs.Needs.{open_goal, one_each, needs_in, due_of};
+
+use crate::kept::Certs;
+use crate::owed::Due;
+use e_book::{
+    Draft, Form, Kind, Known, Opened, Outer, RawApply, Trouble, apply_in, let_in, lit_in, qed_in,
+    scope_of_names, superpose_in,
+};
+use e_literal::{Items, Lit, Map, Obj, Scope, Sort, grown, next_objects, renamed};
+use e_text::Name;
+use e_theorem::{Statement, UseFault, use_of};
+use std::alloc::{AllocError, Global};
+
+/// One certificate for each of these literals.
+fn one_each(alloc: Global, wanted: Items<Lit>) -> Due
+    ensures { result ≡ one_each wanted }
+{
+    Due::Literals {
+        wanted,
+        certs: Certs::new(alloc),
+        transfer: None,
+    }
+}
+
+/// The arguments, none of which is a blank.
+fn written(alloc: Global, pattern: &[Option<Obj>]) -> Result<Items<Obj>, Trouble>
+    ensures { Gives (λ a. a) result (each or_malformed pattern.now) }
+{
+    let mut args = Items::empty(alloc);
+    for entry in pattern {
+        match *entry {
+            Some(object) => args.push(object)?,
+            None => return Err(Trouble::Fault(Kind::Malformed)),
+        }
+    }
+    Ok(args)
+}
+
+/// The given literals of an earlier theorem at its arguments.
+fn needs_in(
+    alloc: Global,
+    scope: Scope,
+    statement: &Statement,
+    pattern: &[Option<Obj>],
+) -> Result<Items<Lit>, Trouble>
+    requires few { length statement.now.declared + length statement.now.made < 2 ^ 15 }
+    requires points { scope.points < 2 ^ 15 }
+    requires lines { scope.lines < 2 ^ 15 }
+    requires circles { scope.circles < 2 ^ 15 }
+    ensures { Gives (λ l. l) result (needs_in scope (stated statement.now) pattern.now) }
+{
+    let args = written(alloc, pattern)?;
+    match use_of(alloc, statement, args.items(), scope) {
+        Ok(used) => Ok(used.needs),
+        Err(UseFault::BadArgs) => Err(Trouble::Fault(Kind::Malformed)),
+        Err(UseFault::NoMemory) => Err(Trouble::NoMemory),
+    }
+}
+
+/// What an application owes.
+fn needs_of_use(
+    alloc: Global,
+    known: &Known,
+    draft: &Draft,
+    raw: &RawApply,
+) -> Result<Items<Lit>, Trouble>
+    requires draft { FitsScope draft.now }
+    requires few { length known.now ≤ most_theorems }
+    requires known { IsTrue (list_all is_small_statement (stated_by known.now)) }
+    ensures { Gives (λ l. l) result (Needs.needs_of_use known.now draft.now raw.now) }
+{
+    let used = apply_in(alloc, known, &draft.in_scope, raw)?;
+    let statement = known.statement(used.theorem as usize);
+    needs_in(alloc, scope_of_names(&draft.in_scope), statement, used.args.items())
+}
+
+/// What the innermost claim or superposition of these blocks shows, if there is one.
+fn claimed(outers: &[Outer]) -> Option<&[Lit]>
+    ensures { option_map (λ l. l.now) result ≡ Needs.claimed (reverse outers.now) }
+{
+    let [outers @ .., outer] = outers else {
+        return None;
+    };
+    match &outer.opened {
+        Opened::Claim { shown } => Some(shown.items()),
+        Opened::Superpose { shown, .. } => Some(shown.items()),
+        Opened::First { .. } | Opened::Second { .. } => claimed(outers),
+    }
+}
+
+/// The literals with objects for the made ones in them.
+fn with_objects(
+    alloc: Global,
+    made: &[Obj],
+    shown: &[Lit],
+    objects: &[Obj],
+) -> Result<Items<Lit>, AllocError>
+    requires one_sort { map (λ o. o.sort) made.now ≡ map (λ o. o.sort) objects.now }
+    ensures { IfOk result (λ ls. ls ≡ map (Rename.renamed (image_in (paired made.now objects.now))) shown.now) }
+{
+    let images = Map::paired(alloc, made, objects)?;
+    let mut with = Items::empty(alloc);
+    for lit in shown {
+        let lit = renamed(alloc, lit, &images)?;
+        with.push(lit)?;
+    }
+    Ok(with)
+}
+
+const NOTHING: Scope = Scope {
+    points: 0,
+    lines: 0,
+    circles: 0,
+};
+
+/// The literals of the goal of the open block with these objects for its made ones.
+fn goal_with(alloc: Global, draft: &Draft, objects: &[Obj]) -> Result<Items<Lit>, AllocError>
+    requires draft { FitsScope draft.now }
+    requires sorts { map (λ o. o.sort) objects.now ≡ made_in draft.now.outers draft.now.made }
+    ensures { IfOk result (λ ls. ls ≡ Goal.goal_with (open_goal draft.now) objects.now) }
+{
+    match claimed(draft.outers.items()) {
+        Some(shown) => with_objects(alloc, &[], shown, objects),
+        None => {
+            let declared = grown(NOTHING, draft.declared.items());
+            let made = next_objects(alloc, declared, draft.made.items())?;
+            with_objects(alloc, &made, draft.shown.items(), objects)
+        }
+    }
+}
+
+/// The made objects of the goal of the open block.
+fn goal_made(draft: &Draft) -> &[Sort]
+    ensures { result.now ≡ made_in draft.now.outers draft.now.made }
+{
+    if draft.outers.has_claim() {
+        return &[];
+    }
+    draft.made.items()
+}
+
+/// What a close by `qed` owes.
+fn needs_at_qed(alloc: Global, draft: &Draft, names: &[Name]) -> Result<Items<Lit>, Trouble>
+    requires { FitsScope draft.now }
+    ensures { Gives (λ l. l) result (Needs.needs_at_qed draft.now names.now) }
+{
+    let objects = qed_in(alloc, &draft.in_scope, goal_made(draft), names)?;
+    let needs = goal_with(alloc, draft, objects.items())?;
+    Ok(needs)
+}
+
+/// What a line owes.
+#[tactic(auto, unfolding(crate::specs::Needs::due_of))]
+pub(crate) fn due_of(
+    alloc: Global,
+    known: &Known,
+    draft: &Draft,
+    form: &Form,
+) -> Result<Due, Trouble>
+    requires draft { FitsScope draft.now }
+    requires few { length known.now ≤ most_theorems }
+    requires known { IsTrue (list_all is_small_statement (stated_by known.now)) }
+    ensures { Gives (λ d. d) result (due_of known.now draft.now form.now) }
+{
+    match form {
+        Form::Hence(raw) => {
+            let mut wanted = Items::empty(alloc);
+            let lit = lit_in(alloc, &draft.in_scope, raw)?;
+            wanted.push(lit)?;
+            Ok(one_each(alloc, wanted))
+        }
+        Form::Let(raw) => {
+            let form = let_in(alloc, &draft.in_scope, raw)?;
+            let needs = form.needs(alloc)?;
+            Ok(one_each(alloc, Items::new(needs)))
+        }
+        Form::Apply(raw) => {
+            let needs = needs_of_use(alloc, known, draft, raw)?;
+            Ok(one_each(alloc, needs))
+        }
+        Form::Superpose(raw) => {
+            let placement = superpose_in(alloc, &draft.in_scope, raw)?;
+            let needs = placement.form.needs(alloc)?;
+            Ok(one_each(alloc, Items::new(needs)))
+        }
+        Form::Qed(names) => {
+            let needs = needs_at_qed(alloc, draft, names.items())?;
+            Ok(one_each(alloc, needs))
+        }
+        Form::Contradiction => Ok(Due::Contradiction { against: None }),
+        _ => Ok(Due::Nothing),
+    }
+}

@@ -1,0 +1,477 @@
+//! The certificates that a line owes, while their lines come.
+ghost use Rattle.std.specs.Prelude.{◌≡◌, ◌+◌, ◌++◌, ◌∷◌, [], length, IfOk, Some, None};
+ghost use Rattle.e_clause.specs.Instance.{place_of};
+ghost use Rattle.e_clause.specs.declared.cert.Part.TheVariants as parts;
+ghost use Rattle.e_book.specs.Reading.{Gives};
+ghost use Rattle.e_book.specs.Scope.{FewNames};
+ghost use Rattle.e_read.specs.Owed.{fact_in, row_in, with_row, row_put, sum_begun, differs_put, sums_ended, has_more, transfer_put, part_put, metric_put, takes_metric, clash_put, transfer_rule, count_others, transfer_in, transfer_begun, ended, marked, kept_of, settled};
+
+use crate::kept::{Certs, Kept, Rows};
+use crate::mark::{Mark, RawRow};
+use e_book::{Kind, RawLit, Trouble, args_in, few_monos, lit_in, term_in};
+use e_clause::{
+    Against, Cert, InstanceFault, MetricCert, Part, RowName, Rule, Sums, TransferCert, instance,
+};
+use e_deriv::Names;
+use e_literal::{Items, Lit, Obj, same};
+use e_text::{Name, Title};
+use std::alloc::Global;
+use std::slice;
+
+/// How many rows a sum may have.
+const MAX_ROWS: usize = 4_096;
+
+/// The sums of a metric certificate while they come.
+#[derive(Debug, Drop)]
+pub(crate) enum OpenSums {
+    /// Behind the head.
+    Begun,
+    /// The rows of the one sum so far.
+    One(Rows),
+    /// Behind the row that differs.
+    Differs(RowName),
+    /// The rows of the first of two sums so far, behind the row that differs.
+    Above(RowName, Rows),
+    /// The rows of the second, behind those of the first.
+    Below(RowName, Rows, Rows),
+}
+
+/// A transfer while its parts come.
+#[derive(Debug, Drop)]
+pub(crate) struct OpenTransfer {
+    pub rule: Rule,
+    pub args: Items<Obj>,
+    pub parts: Items<Part>,
+    /// How many parts it has in all.
+    pub owed: usize,
+}
+
+/// What certificates a line has.
+#[derive(Debug, Drop)]
+pub(crate) enum Due {
+    /// None.
+    Nothing,
+    /// One for each of these literals.
+    Literals {
+        wanted: Items<Lit>,
+        certs: Certs,
+        transfer: Option<OpenTransfer>,
+    },
+    /// One of a contradiction.
+    Contradiction {
+        against: Option<Against>,
+    },
+}
+
+/// What a line owes, and what of it was read.
+#[derive(Debug, Drop)]
+pub(crate) struct Owed {
+    /// The names in scope before the line.
+    pub names: Names,
+    pub due: Due,
+    /// A metric certificate that is begun.
+    pub sums: Option<OpenSums>,
+}
+
+fn malformed() -> Trouble
+    ensures { result ≡ Trouble.Fault Kind.Malformed }
+{
+    Trouble::Fault(Kind::Malformed)
+}
+
+/// A literal of a certificate: its names, and then its limits.
+fn fact_in(alloc: Global, names: &Names, raw: &RawLit) -> Result<Lit, Trouble>
+    requires { FewNames names.now }
+    ensures { Gives (λ l. l) result (fact_in names.now raw.now) }
+{
+    let lit = lit_in(alloc, names, raw)?;
+    few_monos(slice::from_ref(raw))?;
+    Ok(lit)
+}
+
+#[tactic(auto, unfolding(crate::specs::Owed::row_in))]
+fn row_in(alloc: Global, names: &Names, row: &RawRow) -> Result<RowName, Trouble>
+    requires { FewNames names.now }
+    ensures { Gives (λ r. r) result (row_in names.now row.now) }
+{
+    match row {
+        RawRow::Fact(raw) => Ok(RowName::Fact(fact_in(alloc, names, raw)?)),
+        RawRow::Goal => Ok(RowName::Goal),
+        RawRow::Pos(raw) => Ok(RowName::Pos(term_in(names, raw)?)),
+        RawRow::Top(raw) => Ok(RowName::Top(term_in(names, raw)?)),
+        RawRow::Right => Ok(RowName::Right),
+        RawRow::Least(raw) => Ok(RowName::Least(term_in(names, raw)?)),
+        RawRow::Above => Ok(RowName::Above),
+        RawRow::Below => Ok(RowName::Below),
+    }
+}
+
+/// The sum with one more row.
+fn with_row(sum: Rows, multiplier: i128, row: RowName) -> Result<Rows, Trouble>
+    ensures { Gives (λ s. s) result (with_row sum multiplier row) }
+{
+    let mut sum = sum;
+    if sum.len() >= MAX_ROWS {
+        return Err(malformed());
+    }
+    sum.push(multiplier, row)?;
+    Ok(sum)
+}
+
+/// A row comes where a sum is begun.
+fn row_put(sums: Option<OpenSums>, multiplier: i128, row: RowName) -> Result<OpenSums, Trouble>
+    ensures { Gives (λ s. s) result (row_put sums multiplier row) }
+{
+    match sums {
+        Some(OpenSums::One(sum)) => Ok(OpenSums::One(with_row(sum, multiplier, row)?)),
+        Some(OpenSums::Above(differs, sum)) => {
+            Ok(OpenSums::Above(differs, with_row(sum, multiplier, row)?))
+        }
+        Some(OpenSums::Below(differs, above, sum)) => {
+            Ok(OpenSums::Below(differs, above, with_row(sum, multiplier, row)?))
+        }
+        _ => Err(malformed()),
+    }
+}
+
+/// A sum is begun.
+fn sum_begun(alloc: Global, sums: Option<OpenSums>) -> Result<OpenSums, Trouble>
+    ensures { Gives (λ s. s) result (sum_begun sums) }
+{
+    match sums {
+        Some(OpenSums::Begun) => Ok(OpenSums::One(Rows::new(alloc))),
+        Some(OpenSums::Differs(differs)) => Ok(OpenSums::Above(differs, Rows::new(alloc))),
+        Some(OpenSums::Above(differs, sum)) => {
+            if sum.len() == 0 {
+                return Err(malformed());
+            }
+            Ok(OpenSums::Below(differs, sum, Rows::new(alloc)))
+        }
+        _ => Err(malformed()),
+    }
+}
+
+/// A row that differs comes right behind the head.
+fn differs_put(sums: Option<OpenSums>, differs: RowName) -> Result<OpenSums, Trouble>
+    ensures { Gives (λ s. s) result (differs_put sums differs) }
+{
+    match sums {
+        Some(OpenSums::Begun) => Ok(OpenSums::Differs(differs)),
+        _ => Err(malformed()),
+    }
+}
+
+/// The sums of a metric certificate that ends here.
+fn sums_ended(sums: OpenSums) -> Result<Sums, Trouble>
+    ensures { Gives (λ s. s) result (sums_ended sums) }
+{
+    match sums {
+        OpenSums::One(sum) => {
+            if sum.len() == 0 {
+                return Err(malformed());
+            }
+            Ok(Sums::One(sum.into_sum()))
+        }
+        OpenSums::Below(differs, above, sum) => {
+            if sum.len() == 0 {
+                return Err(malformed());
+            }
+            Ok(Sums::Two {
+                differs,
+                above: above.into_sum(),
+                below: sum.into_sum(),
+            })
+        }
+        _ => Err(malformed()),
+    }
+}
+
+/// The transfer is a certificate once it has all its parts.
+fn transfer_put(
+    wanted: Items<Lit>,
+    certs: Certs,
+    transfer: OpenTransfer,
+) -> Result<Due, Trouble>
+    ensures { Gives (λ d. d) result (transfer_put wanted certs transfer) }
+{
+    let mut certs = certs;
+    if transfer.parts.len() != transfer.owed {
+        return Ok(Due::Literals {
+            wanted,
+            certs,
+            transfer: Some(transfer),
+        });
+    }
+    let OpenTransfer {
+        rule, args, parts, ..
+    } = transfer;
+    certs.push(Cert::Transfer(TransferCert { rule, args, parts }))?;
+    Ok(Due::Literals {
+        wanted,
+        certs,
+        transfer: None,
+    })
+}
+
+/// What needs no rule certifies a part of the transfer that is begun, and else the next literal.
+fn part_put(due: Due, part: Part) -> Result<Due, Trouble>
+    ensures { Gives (λ d. d) result (part_put due part) }
+{
+    let Due::Literals {
+        wanted,
+        certs,
+        transfer,
+    } = due
+    else {
+        return Err(malformed());
+    };
+    match transfer {
+        None => literal_put(wanted, certs, part),
+        Some(transfer) => {
+            let mut transfer = transfer;
+            transfer.parts.push(part)?;
+            transfer_put(wanted, certs, transfer)
+        }
+    }
+}
+
+/// The next literal is certified with no rule.
+fn literal_put(wanted: Items<Lit>, certs: Certs, part: Part) -> Result<Due, Trouble>
+    ensures { Gives (λ d. d) result (part_put (Due.Literals wanted certs None) part) }
+{
+    let mut certs = certs;
+    if certs.len() >= wanted.len() {
+        return Err(malformed());
+    }
+    certs.push(Cert::Plain(part))?;
+    Ok(Due::Literals {
+        wanted,
+        certs,
+        transfer: None,
+    })
+}
+
+/// A metric certificate may be of a contradiction too.
+fn metric_put(due: Due, cert: MetricCert) -> Result<Due, Trouble>
+    ensures { Gives (λ d. d) result (metric_put due cert) }
+{
+    match due {
+        Due::Contradiction { against: None } => Ok(Due::Contradiction {
+            against: Some(Against::Metric(cert)),
+        }),
+        other => part_put(other, Part::Metric(cert)),
+    }
+}
+
+fn takes_metric(due: &Due) -> bool
+    ensures { result ≡ takes_metric due.now }
+{
+    match due {
+        Due::Nothing => false,
+        Due::Literals {
+            transfer: Some(_), ..
+        } => true,
+        Due::Literals { wanted, certs, .. } => certs.len() < wanted.len(),
+        Due::Contradiction { against } => against.is_none(),
+    }
+}
+
+fn clash_put(due: Due, lit: Lit) -> Result<Due, Trouble>
+    ensures { Gives (λ d. d) result (clash_put due lit) }
+{
+    match due {
+        Due::Contradiction { against: None } => Ok(Due::Contradiction {
+            against: Some(Against::Clash { lit }),
+        }),
+        _ => Err(malformed()),
+    }
+}
+
+/// The transfer rule with this name.
+fn transfer_rule(name: Title) -> Result<Rule, Trouble>
+    ensures { Gives (λ r. r) result (transfer_rule (place_of name)) }
+{
+    let Some(rule) = Rule::named(name.bytes()) else {
+        return Err(malformed());
+    };
+    if !rule.is_transfer() {
+        return Err(malformed());
+    }
+    Ok(rule)
+}
+
+/// How many places have another literal than the wanted one.
+fn count_others(wanted: &Lit, lits: &[Lit]) -> usize
+    ensures { result ≡ count_others wanted.now lits.now }
+{
+    lits.iter().filter(|lit| !same(lit, wanted)).count()
+}
+
+/// A rule with an object for each of its variables.
+#[tactic(auto, unfolding(crate::specs::Owed::transfer_in))]
+fn transfer_in(
+    alloc: Global,
+    names: &Names,
+    wanted: &Lit,
+    title: Title,
+    raws: &[Name],
+) -> Result<OpenTransfer, Trouble>
+    requires { FewNames names.now }
+    ensures { Gives (λ t. t) result (transfer_in names.now wanted.now title raws.now) }
+{
+    let rule = transfer_rule(title)?;
+    let sig = rule.sig();
+    let count = usize::from(sig.points) + usize::from(sig.lines) + usize::from(sig.circles);
+    if raws.len() != count {
+        return Err(malformed());
+    }
+    let args = args_in(alloc, names, sig, raws)?;
+    match instance(alloc, rule, args.items()) {
+        Ok(lits) => Ok(OpenTransfer {
+            rule,
+            args,
+            parts: Items::empty(alloc),
+            owed: count_others(wanted, &lits),
+        }),
+        Err(InstanceFault::BadArgs) => Err(malformed()),
+        Err(InstanceFault::NoMemory) => Err(Trouble::NoMemory),
+    }
+}
+
+/// A transfer is begun for the next literal.
+fn transfer_begun(
+    alloc: Global,
+    names: &Names,
+    due: Due,
+    title: Title,
+    raws: &[Name],
+) -> Result<Due, Trouble>
+    requires { FewNames names.now }
+    ensures { Gives (λ d. d) result (transfer_begun names.now due title raws.now) }
+{
+    let Due::Literals {
+        wanted,
+        certs,
+        transfer: None,
+    } = due
+    else {
+        return Err(malformed());
+    };
+    let Some(next) = wanted.items().get(certs.len()) else {
+        return Err(malformed());
+    };
+    let transfer = transfer_in(alloc, names, next, title, raws)?;
+    transfer_put(wanted, certs, transfer)
+}
+
+impl Owed {
+    /// A line that is no row and no sum ends the sums before it.
+    fn ended(self) -> Result<Owed, Trouble>
+        requires { FewNames self.names }
+        ensures value { Gives (λ o. o) result (ended self self.sums) }
+        ensures names { IfOk result (λ o. o.names ≡ self.names) }
+    {
+        let Owed { names, due, sums } = self;
+        let Some(sums) = sums else {
+            return Ok(Owed {
+                names,
+                due,
+                sums: None,
+            });
+        };
+        let sums = sums_ended(sums)?;
+        let due = metric_put(due, MetricCert { sums })?;
+        Ok(Owed {
+            names,
+            due,
+            sums: None,
+        })
+    }
+
+    /// What is owed behind a line of a certificate.
+    #[tactic(auto, unfolding(crate::specs::Owed::marked))]
+    pub(crate) fn marked(self, alloc: Global, mark: &Mark) -> Result<Owed, Trouble>
+        requires { FewNames self.names }
+        ensures value { Gives (λ o. o) result (marked self mark.now) }
+        ensures names { IfOk result (λ o. o.names ≡ self.names) }
+    {
+        match mark {
+            Mark::Fact => {
+                let Owed { names, due, sums } = self.ended()?;
+                let due = part_put(due, Part::Fact)?;
+                Ok(Owed { names, due, sums })
+            }
+            Mark::Metric => {
+                let Owed { names, due, .. } = self.ended()?;
+                if !takes_metric(&due) {
+                    return Err(malformed());
+                }
+                let sums = Some(OpenSums::Begun);
+                Ok(Owed { names, due, sums })
+            }
+            Mark::Transfer(title, raws) => {
+                let Owed { names, due, sums } = self.ended()?;
+                let due = transfer_begun(alloc, &names, due, *title, raws.items())?;
+                Ok(Owed { names, due, sums })
+            }
+            Mark::Clash(raw) => {
+                let Owed { names, due, sums } = self.ended()?;
+                let lit = lit_in(alloc, &names, raw)?;
+                let due = clash_put(due, lit)?;
+                Ok(Owed { names, due, sums })
+            }
+            Mark::Sum => {
+                let Owed { names, due, sums } = self;
+                let sums = Some(sum_begun(alloc, sums)?);
+                Ok(Owed { names, due, sums })
+            }
+            Mark::Differs(raw) => {
+                let Owed { names, due, sums } = self;
+                let differs = row_in(alloc, &names, raw)?;
+                let sums = Some(differs_put(sums, differs)?);
+                Ok(Owed { names, due, sums })
+            }
+            Mark::Row(multiplier, raw) => {
+                let Owed { names, due, sums } = self;
+                let row = row_in(alloc, &names, raw)?;
+                let sums = Some(row_put(sums, *multiplier, row)?);
+                Ok(Owed { names, due, sums })
+            }
+        }
+    }
+
+    /// What was read for the line, where nothing is owed any more.
+    #[tactic(auto, unfolding(crate::specs::Owed::settled))]
+    pub(crate) fn settled(self) -> Result<Option<Kept>, Trouble>
+        requires { FewNames self.names }
+        ensures { Gives (λ k. k) result (settled self) }
+    {
+        let Owed { due, .. } = self.ended()?;
+        kept_of(due)
+    }
+}
+
+fn kept_of(due: Due) -> Result<Option<Kept>, Trouble>
+    ensures { Gives (λ k. k) result (kept_of due) }
+{
+    match due {
+        Due::Nothing => Ok(None),
+        Due::Literals {
+            wanted,
+            certs,
+            transfer: None,
+        } => {
+            if certs.len() < wanted.len() {
+                return Err(malformed());
+            }
+            Ok(Some(Kept::Certs(certs)))
+        }
+        Due::Literals {
+            transfer: Some(_), ..
+        } => Err(malformed()),
+        Due::Contradiction { against: None } => Err(malformed()),
+        Due::Contradiction {
+            against: Some(against),
+        } => Ok(Some(Kept::Against(against))),
+    }
+}

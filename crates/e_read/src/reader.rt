@@ -1,0 +1,118 @@
+//! Derivation texts, block by block.
+ghost use Rattle.std.specs.Prelude.{◌≡◌, ◌≤◌, ◌<◌, length, IfOk, OnOk, IsTrue};
+ghost use Rattle.std.specs.List.{list_all};
+ghost use Rattle.e_text.specs.Lines.{fault_line};
+ghost use Rattle.e_theorem.specs.Statements.{stated};
+ghost use Rattle.e_deriv.specs.Fitting.{is_small_statement};
+ghost use Rattle.e_book.specs.Limits.{most_theorems};
+ghost use Rattle.e_book.specs.Headed.{stated_by};
+ghost use Rattle.e_book.specs.Book.{last_line};
+ghost use Rattle.e_book.specs.Entry.{entry_of};
+ghost use Rattle.e_book.specs.HasSpelling.{HasSpelling};
+ghost use Rattle.e_read.specs.Text.{at_start, piece_from, bare, OfTheorem, TextReads};
+
+use crate::reading::Reading;
+use e_book::{Known, Theorem, Trouble};
+use e_text::{LineFault, Lines};
+use std::alloc::{AllocError, Global};
+use thiserror::Error;
+
+/// What stands in a derivation text.
+#[derive(Debug, Drop)]
+pub enum Piece {
+    /// A theorem with its derivation.
+    Theorem(Theorem),
+    /// The last line, which says how many theorems there are.
+    Last {
+        theorems: u32,
+    },
+}
+
+/// Why a derivation text is refused.
+#[derive(Clone, Copy, Debug, PartialEq, Eq, Error)]
+pub enum TextFault {
+    /// The first line that has no form at its place; or, where the text ends too early, the line behind its last.
+    #[error("line {line} has no form here")]
+    Garbled { line: u64 },
+    #[error("out of memory")]
+    NoMemory,
+}
+
+impl From<AllocError> for TextFault {
+    ghost use Rattle.std.specs.Prelude.{◌≡◌};
+    ghost use Rattle.e_read.specs.declared.reader.TextFault.TheVariants.{NoMemory};
+
+    ghost from_gives = { λ _ e. e ≡ NoMemory };
+
+    fn from(_e: AllocError) -> TextFault {
+        TextFault::NoMemory
+    }
+}
+
+/// The line that a fault names.
+fn faulty_line(fault: LineFault) -> u64
+    ensures { result ≡ fault_line fault }
+{
+    match fault {
+        LineFault::Bytes { line } => line,
+        LineFault::LineBytes { line } => line,
+        LineFault::NotAscii { line } => line,
+    }
+}
+
+/// Reads line by line, up to the end of a theorem or the last line.
+fn read_piece(alloc: Global, lines: &mut Lines, known: &Known) -> Result<Piece, TextFault>
+    requires few { length known.now ≤ most_theorems }
+    requires known { IsTrue (list_all is_small_statement (stated_by known.now)) }
+    ensures read { TextReads known.now result lines.new (piece_from known.now (last_line lines.old) at_start lines.old.lines) }
+    ensures last { OnOk result (last_line lines.new ≡ last_line lines.old) }
+    ensures shorter { OnOk result (length lines.new.lines < length lines.old.lines) }
+{
+    let mut reading = Reading::new(alloc);
+    while let Some(line) = lines.next() {
+        let line = match line {
+            Ok(line) => line,
+            Err(fault) => {
+                return Err(TextFault::Garbled {
+                    line: faulty_line(fault),
+                });
+            }
+        };
+        if reading.is_end(alloc, known, line)? {
+            return Ok(Piece::Last {
+                theorems: known.len() as u32,
+            });
+        }
+        let number = line.number;
+        let next = match reading.taking(alloc, known, line) {
+            Ok(next) => next,
+            Err(Trouble::NoMemory) => return Err(TextFault::NoMemory),
+            Err(Trouble::Fault(_)) => return Err(TextFault::Garbled { line: number }),
+        };
+        if next.is_finished() {
+            let theorem = next.into_theorem(alloc)?;
+            return Ok(Piece::Theorem(theorem));
+        }
+        reading = next;
+    }
+    Err(TextFault::Garbled { line: lines.line() })
+}
+
+/// The next theorem with its derivation, or the last line.
+///
+/// It takes the lines up to the theorem's `end`, or the last line alone. A line is garbled where it is the first that has no form
+/// at its place; after that the lines are not used again. The lines are those of a text with at most 262,144 bytes a line.
+/// The known theorems are statements, as each is that is read.
+pub fn read(alloc: Global, lines: &mut Lines, known: &Known) -> Result<Piece, TextFault>
+    requires few { length known.now ≤ most_theorems }
+    requires known { IsTrue (list_all is_small_statement (stated_by known.now)) }
+    ensures read { TextReads known.now result lines.new (piece_from known.now (last_line lines.old) at_start lines.old.lines) }
+    ensures last { OnOk result (last_line lines.new ≡ last_line lines.old) }
+    ensures shorter { OnOk result (length lines.new.lines < length lines.old.lines) }
+    // without its certificates a theorem that is read has a spelling in a book: its title is new, and it is within the limits
+    ensures spelled { IfOk result (OfTheorem (λ t. HasSpelling known.now (bare (entry_of t)))) }
+    // its literals speak of its own objects
+    ensures states { IfOk result (OfTheorem (λ t. IsTrue (is_small_statement (stated t.statement)))) }
+{
+    read_piece(alloc, lines, known)
+}

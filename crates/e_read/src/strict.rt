@@ -1,0 +1,138 @@
+//! Lines in the one spelling of a derivation.
+ghost use Rattle.std.specs.Prelude.{◌≡◌, is_some};
+ghost use Rattle.std.specs.List.{list_all};
+ghost use Rattle.e_text.specs.Tokens.{tokens_of};
+ghost use Rattle.e_literal.specs.Scopes.{same_sort};
+ghost use Rattle.e_book.specs.Reading.{texts, Gives};
+ghost use Rattle.e_read.specs.Strict.{is_less, is_direct, are_direct, is_strict, strict_form, is_strict_row, is_strict_mark, strict_mark, ends_with, is_apart};
+
+use crate::lines::put_form;
+use crate::mark::{Mark, RawRow, mark_of};
+use crate::marks::put_mark;
+use e_book::{Draft, Form, Kind, RawAtom, RawLit, Trouble, form_of};
+use e_literal::Sort;
+use e_text::Name;
+use std::alloc::Global;
+
+fn is_less(atom: &RawAtom) -> bool
+    ensures { result ≡ is_less atom.now }
+{
+    matches!(atom, RawAtom::SumsLess(_, _))
+}
+
+/// Whether the literal is no negation of a sum being less: that is written with the sides exchanged.
+fn is_direct(lit: &RawLit) -> bool
+    ensures { result ≡ is_direct lit.now }
+{
+    !(lit.neg && is_less(&lit.atom))
+}
+
+fn are_direct(lits: &[RawLit]) -> bool
+    ensures { result ≡ are_direct lits.now }
+{
+    lits.iter().all(|lit| is_direct(lit))
+}
+
+fn have_no_blank(args: &[Option<Name>]) -> bool
+    ensures { result ≡ list_all is_some args.now }
+{
+    args.iter().all(|argument| argument.is_some())
+}
+
+/// Whether the literals are direct, one on a given or show line, and no argument is a blank.
+fn is_strict(form: &Form) -> bool
+    ensures { result ≡ is_strict form.now }
+{
+    match form {
+        Form::Given(lits) => lits.len() == 1 && are_direct(lits.items()),
+        Form::Show(lits) => lits.len() == 1 && are_direct(lits.items()),
+        Form::Hence(lit) => is_direct(lit),
+        Form::Apply(raw) => have_no_blank(raw.args.items()),
+        Form::Claim(lits) => are_direct(lits.items()),
+        Form::Superpose(raw) => are_direct(raw.shown.items()),
+        Form::Cases(lit) => is_direct(lit),
+        _ => true,
+    }
+}
+
+/// The form of a line that is spelled as this form is. The words are those of the line.
+#[tactic(auto, unfolding(crate::specs::Strict::strict_form))]
+pub(crate) fn strict_form(alloc: Global, line: &[u8], words: &[&[u8]]) -> Result<Form, Trouble>
+    requires { texts words.now ≡ tokens_of line.now }
+    ensures { Gives (λ f. f) result (strict_form line.now) }
+{
+    let form = form_of(alloc, words)?;
+    let mut again = Vec::new(alloc);
+    put_form(&mut again, &form)?;
+    if is_strict(&form) && line == again.as_slice() {
+        Ok(form)
+    } else {
+        Err(Trouble::Fault(Kind::Malformed))
+    }
+}
+
+fn is_strict_row(row: &RawRow) -> bool
+    ensures { result ≡ is_strict_row row.now }
+{
+    match row {
+        RawRow::Fact(lit) => is_direct(lit),
+        _ => true,
+    }
+}
+
+fn is_strict_mark(mark: &Mark) -> bool
+    ensures { result ≡ is_strict_mark mark.now }
+{
+    match mark {
+        Mark::Differs(row) => is_strict_row(row),
+        Mark::Row(_, row) => is_strict_row(row),
+        _ => true,
+    }
+}
+
+/// The same of a line of a certificate, where these are the words behind its sign.
+#[tactic(auto, unfolding(crate::specs::Strict::strict_mark))]
+pub(crate) fn strict_mark(alloc: Global, line: &[u8], words: &[&[u8]]) -> Result<Mark, Trouble>
+    ensures { Gives (λ m. m) result (strict_mark line.now (texts words.now)) }
+{
+    let mark = mark_of(alloc, words)?;
+    let mut again = Vec::new(alloc);
+    put_mark(&mut again, &mark)?;
+    if is_strict_mark(&mark) && line == again.as_slice() {
+        Ok(mark)
+    } else {
+        Err(Trouble::Fault(Kind::Malformed))
+    }
+}
+
+fn is_sort(a: Sort, b: Sort) -> bool
+    ensures { result ≡ same_sort a b }
+{
+    match (a, b) {
+        (Sort::Point, Sort::Point) => true,
+        (Sort::Line, Sort::Line) => true,
+        (Sort::Circle, Sort::Circle) => true,
+        _ => false,
+    }
+}
+
+/// Whether the last of these objects has this sort.
+fn ends_with(sorts: &[Sort], sort: Sort) -> bool
+    ensures { result ≡ ends_with sorts.now sort }
+{
+    match sorts {
+        [] => false,
+        [.., last] => is_sort(*last, sort),
+    }
+}
+
+/// Whether the line is no neighbour of one that has objects of its sort too.
+pub(crate) fn is_apart(draft: &Draft, form: &Form) -> bool
+    ensures { result ≡ is_apart draft.now form.now }
+{
+    match form {
+        Form::Declare(sort, _) => !ends_with(draft.declared.items(), *sort),
+        Form::Made(sort, _) => !ends_with(draft.made.items(), *sort),
+        _ => true,
+    }
+}
