@@ -8,6 +8,7 @@ ghost use Rattle.e_clause.specs.Certify;
 ghost use Rattle.e_clause.specs.MetricCertificate;
 ghost use Rattle.e_clause.specs.PartCertificate;
 ghost use Rattle.e_clause.specs.TransferCertificate;
+ghost use Rattle.e_deriv.specs.Steps;
 
 use e_clause::{Cert, Part, RowName, Sum, Sums, TransferCert};
 use e_literal::{Lit, Obj, Scope, Term, count, in_scope};
@@ -84,7 +85,7 @@ fn name_in(scope: Scope, name: &RowName) -> bool
 
 /// Whether all objects of the literals are in scope.
 pub fn are_over(scope: Scope, lits: &[Lit]) -> bool
-    ensures { result ≡ Rattle.e_deriv.specs.Steps.are_over scope lits.now }
+    ensures { result ≡ Steps.are_over scope lits.now }
 {
     lits.iter().all(|lit| in_scope(lit, scope))
 }
