@@ -12,3 +12,4 @@ pub mod Closing
 pub mod Passing
 pub mod Inside
 pub mod Verified
+pub mod Examples

@@ -5,3 +5,4 @@ pub mod Written
 pub mod Standing
 pub mod Checking
 pub mod Verdicts
+pub mod Examples

@@ -9,7 +9,7 @@ ghost use Rattle.e_literal.specs.Scopes;
 ghost use Rattle.e_literal.specs.Use.{Stated};
 ghost use Rattle.e_literal.specs.WellFormed.{is_well_formed};
 ghost use Rattle.e_deriv.specs.Certified.{is_certified};
-ghost use Rattle.e_deriv.specs.Goal.{Goal as BlockGoal, are_for};
+ghost use Rattle.e_deriv.specs.Goal.{Goal as BlockGoal};
 ghost use Rattle.e_deriv.specs.Script.{Qed, Contradiction};
 ghost use Rattle.e_verify.specs.Checking.{line_at};
 ghost use Rattle.e_verify.specs.Standing.{goal_said};

@@ -20,3 +20,6 @@ mod verifier;
 
 pub use reject::Reject;
 pub use verifier::verify;
+
+#[cfg(test)]
+mod tests;
