@@ -1,2 +1,5 @@
 mod Passing
 pub mod OneJudgement
+mod WithCertificates
+mod GoodMarks
+mod Verifiable

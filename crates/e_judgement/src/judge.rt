@@ -3,7 +3,7 @@ ghost use Rattle.std.specs.Prelude.{◌≡◌, ◌≤◌, ◌<◌, ◌^◌, ◌+
 ghost use Rattle.e_text.specs.Lines.{seen, fault_line};
 ghost use Rattle.e_book.specs.Book.{last_line};
 ghost use Rattle.e_book.specs.Headed.{headed, is_known};
-ghost use Rattle.e_judgement.specs.Judged.{is_lf_end, is_head, number_of, JudgesText, JudgesLines, JudgedBehind, IsJudged};
+ghost use Rattle.e_judgement.specs.Judged.{is_lf_end, is_head, JudgesText, JudgesLines, JudgedBehind, IsJudged};
 
 use crate::judgement::Judgement;
 use e_book::{Known, Theorem};
@@ -22,14 +22,14 @@ fn is_head(line: &Line) -> bool
     matches!(line.end, LineEnd::Lf) && line.bytes == b"derivation 1".as_slice()
 }
 
-/// The number of a line, or of the line that has the fault.
-fn number_of(line: &Result<Line, LineFault>) -> u64
+/// The line that a fault names.
+fn faulty_line(fault: LineFault) -> u64
+    ensures { result ≡ fault_line fault }
 {
-    match line {
-        Ok(line) => line.number,
-        Err(LineFault::Bytes { line }) => *line,
-        Err(LineFault::LineBytes { line }) => *line,
-        Err(LineFault::NotAscii { line }) => *line,
+    match fault {
+        LineFault::Bytes { line } => line,
+        LineFault::LineBytes { line } => line,
+        LineFault::NotAscii { line } => line,
     }
 }
 
@@ -39,8 +39,9 @@ fn behind_the_last(lines: &mut Lines, theorems: u32) -> Judgement
 {
     match lines.next() {
         None => Judgement::Verified { theorems },
-        Some(line) => Judgement::Garbled {
-            line: number_of(&line),
+        Some(Ok(line)) => Judgement::Garbled { line: line.number },
+        Some(Err(fault)) => Judgement::Garbled {
+            line: faulty_line(fault),
         },
     }
 }

@@ -1,0 +1,388 @@
+-- The literals of certificates that are read are well formed.
+use Rattle.std.proofs.Common.{◌≡◌, ℕ, ◌+◌, ℤ, Bool, true, false, cond, ◌&&◌, ltb, List, [], ◌∷◌, ◌++◌, length, Option, Some, None, Result, Ok, Err, refl, sym, ap, subst, ◌∙◌}
+use Rattle.std.specs.Prelude.{codes, slice_get, ◌==◌}
+use Rattle.std.specs.List.{list_all}
+use Rattle.std.specs.Str.{bytes_eq}
+use Rattle.std.specs.Option.{option_to_list, option_map_or}
+use Rattle.e_literal.specs.declared.literal.Lit.{Lit}
+use Rattle.e_literal.specs.declared.object.Obj.{Obj}
+use Rattle.e_literal.specs.WellFormed.{is_well_formed}
+use Rattle.e_clause.specs.declared.cert.RowName.{RowName}
+use Rattle.e_clause.specs.declared.cert.RowName.TheVariants as names
+use Rattle.e_clause.specs.declared.cert.Sums.{Sums}
+use Rattle.e_clause.specs.declared.cert.Sums.TheVariants.{One, Two}
+use Rattle.e_clause.specs.declared.cert.MetricCert.{MetricCert}
+use Rattle.e_clause.specs.declared.cert.Part.{Part}
+use Rattle.e_clause.specs.declared.cert.Part.TheVariants as parts
+use Rattle.e_clause.specs.declared.cert.Cert.{Cert}
+use Rattle.e_clause.specs.declared.cert.Cert.TheVariants.{Plain}
+use Rattle.e_clause.specs.declared.cert.Against.TheVariants as against
+use Rattle.e_clause.specs.declared.rule.Sig.{Sig}
+use Rattle.e_clause.specs.Instance.{Inst, place_of}
+use Rattle.e_clause.specs.Sigs.{sig_of}
+use Rattle.e_deriv.specs.declared.names.Names.{Names}
+use Rattle.e_book.specs.declared.fault.Kind.{Kind}
+use Rattle.e_book.specs.declared.fault.Kind.TheVariants.{Malformed}
+use Rattle.e_book.specs.declared.literal.RawLit.{RawLit}
+use Rattle.e_book.specs.Reading.{◌>>=◌, or_malformed, title_at, end_at, names_of}
+use Rattle.e_book.specs.Sums.{term_of}
+use Rattle.e_book.specs.Literals.{lit_of, diagram_lit_of}
+use Rattle.e_book.specs.Scope.{lit_in, lits_in, term_in, args_in, variables_of, right_count}
+use Rattle.e_book.specs.Steps.{few_monos}
+use Rattle.e_book.proofs.Answered.{and, appended}
+use Rattle.e_book.proofs.Differ.{both}
+use Rattle.e_book.proofs.InScope.{bind_ok, ok_is, read_ok}
+use Rattle.e_book.proofs.KeptSums.{few_ok}
+use Rattle.e_book.proofs.SaidLits.{AtomSaid, lit_said}
+use Rattle.e_book.proofs.WellRead.{good_lits}
+use Rattle.e_read.specs.declared.mark.RawRow.{RawRow}
+use Rattle.e_read.specs.declared.mark.RawRow.TheVariants as rows
+use Rattle.e_read.specs.declared.mark.Mark.{Mark}
+use Rattle.e_read.specs.declared.mark.Mark.TheVariants as marks
+use Rattle.e_read.specs.declared.owed.OpenSums.{OpenSums}
+use Rattle.e_read.specs.declared.owed.OpenSums.TheVariants as sums
+use Rattle.e_read.specs.declared.owed.OpenTransfer.{OpenTransfer}
+use Rattle.e_read.specs.declared.owed.Due.{Due}
+use Rattle.e_read.specs.declared.owed.Due.TheVariants as due
+use Rattle.e_read.specs.declared.owed.Owed.{Owed}
+use Rattle.e_read.specs.declared.kept.Kept.{Kept}
+use Rattle.e_read.specs.declared.kept.Kept.TheVariants as kept
+use Rattle.e_read.specs.Marks.{multiplier_of, bare_row, row_named, row_of, may_differ, bare, differs_of, transfer_of, row_mark_of, mark_named, mark_of, mark_line}
+use Rattle.e_read.specs.Strict.{is_strict_mark, strict_mark}
+use Rattle.e_read.specs.Owed.{most_rows, fact_in, row_in, with_row, row_put, sum_begun, differs_put, sums_ended, has_more, certificate, transfer_put, part_put, metric_put, takes_metric, clash_put, transfer_rule, count_others, transfer_in, transfer_begun, ended, sums_behind, due_behind, marked, kept_of, settled}
+use Rattle.e_read.proofs.TakenLines.{passed}
+use Rattle.e_verify.specs.Written.{is_good_name, is_good_sum, is_good_sums, is_good_part, is_good_cert, is_good_against}
+use Rattle.e_judgement.proofs.WithCertificates.{is_good_kept, AreGood}
+
+-- ---- what is said: no coefficient of a row's literal is 0
+
+abbrev RowSaid : RawRow → Type 0
+RowSaid (rows.Fact l) = AtomSaid l.atom
+RowSaid row = Unit {0}
+
+abbrev MarkSaid : Mark → Type 0
+MarkSaid (marks.Differs r) = RowSaid r
+MarkSaid (marks.Row m r) = RowSaid r
+MarkSaid mark = Unit {0}
+
+either : {A : Type 0} (P : A → Type 0) (b : Bool) (x y : Result A Kind) (z : A) → cond b x y ≡ Ok z → (x ≡ Ok z → P z) → (y ≡ Ok z → P z) → P z
+either P true x y z e hx hy = hx e
+either P false x y z e hx hy = hy e
+
+bare_said : (ws : List (List ℕ)) (row r : RawRow) → RowSaid row → bare_row ws row ≡ Ok r → RowSaid r
+bare_said ws row r h e = let n = bind_ok (end_at ws) (λ none. read_ok row) r e in subst RowSaid (ok_is row r n.2) h
+
+term_said : (ws : List (List ℕ)) (f : _) (r : RawRow) → ((t : _) → RowSaid (f t)) → (term_of ws >>= λ t. read_ok (f t)) ≡ Ok r → RowSaid r
+term_said ws f r h e = let t = bind_ok (term_of ws) (λ t. read_ok (f t)) r e in subst RowSaid (ok_is (f t.0) r t.2) (h t.0)
+
+fact_said : (ws : List (List ℕ)) (r : RawRow) → (lit_of ws >>= λ l. read_ok (rows.Fact l)) ≡ Ok r → RowSaid r
+fact_said ws r e = let l = bind_ok (lit_of ws) (λ l. read_ok (rows.Fact l)) r e in subst RowSaid (ok_is (rows.Fact l.0) r l.2) (lit_said ws l.0 l.1)
+
+named_said : (w : List ℕ) (ws : List (List ℕ)) (r : RawRow) → row_named w ws ≡ Ok r → RowSaid r
+unfolding row_named
+named_said w ws r e =
+    let none : Result RawRow Kind = Err Malformed in
+    let r7 = cond (bytes_eq w (codes "below")) (bare_row ws rows.Below) none in
+    let r6 = cond (bytes_eq w (codes "above")) (bare_row ws rows.Above) r7 in
+    let r5 = cond (bytes_eq w (codes "least")) (term_of ws >>= λ t. read_ok (rows.Least t)) r6 in
+    let r4 = cond (bytes_eq w (codes "right")) (bare_row ws rows.Right) r5 in
+    let r3 = cond (bytes_eq w (codes "top")) (term_of ws >>= λ t. read_ok (rows.Top t)) r4 in
+    let r2 = cond (bytes_eq w (codes "pos")) (term_of ws >>= λ t. read_ok (rows.Pos t)) r3 in
+    let r1 = cond (bytes_eq w (codes "goal")) (bare_row ws rows.Goal) r2 in
+    either RowSaid (bytes_eq w (codes "fact")) (lit_of ws >>= λ l. read_ok (rows.Fact l)) r1 r e (fact_said ws r) (λ e1.
+    either RowSaid (bytes_eq w (codes "goal")) (bare_row ws rows.Goal) r2 r e1 (bare_said ws rows.Goal r tt) (λ e2.
+    either RowSaid (bytes_eq w (codes "pos")) (term_of ws >>= λ t. read_ok (rows.Pos t)) r3 r e2 (term_said ws rows.Pos r (λ t. tt)) (λ e3.
+    either RowSaid (bytes_eq w (codes "top")) (term_of ws >>= λ t. read_ok (rows.Top t)) r4 r e3 (term_said ws rows.Top r (λ t. tt)) (λ e4.
+    either RowSaid (bytes_eq w (codes "right")) (bare_row ws rows.Right) r5 r e4 (bare_said ws rows.Right r tt) (λ e5.
+    either RowSaid (bytes_eq w (codes "least")) (term_of ws >>= λ t. read_ok (rows.Least t)) r6 r e5 (term_said ws rows.Least r (λ t. tt)) (λ e6.
+    either RowSaid (bytes_eq w (codes "above")) (bare_row ws rows.Above) r7 r e6 (bare_said ws rows.Above r tt) (λ e7.
+    either RowSaid (bytes_eq w (codes "below")) (bare_row ws rows.Below) none r e7 (bare_said ws rows.Below r tt) (λ e8. no_row r e8))))))))
+  where
+    no_row : (r : RawRow) → let none : Result RawRow Kind = Err Malformed in none ≡ Ok r → RowSaid r
+    no_row r h = absurd cc
+
+row_said : (ws : List (List ℕ)) (r : RawRow) → row_of ws ≡ Ok r → RowSaid r
+unfolding row_of
+row_said [] r e = absurd cc
+row_said (w ∷ ws) r e = named_said w ws r e
+
+bare_mark_said : (ws : List (List ℕ)) (mark m : Mark) → MarkSaid mark → bare ws mark ≡ Ok m → MarkSaid m
+bare_mark_said ws mark m h e = let n = bind_ok (end_at ws) (λ none. read_ok mark) m e in subst MarkSaid (ok_is mark m n.2) h
+
+differs_said : (ws : List (List ℕ)) (m : Mark) → differs_of ws ≡ Ok m → MarkSaid m
+unfolding differs_of
+differs_said ws m e =
+    let r = bind_ok (row_of ws) (λ r. cond (may_differ r) (read_ok (marks.Differs r)) (Err Malformed)) m e in
+    subst MarkSaid (ok_is (marks.Differs r.0) m (passed (may_differ r.0) (read_ok (marks.Differs r.0)) m r.2).1) (row_said ws r.0 r.1)
+
+row_mark_said : (w : List ℕ) (ws : List (List ℕ)) (m : Mark) → row_mark_of w ws ≡ Ok m → MarkSaid m
+unfolding row_mark_of
+row_mark_said w ws m e =
+    let n = bind_ok (multiplier_of w) (λ n. row_of ws >>= λ r. read_ok (marks.Row n r)) m e in
+    let r = bind_ok (row_of ws) (λ r. read_ok (marks.Row n.0 r)) m n.2 in
+    subst MarkSaid (ok_is (marks.Row n.0 r.0) m r.2) (row_said ws r.0 r.1)
+
+transfer_said : (ws : List (List ℕ)) (m : Mark) → transfer_of ws ≡ Ok m → MarkSaid m
+unfolding transfer_of
+transfer_said ws m e =
+    let t = bind_ok (title_at ws) (λ t. names_of t.1 >>= λ ns. read_ok (marks.Transfer t.0 ns)) m e in
+    let ns = bind_ok (names_of t.0.1) (λ ns. read_ok (marks.Transfer t.0.0 ns)) m t.2 in
+    subst MarkSaid (ok_is (marks.Transfer t.0.0 ns.0) m ns.2) tt
+
+clash_said : (ws : List (List ℕ)) (m : Mark) → (diagram_lit_of ws >>= λ l. read_ok (marks.Clash l)) ≡ Ok m → MarkSaid m
+clash_said ws m e = let l = bind_ok (diagram_lit_of ws) (λ l. read_ok (marks.Clash l)) m e in subst MarkSaid (ok_is (marks.Clash l.0) m l.2) tt
+
+mark_named_said : (w : List ℕ) (ws : List (List ℕ)) (m : Mark) → mark_named w ws ≡ Ok m → MarkSaid m
+unfolding mark_named
+mark_named_said w ws m e =
+    let m5 = cond (bytes_eq w (codes "differs")) (differs_of ws) (row_mark_of w ws) in
+    let m4 = cond (bytes_eq w (codes "sum")) (bare ws marks.Sum) m5 in
+    let m3 = cond (bytes_eq w (codes "clash")) (diagram_lit_of ws >>= λ l. read_ok (marks.Clash l)) m4 in
+    let m2 = cond (bytes_eq w (codes "transfer")) (transfer_of ws) m3 in
+    let m1 = cond (bytes_eq w (codes "metric")) (bare ws marks.Metric) m2 in
+    either MarkSaid (bytes_eq w (codes "fact")) (bare ws marks.Fact) m1 m e (bare_mark_said ws marks.Fact m tt) (λ e1.
+    either MarkSaid (bytes_eq w (codes "metric")) (bare ws marks.Metric) m2 m e1 (bare_mark_said ws marks.Metric m tt) (λ e2.
+    either MarkSaid (bytes_eq w (codes "transfer")) (transfer_of ws) m3 m e2 (transfer_said ws m) (λ e3.
+    either MarkSaid (bytes_eq w (codes "clash")) (diagram_lit_of ws >>= λ l. read_ok (marks.Clash l)) m4 m e3 (clash_said ws m) (λ e4.
+    either MarkSaid (bytes_eq w (codes "sum")) (bare ws marks.Sum) m5 m e4 (bare_mark_said ws marks.Sum m tt) (λ e5.
+    either MarkSaid (bytes_eq w (codes "differs")) (differs_of ws) (row_mark_of w ws) m e5 (differs_said ws m) (row_mark_said w ws m))))))
+
+mark_said : (ws : List (List ℕ)) (m : Mark) → mark_of ws ≡ Ok m → MarkSaid m
+unfolding mark_of
+mark_said [] m e = absurd cc
+mark_said (w ∷ ws) m e = mark_named_said w ws m e
+
+strict_said : (line : List ℕ) (ws : List (List ℕ)) (m : Mark) → strict_mark line ws ≡ Ok m → MarkSaid m
+unfolding strict_mark
+strict_said line ws m e =
+    let x = bind_ok (mark_of ws) (λ m. cond (is_strict_mark m && bytes_eq line (mark_line m)) (read_ok m) (Err Malformed)) m e in
+    subst MarkSaid (ok_is x.0 m (passed (is_strict_mark x.0 && bytes_eq line (mark_line x.0)) (read_ok x.0) m x.2).1) (mark_said ws x.0 x.1)
+
+-- ---- rows
+
+good_fact : (ns : Names) (raw : RawLit) (l : Lit) → AtomSaid raw.atom → fact_in ns raw ≡ Ok l → is_well_formed l ≡ true
+good_fact ns raw l said e =
+    let x = bind_ok (lit_in ns raw) (λ x. few_monos (raw ∷ []) >>= λ few. read_ok x) l e in
+    let f = bind_ok (few_monos (raw ∷ [])) (λ few. read_ok x.0) l x.2 in
+    let few = few_ok (raw ∷ []) f.0 f.1 in
+    let one : lits_in ns (raw ∷ []) ≡ Ok (x.0 ∷ []) = rw x.1 refl in
+    let good = good_lits ns (raw ∷ []) (x.0 ∷ []) one (said, tt) few.short few.small in
+    subst (λ (y : Lit). is_well_formed y ≡ true) (ok_is x.0 l f.2) (both (is_well_formed x.0) true good).0
+
+abbrev GoodName : RowName → Type 0
+GoodName r = is_good_name r ≡ true
+
+good_row : (ns : Names) (raw : RawRow) (r : RowName) → RowSaid raw → row_in ns raw ≡ Ok r → GoodName r
+unfolding row_in
+good_row ns (rows.Fact raw) r said e =
+    let l = bind_ok (fact_in ns raw) (λ l. read_ok (names.Fact l)) r e in
+    subst GoodName (ok_is (names.Fact l.0) r l.2) (good_fact ns raw l.0 said l.1)
+good_row ns rows.Goal r said e = subst GoodName (ok_is names.Goal r e) refl
+good_row ns (rows.Pos raw) r said e = let t = bind_ok (term_in ns raw) (λ t. read_ok (names.Pos t)) r e in subst GoodName (ok_is (names.Pos t.0) r t.2) refl
+good_row ns (rows.Top raw) r said e = let t = bind_ok (term_in ns raw) (λ t. read_ok (names.Top t)) r e in subst GoodName (ok_is (names.Top t.0) r t.2) refl
+good_row ns rows.Right r said e = subst GoodName (ok_is names.Right r e) refl
+good_row ns (rows.Least raw) r said e = let t = bind_ok (term_in ns raw) (λ t. read_ok (names.Least t)) r e in subst GoodName (ok_is (names.Least t.0) r t.2) refl
+good_row ns rows.Above r said e = subst GoodName (ok_is names.Above r e) refl
+good_row ns rows.Below r said e = subst GoodName (ok_is names.Below r e) refl
+
+-- ---- what is owed
+
+is_good_open : Option OpenSums → Bool
+is_good_open None = true
+is_good_open (Some sums.Begun) = true
+is_good_open (Some (sums.One sum)) = is_good_sum sum
+is_good_open (Some (sums.Differs differs)) = is_good_name differs
+is_good_open (Some (sums.Above differs sum)) = is_good_name differs && is_good_sum sum
+is_good_open (Some (sums.Below differs above sum)) = is_good_name differs && (is_good_sum above && is_good_sum sum)
+
+abbrev are_good_certs : List Cert → Bool
+are_good_certs cs = list_all is_good_cert cs
+
+abbrev are_good_parts : List Part → Bool
+are_good_parts ps = list_all is_good_part ps
+
+is_good_due : Due → Bool
+is_good_due due.Nothing = true
+is_good_due (due.Literals wanted certs None) = are_good_certs certs
+is_good_due (due.Literals wanted certs (Some t)) = are_good_certs certs && are_good_parts t.parts
+is_good_due (due.Contradiction None) = true
+is_good_due (due.Contradiction (Some a)) = is_good_against a
+
+abbrev GoodOpen : Option OpenSums → Type 0
+GoodOpen s = is_good_open s ≡ true
+
+abbrev GoodDue : Due → Type 0
+GoodDue d = is_good_due d ≡ true
+
+pub record GoodOwed (o : Owed) : Type 0 where
+  pub due : GoodDue o.due
+  pub sums : GoodOpen o.sums
+
+to_open : (x s : OpenSums) → GoodOpen (Some x) → read_ok x ≡ Ok s → GoodOpen (Some s)
+to_open x s h e = subst (λ (y : OpenSums). GoodOpen (Some y)) (ok_is x s e) h
+
+to_due : (x d : Due) → GoodDue x → read_ok x ≡ Ok d → GoodDue d
+to_due x d h e = subst GoodDue (ok_is x d e) h
+
+to_owed : (x o : Owed) → GoodOwed x → read_ok x ≡ Ok o → GoodOwed o
+to_owed x o h e = subst GoodOwed (ok_is x o e) h
+
+with_row_good : (sum new : List (ℤ × RowName)) (m : ℤ) (r : RowName) → is_good_sum sum ≡ true → GoodName r → with_row sum m r ≡ Ok new → is_good_sum new ≡ true
+with_row_good sum new m r h k e =
+    let p = passed (ltb (length sum) most_rows) (read_ok (sum ++ (m, r) ∷ [])) new e in
+    subst (λ (x : List (ℤ × RowName)). is_good_sum x ≡ true) (ok_is (sum ++ (m, r) ∷ []) new p.1) (appended (λ (x : ℤ × RowName). is_good_name x.1) sum ((m, r) ∷ []) h (and _ _ k refl))
+
+row_put_good : (s : Option OpenSums) (m : ℤ) (r : RowName) (new : OpenSums) → GoodOpen s → GoodName r → row_put s m r ≡ Ok new → GoodOpen (Some new)
+row_put_good (Some (sums.One sum)) m r new h k e =
+    let x = bind_ok (with_row sum m r) (λ x. read_ok (sums.One x)) new e in
+    to_open (sums.One x.0) new (with_row_good sum x.0 m r h k x.1) x.2
+row_put_good (Some (sums.Above differs sum)) m r new h k e =
+    let x = bind_ok (with_row sum m r) (λ x. read_ok (sums.Above differs x)) new e in
+    let p = both (is_good_name differs) (is_good_sum sum) h in
+    to_open (sums.Above differs x.0) new (and _ _ p.0 (with_row_good sum x.0 m r p.1 k x.1)) x.2
+row_put_good (Some (sums.Below differs above sum)) m r new h k e =
+    let x = bind_ok (with_row sum m r) (λ x. read_ok (sums.Below differs above x)) new e in
+    let p = both (is_good_name differs) (is_good_sum above && is_good_sum sum) h in
+    let q = both (is_good_sum above) (is_good_sum sum) p.1 in
+    to_open (sums.Below differs above x.0) new (and _ _ p.0 (and _ _ q.0 (with_row_good sum x.0 m r q.1 k x.1))) x.2
+row_put_good s m r new h k e = absurd cc
+
+sum_begun_good : (s : Option OpenSums) (new : OpenSums) → GoodOpen s → sum_begun s ≡ Ok new → GoodOpen (Some new)
+sum_begun_good (Some sums.Begun) new h e = to_open (sums.One []) new refl e
+sum_begun_good (Some (sums.Differs differs)) new h e = to_open (sums.Above differs []) new (and _ _ h refl) e
+sum_begun_good (Some (sums.Above differs sum)) new h e =
+    let p = both (is_good_name differs) (is_good_sum sum) h in
+    let x = passed (ltb 0 (length sum)) (read_ok (sums.Below differs sum [])) new e in
+    to_open (sums.Below differs sum []) new (and _ _ p.0 (and _ _ p.1 refl)) x.1
+sum_begun_good s new h e = absurd cc
+
+differs_put_good : (s : Option OpenSums) (r : RowName) (new : OpenSums) → GoodName r → differs_put s r ≡ Ok new → GoodOpen (Some new)
+differs_put_good (Some sums.Begun) r new k e = to_open (sums.Differs r) new k e
+differs_put_good s r new k e = absurd cc
+
+sums_ended_good : (s : OpenSums) (all : Sums) → GoodOpen (Some s) → sums_ended s ≡ Ok all → is_good_sums all ≡ true
+sums_ended_good (sums.One sum) all h e =
+    let x = passed (ltb 0 (length sum)) (read_ok (One sum)) all e in
+    subst (λ (y : Sums). is_good_sums y ≡ true) (ok_is (One sum) all x.1) h
+sums_ended_good (sums.Below differs above sum) all h e =
+    let x = passed (ltb 0 (length sum)) (read_ok (Two differs above sum)) all e in
+    subst (λ (y : Sums). is_good_sums y ≡ true) (ok_is (Two differs above sum) all x.1) h
+sums_ended_good s all h e = absurd cc
+
+-- ---- certificates
+
+transfer_put_good : (wanted : List Lit) (certs : List Cert) (t : OpenTransfer) (new : Due) → are_good_certs certs ≡ true → are_good_parts t.parts ≡ true → transfer_put wanted certs t ≡ Ok new → GoodDue new
+transfer_put_good wanted certs t new h k e =
+    either GoodDue (length t.parts == t.owed) (read_ok (due.Literals wanted (certs ++ certificate t ∷ []) None)) (read_ok (due.Literals wanted certs (Some t))) new e
+    (to_due (due.Literals wanted (certs ++ certificate t ∷ []) None) new (appended is_good_cert certs (certificate t ∷ []) h (and _ _ k refl)))
+    (to_due (due.Literals wanted certs (Some t)) new (and _ _ h k))
+
+part_put_good : (d : Due) (p : Part) (new : Due) → GoodDue d → is_good_part p ≡ true → part_put d p ≡ Ok new → GoodDue new
+part_put_good (due.Literals wanted certs None) p new h k e =
+    let x = passed (has_more wanted certs) (read_ok (due.Literals wanted (certs ++ Plain p ∷ []) None)) new e in
+    to_due (due.Literals wanted (certs ++ Plain p ∷ []) None) new (appended is_good_cert certs (Plain p ∷ []) h (and _ _ k refl)) x.1
+part_put_good (due.Literals wanted certs (Some t)) p new h k e =
+    let q = both (are_good_certs certs) (are_good_parts t.parts) h in
+    transfer_put_good wanted certs (record t { parts = t.parts ++ p ∷ [] }) new q.0 (appended is_good_part t.parts (p ∷ []) q.1 (and _ _ k refl)) e
+part_put_good d p new h k e = absurd cc
+
+metric_put_good : (d : Due) (m : MetricCert) (new : Due) → GoodDue d → is_good_sums m.sums ≡ true → metric_put d m ≡ Ok new → GoodDue new
+metric_put_good (due.Contradiction None) m new h k e = to_due (due.Contradiction (Some (against.Metric m))) new k e
+metric_put_good (due.Contradiction (Some a)) m new h k e = part_put_good (due.Contradiction (Some a)) (parts.Metric m) new h k e
+metric_put_good due.Nothing m new h k e = part_put_good due.Nothing (parts.Metric m) new h k e
+metric_put_good (due.Literals wanted certs t) m new h k e = part_put_good (due.Literals wanted certs t) (parts.Metric m) new h k e
+
+clash_put_good : (d : Due) (l : Lit) (new : Due) → clash_put d l ≡ Ok new → GoodDue new
+clash_put_good (due.Contradiction None) l new e = to_due (due.Contradiction (Some (against.Clash l))) new refl e
+clash_put_good d l new e = absurd cc
+
+-- a transfer that is begun has no part yet
+no_parts : (ns : Names) (l : Lit) (title : List ℕ) (raws : List (List ℕ)) (t : OpenTransfer) → transfer_in ns l title raws ≡ Ok t → are_good_parts t.parts ≡ true
+unfolding transfer_in
+no_parts ns l title raws t e =
+    let then : ℕ → List Obj → List Lit → OpenTransfer = λ r args lits. record { rule = r; args = args; parts = []; owed = count_others l lits } in
+    let last : ℕ → List Obj → Result OpenTransfer Kind = λ r args. or_malformed (Inst r args) >>= λ lits. read_ok (then r args lits) in
+    let third : ℕ → Sig → Result OpenTransfer Kind = λ r s. args_in ns s raws >>= λ args. last r args in
+    let second : ℕ → Sig → Result OpenTransfer Kind = λ r s. right_count (length raws == s.points + s.lines + s.circles) >>= λ right. third r s in
+    let r = bind_ok (transfer_rule (place_of title)) (λ r. variables_of (sig_of r) >>= λ s. second r s) t e in
+    let s = bind_ok (variables_of (sig_of r.0)) (λ s. second r.0 s) t r.2 in
+    let right = bind_ok (right_count (length raws == s.0.points + s.0.lines + s.0.circles)) (λ right. third r.0 s.0) t s.2 in
+    let args = bind_ok (args_in ns s.0 raws) (λ args. last r.0 args) t right.2 in
+    let lits = bind_ok (or_malformed (Inst r.0 args.0)) (λ lits. read_ok (then r.0 args.0 lits)) t args.2 in
+    subst (λ (x : OpenTransfer). are_good_parts x.parts ≡ true) (ok_is (then r.0 args.0 lits.0) t lits.2) refl
+
+transfer_begun_good : (ns : Names) (d : Due) (title : List ℕ) (raws : List (List ℕ)) (new : Due) → GoodDue d → transfer_begun ns d title raws ≡ Ok new → GoodDue new
+transfer_begun_good ns (due.Literals wanted certs None) title raws new h e =
+    let l = bind_ok (or_malformed (slice_get wanted (length certs))) (λ l. transfer_in ns l title raws >>= λ t. transfer_put wanted certs t) new e in
+    let t = bind_ok (transfer_in ns l.0 title raws) (λ t. transfer_put wanted certs t) new l.2 in
+    transfer_put_good wanted certs t.0 new h (no_parts ns l.0 title raws t.0 t.1) t.2
+transfer_begun_good ns d title raws new h e = absurd cc
+
+-- ---- lines
+
+ended_good : (o : Owed) (s : Option OpenSums) (e : Owed) → GoodOwed o → GoodOpen s → ended o s ≡ Ok e → GoodOwed e
+ended_good o None e h k same = to_owed o e h same
+ended_good o (Some s) e h k same =
+    let then : Due → Owed = λ d. record o { due = d; sums = None } in
+    let all = bind_ok (sums_ended s) (λ all. metric_put o.due (record { sums = all }) >>= λ d. read_ok (then d)) e same in
+    let d = bind_ok (metric_put o.due (record { sums = all.0 })) (λ d. read_ok (then d)) e all.2 in
+    to_owed (then d.0) e (record { due = metric_put_good o.due (record { sums = all.0 }) d.0 h.due (sums_ended_good s all.0 k all.1) d.1; sums = refl }) d.2
+
+-- behind a line of a certificate what was read is good
+marked_good : (o : Owed) (m : Mark) (new : Owed) → GoodOwed o → MarkSaid m → marked o m ≡ Ok new → GoodOwed new
+unfolding marked
+marked_good o marks.Fact new h said same =
+    let e = bind_ok (ended o o.sums) (λ e. part_put e.due parts.Fact >>= λ d. read_ok (due_behind e d)) new same in
+    let g = ended_good o o.sums e.0 h h.sums e.1 in
+    let d = bind_ok (part_put e.0.due parts.Fact) (λ d. read_ok (due_behind e.0 d)) new e.2 in
+    to_owed (due_behind e.0 d.0) new (record { due = part_put_good e.0.due parts.Fact d.0 g.due refl d.1; sums = g.sums }) d.2
+marked_good o marks.Metric new h said same =
+    let e = bind_ok (ended o o.sums) (λ e. cond (takes_metric e.due) (read_ok (sums_behind e sums.Begun)) (Err Malformed)) new same in
+    let g = ended_good o o.sums e.0 h h.sums e.1 in
+    let p = passed (takes_metric e.0.due) (read_ok (sums_behind e.0 sums.Begun)) new e.2 in
+    to_owed (sums_behind e.0 sums.Begun) new (record { due = g.due; sums = refl }) p.1
+marked_good o (marks.Transfer title raws) new h said same =
+    let e = bind_ok (ended o o.sums) (λ e. transfer_begun e.names e.due title raws >>= λ d. read_ok (due_behind e d)) new same in
+    let g = ended_good o o.sums e.0 h h.sums e.1 in
+    let d = bind_ok (transfer_begun e.0.names e.0.due title raws) (λ d. read_ok (due_behind e.0 d)) new e.2 in
+    to_owed (due_behind e.0 d.0) new (record { due = transfer_begun_good e.0.names e.0.due title raws d.0 g.due d.1; sums = g.sums }) d.2
+marked_good o (marks.Clash raw) new h said same =
+    let e = bind_ok (ended o o.sums) (λ e. lit_in e.names raw >>= λ l. clash_put e.due l >>= λ d. read_ok (due_behind e d)) new same in
+    let g = ended_good o o.sums e.0 h h.sums e.1 in
+    let l = bind_ok (lit_in e.0.names raw) (λ l. clash_put e.0.due l >>= λ d. read_ok (due_behind e.0 d)) new e.2 in
+    let d = bind_ok (clash_put e.0.due l.0) (λ d. read_ok (due_behind e.0 d)) new l.2 in
+    to_owed (due_behind e.0 d.0) new (record { due = clash_put_good e.0.due l.0 d.0 d.1; sums = g.sums }) d.2
+marked_good o marks.Sum new h said same =
+    let s = bind_ok (sum_begun o.sums) (λ s. read_ok (sums_behind o s)) new same in
+    to_owed (sums_behind o s.0) new (record { due = h.due; sums = sum_begun_good o.sums s.0 h.sums s.1 }) s.2
+marked_good o (marks.Differs raw) new h said same =
+    let r = bind_ok (row_in o.names raw) (λ r. differs_put o.sums r >>= λ s. read_ok (sums_behind o s)) new same in
+    let s = bind_ok (differs_put o.sums r.0) (λ s. read_ok (sums_behind o s)) new r.2 in
+    to_owed (sums_behind o s.0) new (record { due = h.due; sums = differs_put_good o.sums r.0 s.0 (good_row o.names raw r.0 said r.1) s.1 }) s.2
+marked_good o (marks.Row m raw) new h said same =
+    let r = bind_ok (row_in o.names raw) (λ r. row_put o.sums m r >>= λ s. read_ok (sums_behind o s)) new same in
+    let s = bind_ok (row_put o.sums m r.0) (λ s. read_ok (sums_behind o s)) new r.2 in
+    to_owed (sums_behind o s.0) new (record { due = h.due; sums = row_put_good o.sums m r.0 s.0 h.sums (good_row o.names raw r.0 said r.1) s.1 }) s.2
+
+pub strict_good : (o : Owed) (line : List ℕ) (ws : List (List ℕ)) (m : Mark) (new : Owed) → GoodOwed o → strict_mark line ws ≡ Ok m → marked o m ≡ Ok new → GoodOwed new
+strict_good o line ws m new h e same = marked_good o m new h (strict_said line ws m e) same
+
+to_kept : (x k : Option Kept) → AreGood (option_to_list x) → read_ok x ≡ Ok k → AreGood (option_to_list k)
+to_kept x k h e = subst (λ (y : Option Kept). AreGood (option_to_list y)) (ok_is x k e) h
+
+kept_good : (d : Due) (k : Option Kept) → GoodDue d → kept_of d ≡ Ok k → AreGood (option_to_list k)
+kept_good due.Nothing k h e = to_kept None k refl e
+kept_good (due.Literals wanted certs None) k h e = by (has_more wanted certs) e
+  where
+    by : (b : Bool) → cond b (Err Malformed) (read_ok (Some (kept.Certs certs))) ≡ Ok k → AreGood (option_to_list k)
+    by true x = absurd cc
+    by false x = to_kept (Some (kept.Certs certs)) k (and _ _ h refl) x
+kept_good (due.Literals wanted certs (Some t)) k h e = absurd cc
+kept_good (due.Contradiction None) k h e = absurd cc
+kept_good (due.Contradiction (Some a)) k h e = to_kept (Some (kept.Against a)) k (and _ _ h refl) e
+
+pub settled_good : (o : Owed) (k : Option Kept) → GoodOwed o → settled o ≡ Ok k → AreGood (option_to_list k)
+unfolding settled
+settled_good o k h same =
+    let e = bind_ok (ended o o.sums) (λ e. kept_of e.due) k same in
+    kept_good e.0.due k (ended_good o o.sums e.0 h h.sums e.1).due e.2

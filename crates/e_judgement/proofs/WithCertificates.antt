@@ -1,0 +1,205 @@
+-- A script with certificates and the same one without them: as many lines, the same scopes, the same literals.
+use Rattle.std.proofs.Common.{◌≡◌, ℕ, ◌+◌, Bool, true, ◌&&◌, List, [], ◌∷◌, ◌++◌, Option, Some, None, refl, sym, ap, ◌∙◌}
+use Rattle.std.specs.List.{list_all}
+use Rattle.std.specs.Option.{option_map_or}
+use Rattle.std.proofs.lemmas.List.Folds.{list_all-append}
+use Rattle.e_literal.specs.declared.object.Scope.{Scope}
+use Rattle.e_literal.specs.declared.literal.Atom.{Atom}
+use Rattle.e_literal.specs.declared.literal.Atom.TheVariants as atoms
+use Rattle.e_literal.specs.declared.literal.Lit.{Lit}
+use Rattle.e_literal.specs.Literal.{negation}
+use Rattle.e_literal.specs.WellFormed.{is_good_atom, is_well_formed}
+use Rattle.e_literal.specs.Scopes.{grown}
+use Rattle.e_literal.specs.Facts.{joined, joined_all}
+use Rattle.e_literal.specs.Use.{Stated, gives_of_use}
+use Rattle.e_clause.specs.declared.cert.Cert.{Cert}
+use Rattle.e_construct.specs.Construct.{made, gives}
+use Rattle.e_construct.specs.Superposing as superposing
+use Rattle.e_deriv.specs.Script.{Script, Cite, Hence, Make, Apply, Claim, Superposed, Qed, Contradiction, Cases, size, erased}
+use Rattle.e_deriv.specs.Parts.{rest_of, inner_of, args_of}
+use Rattle.e_deriv.specs.Goal.{Goal, goal_of}
+use Rattle.e_deriv.specs.Lines.{Line, lines, theorem_at}
+use Rattle.e_deriv.specs.Fitting.{is_small}
+use Rattle.e_book.specs.Fits.{is_diagram_atom, is_diagram_lit, has_good_literals}
+use Rattle.e_book.proofs.Answered.{and, appended}
+use Rattle.e_book.proofs.Differ.{both}
+use Rattle.e_read.specs.declared.kept.Kept.{Kept}
+use Rattle.e_read.specs.declared.kept.Kept.TheVariants as kept
+use Rattle.e_read.specs.Filled.{first_cert, certs_of, against_of, next_certs, next_against, behind_next, filled}
+use Rattle.e_verify.specs.Written.{is_good_cert, is_good_against, is_written_well}
+
+pub size_erased : (s : Script) → size (erased s) ≡ size s
+unfolding size erased
+size_erased (Cite by rest) = ap (λ n. 1 + n) (size_erased rest)
+size_erased (Hence lit cert rest) = ap (λ n. 1 + n) (size_erased rest)
+size_erased (Make form names certs rest) = ap (λ n. 1 + n) (size_erased rest)
+size_erased (Apply theorem args names certs rest) = ap (λ n. 1 + n) (size_erased rest)
+size_erased (Claim shown inner rest) = ap (λ n. 1 + n + size (erased rest)) (size_erased inner) ∙ ap (λ n. 1 + size inner + n) (size_erased rest)
+size_erased (Superposed form names shown certs inner rest) = ap (λ n. 1 + n + size (erased rest)) (size_erased inner) ∙ ap (λ n. 1 + size inner + n) (size_erased rest)
+size_erased (Qed objects certs) = refl
+size_erased (Contradiction against) = refl
+size_erased (Cases lit first second) = ap (λ n. 1 + n + size (erased second)) (size_erased first) ∙ ap (λ n. 1 + size first + n) (size_erased second)
+
+-- ---- scopes
+
+abbrev is_small_line : Line → Bool
+is_small_line x = is_small x.scope
+
+parted : (xs ys : List Line) → list_all is_small_line (xs ++ ys) ≡ true → (list_all is_small_line xs ≡ true) × (list_all is_small_line ys ≡ true)
+parted xs ys h = both (list_all is_small_line xs) (list_all is_small_line ys) (sym (list_all-append is_small_line xs ys) ∙ h)
+
+-- the scopes before the lines are the same, whatever the facts, the goals and the arguments are
+pub small_with : (bs : List Stated) (d f g : Script) (s : Scope) (facts more : List Lit) (goal aim : Goal) → list_all is_small_line (lines bs (erased d) f s facts goal) ≡ true → list_all is_small_line (lines bs d g s more aim) ≡ true
+unfolding lines erased
+small_with bs (Cite by rest) f g s facts more goal aim h =
+    let p = both (is_small s) (list_all is_small_line (lines bs (erased rest) (rest_of f) s (joined facts by.lit) goal)) h in
+    and _ _ p.0 (small_with bs rest (rest_of f) (rest_of g) s (joined facts by.lit) (joined more by.lit) goal aim p.1)
+small_with bs (Hence lit cert rest) f g s facts more goal aim h =
+    let p = both (is_small s) (list_all is_small_line (lines bs (erased rest) (rest_of f) s (joined facts lit) goal)) h in
+    and _ _ p.0 (small_with bs rest (rest_of f) (rest_of g) s (joined facts lit) (joined more lit) goal aim p.1)
+small_with bs (Make form names certs rest) f g s facts more goal aim h =
+    let t = grown s (made form) in
+    let p = both (is_small s) (list_all is_small_line (lines bs (erased rest) (rest_of f) t (joined_all facts (gives form s)) goal)) h in
+    and _ _ p.0 (small_with bs rest (rest_of f) (rest_of g) t (joined_all facts (gives form s)) (joined_all more (gives form s)) goal aim p.1)
+small_with bs (Apply theorem args names certs rest) f g s facts more goal aim h =
+    let u = theorem_at bs theorem in
+    let t = grown s u.made in
+    let p = both (is_small s) (list_all is_small_line (lines bs (erased rest) (rest_of f) t (joined_all facts (gives_of_use u (args_of f) s)) goal)) h in
+    and _ _ p.0 (small_with bs rest (rest_of f) (rest_of g) t (joined_all facts (gives_of_use u (args_of f) s)) (joined_all more (gives_of_use u (args_of g) s)) goal aim p.1)
+small_with bs (Claim shown inner rest) f g s facts more goal aim h =
+    let inside = lines bs (erased inner) (inner_of f) s facts (goal_of shown) in
+    let behind = lines bs (erased rest) (rest_of f) s (joined_all facts shown) goal in
+    let p = both (is_small s) (list_all is_small_line (inside ++ behind)) h in
+    let q = parted inside behind p.1 in
+    and _ _ p.0
+    (appended is_small_line (lines bs inner (inner_of g) s more (goal_of shown)) _ (small_with bs inner (inner_of f) (inner_of g) s facts more (goal_of shown) (goal_of shown) q.0)
+    (small_with bs rest (rest_of f) (rest_of g) s (joined_all facts shown) (joined_all more shown) goal aim q.1))
+small_with bs (Superposed form names shown certs inner rest) f g s facts more goal aim h =
+    let t = grown s superposing.made in
+    let given = superposing.gives form s in
+    let inside = lines bs (erased inner) (inner_of f) t (joined_all facts given) (goal_of shown) in
+    let behind = lines bs (erased rest) (rest_of f) s (joined_all facts shown) goal in
+    let p = both (is_small s) (list_all is_small_line (inside ++ behind)) h in
+    let q = parted inside behind p.1 in
+    and _ _ p.0
+    (appended is_small_line (lines bs inner (inner_of g) t (joined_all more given) (goal_of shown)) _ (small_with bs inner (inner_of f) (inner_of g) t (joined_all facts given) (joined_all more given) (goal_of shown) (goal_of shown) q.0)
+    (small_with bs rest (rest_of f) (rest_of g) s (joined_all facts shown) (joined_all more shown) goal aim q.1))
+small_with bs (Qed objects certs) f g s facts more goal aim h = and _ _ (both (is_small s) true h).0 refl
+small_with bs (Contradiction against) f g s facts more goal aim h = and _ _ (both (is_small s) true h).0 refl
+small_with bs (Cases lit first second) f g s facts more goal aim h =
+    let one = lines bs (erased first) (inner_of f) s (joined facts lit) goal in
+    let two = lines bs (erased second) (rest_of f) s (joined facts (negation lit)) goal in
+    let p = both (is_small s) (list_all is_small_line (one ++ two)) h in
+    let q = parted one two p.1 in
+    and _ _ p.0
+    (appended is_small_line (lines bs first (inner_of g) s (joined more lit) aim) _ (small_with bs first (inner_of f) (inner_of g) s (joined facts lit) (joined more lit) goal aim q.0)
+    (small_with bs second (rest_of f) (rest_of g) s (joined facts (negation lit)) (joined more (negation lit)) goal aim q.1))
+
+-- ---- literals
+
+-- the literals of the certificates are well formed
+unfoldable pub has_good_certs : Script → Bool
+has_good_certs (Cite by rest) = has_good_certs rest
+has_good_certs (Hence lit cert rest) = option_map_or is_good_cert cert true && has_good_certs rest
+has_good_certs (Make form names certs rest) = list_all is_good_cert certs && has_good_certs rest
+has_good_certs (Apply theorem args names certs rest) = list_all is_good_cert certs && has_good_certs rest
+has_good_certs (Claim shown inner rest) = has_good_certs inner && has_good_certs rest
+has_good_certs (Superposed form names shown certs inner rest) = list_all is_good_cert certs && (has_good_certs inner && has_good_certs rest)
+has_good_certs (Qed objects certs) = list_all is_good_cert certs
+has_good_certs (Contradiction against) = option_map_or is_good_against against true
+has_good_certs (Cases lit first second) = has_good_certs first && has_good_certs second
+
+plain_good : (a : Atom) → is_diagram_atom a ≡ true → is_good_atom a ≡ true
+plain_good (atoms.MagEq x y) h = absurd cc
+plain_good (atoms.MagLt x y) h = absurd cc
+plain_good a h = refl
+
+pub written_well : (d : Script) → has_good_literals (erased d) ≡ true → has_good_certs d ≡ true → is_written_well d ≡ true
+unfolding has_good_literals has_good_certs is_written_well erased
+written_well (Cite by rest) h k =
+    let p = both (is_diagram_lit by.lit) (has_good_literals (erased rest)) h in
+    and _ _ (plain_good by.lit.atom p.0) (written_well rest p.1 k)
+written_well (Hence lit cert rest) h k =
+    let p = both (is_well_formed lit) (has_good_literals (erased rest)) h in
+    let q = both (option_map_or is_good_cert cert true) (has_good_certs rest) k in
+    and _ _ p.0 (and _ _ q.0 (written_well rest p.1 q.1))
+written_well (Make form names certs rest) h k =
+    let q = both (list_all is_good_cert certs) (has_good_certs rest) k in
+    and _ _ q.0 (written_well rest h q.1)
+written_well (Apply theorem args names certs rest) h k =
+    let q = both (list_all is_good_cert certs) (has_good_certs rest) k in
+    and _ _ q.0 (written_well rest h q.1)
+written_well (Claim shown inner rest) h k =
+    let p = both (list_all is_well_formed shown) (has_good_literals (erased inner) && has_good_literals (erased rest)) h in
+    let l = both (has_good_literals (erased inner)) (has_good_literals (erased rest)) p.1 in
+    let q = both (has_good_certs inner) (has_good_certs rest) k in
+    and _ _ p.0 (and _ _ (written_well inner l.0 q.0) (written_well rest l.1 q.1))
+written_well (Superposed form names shown certs inner rest) h k =
+    let p = both (list_all is_well_formed shown) (has_good_literals (erased inner) && has_good_literals (erased rest)) h in
+    let l = both (has_good_literals (erased inner)) (has_good_literals (erased rest)) p.1 in
+    let c = both (list_all is_good_cert certs) (has_good_certs inner && has_good_certs rest) k in
+    let q = both (has_good_certs inner) (has_good_certs rest) c.1 in
+    and _ _ p.0 (and _ _ c.0 (and _ _ (written_well inner l.0 q.0) (written_well rest l.1 q.1)))
+written_well (Qed objects certs) h k = k
+written_well (Contradiction against) h k = k
+written_well (Cases lit first second) h k =
+    let p = both (is_well_formed lit) (has_good_literals (erased first) && has_good_literals (erased second)) h in
+    let l = both (has_good_literals (erased first)) (has_good_literals (erased second)) p.1 in
+    let q = both (has_good_certs first) (has_good_certs second) k in
+    and _ _ p.0 (and _ _ (written_well first l.0 q.0) (written_well second l.1 q.1))
+
+-- ---- scripts that are filled
+
+-- the literals of what was read below a line are well formed
+abbrev pub is_good_kept : Kept → Bool
+is_good_kept (kept.Certs cs) = list_all is_good_cert cs
+is_good_kept (kept.Against a) = is_good_against a
+
+abbrev pub AreGood : List Kept → Type 0
+AreGood ks = list_all is_good_kept ks ≡ true
+
+first_good : (cs : List Cert) → list_all is_good_cert cs ≡ true → option_map_or is_good_cert (first_cert cs) true ≡ true
+first_good [] h = refl
+first_good (c ∷ cs) h = (both (is_good_cert c) (list_all is_good_cert cs) h).0
+
+certs_good : (ks : List Kept) → AreGood ks → list_all is_good_cert (next_certs ks) ≡ true
+certs_good [] h = refl
+certs_good (kept.Certs cs ∷ ks) h = (both (list_all is_good_cert cs) (list_all is_good_kept ks) h).0
+certs_good (kept.Against a ∷ ks) h = refl
+
+against_good : (ks : List Kept) → AreGood ks → option_map_or is_good_against (next_against ks) true ≡ true
+against_good [] h = refl
+against_good (kept.Certs cs ∷ ks) h = refl
+against_good (kept.Against a ∷ ks) h = (both (is_good_against a) (list_all is_good_kept ks) h).0
+
+behind_good : (ks : List Kept) → AreGood ks → AreGood (behind_next ks)
+behind_good [] h = refl
+behind_good (k ∷ ks) h = (both (is_good_kept k) (list_all is_good_kept ks) h).1
+
+-- with good certificates the script has good ones, and good ones are left
+pub filled_good : (d : Script) (ks : List Kept) → AreGood ks → (has_good_certs (filled d ks).0 ≡ true) × AreGood (filled d ks).1
+unfolding has_good_certs filled
+filled_good (Cite by rest) ks h = filled_good rest ks h
+filled_good (Hence lit cert rest) ks h =
+    let r = filled_good rest (behind_next ks) (behind_good ks h) in
+    (and _ _ (first_good (next_certs ks) (certs_good ks h)) r.0, r.1)
+filled_good (Make form names certs rest) ks h =
+    let r = filled_good rest (behind_next ks) (behind_good ks h) in
+    (and _ _ (certs_good ks h) r.0, r.1)
+filled_good (Apply theorem args names certs rest) ks h =
+    let r = filled_good rest (behind_next ks) (behind_good ks h) in
+    (and _ _ (certs_good ks h) r.0, r.1)
+filled_good (Claim shown inner rest) ks h =
+    let i = filled_good inner ks h in
+    let r = filled_good rest (filled inner ks).1 i.1 in
+    (and _ _ i.0 r.0, r.1)
+filled_good (Superposed form names shown certs inner rest) ks h =
+    let i = filled_good inner (behind_next ks) (behind_good ks h) in
+    let r = filled_good rest (filled inner (behind_next ks)).1 i.1 in
+    (and _ _ (certs_good ks h) (and _ _ i.0 r.0), r.1)
+filled_good (Qed objects certs) ks h = (certs_good ks h, behind_good ks h)
+filled_good (Contradiction against) ks h = (against_good ks h, behind_good ks h)
+filled_good (Cases lit first second) ks h =
+    let i = filled_good first ks h in
+    let r = filled_good second (filled first ks).1 i.1 in
+    (and _ _ i.0 r.0, r.1)
