@@ -24,6 +24,7 @@ use Rattle.e_deriv.specs.declared.names.Names.{Names}
 use Rattle.e_book.specs.declared.fault.Kind.{Kind}
 use Rattle.e_book.specs.declared.fault.Kind.TheVariants.{Malformed}
 use Rattle.e_book.specs.declared.literal.RawLit.{RawLit}
+use Rattle.e_book.specs.declared.sum.RawTerm.{RawTerm}
 use Rattle.e_book.specs.Reading.{◌>>=◌, or_malformed, title_at, end_at, names_of}
 use Rattle.e_book.specs.Sums.{term_of}
 use Rattle.e_book.specs.Literals.{lit_of, diagram_lit_of}
@@ -72,7 +73,7 @@ either P false x y z e hx hy = hy e
 bare_said : (ws : List (List ℕ)) (row r : RawRow) → RowSaid row → bare_row ws row ≡ Ok r → RowSaid r
 bare_said ws row r h e = let n = bind_ok (end_at ws) (λ none. read_ok row) r e in subst RowSaid (ok_is row r n.2) h
 
-term_said : (ws : List (List ℕ)) (f : _) (r : RawRow) → ((t : _) → RowSaid (f t)) → (term_of ws >>= λ t. read_ok (f t)) ≡ Ok r → RowSaid r
+term_said : (ws : List (List ℕ)) (f : RawTerm → RawRow) (r : RawRow) → ((t : RawTerm) → RowSaid (f t)) → (term_of ws >>= λ t. read_ok (f t)) ≡ Ok r → RowSaid r
 term_said ws f r h e = let t = bind_ok (term_of ws) (λ t. read_ok (f t)) r e in subst RowSaid (ok_is (f t.0) r t.2) (h t.0)
 
 fact_said : (ws : List (List ℕ)) (r : RawRow) → (lit_of ws >>= λ l. read_ok (rows.Fact l)) ≡ Ok r → RowSaid r
@@ -82,13 +83,13 @@ named_said : (w : List ℕ) (ws : List (List ℕ)) (r : RawRow) → row_named w 
 unfolding row_named
 named_said w ws r e =
     let none : Result RawRow Kind = Err Malformed in
-    let r7 = cond (bytes_eq w (codes "below")) (bare_row ws rows.Below) none in
-    let r6 = cond (bytes_eq w (codes "above")) (bare_row ws rows.Above) r7 in
-    let r5 = cond (bytes_eq w (codes "least")) (term_of ws >>= λ t. read_ok (rows.Least t)) r6 in
-    let r4 = cond (bytes_eq w (codes "right")) (bare_row ws rows.Right) r5 in
-    let r3 = cond (bytes_eq w (codes "top")) (term_of ws >>= λ t. read_ok (rows.Top t)) r4 in
-    let r2 = cond (bytes_eq w (codes "pos")) (term_of ws >>= λ t. read_ok (rows.Pos t)) r3 in
-    let r1 = cond (bytes_eq w (codes "goal")) (bare_row ws rows.Goal) r2 in
+    let r7 : Result RawRow Kind = cond (bytes_eq w (codes "below")) (bare_row ws rows.Below) none in
+    let r6 : Result RawRow Kind = cond (bytes_eq w (codes "above")) (bare_row ws rows.Above) r7 in
+    let r5 : Result RawRow Kind = cond (bytes_eq w (codes "least")) (term_of ws >>= λ t. read_ok (rows.Least t)) r6 in
+    let r4 : Result RawRow Kind = cond (bytes_eq w (codes "right")) (bare_row ws rows.Right) r5 in
+    let r3 : Result RawRow Kind = cond (bytes_eq w (codes "top")) (term_of ws >>= λ t. read_ok (rows.Top t)) r4 in
+    let r2 : Result RawRow Kind = cond (bytes_eq w (codes "pos")) (term_of ws >>= λ t. read_ok (rows.Pos t)) r3 in
+    let r1 : Result RawRow Kind = cond (bytes_eq w (codes "goal")) (bare_row ws rows.Goal) r2 in
     either RowSaid (bytes_eq w (codes "fact")) (lit_of ws >>= λ l. read_ok (rows.Fact l)) r1 r e (fact_said ws r) (λ e1.
     either RowSaid (bytes_eq w (codes "goal")) (bare_row ws rows.Goal) r2 r e1 (bare_said ws rows.Goal r tt) (λ e2.
     either RowSaid (bytes_eq w (codes "pos")) (term_of ws >>= λ t. read_ok (rows.Pos t)) r3 r e2 (term_said ws rows.Pos r (λ t. tt)) (λ e3.
@@ -135,11 +136,11 @@ clash_said ws m e = let l = bind_ok (diagram_lit_of ws) (λ l. read_ok (marks.Cl
 mark_named_said : (w : List ℕ) (ws : List (List ℕ)) (m : Mark) → mark_named w ws ≡ Ok m → MarkSaid m
 unfolding mark_named
 mark_named_said w ws m e =
-    let m5 = cond (bytes_eq w (codes "differs")) (differs_of ws) (row_mark_of w ws) in
-    let m4 = cond (bytes_eq w (codes "sum")) (bare ws marks.Sum) m5 in
-    let m3 = cond (bytes_eq w (codes "clash")) (diagram_lit_of ws >>= λ l. read_ok (marks.Clash l)) m4 in
-    let m2 = cond (bytes_eq w (codes "transfer")) (transfer_of ws) m3 in
-    let m1 = cond (bytes_eq w (codes "metric")) (bare ws marks.Metric) m2 in
+    let m5 : Result Mark Kind = cond (bytes_eq w (codes "differs")) (differs_of ws) (row_mark_of w ws) in
+    let m4 : Result Mark Kind = cond (bytes_eq w (codes "sum")) (bare ws marks.Sum) m5 in
+    let m3 : Result Mark Kind = cond (bytes_eq w (codes "clash")) (diagram_lit_of ws >>= λ l. read_ok (marks.Clash l)) m4 in
+    let m2 : Result Mark Kind = cond (bytes_eq w (codes "transfer")) (transfer_of ws) m3 in
+    let m1 : Result Mark Kind = cond (bytes_eq w (codes "metric")) (bare ws marks.Metric) m2 in
     either MarkSaid (bytes_eq w (codes "fact")) (bare ws marks.Fact) m1 m e (bare_mark_said ws marks.Fact m tt) (λ e1.
     either MarkSaid (bytes_eq w (codes "metric")) (bare ws marks.Metric) m2 m e1 (bare_mark_said ws marks.Metric m tt) (λ e2.
     either MarkSaid (bytes_eq w (codes "transfer")) (transfer_of ws) m3 m e2 (transfer_said ws m) (λ e3.
@@ -187,7 +188,7 @@ good_row ns rows.Below r said e = subst GoodName (ok_is names.Below r e) refl
 
 -- ---- what is owed
 
-is_good_open : Option OpenSums → Bool
+abbrev pub is_good_open : Option OpenSums → Bool
 is_good_open None = true
 is_good_open (Some sums.Begun) = true
 is_good_open (Some (sums.One sum)) = is_good_sum sum
@@ -195,28 +196,28 @@ is_good_open (Some (sums.Differs differs)) = is_good_name differs
 is_good_open (Some (sums.Above differs sum)) = is_good_name differs && is_good_sum sum
 is_good_open (Some (sums.Below differs above sum)) = is_good_name differs && (is_good_sum above && is_good_sum sum)
 
-abbrev are_good_certs : List Cert → Bool
+abbrev pub are_good_certs : List Cert → Bool
 are_good_certs cs = list_all is_good_cert cs
 
-abbrev are_good_parts : List Part → Bool
+abbrev pub are_good_parts : List Part → Bool
 are_good_parts ps = list_all is_good_part ps
 
-is_good_due : Due → Bool
+abbrev pub is_good_due : Due → Bool
 is_good_due due.Nothing = true
 is_good_due (due.Literals wanted certs None) = are_good_certs certs
 is_good_due (due.Literals wanted certs (Some t)) = are_good_certs certs && are_good_parts t.parts
 is_good_due (due.Contradiction None) = true
 is_good_due (due.Contradiction (Some a)) = is_good_against a
 
-abbrev GoodOpen : Option OpenSums → Type 0
+abbrev pub GoodOpen : Option OpenSums → Type 0
 GoodOpen s = is_good_open s ≡ true
 
-abbrev GoodDue : Due → Type 0
+abbrev pub GoodDue : Due → Type 0
 GoodDue d = is_good_due d ≡ true
 
 pub record GoodOwed (o : Owed) : Type 0 where
-  pub due : GoodDue o.due
-  pub sums : GoodOpen o.sums
+  pub certs : GoodDue o.due
+  pub rows_of_sums : GoodOpen o.sums
 
 to_open : (x s : OpenSums) → GoodOpen (Some x) → read_ok x ≡ Ok s → GoodOpen (Some s)
 to_open x s h e = subst (λ (y : OpenSums). GoodOpen (Some y)) (ok_is x s e) h
@@ -326,43 +327,43 @@ ended_good o (Some s) e h k same =
     let then : Due → Owed = λ d. record o { due = d; sums = None } in
     let all = bind_ok (sums_ended s) (λ all. metric_put o.due (record { sums = all }) >>= λ d. read_ok (then d)) e same in
     let d = bind_ok (metric_put o.due (record { sums = all.0 })) (λ d. read_ok (then d)) e all.2 in
-    to_owed (then d.0) e (record { due = metric_put_good o.due (record { sums = all.0 }) d.0 h.due (sums_ended_good s all.0 k all.1) d.1; sums = refl }) d.2
+    to_owed (then d.0) e (record { certs = metric_put_good o.due (record { sums = all.0 }) d.0 h.certs (sums_ended_good s all.0 k all.1) d.1; rows_of_sums = refl }) d.2
 
 -- behind a line of a certificate what was read is good
 marked_good : (o : Owed) (m : Mark) (new : Owed) → GoodOwed o → MarkSaid m → marked o m ≡ Ok new → GoodOwed new
 unfolding marked
 marked_good o marks.Fact new h said same =
     let e = bind_ok (ended o o.sums) (λ e. part_put e.due parts.Fact >>= λ d. read_ok (due_behind e d)) new same in
-    let g = ended_good o o.sums e.0 h h.sums e.1 in
+    let g = ended_good o o.sums e.0 h h.rows_of_sums e.1 in
     let d = bind_ok (part_put e.0.due parts.Fact) (λ d. read_ok (due_behind e.0 d)) new e.2 in
-    to_owed (due_behind e.0 d.0) new (record { due = part_put_good e.0.due parts.Fact d.0 g.due refl d.1; sums = g.sums }) d.2
+    to_owed (due_behind e.0 d.0) new (record { certs = part_put_good e.0.due parts.Fact d.0 g.certs refl d.1; rows_of_sums = g.rows_of_sums }) d.2
 marked_good o marks.Metric new h said same =
     let e = bind_ok (ended o o.sums) (λ e. cond (takes_metric e.due) (read_ok (sums_behind e sums.Begun)) (Err Malformed)) new same in
-    let g = ended_good o o.sums e.0 h h.sums e.1 in
+    let g = ended_good o o.sums e.0 h h.rows_of_sums e.1 in
     let p = passed (takes_metric e.0.due) (read_ok (sums_behind e.0 sums.Begun)) new e.2 in
-    to_owed (sums_behind e.0 sums.Begun) new (record { due = g.due; sums = refl }) p.1
+    to_owed (sums_behind e.0 sums.Begun) new (record { certs = g.certs; rows_of_sums = refl }) p.1
 marked_good o (marks.Transfer title raws) new h said same =
     let e = bind_ok (ended o o.sums) (λ e. transfer_begun e.names e.due title raws >>= λ d. read_ok (due_behind e d)) new same in
-    let g = ended_good o o.sums e.0 h h.sums e.1 in
+    let g = ended_good o o.sums e.0 h h.rows_of_sums e.1 in
     let d = bind_ok (transfer_begun e.0.names e.0.due title raws) (λ d. read_ok (due_behind e.0 d)) new e.2 in
-    to_owed (due_behind e.0 d.0) new (record { due = transfer_begun_good e.0.names e.0.due title raws d.0 g.due d.1; sums = g.sums }) d.2
+    to_owed (due_behind e.0 d.0) new (record { certs = transfer_begun_good e.0.names e.0.due title raws d.0 g.certs d.1; rows_of_sums = g.rows_of_sums }) d.2
 marked_good o (marks.Clash raw) new h said same =
     let e = bind_ok (ended o o.sums) (λ e. lit_in e.names raw >>= λ l. clash_put e.due l >>= λ d. read_ok (due_behind e d)) new same in
-    let g = ended_good o o.sums e.0 h h.sums e.1 in
+    let g = ended_good o o.sums e.0 h h.rows_of_sums e.1 in
     let l = bind_ok (lit_in e.0.names raw) (λ l. clash_put e.0.due l >>= λ d. read_ok (due_behind e.0 d)) new e.2 in
     let d = bind_ok (clash_put e.0.due l.0) (λ d. read_ok (due_behind e.0 d)) new l.2 in
-    to_owed (due_behind e.0 d.0) new (record { due = clash_put_good e.0.due l.0 d.0 d.1; sums = g.sums }) d.2
+    to_owed (due_behind e.0 d.0) new (record { certs = clash_put_good e.0.due l.0 d.0 d.1; rows_of_sums = g.rows_of_sums }) d.2
 marked_good o marks.Sum new h said same =
     let s = bind_ok (sum_begun o.sums) (λ s. read_ok (sums_behind o s)) new same in
-    to_owed (sums_behind o s.0) new (record { due = h.due; sums = sum_begun_good o.sums s.0 h.sums s.1 }) s.2
+    to_owed (sums_behind o s.0) new (record { certs = h.certs; rows_of_sums = sum_begun_good o.sums s.0 h.rows_of_sums s.1 }) s.2
 marked_good o (marks.Differs raw) new h said same =
     let r = bind_ok (row_in o.names raw) (λ r. differs_put o.sums r >>= λ s. read_ok (sums_behind o s)) new same in
     let s = bind_ok (differs_put o.sums r.0) (λ s. read_ok (sums_behind o s)) new r.2 in
-    to_owed (sums_behind o s.0) new (record { due = h.due; sums = differs_put_good o.sums r.0 s.0 (good_row o.names raw r.0 said r.1) s.1 }) s.2
+    to_owed (sums_behind o s.0) new (record { certs = h.certs; rows_of_sums = differs_put_good o.sums r.0 s.0 (good_row o.names raw r.0 said r.1) s.1 }) s.2
 marked_good o (marks.Row m raw) new h said same =
     let r = bind_ok (row_in o.names raw) (λ r. row_put o.sums m r >>= λ s. read_ok (sums_behind o s)) new same in
     let s = bind_ok (row_put o.sums m r.0) (λ s. read_ok (sums_behind o s)) new r.2 in
-    to_owed (sums_behind o s.0) new (record { due = h.due; sums = row_put_good o.sums m r.0 s.0 h.sums (good_row o.names raw r.0 said r.1) s.1 }) s.2
+    to_owed (sums_behind o s.0) new (record { certs = h.certs; rows_of_sums = row_put_good o.sums m r.0 s.0 h.rows_of_sums (good_row o.names raw r.0 said r.1) s.1 }) s.2
 
 pub strict_good : (o : Owed) (line : List ℕ) (ws : List (List ℕ)) (m : Mark) (new : Owed) → GoodOwed o → strict_mark line ws ≡ Ok m → marked o m ≡ Ok new → GoodOwed new
 strict_good o line ws m new h e same = marked_good o m new h (strict_said line ws m e) same
@@ -385,4 +386,4 @@ pub settled_good : (o : Owed) (k : Option Kept) → GoodOwed o → settled o ≡
 unfolding settled
 settled_good o k h same =
     let e = bind_ok (ended o o.sums) (λ e. kept_of e.due) k same in
-    kept_good e.0.due k (ended_good o o.sums e.0 h h.sums e.1).due e.2
+    kept_good e.0.due k (ended_good o o.sums e.0 h h.rows_of_sums e.1).certs e.2

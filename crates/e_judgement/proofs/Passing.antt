@@ -1,18 +1,20 @@
 -- The theorems passed so far.
-use Rattle.std.proofs.Common.{◌≡◌, inl, inr, ℕ, ◌+◌, List, [], ◌∷◌, ◌++◌, length, map, Result, Ok, Err, refl, sym, ap, subst, ◌∙◌}
-use Rattle.std.specs.Prelude.{IsTrue, true, ◌&&◌}
+use Rattle.std.proofs.Common.{◌≡◌, inl, inr, ℕ, ◌+◌, true, false, true≢false, ◌&&◌, List, [], ◌∷◌, ◌++◌, length, Result, Ok, Err, refl, sym, ap, subst, ◌∙◌}
+use Rattle.std.specs.Prelude.{IsTrue, IfOk}
 use Rattle.std.specs.List.{list_all}
-use Rattle.std.proofs.lemmas.List.Folds.{list_all-append}
-use Rattle.std.proofs.lemmas.Bool.{and_from}
+use Rattle.e_text.specs.Lines.{Seen, Ahead}
+use Rattle.e_text.specs.declared.line.LineFault.{LineFault}
 use Rattle.e_theorem.specs.Statements.{stated}
 use Rattle.e_deriv.specs.Certified.{verdict}
 use Rattle.e_deriv.specs.Fitting.{is_small_statement}
 use Rattle.e_book.specs.Headed.{Headed, headed, stated_by}
 use Rattle.e_book.specs.Entry.{Entry}
-use Rattle.e_read.specs.Text.{at_start, piece_from, Derived, Last}
+use Rattle.e_book.specs.Book.{last_line}
+use Rattle.e_book.proofs.Fitting.{one_more_stated}
+use Rattle.e_read.specs.Text.{at_start, piece_from, Piece, Derived, Last}
 use Rattle.e_judgement.specs.declared.judgement.Judgement.{Judgement}
 use Rattle.e_judgement.specs.declared.judgement.Judgement.TheVariants.{Verified, Bad, Garbled}
-use Rattle.e_judgement.specs.Judged.{Rest, with_theorem, ReadsNext, IsCertified, Passes, JudgedBehind, EndsThere, BreaksThere, FailsThere, Closes, IsJudged}
+use Rattle.e_judgement.specs.Judged.{Rest, with_theorem, ReadsNext, IsCertified, Passes, JudgedBehind, EndsThere, BreaksThere, FailsThere, Closes, IsJudged, is_head, JudgesLines, lines_of_text, JudgesText}
 
 pub record History (last : ℕ) (lines : Rest) (known : List Headed) (rest : Rest) : Type 0 where
   pub theorems : List Entry
@@ -55,17 +57,38 @@ pub fails_so : (last step : ℕ) (lines : Rest) (known : List Headed) (rest : Re
     → History last lines known rest → ReadsNext last known rest t after → verdict (stated_by known) (stated t.statement) t.script ≡ Err step → IsJudged last lines (Bad t.title step)
 fails_so last step lines known rest t after h r e = closes_so last lines known rest (Bad t.title step) h (inr (inr (t, after, step, r, e, refl)))
 
+abbrev Answer : Type 0
+Answer = Result (Piece × Rest) ℕ
+
 -- what a call read is what stands ahead
-pub at_last : {A : Type 0} (known : List Headed) (n last : ℕ) (rest : Rest) (a : Result A ℕ) (f : ℕ → Result A ℕ) → n ≡ last → f n ≡ a → f last ≡ a
-at_last known n last rest a f e h = subst (λ (k : ℕ). f k ≡ a) e h
+pub reads_at : (known : List Headed) (now last : ℕ) (rest : Rest) (a : Answer) → now ≡ last → piece_from known now at_start rest ≡ a → piece_from known last at_start rest ≡ a
+reads_at known now last rest a e h = subst (λ (k : ℕ). piece_from known k at_start rest ≡ a) e h
+
+-- ---- the first line
+
+pub head_judged : (lines : Rest) (l : Seen) (after : Ahead) (j : Judgement) → lines ≡ Ok l ∷ after.lines → after.line ≡ 2 → is_head l ≡ true → IsJudged (last_line after) after.lines j → JudgesLines lines j
+head_judged lines l after j e n h k =
+    subst (λ (x : Rest). JudgesLines x j) (sym e)
+    ((λ t. subst (λ (m : ℕ). IsJudged (m + length after.lines) after.lines j) n k), (λ f. absurd (true≢false (sym h ∙ f))))
+
+pub other_head : (lines after : Rest) (l : Seen) → lines ≡ Ok l ∷ after → is_head l ≡ false → JudgesLines lines (Garbled 1)
+other_head lines after l e h = subst (λ (x : Rest). JudgesLines x (Garbled 1)) (sym e) ((λ t. absurd (true≢false (sym t ∙ h))), (λ f. refl))
+
+pub fault_first : (lines : Rest) (f : LineFault) → lines ≡ Err f ∷ [] → JudgesLines lines (Garbled 1)
+fault_first lines f e = subst (λ (x : Rest). JudgesLines x (Garbled 1)) (sym e) refl
+
+pub no_line : (lines : Rest) → lines ≡ [] → JudgesLines lines (Garbled 1)
+no_line lines e = subst (λ (x : Rest). JudgesLines x (Garbled 1)) (sym e) refl
+
+pub text_judged : (text : List ℕ) (lines : Rest) (j : Judgement) → lines ≡ lines_of_text text → JudgesLines lines j → JudgesText text j
+text_judged text lines j e h = subst (λ (x : Rest). JudgesLines x j) e h
+
+-- behind the head line the theorems decide, where memory lasts
+pub head_then : {E : Type 0} (text : List ℕ) (lines : Rest) (l : Seen) (after : Ahead) (r : Result Judgement E) → lines ≡ lines_of_text text → lines ≡ Ok l ∷ after.lines → after.line ≡ 2 → is_head l ≡ true
+    → IfOk r (λ j. IsJudged (last_line after) after.lines j) → IfOk r (λ j. JudgesText text j)
+head_then text lines l after (Ok j) is e n h k = text_judged text lines j is (head_judged lines l after j e n h k)
+head_then text lines l after (Err x) is e n h k = tt
 
 -- each known theorem is a statement, and so is one more
 pub small_more : (known : List Headed) (t : Entry) → IsTrue (list_all is_small_statement (stated_by known)) → IsTrue (is_small_statement (stated t.statement)) → IsTrue (list_all is_small_statement (stated_by (with_theorem known t)))
-small_more [] t h k = ap (λ b. b && true) k
-small_more (u ∷ us) t h k =
-    let a = and_parts (is_small_statement (stated u.statement)) (list_all is_small_statement (stated_by us)) h in
-    ap (λ b. b && list_all is_small_statement (stated_by (with_theorem us t))) a.0 ∙ small_more us t a.1 k
-  where
-    and_parts : (x y : _) → (x && y) ≡ true → (x ≡ true) × (y ≡ true)
-    and_parts true y h = (refl, h)
-    and_parts _ y h = absurd cc
+small_more known t h k = one_more_stated known t.title t.statement h k

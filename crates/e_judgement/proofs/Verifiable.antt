@@ -60,7 +60,7 @@ due_good known d forms.Contradiction new e = subst GoodDue (ok_is (due.Contradic
 due_good known d f new e = subst GoodDue (ok_is due.Nothing new e) refl
 
 nothing_good : GoodOwed owes_nothing
-nothing_good = record { due = refl; sums = refl }
+nothing_good = record { certs = refl; rows_of_sums = refl }
 
 gone_good : (known : List Headed) (draft : Option Draft) (f : Form) (d : Draft) (o : Owed) → gone_on known draft f ≡ Ok (d, o) → GoodOwed o
 gone_good known None f d o e =
@@ -71,7 +71,7 @@ gone_good known (Some a) f d o e =
     let p = passed (is_apart a f) (due_of known a f >>= λ new. step known a f >>= λ x. Ok (end new x)) (d, o) e in
     let n = bind_ok (due_of known a f) (λ new. step known a f >>= λ x. Ok (end new x)) (d, o) p.1 in
     let x = bind_ok (step known a f) (λ x. Ok (end n.0 x)) (d, o) n.2 in
-    subst GoodOwed (ap (λ (q : Draft × Owed). q.1) (ok_is (end n.0 x.0) (d, o) x.2)) (record { due = due_good known a f n.0 n.1; sums = refl })
+    subst GoodOwed (ap (λ (q : Draft × Owed). q.1) (ok_is (end n.0 x.0) (d, o) x.2)) (record { certs = due_good known a f n.0 n.1; rows_of_sums = refl })
 
 -- ---- the lines of a block
 
@@ -98,15 +98,15 @@ taken_good known r next l h e =
         } in
         subst GoodReading (sym s.next_is) good
 
+some_is : (x y : Entry) → Some x ≡ Some y → x ≡ y
+some_is x y e = cc
+
 finished_good : (draft : Option Draft) (kept : List Kept) (t : Entry) → AreGood kept → finished draft kept ≡ Some t → has_good_certs t.script ≡ true
 finished_good None kept t h e = absurd cc
 finished_good (Some d) kept t h e = by (is_done d) e
   where
     by : (b : Bool) → cond b (Some (derived d kept)) None ≡ Some t → has_good_certs t.script ≡ true
     by true k = subst (λ (x : Entry). has_good_certs x.script ≡ true) (some_is (derived d kept) t k) (filled_good (entry_of_draft d).script kept h).0
-      where
-        some_is : (x y : Entry) → Some x ≡ Some y → x ≡ y
-        some_is x y q = cc
     by false k = absurd cc
 
 ends_or : (b : Bool) (x y z : Result Answer ℕ) → cond b x y ≡ z → (x ≡ z) ⊎ (y ≡ z)

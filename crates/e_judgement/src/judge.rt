@@ -1,9 +1,14 @@
 //! A derivation text, theorem by theorem.
-ghost use Rattle.std.specs.Prelude.{◌≡◌, ◌≤◌, ◌<◌, ◌^◌, ◌+◌, ◌++◌, ◌∷◌, [], false, length, IfOk, OnOk, IsTrue};
+ghost use Rattle.std.specs.Prelude.{◌≡◌, ◌≤◌, ◌^◌, ◌++◌, ◌∷◌, [], false, length, IfOk, IfErr, OnOk};
 ghost use Rattle.e_text.specs.Lines.{seen, fault_line};
+ghost use Rattle.e_theorem.specs.Statements.{stated};
+ghost use Rattle.e_deriv.specs.Script.{script_of};
+ghost use Rattle.e_deriv.specs.Certified.{Certified, verdict};
 ghost use Rattle.e_book.specs.Book.{last_line};
-ghost use Rattle.e_book.specs.Headed.{headed, is_known};
-ghost use Rattle.e_judgement.specs.Judged.{is_lf_end, is_head, JudgesText, JudgesLines, JudgedBehind, IsJudged};
+ghost use Rattle.e_book.specs.Headed.{headed, is_known, stated_by};
+ghost use Rattle.e_verify.specs.Checking.{RejectIs};
+ghost use Rattle.e_verify.specs.Verdicts.{IsVerifiable};
+ghost use Rattle.e_judgement.specs.Judged.{is_head, JudgesText, JudgedBehind, IsJudged};
 
 use crate::judgement::Judgement;
 use e_book::{Known, Theorem};
@@ -46,6 +51,15 @@ fn behind_the_last(lines: &mut Lines, theorems: u32) -> Judgement
     }
 }
 
+/// Checks a theorem that is read by those that are known.
+fn check(alloc: Global, known: &Known, theorem: &Theorem) -> Result<(), Reject>
+    requires { IsVerifiable (stated_by known.now) (stated theorem.now.statement) (script_of theorem.now.block) }
+    ensures certified { OnOk result (Certified (stated_by known.now) (stated theorem.now.statement) (script_of theorem.now.block)) }
+    ensures bad { IfErr result (RejectIs (verdict (stated_by known.now) (stated theorem.now.statement) (script_of theorem.now.block))) }
+{
+    verify(alloc, known.statements(), &theorem.statement, &theorem.block)
+}
+
 /// Keeps the title and the statement of a theorem.
 fn keep(known: &mut Known, theorem: Theorem) -> Result<(), AllocError>
     requires { is_known known.old theorem.title ≡ false }
@@ -66,14 +80,15 @@ fn judge_theorems(alloc: Global, lines: &mut Lines) -> Result<Judgement, AllocEr
             Err(TextFault::Garbled { line }) => return Ok(Judgement::Garbled { line }),
             Err(TextFault::NoMemory) => return Err(AllocError),
         };
-        match verify(alloc, known.statements(), &theorem.statement, &theorem.block) {
-            Ok(()) => keep(&mut known, theorem)?,
+        match check(alloc, &known, &theorem) {
+            Ok(()) => {}
             Err(Reject::Bad { step }) => {
                 let title = theorem.title;
                 return Ok(Judgement::Bad { title, step });
             }
             Err(Reject::NoMemory) => return Err(AllocError),
         }
+        keep(&mut known, theorem)?;
     }
 }
 
@@ -88,8 +103,13 @@ pub fn judge(alloc: Global, text: &[u8]) -> Result<Judgement, AllocError>
     ensures { IfOk result (λ j. JudgesText text.now j) }
 {
     let mut lines = Lines::new(text, LONGEST_LINE, u64::MAX);
-    match lines.next() {
-        Some(Ok(line)) if is_head(&line) => judge_theorems(alloc, &mut lines),
-        _ => Ok(Judgement::Garbled { line: 1 }),
+    let first = match lines.next() {
+        Some(Ok(line)) => line,
+        Some(Err(_)) => return Ok(Judgement::Garbled { line: 1 }),
+        None => return Ok(Judgement::Garbled { line: 1 }),
+    };
+    if !is_head(&first) {
+        return Ok(Judgement::Garbled { line: 1 });
     }
+    judge_theorems(alloc, &mut lines)
 }

@@ -1,7 +1,10 @@
 -- What is written of a judgement, and which answer a text can have.
-use Rattle.std.proofs.Common.{◌≡◌, ◌⊎◌, inl, inr, ℕ, ◌+◌, ◌<◌, ◌≤◌, ◌^◌, List, [], length, Option, Some, None, refl, sym, ap, subst, ◌∙◌, arith, take, length-take-le}
+use Rattle.std.proofs.Common.{◌≡◌, ◌⊎◌, inl, inr, ℕ, ◌+◌, ◌<◌, ◌≤◌, ◌^◌, true, true≢false, List, [], ◌∷◌, length, Option, Some, None, refl, sym, ap, subst, ◌∙◌, arith, take, length-take-le}
 use Rattle.std.proofs.lemmas.List.{take_all}
 use Rattle.std.proofs.lemmas.Bool.{cases_lt}
+use Rattle.std.proofs.lemmas.Slice.Eq.{bytes_eq-Decides}
+use Rattle.std.specs.Prelude.{codes}
+use Rattle.std.specs.Str.{bytes_eq}
 use Rattle.e_io.specs.Bytes.{Grew, GrewByFront}
 use Rattle.e_judgement.specs.declared.judgement.Judgement.{Judgement}
 use Rattle.e_judgement.specs.declared.judgement.Judgement.TheVariants as judged
@@ -9,6 +12,8 @@ use Rattle.e_judgement.specs.Judged.{JudgesText}
 use Rattle.e_judgement.proofs.OneJudgement.{one_judgement}
 use Rattle.elements.specs.declared.status.Status.{Status}
 use Rattle.elements.specs.declared.status.Status.TheVariants as status
+use Rattle.elements.specs.Answers.{ChecksBook, IsReadFault, IsWriteFault, IsAccepted, IsVerified, IsWhole}
+use Rattle.elements.specs.Words.{is_check, is_verify}
 use Rattle.elements.specs.Input.{IsTextOf}
 use Rattle.elements.specs.Endings.{Closes}
 use Rattle.elements.specs.Verifying.{answer_of, line_of, Tells, told_line, WroteLine, WroteFrontOfLine, Verifies, VerifiesText, IsFailure, AnswersText}
@@ -51,6 +56,17 @@ pub judged_closed : (text : List ℕ) (old new : Option (List ℕ)) (last : List
     → JudgesText text j → last ≡ line_of j → answer ≡ answer_of j → Closes old new last answer result → Verifies text old new result
 judged_closed text old new last j answer result h e a c =
     told_closed text old new last (answer_of j) result (judgement_tells text j h) (e ∙ line_is j) (subst (λ (x : Status). Closes old new last x result) a c)
+
+-- the answer of a judgement is no fault of the source or the sink
+pub no_read_fault : (j : Judgement) (answer : Status) → answer ≡ answer_of j → IsReadFault answer → ⊥
+no_read_fault (judged.Verified n) answer e h = subst IsReadFault e h
+no_read_fault (judged.Bad title step) answer e h = subst IsReadFault e h
+no_read_fault (judged.Garbled line) answer e h = subst IsReadFault e h
+
+pub no_write_fault : (j : Judgement) (answer : Status) → answer ≡ answer_of j → IsWriteFault answer → ⊥
+no_write_fault (judged.Verified n) answer e h = subst IsWriteFault e h
+no_write_fault (judged.Bad title step) answer e h = subst IsWriteFault e h
+no_write_fault (judged.Garbled line) answer e h = subst IsWriteFault e h
 
 -- some text is the source's
 pub any_text : (left old new : Option (List ℕ)) (answer : Status) → ((text : List ℕ) → Verifies text old new answer) → VerifiesText left old new answer
@@ -105,3 +121,20 @@ pub answers_text : (left old new : Option (List ℕ)) (answer : Status) → Veri
 answers_text left old new answer c text j told few h =
     let all = subst (λ (l : Option (List ℕ)). VerifiesText l old new answer) told c in
     answered text j old new answer few h (subst (λ (t : List ℕ). Verifies t old new answer) all.1 all.2)
+
+-- what was read to its end was verified, or was an accepted book
+pub whole_verified : (left old new : Option (List ℕ)) (answer : Status) → VerifiesText left old new answer → IsWhole answer → IsVerified answer
+whole_verified left old new (status.Accepted n) c w = absurd c.2.0
+whole_verified left old new (status.Verified n) c w = tt
+whole_verified left old new answer c w = absurd w
+
+pub whole_accepted : (left old new : Option (List ℕ)) (answer : Status) → ChecksBook left old new answer → IsWhole answer → IsAccepted answer
+whole_accepted left old new (status.Accepted n) c w = tt
+whole_accepted left old new (status.Verified n) c w = absurd c.2
+whole_accepted left old new answer c w = absurd w
+
+-- no words are both commands
+pub not_both : (words : List (List ℕ)) → is_check words ≡ true → is_verify words ≡ true → ⊥
+not_both [] h k = absurd cc
+not_both (w ∷ []) h k = absurd (true≢false (sym (ap (λ (x : List ℕ). bytes_eq x (codes "verify")) ((bytes_eq-Decides w (codes "check")).0 h)) ∙ k))
+not_both (w ∷ v ∷ words) h k = absurd cc

@@ -1,0 +1,26 @@
+use Rattle.std.proofs.Common.{◌≡◌, ◌∙◌, refl, sym, ap, subst, List, ℕ, arith, length}
+use Rattle.elements.specs.LastLines.{no_memory_line, read_fault_line, text_limit_line}
+use Rattle.elements.specs.Verifying.{Verifies}
+use Rattle.elements.specs.declared.status.Status.TheVariants as status
+use Rattle.elements.proofs.Verifying.{told_closed, any_text, short_text, long_text}
+use Rattle.elements.proofs.verifier.verify.Goals as goal
+
+pub returns-in-Err-ReadFault-clause-verifies : goal.returns-in-Err-ReadFault-clause-verifies
+returns-in-Err-ReadFault-clause-verifies g c =
+    any_text (g.S.Source.left c.args.source.now) (g.K.Sink.written c.args.sink.now) (g.K.Sink.written c.close.new.sink) c.close.result
+    (λ text. told_closed text (g.K.Sink.written c.args.sink.now) (g.K.Sink.written c.close.new.sink) read_fault_line status.ReadFault c.close.result tt refl c.close.ensures.closes)
+
+pub returns-in-Err-NoMemory-clause-verifies : goal.returns-in-Err-NoMemory-clause-verifies
+returns-in-Err-NoMemory-clause-verifies g c =
+    any_text (g.S.Source.left c.args.source.now) (g.K.Sink.written c.args.sink.now) (g.K.Sink.written c.close-in-Err-NoMemory.new.sink) c.close-in-Err-NoMemory.result
+    (λ text. told_closed text (g.K.Sink.written c.args.sink.now) (g.K.Sink.written c.close-in-Err-NoMemory.new.sink) no_memory_line status.NoMemory c.close-in-Err-NoMemory.result tt refl c.close-in-Err-NoMemory.ensures.closes)
+
+pub returns-then-clause-verifies : goal.returns-then-clause-verifies
+returns-then-clause-verifies g c =
+    long_text (g.S.Source.left c.args.source.now) c.in-Ok.text.items (g.K.Sink.written c.args.sink.now) (g.K.Sink.written c.close-then.new.sink) c.close-then.result c.in-Ok.ensures.text (omega arith)
+    (λ text far. told_closed text (g.K.Sink.written c.args.sink.now) (g.K.Sink.written c.close-then.new.sink) text_limit_line status.TextLimit c.close-then.result far refl c.close-then.ensures.closes)
+
+pub returns-clause-verifies : goal.returns-clause-verifies
+returns-clause-verifies g c =
+    short_text (g.S.Source.left c.args.source.now) c.in-Ok.text.items (g.K.Sink.written c.args.sink.now) (g.K.Sink.written c.tell.new.sink) c.tell.result c.in-Ok.ensures.text (omega arith)
+    (subst (λ (t : List ℕ). Verifies t (g.K.Sink.written c.args.sink.now) (g.K.Sink.written c.tell.new.sink) c.tell.result) c.deref.ensures.value c.tell.ensures.verifies)
