@@ -84,9 +84,9 @@ taken_good : (known : List Headed) (r next : Reading) (l : Seen) → GoodReading
 taken_good known r next l h e =
     elim (line_taken known r next l e) [
       | inl c ↦ record {
-            kept = subst AreGood (sym c.2.kept) h.kept;
-            owed = strict_good r.owed l.bytes c.0 c.2.mark next.owed h.owed c.2.spelled c.2.owed;
-          }
+        kept = subst AreGood (sym c.2.kept) h.kept;
+        owed = strict_good r.owed l.bytes c.0 c.2.mark next.owed h.owed c.2.spelled c.2.owed;
+      }
       | inr s ↦ behind s.1
     ]
   where

@@ -57,7 +57,12 @@ fn check(alloc: Global, known: &Known, theorem: &Theorem) -> Result<(), Reject>
     ensures certified { OnOk result (Certified (stated_by known.now) (stated theorem.now.statement) (script_of theorem.now.block)) }
     ensures bad { IfErr result (RejectIs (verdict (stated_by known.now) (stated theorem.now.statement) (script_of theorem.now.block))) }
 {
-    verify(alloc, known.statements(), &theorem.statement, &theorem.block)
+    verify(
+        alloc,
+        known.statements(),
+        &theorem.statement,
+        &theorem.block,
+    )
 }
 
 /// Keeps the title and the statement of a theorem.
