@@ -65,7 +65,7 @@ certified_line : (r next : Reading) (line : List ℕ) (words : List (List ℕ)) 
 certified_line r next line words e =
     let m = bind_ok (strict_mark line words) (λ m. marked r.owed m >>= λ o. Ok (record r { owed = o })) next e in
     let o = bind_ok (marked r.owed m.0) (λ o. Ok (record r { owed = o })) next m.2 in
-    let is : record r { owed = o.0 } ≡ next = ok_is _ _ o.2 in
+    let is : record r { owed = o.0 } ≡ next = ok_is (record r { owed = o.0 }) next o.2 in
     record {
       mark = m.0;
       spelled = m.1;

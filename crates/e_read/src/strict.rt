@@ -122,7 +122,8 @@ fn ends_with(sorts: &[Sort], sort: Sort) -> bool
 {
     match sorts {
         [] => false,
-        [.., last] => is_sort(*last, sort),
+        [only] => is_sort(*only, sort),
+        [_, rest @ ..] => ends_with(rest, sort),
     }
 }
 
