@@ -1,7 +1,6 @@
 -- When a line is certified, by the tests of its parts.
-use Rattle.std.proofs.Common.{◌≡◌, ℕ, zero, suc, ◌+◌, ◌<◌, ◌≤◌, ◌^◌, List, [], ◌∷◌, length, map, get_or, refl, sym, ap, subst, ◌∙◌, arith, Bool, true, false, not, ◌&&◌, Option, Some, None, true≢false, eq-eqb}
-use Rattle.std.specs.Prelude.{slice_get, option_and_then, nat_le, nat_lt, IsTrue, unwrap_or, if◌then◌else◌, ◌==◌}
-use Rattle.std.specs.Option.{option_map_or}
+use Rattle.std.proofs.Common.{◌≡◌, ℕ, zero, suc, ◌+◌, ◌<◌, ◌≤◌, ◌^◌, List, [], ◌∷◌, length, map, get_or, refl, sym, ap, subst, ◌∙◌, arith, Bool, true, false, ◌&&◌, Option, Some, None, true≢false, eq-eqb}
+use Rattle.std.specs.Prelude.{slice_get, option_and_then, nat_le, nat_lt, unwrap_or, if◌then◌else◌, ◌==◌}
 use Rattle.std.specs.List.{list_all}
 use Rattle.e_literal.specs.declared.object.Obj.{Obj}
 use Rattle.e_literal.specs.declared.object.Scope.{Scope}
@@ -33,7 +32,7 @@ use Rattle.e_construct.proofs.Sizes.{few_made}
 use Rattle.e_deriv.specs.Script.{Script, Cite, Hence, Make, Apply, Superposed}
 use Rattle.e_deriv.specs.Goal.{Goal}
 use Rattle.e_deriv.specs.Fitting.{is_small}
-use Rattle.e_deriv.specs.Steps.{is_citation, is_cited, instance_gives}
+use Rattle.e_deriv.specs.Steps.{is_citation, is_cited}
 use Rattle.std.specs.Option.{option_map}
 use Rattle.std.proofs.lemmas.Option.{slice_get-map}
 use Rattle.e_theorem.specs.declared.statement.Statement.{Statement}

@@ -1,5 +1,5 @@
 -- The literals of an instance are well formed.
-use Rattle.std.proofs.Common.{◌≡◌, ℕ, zero, suc, List, [], ◌∷◌, map, refl, sym, ap, subst, ◌∙◌, Bool, true, false, ◌&&◌, Option, Some, None, true≢false, inl, inr}
+use Rattle.std.proofs.Common.{◌≡◌, ℕ, zero, suc, List, [], ◌∷◌, map, refl, sym, ap, subst, ◌∙◌, Bool, true, false, ◌&&◌, Option, Some, None}
 use Rattle.std.specs.Prelude.{slice_get, option_and_then, if◌then◌else◌, not}
 use Rattle.std.specs.List.{list_all}
 use Rattle.e_literal.specs.declared.object.Sort.{Sort}
@@ -10,7 +10,7 @@ use Rattle.e_literal.specs.Literal.{obj, negation}
 use Rattle.e_literal.specs.Facts.{others}
 use Rattle.e_literal.specs.Same.{same_lit}
 use Rattle.e_literal.specs.WellFormed.{is_well_formed}
-use Rattle.e_literal.proofs.Terms.{and_left, and_right, yes_or_no}
+use Rattle.e_literal.proofs.Terms.{and_left, and_right}
 use Rattle.e_theorem.proofs.Renaming.{renamed_well_formed}
 use Rattle.e_clause.specs.Rows.{Row}
 use Rattle.e_clause.specs.Table.{table}

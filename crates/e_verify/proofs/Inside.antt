@@ -1,5 +1,5 @@
 -- Steps and closes as the code has them, with the blocks inside.
-use Rattle.std.proofs.Common.{◌≡◌, ℕ, zero, suc, ◌+◌, ◌≤◌, ◌<◌, ◌^◌, List, [], ◌∷◌, length, take, drop, get_or, refl, sym, ap, ◌∙◌, subst, arith, Bool, true, false, Option, Result, Ok, Err, Box, Global}
+use Rattle.std.proofs.Common.{◌≡◌, ℕ, zero, suc, ◌+◌, ◌≤◌, ◌<◌, ◌^◌, List, [], ◌∷◌, length, drop, get_or, refl, sym, ap, ◌∙◌, subst, arith, Bool, true, false, Option, Result, Ok, Err, Box, Global}
 use Rattle.std.specs.Prelude.{IsTrue, IsFalse, IfOk, IfErr, OnOk}
 use Rattle.std.specs.List.{list_all}
 use Rattle.std.specs.Option.{option_map_or}
@@ -20,7 +20,7 @@ use Rattle.e_deriv.specs.declared.block.Step.{Step}
 use Rattle.e_deriv.specs.declared.block.Step.TheVariants.{Cite as CiteStep, Hence as HenceStep, Make as MakeStep, Apply as ApplyStep, Claim as ClaimStep, Superposed as SuperposedStep}
 use Rattle.e_deriv.specs.declared.block.Close.{Close}
 use Rattle.e_deriv.specs.declared.block.Close.TheVariants.{Qed as QedClose, Contradiction as ContradictionClose, Cases as CasesClose}
-use Rattle.e_deriv.specs.Script.{Script, Cite, Hence, Make, Apply, Claim, Superposed, Qed, Contradiction, Cases, script_of, step_script, steps_script, close_script, size}
+use Rattle.e_deriv.specs.Script.{Script, Cite, Hence, Make, Apply, Claim, Superposed, Qed, Contradiction, Cases, script_of, step_script, steps_script, close_script}
 use Rattle.e_deriv.specs.Goal.{Goal, goal_of}
 use Rattle.e_deriv.specs.Steps.{are_over}
 use Rattle.e_deriv.specs.Certified.{is_certified}
@@ -28,15 +28,15 @@ use Rattle.e_deriv.specs.Fitting.{is_small}
 use Rattle.e_deriv.proofs.Scripts.{steps_at, step_script-Cite, step_script-Hence, step_script-Make, step_script-Apply, step_script-Claim, step_script-Superposed, close_script-Qed, close_script-Contradiction, close_script-Cases}
 use Rattle.e_deriv.proofs.Stops.{lines_length}
 use Rattle.e_verify.specs.declared.reject.Reject.{Reject}
-use Rattle.e_verify.specs.declared.reject.Reject.TheVariants.{Bad, NoMemory}
+use Rattle.e_verify.specs.declared.reject.Reject.TheVariants.{Bad}
 use Rattle.e_verify.specs.declared.standing.Standing.{Standing}
 use Rattle.e_verify.specs.declared.standing.Outer.{Outer}
 use Rattle.e_verify.specs.Standing.{with_facts, after_superposed, outer_of, left_for}
 use Rattle.e_verify.specs.Written.{is_good_cert, is_good_against}
-use Rattle.e_verify.specs.Checking.{line_at, lines_at, verdict_at, RejectIs, IsReadyFor, IsReadyStep, KeepsFacts, IsChecked, IsPassed, StepRejects}
+use Rattle.e_verify.specs.Checking.{line_at, verdict_at, RejectIs, IsReadyFor, IsReadyStep, KeepsFacts, IsPassed, StepRejects}
 use Rattle.e_verify.proofs.FirstLines.{some_lines, qed_lines, contradiction_lines}
 use Rattle.e_verify.proofs.Keeping.{stay_on, stay_joined, stay_all}
-use Rattle.e_verify.proofs.Passing.{cite_line, hence_line, make_line, apply_line, told_passed, told_bad, told_closed, told_open, reject_as, scope_small, hence_written, make_written, apply_written, superposed_written, qed_written, contradiction_written, claim_inner, passed_claim, claim_rejected, claim_bad, superposed_inner, IsHead, passed_superposed, superposed_rejected, bad_line, cases_first, cases_second, cases_same, cases_rejected, cases_bad}
+use Rattle.e_verify.proofs.Passing.{told_closed, told_open, reject_as, scope_small, hence_written, make_written, apply_written, superposed_written, qed_written, contradiction_written, claim_inner, passed_claim, claim_rejected, claim_bad, superposed_inner, IsHead, passed_superposed, superposed_rejected, bad_line, cases_first, cases_second, cases_same, cases_rejected, cases_bad}
 
 -- ---- the steps of a block
 

@@ -12,4 +12,3 @@ pub mod Closing
 pub mod Passing
 pub mod Inside
 pub mod Verified
-pub mod Examples

@@ -1,5 +1,5 @@
 -- Lines that are checked one after another, with the blocks inside.
-use Rattle.std.proofs.Common.{◌≡◌, ℕ, zero, suc, ◌+◌, ◌<◌, ◌≤◌, ◌^◌, List, [], ◌∷◌, ◌++◌, length, drop, take, get_or, refl, sym, ap, ◌∙◌, subst, arith, Bool, true, false, ◌&&◌, Option, Some, None, Result, Ok, Err, true≢false, Box, Global}
+use Rattle.std.proofs.Common.{◌≡◌, ℕ, suc, ◌+◌, List, [], ◌∷◌, ◌++◌, length, refl, sym, ap, ◌∙◌, subst, arith, Bool, true, false, ◌&&◌, Option, Result, Ok, Err}
 use Rattle.std.specs.Prelude.{IsTrue, IsFalse, IfOk, IfErr, if◌then◌else◌}
 use Rattle.std.specs.List.{list_all}
 use Rattle.std.proofs.lemmas.List.Folds.{list_all-append}
@@ -16,22 +16,21 @@ use Rattle.e_clause.specs.declared.cert.By.{By}
 use Rattle.e_clause.specs.declared.cert.Cert.{Cert}
 use Rattle.e_construct.specs.declared.construction.Construction.{Construction}
 use Rattle.e_construct.specs.declared.superpose.Superpose.{Superpose}
-use Rattle.e_deriv.specs.declared.block.Block.{Block}
 use Rattle.e_deriv.specs.declared.block.Step.{Step}
 use Rattle.e_deriv.specs.Script.{Script, Cite, Hence, Make, Apply, Claim, Superposed, Qed, Contradiction, Cases, step_script, size}
 use Rattle.e_deriv.specs.Goal.{Goal, goal_of}
-use Rattle.e_deriv.specs.Lines.{Line, lines, first_failure}
+use Rattle.e_deriv.specs.Lines.{Line, first_failure}
 use Rattle.e_deriv.specs.Steps.{are_over}
 use Rattle.e_deriv.specs.Certified.{is_certified}
 use Rattle.e_deriv.specs.Fitting.{is_small}
-use Rattle.e_deriv.proofs.Scripts.{size-Cite, size-Hence, size-Make, size-Apply, size-Claim, size-Superposed, size-Qed, size-Contradiction, size-Cases}
+use Rattle.e_deriv.proofs.Scripts.{size-Cite, size-Hence, size-Make, size-Apply, size-Claim, size-Superposed, size-Cases}
 use Rattle.e_deriv.proofs.Stops.{lines_length}
 use Rattle.e_verify.specs.declared.reject.Reject.{Reject}
 use Rattle.e_verify.specs.declared.reject.Reject.TheVariants.{Bad, NoMemory}
 use Rattle.e_verify.specs.declared.standing.Standing.{Standing}
 use Rattle.e_verify.specs.Standing.{with_facts, after_superposed}
 use Rattle.e_verify.specs.Written.{is_good_cert, is_good_against, is_written_well}
-use Rattle.e_verify.specs.Checking.{line_at, lines_at, verdict_at, RejectIs, IsReadyFor, IsReadyStep, KeepsFacts, IsChecked, IsPassed, StepRejects}
+use Rattle.e_verify.specs.Checking.{line_at, lines_at, verdict_at, RejectIs, IsReadyFor, IsChecked, IsPassed, StepRejects}
 use Rattle.e_verify.proofs.FirstLines.{some_lines, claim_lines, superposed_lines, cases_lines}
 use Rattle.e_verify.proofs.Keeping.{stay_all}
 

@@ -1,6 +1,6 @@
 -- What is read from a table of terms with their coefficients.
-use Rattle.std.proofs.Common.{◌≡◌, ℕ, ◌+◌, ◌<◌, ◌≤◌, ◌^◌, ◌↔◌, List, [], ◌∷◌, refl, sym, ap, subst, ◌∙◌, arith, Bool, true, false, cond, not, map, Option, Some, None, ◌&&◌, true≢false, inl, inr, SFits}
-use Rattle.std.specs.Prelude.{ℤ, pos, ◌+ℤ◌, ◌*ℤ◌, unwrap_or, unsigned_abs, IsTrue}
+use Rattle.std.proofs.Common.{◌≡◌, ◌+◌, ◌<◌, ◌^◌, ◌↔◌, List, [], ◌∷◌, refl, sym, ap, subst, ◌∙◌, arith, Bool, true, false, cond, not, map, Some, ◌&&◌, true≢false, SFits}
+use Rattle.std.specs.Prelude.{ℤ, pos, ◌+ℤ◌, unwrap_or, unsigned_abs, IsTrue}
 use Rattle.std.specs.List.{list_all, All}
 use Rattle.std.specs.Bool.{Decides}
 use Rattle.std.proofs.lemmas.Bool.Decides.{Decides-int_eq}
@@ -8,7 +8,6 @@ use Rattle.std.proofs.lemmas.Map.Views.{All-found}
 use Rattle.std.proofs.lemmas.List.Elements.{All-head, All-tail}
 use Rattle.std.proofs.lemmas.Int.{fits_signed_from_abs}
 use Rattle.std.specs.declared.cmp.Ordering.{Ordering}
-use Rattle.std.specs.declared.cmp.Ordering.TheVariants.{Equal}
 use Rattle.std.specs.Ordering.{int_eq, is_eq}
 use Rattle.std.specs.Cmp.{Equal-is, tied_itself}
 use Rattle.std.specs.Map.{lookup, values_of}
@@ -20,7 +19,7 @@ use Rattle.e_literal.specs.contracts.object.TermOrd.TheImpl.{cmp-value}
 use Rattle.e_literal.specs.Same.{canonical, term_eq}
 use Rattle.e_literal.specs.NormalForm.{term_cmp}
 use Rattle.e_literal.specs.Rows.{coefficient, normal_summands, times, is_degenerate}
-use Rattle.e_literal.proofs.Terms.{and_left, and_right, yes_or_no, term_eq_is, term_eq_same}
+use Rattle.e_literal.proofs.Terms.{and_left, and_right, term_eq_is, term_eq_same}
 use Rattle.e_literal.proofs.Arith.{sums}
 use Rattle.e_literal.proofs.NormalForms.{term_cmp_total, term_cmp_exact}
 use Rattle.e_literal.proofs.Kept.{same_order}

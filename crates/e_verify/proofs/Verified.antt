@@ -1,26 +1,24 @@
 -- The whole derivation of a statement.
-use Rattle.std.proofs.Common.{◌≡◌, ℕ, ◌+◌, ◌<◌, ◌≤◌, ◌^◌, List, length, refl, sym, ap, subst, ◌∙◌, arith, Bool, true, ◌&&◌, Result, Ok}
+use Rattle.std.proofs.Common.{◌≡◌, ℕ, ◌+◌, ◌<◌, ◌^◌, List, length, refl, sym, ap, subst, ◌∙◌, arith, Bool, true, ◌&&◌, Result, Ok}
 use Rattle.std.proofs.Common.{[], ◌∷◌}
 use Rattle.std.specs.List.{list_all}
 use Rattle.e_literal.specs.declared.literal.Lit.{Lit}
-use Rattle.e_literal.specs.declared.object.Scope.{Scope}
 use Rattle.e_literal.specs.Literal.{all_in_scope}
 use Rattle.e_literal.specs.Scopes.{grown, nothing}
 use Rattle.e_literal.specs.Use.{Stated, scope_of, is_statement}
 use Rattle.e_literal.specs.WellFormed.{is_well_formed}
-use Rattle.e_literal.proofs.Growing.{total_grown, grown_bounds}
+use Rattle.e_literal.proofs.Growing.{total_grown}
 use Rattle.e_literal.proofs.Terms.{and_left, and_right}
 use Rattle.e_deriv.specs.Script.{Script}
 use Rattle.e_deriv.specs.Goal.{Goal, goal_of_statement}
 use Rattle.e_deriv.specs.Certified.{Certified, derivation_lines, is_certified, verdict}
 use Rattle.e_deriv.specs.Fitting.{is_small, is_small_statement, all_objects}
-use Rattle.e_verify.specs.declared.reject.Reject.{Reject}
 use Rattle.e_verify.specs.declared.standing.Standing.{Standing}
 use Rattle.e_verify.specs.Standing.{start_of}
-use Rattle.e_verify.specs.Checking.{verdict_at, RejectIs, IsReadyFor}
+use Rattle.e_verify.specs.Checking.{verdict_at, IsReadyFor}
 use Rattle.e_verify.specs.Verdicts.{IsVerifiable}
-use Rattle.e_verify.proofs.Certified.{few_of_small, few_objects}
-use Rattle.e_verify.proofs.Passing.{all_pass, reject_as}
+use Rattle.e_verify.proofs.Certified.{few_objects}
+use Rattle.e_verify.proofs.Passing.{all_pass}
 
 pub same_verdict : (before : List Stated) (t : Stated) (d : Script) (x : Standing) (g : Goal) → x ≡ start_of t → g ≡ goal_of_statement t → verdict before t d ≡ verdict_at before d x g 1
 same_verdict before t d x g is same = sym (ap (λ y. verdict_at before d y g 1) is ∙ ap (λ h. verdict_at before d (start_of t) h 1) same)

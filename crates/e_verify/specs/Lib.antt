@@ -5,4 +5,3 @@ pub mod Written
 pub mod Standing
 pub mod Checking
 pub mod Verdicts
-pub mod Examples

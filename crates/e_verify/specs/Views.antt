@@ -1,5 +1,5 @@
 -- The rows that the code names, and where it reads their names.
-use Rattle.std.specs.Prelude.{List, ◌++◌, Bool, true, false, Option}
+use Rattle.std.specs.Prelude.{◌++◌, Bool, true, false}
 use Rattle.std.specs.Option.{option_map, option_copied}
 use Rattle.e_literal.specs.Rows.{Row, Says, Summands, plus, minus, negative, normal_summands}
 use Rattle.e_literal.specs.Rows as says

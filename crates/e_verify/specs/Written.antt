@@ -2,7 +2,6 @@
 use Rattle.std.specs.Prelude.{List, Bool, true, ◌&&◌, ℤ}
 use Rattle.std.specs.Option.{option_map_or, option_copied}
 use Rattle.std.specs.List.{list_all}
-use Rattle.e_literal.specs.declared.literal.Lit.{Lit}
 use Rattle.e_literal.specs.WellFormed.{is_well_formed}
 use Rattle.e_clause.specs.declared.cert.RowName.{RowName}
 use Rattle.e_clause.specs.declared.cert.RowName.TheVariants.{Fact}

@@ -11,11 +11,7 @@ use e_literal::{Lit, Obj, negate, same};
 use std::alloc::{AllocError, Global};
 
 /// The literals of the rule's clause at the arguments, or none where they do not fit.
-pub fn instance_of(
-    alloc: Global,
-    rule: Rule,
-    args: &[Obj],
-) -> Result<Option<Vec<Lit>>, AllocError>
+pub fn instance_of(alloc: Global, rule: Rule, args: &[Obj]) -> Result<Option<Vec<Lit>>, AllocError>
     ensures { IfOk result (λ o. option_map (λ v. v.items) o ≡ Inst rule args.now) }
 {
     match instance(alloc, rule, args) {

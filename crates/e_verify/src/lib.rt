@@ -20,6 +20,3 @@ mod verifier;
 
 pub use reject::Reject;
 pub use verifier::verify;
-
-#[cfg(test)]
-mod tests;

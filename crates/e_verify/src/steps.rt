@@ -41,12 +41,7 @@ pub fn cite(alloc: Global, by: &By, standing: &mut Standing) -> Result<bool, All
 }
 
 /// Whether the citation fits, and its instance gives the literal.
-fn is_cited(
-    alloc: Global,
-    scope: Scope,
-    facts: &Facts,
-    by: &By,
-) -> Result<bool, AllocError>
+fn is_cited(alloc: Global, scope: Scope, facts: &Facts, by: &By) -> Result<bool, AllocError>
     ensures { IfOk result (λ b. b ≡ (is_citation scope by.now && Steps.is_cited facts.now by.now)) }
 {
     if by.rule.is_transfer() || !objects_in(scope, by.args.items()) || !in_scope(&by.lit, scope) {

@@ -15,11 +15,7 @@ use std::alloc::{AllocError, Global};
 
 /// Whether the sum is of good size, each of its rows may be used here, and it is absurd: all terms cancel, no row that says at
 /// least or more is taken away, and one that says more is added.
-pub fn refutes(
-    alloc: Global,
-    place: &Place,
-    sum: &[(i128, RowName)],
-) -> Result<bool, AllocError>
+pub fn refutes(alloc: Global, place: &Place, sum: &[(i128, RowName)]) -> Result<bool, AllocError>
     requires place { IsTrue (is_good_place place.now) }
     requires sum { IsTrue (is_good_sum sum.now) }
     ensures { IfOk result (λ b. b ≡ Sum.refutes (place_said place.now) sum.now) }

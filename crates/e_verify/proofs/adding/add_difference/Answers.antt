@@ -1,4 +1,4 @@
-use Rattle.std.proofs.Common.{◌≡◌, ◌+ℤ◌, ◌*ℤ◌, ◌∙◌, ap, SFits, to_z-of_z, rules}
+use Rattle.std.proofs.Common.{◌+ℤ◌, ◌*ℤ◌, ◌∙◌, ap, SFits, to_z-of_z, rules}
 use mir.Syntax.{w128}
 use Rattle.e_literal.specs.Rows.{coefficient, normal_summands, plus}
 use Rattle.e_verify.specs.Totals.{at}

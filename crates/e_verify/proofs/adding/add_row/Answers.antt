@@ -1,4 +1,4 @@
-use Rattle.std.proofs.Common.{◌≡◌, ◌+ℤ◌, ◌∙◌, ap, SFits, to_z-of_z, rules}
+use Rattle.std.proofs.Common.{◌+ℤ◌, ◌∙◌, ap, SFits, to_z-of_z, rules}
 use mir.Syntax.{w128}
 use Rattle.e_verify.specs.Totals.{at}
 use Rattle.e_literal.specs.declared.object.Term.TheVariants.{Right}

@@ -1,6 +1,5 @@
-use Rattle.std.proofs.Common.{◌≡◌, ◌+ℤ◌, ◌*ℤ◌, pos, SFits, to_z-of_z, rules, get_or, take, ap, sym, ◌∙◌}
+use Rattle.std.proofs.Common.{◌+ℤ◌, SFits, to_z-of_z, rules, get_or, take, ap, ◌∙◌}
 use mir.Syntax.{w128}
-use Rattle.e_literal.specs.declared.object.Term.{Term}
 use Rattle.e_literal.specs.declared.object.Term.TheVariants.{Seg}
 use Rattle.e_literal.specs.declared.object.Mono.{Mono}
 use Rattle.e_literal.specs.Same.{canonical}

@@ -1,14 +1,11 @@
-use Rattle.std.proofs.Common.{◌≡◌, ◌+◌, rules, arith, refl, sym, ap, ◌∙◌, subst, drop, true, false, Ok}
+use Rattle.std.proofs.Common.{rules, arith, refl, sym, ap, ◌∙◌, subst, true, false}
 use Rattle.e_theorem.specs.Statements.{all_stated}
 use Rattle.e_deriv.specs.declared.block.Close.TheViews.{the_lemmas}
-use Rattle.e_deriv.specs.Script.{script_of, steps_script, step_script, close_script, Cite, Hence, Make, Apply}
-use Rattle.e_deriv.specs.Goal.{goal_of}
+use Rattle.e_deriv.specs.Script.{script_of, close_script, Cite, Hence, Make, Apply}
 use Rattle.e_deriv.specs.Steps.{are_over}
-use Rattle.e_literal.specs.Literal.{negation, all_in_scope}
-use Rattle.e_literal.specs.Facts.{joined}
-use Rattle.e_verify.specs.Standing.{goal_said, with_facts}
-use Rattle.e_verify.specs.Checking.{verdict_at, RejectIs, IsReadyFor, IsReadyStep, IsChecked, KeepsFacts}
-use Rattle.e_verify.proofs.Keeping.{all_stay, stay_joined}
+use Rattle.e_verify.specs.Standing.{goal_said}
+use Rattle.e_verify.specs.Checking.{verdict_at, IsReadyFor, IsChecked}
+use Rattle.e_verify.proofs.Keeping.{all_stay}
 use Rattle.e_verify.proofs.Passing.{cite_line, hence_line, make_line, apply_line, told_passed, told_bad}
 use Rattle.e_verify.proofs.Inside.{step_ready, step_rejects, step_same, step_next, steps_end, kept_on, ok_as, err_as, on_ok, few_one, few_step, small_step, cite_is, hence_is, make_is, apply_is, hence_parts, make_parts, apply_parts, claim_ready, claim_fails, claim_stops, claim_done, superposed_parts, superposed_ready, superposed_fails, superposed_stops, superposed_done, qed_parts, contradiction_parts, qed_ok, qed_bad, contradiction_ok, contradiction_bad, split_fails, first_ready, first_stops, behind_first, second_ready, split_same, kept_behind}
 use Rattle.e_verify.proofs.block.+block.Goals as goal

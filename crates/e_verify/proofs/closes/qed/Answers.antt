@@ -1,5 +1,5 @@
-use Rattle.std.proofs.Common.{◌≡◌, ap, sym, ◌∙◌, true, Bool, Result, Ok, Err}
-use Rattle.std.specs.Prelude.{List, IfOk}
+use Rattle.std.proofs.Common.{◌≡◌, ap, sym, ◌∙◌, Bool, Result, Ok, Err}
+use Rattle.std.specs.Prelude.{IfOk}
 use Rattle.std.specs.List.{list_all}
 use Rattle.e_literal.specs.WellFormed.{is_well_formed}
 use Rattle.e_clause.specs.Certify.{certify_all}

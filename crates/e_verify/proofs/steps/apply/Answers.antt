@@ -1,5 +1,5 @@
-use Rattle.std.proofs.Common.{◌≡◌, ap, sym, ◌∙◌, length, true, subst, ◌+◌, ◌<◌, ◌^◌}
-use Rattle.std.specs.Prelude.{List, IsTrue}
+use Rattle.std.proofs.Common.{ap, sym, ◌∙◌, length, true, subst, ◌+◌, ◌<◌, ◌^◌}
+use Rattle.std.specs.Prelude.{List}
 use Rattle.std.specs.Option.{option_map}
 use Rattle.std.specs.List.{list_all}
 use Rattle.e_literal.specs.declared.object.Scope.{Scope}

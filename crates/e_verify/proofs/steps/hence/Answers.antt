@@ -1,4 +1,4 @@
-use Rattle.std.proofs.Common.{◌≡◌, ap, sym, ◌∙◌}
+use Rattle.std.proofs.Common.{sym, ◌∙◌}
 use Rattle.e_verify.proofs.Certified.{checked_hence}
 use Rattle.e_verify.proofs.steps.hence.Goals as goal
 

@@ -1,7 +1,7 @@
-use Rattle.std.proofs.Common.{◌≡◌, ap, sym, ◌∙◌, false}
+use Rattle.std.proofs.Common.{ap, sym, ◌∙◌, false}
 use Rattle.std.specs.Option.{option_map}
 use Rattle.std.specs.List.{list_all}
-use Rattle.e_literal.specs.Literal.{is_in_scope, all_in_scope}
+use Rattle.e_literal.specs.Literal.{is_in_scope}
 use Rattle.e_literal.specs.Facts.{has, has_all}
 use Rattle.e_clause.specs.Instance.{Inst}
 use Rattle.e_verify.proofs.Certified.{cited_is}

@@ -1,4 +1,4 @@
-use Rattle.std.proofs.Common.{◌≡◌, ap, sym, ◌∙◌, length}
+use Rattle.std.proofs.Common.{ap, sym, ◌∙◌, length}
 use Rattle.std.specs.List.{list_all}
 use Rattle.std.specs.Prelude.{List}
 use Rattle.e_literal.specs.declared.object.Scope.{Scope}

@@ -1,4 +1,4 @@
-use Rattle.std.proofs.Common.{arith, ◌≡◌, ◌+◌, ◌<◌, ◌^◌, ap, sym, ◌∙◌, subst, length, Ok}
+use Rattle.std.proofs.Common.{arith, ◌≡◌, ◌+◌, ◌<◌, ◌^◌, ap, sym, ◌∙◌, subst, length}
 use Rattle.std.specs.Prelude.{List}
 use Rattle.e_literal.specs.declared.object.Obj.{Obj}
 use Rattle.e_literal.specs.declared.object.Scope.{Scope}
@@ -9,10 +9,7 @@ use Rattle.e_literal.specs.Use.{Stated, scope_of}
 use Rattle.e_theorem.specs.Statements.{stated, all_stated}
 use Rattle.e_deriv.specs.Script.{script_of}
 use Rattle.e_deriv.specs.Goal.{Goal, goal_of_statement}
-use Rattle.e_deriv.specs.Certified.{verdict}
-use Rattle.e_verify.specs.Standing.{goal_said}
-use Rattle.e_verify.specs.Checking.{verdict_at, RejectIs}
-use Rattle.e_verify.proofs.Passing.{reject_as}
+use Rattle.e_verify.specs.Checking.{verdict_at}
 use Rattle.e_verify.proofs.Verified.{same_verdict, start_ready, certified_of, few_declared, few_more}
 use Rattle.e_verify.proofs.verifier.verify.Goals as goal
 

@@ -1,4 +1,4 @@
-use Rattle.std.proofs.Common.{SFits, ◌+ℤ◌, to_z-of_z, rules, ap, sym, ◌∙◌}
+use Rattle.std.proofs.Common.{SFits, ◌+ℤ◌, to_z-of_z, rules, sym, ◌∙◌}
 use mir.Syntax.{w128}
 use Rattle.e_verify.proofs.Totalling.{added_for, dropped, fits_for}
 use Rattle.e_verify.proofs.totals.Totals.add.Goals as goal

@@ -1,4 +1,4 @@
-use Rattle.std.proofs.Common.{SFits, to_z-of_z, rules, ap, sym, ◌∙◌}
+use Rattle.std.proofs.Common.{SFits, to_z-of_z, rules, ap, ◌∙◌}
 use Rattle.std.specs.Prelude.{pos, unwrap_or}
 use mir.Syntax.{w128}
 use Rattle.e_verify.specs.Totals.{at}
