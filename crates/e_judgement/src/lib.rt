@@ -2,9 +2,9 @@
 //! no form at its place. Its theorems are judged one after another, each whole, by those before it.
 #![tactic(auto)]
 
-mod judge;
 mod judgement;
+mod judging;
 pub mod laws;
 
-pub use judge::judge;
 pub use judgement::Judgement;
+pub use judging::judge;

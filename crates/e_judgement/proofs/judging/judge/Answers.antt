@@ -1,7 +1,7 @@
 use Rattle.std.proofs.Common.{◌≡◌, ◌∙◌, ap, arith}
 use Rattle.e_text.specs.Lines.{Ahead, seen}
 use Rattle.e_judgement.proofs.Passing.{head_then, other_head, fault_first, no_line, text_judged}
-use Rattle.e_judgement.proofs.judge.judge.Goals as goal
+use Rattle.e_judgement.proofs.judging.judge.Goals as goal
 
 pub returns-in-None : goal.returns-in-None
 returns-in-None c =

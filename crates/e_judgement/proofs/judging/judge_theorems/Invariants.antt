@@ -6,7 +6,7 @@ use Rattle.e_book.specs.Book.{last_line}
 use Rattle.e_book.specs.Headed.{stated_by}
 use Rattle.e_book.specs.Limits.{most_theorems}
 use Rattle.e_judgement.proofs.Passing.{History}
-use Rattle.e_judgement.proofs.judge.judge_theorems.Given as goal
+use Rattle.e_judgement.proofs.judging.judge_theorems.Given as goal
 
 abbrev pub invariant-loop-theorem : goal.invariant-loop-theorem
 invariant-loop-theorem l = record {

@@ -5,7 +5,7 @@ use Rattle.e_book.specs.Entry.{entry_of}
 use Rattle.e_read.specs.Text.{Derived, Last}
 use Rattle.e_judgement.proofs.Passing.{reads_at, goes_on, ends_so, breaks_so, fails_so, small_more}
 use Rattle.e_judgement.proofs.Verifiable.{verifiable}
-use Rattle.e_judgement.proofs.judge.judge_theorems.Goals as goal
+use Rattle.e_judgement.proofs.judging.judge_theorems.Goals as goal
 
 pub check-requires : goal.check-requires
 check-requires c =
