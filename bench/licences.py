@@ -79,8 +79,8 @@ def timed(program, path):
     return least, last
 
 
-def questions(program, path):
-    """How often the linear decision is called, or None where that cannot be counted."""
+def calls(program, path, counted):
+    """How often the functions whose names begin so are called, or None where that cannot be counted."""
     valgrind = shutil.which("valgrind")
     if valgrind is None:
         return None
@@ -88,7 +88,7 @@ def questions(program, path):
         out = os.path.join(folder, "calls")
         with open(path, "rb") as text:
             subprocess.run([valgrind, "--tool=callgrind", f"--callgrind-out-file={out}", program, "check"], stdin=text, stdout=subprocess.DEVNULL, stderr=subprocess.DEVNULL)
-        calls, named, called = 0, {}, ""
+        times, named, called = 0, {}, ""
         for line in open(out):
             found = re.match(r"(c?)fn=\((\d+)\)(?: (.*))?", line)
             if found:
@@ -98,10 +98,10 @@ def questions(program, path):
                 if found.group(1):
                     called = named.get(number, "")
             elif line.startswith("calls="):
-                if called.startswith(QUESTIONS):
-                    calls += int(line[6:].split()[0])
+                if called.startswith(counted):
+                    times += int(line[6:].split()[0])
                 called = ""
-        return calls
+        return times
 
 
 def main(program):
@@ -122,7 +122,7 @@ def main(program):
                     alone = max(took - base[count], 0.0001)
                 ratio = "" if before is None else "%.1f" % (alone / before)
                 before = alone
-                print("%-22s %7d %10.4f %7s %9s  %s" % (step, count, alone, ratio, questions(program, path), answer))
+                print("%-22s %7d %10.4f %7s %9s  %s" % (step, count, alone, ratio, calls(program, path, QUESTIONS), answer))
 
 
 if __name__ == "__main__":

@@ -104,7 +104,7 @@ superpose_fits ns raw p e =
 
 -- ---- a close that is read
 
-same_turned : (a b : Sort) → same_sort a b ≡ true → same_sort b a ≡ true
+pub same_turned : (a b : Sort) → same_sort a b ≡ true → same_sort b a ≡ true
 same_turned Point Point e = refl
 same_turned Line Line e = refl
 same_turned Circle Circle e = refl

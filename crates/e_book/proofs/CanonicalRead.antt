@@ -15,13 +15,12 @@ use Rattle.e_deriv.specs.Naming.{first_names}
 use Rattle.e_deriv.specs.Script.{Script}
 use Rattle.e_deriv.specs.Goal.{Goal, goal_of_statement, facts_of_statement}
 use Rattle.e_deriv.specs.Lines.{lines}
-use Rattle.e_deriv.specs.Steps.{fits}
 use Rattle.e_book.specs.declared.fault.BookFault.{BookFault}
 use Rattle.e_book.specs.declared.form.Form.{Form}
 use Rattle.e_book.specs.declared.form.Form.TheVariants as forms
 use Rattle.e_book.specs.declared.draft.Place.TheVariants.{Closed, Done}
 use Rattle.e_book.specs.declared.draft.Draft.{Draft}
-use Rattle.e_book.specs.Headed.{Headed}
+use Rattle.e_book.specs.Headed.{Headed, stated_by}
 use Rattle.e_book.specs.Scope.{scope_of_names}
 use Rattle.e_book.specs.Steps.{closed, stepped, step, begun}
 use Rattle.e_book.specs.Entry.{Entry, entry_of_draft}
@@ -39,6 +38,7 @@ use Rattle.e_book.proofs.Declared.{form_step, Runs, runs_append, Few, run_from, 
 use Rattle.e_book.proofs.Building.{sorts_again, declared_scope}
 use Rattle.e_book.proofs.Growing.{first_in_order, lit_of_first}
 use Rattle.e_book.proofs.PlainLits.{Plain}
+use Rattle.e_book.proofs.FittingScripts.{line_fits}
 use Rattle.e_book.proofs.HeadRead.{declaring, declared_lines, given_draft, making, made_lines, showing, run_title, run_all_given, run_all_shown}
 use Rattle.e_book.proofs.LinesRead.{Inside, proving, Closes}
 use Rattle.e_book.proofs.ScriptParts.{steps_of, close_of, same_script}
@@ -81,7 +81,7 @@ run_head known t h o =
     let f2 : List Form = f3 ++ f4 in
     let f1 : List Form = map declare_form (grouped ns (declared_objects st)) ++ map (given_form ns) st.given in
     let run_declared : Runs known titled (map declare_form (grouped ns (declared_objects st))) declared =
-    run_from known forms.Declare (declaring t.title) (declared_lines t.title) ns nothing [] st.declared st.made o few h.fits.scope in
+    run_from known forms.Declare (declaring t.title) (declared_lines known t.title) ns nothing [] st.declared st.made o few h.fits.scope in
     let plain : Plain dn st.given = record { within = subst (λ (z : Scope). list_all (all_in_scope z) st.given ≡ true) (sym (declared_scope (stated st) ns h.fits.scope)) h.fits.given; good = h.fits.good_given } in
     let run_given : Runs known declared (map (given_form ns) st.given) given =
     subst (λ (fs : List Form). Runs known declared fs given) (given_forms_of s ns st.given h.fits.given)
@@ -89,7 +89,7 @@ run_head known t h o =
     let whole : first_names (grown s st.made) ns ≡ ns = ap (λ (z : Scope). first_names z ns) h.fits.scope ∙ all_first ns in
     let run_made : Runs known given (map made_form (grouped ns (made_objects st))) made =
     subst (λ (m : Names). Runs known given (map made_form (grouped ns (made_objects st))) (Some (making t.title st.declared st.given m st.made))) whole
-    (run_from known forms.Made (making t.title st.declared st.given) (made_lines t.title st.declared st.given) ns s [] st.made [] o few h.fits.scope) in
+    (run_from known forms.Made (making t.title st.declared st.given) (made_lines known t.title st.declared st.given) ns s [] st.made [] o few h.fits.scope) in
     let run_shown : Runs known made (map (show_form ns) st.shown) (Some (started t)) = run_all_shown known t.title ns st.declared st.given st.made st.shown o (record { within = h.fits.shown; good = h.fits.good_shown }) h.some_shown in
     let stating : Runs known titled f1 given = runs_append known titled declared given (map declare_form (grouped ns (declared_objects st))) (map (given_form ns) st.given) run_declared run_given in
     let showing : Runs known given f3 (Some (started t)) = runs_append known given made (Some (started t)) (map made_form (grouped ns (made_objects st))) (map (show_form ns) st.shown) run_made run_shown in
@@ -101,6 +101,7 @@ run_head known t h o =
 run_proof_lines : (known : List Headed) (t : Entry) → HasSpelling known t → InOrder t.names → Taken known (started t) (begins t) t.script
 run_proof_lines known t h o =
     let s : Scope = scope_of (stated t.statement) in
+    let before = stated_by known in
     let facts : List Lit = facts_of_statement (stated t.statement) in
     let goal : Goal = goal_of_statement (stated t.statement) in
     let scope : s ≡ scope_of_names (names_of_proof t) = sym (declared_scope (stated t.statement) t.names h.fits.scope) in
@@ -108,18 +109,20 @@ run_proof_lines known t h o =
       order = first_in_order s t.names o;
       goal_sorts = sorts_again s t.statement.made;
       plain = h.script;
-      fitting = subst (λ (z : Scope). list_all fits (lines t.script z facts goal) ≡ true) scope h.fits.script;
+      fitting = subst (λ (z : Scope). list_all (line_fits before) (lines before t.script t.script z facts goal) ≡ true) scope h.fits.script;
       new_names = h.fits.new_names;
       few = omega (arith, h.fits.steps);
       shallow = omega (arith, h.fits.depth);
       good = h.fits.good_script;
-      facts = subst (λ (z : Scope). few_facts (length t.statement.given) z t.script ≡ true) scope h.fits.facts;
-      terms = subst (λ (z : Scope). few_terms (count_monomials t.statement.given) z t.script ≡ true) scope h.fits.terms;
+      theorems = h.theorems;
+      blanks = h.fits.blanks;
+      facts = subst (λ (z : Scope). few_facts before (length t.statement.given) z t.script ≡ true) scope h.fits.facts;
+      terms = subst (λ (z : Scope). few_terms before (count_monomials t.statement.given) z t.script ≡ true) scope h.fits.terms;
     })
 
 -- all lines but the last
-abbrev front : Entry → List Form
-front t = head_forms t ++ script_forms (names_of_proof t) t.script
+abbrev front : List Headed → Entry → List Form
+front known t = head_forms t ++ script_forms known (names_of_proof t) t.script
 
 -- ---- the lines
 
@@ -164,9 +167,9 @@ closed_last : (t : Entry) (last : Inside) → closed (proving (started t) last) 
 unfolding closed
 closed_last t last = refl
 
-step_end : (t : Entry) (last : Inside) → step (shut_draft t last) forms.End ≡ Ok (record (shut_draft t last) { place = Done })
+step_end : (known : List Headed) (t : Entry) (last : Inside) → step known (shut_draft t last) forms.End ≡ Ok (record (shut_draft t last) { place = Done })
 unfolding step stepped
-step_end t last = refl
+step_end known t last = refl
 
 end_read : (known : List Headed) (number : ℕ) (t : Entry) (last : Inside) (all rest : List (Result Seen LineFault)) → Closes (steps_of t.script) (close_of t.script) t.script → Shows all (line_of forms.End ∷ []) rest
     → read_from known number (Some (shut_draft t last)) all ≡ answered t rest
@@ -174,20 +177,20 @@ end_read known number t last [] rest same sh = absurd sh
 end_read known number t last (Err x ∷ all) rest same sh = absurd sh
 end_read known number t last (Ok l ∷ all) rest same sh =
     let d = shut_draft t last in
-    one_read known number (Some d) l all forms.End (record d { place = Done }) sh.0 tt (step_end t last)
+    one_read known number (Some d) l all forms.End (record d { place = Done }) sh.0 tt (step_end known t last)
     ∙ ap (λ (s : Script). answered (record t { script = s }) all) same ∙ ap (λ (ls : List (Result Seen LineFault)). answered t ls) sh.1
 
-pub canonical_lines_read : (known : List Headed) (last : ℕ) (t : Entry) (all rest : List (Result Seen LineFault)) → HasSpelling known t → Shows all (map line_of (forms_of t)) rest
+pub canonical_lines_read : (known : List Headed) (last : ℕ) (t : Entry) (all rest : List (Result Seen LineFault)) → HasSpelling known t → Shows all (map line_of (forms_of known t)) rest
     → read_from known last None all ≡ Ok (Some (t, rest))
 canonical_lines_read known last t all rest h sh =
     let o = in_order t.names h.point_names h.line_names h.circle_names h.fits.differ in
     let proof = run_proof_lines known t h o in
     let d = shut_draft t proof.last in
-    let runs : Runs known None (front t) (Some d) =
-    runs_append known None (Some (proving (started t) (begins t))) (Some d) (head_forms t) (script_forms (names_of_proof t) t.script) (run_head known t h o) (proof.runs d (closed_last t proof.last) refl) in
-    let whole : forms_of t ≡ front t ++ forms.End ∷ [] = sym (append_assoc (head_forms t) (script_forms (names_of_proof t) t.script) (forms.End ∷ [])) in
-    let shown : Shows all (map line_of (front t ++ forms.End ∷ [])) rest = subst (λ (fs : List Form). Shows all (map line_of fs) rest) whole sh in
-    let l = reads_runs known last None (Some d) (front t) (forms.End ∷ []) all rest runs shown in
+    let runs : Runs known None (front known t) (Some d) =
+    runs_append known None (Some (proving (started t) (begins t))) (Some d) (head_forms t) (script_forms known (names_of_proof t) t.script) (run_head known t h o) (proof.runs d (closed_last t proof.last) refl) in
+    let whole : forms_of known t ≡ front known t ++ forms.End ∷ [] = sym (append_assoc (head_forms t) (script_forms known (names_of_proof t) t.script) (forms.End ∷ [])) in
+    let shown : Shows all (map line_of (front known t ++ forms.End ∷ [])) rest = subst (λ (fs : List Form). Shows all (map line_of fs) rest) whole sh in
+    let l = reads_runs known last None (Some d) (front known t) (forms.End ∷ []) all rest runs shown in
     l.same ∙ end_read known last t proof.last l.ahead rest (same_script t.script h.script) l.shown
 
 -- lines with their numbers, as they stand in a text
@@ -196,6 +199,6 @@ shows_numbered first [] rest = refl
 shows_numbered first (text ∷ texts) rest = (refl, shows_numbered (first + 1) texts rest)
 
 pub numbered_lines_read : (known : List Headed) (last : ℕ) (t : Entry) (first : ℕ) (rest : List (Result Seen LineFault)) → HasSpelling known t
-    → read_from known last None (numbered first (map line_of (forms_of t)) ++ rest) ≡ Ok (Some (t, rest))
+    → read_from known last None (numbered first (map line_of (forms_of known t)) ++ rest) ≡ Ok (Some (t, rest))
 numbered_lines_read known last t first rest h =
-    canonical_lines_read known last t (numbered first (map line_of (forms_of t)) ++ rest) rest h (shows_numbered first (map line_of (forms_of t)) rest)
+    canonical_lines_read known last t (numbered first (map line_of (forms_of known t)) ++ rest) rest h (shows_numbered first (map line_of (forms_of known t)) rest)

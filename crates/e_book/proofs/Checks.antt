@@ -64,6 +64,6 @@ two_points = refl
 abbrev script : Script
 script = Make (construction LineThrough (obj Point 0 ∷ obj Point 1 ∷ []) []) (codes "M" ∷ []) [] (Qed (obj Point 0 ∷ obj Line 1 ∷ []) [])
 
-proof_lines : map line_of (script_forms names script) ≡ codes "let M line a b" ∷ codes "qed a M" ∷ []
+proof_lines : map line_of (script_forms [] names script) ≡ codes "let M line a b" ∷ codes "qed a M" ∷ []
 unfolding script_forms pieces shape_row
 proof_lines = refl

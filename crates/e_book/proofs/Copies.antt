@@ -1,5 +1,5 @@
 -- The line of a superposition.
-use Rattle.std.proofs.Common.{◌≡◌, List, Result, Ok, refl}
+use Rattle.std.proofs.Common.{◌≡◌, List, Ok, refl}
 use Rattle.e_literal.specs.declared.literal.Lit.{Lit}
 use Rattle.e_construct.specs.declared.superpose.Superpose.{Superpose}
 use Rattle.e_construct.specs.Superposing as superposing

@@ -31,7 +31,7 @@ use Rattle.e_book.proofs.Lookups.{InOrder, named_at, sorts_same}
 -- a form at its place: the first of a theorem, or one more
 abbrev pub form_step : List Headed → Option Draft → Form → Result Draft Kind
 form_step known None f = begin known f
-form_step known (Some d) f = step d f
+form_step known (Some d) f = step known d f
 
 -- forms whose words are taken one after another
 abbrev pub Runs : List Headed → Option Draft → List Form → Option Draft → Type 0
@@ -138,14 +138,14 @@ declared_joined ns Circle name more f =
 -- ---- lines of names
 
 -- a line with a name puts it behind those of its sort, and a line with more names does what a name and the others do
-pub record LinesOfNames (say : Sort → List (List ℕ) → Form) (at : Names → List Sort → Draft) : Type 0 where
+pub record LinesOfNames (known : List Headed) (say : Sort → List (List ℕ) → Form) (at : Names → List Sort → Draft) : Type 0 where
   pub good : (sort : Sort) (n : List ℕ) (more : List (List ℕ)) → AreNames (n ∷ more) → GoodForm (say sort (n ∷ more))
   pub said : (sort : Sort) (names : List (List ℕ)) → GoodForm (say sort names) → AreNames names
   pub read : (sort : Sort) (names : List (List ℕ)) → as_read (say sort names) ≡ say sort names
   pub one : (ns : Names) (sorts : List Sort) (sort : Sort) (name : List ℕ) → Free ns name → length (names_of_sort ns sort) + 1 ≤ most_of sort
-      → step (at ns sorts) (say sort (name ∷ [])) ≡ Ok (at (plus ns sort name) (sorts ++ sort ∷ []))
+      → step known (at ns sorts) (say sort (name ∷ [])) ≡ Ok (at (plus ns sort name) (sorts ++ sort ∷ []))
   pub split : (ns : Names) (sorts : List Sort) (sort : Sort) (name : List ℕ) (more : List (List ℕ)) → Free ns name
-      → step (at ns sorts) (say sort (name ∷ more)) ≡ step (at (plus ns sort name) (sorts ++ sort ∷ [])) (say sort more)
+      → step known (at ns sorts) (say sort (name ∷ more)) ≡ step known (at (plus ns sort name) (sorts ++ sort ∷ [])) (say sort more)
   pub going : (ns : Names) (sorts : List Sort) → is_done (at ns sorts) ≡ false
 
 -- ---- one more name before the lines
@@ -159,29 +159,29 @@ record Next (ns : Names) (sort : Sort) (name : List ℕ) : Type 0 where
 abbrev pub says : (Sort → List (List ℕ) → Form) → Group → Form
 says say g = say g.sort g.names
 
-alone : (known : List Headed) (say : Sort → List (List ℕ) → Form) (at : Names → List Sort → Draft) (l : LinesOfNames say at) (ns : Names) (sorts : List Sort) (sort : Sort) (name : List ℕ) (fs : List Form) (u : Option Draft)
+alone : (known : List Headed) (say : Sort → List (List ℕ) → Form) (at : Names → List Sort → Draft) (l : LinesOfNames known say at) (ns : Names) (sorts : List Sort) (sort : Sort) (name : List ℕ) (fs : List Form) (u : Option Draft)
     → Next ns sort name → Runs known (Some (at (plus ns sort name) (sorts ++ sort ∷ []))) fs u → Runs known (Some (at ns sorts)) (say sort (name ∷ []) ∷ fs) u
 alone known say at l ns sorts sort name fs u n r =
     let now = at (plus ns sort name) (sorts ++ sort ∷ []) in
-    let taken : step (at ns sorts) (as_read (say sort (name ∷ []))) ≡ Ok now = ap (step (at ns sorts)) (l.read sort (name ∷ [])) ∙ l.one ns sorts sort name n.free n.few in
+    let taken : step known (at ns sorts) (as_read (say sort (name ∷ []))) ≡ Ok now = ap (step known (at ns sorts)) (l.read sort (name ∷ [])) ∙ l.one ns sorts sort name n.free n.few in
     (now, l.good sort name [] (n.named, tt), taken, l.going (plus ns sort name) (sorts ++ sort ∷ []), r)
 
-together : (known : List Headed) (say : Sort → List (List ℕ) → Form) (at : Names → List Sort → Draft) (l : LinesOfNames say at) (ns : Names) (sorts : List Sort) (sort s : Sort) (name : List ℕ) (more : List (List ℕ)) (fs : List Form) (u : Option Draft)
+together : (known : List Headed) (say : Sort → List (List ℕ) → Form) (at : Names → List Sort → Draft) (l : LinesOfNames known say at) (ns : Names) (sorts : List Sort) (sort s : Sort) (name : List ℕ) (more : List (List ℕ)) (fs : List Form) (u : Option Draft)
     → Next ns sort name → sort ≡ s → Runs known (Some (at (plus ns sort name) (sorts ++ sort ∷ []))) (say s more ∷ fs) u → Runs known (Some (at ns sorts)) (say s (name ∷ more) ∷ fs) u
 together known say at l ns sorts sort s name more fs u n e r =
     let now = at (plus ns sort name) (sorts ++ sort ∷ []) in
-    let same : step (at ns sorts) (say s (name ∷ more)) ≡ step now (say s more) =
-    subst (λ (x : Sort). step (at ns sorts) (say x (name ∷ more)) ≡ step now (say x more)) e (l.split ns sorts sort name more n.free) in
-    let taken : step (at ns sorts) (as_read (say s (name ∷ more))) ≡ Ok r.0 = ap (step (at ns sorts)) (l.read s (name ∷ more)) ∙ same ∙ ap (step now) (sym (l.read s more)) ∙ r.2 in
+    let same : step known (at ns sorts) (say s (name ∷ more)) ≡ step known now (say s more) =
+    subst (λ (x : Sort). step known (at ns sorts) (say x (name ∷ more)) ≡ step known now (say x more)) e (l.split ns sorts sort name more n.free) in
+    let taken : step known (at ns sorts) (as_read (say s (name ∷ more))) ≡ Ok r.0 = ap (step known (at ns sorts)) (l.read s (name ∷ more)) ∙ same ∙ ap (step known now) (sym (l.read s more)) ∙ r.2 in
     (r.0, l.good s name more (n.named, l.said s more r.1), taken, r.3, r.4)
 
-by_sort : (b : Bool) (known : List Headed) (say : Sort → List (List ℕ) → Form) (at : Names → List Sort → Draft) (l : LinesOfNames say at) (ns : Names) (sorts : List Sort) (sort : Sort) (name : List ℕ) (g : Group) (gs : List Group) (u : Option Draft)
+by_sort : (b : Bool) (known : List Headed) (say : Sort → List (List ℕ) → Form) (at : Names → List Sort → Draft) (l : LinesOfNames known say at) (ns : Names) (sorts : List Sort) (sort : Sort) (name : List ℕ) (g : Group) (gs : List Group) (u : Option Draft)
     → Next ns sort name → same_sort sort g.sort ≡ b → Runs known (Some (at (plus ns sort name) (sorts ++ sort ∷ []))) (map (says say) (g ∷ gs)) u
     → Runs known (Some (at ns sorts)) (map (says say) (cond b (group g.sort (name ∷ g.names) ∷ gs) (group sort (name ∷ []) ∷ g ∷ gs))) u
 by_sort true known say at l ns sorts sort name g gs u n e r = together known say at l ns sorts sort g.sort name g.names (map (says say) gs) u n (sorts_same sort g.sort e) r
 by_sort false known say at l ns sorts sort name g gs u n e r = alone known say at l ns sorts sort name (map (says say) (g ∷ gs)) u n r
 
-run_before : (known : List Headed) (say : Sort → List (List ℕ) → Form) (at : Names → List Sort → Draft) (l : LinesOfNames say at) (ns : Names) (sorts : List Sort) (sort : Sort) (name : List ℕ) (gs : List Group) (u : Option Draft)
+run_before : (known : List Headed) (say : Sort → List (List ℕ) → Form) (at : Names → List Sort → Draft) (l : LinesOfNames known say at) (ns : Names) (sorts : List Sort) (sort : Sort) (name : List ℕ) (gs : List Group) (u : Option Draft)
     → Next ns sort name → Runs known (Some (at (plus ns sort name) (sorts ++ sort ∷ []))) (map (says say) gs) u → Runs known (Some (at ns sorts)) (map (says say) (grouped_before sort name gs)) u
 run_before known say at l ns sorts sort name [] u n r = alone known say at l ns sorts sort name [] u n r
 run_before known say at l ns sorts sort name (g ∷ gs) u n r = by_sort (same_sort sort g.sort) known say at l ns sorts sort name g gs u n refl r
@@ -232,7 +232,7 @@ one_counts s Line = refl
 one_counts s Circle = refl
 
 -- the lines of the objects from some scope on, behind which more objects come
-pub run_from : (known : List Headed) (say : Sort → List (List ℕ) → Form) (at : Names → List Sort → Draft) (l : LinesOfNames say at) (ns : Names) (s : Scope) (before more after : List Sort) → InOrder ns → Few ns
+pub run_from : (known : List Headed) (say : Sort → List (List ℕ) → Form) (at : Names → List Sort → Draft) (l : LinesOfNames known say at) (ns : Names) (s : Scope) (before more after : List Sort) → InOrder ns → Few ns
     → grown (grown s more) after ≡ scope_of_names ns → Runs known (Some (at (first_names s ns) before)) (map (says say) (grouped ns (next_objects s more))) (Some (at (first_names (grown s more) ns) (before ++ more)))
 run_from known say at l ns s before [] after o f e = ap (λ (x : List Sort). Some (at (first_names s ns) x)) (sym (append-nil before))
 run_from known say at l ns s before (sort ∷ more) after o f e =

@@ -16,7 +16,7 @@ use Rattle.e_book.specs.declared.draft.Place.{Place}
 use Rattle.e_book.specs.declared.draft.Place.TheVariants.{Declaring, Giving, Making, Showing, Proving, Splitting, Closed, Done}
 use Rattle.e_book.specs.declared.draft.Draft.{Draft}
 use Rattle.e_book.specs.Limits.{most_steps, most_facts, most_terms, count_monomials}
-use Rattle.e_book.specs.Headed.{Headed, is_known}
+use Rattle.e_book.specs.Headed.{Headed, is_known, stated_by}
 use Rattle.e_book.specs.Scope.{scope_of_names}
 use Rattle.e_book.specs.Steps.{FewNamed}
 use Rattle.e_book.specs.Entry.{script_of_close, statement_of_draft}
@@ -41,8 +41,8 @@ abbrev pub HeadOf : List Headed → Draft → Type 0
 HeadOf known d = Head known d.title d.names d.declared d.given d.made d.shown
 
 -- where the first line of the proof stands
-abbrev pub start : Draft → Spot
-start d = spot (declared_names (stated (statement_of_draft d)) d.names) (length d.given) (count_monomials d.given)
+abbrev pub start : List Headed → Draft → Spot
+start known d = spot (stated_by known) (declared_names (stated (statement_of_draft d)) d.names) (length d.given) (count_monomials d.given)
 
 -- no line of the proof has come
 pub record NoProof (gs : List Lit) (ss : List PlainStep) (os : List Outer) (n k m : ℕ) : Type 0 where
@@ -56,28 +56,28 @@ abbrev pub NoProofOf : Draft → Type 0
 NoProofOf d = NoProof d.given d.steps d.outers d.lines d.facts d.terms
 
 -- lines of the proof may come
-abbrev pub OpenOf : Draft → Type 0
-OpenOf d = Open (start d) d.made d.outers d.steps (spot d.in_scope d.facts d.terms) d.lines
+abbrev pub OpenOf : List Headed → Draft → Type 0
+OpenOf known d = Open (start known d) d.made d.outers d.steps (spot (stated_by known) d.in_scope d.facts d.terms) d.lines
 
 -- the proof is closed
 pub record Shut (at : Spot) (made : List Sort) (script : Script) : Type 0 where
   pub fits : ScriptFits at made 0 script
   pub short : size script ≤ most_steps
 
-abbrev pub ShutOf : Draft → Type 0
-ShutOf d = Shut (start d) d.made (all_before d.steps (script_of_close d.close))
+abbrev pub ShutOf : List Headed → Draft → Type 0
+ShutOf known d = Shut (start known d) d.made (all_before d.steps (script_of_close d.close))
 
 -- what has come and what has not, at a place
-abbrev pub Body : Place → Draft → Type 0
-Body Declaring d = (d.given ≡ []) × (d.made ≡ []) × (d.shown ≡ []) × NoProofOf d
-Body Giving d = (d.made ≡ []) × (d.shown ≡ []) × NoProofOf d
-Body Making d = (d.shown ≡ []) × NoProofOf d
-Body Showing d = NoProofOf d
-Body Proving d = OpenOf d
-Body Splitting d = OpenOf d
-Body Closed d = ShutOf d
-Body Done d = ShutOf d
+abbrev pub Body : List Headed → Place → Draft → Type 0
+Body known Declaring d = (d.given ≡ []) × (d.made ≡ []) × (d.shown ≡ []) × NoProofOf d
+Body known Giving d = (d.made ≡ []) × (d.shown ≡ []) × NoProofOf d
+Body known Making d = (d.shown ≡ []) × NoProofOf d
+Body known Showing d = NoProofOf d
+Body known Proving d = OpenOf known d
+Body known Splitting d = OpenOf known d
+Body known Closed d = ShutOf known d
+Body known Done d = ShutOf known d
 
 pub record Good (known : List Headed) (d : Draft) : Type 0 where
   pub head : HeadOf known d
-  pub body : Body d.place d
+  pub body : Body known d.place d

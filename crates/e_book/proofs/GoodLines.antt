@@ -1,15 +1,14 @@
 -- What is read can be judged: at each line the facts and what the line needs are in scope and well formed, and the terms of
 -- the facts are few.
-use Rattle.std.proofs.Common.{◌≡◌, ℕ, ◌+◌, ◌≤◌, Bool, true, false, cond, leb, ◌&&◌, List, [], ◌∷◌, ◌++◌, length, None, Result, refl, sym, ap, subst, ◌∙◌, arith, length-append}
+use Rattle.std.proofs.Common.{◌≡◌, ℕ, zero, suc, ◌+◌, ◌≤◌, Bool, true, false, cond, leb, ltb, ◌&&◌, List, [], ◌∷◌, ◌++◌, length, map, Option, refl, sym, ap, subst, ◌∙◌, arith, length-append}
 use Rattle.std.specs.Prelude.{is_some}
 use Rattle.std.specs.List.{list_all}
-use Rattle.std.proofs.lemmas.Bool.{le-leb, leb-true}
+use Rattle.std.proofs.lemmas.Bool.{le-leb, leb-true, lt-ltb, ltb-true}
 use Rattle.std.proofs.lemmas.List.{length-map}
 use Rattle.std.proofs.lemmas.List.Concat.{flat_map-append}
 use Rattle.std.proofs.lemmas.List.Folds.{list_all-append}
-use Rattle.e_text.specs.Lines.{Seen}
-use Rattle.e_text.specs.declared.line.LineFault.{LineFault}
 use Rattle.e_literal.specs.declared.object.Sort.{Sort}
+use Rattle.e_literal.specs.declared.object.Sort.TheVariants as kinds
 use Rattle.e_literal.specs.declared.object.Obj.{Obj}
 use Rattle.e_literal.specs.declared.object.Scope.{Scope}
 use Rattle.e_literal.specs.declared.object.Term.{Term}
@@ -21,46 +20,46 @@ use Rattle.e_literal.specs.Literal.{negation, is_in_scope, objects_of_atom, all_
 use Rattle.e_literal.specs.Scopes.{grown, next_objects, are_of_sorts}
 use Rattle.e_literal.specs.WellFormed.{is_well_formed}
 use Rattle.e_literal.specs.Facts.{has, joined, joined_all}
-use Rattle.e_literal.specs.Rename.{image_in, paired}
-use Rattle.e_literal.specs.Use.{scope_of}
+use Rattle.e_literal.specs.Rename.{mono_at, atom_at, number_at, renamed, image_in, paired}
+use Rattle.e_literal.specs.Use.{Stated, is_statement, are_arguments, image, gives_of_use}
 use Rattle.e_clause.specs.declared.cert.By.{By}
 use Rattle.e_clause.specs.Instance.{Inst}
 use Rattle.e_clause.specs.RuleKinds.{is_diagram_rule}
 use Rattle.e_clause.specs.Assignment.{terms_of_atom, terms_of_lits}
 use Rattle.e_clause.specs.Judged.{is_good, are_good, are_good_facts}
-use Rattle.e_construct.specs.Construct.{made, gives, needs as needs_of_form, fits as fits_form}
+use Rattle.e_construct.specs.Construct.{made, gives, fits as fits_form}
 use Rattle.e_construct.specs.Superposing as superposing
 use Rattle.e_construct.proofs.Moving.{is_plain, is_moved_in, moved_lit, Within, in_more, every, grows}
 use Rattle.e_construct.proofs.Given.{needs_good, gives_good, gives_plain, superposition_needs_good, superposition_gives}
-use Rattle.e_theorem.specs.Statements.{stated}
-use Rattle.e_deriv.specs.Script.{Script, Cite, Hence, Make, Claim, Superposed, Qed, Contradiction, Cases}
-use Rattle.e_deriv.specs.Goal.{Goal, are_for, goal_with, facts_of_statement}
-use Rattle.e_deriv.specs.Lines.{Line, lines, proof_lines}
-use Rattle.e_deriv.specs.Steps.{are_over, is_citation, fits}
-use Rattle.e_deriv.specs.Fitting.{all_objects, lits_fit, IsFitting}
+use Rattle.e_theorem.specs.Pattern.{is_pattern}
+use Rattle.e_theorem.specs.Choice.{fills, is_choice}
+use Rattle.e_theorem.proofs.Uses.{needs_good as needs_of_use_good, gives_good as gives_of_use_good}
+use Rattle.e_deriv.specs.Script.{Script, Cite, Hence, Make, Apply, Claim, Superposed, Qed, Contradiction, Cases}
+use Rattle.e_deriv.specs.Parts.{rest_of, inner_of, args_of}
+use Rattle.e_deriv.specs.Goal.{Goal, are_for, goal_with}
+use Rattle.e_deriv.specs.Lines.{Line, lines, theorem_at}
+use Rattle.e_deriv.specs.Steps.{are_over, is_citation}
+use Rattle.e_deriv.specs.Fitting.{LitsFit}
 use Rattle.e_book.specs.Limits.{most_terms, monomials, count_monomials}
-use Rattle.e_book.specs.Headed.{Headed}
-use Rattle.e_book.specs.Entry.{Entry}
-use Rattle.e_book.specs.Fits.{is_diagram_lit, has_good_literals, few_terms, Fits}
-use Rattle.e_book.specs.Book.{read_from}
-use Rattle.e_book.proofs.Answered.{and, appended, answered, pair}
+use Rattle.e_book.specs.Fits.{is_diagram_lit, has_good_literals, few_terms}
+use Rattle.e_book.proofs.Answered.{appended}
+use Rattle.e_book.proofs.FittingScripts.{line_fits}
 use Rattle.e_book.proofs.Differ.{both}
 use Rattle.e_book.proofs.ShortLits.{count_first}
 use Rattle.e_book.proofs.LitLookups.{diagram_is_good}
 use Rattle.e_book.proofs.WellRead.{no_monomials}
 use Rattle.e_book.proofs.Building.{sorts_again}
 use Rattle.e_book.proofs.Renaming.{renamed_good, made_moved}
-use Rattle.e_book.proofs.Keeps.{reading_fits}
 
 -- ---- facts
 
-abbrev count_terms : List Lit → ℕ
+abbrev pub count_terms : List Lit → ℕ
 count_terms ls = length (terms_of_lits ls)
 
 -- facts that are in scope and well formed, with at most so many terms
-record GoodFacts (s : Scope) (facts : List Lit) (n : ℕ) : Type 0 where
-  good : are_good s facts ≡ true
-  few : count_terms facts ≤ n
+pub record GoodFacts (s : Scope) (facts : List Lit) (n : ℕ) : Type 0 where
+  pub good : are_good s facts ≡ true
+  pub few : count_terms facts ≤ n
 
 atom_terms : (a : Atom) → length (terms_of_atom a) ≡ monomials a
 atom_terms (atoms.MagEq x y) = length-map (x ++ y) (λ (m : Mono). m.term)
@@ -81,7 +80,7 @@ good_joined : (s : Scope) (facts : List Lit) (l : Lit) (n : ℕ) → GoodFacts s
 unfolding joined
 good_joined s facts l n g h = either s facts l n (has facts l) g h
 
-all_joined : (s : Scope) (facts ls : List Lit) (n : ℕ) → GoodFacts s facts n → are_good s ls ≡ true → GoodFacts s (joined_all facts ls) (n + count_monomials ls)
+pub all_joined : (s : Scope) (facts ls : List Lit) (n : ℕ) → GoodFacts s facts n → are_good s ls ≡ true → GoodFacts s (joined_all facts ls) (n + count_monomials ls)
 all_joined s facts [] n g h = record { good = g.good; few = omega (arith, g.few) }
 all_joined s facts (l ∷ ls) n g h =
     let p = both (is_good s l) (are_good s ls) h in
@@ -101,7 +100,7 @@ plain_count (l ∷ ls) h =
     let p = both (is_plain l) (list_all is_plain ls) h in
     omega (arith, count_first l ls, plain_monomials l.neg l.atom p.0, plain_count ls p.1)
 
-two_good : (s : Scope) (ls : List Lit) → list_all (all_in_scope s) ls ≡ true → list_all is_well_formed ls ≡ true → are_good s ls ≡ true
+pub two_good : (s : Scope) (ls : List Lit) → list_all (all_in_scope s) ls ≡ true → list_all is_well_formed ls ≡ true → are_good s ls ≡ true
 two_good s [] h k = refl
 two_good s (l ∷ ls) h k =
     let p = both (all_in_scope s l) (list_all (all_in_scope s) ls) h in
@@ -120,11 +119,11 @@ good_more s t w ls h = every (is_good s) (is_good t) one ls h
 -- ---- the goal
 
 -- the goal of a statement with these made objects, whose literals are over all its objects
-record GoodGoal (before : Scope) (sorts : List Sort) (shown : List Lit) : Type 0 where
-  within : list_all (all_in_scope (grown before sorts)) shown ≡ true
-  good : list_all is_well_formed shown ≡ true
+pub record GoodGoal (before : Scope) (sorts : List Sort) (shown : List Lit) : Type 0 where
+  pub within : list_all (all_in_scope (grown before sorts)) shown ≡ true
+  pub good : list_all is_well_formed shown ≡ true
 
-abbrev goal_for : Scope → List Sort → List Lit → Goal
+abbrev pub goal_for : Scope → List Sort → List Lit → Goal
 goal_for before sorts shown = record { made = next_objects before sorts; shown = shown }
 
 good_goal : (before s : Scope) (sorts : List Sort) (os : List Obj) (shown : List Lit) → Within before s → are_of_sorts s sorts os ≡ true → list_all (all_in_scope (grown before sorts)) shown ≡ true → list_all is_well_formed shown ≡ true
@@ -137,12 +136,34 @@ good_goal before s sorts os (l ∷ shown) w f h k =
     let here = moved_lit s image l (every (is_in_scope (grown before sorts)) (is_moved_in s image) (λ o i. made_moved before s sorts os o f i (in_more before s w o)) (objects_of_atom l.atom) p.0) in
     rw (here, renamed_good image l q.0, good_goal before s sorts os shown w f p.1 q.1) refl
 
+-- ---- earlier theorems
+
+-- each of the earlier theorems is a statement
+stated_at : (bs : List Stated) (k : ℕ) → list_all is_statement bs ≡ true → ltb k (length bs) ≡ true → is_statement (theorem_at bs k) ≡ true
+stated_at [] k h lt = let less = ltb-true k 0 lt in absurd (omega (arith, less))
+stated_at (b ∷ bs) zero h lt = (both (is_statement b) (list_all is_statement bs) h).0
+stated_at (b ∷ bs) (suc k) h lt = let less = ltb-true (suc k) (length (b ∷ bs)) lt in stated_at bs k (both (is_statement b) (list_all is_statement bs) h).1 (lt-ltb k (length bs) (omega (arith, less)))
+
+moved_monomials : (p l c : ℕ → ℕ) (a : Atom) → monomials (atom_at p l c a) ≡ monomials a
+moved_monomials p l c (atoms.MagEq x y) = omega (arith, length-append x y, length-append (map (mono_at p) x) (map (mono_at p) y), length-map x (mono_at p), length-map y (mono_at p))
+moved_monomials p l c (atoms.MagLt x y) = omega (arith, length-append x y, length-append (map (mono_at p) x) (map (mono_at p) y), length-map x (mono_at p), length-map y (mono_at p))
+moved_monomials p l c a = refl
+
+-- literals have as many monomials with other objects
+moved_count : (image : Obj → Option Obj) (ls : List Lit) → count_monomials (map (renamed image) ls) ≡ count_monomials ls
+moved_count image [] = refl
+moved_count image (l ∷ ls) =
+    omega (arith, count_first l ls, count_first (renamed image l) (map (renamed image) ls), moved_count image ls, moved_monomials (number_at image kinds.Point) (number_at image kinds.Line) (number_at image kinds.Circle) l.atom)
+
 -- ---- lines
 
-line_fits : (s : Scope) (facts ls : List Lit) (n : ℕ) → GoodFacts s facts n → n ≤ most_terms → are_good s ls ≡ true → (are_good_facts s facts && are_good s ls) ≡ true
-line_fits s facts ls n g le h =
+facts_fit : (s : Scope) (facts : List Lit) (n : ℕ) → GoodFacts s facts n → n ≤ most_terms → are_good_facts s facts ≡ true
+facts_fit s facts n g le =
     let few : leb (count_terms facts) 1100 ≡ true = le-leb _ _ (omega (arith, g.few, le)) in
-    rw (g.good, few, h) refl
+    rw (g.good, few) refl
+
+one_good : (s : Scope) (l : Lit) → is_good s l ≡ true → are_good s (l ∷ []) ≡ true
+one_good s l h = rw h refl
 
 cited_in_scope : (s : Scope) (by : By) → is_citation s by ≡ true → all_in_scope s by.lit ≡ true
 cited_in_scope s by h =
@@ -154,123 +175,150 @@ cited_in_scope s by h =
 parted : (p : Line → Bool) (xs ys : List Line) → list_all p (xs ++ ys) ≡ true → (list_all p xs ≡ true) × (list_all p ys ≡ true)
 parted p xs ys h = both (list_all p xs) (list_all p ys) (sym (list_all-append p xs ys) ∙ h)
 
+both_parts : (bs : List Stated) (xs ys : List Line) → LitsFit bs xs → LitsFit bs ys → LitsFit bs (xs ++ ys)
+both_parts bs [] ys h k = k
+both_parts bs (x ∷ xs) ys h k = (h.0, λ f. let r = h.1 f in (r.0, both_parts bs xs ys r.1 k))
+
 -- a test of a number, and another
 room : (n : ℕ) (b : Bool) → (leb n most_terms && b) ≡ true → (n ≤ most_terms) × (b ≡ true)
 room n b h = let p = both (leb n most_terms) b h in (leb-true n most_terms p.0, p.1)
 
-lines_good : (before : Scope) (sorts : List Sort) (shown : List Lit) → GoodGoal before sorts shown → (script : Script) (s : Scope) (facts : List Lit) (n : ℕ) → GoodFacts s facts n → Within before s
-    → n ≤ most_terms → few_terms n s script ≡ true → has_good_literals script ≡ true → list_all fits (lines script s facts (goal_for before sorts shown)) ≡ true
-    → list_all lits_fit (lines script s facts (goal_for before sorts shown)) ≡ true
+-- what a line gives that uses an earlier theorem
+good_gifts : (bs : List Stated) (k : ℕ) (s : Scope) (args : List Obj) (facts : List Lit) (n : ℕ) → list_all is_statement bs ≡ true → ltb k (length bs) ≡ true → are_arguments (theorem_at bs k) s args ≡ true → GoodFacts s facts n
+    → GoodFacts (grown s (theorem_at bs k).made) (joined_all facts (gives_of_use (theorem_at bs k) args s)) (n + count_monomials (theorem_at bs k).shown)
+good_gifts bs k s args facts n states lt fit g =
+    let t = theorem_at bs k in
+    let u = grown s t.made in
+    let given = gives_of_use t args s in
+    let start : GoodFacts u facts n = record { good = good_more s u (grows s t.made) facts g.good; few = g.few } in
+    let next = all_joined u facts given n start (gives_of_use_good t args s (stated_at bs k states lt) fit) in
+    record { good = next.good; few = omega (arith, next.few, moved_count (image t args s) t.shown) }
+
+-- Where the forms of the lines fit, the literals do, whatever the blanks are filled with. The forms are those of the script with
+-- other fillings and other facts, which do not matter to them.
+pub lines_good : (bs : List Stated) → list_all is_statement bs ≡ true → (before : Scope) (sorts : List Sort) (shown : List Lit) → GoodGoal before sorts shown → (script g f : Script) (s : Scope) (other facts : List Lit) (n : ℕ)
+    → GoodFacts s facts n → Within before s → n ≤ most_terms → few_terms bs n s script ≡ true → has_good_literals script ≡ true
+    → list_all (line_fits bs) (lines bs script g s other (goal_for before sorts shown)) ≡ true → LitsFit bs (lines bs script f s facts (goal_for before sorts shown))
 unfolding lines has_good_literals few_terms
-lines_good before sorts shown goal (Cite by rest) s facts n g w le few h f =
-    let p = both (is_citation s by) (list_all fits (lines rest s (joined facts by.lit) (goal_for before sorts shown))) f in
+lines_good bs states before sorts shown goal (Cite by rest) g f s other facts n good w le few h fit =
+    let p = both (is_citation s by) (list_all (line_fits bs) (lines bs rest (rest_of g) s (joined other by.lit) (goal_for before sorts shown))) fit in
     let q = both (is_diagram_lit by.lit) (has_good_literals rest) h in
     let lit : is_good s by.lit ≡ true = rw (cited_in_scope s by p.0, diagram_is_good by.lit q.0) refl in
-    let next = good_joined s facts by.lit n g lit in
+    let next = good_joined s facts by.lit n good lit in
     let same : GoodFacts s (joined facts by.lit) n = record { good = next.good; few = omega (arith, next.few, no_monomials by.lit.atom q.0) } in
-    and _ _ (line_fits s facts [] n g le refl) (lines_good before sorts shown goal rest s (joined facts by.lit) n same w le few q.1 p.1)
-lines_good before sorts shown goal (Hence lit cert rest) s facts n g w le few h f =
+    (facts_fit s facts n good le, λ is. (refl, lines_good bs states before sorts shown goal rest (rest_of g) (rest_of f) s (joined other by.lit) (joined facts by.lit) n same w le few q.1 p.1))
+lines_good bs states before sorts shown goal (Hence lit cert rest) g f s other facts n good w le few h fit =
     let m = n + monomials lit.atom in
-    let p = both (all_in_scope s lit) (list_all fits (lines rest s (joined facts lit) (goal_for before sorts shown))) f in
+    let p = both (all_in_scope s lit) (list_all (line_fits bs) (lines bs rest (rest_of g) s (joined other lit) (goal_for before sorts shown))) fit in
     let q = both (is_well_formed lit) (has_good_literals rest) h in
-    let r = room m (few_terms m s rest) few in
-    let good : is_good s lit ≡ true = rw (p.0, q.0) refl in
-    and _ _ (line_fits s facts (lit ∷ []) n g le (rw good refl)) (lines_good before sorts shown goal rest s (joined facts lit) m (good_joined s facts lit n g good) w r.0 r.1 q.1 p.1)
-lines_good before sorts shown goal (Make form names certs rest) s facts n g w le few h f =
+    let r = room m (few_terms bs m s rest) few in
+    let here : is_good s lit ≡ true = rw (p.0, q.0) refl in (
+      facts_fit s facts n good le,
+      λ is. (
+        one_good s lit here,
+        lines_good bs states before sorts shown goal rest (rest_of g) (rest_of f) s (joined other lit) (joined facts lit) m (good_joined s facts lit n good here) w r.0 r.1 q.1 p.1,
+      ),
+    )
+lines_good bs states before sorts shown goal (Make form names certs rest) g f s other facts n good w le few h fit =
     let t = grown s (made form) in
     let more = joined_all facts (gives form s) in
-    let p = both (fits_form form s) (list_all fits (lines rest t more (goal_for before sorts shown))) f in
+    let p = both (fits_form form s) (list_all (line_fits bs) (lines bs rest (rest_of g) t (joined_all other (gives form s)) (goal_for before sorts shown))) fit in
     let larger : Within s t = grows s (made form) in
-    let start : GoodFacts t facts n = record { good = good_more s t larger facts g.good; few = g.few } in
+    let start : GoodFacts t facts n = record { good = good_more s t larger facts good.good; few = good.few } in
     let next = all_joined t facts (gives form s) n start (gives_good form s p.0) in
-    let same : GoodFacts t more n = record { good = next.good; few = omega (arith, next.few, plain_count (gives form s) (gives_plain form s p.0)) } in
-    and _ _ (line_fits s facts (needs_of_form form) n g le (needs_good form s p.0))
-    (lines_good before sorts shown goal rest t more n same (λ sort. omega (arith, w sort, larger sort)) le few h p.1)
-lines_good before sorts shown goal (Claim claimed inner rest) s facts n g w le few h f =
+    let same : GoodFacts t more n = record { good = next.good; few = omega (arith, next.few, plain_count (gives form s) (gives_plain form s p.0)) } in (
+      facts_fit s facts n good le,
+      λ is. (
+        needs_good form s p.0,
+        lines_good bs states before sorts shown goal rest (rest_of g) (rest_of f) t (joined_all other (gives form s)) more n same (λ sort. omega (arith, w sort, larger sort)) le few h p.1,
+      ),
+    )
+lines_good bs states before sorts shown goal (Apply theorem pattern names certs rest) g f s other facts n good w le few h fit =
+    let t = theorem_at bs theorem in
+    let u = grown s t.made in
+    let m = n + count_monomials t.shown in
+    let p = both (ltb theorem (length bs) && is_pattern t s pattern) (list_all (line_fits bs) (lines bs rest (rest_of g) u (joined_all other (gives_of_use t (args_of g) s)) (goal_for before sorts shown))) fit in
+    let earlier : ltb theorem (length bs) ≡ true = (both (ltb theorem (length bs)) (is_pattern t s pattern) p.0).0 in
+    let r = room m (few_terms bs m u rest) few in
+    let larger : Within s u = grows s t.made in
+    let chosen : (ltb theorem (length bs) && is_choice t s pattern (args_of f)) ≡ true → are_arguments t s (args_of f) ≡ true = λ is.
+    (both (fills pattern (args_of f)) (are_arguments t s (args_of f)) (both (ltb theorem (length bs)) (is_choice t s pattern (args_of f)) is).1).1 in (
+      facts_fit s facts n good le,
+      λ is. (
+        needs_of_use_good t (args_of f) s (stated_at bs theorem states earlier) (chosen is),
+        lines_good bs states before sorts shown goal rest (rest_of g) (rest_of f) u (joined_all other (gives_of_use t (args_of g) s)) (joined_all facts (gives_of_use t (args_of f) s)) m
+            (good_gifts bs theorem s (args_of f) facts n states earlier (chosen is) good) (λ sort. omega (arith, w sort, larger sort)) r.0 r.1 h p.1,
+      ),
+    )
+lines_good bs states before sorts shown goal (Claim claimed inner rest) g f s other facts n good w le few h fit =
     let m = n + count_monomials claimed in
-    let inside = lines inner s facts (goal_for s [] claimed) in
-    let behind = lines rest s (joined_all facts claimed) (goal_for before sorts shown) in
-    let p = both (are_over s claimed) (list_all fits (inside ++ behind)) f in
-    let q = parted fits inside behind p.1 in
+    let inside = lines bs inner (inner_of g) s other (goal_for s [] claimed) in
+    let behind = lines bs rest (rest_of g) s (joined_all other claimed) (goal_for before sorts shown) in
+    let p = both (are_over s claimed) (list_all (line_fits bs) (inside ++ behind)) fit in
+    let q = parted (line_fits bs) inside behind p.1 in
     let l = both (list_all is_well_formed claimed) (has_good_literals inner && has_good_literals rest) h in
     let k = both (has_good_literals inner) (has_good_literals rest) l.1 in
-    let r = both (few_terms n s inner) (leb m most_terms && few_terms m s rest) few in
-    let v = room m (few_terms m s rest) r.1 in
-    let next = all_joined s facts claimed n g (two_good s claimed p.0 l.0) in
-    let own : GoodGoal s [] claimed = record { within = p.0; good = l.0 } in
-    and _ _ (line_fits s facts [] n g le refl)
-    (appended lits_fit inside behind (lines_good s [] claimed own inner s facts n g (λ sort. omega arith) le r.0 k.0 q.0)
-    (lines_good before sorts shown goal rest s (joined_all facts claimed) m next w v.0 v.1 k.1 q.1))
-lines_good before sorts shown goal (Superposed form names copied certs inner rest) s facts n g w le few h f =
+    let r = both (few_terms bs n s inner) (leb m most_terms && few_terms bs m s rest) few in
+    let v = room m (few_terms bs m s rest) r.1 in
+    let next = all_joined s facts claimed n good (two_good s claimed p.0 l.0) in
+    let own : GoodGoal s [] claimed = record { within = p.0; good = l.0 } in (
+      facts_fit s facts n good le,
+      λ is. (
+        refl,
+        both_parts bs (lines bs inner (inner_of f) s facts (goal_for s [] claimed)) (lines bs rest (rest_of f) s (joined_all facts claimed) (goal_for before sorts shown))
+            (lines_good bs states s [] claimed own inner (inner_of g) (inner_of f) s other facts n good (λ sort. omega arith) le r.0 k.0 q.0)
+            (lines_good bs states before sorts shown goal rest (rest_of g) (rest_of f) s (joined_all other claimed) (joined_all facts claimed) m next w v.0 v.1 k.1 q.1),
+      ),
+    )
+lines_good bs states before sorts shown goal (Superposed form names copied certs inner rest) g f s other facts n good w le few h fit =
     let t = grown s superposing.made in
     let given = superposing.gives form s in
     let i = n + count_monomials given in
     let m = n + count_monomials copied in
-    let inside = lines inner t (joined_all facts given) (goal_for s [] copied) in
-    let behind = lines rest s (joined_all facts copied) (goal_for before sorts shown) in
-    let p = both (superposing.fits form s && are_over s copied) (list_all fits (inside ++ behind)) f in
+    let inside = lines bs inner (inner_of g) t (joined_all other given) (goal_for s [] copied) in
+    let behind = lines bs rest (rest_of g) s (joined_all other copied) (goal_for before sorts shown) in
+    let p = both (superposing.fits form s && are_over s copied) (list_all (line_fits bs) (inside ++ behind)) fit in
     let o = both (superposing.fits form s) (are_over s copied) p.0 in
-    let q = parted fits inside behind p.1 in
+    let q = parted (line_fits bs) inside behind p.1 in
     let l = both (list_all is_well_formed copied) (has_good_literals inner && has_good_literals rest) h in
     let k = both (has_good_literals inner) (has_good_literals rest) l.1 in
-    let a = room i (few_terms i t inner && (leb m most_terms && few_terms m s rest)) few in
-    let r = both (few_terms i t inner) (leb m most_terms && few_terms m s rest) a.1 in
-    let v = room m (few_terms m s rest) r.1 in
+    let a = room i (few_terms bs i t inner && (leb m most_terms && few_terms bs m s rest)) few in
+    let r = both (few_terms bs i t inner) (leb m most_terms && few_terms bs m s rest) a.1 in
+    let v = room m (few_terms bs m s rest) r.1 in
     let larger : Within s t = grows s superposing.made in
-    let start : GoodFacts t facts n = record { good = good_more s t larger facts g.good; few = g.few } in
+    let start : GoodFacts t facts n = record { good = good_more s t larger facts good.good; few = good.few } in
     let first = all_joined t facts given n start (superposition_gives form s o.0) in
-    let next = all_joined s facts copied n g (two_good s copied o.1 l.0) in
-    let own : GoodGoal s [] copied = record { within = o.1; good = l.0 } in
-    and _ _ (line_fits s facts (superposing.needs form) n g le (superposition_needs_good form s o.0))
-    (appended lits_fit inside behind (lines_good s [] copied own inner t (joined_all facts given) i first larger a.0 r.0 k.0 q.0)
-    (lines_good before sorts shown goal rest s (joined_all facts copied) m next w v.0 v.1 k.1 q.1))
-lines_good before sorts shown goal (Qed objects certs) s facts n g w le few h f =
-    let p = both (are_for (goal_for before sorts shown) s objects) true f in
+    let next = all_joined s facts copied n good (two_good s copied o.1 l.0) in
+    let own : GoodGoal s [] copied = record { within = o.1; good = l.0 } in (
+      facts_fit s facts n good le,
+      λ is. (
+        superposition_needs_good form s o.0,
+        both_parts bs (lines bs inner (inner_of f) t (joined_all facts given) (goal_for s [] copied)) (lines bs rest (rest_of f) s (joined_all facts copied) (goal_for before sorts shown))
+            (lines_good bs states s [] copied own inner (inner_of g) (inner_of f) t (joined_all other given) (joined_all facts given) i first larger a.0 r.0 k.0 q.0)
+            (lines_good bs states before sorts shown goal rest (rest_of g) (rest_of f) s (joined_all other copied) (joined_all facts copied) m next w v.0 v.1 k.1 q.1),
+      ),
+    )
+lines_good bs states before sorts shown goal (Qed objects certs) g f s other facts n good w le few h fit =
+    let p = both (are_for (goal_for before sorts shown) s objects) true fit in
     let of_sorts : are_of_sorts s sorts objects ≡ true = subst (λ (xs : List Sort). are_of_sorts s xs objects ≡ true) (sorts_again before sorts) p.0 in
-    and _ _ (line_fits s facts (goal_with (goal_for before sorts shown) objects) n g le (good_goal before s sorts objects shown w of_sorts goal.within goal.good)) refl
-lines_good before sorts shown goal (Contradiction against) s facts n g w le few h f = and _ _ (line_fits s facts [] n g le refl) refl
-lines_good before sorts shown goal (Cases lit first second) s facts n g w le few h f =
+    (facts_fit s facts n good le, λ is. (good_goal before s sorts objects shown w of_sorts goal.within goal.good, tt))
+lines_good bs states before sorts shown goal (Contradiction against) g f s other facts n good w le few h fit = (facts_fit s facts n good le, λ is. (refl, tt))
+lines_good bs states before sorts shown goal (Cases lit first second) g f s other facts n good w le few h fit =
     let m = n + monomials lit.atom in
-    let one = lines first s (joined facts lit) (goal_for before sorts shown) in
-    let two = lines second s (joined facts (negation lit)) (goal_for before sorts shown) in
-    let p = both (all_in_scope s lit) (list_all fits (one ++ two)) f in
-    let q = parted fits one two p.1 in
+    let one = lines bs first (inner_of g) s (joined other lit) (goal_for before sorts shown) in
+    let two = lines bs second (rest_of g) s (joined other (negation lit)) (goal_for before sorts shown) in
+    let p = both (all_in_scope s lit) (list_all (line_fits bs) (one ++ two)) fit in
+    let q = parted (line_fits bs) one two p.1 in
     let l = both (is_well_formed lit) (has_good_literals first && has_good_literals second) h in
     let k = both (has_good_literals first) (has_good_literals second) l.1 in
-    let a = room m (few_terms m s first && few_terms m s second) few in
-    let r = both (few_terms m s first) (few_terms m s second) a.1 in
-    let good : is_good s lit ≡ true = rw (p.0, l.0) refl in
-    and _ _ (line_fits s facts [] n g le refl)
-    (appended lits_fit one two (lines_good before sorts shown goal first s (joined facts lit) m (good_joined s facts lit n g good) w a.0 r.0 k.0 q.0)
-    (lines_good before sorts shown goal second s (joined facts (negation lit)) m (good_joined s facts (negation lit) n g good) w a.0 r.1 k.1 q.1))
-
--- ---- the whole
-
-good_lines : (known : List Headed) (t : Entry) → Fits known t → list_all lits_fit (proof_lines (stated t.statement) t.script) ≡ true
-good_lines known t f =
-    let st = stated t.statement in
-    let s = scope_of st in
-    let given = all_joined s [] st.given 0 (record { good = refl; few = omega arith }) (two_good s st.given f.given f.good_given) in
-    let facts : GoodFacts s (facts_of_statement st) (count_monomials st.given) = record { good = given.good; few = omega (arith, given.few) } in
-    let goal : GoodGoal s st.made st.shown = record { within = subst (λ (z : Scope). list_all (all_in_scope z) st.shown ≡ true) (sym f.scope) f.shown; good = f.good_shown } in
-    lines_good s st.made st.shown goal t.script s (facts_of_statement st) (count_monomials st.given) facts (λ sort. omega arith) f.given_terms f.terms f.good_script f.script
-
--- a theorem that fits can be judged
-pub fitting : (known : List Headed) (t : Entry) → Fits known t → IsFitting (stated t.statement) t.script
-fitting known t f =
-    let points : (all_objects (stated t.statement)).points ≡ length t.names.points = ap (λ (s : Scope). s.points) f.scope in
-    let lines : (all_objects (stated t.statement)).lines ≡ length t.names.lines = ap (λ (s : Scope). s.lines) f.scope in
-    let circles : (all_objects (stated t.statement)).circles ≡ length t.names.circles = ap (λ (s : Scope). s.circles) f.scope in
-    record {
-      forms = f.script;
-      lits = good_lines known t f;
-      short = f.steps;
-      shallow = f.depth;
-      points = omega (arith, points, f.points);
-      lines = omega (arith, lines, f.lines);
-      circles = omega (arith, circles, f.circles);
-    }
-
--- and so can one that is read
-pub reading_fitting : (known : List Headed) (last : ℕ) (ahead rest : List (Result Seen LineFault)) (t : Entry) → read_from known last None ahead ≡ answered (pair t rest) → IsFitting (stated t.statement) t.script
-reading_fitting known last ahead rest t e = fitting known t (reading_fits known last None ahead rest t tt e)
+    let a = room m (few_terms bs m s first && few_terms bs m s second) few in
+    let r = both (few_terms bs m s first) (few_terms bs m s second) a.1 in
+    let here : is_good s lit ≡ true = rw (p.0, l.0) refl in (
+      facts_fit s facts n good le,
+      λ is. (
+        refl,
+        both_parts bs (lines bs first (inner_of f) s (joined facts lit) (goal_for before sorts shown)) (lines bs second (rest_of f) s (joined facts (negation lit)) (goal_for before sorts shown))
+            (lines_good bs states before sorts shown goal first (inner_of g) (inner_of f) s (joined other lit) (joined facts lit) m (good_joined s facts lit n good here) w a.0 r.0 k.0 q.0)
+            (lines_good bs states before sorts shown goal second (rest_of g) (rest_of f) s (joined other (negation lit)) (joined facts (negation lit)) m (good_joined s facts (negation lit) n good here) w a.0 r.1 k.1 q.1),
+      ),
+    )

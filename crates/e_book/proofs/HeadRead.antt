@@ -53,25 +53,25 @@ declared_names sort (n ∷ ns) h = h
 abbrev then_declaring : List ℕ → List Sort → Result Names Kind → Result Draft Kind
 then_declaring t sorts r = r >>= λ ns. Ok (declaring t ns sorts)
 
-one_declared : (t : List ℕ) (ns : Names) (sorts : List Sort) (sort : Sort) (name : List ℕ) → Free ns name → length (names_of_sort ns sort) + 1 ≤ most_of sort
-    → step (declaring t ns sorts) (forms.Declare sort (name ∷ [])) ≡ Ok (declaring t (plus ns sort name) (sorts ++ sort ∷ []))
+one_declared : (known : List Headed) (t : List ℕ) (ns : Names) (sorts : List Sort) (sort : Sort) (name : List ℕ) → Free ns name → length (names_of_sort ns sort) + 1 ≤ most_of sort
+    → step known (declaring t ns sorts) (forms.Declare sort (name ∷ [])) ≡ Ok (declaring t (plus ns sort name) (sorts ++ sort ∷ []))
 unfolding step stepped
-one_declared t ns sorts sort name f few = ap (then_declaring t (sorts ++ sort ∷ [])) (declared_one ns sort name f few)
+one_declared known t ns sorts sort name f few = ap (then_declaring t (sorts ++ sort ∷ [])) (declared_one ns sort name f few)
 
-split_declared : (t : List ℕ) (ns : Names) (sorts : List Sort) (sort : Sort) (name : List ℕ) (more : List (List ℕ)) → Free ns name
-    → step (declaring t ns sorts) (forms.Declare sort (name ∷ more)) ≡ step (declaring t (plus ns sort name) (sorts ++ sort ∷ [])) (forms.Declare sort more)
+split_declared : (known : List Headed) (t : List ℕ) (ns : Names) (sorts : List Sort) (sort : Sort) (name : List ℕ) (more : List (List ℕ)) → Free ns name
+    → step known (declaring t ns sorts) (forms.Declare sort (name ∷ more)) ≡ step known (declaring t (plus ns sort name) (sorts ++ sort ∷ [])) (forms.Declare sort more)
 unfolding step stepped
-split_declared t ns sorts sort name more f =
+split_declared known t ns sorts sort name more f =
     ap (then_declaring t (sorts ++ sort ∷ replicate (length more) sort)) (declared_joined ns sort name more f)
     ∙ ap (λ (l : List Sort). then_declaring t l (declared (plus ns sort name) sort more)) (sym (append_assoc sorts (sort ∷ []) (replicate (length more) sort)))
 
-pub declared_lines : (t : List ℕ) → LinesOfNames forms.Declare (declaring t)
-declared_lines t = record {
+pub declared_lines : (known : List Headed) (t : List ℕ) → LinesOfNames known forms.Declare (declaring t)
+declared_lines known t = record {
   good = λ sort n more h. h;
   said = declared_names;
   read = λ sort names. refl;
-  one = one_declared t;
-  split = split_declared t;
+  one = one_declared known t;
+  split = split_declared known t;
   going = λ ns sorts. refl;
 }
 
@@ -84,11 +84,11 @@ stating_more t ns sorts given l =
     ap₂ (λ (m n : ℕ). stating t ns sorts (given ++ l ∷ []) [] [] m n Giving) (sym (length-append given (l ∷ [])))
     (ap (λ (n : ℕ). count_monomials given + n) (count_again ns l) ∙ sym (count_more given l))
 
-step_given : (t : List ℕ) (ns : Names) (sorts : List Sort) (given : List Lit) (place : Place) (l : Lit) → InOrder ns → PlainLit ns l → length given + 1 ≤ most_facts → count_monomials given + monomials l.atom ≤ most_terms
+step_given : (known : List Headed) (t : List ℕ) (ns : Names) (sorts : List Sort) (given : List Lit) (place : Place) (l : Lit) → InOrder ns → PlainLit ns l → length given + 1 ≤ most_facts → count_monomials given + monomials l.atom ≤ most_terms
     → allowed place (given_form ns l) ≡ true
-    → step (stating t ns sorts given [] [] (length given) (count_monomials given) place) (given_form ns l) ≡ Ok (stating t ns sorts (given ++ l ∷ []) [] [] (length (given ++ l ∷ [])) (count_monomials (given ++ l ∷ [])) Giving)
+    → step known (stating t ns sorts given [] [] (length given) (count_monomials given) place) (given_form ns l) ≡ Ok (stating t ns sorts (given ++ l ∷ []) [] [] (length (given ++ l ∷ [])) (count_monomials (given ++ l ∷ [])) Giving)
 unfolding step stepped with_terms
-step_given t ns sorts given place l o p few short a =
+step_given known t ns sorts given place l o p few short a =
     let room : ltb most_facts (length given + length (raw_of ns l ∷ [])) ≡ false = le-ltb _ _ (omega (arith, few)) in
     let terms : ltb most_terms (count_monomials given + count_monos (raw_of ns l ∷ [])) ≡ false = le-ltb _ _ (omega (arith, short, count_again ns l)) in
     rw (a, lit_number_again ns l o p.within p.good, room, few_again ns l p.good, terms) (ap (λ (d : Draft). Ok d) (stating_more t ns sorts given l))
@@ -103,7 +103,7 @@ run_given known t ns sorts given (l ∷ more) o p few short =
     let q = plain_first ns l more p in (
       giving t ns sorts (given ++ l ∷ []),
       lit_named ns l o q.0.within q.0.good,
-      step_given t ns sorts given Giving l o q.0 (omega (arith, few)) (omega (arith, short, count_first l more)) refl,
+      step_given known t ns sorts given Giving l o q.0 (omega (arith, few)) (omega (arith, short, count_first l more)) refl,
       refl,
       subst (λ (g : List Lit). Runs known (Some (giving t ns sorts (given ++ l ∷ []))) (map (given_form ns) more) (Some (giving t ns sorts g))) (append_assoc given (l ∷ []) more)
           (run_given known t ns sorts (given ++ l ∷ []) more o q.1 (omega (arith, few, length-append given (l ∷ []))) (omega (arith, short, count_first l more, count_more given l))),
@@ -124,7 +124,7 @@ run_all_given known t ns sorts (l ∷ more) o p few short =
     let q = plain_first ns l more p in (
       giving t ns sorts (l ∷ []),
       lit_named ns l o q.0.within q.0.good,
-      step_given t ns sorts [] Declaring l o q.0 (omega (arith, few)) (omega (arith, short, count_first l more)) refl,
+      step_given known t ns sorts [] Declaring l o q.0 (omega (arith, few)) (omega (arith, short, count_first l more)) refl,
       refl,
       run_given known t ns sorts (l ∷ []) more o q.1 (omega (arith, few)) (omega (arith, short, count_first l more, count_first l [])),
     )
@@ -156,18 +156,18 @@ made_going given (s ∷ made) d = refl
 abbrev then_making : List ℕ → List Sort → List Lit → List Sort → Result Names Kind → Result Draft Kind
 then_making t sorts given made r = r >>= λ ns. Ok (stating t ns sorts given made [] (length given) (count_monomials given) Making)
 
-one_made : (t : List ℕ) (sorts : List Sort) (given : List Lit) (ns : Names) (made : List Sort) (sort : Sort) (name : List ℕ) → Free ns name → length (names_of_sort ns sort) + 1 ≤ most_of sort
-    → step (making t sorts given ns made) (forms.Made sort (name ∷ [])) ≡ Ok (making t sorts given (plus ns sort name) (made ++ sort ∷ []))
+one_made : (known : List Headed) (t : List ℕ) (sorts : List Sort) (given : List Lit) (ns : Names) (made : List Sort) (sort : Sort) (name : List ℕ) → Free ns name → length (names_of_sort ns sort) + 1 ≤ most_of sort
+    → step known (making t sorts given ns made) (forms.Made sort (name ∷ [])) ≡ Ok (making t sorts given (plus ns sort name) (made ++ sort ∷ []))
 unfolding step stepped
-one_made t sorts given ns made sort name f few =
+one_made known t sorts given ns made sort name f few =
     rw (may_make given made sort (name ∷ []))
     (ap (then_making t sorts given (made ++ sort ∷ [])) (declared_one ns sort name f few)
     ∙ ap (λ (p : Place). Ok (stating t (plus ns sort name) sorts given (made ++ sort ∷ []) [] (length given) (count_monomials given) p)) (sym (some_made given made sort)))
 
-split_made : (t : List ℕ) (sorts : List Sort) (given : List Lit) (ns : Names) (made : List Sort) (sort : Sort) (name : List ℕ) (more : List (List ℕ)) → Free ns name
-    → step (making t sorts given ns made) (forms.Made sort (name ∷ more)) ≡ step (making t sorts given (plus ns sort name) (made ++ sort ∷ [])) (forms.Made sort more)
+split_made : (known : List Headed) (t : List ℕ) (sorts : List Sort) (given : List Lit) (ns : Names) (made : List Sort) (sort : Sort) (name : List ℕ) (more : List (List ℕ)) → Free ns name
+    → step known (making t sorts given ns made) (forms.Made sort (name ∷ more)) ≡ step known (making t sorts given (plus ns sort name) (made ++ sort ∷ [])) (forms.Made sort more)
 unfolding step stepped
-split_made t sorts given ns made sort name more f =
+split_made known t sorts given ns made sort name more f =
     rw (may_make given made sort (name ∷ more), may_make given (made ++ sort ∷ []) sort more)
     (ap (then_making t sorts given (made ++ sort ∷ replicate (length more) sort)) (declared_joined ns sort name more f)
     ∙ ap (λ (l : List Sort). then_making t sorts given l (declared (plus ns sort name) sort more)) (sym (append_assoc made (sort ∷ []) (replicate (length more) sort))))
@@ -176,13 +176,13 @@ made_names : (sort : Sort) (names : List (List ℕ)) → GoodForm (forms.Made so
 made_names sort [] h = absurd h
 made_names sort (n ∷ ns) h = h
 
-pub made_lines : (t : List ℕ) (sorts : List Sort) (given : List Lit) → LinesOfNames forms.Made (making t sorts given)
-made_lines t sorts given = record {
+pub made_lines : (known : List Headed) (t : List ℕ) (sorts : List Sort) (given : List Lit) → LinesOfNames known forms.Made (making t sorts given)
+made_lines known t sorts given = record {
   good = λ sort n more h. h;
   said = made_names;
   read = λ sort names. refl;
-  one = one_made t sorts given;
-  split = split_made t sorts given;
+  one = one_made known t sorts given;
+  split = split_made known t sorts given;
   going = λ ns made. made_going given made (making t sorts given ns made);
 }
 
@@ -192,10 +192,10 @@ made_lines t sorts given = record {
 abbrev pub showing : List ℕ → Names → List Sort → List Lit → List Sort → List Lit → Draft
 showing t ns sorts given made shown = stating t ns sorts given made shown (length given) (count_monomials given) Showing
 
-step_show : (t : List ℕ) (ns : Names) (sorts : List Sort) (given : List Lit) (made : List Sort) (shown : List Lit) (place : Place) (l : Lit) → InOrder ns → PlainLit ns l → allowed place (show_form ns l) ≡ true
-    → step (stating t ns sorts given made shown (length given) (count_monomials given) place) (show_form ns l) ≡ Ok (showing t ns sorts given made (shown ++ l ∷ []))
+step_show : (known : List Headed) (t : List ℕ) (ns : Names) (sorts : List Sort) (given : List Lit) (made : List Sort) (shown : List Lit) (place : Place) (l : Lit) → InOrder ns → PlainLit ns l → allowed place (show_form ns l) ≡ true
+    → step known (stating t ns sorts given made shown (length given) (count_monomials given) place) (show_form ns l) ≡ Ok (showing t ns sorts given made (shown ++ l ∷ []))
 unfolding step stepped
-step_show t ns sorts given made shown place l o p a = rw (a, lit_number_again ns l o p.within p.good, few_again ns l p.good) refl
+step_show known t ns sorts given made shown place l o p a = rw (a, lit_number_again ns l o p.within p.good, few_again ns l p.good) refl
 
 run_shown : (known : List Headed) (t : List ℕ) (ns : Names) (sorts : List Sort) (given : List Lit) (made : List Sort) (shown more : List Lit) → InOrder ns → Plain ns more
     → Runs known (Some (showing t ns sorts given made shown)) (map (show_form ns) more) (Some (showing t ns sorts given made (shown ++ more)))
@@ -204,7 +204,7 @@ run_shown known t ns sorts given made shown (l ∷ more) o p =
     let q = plain_first ns l more p in (
       showing t ns sorts given made (shown ++ l ∷ []),
       lit_named ns l o q.0.within q.0.good,
-      step_show t ns sorts given made shown Showing l o q.0 refl,
+      step_show known t ns sorts given made shown Showing l o q.0 refl,
       refl,
       subst (λ (g : List Lit). Runs known (Some (showing t ns sorts given made (shown ++ l ∷ []))) (map (show_form ns) more) (Some (showing t ns sorts given made g))) (append_assoc shown (l ∷ []) more)
           (run_shown known t ns sorts given made (shown ++ l ∷ []) more o q.1),
@@ -222,7 +222,7 @@ run_all_shown known t ns sorts given made (l ∷ more) o p some =
     let q = plain_first ns l more p in (
       showing t ns sorts given made (l ∷ []),
       lit_named ns l o q.0.within q.0.good,
-      step_show t ns sorts given made [] (after_made given made) l o q.0 (may_show ns given made l),
+      step_show known t ns sorts given made [] (after_made given made) l o q.0 (may_show ns given made l),
       refl,
       run_shown known t ns sorts given made (l ∷ []) more o q.1,
     )

@@ -17,13 +17,13 @@ use Rattle.e_deriv.specs.declared.names.Names.{Names}
 use Rattle.e_deriv.specs.PlainStep.{PlainStep, all_before}
 use Rattle.e_deriv.specs.Goal.{goal_of_statement, facts_of_statement}
 use Rattle.e_deriv.specs.Lines.{lines}
-use Rattle.e_deriv.specs.Steps.{fits}
 use Rattle.e_deriv.specs.Naming.{names_of_sort, with_names}
 use Rattle.e_book.specs.declared.fault.BookFault.{BookFault}
 use Rattle.e_book.specs.declared.fault.What.TheVariants as limits
 use Rattle.e_book.specs.declared.literal.RawLit.{RawLit}
 use Rattle.e_book.specs.declared.lets.RawLet.{RawLet}
 use Rattle.e_book.specs.declared.superposes.RawSuperpose.{RawSuperpose}
+use Rattle.e_book.specs.declared.applies.RawApply.{RawApply}
 use Rattle.e_book.specs.declared.blocks.Outer.{Outer}
 use Rattle.e_book.specs.declared.form.Form.{Form}
 use Rattle.e_book.specs.declared.form.Form.TheVariants as forms
@@ -32,7 +32,7 @@ use Rattle.e_book.specs.declared.draft.Place.TheVariants.{Declaring, Giving, Mak
 use Rattle.e_book.specs.declared.draft.Draft.{Draft}
 use Rattle.e_book.specs.Reading.{◌>>=◌, with_front}
 use Rattle.e_book.specs.Limits.{most_theorems, most_of, most_facts, what_of, within, count_monomials}
-use Rattle.e_book.specs.Headed.{Headed, is_known}
+use Rattle.e_book.specs.Headed.{Headed, is_known, stated_by}
 use Rattle.e_book.specs.Scope.{scope_of_names, fresh, lit_in, lits_in}
 use Rattle.e_book.specs.Forms.{form_of}
 use Rattle.e_book.specs.Steps.{count_monos, few_monos, with_terms, allowed, declared, stepped, step, FewNamed, begin, begun}
@@ -46,10 +46,10 @@ use Rattle.e_book.proofs.WellRead.{good_lits, lits_count}
 use Rattle.e_book.proofs.KeptSums.{few_ok, terms_added, monomials-append}
 use Rattle.e_book.proofs.Distinct.{still_differ}
 use Rattle.e_book.proofs.Building.{sorts_again, declared_scope}
-use Rattle.e_book.proofs.FittingScripts.{Spot, spot}
+use Rattle.e_book.proofs.FittingScripts.{Spot, spot, line_fits}
 use Rattle.e_book.proofs.OpenBlocks.{Open, open_first}
 use Rattle.e_book.proofs.Drafts.{HeadOf, start, NoProof, NoProofOf, OpenOf, ShutOf, Body, Good}
-use Rattle.e_book.proofs.KeptBlocks.{lits_within, keeps_by, keeps_hence, keeps_let, keeps_claim, keeps_superpose, keeps_cases, keeps_else, keeps_qed, keeps_contradiction}
+use Rattle.e_book.proofs.KeptBlocks.{lits_within, keeps_by, keeps_hence, keeps_let, keeps_apply, keeps_claim, keeps_superpose, keeps_cases, keeps_else, keeps_qed, keeps_contradiction}
 
 grown-append : (s : Scope) (xs ys : List Sort) → grown s (xs ++ ys) ≡ grown (grown s xs) ys
 grown-append s [] ys = refl
@@ -84,35 +84,35 @@ nothing_at {X} p xs e = subst (λ (l : List X). list_all p l ≡ true) (sym e) r
 -- ---- the statement
 
 -- where objects may be declared
-declaring : (p : Place) (d : Draft) (sort : Sort) (ns : List (List ℕ)) → allowed p (forms.Declare sort ns) ≡ true → Body p d → (p ≡ Declaring) × (d.given ≡ []) × (d.made ≡ []) × (d.shown ≡ []) × NoProofOf d
-declaring Declaring d sort ns a b = (refl, b.0, b.1, b.2, b.3)
-declaring p d sort ns a b = absurd cc
+declaring : (known : List Headed) (p : Place) (d : Draft) (sort : Sort) (ns : List (List ℕ)) → allowed p (forms.Declare sort ns) ≡ true → Body known p d → (p ≡ Declaring) × (d.given ≡ []) × (d.made ≡ []) × (d.shown ≡ []) × NoProofOf d
+declaring known Declaring d sort ns a b = (refl, b.0, b.1, b.2, b.3)
+declaring known p d sort ns a b = absurd cc
 
 -- where literals may be given
-giving : (p : Place) (d : Draft) (raws : List RawLit) → allowed p (forms.Given raws) ≡ true → Body p d → (d.made ≡ []) × (d.shown ≡ []) × NoProofOf d
-giving Declaring d raws a b = (b.1, b.2, b.3)
-giving Giving d raws a b = b
-giving p d raws a b = absurd cc
+giving : (known : List Headed) (p : Place) (d : Draft) (raws : List RawLit) → allowed p (forms.Given raws) ≡ true → Body known p d → (d.made ≡ []) × (d.shown ≡ []) × NoProofOf d
+giving known Declaring d raws a b = (b.1, b.2, b.3)
+giving known Giving d raws a b = b
+giving known p d raws a b = absurd cc
 
 -- where objects may be made
-making : (p : Place) (d : Draft) (sort : Sort) (ns : List (List ℕ)) → allowed p (forms.Made sort ns) ≡ true → Body p d → (d.shown ≡ []) × NoProofOf d
-making Declaring d sort ns a b = (b.2, b.3)
-making Giving d sort ns a b = (b.1, b.2)
-making Making d sort ns a b = b
-making p d sort ns a b = absurd cc
+making : (known : List Headed) (p : Place) (d : Draft) (sort : Sort) (ns : List (List ℕ)) → allowed p (forms.Made sort ns) ≡ true → Body known p d → (d.shown ≡ []) × NoProofOf d
+making known Declaring d sort ns a b = (b.2, b.3)
+making known Giving d sort ns a b = (b.1, b.2)
+making known Making d sort ns a b = b
+making known p d sort ns a b = absurd cc
 
 -- where literals may be shown
-showing : (p : Place) (d : Draft) (raws : List RawLit) → allowed p (forms.Show raws) ≡ true → Body p d → NoProofOf d
-showing Declaring d raws a b = b.3
-showing Giving d raws a b = b.2
-showing Making d raws a b = b.1
-showing Showing d raws a b = b
-showing p d raws a b = absurd cc
+showing : (known : List Headed) (p : Place) (d : Draft) (raws : List RawLit) → allowed p (forms.Show raws) ≡ true → Body known p d → NoProofOf d
+showing known Declaring d raws a b = b.3
+showing known Giving d raws a b = b.2
+showing known Making d raws a b = b.1
+showing known Showing d raws a b = b
+showing known p d raws a b = absurd cc
 
 -- where the proof may begin
-beginning : (p : Place) (d : Draft) → allowed p forms.Proof ≡ true → Body p d → NoProofOf d
-beginning Showing d a b = b
-beginning p d a b = absurd cc
+beginning : (known : List Headed) (p : Place) (d : Draft) → allowed p forms.Proof ≡ true → Body known p d → NoProofOf d
+beginning known Showing d a b = b
+beginning known p d a b = absurd cc
 
 -- more objects of a sort
 record Grown (ns : Names) (sort : Sort) (new : List (List ℕ)) (now : Names) : Type 0 where
@@ -128,7 +128,7 @@ grows ns sort new now few differ h =
     let w = bind_ok (within (length (names_of_sort ns sort) + length new) (most_of sort) (what_of sort)) (λ few. read_ok next) now f.2 in
     record { is = ok_is next now w.2; few = few_named ns sort new few (within_ok _ _ _ w.0 w.1); differ = still_differ ns sort new f.0 differ f.1 }
 
-keeps_declare : (known : List Headed) (d e : Draft) (sort : Sort) (ns : List (List ℕ)) → Good known d → allowed d.place (forms.Declare sort ns) ≡ true → stepped d (forms.Declare sort ns) ≡ Ok e → Good known e
+keeps_declare : (known : List Headed) (d e : Draft) (sort : Sort) (ns : List (List ℕ)) → Good known d → allowed d.place (forms.Declare sort ns) ≡ true → stepped known d (forms.Declare sort ns) ≡ Ok e → Good known e
 unfolding stepped
 keeps_declare known d e sort ns good a h =
     let g = good.head in
@@ -137,7 +137,7 @@ keeps_declare known d e sort ns good a h =
     let x : Draft = record d { names = now; declared = d.declared ++ more_sorts } in
     let n = bind_ok (declared d.names sort ns) (λ names. read_ok (record d { names = names; declared = d.declared ++ more_sorts })) e h in
     let w = grows d.names sort ns n.0 g.few g.differ n.1 in
-    let at = declaring d.place d sort ns a good.body in
+    let at = declaring known d.place d sort ns a good.body in
     let none : (s : Scope) → grown s d.made ≡ s = λ s. ap (grown s) at.2 in
     let was : grown nothing d.declared ≡ scope_of_names d.names = sym (none (grown nothing d.declared)) ∙ g.scope in
     let x-is : x ≡ e = ap (λ (m : Names). record d { names = m; declared = d.declared ++ more_sorts }) w.is ∙ ok_is (record d { names = n.0; declared = d.declared ++ more_sorts }) e n.2 in
@@ -153,9 +153,9 @@ keeps_declare known d e sort ns good a h =
       few_given = g.few_given;
       few_terms = g.few_terms;
     } in
-    subst (λ (y : Draft). Good known y) x-is (record { head = head; body = subst (λ (p : Place). Body p x) (sym at.0) (at.1, at.2, at.3, at.4) })
+    subst (λ (y : Draft). Good known y) x-is (record { head = head; body = subst (λ (p : Place). Body known p x) (sym at.0) (at.1, at.2, at.3, at.4) })
 
-keeps_given : (known : List Headed) (d e : Draft) (raws : List RawLit) → Good known d → allowed d.place (forms.Given raws) ≡ true → Said (forms.Given raws) → stepped d (forms.Given raws) ≡ Ok e → Good known e
+keeps_given : (known : List Headed) (d e : Draft) (raws : List RawLit) → Good known d → allowed d.place (forms.Given raws) ≡ true → Said (forms.Given raws) → stepped known d (forms.Given raws) ≡ Ok e → Good known e
 unfolding stepped
 keeps_given known d e raws good a said h =
     let g = good.head in
@@ -167,7 +167,7 @@ keeps_given known d e raws good a said h =
     let le = within_ok _ _ _ w.0 w.1 in
     let n = each_length (lit_in d.names) raws ls.0 ls.1 in
     let m = lits_count d.names raws ls.0 ls.1 in
-    let at = giving d.place d raws a good.body in
+    let at = giving known d.place d raws a good.body in
     let was : scope_of_names d.names ≡ grown nothing d.declared = sym g.scope ∙ ap (grown (grown nothing d.declared)) at.0 in
     let gs = d.given ++ ls.0 in
     let t = terms_added (then gs) e raws (ap (λ (l : List Lit). with_terms (then l) raws) (ok_is gs all.0 ls.2) ∙ w.2) in
@@ -190,7 +190,7 @@ keeps_given known d e raws good a said h =
     let none_now : NoProofOf x = record { steps = none.steps; outers = none.outers; lines = none.lines; facts = facts; terms = terms } in
     subst (λ (y : Draft). Good known y) t.is (record { head = head; body = (at.0, at.1, none_now) })
 
-keeps_made : (known : List Headed) (d e : Draft) (sort : Sort) (ns : List (List ℕ)) → Good known d → allowed d.place (forms.Made sort ns) ≡ true → stepped d (forms.Made sort ns) ≡ Ok e → Good known e
+keeps_made : (known : List Headed) (d e : Draft) (sort : Sort) (ns : List (List ℕ)) → Good known d → allowed d.place (forms.Made sort ns) ≡ true → stepped known d (forms.Made sort ns) ≡ Ok e → Good known e
 unfolding stepped
 keeps_made known d e sort ns good a h =
     let g = good.head in
@@ -199,7 +199,7 @@ keeps_made known d e sort ns good a h =
     let x : Draft = record d { names = now; made = d.made ++ more_sorts; place = Making } in
     let n = bind_ok (declared d.names sort ns) (λ names. read_ok (record d { names = names; made = d.made ++ more_sorts; place = Making })) e h in
     let w = grows d.names sort ns n.0 g.few g.differ n.1 in
-    let at = making d.place d sort ns a good.body in
+    let at = making known d.place d sort ns a good.body in
     let x-is : x ≡ e = ap (λ (m : Names). record d { names = m; made = d.made ++ more_sorts; place = Making }) w.is ∙ ok_is (record d { names = n.0; made = d.made ++ more_sorts; place = Making }) e n.2 in
     let head : HeadOf known x = record {
       new = g.new;
@@ -215,7 +215,7 @@ keeps_made known d e sort ns good a h =
     } in
     subst (λ (y : Draft). Good known y) x-is (record { head = head; body = at })
 
-keeps_shown : (known : List Headed) (d e : Draft) (raws : List RawLit) → Good known d → allowed d.place (forms.Show raws) ≡ true → Said (forms.Show raws) → stepped d (forms.Show raws) ≡ Ok e → Good known e
+keeps_shown : (known : List Headed) (d e : Draft) (raws : List RawLit) → Good known d → allowed d.place (forms.Show raws) ≡ true → Said (forms.Show raws) → stepped known d (forms.Show raws) ≡ Ok e → Good known e
 unfolding stepped
 keeps_shown known d e raws good a said h =
     let g = good.head in
@@ -238,23 +238,23 @@ keeps_shown known d e raws good a said h =
       few_given = g.few_given;
       few_terms = g.few_terms;
     } in
-    subst (λ (y : Draft). Good known y) x-is (record { head = head; body = showing d.place d raws a good.body })
+    subst (λ (y : Draft). Good known y) x-is (record { head = head; body = showing known d.place d raws a good.body })
 
 -- no line of the proof has come, and its first may
 first_line : (at : Spot) (made : List Sort) (gs : List Lit) (os : List Outer) (ss : List PlainStep) (n facts terms : ℕ) → at.facts ≡ length gs → at.terms ≡ count_monomials gs → NoProof gs ss os n facts terms
-    → Open at made os ss (spot at.names facts terms) n
+    → Open at made os ss (spot at.before at.names facts terms) n
 first_line at made gs os ss n facts terms f t none =
-    subst (λ (l : List Outer). Open at made l ss (spot at.names facts terms) n) (sym none.outers)
-    (subst (λ (l : List PlainStep). Open at made [] l (spot at.names facts terms) n) (sym none.steps)
-    (subst (λ (k : ℕ). Open at made [] [] (spot at.names facts terms) k) (sym none.lines)
-    (subst (λ (k : ℕ). Open at made [] [] (spot at.names k terms) 0) (f ∙ sym none.facts)
-    (subst (λ (k : ℕ). Open at made [] [] (spot at.names at.facts k) 0) (t ∙ sym none.terms) (open_first at made)))))
+    subst (λ (l : List Outer). Open at made l ss (spot at.before at.names facts terms) n) (sym none.outers)
+    (subst (λ (l : List PlainStep). Open at made [] l (spot at.before at.names facts terms) n) (sym none.steps)
+    (subst (λ (k : ℕ). Open at made [] [] (spot at.before at.names facts terms) k) (sym none.lines)
+    (subst (λ (k : ℕ). Open at made [] [] (spot at.before at.names k terms) 0) (f ∙ sym none.facts)
+    (subst (λ (k : ℕ). Open at made [] [] (spot at.before at.names at.facts k) 0) (t ∙ sym none.terms) (open_first at made)))))
 
-keeps_proof : (known : List Headed) (d e : Draft) → Good known d → allowed d.place forms.Proof ≡ true → stepped d forms.Proof ≡ Ok e → Good known e
+keeps_proof : (known : List Headed) (d e : Draft) → Good known d → allowed d.place forms.Proof ≡ true → stepped known d forms.Proof ≡ Ok e → Good known e
 unfolding stepped
 keeps_proof known d e g a h =
-    let x : Draft = record d { in_scope = (start d).names; place = Proving } in
-    let open_now : OpenOf x = first_line (start d) d.made d.given d.outers d.steps d.lines d.facts d.terms refl refl (beginning d.place d a g.body) in
+    let x : Draft = record d { in_scope = (start known d).names; place = Proving } in
+    let open_now : OpenOf known x = first_line (start known d) d.made d.given d.outers d.steps d.lines d.facts d.terms refl refl (beginning known d.place d a g.body) in
     subst (λ (y : Draft). Good known y) (ok_is x e h) (record { head = g.head; body = open_now })
 
 -- ---- the proof
@@ -270,6 +270,10 @@ proving_hence p l a = absurd cc
 proving_let : (p : Place) (l : RawLet) → allowed p (forms.Let l) ≡ true → p ≡ Proving
 proving_let Proving l a = refl
 proving_let p l a = absurd cc
+
+proving_apply : (p : Place) (a : RawApply) → allowed p (forms.Apply a) ≡ true → p ≡ Proving
+proving_apply Proving a h = refl
+proving_apply p a h = absurd cc
 
 proving_qed : (p : Place) (ns : List (List ℕ)) → allowed p (forms.Qed ns) ≡ true → p ≡ Proving
 proving_qed Proving ns a = refl
@@ -296,22 +300,22 @@ splitting Splitting a = refl
 splitting p a = absurd cc
 
 -- a closed proof
-closed : (p : Place) (d : Draft) → allowed p forms.End ≡ true → Body p d → ShutOf d
-closed Closed d a b = b
-closed p d a b = absurd cc
+closed : (known : List Headed) (p : Place) (d : Draft) → allowed p forms.End ≡ true → Body known p d → ShutOf known d
+closed known Closed d a b = b
+closed known p d a b = absurd cc
 
-keeps_end : (known : List Headed) (d e : Draft) → Good known d → allowed d.place forms.End ≡ true → stepped d forms.End ≡ Ok e → Good known e
+keeps_end : (known : List Headed) (d e : Draft) → Good known d → allowed d.place forms.End ≡ true → stepped known d forms.End ≡ Ok e → Good known e
 unfolding stepped
-keeps_end known d e g a h = subst (λ (y : Draft). Good known y) (ok_is (record d { place = Done }) e h) (record { head = g.head; body = closed d.place d a g.body })
+keeps_end known d e g a h = subst (λ (y : Draft). Good known y) (ok_is (record d { place = Done }) e h) (record { head = g.head; body = closed known d.place d a g.body })
 
 -- ---- all lines
 
-no_title : (d e : Draft) (t : List ℕ) → stepped d (forms.Theorem t) ≡ Ok e → ⊥
+no_title : (known : List Headed) (d e : Draft) (t : List ℕ) → stepped known d (forms.Theorem t) ≡ Ok e → ⊥
 unfolding stepped
-no_title d e t h = absurd cc
+no_title known d e t h = absurd cc
 
-keeps_stepped : (known : List Headed) (d e : Draft) (f : Form) → Good known d → allowed d.place f ≡ true → Said f → stepped d f ≡ Ok e → Good known e
-keeps_stepped known d e (forms.Theorem t) g a s h = absurd (no_title d e t h)
+keeps_stepped : (known : List Headed) (d e : Draft) (f : Form) → Good known d → allowed d.place f ≡ true → Said f → stepped known d f ≡ Ok e → Good known e
+keeps_stepped known d e (forms.Theorem t) g a s h = absurd (no_title known d e t h)
 keeps_stepped known d e (forms.Declare sort ns) g a s h = keeps_declare known d e sort ns g a h
 keeps_stepped known d e (forms.Given raws) g a s h = keeps_given known d e raws g a s h
 keeps_stepped known d e (forms.Made sort ns) g a s h = keeps_made known d e sort ns g a h
@@ -320,6 +324,7 @@ keeps_stepped known d e forms.Proof g a s h = keeps_proof known d e g a h
 keeps_stepped known d e (forms.By r ns l) g a s h = keeps_by known d e r ns l g (proving_by d.place r ns l a) s h
 keeps_stepped known d e (forms.Hence l) g a s h = keeps_hence known d e l g (proving_hence d.place l a) s h
 keeps_stepped known d e (forms.Let l) g a s h = keeps_let known d e l g (proving_let d.place l a) h
+keeps_stepped known d e (forms.Apply x) g a s h = keeps_apply known d e x g (proving_apply d.place x a) h
 keeps_stepped known d e (forms.Qed ns) g a s h = keeps_qed known d e ns g (proving_qed d.place ns a) h
 keeps_stepped known d e forms.Contradiction g a s h = keeps_contradiction known d e g (proving_contradiction d.place a) h
 keeps_stepped known d e (forms.Claim ls) g a s h = keeps_claim known d e ls g (proving_claim d.place ls a) s h
@@ -328,9 +333,9 @@ keeps_stepped known d e (forms.Cases l) g a s h = keeps_cases known d e l g (pro
 keeps_stepped known d e forms.Else g a s h = keeps_else known d e g (splitting d.place a) h
 keeps_stepped known d e forms.End g a s h = keeps_end known d e g a h
 
-keeps : (known : List Headed) (d e : Draft) (f : Form) → Good known d → Said f → step d f ≡ Ok e → Good known e
+keeps : (known : List Headed) (d e : Draft) (f : Form) → Good known d → Said f → step known d f ≡ Ok e → Good known e
 unfolding step
-keeps known d e f g said h = let p = passes (allowed d.place f) (stepped d f) e h in keeps_stepped known d e f g p.0 said p.1
+keeps known d e f g said h = let p = passes (allowed d.place f) (stepped known d f) e h in keeps_stepped known d e f g p.0 said p.1
 
 good_begun : (known : List Headed) (t : List ℕ) → is_known known t ≡ false → Good known (begun t)
 good_begun known t n =
@@ -364,20 +369,21 @@ GoodSoFar known (Some d) = Good known d
 keeps_line : (known : List Headed) (draft : Option Draft) (words : List (List ℕ)) (e : Draft) → GoodSoFar known draft → line_step known draft words ≡ Ok e → Good known e
 unfolding line_step
 keeps_line known None words e g h = let f = bind_ok (form_of words) (λ f. begin known f) e h in keeps_begin known f.0 e f.2
-keeps_line known (Some d) words e g h = let f = bind_ok (form_of words) (λ f. step d f) e h in keeps known d e f.0 g (form_said words f.0 f.1) f.2
+keeps_line known (Some d) words e g h = let f = bind_ok (form_of words) (λ f. step known d f) e h in keeps known d e f.0 g (form_said words f.0 f.1) f.2
 
 -- a theorem whose last line has come
-last_shut : (p : Place) (d : Draft) → is_last p ≡ true → Body p d → ShutOf d
-last_shut Done d a b = b
-last_shut p d a b = absurd cc
+last_shut : (known : List Headed) (p : Place) (d : Draft) → is_last p ≡ true → Body known p d → ShutOf known d
+last_shut known Done d a b = b
+last_shut known p d a b = absurd cc
 
 fits_read : (known : List Headed) (d : Draft) → Good known d → is_done d ≡ true → Fits known (entry_of_draft d)
 fits_read known d good a =
     let g = good.head in
     let t = stated (statement_of_draft d) in
     let script = all_before d.steps (script_of_close d.close) in
-    let s = last_shut d.place d a good.body in
-    let here : scope_of_names (start d).names ≡ scope_of t = declared_scope t d.names g.scope in
+    let before = stated_by known in
+    let s = last_shut known d.place d a good.body in
+    let here : scope_of_names (start known d).names ≡ scope_of t = declared_scope t d.names g.scope in
     record {
       new = g.new;
       scope = g.scope;
@@ -390,14 +396,15 @@ fits_read known d good a =
       good_given = g.good_given;
       good_shown = g.good_shown;
       good_script = s.fits.literals;
-      script = subst (λ (z : Scope). list_all fits (lines script z (facts_of_statement t) (goal_of_statement t)) ≡ true) here (s.fits.forms (facts_of_statement t) (goal_of_statement t) (sorts_again (scope_of t) d.made));
+      script = subst (λ (z : Scope). list_all (line_fits before) (lines before script script z (facts_of_statement t) (goal_of_statement t)) ≡ true) here (s.fits.forms script (facts_of_statement t) (goal_of_statement t) (sorts_again (scope_of t) d.made));
       new_names = s.fits.new_names;
       steps = s.short;
       depth = omega (arith, s.fits.shallow);
       given_facts = g.few_given;
       given_terms = g.few_terms;
-      facts = subst (λ (z : Scope). few_facts (length d.given) z script ≡ true) here s.fits.facts;
-      terms = subst (λ (z : Scope). few_terms (count_monomials d.given) z script ≡ true) here s.fits.terms;
+      facts = subst (λ (z : Scope). few_facts before (length d.given) z script ≡ true) here s.fits.facts;
+      terms = subst (λ (z : Scope). few_terms before (count_monomials d.given) z script ≡ true) here s.fits.terms;
+      blanks = s.fits.blanks;
     }
 
 -- a theorem that is read fits

@@ -5,6 +5,7 @@ pub mod Loops
 pub mod Texts
 pub mod Placed
 pub mod Arguments
+pub mod Entries
 pub mod SideBySide
 pub mod InScope
 pub mod SaidLits
@@ -12,6 +13,7 @@ pub mod Answered
 pub mod Citations
 pub mod Distinct
 pub mod Building
+pub mod Uses
 pub mod WellRead
 pub mod SplitCounts
 pub mod KeptSums
@@ -22,6 +24,7 @@ pub mod KeptBlocks
 pub mod Keeps
 pub mod Renaming
 pub mod GoodLines
+pub mod Fitting
 pub mod LineCount
 pub mod Differ
 pub mod NamesAgain
@@ -30,6 +33,7 @@ pub mod LetsAgain
 pub mod SumsAgain
 pub mod LitsAgain
 pub mod SuperposesAgain
+pub mod AppliesAgain
 pub mod Respelled
 pub mod LineWords
 pub mod Lookups
@@ -43,6 +47,7 @@ pub mod Declared
 pub mod Growing
 pub mod Built
 pub mod Superposed
+pub mod Applied
 pub mod HeadRead
 pub mod LinesRead
 pub mod ScriptParts

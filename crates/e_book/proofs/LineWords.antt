@@ -11,6 +11,7 @@ use Rattle.e_book.specs.Book.{is_skipped}
 use Rattle.e_book.proofs.LetsAgain.{names_tokens, append_tokens, let_tokens}
 use Rattle.e_book.proofs.LitsAgain.{lit_tokens, lits_tokens}
 use Rattle.e_book.proofs.SuperposesAgain.{superpose_tokens}
+use Rattle.e_book.proofs.AppliesAgain.{apply_tokens}
 use Rattle.e_book.proofs.Respelled.{GoodForm}
 
 -- ---- the words of forms are tokens
@@ -35,6 +36,7 @@ form_tokens forms.Proof h = (refl, tt)
 form_tokens (forms.By r ns l) h = (refl, (is_token-title r h.0, append_tokens ns (codes ":" ∷ lit_words l) (names_tokens ns h.1) (refl, lit_tokens l h.2)))
 form_tokens (forms.Hence l) h = (refl, lit_tokens l h)
 form_tokens (forms.Let l) h = (refl, let_tokens l h)
+form_tokens (forms.Apply a) h = (refl, apply_tokens a h)
 form_tokens (forms.Qed ns) h = (refl, names_tokens ns h)
 form_tokens forms.Contradiction h = (refl, tt)
 form_tokens (forms.Claim ls) h = (refl, lits_tokens ls h)
@@ -58,6 +60,7 @@ not_skipped forms.Proof = refl
 not_skipped (forms.By r ns l) = refl
 not_skipped (forms.Hence l) = refl
 not_skipped (forms.Let l) = refl
+not_skipped (forms.Apply a) = refl
 not_skipped (forms.Qed ns) = refl
 not_skipped forms.Contradiction = refl
 not_skipped (forms.Claim ls) = refl

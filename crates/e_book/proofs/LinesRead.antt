@@ -1,5 +1,5 @@
 -- Each line of a proof is read from its canonical spelling.
-use Rattle.std.proofs.Common.{◌≡◌, ℕ, ◌+◌, ◌≤◌, false, true, eqb, ltb, ◌&&◌, List, [], ◌∷◌, ◌++◌, length, map, None, Ok, refl, sym, ap, subst, ◌∙◌, arith}
+use Rattle.std.proofs.Common.{◌≡◌, ℕ, ◌+◌, ◌≤◌, false, true, eqb, ltb, ◌&&◌, List, [], ◌∷◌, ◌++◌, length, map, Option, None, Ok, refl, sym, ap, subst, ◌∙◌, arith}
 use Rattle.std.proofs.lemmas.Bool.{le-ltb, eq-eqb}
 use Rattle.std.proofs.lemmas.List.{length-map}
 use Rattle.e_literal.specs.declared.object.Sort.{Sort}
@@ -12,9 +12,10 @@ use Rattle.e_construct.specs.declared.construction.Construction.{Construction}
 use Rattle.e_construct.specs.declared.superpose.Superpose.{Superpose}
 use Rattle.e_construct.specs.Construct.{made, gives}
 use Rattle.e_construct.specs.Superposing as superposing
+use Rattle.e_literal.specs.Use.{Stated}
 use Rattle.e_deriv.specs.declared.names.Names.{Names}
 use Rattle.e_deriv.specs.Naming.{named}
-use Rattle.e_deriv.specs.PlainStep.{PlainStep, Cited, Inferred, Made, Claimed, Copied, all_before}
+use Rattle.e_deriv.specs.PlainStep.{PlainStep, Cited, Inferred, Made, Applied, Claimed, Copied, all_before}
 use Rattle.e_deriv.specs.Script.{Script}
 use Rattle.e_deriv.specs.Steps.{is_citation}
 use Rattle.e_book.specs.declared.blocks.Outer.{Outer}
@@ -24,13 +25,15 @@ use Rattle.e_book.specs.declared.steps.CloseLine.{CloseLine}
 use Rattle.e_book.specs.declared.steps.CloseLine.TheVariants as closes
 use Rattle.e_book.specs.declared.draft.Place.TheVariants.{Proving, Splitting}
 use Rattle.e_book.specs.declared.draft.Draft.{Draft}
-use Rattle.e_book.specs.Limits.{most_steps, most_depth, most_facts, most_terms, monomials, count_monomials}
+use Rattle.e_book.specs.Limits.{most_steps, most_depth, most_facts, most_terms, most_blanks, monomials, count_monomials}
 use Rattle.e_book.specs.Blocks.{made_in}
+use Rattle.e_book.specs.Headed.{Headed, theorem_of}
+use Rattle.e_book.specs.Applies.{count_blanks}
 use Rattle.e_book.specs.Scope.{scope_of_names, object_as, objects_of_sorts, qed_in}
-use Rattle.e_book.specs.Steps.{count_monos, few_objects, with_step, with_terms, built, deeper, claimed, superposed, split, counted_from, resumed, closed, shut, stepped, step}
+use Rattle.e_book.specs.Steps.{count_monos, few_objects, with_step, with_terms, built, used_by, applied, deeper, claimed, superposed, split, counted_from, resumed, closed, shut, stepped, step}
 use Rattle.e_book.specs.Entry.{script_of_close}
 use Rattle.e_book.specs.Fits.{is_diagram_lit}
-use Rattle.e_book.specs.Canonical.{raw_of, name_of_object, by_form, hence_form, let_form, claim_form, superpose_form, cases_form, else_form, qed_form, contradiction_form}
+use Rattle.e_book.specs.Canonical.{raw_of, name_of_object, by_form, hence_form, let_form, apply_form, claim_form, superpose_form, cases_form, else_form, qed_form, contradiction_form}
 use Rattle.e_book.proofs.Differ.{both}
 use Rattle.e_book.proofs.Respelled.{as_read}
 use Rattle.e_book.proofs.Lookups.{InOrder, object_again, sorts_same}
@@ -41,6 +44,7 @@ use Rattle.e_book.proofs.Cited.{by_number_again}
 use Rattle.e_book.proofs.Building.{GoodLet}
 use Rattle.e_book.proofs.Built.{of_sorts_length, let_number_again}
 use Rattle.e_book.proofs.Superposed.{GoodSuperpose, superpose_number_again}
+use Rattle.e_book.proofs.Applied.{GoodApply, apply_number_again}
 
 -- where a line of a proof stands: the open block, and the blocks around it
 pub record Inside : Type 0 where
@@ -75,6 +79,11 @@ deep i o facts = record i { outers = outer i o ∷ i.outers; steps = []; lines =
 abbrev pub written : Inside → ℕ → Inside
 written i terms = record i { terms = i.terms + terms }
 
+-- behind a use of an earlier theorem, whose made objects have these names
+abbrev pub applied_behind : Inside → Stated → ℕ → List (Option Obj) → List (List ℕ) → Inside
+applied_behind i t theorem args names =
+    record (written (behind i (Applied theorem args names []) (length t.shown)) (count_monomials t.shown)) { in_scope = named i.in_scope t.made names }
+
 -- in the block of a superposition
 abbrev pub copied : Inside → Superpose → List (List ℕ) → List Lit → Inside
 copied i form names shown =
@@ -92,32 +101,45 @@ second i lines lit first =
 
 -- ---- lines of the open block
 
-pub step_cite : (d : Draft) (i : Inside) (b : By) → InOrder i.in_scope → is_citation (scope_of_names i.in_scope) b ≡ true → is_diagram_lit b.lit ≡ true → i.lines + 1 ≤ most_steps → i.facts + 1 ≤ most_facts
-    → step (proving d i) (by_form i.in_scope b) ≡ Ok (proving d (behind i (Cited b) 1))
+pub step_cite : (known : List Headed) (d : Draft) (i : Inside) (b : By) → InOrder i.in_scope → is_citation (scope_of_names i.in_scope) b ≡ true → is_diagram_lit b.lit ≡ true → i.lines + 1 ≤ most_steps → i.facts + 1 ≤ most_facts
+    → step known (proving d i) (by_form i.in_scope b) ≡ Ok (proving d (behind i (Cited b) 1))
 unfolding step stepped with_step
-step_cite d i b o h p few most =
+step_cite known d i b o h p few most =
     let room : ltb most_steps (i.lines + 1) ≡ false = le-ltb _ _ few in
     let place : ltb most_facts (i.facts + 1) ≡ false = le-ltb _ _ most in
     rw (by_number_again i.in_scope b o h p, room, place) refl
 
-pub step_hence : (d : Draft) (i : Inside) (l : Lit) → InOrder i.in_scope → PlainLit i.in_scope l → i.lines + 1 ≤ most_steps → i.facts + 1 ≤ most_facts → i.terms + monomials l.atom ≤ most_terms
-    → step (proving d i) (hence_form i.in_scope l) ≡ Ok (proving d (written (behind i (Inferred l None) 1) (monomials l.atom)))
+pub step_hence : (known : List Headed) (d : Draft) (i : Inside) (l : Lit) → InOrder i.in_scope → PlainLit i.in_scope l → i.lines + 1 ≤ most_steps → i.facts + 1 ≤ most_facts → i.terms + monomials l.atom ≤ most_terms
+    → step known (proving d i) (hence_form i.in_scope l) ≡ Ok (proving d (written (behind i (Inferred l None) 1) (monomials l.atom)))
 unfolding step stepped with_step with_terms
-step_hence d i l o p few most short =
+step_hence known d i l o p few most short =
     let room : ltb most_steps (i.lines + 1) ≡ false = le-ltb _ _ few in
     let place : ltb most_facts (i.facts + 1) ≡ false = le-ltb _ _ most in
     let more : ltb most_terms (i.terms + count_monos (raw_of i.in_scope l ∷ [])) ≡ false = le-ltb _ _ (omega (arith, short, count_again i.in_scope l)) in
     rw (lit_number_again i.in_scope l o p.within p.good, room, place, few_again i.in_scope l p.good, more) (ap (λ (n : ℕ). Ok (proving d (written (behind i (Inferred l None) 1) n))) (count_again i.in_scope l))
 
-pub step_let : (d : Draft) (i : Inside) (form : Construction) (names : List (List ℕ)) → InOrder i.in_scope → GoodLet i.in_scope form names → few_objects (named i.in_scope (made form) names) ≡ Ok tt
+pub step_let : (known : List Headed) (d : Draft) (i : Inside) (form : Construction) (names : List (List ℕ)) → InOrder i.in_scope → GoodLet i.in_scope form names → few_objects (named i.in_scope (made form) names) ≡ Ok tt
     → i.lines + 1 ≤ most_steps → i.facts + length (gives form (scope_of_names i.in_scope)) ≤ most_facts
-    → step (proving d i) (as_read (let_form i.in_scope form names))
+    → step known (proving d i) (as_read (let_form i.in_scope form names))
     ≡ Ok (proving d (record (behind i (Made form names []) (length (gives form (scope_of_names i.in_scope)))) { in_scope = named i.in_scope (made form) names }))
 unfolding step stepped built with_step
-step_let d i form names o h fit few most =
+step_let known d i form names o h fit few most =
     let room : ltb most_steps (i.lines + 1) ≡ false = le-ltb _ _ few in
     let place : ltb most_facts (i.facts + length (gives form (scope_of_names i.in_scope))) ≡ false = le-ltb _ _ most in
     rw (let_number_again i.in_scope form names o h, fit, room, place) refl
+
+pub step_apply : (known : List Headed) (d : Draft) (i : Inside) (theorem : ℕ) (args : List (Option Obj)) (names : List (List ℕ)) → InOrder i.in_scope → GoodApply known i.in_scope theorem args names
+    → few_objects (named i.in_scope (theorem_of known theorem).made names) ≡ Ok tt → i.lines + 1 ≤ most_steps → i.facts + length (theorem_of known theorem).shown ≤ most_facts
+    → i.terms + count_monomials (theorem_of known theorem).shown ≤ most_terms → count_blanks args ≤ most_blanks
+    → step known (proving d i) (apply_form known i.in_scope theorem args names) ≡ Ok (proving d (applied_behind i (theorem_of known theorem) theorem args names))
+unfolding step stepped applied used_by with_step
+step_apply known d i theorem args names o g fit few most short written =
+    let t = theorem_of known theorem in
+    let room : ltb most_steps (i.lines + 1) ≡ false = le-ltb _ _ few in
+    let place : ltb most_facts (i.facts + length t.shown) ≡ false = le-ltb _ _ most in
+    let more : ltb most_terms (i.terms + count_monomials t.shown) ≡ false = le-ltb _ _ short in
+    let blanks : ltb most_blanks (count_blanks args) ≡ false = le-ltb _ _ written in
+    rw (apply_number_again known i.in_scope theorem args names o g, fit, room, place, more, blanks) refl
 
 -- ---- lines that begin an inner block
 
@@ -130,34 +152,34 @@ deeper_again d i o given few shallow most =
     let place : ltb most_facts (i.facts + given) ≡ false = le-ltb _ _ most in
     rw (room, deep, place) refl
 
-pub step_claim : (d : Draft) (i : Inside) (shown : List Lit) → InOrder i.in_scope → Plain i.in_scope shown → i.lines + 1 ≤ most_steps → length i.outers + 2 ≤ most_depth → i.facts + 0 ≤ most_facts
-    → step (proving d i) (claim_form i.in_scope shown) ≡ Ok (proving d (deep i (opened.Claim shown) 0))
+pub step_claim : (known : List Headed) (d : Draft) (i : Inside) (shown : List Lit) → InOrder i.in_scope → Plain i.in_scope shown → i.lines + 1 ≤ most_steps → length i.outers + 2 ≤ most_depth → i.facts + 0 ≤ most_facts
+    → step known (proving d i) (claim_form i.in_scope shown) ≡ Ok (proving d (deep i (opened.Claim shown) 0))
 unfolding step stepped claimed
-step_claim d i shown o p few shallow most =
+step_claim known d i shown o p few shallow most =
     rw (lits_number_again i.in_scope shown o p, deeper_again d i (opened.Claim shown) 0 few shallow most, all_few_again i.in_scope shown p.good) refl
 
-pub step_superpose : (d : Draft) (i : Inside) (form : Superpose) (names : List (List ℕ)) (shown : List Lit) → GoodSuperpose i.in_scope form names shown → few_objects (named i.in_scope superposing.made names) ≡ Ok tt
+pub step_superpose : (known : List Headed) (d : Draft) (i : Inside) (form : Superpose) (names : List (List ℕ)) (shown : List Lit) → GoodSuperpose i.in_scope form names shown → few_objects (named i.in_scope superposing.made names) ≡ Ok tt
     → i.lines + 1 ≤ most_steps → length i.outers + 2 ≤ most_depth
     → i.facts + length (superposing.gives form (scope_of_names i.in_scope)) ≤ most_facts → i.terms + count_monomials (superposing.gives form (scope_of_names i.in_scope)) ≤ most_terms
-    → step (proving d i) (superpose_form i.in_scope form names shown)
+    → step known (proving d i) (superpose_form i.in_scope form names shown)
     ≡ Ok (proving d (copied i form names shown))
 unfolding step stepped superposed
-step_superpose d i form names shown g fit few shallow most short =
+step_superpose known d i form names shown g fit few shallow most short =
     let given = superposing.gives form (scope_of_names i.in_scope) in
     let more : ltb most_terms (i.terms + count_monomials given) ≡ false = le-ltb _ _ short in
     rw (superpose_number_again i.in_scope form names shown g, fit, deeper_again d i (opened.Superpose form names shown) (length given) few shallow most, all_few_again i.in_scope shown g.plain.good, more) refl
 
-pub step_cases : (d : Draft) (i : Inside) (l : Lit) → InOrder i.in_scope → PlainLit i.in_scope l → i.lines + 1 ≤ most_steps → length i.outers + 2 ≤ most_depth → i.facts + 1 ≤ most_facts → i.terms + monomials l.atom ≤ most_terms
-    → step (proving d i) (cases_form i.in_scope l) ≡ Ok (proving d (written (deep i (opened.First l) 1) (monomials l.atom)))
+pub step_cases : (known : List Headed) (d : Draft) (i : Inside) (l : Lit) → InOrder i.in_scope → PlainLit i.in_scope l → i.lines + 1 ≤ most_steps → length i.outers + 2 ≤ most_depth → i.facts + 1 ≤ most_facts → i.terms + monomials l.atom ≤ most_terms
+    → step known (proving d i) (cases_form i.in_scope l) ≡ Ok (proving d (written (deep i (opened.First l) 1) (monomials l.atom)))
 unfolding step stepped split with_terms
-step_cases d i l o p few shallow most short =
+step_cases known d i l o p few shallow most short =
     let more : ltb most_terms (i.terms + count_monos (raw_of i.in_scope l ∷ [])) ≡ false = le-ltb _ _ (omega (arith, short, count_again i.in_scope l)) in
     rw (lit_number_again i.in_scope l o p.within p.good, deeper_again d i (opened.First l) 1 few shallow most, few_again i.in_scope l p.good, more)
     (ap (λ (n : ℕ). Ok (proving d (written (deep i (opened.First l) 1) n))) (count_again i.in_scope l))
 
-pub step_else : (d : Draft) (i : Inside) → step (splitting d i) else_form ≡ Ok (proving d i)
+pub step_else : (known : List Headed) (d : Draft) (i : Inside) → step known (splitting d i) else_form ≡ Ok (proving d i)
 unfolding step stepped
-step_else d i = refl
+step_else known d i = refl
 
 -- ---- lines that close a block
 
@@ -177,16 +199,16 @@ qed_read ns sorts os o h =
     let count : eqb (length (map (name_of_object ns) os)) (length sorts) ≡ true = eq-eqb _ _ (length-map os (name_of_object ns) ∙ of_sorts_length (scope_of_names ns) sorts os h) in
     rw count (objects_read ns sorts os o h)
 
-pub step_qed : (d : Draft) (i : Inside) (os : List Obj) → InOrder i.in_scope → are_of_sorts (scope_of_names i.in_scope) (made_in i.outers d.made) os ≡ true → i.lines + 1 ≤ most_steps
-    → step (proving d i) (qed_form i.in_scope os) ≡ closed (proving d (record i { lines = i.lines + 1 })) i.outers i.steps (closes.Qed os)
+pub step_qed : (known : List Headed) (d : Draft) (i : Inside) (os : List Obj) → InOrder i.in_scope → are_of_sorts (scope_of_names i.in_scope) (made_in i.outers d.made) os ≡ true → i.lines + 1 ≤ most_steps
+    → step known (proving d i) (qed_form i.in_scope os) ≡ closed (proving d (record i { lines = i.lines + 1 })) i.outers i.steps (closes.Qed os)
 unfolding step stepped shut
-step_qed d i os o h few =
+step_qed known d i os o h few =
     let room : ltb most_steps (i.lines + 1) ≡ false = le-ltb _ _ few in
     rw (qed_read i.in_scope (made_in i.outers d.made) os o h, room) refl
 
-pub step_contradiction : (d : Draft) (i : Inside) → i.lines + 1 ≤ most_steps → step (proving d i) contradiction_form ≡ closed (proving d (record i { lines = i.lines + 1 })) i.outers i.steps closes.Contradiction
+pub step_contradiction : (known : List Headed) (d : Draft) (i : Inside) → i.lines + 1 ≤ most_steps → step known (proving d i) contradiction_form ≡ closed (proving d (record i { lines = i.lines + 1 })) i.outers i.steps closes.Contradiction
 unfolding step stepped shut
-step_contradiction d i few =
+step_contradiction known d i few =
     let room : ltb most_steps (i.lines + 1) ≡ false = le-ltb _ _ few in
     rw room refl
 

@@ -1,8 +1,9 @@
 -- The blocks of a proof that are open while its lines come: what is known of them, and what each line makes of it.
 use Rattle.std.proofs.Common.{◌≡◌, ℕ, ◌+◌, ◌≤◌, List, [], ◌∷◌, ◌++◌, length, refl, sym, ap, subst, arith}
 use Rattle.e_literal.specs.declared.object.Sort.{Sort}
+use Rattle.e_literal.specs.Use.{Stated}
 use Rattle.e_deriv.specs.Script.{Script, size}
-use Rattle.e_deriv.specs.PlainStep.{PlainStep, Cited, Inferred, Made, Claimed, Copied, before, all_before}
+use Rattle.e_deriv.specs.PlainStep.{PlainStep, Cited, Inferred, Made, Applied, Claimed, Copied, before, all_before}
 use Rattle.e_book.specs.declared.blocks.Outer.{Outer}
 use Rattle.e_book.specs.declared.blocks.Opened.{Opened}
 use Rattle.e_book.specs.declared.blocks.Opened.TheVariants as opened
@@ -29,13 +30,13 @@ OpenedFits at sorts level (opened.First lit) = SplitFits at lit
 OpenedFits at sorts level (opened.Second lit first) = SplitFits at lit × ScriptFits (with_lit at lit) sorts (level + 1) first
 
 -- where a block is interrupted
-abbrev pub spot_of : Outer → Spot
-spot_of o = spot o.in_scope o.facts o.terms
+abbrev pub spot_of : List Stated → Outer → Spot
+spot_of before o = spot before o.in_scope o.facts o.terms
 
 -- where the first line of the block inside these stands
 abbrev pub first_spot : Spot → List Outer → Spot
 first_spot start [] = start
-first_spot start (o ∷ os) = begun_by (spot_of o) o.opened
+first_spot start (o ∷ os) = begun_by (spot_of start.before o) o.opened
 
 -- inside how many blocks it is
 abbrev pub level : List Outer → ℕ
@@ -43,8 +44,8 @@ level [] = 0
 level (o ∷ os) = level os + 1
 
 pub record OuterFits (start : Spot) (sorts : List Sort) (os : List Outer) (o : Outer) : Type 0 where
-  pub steps : StepsFit (first_spot start os) (made_in os sorts) (level os) o.steps (spot_of o)
-  pub opened : OpenedFits (spot_of o) (made_in os sorts) (level os) o.opened
+  pub steps : StepsFit (first_spot start os) (made_in os sorts) (level os) o.steps (spot_of start.before o)
+  pub opened : OpenedFits (spot_of start.before o) (made_in os sorts) (level os) o.opened
 
 abbrev pub OutersFit : Spot → List Sort → List Outer → Type 0
 OutersFit start sorts [] = Unit {0}
@@ -55,6 +56,7 @@ abbrev pub lines_of : PlainStep → ℕ
 lines_of (Cited by) = 1
 lines_of (Inferred lit cert) = 1
 lines_of (Made form names certs) = 1
+lines_of (Applied theorem args names certs) = 1
 lines_of (Claimed shown inner) = 1 + size inner
 lines_of (Copied form names shown certs inner) = 1 + size inner
 
@@ -101,6 +103,7 @@ size_is [] rest = omega arith
 size_is (Cited by ∷ ss) rest = let h = size_is ss rest in omega (arith, h)
 size_is (Inferred lit cert ∷ ss) rest = let h = size_is ss rest in omega (arith, h)
 size_is (Made form names certs ∷ ss) rest = let h = size_is ss rest in omega (arith, h)
+size_is (Applied theorem args names certs ∷ ss) rest = let h = size_is ss rest in omega (arith, h)
 size_is (Claimed shown inner ∷ ss) rest = let h = size_is ss rest in omega (arith, h)
 size_is (Copied form names shown certs inner ∷ ss) rest = let h = size_is ss rest in omega (arith, h)
 
@@ -125,8 +128,8 @@ open_more start sorts os ss here to n s o one fit = record {
 }
 
 -- an inner block begins
-pub open_inner : (start : Spot) (sorts : List Sort) (os : List Outer) (o : Outer) (n : ℕ) → Open start sorts os o.steps (spot_of o) n → OpenedFits (spot_of o) (made_in os sorts) (level os) o.opened
-    → lines_first o.opened ≡ 0 → level os + 2 ≤ most_depth → Open start sorts (o ∷ os) [] (begun_by (spot_of o) o.opened) (n + 1)
+pub open_inner : (start : Spot) (sorts : List Sort) (os : List Outer) (o : Outer) (n : ℕ) → Open start sorts os o.steps (spot_of start.before o) n → OpenedFits (spot_of start.before o) (made_in os sorts) (level os) o.opened
+    → lines_first o.opened ≡ 0 → level os + 2 ≤ most_depth → Open start sorts (o ∷ os) [] (begun_by (spot_of start.before o) o.opened) (n + 1)
 open_inner start sorts os o n open_ fit none deep = record {
   steps = λ rest r. r;
   outers = (record { steps = open_.steps; opened = fit }, open_.outers);
@@ -135,12 +138,12 @@ open_inner start sorts os o n open_ fit none deep = record {
 }
 
 -- an inner block is closed, and is a step of the block around it
-pub open_again : (start : Spot) (sorts : List Sort) (os : List Outer) (o : Outer) (to : Spot) (n : ℕ) (s : PlainStep) → StepsFit (first_spot start os) (made_in os sorts) (level os) o.steps (spot_of o) → OutersFit start sorts os
+pub open_again : (start : Spot) (sorts : List Sort) (os : List Outer) (o : Outer) (to : Spot) (n : ℕ) (s : PlainStep) → StepsFit (first_spot start os) (made_in os sorts) (level os) o.steps (spot_of start.before o) → OutersFit start sorts os
     → level os + 1 ≤ most_depth
     → n ≡ lines_of s + count_lines o.steps + lines_around os
-    → ((rest : Script) → ScriptFits to (made_in os sorts) (level os) rest → ScriptFits (spot_of o) (made_in os sorts) (level os) (before s rest)) → Open start sorts os (o.steps ++ s ∷ []) to n
+    → ((rest : Script) → ScriptFits to (made_in os sorts) (level os) rest → ScriptFits (spot_of start.before o) (made_in os sorts) (level os) (before s rest)) → Open start sorts os (o.steps ++ s ∷ []) to n
 open_again start sorts os o to n s f around deep count fit = record {
-  steps = steps_more (first_spot start os) (spot_of o) to (made_in os sorts) (level os) o.steps s f fit;
+  steps = steps_more (first_spot start os) (spot_of start.before o) to (made_in os sorts) (level os) o.steps s f fit;
   outers = around;
   lines = omega (arith, count, count_more o.steps s);
   shallow = deep;

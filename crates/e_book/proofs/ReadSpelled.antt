@@ -1,13 +1,15 @@
 -- A theorem that is read has a spelling.
-use Rattle.std.proofs.Common.{◌≡◌, ℕ, ◌+◌, ◌<◌, Bool, true, false, cond, ltb, ◌&&◌, inl, inr, List, [], ◌∷◌, ◌++◌, length, replicate, Option, Some, None, Result, Ok, Err, refl, ap, subst, ◌∙◌, arith, length-append}
+use Rattle.std.proofs.Common.{◌≡◌, ℕ, ◌+◌, ◌<◌, Bool, true, false, cond, eqb, ltb, ◌&&◌, inl, inr, List, [], ◌∷◌, ◌++◌, length, replicate, Option, Some, None, Result, Ok, Err, refl, sym, ap, subst, ◌∙◌, arith, length-append}
 use Rattle.std.specs.List.{list_all}
 use Rattle.std.proofs.lemmas.Bool.{lt-ltb}
+use Rattle.std.proofs.lemmas.Bool.Decides.{nat_tests}
 use Rattle.e_text.specs.Tokens.{tokens_of}
 use Rattle.e_text.specs.Lines.{Seen}
 use Rattle.e_text.specs.Names.{is_name, is_title}
 use Rattle.e_text.specs.declared.line.LineFault.{LineFault}
 use Rattle.e_literal.specs.declared.object.Sort.{Sort}
 use Rattle.e_literal.specs.declared.object.Sort.TheVariants.{Point, Line, Circle}
+use Rattle.e_literal.specs.declared.object.Obj.{Obj}
 use Rattle.e_literal.specs.declared.literal.Lit.{Lit}
 use Rattle.e_construct.specs.declared.construction.Construction.{Construction}
 use Rattle.e_construct.specs.declared.superpose.Superpose.{Superpose}
@@ -15,7 +17,7 @@ use Rattle.e_construct.specs.Construct.{made, gives}
 use Rattle.e_construct.specs.Superposing as superposing
 use Rattle.e_theorem.specs.Statements.{stated}
 use Rattle.e_deriv.specs.declared.names.Names.{Names}
-use Rattle.e_deriv.specs.PlainStep.{PlainStep, Cited, Inferred, Made, Claimed, Copied, all_before}
+use Rattle.e_deriv.specs.PlainStep.{PlainStep, Cited, Inferred, Made, Applied, Claimed, Copied, all_before}
 use Rattle.e_deriv.specs.Naming.{names_of_sort, with_names, named, declared_names}
 use Rattle.e_deriv.specs.Script.{Script}
 use Rattle.e_book.specs.declared.fault.Kind.{Kind}
@@ -24,6 +26,7 @@ use Rattle.e_book.specs.declared.fault.What.TheVariants as limits
 use Rattle.e_book.specs.declared.literal.RawLit.{RawLit}
 use Rattle.e_book.specs.declared.lets.RawLet.{RawLet}
 use Rattle.e_book.specs.declared.superposes.RawSuperpose.{RawSuperpose}
+use Rattle.e_book.specs.declared.applies.RawApply.{RawApply}
 use Rattle.e_book.specs.declared.blocks.Outer.{Outer}
 use Rattle.e_book.specs.declared.blocks.Opened.{Opened}
 use Rattle.e_book.specs.declared.blocks.Opened.TheVariants as opened
@@ -35,22 +38,24 @@ use Rattle.e_book.specs.declared.draft.Place.{Place}
 use Rattle.e_book.specs.declared.draft.Place.TheVariants.{Declaring, Giving, Making, Showing, Proving, Splitting, Closed, Done}
 use Rattle.e_book.specs.declared.draft.Draft.{Draft}
 use Rattle.e_book.specs.Reading.{◌>>=◌, with_front}
-use Rattle.e_book.specs.Limits.{most_theorems, most_of, most_steps, most_depth, most_facts, what_of, within, monomials}
+use Rattle.e_book.specs.Limits.{most_theorems, most_of, most_steps, most_depth, most_facts, most_blanks, what_of, within, monomials}
 use Rattle.e_book.specs.Blocks.{made_in}
 use Rattle.e_book.specs.Superposes.{placed_in, superpose_in}
-use Rattle.e_book.specs.Headed.{Headed, is_known}
+use Rattle.e_book.specs.Headed.{Headed, is_known, theorem_of, title_at, place_in}
 use Rattle.e_book.specs.Scope.{scope_of_names, fresh, lit_in, lits_in, by_in, let_in, qed_in}
+use Rattle.e_book.specs.Applies.{count_blanks, apply_in}
 use Rattle.e_book.specs.Forms.{form_of}
-use Rattle.e_book.specs.Steps.{count_monos, few_monos, terms_after, with_terms, allowed, declared, few_objects, with_step, built, interrupted, deeper, claimed, superposed, split, counted_from, resumed, closed_inside, closed, shut, stepped, step, begin, begun}
+use Rattle.e_book.specs.Steps.{count_monos, few_monos, terms_after, with_terms, allowed, declared, few_objects, with_step, built, used_by, applied, interrupted, deeper, claimed, superposed, split, counted_from, resumed, closed_inside, closed, shut, stepped, step, begin, begun}
 use Rattle.e_book.specs.Entry.{Entry, script_of_close, statement_of_draft, entry_of_draft}
 use Rattle.e_book.specs.Book.{is_skipped, line_step, put_at, is_last, is_done, read_from}
-use Rattle.e_book.specs.HasSpelling.{HasSpelling, AreNames, is_plain}
-use Rattle.e_book.proofs.Answered.{within_ok, appended, passes, untaken, put_ok, answered, pair, first_is, skip_or, Answer}
+use Rattle.e_book.specs.HasSpelling.{HasSpelling, AreNames, is_plain, is_place, is_named_by_title, names_theorems}
+use Rattle.e_book.proofs.Answered.{within_ok, and, appended, passes, untaken, put_ok, answered, pair, first_is, skip_or, Answer}
 use Rattle.e_book.proofs.InScope.{bind_ok, ok_is, read_ok, each_length}
 use Rattle.e_book.proofs.Keeps.{reading_fits}
 use Rattle.e_book.proofs.Differ.{both}
 use Rattle.e_book.proofs.SaidForms.{Said, form_said}
 use Rattle.e_book.proofs.KeptSums.{terms_added}
+use Rattle.e_book.proofs.Uses.{GoodUse, use_fits, found_title}
 
 -- ---- names
 
@@ -70,62 +75,97 @@ naming_more ns Circle new g h = record { point_names = g.point_names; line_names
 
 -- ---- blocks that lines can spell
 
-abbrev is_plain_step : PlainStep → Bool
-is_plain_step (Cited by) = true
-is_plain_step (Inferred lit None) = true
-is_plain_step (Inferred lit (Some cert)) = false
-is_plain_step (Made form names []) = list_all is_name names
-is_plain_step (Made form names (c ∷ cs)) = false
-is_plain_step (Claimed shown inner) = ltb 0 (length shown) && is_plain inner
-is_plain_step (Copied form names shown [] inner) = list_all is_name names && (ltb 0 (length shown) && is_plain inner)
-is_plain_step (Copied form names shown (c ∷ cs) inner) = false
+-- the script has no certificate and so on, and the theorems that it uses can be named by their titles
+abbrev is_said : List Headed → Script → Bool
+is_said known x = is_plain x && names_theorems known x
 
-abbrev is_plain_close : CloseLine → Bool
-is_plain_close (closes.Qed objects) = true
-is_plain_close closes.Contradiction = true
-is_plain_close (closes.Cases lit first second) = is_plain first && is_plain second
+abbrev is_plain_step : List Headed → PlainStep → Bool
+is_plain_step known (Cited by) = true
+is_plain_step known (Inferred lit None) = true
+is_plain_step known (Inferred lit (Some cert)) = false
+is_plain_step known (Made form names []) = list_all is_name names
+is_plain_step known (Made form names (c ∷ cs)) = false
+is_plain_step known (Applied theorem args names []) = list_all is_name names && is_named_by_title known theorem
+is_plain_step known (Applied theorem args names (c ∷ cs)) = false
+is_plain_step known (Claimed shown inner) = ltb 0 (length shown) && is_said known inner
+is_plain_step known (Copied form names shown [] inner) = list_all is_name names && (ltb 0 (length shown) && is_said known inner)
+is_plain_step known (Copied form names shown (c ∷ cs) inner) = false
 
-abbrev is_plain_opened : Opened → Bool
-is_plain_opened (opened.Claim shown) = ltb 0 (length shown)
-is_plain_opened (opened.Superpose form names shown) = list_all is_name names && ltb 0 (length shown)
-is_plain_opened (opened.First lit) = true
-is_plain_opened (opened.Second lit first) = is_plain first
+abbrev is_plain_close : List Headed → CloseLine → Bool
+is_plain_close known (closes.Qed objects) = true
+is_plain_close known closes.Contradiction = true
+is_plain_close known (closes.Cases lit first second) = is_said known first && is_said known second
 
-abbrev is_plain_outer : Outer → Bool
-is_plain_outer o = list_all is_plain_step o.steps && is_plain_opened o.opened
+abbrev is_plain_opened : List Headed → Opened → Bool
+is_plain_opened known (opened.Claim shown) = ltb 0 (length shown)
+is_plain_opened known (opened.Superpose form names shown) = list_all is_name names && ltb 0 (length shown)
+is_plain_opened known (opened.First lit) = true
+is_plain_opened known (opened.Second lit first) = is_said known first
 
-record PlainBlocks (steps : List PlainStep) (outers : List Outer) (close : CloseLine) : Type 0 where
-  inside : list_all is_plain_step steps ≡ true
-  around : list_all is_plain_outer outers ≡ true
-  shut : is_plain_close close ≡ true
+abbrev is_plain_outer : List Headed → Outer → Bool
+is_plain_outer known o = list_all (is_plain_step known) o.steps && is_plain_opened known o.opened
 
-one_more : (ss : List PlainStep) (s : PlainStep) → list_all is_plain_step ss ≡ true → is_plain_step s ≡ true → list_all is_plain_step (ss ++ s ∷ []) ≡ true
-one_more ss s h p = appended is_plain_step ss (s ∷ []) h (rw p refl)
+record PlainBlocks (known : List Headed) (steps : List PlainStep) (outers : List Outer) (close : CloseLine) : Type 0 where
+  inside : list_all (is_plain_step known) steps ≡ true
+  around : list_all (is_plain_outer known) outers ≡ true
+  shut : is_plain_close known close ≡ true
 
-plain_close : (close : CloseLine) → is_plain_close close ≡ true → is_plain (script_of_close close) ≡ true
-unfolding is_plain
-plain_close (closes.Qed os) h = refl
-plain_close closes.Contradiction h = refl
-plain_close (closes.Cases lit first second) h = h
+one_more : (known : List Headed) (ss : List PlainStep) (s : PlainStep) → list_all (is_plain_step known) ss ≡ true → is_plain_step known s ≡ true → list_all (is_plain_step known) (ss ++ s ∷ []) ≡ true
+one_more known ss s h p = appended (is_plain_step known) ss (s ∷ []) h (rw p refl)
 
-plain_script : (ss : List PlainStep) (close : CloseLine) → list_all is_plain_step ss ≡ true → is_plain_close close ≡ true → is_plain (all_before ss (script_of_close close)) ≡ true
-unfolding is_plain
-plain_script [] close h k = plain_close close k
-plain_script (Cited by ∷ ss) close h k = plain_script ss close h k
-plain_script (Inferred lit None ∷ ss) close h k = plain_script ss close h k
-plain_script (Inferred lit (Some cert) ∷ ss) close h k = absurd cc
-plain_script (Made form names [] ∷ ss) close h k = let p = both (list_all is_name names) (list_all is_plain_step ss) h in rw (p.0, plain_script ss close p.1 k) refl
-plain_script (Made form names (c ∷ cs) ∷ ss) close h k = absurd cc
-plain_script (Claimed shown inner ∷ ss) close h k =
-    let p = both (ltb 0 (length shown) && is_plain inner) (list_all is_plain_step ss) h in
-    let q = both (ltb 0 (length shown)) (is_plain inner) p.0 in
-    rw (q.0, q.1, plain_script ss close p.1 k) refl
-plain_script (Copied form names shown [] inner ∷ ss) close h k =
-    let p = both (list_all is_name names && (ltb 0 (length shown) && is_plain inner)) (list_all is_plain_step ss) h in
-    let n = both (list_all is_name names) (ltb 0 (length shown) && is_plain inner) p.0 in
-    let q = both (ltb 0 (length shown)) (is_plain inner) n.1 in
-    rw (n.0, q.0, q.1, plain_script ss close p.1 k) refl
-plain_script (Copied form names shown (c ∷ cs) inner ∷ ss) close h k = absurd cc
+-- what is said of a script, in two parts
+Sayable : List Headed → Script → Type 0
+Sayable known x = (is_plain x ≡ true) × (names_theorems known x ≡ true)
+
+parts_of : (known : List Headed) (x : Script) → is_said known x ≡ true → Sayable known x
+unfolding Sayable
+parts_of known x h = both (is_plain x) (names_theorems known x) h
+
+plain_close : (known : List Headed) (close : CloseLine) → is_plain_close known close ≡ true → Sayable known (script_of_close close)
+unfolding Sayable is_plain names_theorems
+plain_close known (closes.Qed os) h = (refl, refl)
+plain_close known closes.Contradiction h = (refl, refl)
+plain_close known (closes.Cases lit first second) h =
+    let p = both (is_said known first) (is_said known second) h in
+    let a = both (is_plain first) (names_theorems known first) p.0 in
+    let b = both (is_plain second) (names_theorems known second) p.1 in
+    (rw (a.0, b.0) refl, rw (a.1, b.1) refl)
+
+plain_steps : (known : List Headed) (ss : List PlainStep) (close : CloseLine) → list_all (is_plain_step known) ss ≡ true → is_plain_close known close ≡ true → Sayable known (all_before ss (script_of_close close))
+unfolding Sayable is_plain names_theorems
+plain_steps known [] close h k = plain_close known close k
+plain_steps known (Cited by ∷ ss) close h k = plain_steps known ss close h k
+plain_steps known (Inferred lit None ∷ ss) close h k = plain_steps known ss close h k
+plain_steps known (Inferred lit (Some cert) ∷ ss) close h k = absurd cc
+plain_steps known (Made form names [] ∷ ss) close h k =
+    let p = both (list_all is_name names) (list_all (is_plain_step known) ss) h in
+    let r = plain_steps known ss close p.1 k in
+    (rw (p.0, r.0) refl, r.1)
+plain_steps known (Made form names (c ∷ cs) ∷ ss) close h k = absurd cc
+plain_steps known (Applied theorem args names [] ∷ ss) close h k =
+    let p = both (list_all is_name names && is_named_by_title known theorem) (list_all (is_plain_step known) ss) h in
+    let q = both (list_all is_name names) (is_named_by_title known theorem) p.0 in
+    let r = plain_steps known ss close p.1 k in
+    (and _ _ q.0 r.0, and _ _ q.1 r.1)
+plain_steps known (Applied theorem args names (c ∷ cs) ∷ ss) close h k = absurd cc
+plain_steps known (Claimed shown inner ∷ ss) close h k =
+    let p = both (ltb 0 (length shown) && is_said known inner) (list_all (is_plain_step known) ss) h in
+    let q = both (ltb 0 (length shown)) (is_said known inner) p.0 in
+    let i = both (is_plain inner) (names_theorems known inner) q.1 in
+    let r = plain_steps known ss close p.1 k in
+    (and _ _ q.0 (and _ _ i.0 r.0), and _ _ i.1 r.1)
+plain_steps known (Copied form names shown [] inner ∷ ss) close h k =
+    let p = both (list_all is_name names && (ltb 0 (length shown) && is_said known inner)) (list_all (is_plain_step known) ss) h in
+    let n = both (list_all is_name names) (ltb 0 (length shown) && is_said known inner) p.0 in
+    let q = both (ltb 0 (length shown)) (is_said known inner) n.1 in
+    let i = both (is_plain inner) (names_theorems known inner) q.1 in
+    let r = plain_steps known ss close p.1 k in
+    (and _ _ n.0 (and _ _ q.0 (and _ _ i.0 r.0)), and _ _ i.1 r.1)
+plain_steps known (Copied form names shown (c ∷ cs) inner ∷ ss) close h k = absurd cc
+
+plain_script : (known : List Headed) (ss : List PlainStep) (close : CloseLine) → list_all (is_plain_step known) ss ≡ true → is_plain_close known close ≡ true → is_said known (all_before ss (script_of_close close)) ≡ true
+unfolding Sayable
+plain_script known ss close h k = let r = plain_steps known ss close h k in and _ _ r.0 r.1
 
 -- ---- what each line keeps
 
@@ -145,7 +185,7 @@ record Spelled (known : List Headed) (d : Draft) : Type 0 where
   title : is_title d.title ≡ true
   naming : Naming d.names
   some : SomeShown d.place d.shown
-  blocks : PlainBlocks d.steps d.outers d.close
+  blocks : PlainBlocks known d.steps d.outers d.close
 
 declared_is : (ns : Names) (sort : Sort) (new : List (List ℕ)) (names : Names) → declared ns sort new ≡ Ok names → with_names ns sort (names_of_sort ns sort ++ new) ≡ names
 unfolding declared
@@ -155,7 +195,7 @@ declared_is ns sort new names e =
     let w = bind_ok (within (length (names_of_sort ns sort) + length new) (most_of sort) (what_of sort)) (λ few. read_ok now) names f.2 in
     ok_is now names w.2
 
-spelled_declare : (known : List Headed) (d e : Draft) (sort : Sort) (ns : List (List ℕ)) → Spelled known d → AreNames ns → stepped d (forms.Declare sort ns) ≡ Ok e → Spelled known e
+spelled_declare : (known : List Headed) (d e : Draft) (sort : Sort) (ns : List (List ℕ)) → Spelled known d → AreNames ns → stepped known d (forms.Declare sort ns) ≡ Ok e → Spelled known e
 unfolding stepped
 spelled_declare known d e sort ns g said h =
     let then : Names → Draft = λ names. record d { names = names; declared = d.declared ++ replicate (length ns) sort } in
@@ -171,7 +211,7 @@ counted known d n g = record { few = g.few; title = g.title; naming = g.naming; 
 spelled_terms : (known : List Headed) (d e : Draft) (raws : List RawLit) → Spelled known d → with_terms d raws ≡ Ok e → Spelled known e
 spelled_terms known d e raws g h = let t = terms_added d e raws h in subst (λ (y : Draft). Spelled known y) t.is (counted known d (d.terms + count_monos raws) g)
 
-spelled_given : (known : List Headed) (d e : Draft) (raws : List RawLit) → Spelled known d → stepped d (forms.Given raws) ≡ Ok e → Spelled known e
+spelled_given : (known : List Headed) (d e : Draft) (raws : List RawLit) → Spelled known d → stepped known d (forms.Given raws) ≡ Ok e → Spelled known e
 unfolding stepped
 spelled_given known d e raws g h =
     let then : List Lit → Draft = λ ls. record d { given = ls; facts = d.facts + length raws; place = Giving } in
@@ -179,7 +219,7 @@ spelled_given known d e raws g h =
     let w = bind_ok (within (d.facts + length raws) most_facts limits.Facts) (λ few. with_terms (then all.0) raws) e all.2 in
     spelled_terms known (then all.0) e raws (record { few = g.few; title = g.title; naming = g.naming; some = tt; blocks = g.blocks }) w.2
 
-spelled_made : (known : List Headed) (d e : Draft) (sort : Sort) (ns : List (List ℕ)) → Spelled known d → AreNames ns → stepped d (forms.Made sort ns) ≡ Ok e → Spelled known e
+spelled_made : (known : List Headed) (d e : Draft) (sort : Sort) (ns : List (List ℕ)) → Spelled known d → AreNames ns → stepped known d (forms.Made sort ns) ≡ Ok e → Spelled known e
 unfolding stepped
 spelled_made known d e sort ns g said h =
     let then : Names → Draft = λ names. record d { names = names; made = d.made ++ replicate (length ns) sort; place = Making } in
@@ -188,7 +228,7 @@ spelled_made known d e sort ns g said h =
     subst (λ (y : Draft). Spelled known y) (ap then now ∙ ok_is (then n.0) e n.2)
     (record { few = g.few; title = g.title; naming = naming_more d.names sort ns g.naming said; some = tt; blocks = g.blocks })
 
-spelled_shown : (known : List Headed) (d e : Draft) (raws : List RawLit) → Spelled known d → 0 < length raws → stepped d (forms.Show raws) ≡ Ok e → Spelled known e
+spelled_shown : (known : List Headed) (d e : Draft) (raws : List RawLit) → Spelled known d → 0 < length raws → stepped known d (forms.Show raws) ≡ Ok e → Spelled known e
 unfolding stepped
 spelled_shown known d e raws g said h =
     let then : List Lit → Draft = λ ls. record d { shown = ls; place = Showing } in
@@ -204,22 +244,22 @@ moved : (known : List Headed) (d : Draft) (p : Place) (in_scope : Names) (lines 
     → Spelled known (record d { in_scope = in_scope; lines = lines; facts = facts; terms = terms; place = p })
 moved known d p in_scope lines facts terms g some = record { few = g.few; title = g.title; naming = g.naming; some = some; blocks = g.blocks }
 
-spelled_step : (known : List Headed) (d e : Draft) (s : PlainStep) (n : ℕ) → Spelled known d → is_plain_step s ≡ true → with_step d s n ≡ Ok e → Spelled known e
+spelled_step : (known : List Headed) (d e : Draft) (s : PlainStep) (n : ℕ) → Spelled known d → is_plain_step known s ≡ true → with_step d s n ≡ Ok e → Spelled known e
 unfolding with_step
 spelled_step known d e s n g p h =
     let x : Draft = record d { lines = d.lines + 1; steps = d.steps ++ s ∷ []; facts = d.facts + n } in
     let a = bind_ok (within (d.lines + 1) most_steps limits.Steps) (λ few. within (d.facts + n) most_facts limits.Facts >>= λ none. read_ok x) e h in
     let b = bind_ok (within (d.facts + n) most_facts limits.Facts) (λ none. read_ok x) e a.2 in
     subst (λ (y : Draft). Spelled known y) (ok_is x e b.2)
-    (record { few = g.few; title = g.title; naming = g.naming; some = g.some; blocks = record { inside = one_more d.steps s g.blocks.inside p; around = g.blocks.around; shut = g.blocks.shut } })
+    (record { few = g.few; title = g.title; naming = g.naming; some = g.some; blocks = record { inside = one_more known d.steps s g.blocks.inside p; around = g.blocks.around; shut = g.blocks.shut } })
 
-spelled_by : (known : List Headed) (d e : Draft) (r : List ℕ) (ns : List (List ℕ)) (l : RawLit) → Spelled known d → stepped d (forms.By r ns l) ≡ Ok e → Spelled known e
+spelled_by : (known : List Headed) (d e : Draft) (r : List ℕ) (ns : List (List ℕ)) (l : RawLit) → Spelled known d → stepped known d (forms.By r ns l) ≡ Ok e → Spelled known e
 unfolding stepped
 spelled_by known d e r ns l g h =
     let b = bind_ok (by_in d.in_scope r ns l) (λ b. with_step d (Cited b) 1) e h in
     spelled_step known d e (Cited b.0) 1 g refl b.2
 
-spelled_hence : (known : List Headed) (d e : Draft) (l : RawLit) → Spelled known d → stepped d (forms.Hence l) ≡ Ok e → Spelled known e
+spelled_hence : (known : List Headed) (d e : Draft) (l : RawLit) → Spelled known d → stepped known d (forms.Hence l) ≡ Ok e → Spelled known e
 unfolding stepped
 spelled_hence known d e l g h =
     let m = bind_ok (lit_in d.in_scope l) (λ m. with_step d (Inferred m None) 1 >>= λ x. with_terms x (l ∷ [])) e h in
@@ -239,9 +279,48 @@ spelled_built known d e l g said h =
     let w = bind_ok (few_objects (after f.0)) (λ few. then f.0) e f.2 in
     spelled_step known (record d { in_scope = after f.0 }) e (Made f.0 l.new []) (length (gives f.0 (scope_of_names d.in_scope))) (moved known d d.place (after f.0) d.lines d.facts d.terms g g.some) (names_listed l.new said) w.2
 
-spelled_let : (known : List Headed) (d e : Draft) (l : RawLet) → Spelled known d → AreNames l.new → stepped d (forms.Let l) ≡ Ok e → Spelled known e
+spelled_let : (known : List Headed) (d e : Draft) (l : RawLet) → Spelled known d → AreNames l.new → stepped known d (forms.Let l) ≡ Ok e → Spelled known e
 unfolding stepped
 spelled_let known d e l g said h = spelled_built known d e l g said h
+
+same_place : (n : ℕ) → eqb n n ≡ true
+same_place n = grind (arith, nat_tests)
+
+-- the theorem that is used can be named by its title
+by_title : (known : List Headed) (ns : Names) (raw : RawApply) (theorem : ℕ) (args : List (Option Obj)) → GoodUse known ns raw theorem args → is_title raw.title ≡ true → is_named_by_title known theorem ≡ true
+by_title known ns raw theorem args u h =
+    let t = found_title known raw.title theorem u.place in
+    let named_so : is_title (title_at known theorem) ≡ true = subst (λ (x : List ℕ). is_title x ≡ true) (sym t) h in
+    let there : place_in known (title_at known theorem) ≡ Some theorem = ap (place_in known) t ∙ u.place in
+    let here : is_place theorem (place_in known (title_at known theorem)) ≡ true = ap (is_place theorem) there ∙ same_place theorem in
+    and _ _ named_so here
+
+spelled_used : (known : List Headed) (d e : Draft) (raw : RawApply) (theorem : ℕ) (args : List (Option Obj)) → Spelled known d → AreNames raw.new → is_named_by_title known theorem ≡ true
+    → used_by d (theorem_of known theorem) theorem args raw.new ≡ Ok e → Spelled known e
+unfolding used_by
+spelled_used known d e raw theorem args g names title h =
+    let t = theorem_of known theorem in
+    let after = named d.in_scope t.made raw.new in
+    let s = Applied theorem args raw.new [] in
+    let x : Draft = record d { in_scope = after } in
+    let then : Draft → ℕ → Draft = λ v n. record v { terms = n } in
+    let last : Draft → ℕ → Result Draft Kind = λ v n. within (count_blanks args) most_blanks limits.Blanks >>= λ written. read_ok (then v n) in
+    let b = bind_ok (few_objects after) (λ few. with_step x s (length t.shown) >>= λ v. terms_after v.terms t.shown >>= λ n. last v n) e h in
+    let v = bind_ok (with_step x s (length t.shown)) (λ v. terms_after v.terms t.shown >>= λ n. last v n) e b.2 in
+    let n = bind_ok (terms_after v.0.terms t.shown) (λ n. last v.0 n) e v.2 in
+    let w = bind_ok (within (count_blanks args) most_blanks limits.Blanks) (λ written. read_ok (then v.0 n.0)) e n.2 in
+    let y = spelled_step known x v.0 s (length t.shown) (moved known d d.place after d.lines d.facts d.terms g g.some) (and _ _ (names_listed raw.new names) title) v.1 in
+    subst (λ (y : Draft). Spelled known y) (ok_is (then v.0 n.0) e w.2) (counted known v.0 n.0 y)
+
+spelled_applied : (known : List Headed) (d e : Draft) (raw : RawApply) → Spelled known d → (is_title raw.title ≡ true) × AreNames raw.new → applied known d raw ≡ Ok e → Spelled known e
+unfolding applied
+spelled_applied known d e raw g said h =
+    let a = bind_ok (apply_in known d.in_scope raw) (λ a. used_by d (theorem_of known a.0) a.0 a.1 raw.new) e h in
+    spelled_used known d e raw a.0.0 a.0.1 g said.1 (by_title known d.in_scope raw a.0.0 a.0.1 (use_fits known d.in_scope raw a.0 a.1) said.0) a.2
+
+spelled_apply : (known : List Headed) (d e : Draft) (raw : RawApply) → Spelled known d → (is_title raw.title ≡ true) × AreNames raw.new → stepped known d (forms.Apply raw) ≡ Ok e → Spelled known e
+unfolding stepped
+spelled_apply known d e raw g said h = spelled_applied known d e raw g said h
 
 at_proof : (p : Place) (shown : List Lit) → allowed p forms.Proof ≡ true → SomeShown p shown → 0 < length shown
 at_proof Showing shown a s = s
@@ -263,7 +342,7 @@ at_close : (p : Place) (shown : List Lit) → allowed p forms.End ≡ true → S
 at_close Closed shown a s = s
 at_close p shown a s = absurd cc
 
-spelled_proof : (known : List Headed) (d e : Draft) → Spelled known d → allowed d.place forms.Proof ≡ true → stepped d forms.Proof ≡ Ok e → Spelled known e
+spelled_proof : (known : List Headed) (d e : Draft) → Spelled known d → allowed d.place forms.Proof ≡ true → stepped known d forms.Proof ≡ Ok e → Spelled known e
 unfolding stepped
 spelled_proof known d e g a h =
     let names = declared_names (stated (statement_of_draft d)) d.names in
@@ -271,7 +350,7 @@ spelled_proof known d e g a h =
 
 -- ---- blocks inside blocks
 
-spelled_deeper : (known : List Headed) (d e : Draft) (o : Opened) (n : ℕ) → Spelled known d → is_plain_opened o ≡ true → deeper d o n ≡ Ok e → Spelled known e
+spelled_deeper : (known : List Headed) (d e : Draft) (o : Opened) (n : ℕ) → Spelled known d → is_plain_opened known o ≡ true → deeper d o n ≡ Ok e → Spelled known e
 unfolding deeper
 spelled_deeper known d e o n g p h =
     let x : Draft = interrupted d o n in
@@ -281,7 +360,7 @@ spelled_deeper known d e o n g p h =
     subst (λ (y : Draft). Spelled known y) (ok_is x e c.2)
     (record { few = g.few; title = g.title; naming = g.naming; some = g.some; blocks = record { inside = refl; around = rw (g.blocks.inside, p, g.blocks.around) refl; shut = g.blocks.shut } })
 
-spelled_claim : (known : List Headed) (d e : Draft) (raws : List RawLit) → Spelled known d → 0 < length raws → stepped d (forms.Claim raws) ≡ Ok e → Spelled known e
+spelled_claim : (known : List Headed) (d e : Draft) (raws : List RawLit) → Spelled known d → 0 < length raws → stepped known d (forms.Claim raws) ≡ Ok e → Spelled known e
 unfolding stepped claimed
 spelled_claim known d e raws g said h =
     let ls = bind_ok (lits_in d.in_scope raws) (λ ls. deeper d (opened.Claim ls) 0 >>= λ x. few_monos raws >>= λ few. read_ok x) e h in
@@ -303,7 +382,7 @@ shown_length ns raw p e =
     let l = bind_ok (lits_in ns raw.shown) (λ ls. read_ok (pair_of f.0 ls)) p w.2 in
     subst (λ (x : Superpose × List Lit). length x.1 ≡ length raw.shown) (ok_is (pair_of f.0 l.0) p l.2) (each_length (lit_in ns) raw.shown l.0 l.1)
 
-spelled_superpose : (known : List Headed) (d e : Draft) (raw : RawSuperpose) → Spelled known d → AreNames raw.new → 0 < length raw.shown → stepped d (forms.Superpose raw) ≡ Ok e → Spelled known e
+spelled_superpose : (known : List Headed) (d e : Draft) (raw : RawSuperpose) → Spelled known d → AreNames raw.new → 0 < length raw.shown → stepped known d (forms.Superpose raw) ≡ Ok e → Spelled known e
 unfolding stepped superposed
 spelled_superpose known d e raw g names said h =
     let after = named d.in_scope superposing.made raw.new in
@@ -320,14 +399,14 @@ spelled_superpose known d e raw g names said h =
     let deep = spelled_deeper known d x.0 o (length given) g (rw (names_listed raw.new names, some) refl) x.1 in
     subst (λ (y : Draft). Spelled known y) (ok_is (then x.0 n.0) e n.2) (moved known x.0 x.0.place after x.0.lines x.0.facts n.0 deep deep.some)
 
-spelled_split : (known : List Headed) (d e : Draft) (raw : RawLit) → Spelled known d → stepped d (forms.Cases raw) ≡ Ok e → Spelled known e
+spelled_split : (known : List Headed) (d e : Draft) (raw : RawLit) → Spelled known d → stepped known d (forms.Cases raw) ≡ Ok e → Spelled known e
 unfolding stepped split
 spelled_split known d e raw g h =
     let l = bind_ok (lit_in d.in_scope raw) (λ l. deeper d (opened.First l) 1 >>= λ x. with_terms x (raw ∷ [])) e h in
     let x = bind_ok (deeper d (opened.First l.0) 1) (λ x. with_terms x (raw ∷ [])) e l.2 in
     spelled_terms known x.0 e (raw ∷ []) (spelled_deeper known d x.0 (opened.First l.0) 1 g refl x.1) x.2
 
-spelled_else : (known : List Headed) (d e : Draft) → Spelled known d → allowed d.place forms.Else ≡ true → stepped d forms.Else ≡ Ok e → Spelled known e
+spelled_else : (known : List Headed) (d e : Draft) → Spelled known d → allowed d.place forms.Else ≡ true → stepped known d forms.Else ≡ Ok e → Spelled known e
 unfolding stepped
 spelled_else known d e g a h =
     subst (λ (y : Draft). Spelled known y) (ok_is (record d { place = Proving }) e h) (moved known d Proving d.in_scope d.lines d.facts d.terms g (at_else d.place d.shown a g.some))
@@ -341,9 +420,9 @@ record HeadSpelled (known : List Headed) (d : Draft) : Type 0 where
   naming : Naming d.names
   some : 0 < length d.shown
   here : SomeShown d.place d.shown
-  shut : is_plain_close d.close ≡ true
+  shut : is_plain_close known d.close ≡ true
 
-spelled_resumed : (known : List Headed) (d e : Draft) (o : Outer) (os : List Outer) (shown : List Lit) (s : PlainStep) → HeadSpelled known d → list_all is_plain_step o.steps ≡ true → list_all is_plain_outer os ≡ true → is_plain_step s ≡ true
+spelled_resumed : (known : List Headed) (d e : Draft) (o : Outer) (os : List Outer) (shown : List Lit) (s : PlainStep) → HeadSpelled known d → list_all (is_plain_step known) o.steps ≡ true → list_all (is_plain_outer known) os ≡ true → is_plain_step known s ≡ true
     → resumed d o os shown s ≡ Ok e → Spelled known e
 unfolding resumed counted_from
 spelled_resumed known d e o os shown s g inside around p h =
@@ -354,7 +433,7 @@ spelled_resumed known d e o os shown s g inside around p h =
     let f = bind_ok (within (o.facts + length shown) most_facts limits.Facts) (λ few. terms_after o.terms shown >>= λ n. read_ok (count n)) x.0 x.1 in
     let n = bind_ok (terms_after o.terms shown) (λ n. read_ok (count n)) x.0 f.2 in
     subst (λ (y : Draft). Spelled known y) (ap then (ok_is (count n.0) x.0 n.2) ∙ ok_is (then x.0) e x.2)
-    (record { few = g.few; title = g.title; naming = g.naming; some = g.here; blocks = record { inside = one_more o.steps s inside p; around = around; shut = g.shut } })
+    (record { few = g.few; title = g.title; naming = g.naming; some = g.here; blocks = record { inside = one_more known o.steps s inside p; around = around; shut = g.shut } })
 
 abbrev shut_last : Draft → List PlainStep → CloseLine → Draft
 shut_last d steps close = record d { steps = steps; outers = []; close = close; place = Closed }
@@ -365,8 +444,8 @@ at_second d o os lit inner =
     record d { steps = []; in_scope = o.in_scope; facts = o.facts + 1; terms = o.terms + monomials lit.atom; outers = record o { opened = opened.Second lit inner } ∷ os; place = Splitting }
 
 -- a block is closed inside one that was interrupted; the second block of a split closes that one again
-spelled_inside : (known : List Headed) (d e : Draft) (o : Outer) (os : List Outer) (inner : Script) (by : Opened) → HeadSpelled known d → list_all is_plain_step o.steps ≡ true → is_plain_opened by ≡ true → list_all is_plain_outer os ≡ true
-    → is_plain inner ≡ true → ((close : CloseLine) → is_plain_close close ≡ true → closed d os o.steps close ≡ Ok e → Spelled known e)
+spelled_inside : (known : List Headed) (d e : Draft) (o : Outer) (os : List Outer) (inner : Script) (by : Opened) → HeadSpelled known d → list_all (is_plain_step known) o.steps ≡ true → is_plain_opened known by ≡ true → list_all (is_plain_outer known) os ≡ true
+    → is_said known inner ≡ true → ((close : CloseLine) → is_plain_close known close ≡ true → closed d os o.steps close ≡ Ok e → Spelled known e)
     → closed_inside d o os inner (λ c. closed d os o.steps c) by ≡ Ok e → Spelled known e
 spelled_inside known d e o os inner (opened.Claim shown) g inside p around q again h = spelled_resumed known d e o os shown (Claimed shown inner) g inside around (rw (p, q) refl) h
 spelled_inside known d e o os inner (opened.Superpose form names shown) g inside p around q again h =
@@ -377,44 +456,44 @@ spelled_inside known d e o os inner (opened.First lit) g inside p around q again
     (record { few = g.few; title = g.title; naming = g.naming; some = g.some; blocks = record { inside = refl; around = rw (inside, q, around) refl; shut = g.shut } })
 spelled_inside known d e o os inner (opened.Second lit first) g inside p around q again h = again (closes.Cases lit first inner) (rw (p, q) refl) h
 
-spelled_closed : (known : List Headed) (d e : Draft) (os : List Outer) (ss : List PlainStep) (close : CloseLine) → HeadSpelled known d → list_all is_plain_outer os ≡ true → list_all is_plain_step ss ≡ true → is_plain_close close ≡ true
+spelled_closed : (known : List Headed) (d e : Draft) (os : List Outer) (ss : List PlainStep) (close : CloseLine) → HeadSpelled known d → list_all (is_plain_outer known) os ≡ true → list_all (is_plain_step known) ss ≡ true → is_plain_close known close ≡ true
     → closed d os ss close ≡ Ok e → Spelled known e
 unfolding closed
 spelled_closed known d e [] ss close g around inside k h =
     subst (λ (y : Draft). Spelled known y) (ok_is (shut_last d ss close) e h)
     (record { few = g.few; title = g.title; naming = g.naming; some = g.some; blocks = record { inside = inside; around = refl; shut = k } })
 spelled_closed known d e (o ∷ os) ss close g around inside k h =
-    let p = both (is_plain_outer o) (list_all is_plain_outer os) around in
-    let q = both (list_all is_plain_step o.steps) (is_plain_opened o.opened) p.0 in
-    spelled_inside known d e o os (all_before ss (script_of_close close)) o.opened g q.0 q.1 p.1 (plain_script ss close inside k) (λ c kc hc. spelled_closed known d e os o.steps c g p.1 q.0 kc hc) h
+    let p = both (is_plain_outer known o) (list_all (is_plain_outer known) os) around in
+    let q = both (list_all (is_plain_step known) o.steps) (is_plain_opened known o.opened) p.0 in
+    spelled_inside known d e o os (all_before ss (script_of_close close)) o.opened g q.0 q.1 p.1 (plain_script known ss close inside k) (λ c kc hc. spelled_closed known d e os o.steps c g p.1 q.0 kc hc) h
 
-spelled_shut : (known : List Headed) (d e : Draft) (close : CloseLine) → Spelled known d → 0 < length d.shown → is_plain_close close ≡ true → shut d close ≡ Ok e → Spelled known e
+spelled_shut : (known : List Headed) (d e : Draft) (close : CloseLine) → Spelled known d → 0 < length d.shown → is_plain_close known close ≡ true → shut d close ≡ Ok e → Spelled known e
 unfolding shut
 spelled_shut known d e close g some k h =
     let x : Draft = record d { lines = d.lines + 1 } in
     let w = bind_ok (within (d.lines + 1) most_steps limits.Steps) (λ few. closed x d.outers d.steps close) e h in
     spelled_closed known x e d.outers d.steps close (record { few = g.few; title = g.title; naming = g.naming; some = some; here = g.some; shut = g.blocks.shut }) g.blocks.around g.blocks.inside k w.2
 
-spelled_qed : (known : List Headed) (d e : Draft) (ns : List (List ℕ)) → Spelled known d → allowed d.place (forms.Qed ns) ≡ true → stepped d (forms.Qed ns) ≡ Ok e → Spelled known e
+spelled_qed : (known : List Headed) (d e : Draft) (ns : List (List ℕ)) → Spelled known d → allowed d.place (forms.Qed ns) ≡ true → stepped known d (forms.Qed ns) ≡ Ok e → Spelled known e
 unfolding stepped
 spelled_qed known d e ns g a h =
     let os = bind_ok (qed_in d.in_scope (made_in d.outers d.made) ns) (λ os. shut d (closes.Qed os)) e h in
     spelled_shut known d e (closes.Qed os.0) g (at_qed d.place d.shown ns a g.some) refl os.2
 
-spelled_contradiction : (known : List Headed) (d e : Draft) → Spelled known d → allowed d.place forms.Contradiction ≡ true → stepped d forms.Contradiction ≡ Ok e → Spelled known e
+spelled_contradiction : (known : List Headed) (d e : Draft) → Spelled known d → allowed d.place forms.Contradiction ≡ true → stepped known d forms.Contradiction ≡ Ok e → Spelled known e
 unfolding stepped
 spelled_contradiction known d e g a h = spelled_shut known d e closes.Contradiction g (at_contradiction d.place d.shown a g.some) refl h
 
-spelled_end : (known : List Headed) (d e : Draft) → Spelled known d → allowed d.place forms.End ≡ true → stepped d forms.End ≡ Ok e → Spelled known e
+spelled_end : (known : List Headed) (d e : Draft) → Spelled known d → allowed d.place forms.End ≡ true → stepped known d forms.End ≡ Ok e → Spelled known e
 unfolding stepped
 spelled_end known d e g a h = subst (λ (y : Draft). Spelled known y) (ok_is (record d { place = Done }) e h) (moved known d Done d.in_scope d.lines d.facts d.terms g (at_close d.place d.shown a g.some))
 
-no_title : (d e : Draft) (t : List ℕ) → stepped d (forms.Theorem t) ≡ Ok e → ⊥
+no_title : (known : List Headed) (d e : Draft) (t : List ℕ) → stepped known d (forms.Theorem t) ≡ Ok e → ⊥
 unfolding stepped
-no_title d e t h = absurd cc
+no_title known d e t h = absurd cc
 
-spelled_stepped : (known : List Headed) (d e : Draft) (f : Form) → Spelled known d → Said f → allowed d.place f ≡ true → stepped d f ≡ Ok e → Spelled known e
-spelled_stepped known d e (forms.Theorem t) g s a h = absurd (no_title d e t h)
+spelled_stepped : (known : List Headed) (d e : Draft) (f : Form) → Spelled known d → Said f → allowed d.place f ≡ true → stepped known d f ≡ Ok e → Spelled known e
+spelled_stepped known d e (forms.Theorem t) g s a h = absurd (no_title known d e t h)
 spelled_stepped known d e (forms.Declare sort ns) g s a h = spelled_declare known d e sort ns g s h
 spelled_stepped known d e (forms.Given raws) g s a h = spelled_given known d e raws g h
 spelled_stepped known d e (forms.Made sort ns) g s a h = spelled_made known d e sort ns g s h
@@ -423,6 +502,7 @@ spelled_stepped known d e forms.Proof g s a h = spelled_proof known d e g a h
 spelled_stepped known d e (forms.By r ns l) g s a h = spelled_by known d e r ns l g h
 spelled_stepped known d e (forms.Hence l) g s a h = spelled_hence known d e l g h
 spelled_stepped known d e (forms.Let l) g s a h = spelled_let known d e l g s h
+spelled_stepped known d e (forms.Apply raw) g s a h = spelled_apply known d e raw g s h
 spelled_stepped known d e (forms.Qed ns) g s a h = spelled_qed known d e ns g a h
 spelled_stepped known d e forms.Contradiction g s a h = spelled_contradiction known d e g a h
 spelled_stepped known d e (forms.Claim raws) g s a h = spelled_claim known d e raws g s.0 h
@@ -431,9 +511,9 @@ spelled_stepped known d e (forms.Cases raw) g s a h = spelled_split known d e ra
 spelled_stepped known d e forms.Else g s a h = spelled_else known d e g a h
 spelled_stepped known d e forms.End g s a h = spelled_end known d e g a h
 
-spelled_next : (known : List Headed) (d e : Draft) (f : Form) → Spelled known d → Said f → step d f ≡ Ok e → Spelled known e
+spelled_next : (known : List Headed) (d e : Draft) (f : Form) → Spelled known d → Said f → step known d f ≡ Ok e → Spelled known e
 unfolding step
-spelled_next known d e f g s h = let p = passes (allowed d.place f) (stepped d f) e h in spelled_stepped known d e f g s p.0 p.1
+spelled_next known d e f g s h = let p = passes (allowed d.place f) (stepped known d f) e h in spelled_stepped known d e f g s p.0 p.1
 
 -- ---- the first line
 
@@ -458,7 +538,7 @@ SpelledSoFar known (Some d) = Spelled known d
 spelled_line : (known : List Headed) (draft : Option Draft) (words : List (List ℕ)) (e : Draft) → SpelledSoFar known draft → line_step known draft words ≡ Ok e → Spelled known e
 unfolding line_step
 spelled_line known None words e g h = let f = bind_ok (form_of words) (λ f. begin known f) e h in spelled_begin known f.0 e (form_said words f.0 f.1) f.2
-spelled_line known (Some d) words e g h = let f = bind_ok (form_of words) (λ f. step d f) e h in spelled_next known d e f.0 g (form_said words f.0 f.1) f.2
+spelled_line known (Some d) words e g h = let f = bind_ok (form_of words) (λ f. step known d f) e h in spelled_next known d e f.0 g (form_said words f.0 f.1) f.2
 
 -- what is known of a theorem beside that it fits
 record Named (known : List Headed) (t : Entry) : Type 0 where
@@ -466,14 +546,14 @@ record Named (known : List Headed) (t : Entry) : Type 0 where
   title : is_title t.title ≡ true
   naming : Naming t.names
   some : 0 < length t.statement.shown
-  plain : is_plain t.script ≡ true
+  said : is_said known t.script ≡ true
 
 at_last : (p : Place) (shown : List Lit) → is_last p ≡ true → SomeShown p shown → 0 < length shown
 at_last Done shown a s = s
 at_last p shown a s = absurd cc
 
 all_named : (known : List Headed) (d : Draft) → Spelled known d → is_done d ≡ true → Named known (entry_of_draft d)
-all_named known d g a = record { few = g.few; title = g.title; naming = g.naming; some = at_last d.place d.shown a g.some; plain = plain_script d.steps d.close g.blocks.inside g.blocks.shut }
+all_named known d g a = record { few = g.few; title = g.title; naming = g.naming; some = at_last d.place d.shown a g.some; said = plain_script known d.steps d.close g.blocks.inside g.blocks.shut }
 
 reading_names : (known : List Headed) (last : ℕ) (draft : Option Draft) (lines rest : List (Result Seen LineFault)) (t : Entry) → SpelledSoFar known draft → read_from known last draft lines ≡ answered (pair t rest) → Named known t
 reading_names known last None [] rest t g e = absurd cc
@@ -498,6 +578,7 @@ pub read_is_spelled : (known : List Headed) (last : ℕ) (t : Entry) (lines rest
 read_is_spelled known last t lines rest e =
     let f = reading_fits known last None lines rest t tt e in
     let n = reading_names known last None lines rest t tt e in
+    let s = both (is_plain t.script) (names_theorems known t.script) n.said in
     record {
       fits = f;
       few_theorems = n.few;
@@ -506,5 +587,6 @@ read_is_spelled known last t lines rest e =
       line_names = n.naming.line_names;
       circle_names = n.naming.circle_names;
       some_shown = n.some;
-      script = n.plain;
+      script = s.0;
+      theorems = s.1;
     }

@@ -19,6 +19,7 @@ use Rattle.e_book.proofs.NamesAgain.{Without, titled, names_again, some_names_ag
 use Rattle.e_book.proofs.LitsAgain.{LitNamed, LitsNamed, lit_again, diagram_again, lits_again}
 use Rattle.e_book.proofs.LetsAgain.{LetNamed, as_read as let_as_read, let_again}
 use Rattle.e_book.proofs.SuperposesAgain.{SuperposeNamed, superpose_again}
+use Rattle.e_book.proofs.AppliesAgain.{ApplyNamed, apply_again}
 
 -- ---- forms
 
@@ -38,6 +39,7 @@ GoodForm (forms.Show (l ∷ m ∷ ls)) = ⊥
 GoodForm (forms.By r ns l) = (is_title r ≡ true) × AreNames ns × LitNamed l × (is_diagram_raw l.atom ≡ true)
 GoodForm (forms.Hence l) = LitNamed l
 GoodForm (forms.Let l) = LetNamed l
+GoodForm (forms.Apply a) = ApplyNamed a
 GoodForm (forms.Qed ns) = AreNames ns
 GoodForm (forms.Claim ls) = LitsNamed ls
 GoodForm (forms.Superpose s) = SuperposeNamed s
@@ -93,6 +95,7 @@ form_again forms.Proof h = refl
 form_again (forms.By r ns l) h = by_again r ns l h.0 h.1 h.2 h.3
 form_again (forms.Hence l) h = rw (lit_again l h) refl
 form_again (forms.Let l) h = rw (let_again l h) refl
+form_again (forms.Apply a) h = rw (apply_again a h) refl
 form_again (forms.Qed ns) h = rw (names_again ns h) refl
 form_again forms.Contradiction h = refl
 form_again (forms.Claim ls) h = rw (lits_again ls h) refl

@@ -1,5 +1,5 @@
 -- What the forms of lines are known to be, and the literals that their names resolve to.
-use Rattle.std.proofs.Common.{◌≡◌, ℕ, ◌+◌, ◌<◌, Bool, true, false, cond, eqb, List, [], ◌∷◌, length, take, drop, Some, None, Result, Ok, Err, refl, subst, ◌∙◌, arith}
+use Rattle.std.proofs.Common.{◌≡◌, ℕ, ◌+◌, ◌<◌, Bool, true, false, cond, eqb, List, [], ◌∷◌, length, take, drop, Option, Some, None, Result, Ok, Err, refl, subst, ◌∙◌, arith}
 use Rattle.std.specs.Prelude.{codes}
 use Rattle.std.specs.List.{slice_split}
 use Rattle.std.specs.Str.{bytes_eq}
@@ -29,6 +29,8 @@ use Rattle.e_book.specs.Reading.{◌>>=◌, or_malformed, word_at, title_at, end
 use Rattle.e_book.specs.Literals.{lit_of, is_diagram_raw, diagram_lit_of, is_semicolon, lits_of}
 use Rattle.e_book.specs.Superposes.{superpose_pieces, head_of, superpose_of}
 use Rattle.e_book.specs.Lets.{is_word_of, are_words_of, is_place, words_at, new_words, argument_words, shapes_of, avoided_of, let_named, let_of}
+use Rattle.e_book.specs.declared.applies.RawApply.{RawApply}
+use Rattle.e_book.specs.Applies.{arguments_of, made_names as names_behind_as, apply_of}
 use Rattle.e_book.specs.Forms.{declare_of, sort_of, made_of, by_of, theorem_of, bare, form_named, form_of}
 use Rattle.e_book.specs.Scope.{used, number_of, on_sort, line_meets, meets_from, equal_at, atom_in, negated_in, lit_in, args_in, by_in, known_rule, variables_of, right_count}
 use Rattle.e_book.specs.Fits.{is_diagram_atom, is_diagram_lit}
@@ -45,6 +47,7 @@ Said (forms.Theorem t) = is_title t ≡ true
 Said (forms.Declare sort ns) = AreNames ns
 Said (forms.Made sort ns) = AreNames ns
 Said (forms.Let l) = AreNames l.new
+Said (forms.Apply a) = (is_title a.title ≡ true) × AreNames a.new
 Said (forms.Given raws) = LitsSaid raws
 Said (forms.Show raws) = (0 < length raws) × LitsSaid raws
 Said (forms.By r ns l) = is_diagram_raw l.atom ≡ true
@@ -127,6 +130,25 @@ let_said ws f e =
     let a = bind_ok (avoided_of parts.2 parts.1 >>= rest) (λ l. read_ok (forms.Let l)) f e in
     let b = bind_ok (avoided_of parts.2 parts.1) rest a.0 a.1 in
     subst Said (ok_is (forms.Let a.0) f a.2) (let_named_said (shapes_of parts.2 parts.0) parts.0 b.0 a.0 b.2)
+
+behind_as_said : (b : Bool) (ws ns : List (List ℕ)) → names_behind_as b ws ≡ Ok ns → AreNames ns
+behind_as_said false ws ns e = subst AreNames (ok_is [] ns e) tt
+behind_as_said true ws ns e = some_names_said ws ns e
+
+apply_of_said : (ws : List (List ℕ)) (a : RawApply) → apply_of ws ≡ Ok a → (is_title a.title ≡ true) × AreNames a.new
+unfolding apply_of
+apply_of_said ws a e =
+    let made : List ℕ → List (Option (List ℕ)) → List (List ℕ) → RawApply = λ t args new. record { title = t; args = args; new = new } in
+    let rest : List ℕ × List (List ℕ) → Result RawApply Kind = λ t. arguments_of (cut_at (codes "as") t.1).0 >>= λ args. names_behind_as (cut_at (codes "as") t.1).2 (cut_at (codes "as") t.1).1 >>= λ new. read_ok (made t.0 args new) in
+    let t = bind_ok (title_at ws) rest a e in
+    let parts = cut_at (codes "as") t.0.1 in
+    let args = bind_ok (arguments_of parts.0) (λ args. names_behind_as parts.2 parts.1 >>= λ new. read_ok (made t.0.0 args new)) a t.2 in
+    let new = bind_ok (names_behind_as parts.2 parts.1) (λ new. read_ok (made t.0.0 args.0 new)) a args.2 in
+    subst (λ (x : RawApply). (is_title x.title ≡ true) × AreNames x.new) (ok_is (made t.0.0 args.0 new.0) a new.2)
+    (title_said ws t.0 t.1, behind_as_said parts.2 parts.1 new.0 new.1)
+
+apply_said : (ws : List (List ℕ)) (f : Form) → (apply_of ws >>= λ a. read_ok (forms.Apply a)) ≡ Ok f → Said f
+apply_said ws f e = let a = bind_ok (apply_of ws) (λ a. read_ok (forms.Apply a)) f e in subst Said (ok_is (forms.Apply a.0) f a.2) (apply_of_said ws a.0 a.1)
 
 qed_said : (ws : List (List ℕ)) (f : Form) → (names_of ws >>= λ ns. read_ok (forms.Qed ns)) ≡ Ok f → Said f
 qed_said ws f e = let a = bind_ok (names_of ws) (λ ns. read_ok (forms.Qed ns)) f e in subst Said (ok_is (forms.Qed a.0) f a.2) tt
@@ -224,14 +246,15 @@ either false x y f e hx hy = hy e
 named_said : (w : List ℕ) (ws : List (List ℕ)) (f : Form) → form_named w ws ≡ Ok f → Said f
 unfolding form_named
 named_said w ws f e =
-    let r19 : Result Form Kind = Err Malformed in
-    let r18 : Result Form Kind = cond (bytes_eq w (codes "end")) (bare ws forms.End) r19 in
-    let r17 : Result Form Kind = cond (bytes_eq w (codes "else")) (bare ws forms.Else) r18 in
-    let r16 : Result Form Kind = cond (bytes_eq w (codes "cases")) (lit_of ws >>= λ l. read_ok (forms.Cases l)) r17 in
-    let r15 : Result Form Kind = cond (bytes_eq w (codes "superpose")) (superpose_of ws >>= λ s. read_ok (forms.Superpose s)) r16 in
-    let r14 : Result Form Kind = cond (bytes_eq w (codes "claim")) (lits_of ws >>= λ ls. read_ok (forms.Claim ls)) r15 in
-    let r13 : Result Form Kind = cond (bytes_eq w (codes "contradiction")) (bare ws forms.Contradiction) r14 in
-    let r12 : Result Form Kind = cond (bytes_eq w (codes "qed")) (names_of ws >>= λ ns. read_ok (forms.Qed ns)) r13 in
+    let r20 : Result Form Kind = Err Malformed in
+    let r19 : Result Form Kind = cond (bytes_eq w (codes "end")) (bare ws forms.End) r20 in
+    let r18 : Result Form Kind = cond (bytes_eq w (codes "else")) (bare ws forms.Else) r19 in
+    let r17 : Result Form Kind = cond (bytes_eq w (codes "cases")) (lit_of ws >>= λ l. read_ok (forms.Cases l)) r18 in
+    let r16 : Result Form Kind = cond (bytes_eq w (codes "superpose")) (superpose_of ws >>= λ s. read_ok (forms.Superpose s)) r17 in
+    let r15 : Result Form Kind = cond (bytes_eq w (codes "claim")) (lits_of ws >>= λ ls. read_ok (forms.Claim ls)) r16 in
+    let r14 : Result Form Kind = cond (bytes_eq w (codes "contradiction")) (bare ws forms.Contradiction) r15 in
+    let r13 : Result Form Kind = cond (bytes_eq w (codes "qed")) (names_of ws >>= λ ns. read_ok (forms.Qed ns)) r14 in
+    let r12 : Result Form Kind = cond (bytes_eq w (codes "apply")) (apply_of ws >>= λ a. read_ok (forms.Apply a)) r13 in
     let r11 : Result Form Kind = cond (bytes_eq w (codes "let")) (let_of ws >>= λ l. read_ok (forms.Let l)) r12 in
     let r10 : Result Form Kind = cond (bytes_eq w (codes "hence")) (lit_of ws >>= λ l. read_ok (forms.Hence l)) r11 in
     let r9 : Result Form Kind = cond (bytes_eq w (codes "by")) (by_of ws) r10 in
@@ -253,13 +276,14 @@ named_said w ws f e =
     either (bytes_eq w (codes "by")) (by_of ws) r10 f e8 (by_said ws f) (λ e9.
     either (bytes_eq w (codes "hence")) (lit_of ws >>= λ l. read_ok (forms.Hence l)) r11 f e9 (hence_said ws f) (λ e10.
     either (bytes_eq w (codes "let")) (let_of ws >>= λ l. read_ok (forms.Let l)) r12 f e10 (let_said ws f) (λ e11.
-    either (bytes_eq w (codes "qed")) (names_of ws >>= λ ns. read_ok (forms.Qed ns)) r13 f e11 (qed_said ws f) (λ e12.
-    either (bytes_eq w (codes "contradiction")) (bare ws forms.Contradiction) r14 f e12 (bare_said ws forms.Contradiction f tt) (λ e13.
-    either (bytes_eq w (codes "claim")) (lits_of ws >>= λ ls. read_ok (forms.Claim ls)) r15 f e13 (claim_said ws f) (λ e14.
-    either (bytes_eq w (codes "superpose")) (superpose_of ws >>= λ s. read_ok (forms.Superpose s)) r16 f e14 (superpose_said ws f) (λ e15.
-    either (bytes_eq w (codes "cases")) (lit_of ws >>= λ l. read_ok (forms.Cases l)) r17 f e15 (cases_said ws f) (λ e16.
-    either (bytes_eq w (codes "else")) (bare ws forms.Else) r18 f e16 (bare_said ws forms.Else f tt) (λ e17.
-    either (bytes_eq w (codes "end")) (bare ws forms.End) r19 f e17 (bare_said ws forms.End f tt) (no_form f))))))))))))))))))
+    either (bytes_eq w (codes "apply")) (apply_of ws >>= λ a. read_ok (forms.Apply a)) r13 f e11 (apply_said ws f) (λ e12.
+    either (bytes_eq w (codes "qed")) (names_of ws >>= λ ns. read_ok (forms.Qed ns)) r14 f e12 (qed_said ws f) (λ e13.
+    either (bytes_eq w (codes "contradiction")) (bare ws forms.Contradiction) r15 f e13 (bare_said ws forms.Contradiction f tt) (λ e14.
+    either (bytes_eq w (codes "claim")) (lits_of ws >>= λ ls. read_ok (forms.Claim ls)) r16 f e14 (claim_said ws f) (λ e15.
+    either (bytes_eq w (codes "superpose")) (superpose_of ws >>= λ s. read_ok (forms.Superpose s)) r17 f e15 (superpose_said ws f) (λ e16.
+    either (bytes_eq w (codes "cases")) (lit_of ws >>= λ l. read_ok (forms.Cases l)) r18 f e16 (cases_said ws f) (λ e17.
+    either (bytes_eq w (codes "else")) (bare ws forms.Else) r19 f e17 (bare_said ws forms.Else f tt) (λ e18.
+    either (bytes_eq w (codes "end")) (bare ws forms.End) r20 f e18 (bare_said ws forms.End f tt) (no_form f)))))))))))))))))))
 
 pub form_said : (words : List (List ℕ)) (f : Form) → form_of words ≡ Ok f → Said f
 unfolding form_of

@@ -2,8 +2,8 @@
 use Rattle.std.proofs.Common.{◌≡◌, ◌≤◌, true, false, ltb, ◌&&◌, List, [], ◌∷◌, length, Some, None, refl, ap, arith}
 use Rattle.std.specs.List.{list_all}
 use Rattle.e_text.specs.Names.{is_name}
-use Rattle.e_deriv.specs.PlainStep.{PlainStep, Cited, Inferred, Made, Claimed, Copied}
-use Rattle.e_deriv.specs.Script.{Script, Cite, Hence, Make, Claim, Superposed, Qed, Contradiction, Cases, size, depth}
+use Rattle.e_deriv.specs.PlainStep.{PlainStep, Cited, Inferred, Made, Applied, Claimed, Copied}
+use Rattle.e_deriv.specs.Script.{Script, Cite, Hence, Make, Apply, Claim, Superposed, Qed, Contradiction, Cases, size, depth}
 use Rattle.e_book.specs.declared.steps.CloseLine.{CloseLine}
 use Rattle.e_book.specs.declared.steps.CloseLine.TheVariants as closes
 use Rattle.e_book.specs.HasSpelling.{is_plain}
@@ -15,6 +15,7 @@ abbrev pub steps_of : Script → List PlainStep
 steps_of (Cite by rest) = Cited by ∷ steps_of rest
 steps_of (Hence lit cert rest) = Inferred lit cert ∷ steps_of rest
 steps_of (Make form names certs rest) = Made form names certs ∷ steps_of rest
+steps_of (Apply theorem args names certs rest) = Applied theorem args names certs ∷ steps_of rest
 steps_of (Claim shown inner rest) = Claimed shown inner ∷ steps_of rest
 steps_of (Superposed form names shown certs inner rest) = Copied form names shown certs inner ∷ steps_of rest
 steps_of (Qed objects certs) = []
@@ -25,6 +26,7 @@ abbrev pub close_of : Script → CloseLine
 close_of (Cite by rest) = close_of rest
 close_of (Hence lit cert rest) = close_of rest
 close_of (Make form names certs rest) = close_of rest
+close_of (Apply theorem args names certs rest) = close_of rest
 close_of (Claim shown inner rest) = close_of rest
 close_of (Superposed form names shown certs inner rest) = close_of rest
 close_of (Qed objects certs) = closes.Qed objects
@@ -42,6 +44,8 @@ same_script (Hence lit None rest) p = ap (λ (s : Script). Hence lit None s) (sa
 same_script (Hence lit (Some cert) rest) p = absurd (no_cert p)
 same_script (Make form names [] rest) p = ap (λ (s : Script). Make form names [] s) (same_script rest (both (list_all is_name names) (is_plain rest) p).1)
 same_script (Make form names (c ∷ cs) rest) p = absurd (no_cert p)
+same_script (Apply theorem args names [] rest) p = ap (λ (s : Script). Apply theorem args names [] s) (same_script rest (both (list_all is_name names) (is_plain rest) p).1)
+same_script (Apply theorem args names (c ∷ cs) rest) p = absurd (no_cert p)
 same_script (Claim shown inner rest) p =
     let q = both (ltb 0 (length shown)) (is_plain inner && is_plain rest) p in
     ap (λ (s : Script). Claim shown inner s) (same_script rest (both (is_plain inner) (is_plain rest) q.1).1)
@@ -61,6 +65,7 @@ unfolding size
 at_least (Cite b r) = omega arith
 at_least (Hence l c r) = omega arith
 at_least (Make f ns cs r) = omega arith
+at_least (Apply k args ns cs r) = omega arith
 at_least (Claim shown i r) = omega arith
 at_least (Superposed f ns shown cs i r) = omega arith
 at_least (Qed os cs) = omega arith
@@ -72,6 +77,7 @@ unfolding depth
 deep_at_least (Cite b r) = deep_at_least r
 deep_at_least (Hence l c r) = deep_at_least r
 deep_at_least (Make f ns cs r) = deep_at_least r
+deep_at_least (Apply k args ns cs r) = deep_at_least r
 deep_at_least (Claim shown i r) = let h = deep_at_least r in omega (arith, h)
 deep_at_least (Superposed f ns shown cs i r) = let h = deep_at_least r in omega (arith, h)
 deep_at_least (Qed os cs) = omega arith

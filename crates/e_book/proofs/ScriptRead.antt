@@ -1,5 +1,5 @@
 -- The lines of a proof are read from their canonical spelling.
-use Rattle.std.proofs.Common.{◌≡◌, ℕ, ◌+◌, ◌≤◌, ◌<◌, true, false, leb, ltb, ◌&&◌, List, [], ◌∷◌, ◌++◌, length, Some, None, Ok, refl, sym, ap, subst, ◌∙◌, arith, append_assoc}
+use Rattle.std.proofs.Common.{◌≡◌, ℕ, ◌+◌, ◌≤◌, ◌<◌, true, false, leb, ltb, ◌&&◌, List, [], ◌∷◌, ◌++◌, length, Option, Some, None, Ok, refl, sym, ap, subst, ◌∙◌, arith, append_assoc}
 use Rattle.std.specs.List.{list_all}
 use Rattle.std.proofs.lemmas.Bool.{leb-true, ltb-true}
 use Rattle.std.proofs.lemmas.List.{append-nil}
@@ -13,30 +13,34 @@ use Rattle.e_literal.specs.Literal.{negation, all_in_scope}
 use Rattle.e_literal.specs.WellFormed.{is_well_formed}
 use Rattle.e_literal.specs.Scopes.{grown, are_of_sorts}
 use Rattle.e_literal.specs.Facts.{joined, joined_all}
+use Rattle.e_literal.specs.Use.{gives_of_use}
+use Rattle.e_theorem.specs.Pattern.{is_pattern}
 use Rattle.e_clause.specs.declared.cert.By.{By}
 use Rattle.e_construct.specs.declared.construction.Construction.{Construction}
 use Rattle.e_construct.specs.declared.superpose.Superpose.{Superpose}
 use Rattle.e_construct.specs.Construct.{sorts_of, made, gives, fits as fits_form}
 use Rattle.e_construct.specs.Superposing as superposing
-use Rattle.e_deriv.specs.PlainStep.{PlainStep, Cited, Inferred, Made, Claimed, Copied}
+use Rattle.e_deriv.specs.PlainStep.{PlainStep, Cited, Inferred, Made, Applied, Claimed, Copied}
 use Rattle.e_deriv.specs.Naming.{named}
-use Rattle.e_deriv.specs.Script.{Script, Cite, Hence, Make, Claim, Superposed, Qed, Contradiction, Cases, size, depth}
+use Rattle.e_deriv.specs.Script.{Script, Cite, Hence, Make, Apply, Claim, Superposed, Qed, Contradiction, Cases, size, depth}
 use Rattle.e_deriv.specs.Goal.{Goal, goal_of}
 use Rattle.e_deriv.specs.Lines.{Line, lines}
-use Rattle.e_deriv.specs.Steps.{are_over, is_citation, fits}
+use Rattle.e_deriv.specs.Parts.{written as written_args}
+use Rattle.e_deriv.specs.Steps.{are_over, is_citation}
 use Rattle.e_book.specs.declared.blocks.Opened.TheVariants as opened
 use Rattle.e_book.specs.declared.steps.CloseLine.{CloseLine}
 use Rattle.e_book.specs.declared.steps.CloseLine.TheVariants as closes
 use Rattle.e_book.specs.declared.draft.Draft.{Draft}
-use Rattle.e_book.specs.Limits.{most_steps, most_depth, most_facts, most_terms, monomials, count_monomials}
+use Rattle.e_book.specs.Limits.{most_steps, most_depth, most_facts, most_terms, most_blanks, monomials, count_monomials}
 use Rattle.e_book.specs.Blocks.{made_in}
-use Rattle.e_book.specs.Headed.{Headed}
+use Rattle.e_book.specs.Headed.{Headed, stated_by, theorem_of}
 use Rattle.e_book.specs.Scope.{scope_of_names}
+use Rattle.e_book.specs.Applies.{count_blanks}
 use Rattle.e_book.specs.Steps.{few_objects, closed}
 use Rattle.e_book.specs.Book.{is_done}
-use Rattle.e_book.specs.Fits.{NewNamesFit, few_facts, few_terms, is_diagram_lit, has_good_literals}
+use Rattle.e_book.specs.Fits.{NewNamesFit, few_facts, few_terms, few_blanks, is_diagram_lit, has_good_literals}
 use Rattle.e_book.specs.Canonical.{script_forms, else_form}
-use Rattle.e_book.specs.HasSpelling.{AreNames, is_plain}
+use Rattle.e_book.specs.HasSpelling.{AreNames, is_plain, is_named_by_title, names_theorems}
 use Rattle.e_book.proofs.Differ.{both}
 use Rattle.e_book.proofs.Lookups.{InOrder, objects_named}
 use Rattle.e_book.proofs.LitLookups.{lit_named}
@@ -47,8 +51,10 @@ use Rattle.e_book.proofs.Building.{GoodLet, named_scope}
 use Rattle.e_book.proofs.Growing.{named_in_order}
 use Rattle.e_book.proofs.Built.{of_sorts_in_scope, let_named}
 use Rattle.e_book.proofs.Superposed.{GoodSuperpose, superpose_named}
+use Rattle.e_book.proofs.Applied.{GoodApply, apply_named}
+use Rattle.e_book.proofs.FittingScripts.{line_fits}
 use Rattle.e_book.proofs.ScriptParts.{steps_of, close_of, same_script, at_least, deep_at_least}
-use Rattle.e_book.proofs.LinesRead.{Inside, proving, splitting, behind, deep, written, copied, resume, second, step_cite, step_hence, step_let, step_claim, step_superpose, step_cases, step_else, step_qed, step_contradiction, claim_closed, superpose_closed, first_closed, second_closed}
+use Rattle.e_book.proofs.LinesRead.{Inside, proving, splitting, behind, deep, written, copied, resume, second, applied_behind, step_cite, step_hence, step_let, step_apply, step_claim, step_superpose, step_cases, step_else, step_qed, step_contradiction, claim_closed, superpose_closed, first_closed, second_closed}
 
 -- a line with a certificate is not plain
 no_cert : false ≡ true → ⊥
@@ -58,29 +64,31 @@ list_names : (ns : List (List ℕ)) → list_all is_name ns ≡ true → AreName
 list_names [] h = tt
 list_names (n ∷ ns) h = let p = both (is_name n) (list_all is_name ns) h in (p.0, list_names ns p.1)
 
-both_fit : (xs ys : List Line) → list_all fits (xs ++ ys) ≡ true → (list_all fits xs ≡ true) × (list_all fits ys ≡ true)
-both_fit xs ys h = both (list_all fits xs) (list_all fits ys) (sym (list_all-append fits xs ys) ∙ h)
+both_fit : (known : List Headed) (xs ys : List Line) → list_all (line_fits (stated_by known)) (xs ++ ys) ≡ true → (list_all (line_fits (stated_by known)) xs ≡ true) × (list_all (line_fits (stated_by known)) ys ≡ true)
+both_fit known xs ys h = let p = line_fits (stated_by known) in both (list_all p xs) (list_all p ys) (sym (list_all-append p xs ys) ∙ h)
 
 -- ---- what is known of a script where its first line comes
 
-pub record Ready (d : Draft) (i : Inside) (script : Script) (given : List Lit) (goal : Goal) : Type 0 where
+pub record Ready (known : List Headed) (d : Draft) (i : Inside) (script : Script) (given : List Lit) (goal : Goal) : Type 0 where
   pub order : InOrder i.in_scope
   pub goal_sorts : sorts_of goal.made ≡ made_in i.outers d.made
   pub plain : is_plain script ≡ true
-  pub fitting : list_all fits (lines script (scope_of_names i.in_scope) given goal) ≡ true
-  pub new_names : NewNamesFit i.in_scope script
+  pub fitting : list_all (line_fits (stated_by known)) (lines (stated_by known) script script (scope_of_names i.in_scope) given goal) ≡ true
+  pub new_names : NewNamesFit (stated_by known) i.in_scope script
   pub few : i.lines + size script ≤ most_steps
   pub shallow : length i.outers + depth script ≤ most_depth
   pub good : has_good_literals script ≡ true
-  pub facts : few_facts i.facts (scope_of_names i.in_scope) script ≡ true
-  pub terms : few_terms i.terms (scope_of_names i.in_scope) script ≡ true
+  pub theorems : names_theorems known script ≡ true
+  pub blanks : few_blanks script ≡ true
+  pub facts : few_facts (stated_by known) i.facts (scope_of_names i.in_scope) script ≡ true
+  pub terms : few_terms (stated_by known) i.terms (scope_of_names i.in_scope) script ≡ true
 
 -- its lines are taken, up to the line that closes its block, and what closing the block leaves
 pub record Taken (known : List Headed) (d : Draft) (i : Inside) (script : Script) : Type 0 where
   pub last : Inside
   pub lines : last.lines ≡ i.lines + size script
   pub runs : (e : Draft) → closed (proving d last) i.outers (i.steps ++ steps_of script) (close_of script) ≡ Ok e → is_done e ≡ false
-      → Runs known (Some (proving d i)) (script_forms i.in_scope script) (Some e)
+      → Runs known (Some (proving d i)) (script_forms known i.in_scope script) (Some e)
 
 -- one more step, and what comes behind it
 one_more : (d : Draft) (last i : Inside) (s : PlainStep) (rest : Script) (e : Draft) → closed (proving d last) i.outers (i.steps ++ s ∷ steps_of rest) (close_of rest) ≡ Ok e
@@ -92,37 +100,39 @@ no_more d last i close e h = ap (λ (l : List PlainStep). closed (proving d last
 
 -- ---- steps without a block inside
 
-cite_ready : (d : Draft) (i : Inside) (b : By) (rest : Script) (given : List Lit) (goal : Goal) → Ready d i (Cite b rest) given goal → Ready d (behind i (Cited b) 1) rest (joined given b.lit) goal
-unfolding is_plain lines NewNamesFit size depth has_good_literals few_facts few_terms
-cite_ready d i b rest given goal r =
+cite_ready : (known : List Headed) (d : Draft) (i : Inside) (b : By) (rest : Script) (given : List Lit) (goal : Goal) → Ready known d i (Cite b rest) given goal → Ready known d (behind i (Cited b) 1) rest (joined given b.lit) goal
+unfolding is_plain lines NewNamesFit size depth has_good_literals few_facts few_terms names_theorems few_blanks
+cite_ready known d i b rest given goal r =
     let s = scope_of_names i.in_scope in
     record {
       order = r.order;
       goal_sorts = r.goal_sorts;
       plain = r.plain;
-      fitting = (both (is_citation s b) (list_all fits (lines rest s (joined given b.lit) goal)) r.fitting).1;
+      fitting = (both (is_citation s b) (list_all (line_fits (stated_by known)) (lines (stated_by known) rest rest s (joined given b.lit) goal)) r.fitting).1;
       new_names = r.new_names;
       few = omega (arith, r.few);
       shallow = r.shallow;
       good = (both (is_diagram_lit b.lit) (has_good_literals rest) r.good).1;
-      facts = (both (leb (i.facts + 1) most_facts) (few_facts (i.facts + 1) s rest) r.facts).1;
+      theorems = r.theorems;
+      blanks = r.blanks;
+      facts = (both (leb (i.facts + 1) most_facts) (few_facts (stated_by known) (i.facts + 1) s rest) r.facts).1;
       terms = r.terms;
     }
 
-cite_taken : (known : List Headed) (d : Draft) (i : Inside) (b : By) (rest : Script) (given : List Lit) (goal : Goal) → Ready d i (Cite b rest) given goal → Taken known d (behind i (Cited b) 1) rest → Taken known d i (Cite b rest)
+cite_taken : (known : List Headed) (d : Draft) (i : Inside) (b : By) (rest : Script) (given : List Lit) (goal : Goal) → Ready known d i (Cite b rest) given goal → Taken known d (behind i (Cited b) 1) rest → Taken known d i (Cite b rest)
 unfolding script_forms lines size has_good_literals few_facts
 cite_taken known d i b rest given goal r t =
     let s = scope_of_names i.in_scope in
-    let fit = (both (is_citation s b) (list_all fits (lines rest s (joined given b.lit) goal)) r.fitting).0 in
+    let fit = (both (is_citation s b) (list_all (line_fits (stated_by known)) (lines (stated_by known) rest rest s (joined given b.lit) goal)) r.fitting).0 in
     let good = (both (is_diagram_lit b.lit) (has_good_literals rest) r.good).0 in
-    let most = leb-true _ _ (both (leb (i.facts + 1) most_facts) (few_facts (i.facts + 1) s rest) r.facts).0 in
+    let most = leb-true _ _ (both (leb (i.facts + 1) most_facts) (few_facts (stated_by known) (i.facts + 1) s rest) r.facts).0 in
     record {
       last = t.last;
       lines = omega (arith, t.lines);
       runs = λ e h done. (
         proving d (behind i (Cited b) 1),
         by_good i.in_scope b r.order fit good,
-        step_cite d i b r.order fit good (omega (arith, r.few)) most,
+        step_cite known d i b r.order fit good (omega (arith, r.few)) most,
         refl,
         t.runs e (one_more d t.last i (Cited b) rest e h) done,
       );
@@ -131,40 +141,42 @@ cite_taken known d i b rest given goal r t =
 abbrev inferred : Inside → Lit → Inside
 inferred i l = written (behind i (Inferred l None) 1) (monomials l.atom)
 
-hence_ready : (d : Draft) (i : Inside) (l : Lit) (rest : Script) (given : List Lit) (goal : Goal) → Ready d i (Hence l None rest) given goal → Ready d (inferred i l) rest (joined given l) goal
-unfolding is_plain lines NewNamesFit size depth has_good_literals few_facts few_terms
-hence_ready d i l rest given goal r =
+hence_ready : (known : List Headed) (d : Draft) (i : Inside) (l : Lit) (rest : Script) (given : List Lit) (goal : Goal) → Ready known d i (Hence l None rest) given goal → Ready known d (inferred i l) rest (joined given l) goal
+unfolding is_plain lines NewNamesFit size depth has_good_literals few_facts few_terms names_theorems few_blanks
+hence_ready known d i l rest given goal r =
     let s = scope_of_names i.in_scope in
     let n = i.terms + monomials l.atom in
     record {
       order = r.order;
       goal_sorts = r.goal_sorts;
       plain = r.plain;
-      fitting = (both (all_in_scope s l) (list_all fits (lines rest s (joined given l) goal)) r.fitting).1;
+      fitting = (both (all_in_scope s l) (list_all (line_fits (stated_by known)) (lines (stated_by known) rest rest s (joined given l) goal)) r.fitting).1;
       new_names = r.new_names;
       few = omega (arith, r.few);
       shallow = r.shallow;
       good = (both (is_well_formed l) (has_good_literals rest) r.good).1;
-      facts = (both (leb (i.facts + 1) most_facts) (few_facts (i.facts + 1) s rest) r.facts).1;
-      terms = (both (leb n most_terms) (few_terms n s rest) r.terms).1;
+      theorems = r.theorems;
+      blanks = r.blanks;
+      facts = (both (leb (i.facts + 1) most_facts) (few_facts (stated_by known) (i.facts + 1) s rest) r.facts).1;
+      terms = (both (leb n most_terms) (few_terms (stated_by known) n s rest) r.terms).1;
     }
 
-hence_taken : (known : List Headed) (d : Draft) (i : Inside) (l : Lit) (rest : Script) (given : List Lit) (goal : Goal) → Ready d i (Hence l None rest) given goal → Taken known d (inferred i l) rest → Taken known d i (Hence l None rest)
-unfolding script_forms lines size has_good_literals few_facts few_terms
+hence_taken : (known : List Headed) (d : Draft) (i : Inside) (l : Lit) (rest : Script) (given : List Lit) (goal : Goal) → Ready known d i (Hence l None rest) given goal → Taken known d (inferred i l) rest → Taken known d i (Hence l None rest)
+unfolding script_forms lines size has_good_literals few_facts few_terms names_theorems few_blanks
 hence_taken known d i l rest given goal r t =
     let s = scope_of_names i.in_scope in
     let n = i.terms + monomials l.atom in
-    let fit = (both (all_in_scope s l) (list_all fits (lines rest s (joined given l) goal)) r.fitting).0 in
+    let fit = (both (all_in_scope s l) (list_all (line_fits (stated_by known)) (lines (stated_by known) rest rest s (joined given l) goal)) r.fitting).0 in
     let good = (both (is_well_formed l) (has_good_literals rest) r.good).0 in
-    let most = leb-true _ _ (both (leb (i.facts + 1) most_facts) (few_facts (i.facts + 1) s rest) r.facts).0 in
-    let short = leb-true _ _ (both (leb n most_terms) (few_terms n s rest) r.terms).0 in
+    let most = leb-true _ _ (both (leb (i.facts + 1) most_facts) (few_facts (stated_by known) (i.facts + 1) s rest) r.facts).0 in
+    let short = leb-true _ _ (both (leb n most_terms) (few_terms (stated_by known) n s rest) r.terms).0 in
     record {
       last = t.last;
       lines = omega (arith, t.lines);
       runs = λ e h done. (
         proving d (inferred i l),
         lit_named i.in_scope l r.order fit good,
-        step_hence d i l r.order (record { within = fit; good = good }) (omega (arith, r.few)) most short,
+        step_hence known d i l r.order (record { within = fit; good = good }) (omega (arith, r.few)) most short,
         refl,
         t.runs e (one_more d t.last i (Inferred l None) rest e h) done,
       );
@@ -176,20 +188,20 @@ gifts i form = length (gives form (scope_of_names i.in_scope))
 abbrev constructed : Inside → Construction → List (List ℕ) → Inside
 constructed i form names = record (behind i (Made form names []) (gifts i form)) { in_scope = named i.in_scope (made form) names }
 
-make_good : (d : Draft) (i : Inside) (form : Construction) (names : List (List ℕ)) (rest : Script) (given : List Lit) (goal : Goal) → Ready d i (Make form names [] rest) given goal → GoodLet i.in_scope form names
+make_good : (known : List Headed) (d : Draft) (i : Inside) (form : Construction) (names : List (List ℕ)) (rest : Script) (given : List Lit) (goal : Goal) → Ready known d i (Make form names [] rest) given goal → GoodLet i.in_scope form names
 unfolding lines NewNamesFit
-make_good d i form names rest given goal r =
+make_good known d i form names rest given goal r =
     let s = scope_of_names i.in_scope in
     record {
-      fits = (both (fits_form form s) (list_all fits (lines rest (grown s (made form)) (joined_all given (gives form s)) goal)) r.fitting).0;
+      fits = (both (fits_form form s) (list_all (line_fits (stated_by known)) (lines (stated_by known) rest rest (grown s (made form)) (joined_all given (gives form s)) goal)) r.fitting).0;
       free = r.new_names.0;
       count = r.new_names.1;
     }
 
-make_ready : (d : Draft) (i : Inside) (form : Construction) (names : List (List ℕ)) (rest : Script) (given : List Lit) (goal : Goal) → Ready d i (Make form names [] rest) given goal
-    → Ready d (constructed i form names) rest (joined_all given (gives form (scope_of_names i.in_scope))) goal
-unfolding is_plain lines NewNamesFit size depth has_good_literals few_facts few_terms
-make_ready d i form names rest given goal r =
+make_ready : (known : List Headed) (d : Draft) (i : Inside) (form : Construction) (names : List (List ℕ)) (rest : Script) (given : List Lit) (goal : Goal) → Ready known d i (Make form names [] rest) given goal
+    → Ready known d (constructed i form names) rest (joined_all given (gives form (scope_of_names i.in_scope))) goal
+unfolding is_plain lines NewNamesFit size depth has_good_literals few_facts few_terms names_theorems few_blanks
+make_ready known d i form names rest given goal r =
     let s = scope_of_names i.in_scope in
     let after = named i.in_scope (made form) names in
     let facts = joined_all given (gives form s) in
@@ -200,71 +212,149 @@ make_ready d i form names rest given goal r =
       order = named_in_order i.in_scope (made form) names r.order (list_names names p.0) r.new_names.0;
       goal_sorts = r.goal_sorts;
       plain = p.1;
-      fitting = subst (λ (z : Scope). list_all fits (lines rest z facts goal) ≡ true) scope (both (fits_form form s) (list_all fits (lines rest (grown s (made form)) facts goal)) r.fitting).1;
+      fitting = subst (λ (z : Scope). list_all (line_fits (stated_by known)) (lines (stated_by known) rest rest z facts goal) ≡ true) scope (both (fits_form form s) (list_all (line_fits (stated_by known)) (lines (stated_by known) rest rest (grown s (made form)) facts goal)) r.fitting).1;
       new_names = r.new_names.3;
       few = omega (arith, r.few);
       shallow = r.shallow;
       good = r.good;
-      facts = subst (λ (z : Scope). few_facts n z rest ≡ true) scope (both (leb n most_facts) (few_facts n (grown s (made form)) rest) r.facts).1;
-      terms = subst (λ (z : Scope). few_terms i.terms z rest ≡ true) scope r.terms;
+      theorems = r.theorems;
+      blanks = r.blanks;
+      facts = subst (λ (z : Scope). few_facts (stated_by known) n z rest ≡ true) scope (both (leb n most_facts) (few_facts (stated_by known) n (grown s (made form)) rest) r.facts).1;
+      terms = subst (λ (z : Scope). few_terms (stated_by known) i.terms z rest ≡ true) scope r.terms;
     }
 
-make_taken : (known : List Headed) (d : Draft) (i : Inside) (form : Construction) (names : List (List ℕ)) (rest : Script) (given : List Lit) (goal : Goal) → Ready d i (Make form names [] rest) given goal
+make_taken : (known : List Headed) (d : Draft) (i : Inside) (form : Construction) (names : List (List ℕ)) (rest : Script) (given : List Lit) (goal : Goal) → Ready known d i (Make form names [] rest) given goal
     → Taken known d (constructed i form names) rest → Taken known d i (Make form names [] rest)
 unfolding script_forms is_plain NewNamesFit size few_facts
 make_taken known d i form names rest given goal r t =
     let s = scope_of_names i.in_scope in
     let n = i.facts + gifts i form in
-    let good = make_good d i form names rest given goal r in
-    let most = leb-true _ _ (both (leb n most_facts) (few_facts n (grown s (made form)) rest) r.facts).0 in
+    let good = make_good known d i form names rest given goal r in
+    let most = leb-true _ _ (both (leb n most_facts) (few_facts (stated_by known) n (grown s (made form)) rest) r.facts).0 in
     record {
       last = t.last;
       lines = omega (arith, t.lines);
       runs = λ e h done. (
         proving d (constructed i form names),
         let_named i.in_scope form names r.order good (list_names names (both (list_all is_name names) (is_plain rest) r.plain).0),
-        step_let d i form names r.order good r.new_names.2 (omega (arith, r.few, at_least rest)) most,
+        step_let known d i form names r.order good r.new_names.2 (omega (arith, r.few, at_least rest)) most,
         refl,
         t.runs e (one_more d t.last i (Made form names []) rest e h) done,
       );
     }
 
+-- what is known of a use of an earlier theorem, and of what comes behind it
+record ApplyParts (known : List Headed) (d : Draft) (i : Inside) (theorem : ℕ) (args : List (Option Obj)) (names : List (List ℕ)) (rest : Script) (given : List Lit) (goal : Goal) : Type 0 where
+  good : GoodApply known i.in_scope theorem args names
+  named : AreNames names
+  few : few_objects (applied_behind i (theorem_of known theorem) theorem args names).in_scope ≡ Ok tt
+  facts : i.facts + length (theorem_of known theorem).shown ≤ most_facts
+  terms : i.terms + count_monomials (theorem_of known theorem).shown ≤ most_terms
+  blanks : count_blanks args ≤ most_blanks
+  next : Ready known d (applied_behind i (theorem_of known theorem) theorem args names) rest (joined_all given (gives_of_use (theorem_of known theorem) (written_args args) (scope_of_names i.in_scope))) goal
+
+apply_parts : (known : List Headed) (d : Draft) (i : Inside) (theorem : ℕ) (args : List (Option Obj)) (names : List (List ℕ)) (rest : Script) (given : List Lit) (goal : Goal) → Ready known d i (Apply theorem args names [] rest) given goal
+    → ApplyParts known d i theorem args names rest given goal
+unfolding is_plain lines NewNamesFit size depth has_good_literals few_facts few_terms names_theorems few_blanks
+apply_parts known d i theorem args names rest given goal r =
+    let before = stated_by known in
+    let s = scope_of_names i.in_scope in
+    let t = theorem_of known theorem in
+    let after = applied_behind i t theorem args names in
+    let facts = joined_all given (gives_of_use t (written_args args) s) in
+    let n = i.facts + length t.shown in
+    let m = i.terms + count_monomials t.shown in
+    let scope : grown s t.made ≡ scope_of_names after.in_scope = named_scope i.in_scope t.made names r.new_names.1 in
+    let p = both (list_all is_name names) (is_plain rest) r.plain in
+    let f = both (ltb theorem (length before) && is_pattern t s args) (list_all (line_fits before) (lines before rest rest (grown s t.made) facts goal)) r.fitting in
+    let e = both (ltb theorem (length before)) (is_pattern t s args) f.0 in
+    let h = both (is_named_by_title known theorem) (names_theorems known rest) r.theorems in
+    let k = both (leb n most_facts) (few_facts before n (grown s t.made) rest) r.facts in
+    let j = both (leb m most_terms) (few_terms before m (grown s t.made) rest) r.terms in
+    let b = both (leb (count_blanks args) most_blanks) (few_blanks rest) r.blanks in
+    record {
+      good = record { title = h.0; entries = e.1; free = r.new_names.0; count = r.new_names.1 };
+      named = list_names names p.0;
+      few = r.new_names.2;
+      facts = leb-true _ _ k.0;
+      terms = leb-true _ _ j.0;
+      blanks = leb-true _ _ b.0;
+      next = record {
+        order = named_in_order i.in_scope t.made names r.order (list_names names p.0) r.new_names.0;
+        goal_sorts = r.goal_sorts;
+        plain = p.1;
+        fitting = subst (λ (z : Scope). list_all (line_fits before) (lines before rest rest z facts goal) ≡ true) scope f.1;
+        new_names = r.new_names.3;
+        few = omega (arith, r.few);
+        shallow = r.shallow;
+        good = r.good;
+        theorems = h.1;
+        blanks = b.1;
+        facts = subst (λ (z : Scope). few_facts before n z rest ≡ true) scope k.1;
+        terms = subst (λ (z : Scope). few_terms before m z rest ≡ true) scope j.1;
+      };
+    }
+
+apply_taken : (known : List Headed) (d : Draft) (i : Inside) (theorem : ℕ) (args : List (Option Obj)) (names : List (List ℕ)) (rest : Script) (given : List Lit) (goal : Goal) → Ready known d i (Apply theorem args names [] rest) given goal
+    → Taken known d (applied_behind i (theorem_of known theorem) theorem args names) rest → Taken known d i (Apply theorem args names [] rest)
+unfolding script_forms size
+apply_taken known d i theorem args names rest given goal r t =
+    let p = apply_parts known d i theorem args names rest given goal r in
+    let after = applied_behind i (theorem_of known theorem) theorem args names in
+    record {
+      last = t.last;
+      lines = omega (arith, t.lines);
+      runs = λ e h done. (
+        proving d after,
+        apply_named known i.in_scope theorem args names r.order p.good p.named,
+        step_apply known d i theorem args names r.order p.good p.few (omega (arith, r.few, at_least rest)) p.facts p.terms p.blanks,
+        refl,
+        t.runs e (one_more d t.last i (Applied theorem args names []) rest e h) done,
+      );
+    }
+
 -- ---- a claim
 
-record ClaimParts (i : Inside) (shown : List Lit) (inner rest : Script) (given : List Lit) (goal : Goal) : Type 0 where
+record ClaimParts (known : List Headed) (i : Inside) (shown : List Lit) (inner rest : Script) (given : List Lit) (goal : Goal) : Type 0 where
   some : 0 < length shown
   plain_inner : is_plain inner ≡ true
   plain_rest : is_plain rest ≡ true
   plain : Plain i.in_scope shown
-  fit_inner : list_all fits (lines inner (scope_of_names i.in_scope) given (goal_of shown)) ≡ true
-  fit_rest : list_all fits (lines rest (scope_of_names i.in_scope) (joined_all given shown) goal) ≡ true
+  fit_inner : list_all (line_fits (stated_by known)) (lines (stated_by known) inner inner (scope_of_names i.in_scope) given (goal_of shown)) ≡ true
+  fit_rest : list_all (line_fits (stated_by known)) (lines (stated_by known) rest rest (scope_of_names i.in_scope) (joined_all given shown) goal) ≡ true
   good_inner : has_good_literals inner ≡ true
+  theorems_inner : names_theorems known inner ≡ true
+  blanks_inner : few_blanks inner ≡ true
   good_rest : has_good_literals rest ≡ true
-  facts_inner : few_facts i.facts (scope_of_names i.in_scope) inner ≡ true
+  theorems_rest : names_theorems known rest ≡ true
+  blanks_rest : few_blanks rest ≡ true
+  facts_inner : few_facts (stated_by known) i.facts (scope_of_names i.in_scope) inner ≡ true
   facts : i.facts + length shown ≤ most_facts
-  facts_rest : few_facts (i.facts + length shown) (scope_of_names i.in_scope) rest ≡ true
-  terms_inner : few_terms i.terms (scope_of_names i.in_scope) inner ≡ true
+  facts_rest : few_facts (stated_by known) (i.facts + length shown) (scope_of_names i.in_scope) rest ≡ true
+  terms_inner : few_terms (stated_by known) i.terms (scope_of_names i.in_scope) inner ≡ true
   terms : i.terms + count_monomials shown ≤ most_terms
-  terms_rest : few_terms (i.terms + count_monomials shown) (scope_of_names i.in_scope) rest ≡ true
+  terms_rest : few_terms (stated_by known) (i.terms + count_monomials shown) (scope_of_names i.in_scope) rest ≡ true
 
-claim_parts : (d : Draft) (i : Inside) (shown : List Lit) (inner rest : Script) (given : List Lit) (goal : Goal) → Ready d i (Claim shown inner rest) given goal → ClaimParts i shown inner rest given goal
-unfolding is_plain lines has_good_literals few_facts few_terms
-claim_parts d i shown inner rest given goal r =
+claim_parts : (known : List Headed) (d : Draft) (i : Inside) (shown : List Lit) (inner rest : Script) (given : List Lit) (goal : Goal) → Ready known d i (Claim shown inner rest) given goal → ClaimParts known i shown inner rest given goal
+unfolding is_plain lines has_good_literals few_facts few_terms names_theorems few_blanks
+claim_parts known d i shown inner rest given goal r =
     let s = scope_of_names i.in_scope in
     let facts = i.facts + length shown in
     let terms = i.terms + count_monomials shown in
-    let inside = lines inner s given (goal_of shown) in
-    let after = lines rest s (joined_all given shown) goal in
+    let inside = lines (stated_by known) inner inner s given (goal_of shown) in
+    let after = lines (stated_by known) rest rest s (joined_all given shown) goal in
     let p = both (ltb 0 (length shown)) (is_plain inner && is_plain rest) r.plain in
     let pp = both (is_plain inner) (is_plain rest) p.1 in
-    let f = both (are_over s shown) (list_all fits (inside ++ after)) r.fitting in
-    let ff = both_fit inside after f.1 in
+    let f = both (are_over s shown) (list_all (line_fits (stated_by known)) (inside ++ after)) r.fitting in
+    let ff = both_fit known inside after f.1 in
     let g = both (list_all is_well_formed shown) (has_good_literals inner && has_good_literals rest) r.good in
     let gg = both (has_good_literals inner) (has_good_literals rest) g.1 in
-    let n = both (few_facts i.facts s inner) (leb facts most_facts && few_facts facts s rest) r.facts in
-    let nn = both (leb facts most_facts) (few_facts facts s rest) n.1 in
-    let m = both (few_terms i.terms s inner) (leb terms most_terms && few_terms terms s rest) r.terms in
-    let mm = both (leb terms most_terms) (few_terms terms s rest) m.1 in
+    let th = both (names_theorems known inner) (names_theorems known rest) r.theorems in
+    let bl = both (few_blanks inner) (few_blanks rest) r.blanks in
+    let n = both (few_facts (stated_by known) i.facts s inner) (leb facts most_facts && few_facts (stated_by known) facts s rest) r.facts in
+    let nn = both (leb facts most_facts) (few_facts (stated_by known) facts s rest) n.1 in
+    let m = both (few_terms (stated_by known) i.terms s inner) (leb terms most_terms && few_terms (stated_by known) terms s rest) r.terms in
+    let mm = both (leb terms most_terms) (few_terms (stated_by known) terms s rest) m.1 in
     record {
       some = ltb-true 0 (length shown) p.0;
       plain_inner = pp.0;
@@ -274,6 +364,10 @@ claim_parts d i shown inner rest given goal r =
       fit_rest = ff.1;
       good_inner = gg.0;
       good_rest = gg.1;
+      theorems_inner = th.0;
+      theorems_rest = th.1;
+      blanks_inner = bl.0;
+      blanks_rest = bl.1;
       facts_inner = n.0;
       facts = leb-true _ _ nn.0;
       facts_rest = nn.1;
@@ -283,13 +377,13 @@ claim_parts d i shown inner rest given goal r =
     }
 
 -- an inner block of a claim has as many facts as the block around it
-no_more_facts : (n : ℕ) (s : Scope) (inner : Script) → few_facts n s inner ≡ true → few_facts (n + 0) s inner ≡ true
-no_more_facts n s inner h = subst (λ (k : ℕ). few_facts k s inner ≡ true) (omega arith) h
+no_more_facts : (known : List Headed) (n : ℕ) (s : Scope) (inner : Script) → few_facts (stated_by known) n s inner ≡ true → few_facts (stated_by known) (n + 0) s inner ≡ true
+no_more_facts known n s inner h = subst (λ (k : ℕ). few_facts (stated_by known) k s inner ≡ true) (omega arith) h
 
-claim_inner : (d : Draft) (i : Inside) (shown : List Lit) (inner rest : Script) (given : List Lit) (goal : Goal) → Ready d i (Claim shown inner rest) given goal → Ready d (deep i (opened.Claim shown) 0) inner given (goal_of shown)
+claim_inner : (known : List Headed) (d : Draft) (i : Inside) (shown : List Lit) (inner rest : Script) (given : List Lit) (goal : Goal) → Ready known d i (Claim shown inner rest) given goal → Ready known d (deep i (opened.Claim shown) 0) inner given (goal_of shown)
 unfolding NewNamesFit size depth
-claim_inner d i shown inner rest given goal r =
-    let p = claim_parts d i shown inner rest given goal r in
+claim_inner known d i shown inner rest given goal r =
+    let p = claim_parts known d i shown inner rest given goal r in
     record {
       order = r.order;
       goal_sorts = refl;
@@ -299,15 +393,17 @@ claim_inner d i shown inner rest given goal r =
       few = omega (arith, r.few);
       shallow = omega (arith, r.shallow);
       good = p.good_inner;
-      facts = no_more_facts i.facts (scope_of_names i.in_scope) inner p.facts_inner;
+      theorems = p.theorems_inner;
+      blanks = p.blanks_inner;
+      facts = no_more_facts known i.facts (scope_of_names i.in_scope) inner p.facts_inner;
       terms = p.terms_inner;
     }
 
-claim_rest : (d : Draft) (i : Inside) (n : ℕ) (shown : List Lit) (inner rest : Script) (given : List Lit) (goal : Goal) → n ≡ i.lines + 1 + size inner → Ready d i (Claim shown inner rest) given goal
-    → Ready d (resume i n (Claimed shown inner) shown) rest (joined_all given shown) goal
+claim_rest : (known : List Headed) (d : Draft) (i : Inside) (n : ℕ) (shown : List Lit) (inner rest : Script) (given : List Lit) (goal : Goal) → n ≡ i.lines + 1 + size inner → Ready known d i (Claim shown inner rest) given goal
+    → Ready known d (resume i n (Claimed shown inner) shown) rest (joined_all given shown) goal
 unfolding NewNamesFit size depth
-claim_rest d i n shown inner rest given goal e r =
-    let p = claim_parts d i shown inner rest given goal r in
+claim_rest known d i n shown inner rest given goal e r =
+    let p = claim_parts known d i shown inner rest given goal r in
     record {
       order = r.order;
       goal_sorts = r.goal_sorts;
@@ -317,15 +413,17 @@ claim_rest d i n shown inner rest given goal e r =
       few = omega (arith, r.few, e);
       shallow = omega (arith, r.shallow);
       good = p.good_rest;
+      theorems = p.theorems_rest;
+      blanks = p.blanks_rest;
       facts = p.facts_rest;
       terms = p.terms_rest;
     }
 
-claim_taken : (known : List Headed) (d : Draft) (i : Inside) (shown : List Lit) (inner rest : Script) (given : List Lit) (goal : Goal) → Ready d i (Claim shown inner rest) given goal
+claim_taken : (known : List Headed) (d : Draft) (i : Inside) (shown : List Lit) (inner rest : Script) (given : List Lit) (goal : Goal) → Ready known d i (Claim shown inner rest) given goal
     → (t : Taken known d (deep i (opened.Claim shown) 0) inner) → Taken known d (resume i t.last.lines (Claimed shown inner) shown) rest → Taken known d i (Claim shown inner rest)
 unfolding script_forms size depth
 claim_taken known d i shown inner rest given goal r t u =
-    let p = claim_parts d i shown inner rest given goal r in
+    let p = claim_parts known d i shown inner rest given goal r in
     let begins = deep i (opened.Claim shown) 0 in
     let after = resume i t.last.lines (Claimed shown inner) shown in
     let few : i.facts + 0 ≤ most_facts = omega (arith, p.facts) in
@@ -335,9 +433,9 @@ claim_taken known d i shown inner rest given goal r t u =
       runs = λ e h done. (
         proving d begins,
         lits_named i.in_scope shown r.order p.plain p.some,
-        step_claim d i shown r.order p.plain (omega (arith, r.few, at_least rest)) (omega (arith, r.shallow, deep_at_least inner)) few,
+        step_claim known d i shown r.order p.plain (omega (arith, r.few, at_least rest)) (omega (arith, r.shallow, deep_at_least inner)) few,
         refl,
-        runs_append known (Some (proving d begins)) (Some (proving d after)) (Some e) (script_forms i.in_scope inner) (script_forms i.in_scope rest)
+        runs_append known (Some (proving d begins)) (Some (proving d after)) (Some e) (script_forms known i.in_scope inner) (script_forms known i.in_scope rest)
             (t.runs (proving d after) (claim_closed d i t.last shown (steps_of inner) (close_of inner) inner (same_script inner p.plain_inner) p.facts p.terms) refl)
             (u.runs e (one_more d u.last i (Claimed shown inner) rest e h) done),
       );
@@ -345,28 +443,32 @@ claim_taken known d i shown inner rest given goal r t u =
 
 -- ---- a superposition
 
-record CopyParts (i : Inside) (form : Superpose) (names : List (List ℕ)) (shown : List Lit) (inner rest : Script) (given : List Lit) (goal : Goal) : Type 0 where
+record CopyParts (known : List Headed) (i : Inside) (form : Superpose) (names : List (List ℕ)) (shown : List Lit) (inner rest : Script) (given : List Lit) (goal : Goal) : Type 0 where
   good : GoodSuperpose i.in_scope form names shown
   few : few_objects (named i.in_scope superposing.made names) ≡ Ok tt
   plain_inner : is_plain inner ≡ true
   plain_rest : is_plain rest ≡ true
-  fit_inner : list_all fits (lines inner (scope_of_names (named i.in_scope superposing.made names)) (joined_all given (superposing.gives form (scope_of_names i.in_scope))) (goal_of shown)) ≡ true
-  fit_rest : list_all fits (lines rest (scope_of_names i.in_scope) (joined_all given shown) goal) ≡ true
+  fit_inner : list_all (line_fits (stated_by known)) (lines (stated_by known) inner inner (scope_of_names (named i.in_scope superposing.made names)) (joined_all given (superposing.gives form (scope_of_names i.in_scope))) (goal_of shown)) ≡ true
+  fit_rest : list_all (line_fits (stated_by known)) (lines (stated_by known) rest rest (scope_of_names i.in_scope) (joined_all given shown) goal) ≡ true
   good_inner : has_good_literals inner ≡ true
+  theorems_inner : names_theorems known inner ≡ true
+  blanks_inner : few_blanks inner ≡ true
   good_rest : has_good_literals rest ≡ true
+  theorems_rest : names_theorems known rest ≡ true
+  blanks_rest : few_blanks rest ≡ true
   facts_first : (copied i form names shown).facts ≤ most_facts
-  facts_inner : few_facts (copied i form names shown).facts (scope_of_names (named i.in_scope superposing.made names)) inner ≡ true
+  facts_inner : few_facts (stated_by known) (copied i form names shown).facts (scope_of_names (named i.in_scope superposing.made names)) inner ≡ true
   facts : i.facts + length shown ≤ most_facts
-  facts_rest : few_facts (i.facts + length shown) (scope_of_names i.in_scope) rest ≡ true
+  facts_rest : few_facts (stated_by known) (i.facts + length shown) (scope_of_names i.in_scope) rest ≡ true
   terms_first : (copied i form names shown).terms ≤ most_terms
-  terms_inner : few_terms (copied i form names shown).terms (scope_of_names (named i.in_scope superposing.made names)) inner ≡ true
+  terms_inner : few_terms (stated_by known) (copied i form names shown).terms (scope_of_names (named i.in_scope superposing.made names)) inner ≡ true
   terms : i.terms + count_monomials shown ≤ most_terms
-  terms_rest : few_terms (i.terms + count_monomials shown) (scope_of_names i.in_scope) rest ≡ true
+  terms_rest : few_terms (stated_by known) (i.terms + count_monomials shown) (scope_of_names i.in_scope) rest ≡ true
 
-copy_parts : (d : Draft) (i : Inside) (form : Superpose) (names : List (List ℕ)) (shown : List Lit) (inner rest : Script) (given : List Lit) (goal : Goal) → Ready d i (Superposed form names shown [] inner rest) given goal
-    → CopyParts i form names shown inner rest given goal
-unfolding is_plain lines NewNamesFit has_good_literals few_facts few_terms
-copy_parts d i form names shown inner rest given goal r =
+copy_parts : (known : List Headed) (d : Draft) (i : Inside) (form : Superpose) (names : List (List ℕ)) (shown : List Lit) (inner rest : Script) (given : List Lit) (goal : Goal) → Ready known d i (Superposed form names shown [] inner rest) given goal
+    → CopyParts known i form names shown inner rest given goal
+unfolding is_plain lines NewNamesFit has_good_literals few_facts few_terms names_theorems few_blanks
+copy_parts known d i form names shown inner rest given goal r =
     let s = scope_of_names i.in_scope in
     let t = grown s superposing.made in
     let gives = superposing.gives form s in
@@ -376,46 +478,52 @@ copy_parts d i form names shown inner rest given goal r =
     let m = i.terms + count_monomials gives in
     let facts = i.facts + length shown in
     let terms = i.terms + count_monomials shown in
-    let inside = lines inner t begun (goal_of shown) in
-    let after = lines rest s (joined_all given shown) goal in
+    let inside = lines (stated_by known) inner inner t begun (goal_of shown) in
+    let after = lines (stated_by known) rest rest s (joined_all given shown) goal in
     let p = both (list_all is_name names) (ltb 0 (length shown) && (is_plain inner && is_plain rest)) r.plain in
     let q = both (ltb 0 (length shown)) (is_plain inner && is_plain rest) p.1 in
     let pp = both (is_plain inner) (is_plain rest) q.1 in
-    let f = both (superposing.fits form s && are_over s shown) (list_all fits (inside ++ after)) r.fitting in
+    let f = both (superposing.fits form s && are_over s shown) (list_all (line_fits (stated_by known)) (inside ++ after)) r.fitting in
     let fs = both (superposing.fits form s) (are_over s shown) f.0 in
-    let ff = both_fit inside after f.1 in
+    let ff = both_fit known inside after f.1 in
     let g = both (list_all is_well_formed shown) (has_good_literals inner && has_good_literals rest) r.good in
     let gg = both (has_good_literals inner) (has_good_literals rest) g.1 in
-    let a = both (leb n most_facts) (few_facts n t inner && (leb facts most_facts && few_facts facts s rest)) r.facts in
-    let aa = both (few_facts n t inner) (leb facts most_facts && few_facts facts s rest) a.1 in
-    let ab = both (leb facts most_facts) (few_facts facts s rest) aa.1 in
-    let b = both (leb m most_terms) (few_terms m t inner && (leb terms most_terms && few_terms terms s rest)) r.terms in
-    let ba = both (few_terms m t inner) (leb terms most_terms && few_terms terms s rest) b.1 in
-    let bb = both (leb terms most_terms) (few_terms terms s rest) ba.1 in
+    let th = both (names_theorems known inner) (names_theorems known rest) r.theorems in
+    let bl = both (few_blanks inner) (few_blanks rest) r.blanks in
+    let a = both (leb n most_facts) (few_facts (stated_by known) n t inner && (leb facts most_facts && few_facts (stated_by known) facts s rest)) r.facts in
+    let aa = both (few_facts (stated_by known) n t inner) (leb facts most_facts && few_facts (stated_by known) facts s rest) a.1 in
+    let ab = both (leb facts most_facts) (few_facts (stated_by known) facts s rest) aa.1 in
+    let b = both (leb m most_terms) (few_terms (stated_by known) m t inner && (leb terms most_terms && few_terms (stated_by known) terms s rest)) r.terms in
+    let ba = both (few_terms (stated_by known) m t inner) (leb terms most_terms && few_terms (stated_by known) terms s rest) b.1 in
+    let bb = both (leb terms most_terms) (few_terms (stated_by known) terms s rest) ba.1 in
     record {
       good = record { order = r.order; fits = fs.0; free = r.new_names.0; named = list_names names p.0; count = r.new_names.1; plain = record { within = fs.1; good = g.0 }; some = ltb-true 0 (length shown) q.0 };
       few = r.new_names.2;
       plain_inner = pp.0;
       plain_rest = pp.1;
-      fit_inner = subst (λ (z : Scope). list_all fits (lines inner z begun (goal_of shown)) ≡ true) scope ff.0;
+      fit_inner = subst (λ (z : Scope). list_all (line_fits (stated_by known)) (lines (stated_by known) inner inner z begun (goal_of shown)) ≡ true) scope ff.0;
       fit_rest = ff.1;
       good_inner = gg.0;
       good_rest = gg.1;
+      theorems_inner = th.0;
+      theorems_rest = th.1;
+      blanks_inner = bl.0;
+      blanks_rest = bl.1;
       facts_first = leb-true _ _ a.0;
-      facts_inner = subst (λ (z : Scope). few_facts n z inner ≡ true) scope aa.0;
+      facts_inner = subst (λ (z : Scope). few_facts (stated_by known) n z inner ≡ true) scope aa.0;
       facts = leb-true _ _ ab.0;
       facts_rest = ab.1;
       terms_first = leb-true _ _ b.0;
-      terms_inner = subst (λ (z : Scope). few_terms m z inner ≡ true) scope ba.0;
+      terms_inner = subst (λ (z : Scope). few_terms (stated_by known) m z inner ≡ true) scope ba.0;
       terms = leb-true _ _ bb.0;
       terms_rest = bb.1;
     }
 
-copy_inner : (d : Draft) (i : Inside) (form : Superpose) (names : List (List ℕ)) (shown : List Lit) (inner rest : Script) (given : List Lit) (goal : Goal) → Ready d i (Superposed form names shown [] inner rest) given goal
-    → Ready d (copied i form names shown) inner (joined_all given (superposing.gives form (scope_of_names i.in_scope))) (goal_of shown)
+copy_inner : (known : List Headed) (d : Draft) (i : Inside) (form : Superpose) (names : List (List ℕ)) (shown : List Lit) (inner rest : Script) (given : List Lit) (goal : Goal) → Ready known d i (Superposed form names shown [] inner rest) given goal
+    → Ready known d (copied i form names shown) inner (joined_all given (superposing.gives form (scope_of_names i.in_scope))) (goal_of shown)
 unfolding NewNamesFit size depth
-copy_inner d i form names shown inner rest given goal r =
-    let p = copy_parts d i form names shown inner rest given goal r in
+copy_inner known d i form names shown inner rest given goal r =
+    let p = copy_parts known d i form names shown inner rest given goal r in
     record {
       order = named_in_order i.in_scope superposing.made names r.order p.good.named p.good.free;
       goal_sorts = refl;
@@ -425,15 +533,17 @@ copy_inner d i form names shown inner rest given goal r =
       few = omega (arith, r.few);
       shallow = omega (arith, r.shallow);
       good = p.good_inner;
+      theorems = p.theorems_inner;
+      blanks = p.blanks_inner;
       facts = p.facts_inner;
       terms = p.terms_inner;
     }
 
-copy_rest : (d : Draft) (i : Inside) (n : ℕ) (form : Superpose) (names : List (List ℕ)) (shown : List Lit) (inner rest : Script) (given : List Lit) (goal : Goal) → n ≡ i.lines + 1 + size inner
-    → Ready d i (Superposed form names shown [] inner rest) given goal → Ready d (resume i n (Copied form names shown [] inner) shown) rest (joined_all given shown) goal
+copy_rest : (known : List Headed) (d : Draft) (i : Inside) (n : ℕ) (form : Superpose) (names : List (List ℕ)) (shown : List Lit) (inner rest : Script) (given : List Lit) (goal : Goal) → n ≡ i.lines + 1 + size inner
+    → Ready known d i (Superposed form names shown [] inner rest) given goal → Ready known d (resume i n (Copied form names shown [] inner) shown) rest (joined_all given shown) goal
 unfolding NewNamesFit size depth
-copy_rest d i n form names shown inner rest given goal e r =
-    let p = copy_parts d i form names shown inner rest given goal r in
+copy_rest known d i n form names shown inner rest given goal e r =
+    let p = copy_parts known d i form names shown inner rest given goal r in
     record {
       order = r.order;
       goal_sorts = r.goal_sorts;
@@ -443,15 +553,17 @@ copy_rest d i n form names shown inner rest given goal e r =
       few = omega (arith, r.few, e);
       shallow = omega (arith, r.shallow);
       good = p.good_rest;
+      theorems = p.theorems_rest;
+      blanks = p.blanks_rest;
       facts = p.facts_rest;
       terms = p.terms_rest;
     }
 
-copy_taken : (known : List Headed) (d : Draft) (i : Inside) (form : Superpose) (names : List (List ℕ)) (shown : List Lit) (inner rest : Script) (given : List Lit) (goal : Goal) → Ready d i (Superposed form names shown [] inner rest) given goal
+copy_taken : (known : List Headed) (d : Draft) (i : Inside) (form : Superpose) (names : List (List ℕ)) (shown : List Lit) (inner rest : Script) (given : List Lit) (goal : Goal) → Ready known d i (Superposed form names shown [] inner rest) given goal
     → (t : Taken known d (copied i form names shown) inner) → Taken known d (resume i t.last.lines (Copied form names shown [] inner) shown) rest → Taken known d i (Superposed form names shown [] inner rest)
 unfolding script_forms size depth
 copy_taken known d i form names shown inner rest given goal r t u =
-    let p = copy_parts d i form names shown inner rest given goal r in
+    let p = copy_parts known d i form names shown inner rest given goal r in
     let begins = copied i form names shown in
     let after = resume i t.last.lines (Copied form names shown [] inner) shown in
     record {
@@ -460,9 +572,9 @@ copy_taken known d i form names shown inner rest given goal r t u =
       runs = λ e h done. (
         proving d begins,
         superpose_named i.in_scope form names shown p.good,
-        step_superpose d i form names shown p.good p.few (omega (arith, r.few, at_least rest)) (omega (arith, r.shallow, deep_at_least inner)) p.facts_first p.terms_first,
+        step_superpose known d i form names shown p.good p.few (omega (arith, r.few, at_least rest)) (omega (arith, r.shallow, deep_at_least inner)) p.facts_first p.terms_first,
         refl,
-        runs_append known (Some (proving d begins)) (Some (proving d after)) (Some e) (script_forms begins.in_scope inner) (script_forms i.in_scope rest)
+        runs_append known (Some (proving d begins)) (Some (proving d after)) (Some e) (script_forms known begins.in_scope inner) (script_forms known i.in_scope rest)
             (t.runs (proving d after) (superpose_closed d i t.last form names shown (steps_of inner) (close_of inner) inner (same_script inner p.plain_inner) p.facts p.terms) refl)
             (u.runs e (one_more d u.last i (Copied form names shown [] inner) rest e h) done),
       );
@@ -473,38 +585,44 @@ copy_taken known d i form names shown inner rest given goal r t u =
 abbrev opens : Inside → Lit → Inside
 opens i l = written (deep i (opened.First l) 1) (monomials l.atom)
 
-record CasesParts (i : Inside) (l : Lit) (one two : Script) (given : List Lit) (goal : Goal) : Type 0 where
+record CasesParts (known : List Headed) (i : Inside) (l : Lit) (one two : Script) (given : List Lit) (goal : Goal) : Type 0 where
   plain_first : is_plain one ≡ true
   plain_second : is_plain two ≡ true
   plain : PlainLit i.in_scope l
-  fit_first : list_all fits (lines one (scope_of_names i.in_scope) (joined given l) goal) ≡ true
-  fit_second : list_all fits (lines two (scope_of_names i.in_scope) (joined given (negation l)) goal) ≡ true
+  fit_first : list_all (line_fits (stated_by known)) (lines (stated_by known) one one (scope_of_names i.in_scope) (joined given l) goal) ≡ true
+  fit_second : list_all (line_fits (stated_by known)) (lines (stated_by known) two two (scope_of_names i.in_scope) (joined given (negation l)) goal) ≡ true
   good_first : has_good_literals one ≡ true
+  theorems_first : names_theorems known one ≡ true
+  blanks_first : few_blanks one ≡ true
   good_second : has_good_literals two ≡ true
+  theorems_second : names_theorems known two ≡ true
+  blanks_second : few_blanks two ≡ true
   facts : i.facts + 1 ≤ most_facts
-  facts_first : few_facts (i.facts + 1) (scope_of_names i.in_scope) one ≡ true
-  facts_second : few_facts (i.facts + 1) (scope_of_names i.in_scope) two ≡ true
+  facts_first : few_facts (stated_by known) (i.facts + 1) (scope_of_names i.in_scope) one ≡ true
+  facts_second : few_facts (stated_by known) (i.facts + 1) (scope_of_names i.in_scope) two ≡ true
   terms : i.terms + monomials l.atom ≤ most_terms
-  terms_first : few_terms (i.terms + monomials l.atom) (scope_of_names i.in_scope) one ≡ true
-  terms_second : few_terms (i.terms + monomials l.atom) (scope_of_names i.in_scope) two ≡ true
+  terms_first : few_terms (stated_by known) (i.terms + monomials l.atom) (scope_of_names i.in_scope) one ≡ true
+  terms_second : few_terms (stated_by known) (i.terms + monomials l.atom) (scope_of_names i.in_scope) two ≡ true
 
-cases_parts : (d : Draft) (i : Inside) (l : Lit) (one two : Script) (given : List Lit) (goal : Goal) → Ready d i (Cases l one two) given goal → CasesParts i l one two given goal
-unfolding is_plain lines has_good_literals few_facts few_terms
-cases_parts d i l one two given goal r =
+cases_parts : (known : List Headed) (d : Draft) (i : Inside) (l : Lit) (one two : Script) (given : List Lit) (goal : Goal) → Ready known d i (Cases l one two) given goal → CasesParts known i l one two given goal
+unfolding is_plain lines has_good_literals few_facts few_terms names_theorems few_blanks
+cases_parts known d i l one two given goal r =
     let s = scope_of_names i.in_scope in
     let n = i.facts + 1 in
     let m = i.terms + monomials l.atom in
-    let in_one = lines one s (joined given l) goal in
-    let in_two = lines two s (joined given (negation l)) goal in
+    let in_one = lines (stated_by known) one one s (joined given l) goal in
+    let in_two = lines (stated_by known) two two s (joined given (negation l)) goal in
     let p = both (is_plain one) (is_plain two) r.plain in
-    let f = both (all_in_scope s l) (list_all fits (in_one ++ in_two)) r.fitting in
-    let ff = both_fit in_one in_two f.1 in
+    let f = both (all_in_scope s l) (list_all (line_fits (stated_by known)) (in_one ++ in_two)) r.fitting in
+    let ff = both_fit known in_one in_two f.1 in
     let g = both (is_well_formed l) (has_good_literals one && has_good_literals two) r.good in
     let gg = both (has_good_literals one) (has_good_literals two) g.1 in
-    let a = both (leb n most_facts) (few_facts n s one && few_facts n s two) r.facts in
-    let aa = both (few_facts n s one) (few_facts n s two) a.1 in
-    let b = both (leb m most_terms) (few_terms m s one && few_terms m s two) r.terms in
-    let bb = both (few_terms m s one) (few_terms m s two) b.1 in
+    let th = both (names_theorems known one) (names_theorems known two) r.theorems in
+    let bl = both (few_blanks one) (few_blanks two) r.blanks in
+    let a = both (leb n most_facts) (few_facts (stated_by known) n s one && few_facts (stated_by known) n s two) r.facts in
+    let aa = both (few_facts (stated_by known) n s one) (few_facts (stated_by known) n s two) a.1 in
+    let b = both (leb m most_terms) (few_terms (stated_by known) m s one && few_terms (stated_by known) m s two) r.terms in
+    let bb = both (few_terms (stated_by known) m s one) (few_terms (stated_by known) m s two) b.1 in
     record {
       plain_first = p.0;
       plain_second = p.1;
@@ -513,6 +631,10 @@ cases_parts d i l one two given goal r =
       fit_second = ff.1;
       good_first = gg.0;
       good_second = gg.1;
+      theorems_first = th.0;
+      theorems_second = th.1;
+      blanks_first = bl.0;
+      blanks_second = bl.1;
       facts = leb-true _ _ a.0;
       facts_first = aa.0;
       facts_second = aa.1;
@@ -521,10 +643,10 @@ cases_parts d i l one two given goal r =
       terms_second = bb.1;
     }
 
-cases_first : (d : Draft) (i : Inside) (l : Lit) (one two : Script) (given : List Lit) (goal : Goal) → Ready d i (Cases l one two) given goal → Ready d (opens i l) one (joined given l) goal
+cases_first : (known : List Headed) (d : Draft) (i : Inside) (l : Lit) (one two : Script) (given : List Lit) (goal : Goal) → Ready known d i (Cases l one two) given goal → Ready known d (opens i l) one (joined given l) goal
 unfolding NewNamesFit size depth
-cases_first d i l one two given goal r =
-    let p = cases_parts d i l one two given goal r in
+cases_first known d i l one two given goal r =
+    let p = cases_parts known d i l one two given goal r in
     record {
       order = r.order;
       goal_sorts = r.goal_sorts;
@@ -534,15 +656,17 @@ cases_first d i l one two given goal r =
       few = omega (arith, r.few);
       shallow = omega (arith, r.shallow);
       good = p.good_first;
+      theorems = p.theorems_first;
+      blanks = p.blanks_first;
       facts = p.facts_first;
       terms = p.terms_first;
     }
 
-cases_second : (d : Draft) (i : Inside) (n : ℕ) (l : Lit) (one two : Script) (given : List Lit) (goal : Goal) → n ≡ i.lines + 1 + size one → Ready d i (Cases l one two) given goal
-    → Ready d (second i n l one) two (joined given (negation l)) goal
+cases_second : (known : List Headed) (d : Draft) (i : Inside) (n : ℕ) (l : Lit) (one two : Script) (given : List Lit) (goal : Goal) → n ≡ i.lines + 1 + size one → Ready known d i (Cases l one two) given goal
+    → Ready known d (second i n l one) two (joined given (negation l)) goal
 unfolding NewNamesFit size depth
-cases_second d i n l one two given goal e r =
-    let p = cases_parts d i l one two given goal r in
+cases_second known d i n l one two given goal e r =
+    let p = cases_parts known d i l one two given goal r in
     record {
       order = r.order;
       goal_sorts = r.goal_sorts;
@@ -552,15 +676,17 @@ cases_second d i n l one two given goal e r =
       few = omega (arith, r.few, e);
       shallow = omega (arith, r.shallow);
       good = p.good_second;
+      theorems = p.theorems_second;
+      blanks = p.blanks_second;
       facts = p.facts_second;
       terms = p.terms_second;
     }
 
-cases_taken : (known : List Headed) (d : Draft) (i : Inside) (l : Lit) (one two : Script) (given : List Lit) (goal : Goal) → Ready d i (Cases l one two) given goal
+cases_taken : (known : List Headed) (d : Draft) (i : Inside) (l : Lit) (one two : Script) (given : List Lit) (goal : Goal) → Ready known d i (Cases l one two) given goal
     → (t : Taken known d (opens i l) one) → Taken known d (second i t.last.lines l one) two → Taken known d i (Cases l one two)
 unfolding script_forms size depth
 cases_taken known d i l one two given goal r t u =
-    let p = cases_parts d i l one two given goal r in
+    let p = cases_parts known d i l one two given goal r in
     let between = second i t.last.lines l one in
     record {
       last = u.last;
@@ -568,13 +694,13 @@ cases_taken known d i l one two given goal r t u =
       runs = λ e h done. (
         proving d (opens i l),
         lit_named i.in_scope l r.order p.plain.within p.plain.good,
-        step_cases d i l r.order p.plain (omega (arith, r.few, at_least one)) (omega (arith, r.shallow, deep_at_least one)) p.facts p.terms,
+        step_cases known d i l r.order p.plain (omega (arith, r.few, at_least one)) (omega (arith, r.shallow, deep_at_least one)) p.facts p.terms,
         refl,
-        runs_append known (Some (proving d (opens i l))) (Some (splitting d between)) (Some e) (script_forms i.in_scope one) (else_form ∷ script_forms i.in_scope two)
+        runs_append known (Some (proving d (opens i l))) (Some (splitting d between)) (Some e) (script_forms known i.in_scope one) (else_form ∷ script_forms known i.in_scope two)
             (t.runs (splitting d between) (first_closed d i t.last l (steps_of one) (close_of one) one (same_script one p.plain_first)) refl) (
               proving d between,
               tt,
-              step_else d between,
+              step_else known d between,
               refl,
               u.runs e (second_closed d i u.last l one (steps_of two) (close_of two) two (same_script two p.plain_second) ∙ no_more d u.last i (closes.Cases l one two) e h) done,
             ),
@@ -586,7 +712,7 @@ cases_taken known d i l one two given goal r t u =
 abbrev one_line : Inside → Inside
 one_line i = record i { lines = i.lines + 1 }
 
-qed_taken : (known : List Headed) (d : Draft) (i : Inside) (os : List Obj) (given : List Lit) (goal : Goal) → Ready d i (Qed os []) given goal → Taken known d i (Qed os [])
+qed_taken : (known : List Headed) (d : Draft) (i : Inside) (os : List Obj) (given : List Lit) (goal : Goal) → Ready known d i (Qed os []) given goal → Taken known d i (Qed os [])
 unfolding script_forms lines size
 qed_taken known d i os given goal r =
     let s = scope_of_names i.in_scope in
@@ -598,37 +724,42 @@ qed_taken known d i os given goal r =
       runs = λ e c done. (
         e,
         objects_named i.in_scope os r.order (of_sorts_in_scope s (made_in i.outers d.made) os h),
-        step_qed d i os r.order h (omega (arith, r.few)) ∙ no_more d (one_line i) i (closes.Qed os) e c,
+        step_qed known d i os r.order h (omega (arith, r.few)) ∙ no_more d (one_line i) i (closes.Qed os) e c,
         done,
         refl,
       );
     }
 
-contradiction_taken : (known : List Headed) (d : Draft) (i : Inside) (given : List Lit) (goal : Goal) → Ready d i (Contradiction None) given goal → Taken known d i (Contradiction None)
+contradiction_taken : (known : List Headed) (d : Draft) (i : Inside) (given : List Lit) (goal : Goal) → Ready known d i (Contradiction None) given goal → Taken known d i (Contradiction None)
 unfolding script_forms size
 contradiction_taken known d i given goal r = record {
   last = one_line i;
   lines = refl;
-  runs = λ e c done. (e, tt, step_contradiction d i (omega (arith, r.few)) ∙ no_more d (one_line i) i closes.Contradiction e c, done, refl);
+  runs = λ e c done. (e, tt, step_contradiction known d i (omega (arith, r.few)) ∙ no_more d (one_line i) i closes.Contradiction e c, done, refl);
 }
 
 -- ---- all lines
 
-pub run_script : (known : List Headed) (d : Draft) (i : Inside) (script : Script) (given : List Lit) (goal : Goal) → Ready d i script given goal → Taken known d i script
+pub run_script : (known : List Headed) (d : Draft) (i : Inside) (script : Script) (given : List Lit) (goal : Goal) → Ready known d i script given goal → Taken known d i script
 unfolding is_plain
-run_script known d i (Cite b rest) given goal r = cite_taken known d i b rest given goal r (run_script known d (behind i (Cited b) 1) rest (joined given b.lit) goal (cite_ready d i b rest given goal r))
-run_script known d i (Hence l None rest) given goal r = hence_taken known d i l rest given goal r (run_script known d (inferred i l) rest (joined given l) goal (hence_ready d i l rest given goal r))
+run_script known d i (Cite b rest) given goal r = cite_taken known d i b rest given goal r (run_script known d (behind i (Cited b) 1) rest (joined given b.lit) goal (cite_ready known d i b rest given goal r))
+run_script known d i (Hence l None rest) given goal r = hence_taken known d i l rest given goal r (run_script known d (inferred i l) rest (joined given l) goal (hence_ready known d i l rest given goal r))
 run_script known d i (Hence l (Some cert) rest) given goal r = absurd (no_cert r.plain)
 run_script known d i (Make form names [] rest) given goal r =
-    make_taken known d i form names rest given goal r (run_script known d (constructed i form names) rest (joined_all given (gives form (scope_of_names i.in_scope))) goal (make_ready d i form names rest given goal r))
+    make_taken known d i form names rest given goal r (run_script known d (constructed i form names) rest (joined_all given (gives form (scope_of_names i.in_scope))) goal (make_ready known d i form names rest given goal r))
 run_script known d i (Make form names (c ∷ cs) rest) given goal r = absurd (no_cert r.plain)
+run_script known d i (Apply theorem args names [] rest) given goal r =
+    let p = apply_parts known d i theorem args names rest given goal r in
+    let t = theorem_of known theorem in
+    apply_taken known d i theorem args names rest given goal r (run_script known d (applied_behind i t theorem args names) rest (joined_all given (gives_of_use t (written_args args) (scope_of_names i.in_scope))) goal p.next)
+run_script known d i (Apply theorem args names (c ∷ cs) rest) given goal r = absurd (no_cert r.plain)
 run_script known d i (Claim shown inner rest) given goal r =
-    let t = run_script known d (deep i (opened.Claim shown) 0) inner given (goal_of shown) (claim_inner d i shown inner rest given goal r) in
-    let u = run_script known d (resume i t.last.lines (Claimed shown inner) shown) rest (joined_all given shown) goal (claim_rest d i t.last.lines shown inner rest given goal t.lines r) in
+    let t = run_script known d (deep i (opened.Claim shown) 0) inner given (goal_of shown) (claim_inner known d i shown inner rest given goal r) in
+    let u = run_script known d (resume i t.last.lines (Claimed shown inner) shown) rest (joined_all given shown) goal (claim_rest known d i t.last.lines shown inner rest given goal t.lines r) in
     claim_taken known d i shown inner rest given goal r t u
 run_script known d i (Superposed form names shown [] inner rest) given goal r =
-    let t = run_script known d (copied i form names shown) inner (joined_all given (superposing.gives form (scope_of_names i.in_scope))) (goal_of shown) (copy_inner d i form names shown inner rest given goal r) in
-    let u = run_script known d (resume i t.last.lines (Copied form names shown [] inner) shown) rest (joined_all given shown) goal (copy_rest d i t.last.lines form names shown inner rest given goal t.lines r) in
+    let t = run_script known d (copied i form names shown) inner (joined_all given (superposing.gives form (scope_of_names i.in_scope))) (goal_of shown) (copy_inner known d i form names shown inner rest given goal r) in
+    let u = run_script known d (resume i t.last.lines (Copied form names shown [] inner) shown) rest (joined_all given shown) goal (copy_rest known d i t.last.lines form names shown inner rest given goal t.lines r) in
     copy_taken known d i form names shown inner rest given goal r t u
 run_script known d i (Superposed form names shown (c ∷ cs) inner rest) given goal r = absurd (no_cert r.plain)
 run_script known d i (Qed os []) given goal r = qed_taken known d i os given goal r
@@ -636,6 +767,6 @@ run_script known d i (Qed os (c ∷ cs)) given goal r = absurd (no_cert r.plain)
 run_script known d i (Contradiction None) given goal r = contradiction_taken known d i given goal r
 run_script known d i (Contradiction (Some against)) given goal r = absurd (no_cert r.plain)
 run_script known d i (Cases l one two) given goal r =
-    let t = run_script known d (opens i l) one (joined given l) goal (cases_first d i l one two given goal r) in
-    let u = run_script known d (second i t.last.lines l one) two (joined given (negation l)) goal (cases_second d i t.last.lines l one two given goal t.lines r) in
+    let t = run_script known d (opens i l) one (joined given l) goal (cases_first known d i l one two given goal r) in
+    let u = run_script known d (second i t.last.lines l one) two (joined given (negation l)) goal (cases_second known d i t.last.lines l one two given goal t.lines r) in
     cases_taken known d i l one two given goal r t u

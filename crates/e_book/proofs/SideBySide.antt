@@ -1,9 +1,11 @@
 -- Titles and statements side by side.
-use Rattle.std.proofs.Common.{◌≡◌, ℕ, suc, false, cond, List, [], ◌∷◌, ◌++◌, length, length-append, refl, sym, ap, subst, arith}
+use Rattle.std.proofs.Common.{◌≡◌, ℕ, zero, suc, ◌<◌, false, cond, List, [], ◌∷◌, ◌++◌, length, get_or, length-append, refl, sym, ap, subst, ◌∙◌, arith}
 use Rattle.std.specs.List.{list_any}
 use Rattle.std.specs.Str.{bytes_eq}
 use Rattle.e_theorem.specs.declared.statement.Statement.{Statement}
-use Rattle.e_book.specs.Headed.{Headed, headed, side_by_side, titles, statements}
+use Rattle.e_theorem.specs.Statements.{stated, all_stated}
+use Rattle.e_deriv.specs.Lines.{theorem_at}
+use Rattle.e_book.specs.Headed.{Headed, headed, side_by_side, titles, statements, theorem_of}
 
 pub titles_of : (ts : List (List ℕ)) (ss : List Statement) → length ts ≡ length ss → titles (side_by_side ts ss) ≡ ts
 titles_of [] ss e = refl
@@ -21,6 +23,15 @@ length_side_by_side [] [] e = refl
 length_side_by_side [] (s ∷ ss) e = absurd (omega (arith, e))
 length_side_by_side (t ∷ ts) [] e = absurd (omega (arith, e))
 length_side_by_side (t ∷ ts) (s ∷ ss) e = ap suc (length_side_by_side ts ss (omega (arith, e)))
+
+-- what the statement at a place says
+pub statement_at : (ts : List (List ℕ)) (ss : List Statement) (k : ℕ) (s : Statement) → length ts ≡ length ss → k < length ss → s ≡ get_or ss k s → stated s ≡ theorem_of (side_by_side ts ss) k
+statement_at ts ss k s e lt h = said ss k lt h ∙ ap (λ (l : List Statement). theorem_at (all_stated l) k) (sym (statements_of ts ss e))
+  where
+    said : (ss : List Statement) (k : ℕ) → k < length ss → s ≡ get_or ss k s → stated s ≡ theorem_at (all_stated ss) k
+    said [] k lt h = absurd (omega (arith, lt))
+    said (x ∷ ss) zero lt h = ap stated h
+    said (x ∷ ss) (suc k) lt h = said ss k (omega (arith, lt)) h
 
 -- one more of each
 pub append_side_by_side : (ts : List (List ℕ)) (ss : List Statement) (t : List ℕ) (s : Statement) → length ts ≡ length ss

@@ -29,7 +29,7 @@ is_skipped (w ∷ ws) = starts_with_hash w
 -- the first line of a theorem begins it, and each other goes on
 unfoldable pub line_step : List Headed → Option Draft → List (List ℕ) → Result Draft Kind
 line_step known None words = form_of words >>= λ f. begin known f
-line_step known (Some d) words = form_of words >>= λ f. step d f
+line_step known (Some d) words = form_of words >>= λ f. step known d f
 
 abbrev pub put_at : {A : Type 0} → ℕ → Result A Kind → Result A BookFault
 put_at line (Ok x) = Ok x

@@ -1,5 +1,5 @@
 -- The canonical spelling: the words of each form, and the lines of each theorem, in order.
-use Rattle.std.specs.Prelude.{ℕ, Bool, true, false, List, [], ◌∷◌, ◌++◌, map, codes, decimal, ◌==◌, slice_index_or, if◌then◌else◌}
+use Rattle.std.specs.Prelude.{ℕ, Bool, true, false, Option, Some, None, List, [], ◌∷◌, ◌++◌, map, codes, decimal, ◌==◌, slice_index_or, if◌then◌else◌}
 use Rattle.std.specs.List.{flat_map}
 use Rattle.std.specs.Option.{option_map_or}
 use Rattle.e_text.specs.Tokens.{joined}
@@ -26,7 +26,7 @@ use Rattle.e_theorem.specs.declared.statement.Statement.{Statement}
 use Rattle.e_theorem.specs.Statements.{stated}
 use Rattle.e_deriv.specs.declared.names.Names.{Names}
 use Rattle.e_deriv.specs.Naming.{names_of_sort, named, declared_names}
-use Rattle.e_deriv.specs.Script.{Script, Cite, Hence, Make, Claim, Superposed, Qed, Contradiction, Cases}
+use Rattle.e_deriv.specs.Script.{Script, Cite, Hence, Make, Apply, Claim, Superposed, Qed, Contradiction, Cases}
 use Rattle.e_book.specs.declared.sum.RawTerm.{RawTerm}
 use Rattle.e_book.specs.declared.sum.RawTerm.TheVariants as rawterms
 use Rattle.e_book.specs.declared.sum.RawMono.{RawMono}
@@ -35,9 +35,11 @@ use Rattle.e_book.specs.declared.literal.RawAtom.{RawAtom}
 use Rattle.e_book.specs.declared.literal.RawAtom.TheVariants as raw
 use Rattle.e_book.specs.declared.lets.RawLet.{RawLet}
 use Rattle.e_book.specs.declared.superposes.RawSuperpose.{RawSuperpose}
+use Rattle.e_book.specs.declared.applies.RawApply.{RawApply}
 use Rattle.e_book.specs.declared.form.Form.{Form}
 use Rattle.e_book.specs.declared.form.Form.TheVariants as forms
 use Rattle.e_book.specs.Superposes.{superpose_pieces}
+use Rattle.e_book.specs.Headed.{Headed, title_at, theorem_of}
 use Rattle.e_book.specs.Entry.{Entry}
 
 -- ---- sums
@@ -143,6 +145,19 @@ let_words l = filled (line_pieces l.shapes) l.new l.args ++ avoid_words l.avoid
 abbrev pub superpose_words : RawSuperpose → List (List ℕ)
 superpose_words s = filled superpose_pieces s.new s.args ++ lits_words s.shown
 
+-- an argument: a name, or the blank
+abbrev pub argument_word : Option (List ℕ) → List ℕ
+argument_word None = codes "_"
+argument_word (Some n) = n
+
+-- the names of made objects, if there are any
+abbrev pub made_words : List (List ℕ) → List (List ℕ)
+made_words [] = []
+made_words (n ∷ ns) = codes "as" ∷ n ∷ ns
+
+abbrev pub apply_words : RawApply → List (List ℕ)
+apply_words a = a.title ∷ (map argument_word a.args ++ made_words a.new)
+
 abbrev pub form_words : Form → List (List ℕ)
 form_words (forms.Theorem t) = codes "theorem" ∷ t ∷ []
 form_words (forms.Declare sort ns) = sort_word sort ∷ ns
@@ -153,6 +168,7 @@ form_words forms.Proof = codes "proof" ∷ []
 form_words (forms.By r ns l) = codes "by" ∷ r ∷ (ns ++ codes ":" ∷ lit_words l)
 form_words (forms.Hence l) = codes "hence" ∷ lit_words l
 form_words (forms.Let l) = codes "let" ∷ let_words l
+form_words (forms.Apply a) = codes "apply" ∷ apply_words a
 form_words (forms.Qed ns) = codes "qed" ∷ ns
 form_words forms.Contradiction = codes "contradiction" ∷ []
 form_words (forms.Claim ls) = codes "claim" ∷ lits_words ls
@@ -230,6 +246,15 @@ hence_form ns l = forms.Hence (raw_of ns l)
 abbrev pub let_form : Names → Construction → List (List ℕ) → Form
 let_form ns form names =
     forms.Let (record { shapes = form.shape ∷ []; new = names; args = map (name_of_object ns) form.args; avoid = map (name_of_object ns) form.avoid })
+
+-- what stands for a declared object of an earlier theorem: the name of an object, or a blank
+abbrev pub argument_name : Names → Option Obj → Option (List ℕ)
+argument_name ns None = None
+argument_name ns (Some o) = Some (name_of_object ns o)
+
+-- the line that uses the theorem at a place, by its title
+abbrev pub apply_form : List Headed → Names → ℕ → List (Option Obj) → List (List ℕ) → Form
+apply_form known ns theorem args names = forms.Apply (record { title = title_at known theorem; args = map (argument_name ns) args; new = names })
 
 abbrev pub claim_form : Names → List Lit → Form
 claim_form ns shown = forms.Claim (map (raw_of ns) shown)
@@ -310,24 +335,26 @@ end_form = forms.End
 
 -- the forms of a script's lines, where these names are in scope before the first: those of new objects come into scope
 -- behind the line that makes them, and those of an inner block are gone behind it
-unfoldable pub script_forms : Names → Script → List Form
-script_forms ns (Cite by rest) = by_form ns by ∷ script_forms ns rest
-script_forms ns (Hence lit cert rest) = hence_form ns lit ∷ script_forms ns rest
-script_forms ns (Make form names certs rest) = let_form ns form names ∷ script_forms (named ns (made form) names) rest
-script_forms ns (Claim shown inner rest) = claim_form ns shown ∷ (script_forms ns inner ++ script_forms ns rest)
-script_forms ns (Superposed form names shown certs inner rest) =
-    superpose_form ns form names shown ∷ (script_forms (named ns superposing.made names) inner ++ script_forms ns rest)
-script_forms ns (Qed objects certs) = qed_form ns objects ∷ []
-script_forms ns (Contradiction against) = contradiction_form ∷ []
-script_forms ns (Cases lit first second) = cases_form ns lit ∷ (script_forms ns first ++ else_form ∷ script_forms ns second)
+unfoldable pub script_forms : List Headed → Names → Script → List Form
+script_forms known ns (Cite by rest) = by_form ns by ∷ script_forms known ns rest
+script_forms known ns (Hence lit cert rest) = hence_form ns lit ∷ script_forms known ns rest
+script_forms known ns (Make form names certs rest) = let_form ns form names ∷ script_forms known (named ns (made form) names) rest
+script_forms known ns (Apply theorem args names certs rest) =
+    apply_form known ns theorem args names ∷ script_forms known (named ns (theorem_of known theorem).made names) rest
+script_forms known ns (Claim shown inner rest) = claim_form ns shown ∷ (script_forms known ns inner ++ script_forms known ns rest)
+script_forms known ns (Superposed form names shown certs inner rest) =
+    superpose_form ns form names shown ∷ (script_forms known (named ns superposing.made names) inner ++ script_forms known ns rest)
+script_forms known ns (Qed objects certs) = qed_form ns objects ∷ []
+script_forms known ns (Contradiction against) = contradiction_form ∷ []
+script_forms known ns (Cases lit first second) = cases_form ns lit ∷ (script_forms known ns first ++ else_form ∷ script_forms known ns second)
 
 -- the names that a theorem's proof begins with: those of the declared objects
 abbrev pub names_of_proof : Entry → Names
 names_of_proof t = declared_names (stated t.statement) t.names
 
--- the lines of a theorem, in order
-abbrev pub forms_of : Entry → List Form
-forms_of t = head_forms t ++ (script_forms (names_of_proof t) t.script ++ end_form ∷ [])
+-- the lines of a theorem behind those that are known, in order
+abbrev pub forms_of : List Headed → Entry → List Form
+forms_of known t = head_forms t ++ (script_forms known (names_of_proof t) t.script ++ end_form ∷ [])
 
 -- lines, each ended by a line feed
 abbrev pub text_of : List (List ℕ) → List ℕ

@@ -17,8 +17,8 @@ use Rattle.e_clause.specs.declared.cert.By.{By}
 use Rattle.e_clause.specs.contracts.cert.By as citation
 use Rattle.e_clause.specs.declared.cert.Cert.{Cert}
 use Rattle.e_clause.specs.contracts.cert.Cert as certificate
-use Rattle.e_deriv.specs.Script.{Script, Cite, Hence, Make, Claim, Superposed, Qed, Contradiction, Cases}
-use Rattle.e_deriv.specs.PlainStep.{PlainStep, Cited, Inferred, Made, Claimed, Copied, before}
+use Rattle.e_deriv.specs.Script.{Script, Cite, Hence, Make, Apply, Claim, Superposed, Qed, Contradiction, Cases}
+use Rattle.e_deriv.specs.PlainStep.{PlainStep, Cited, Inferred, Made, Applied, Claimed, Copied, before}
 
 -- names, and certificates
 abbrev pub Named : Type 0
@@ -26,7 +26,7 @@ Named = List (List ℕ) × List Cert
 
 -- what a line says: a step, or a close
 abbrev pub StepLine : Type 0
-StepLine = (By ⊎ (Lit × Option Cert)) ⊎ ((Construction × Named) ⊎ (List Lit ⊎ (Superpose × (List Lit × Named))))
+StepLine = (By ⊎ (Lit × Option Cert)) ⊎ (((Construction × Named) ⊎ (ℕ × (List (Option Obj) × Named))) ⊎ (List Lit ⊎ (Superpose × (List Lit × Named))))
 
 abbrev pub CloseLine : Type 0
 CloseLine = (List Obj × List Cert) ⊎ (Option Against ⊎ Lit)
@@ -38,7 +38,8 @@ Line = StepLine ⊎ CloseLine
 abbrev pub lines : Script → List Line → List Line
 lines (Cite by rest) more = inl (inl (inl by)) ∷ lines rest more
 lines (Hence lit cert rest) more = inl (inl (inr (lit, cert))) ∷ lines rest more
-lines (Make form names certs rest) more = inl (inr (inl (form, (names, certs)))) ∷ lines rest more
+lines (Make form names certs rest) more = inl (inr (inl (inl (form, (names, certs))))) ∷ lines rest more
+lines (Apply theorem args names certs rest) more = inl (inr (inl (inr (theorem, (args, (names, certs)))))) ∷ lines rest more
 lines (Claim shown inner rest) more = inl (inr (inr (inl shown))) ∷ lines inner (lines rest more)
 lines (Superposed form names shown certs inner rest) more = inl (inr (inr (inr (form, (shown, (names, certs)))))) ∷ lines inner (lines rest more)
 lines (Qed objects certs) more = inr (inl (objects, certs)) ∷ more
@@ -58,7 +59,8 @@ before_two f (s ∷ t ∷ ss) = f s t ∷ ss
 abbrev pub put : Line → List Script → List Script
 put (inl (inl (inl by))) ss = before_one (Cite by) ss
 put (inl (inl (inr p))) ss = before_one (Hence p.0 p.1) ss
-put (inl (inr (inl p))) ss = before_one (Make p.0 p.1.0 p.1.1) ss
+put (inl (inr (inl (inl p)))) ss = before_one (Make p.0 p.1.0 p.1.1) ss
+put (inl (inr (inl (inr p)))) ss = before_one (Apply p.0 p.1.0 p.1.1.0 p.1.1.1) ss
 put (inl (inr (inr (inl shown)))) ss = before_two (Claim shown) ss
 put (inl (inr (inr (inr p)))) ss = before_two (Superposed p.0 p.1.1.0 p.1.0 p.1.1.1) ss
 put (inr (inl p)) ss = Qed p.0 p.1 ∷ ss
@@ -77,6 +79,7 @@ pub scripts-lines : (s : Script) (more : List Line) → scripts (lines s more) �
 scripts-lines (Cite by rest) more = ap (before_one (Cite by)) (scripts-lines rest more)
 scripts-lines (Hence lit cert rest) more = ap (before_one (Hence lit cert)) (scripts-lines rest more)
 scripts-lines (Make form names certs rest) more = ap (before_one (Make form names certs)) (scripts-lines rest more)
+scripts-lines (Apply theorem args names certs rest) more = ap (before_one (Apply theorem args names certs)) (scripts-lines rest more)
 scripts-lines (Claim shown inner rest) more = scripts-two (Claim shown) inner rest (scripts-lines inner (lines rest more)) (scripts-lines rest more)
 scripts-lines (Superposed form names shown certs inner rest) more = scripts-two (Superposed form names shown certs) inner rest (scripts-lines inner (lines rest more)) (scripts-lines rest more)
 scripts-lines (Qed objects certs) more = refl
@@ -93,7 +96,7 @@ named_code = coded× (coded_list (coded_list coded_ℕ)) (coded_list certificate
 abbrev pub step_line_code : Coded StepLine
 step_line_code =
     coded⊎ (coded⊎ citation.the_row.coded (coded× literal.the_row.coded (coded_option certificate.the_row.coded)))
-    (coded⊎ (coded× construction.the_row.coded named_code)
+    (coded⊎ (coded⊎ (coded× construction.the_row.coded named_code) (coded× coded_ℕ (coded× (coded_list (coded_option object.the_row.coded)) named_code)))
     (coded⊎ (coded_list literal.the_row.coded) (coded× superposition.the_row.coded (coded× (coded_list literal.the_row.coded) named_code))))
 
 abbrev pub close_line_code : Coded CloseLine
@@ -111,6 +114,7 @@ abbrev pub first_step : Script → PlainStep
 first_step (Cite by rest) = Cited by
 first_step (Hence lit cert rest) = Inferred lit cert
 first_step (Make form names certs rest) = Made form names certs
+first_step (Apply theorem args names certs rest) = Applied theorem args names certs
 first_step (Claim shown inner rest) = Claimed shown inner
 first_step (Superposed form names shown certs inner rest) = Copied form names shown certs inner
 first_step (Qed objects certs) = Claimed [] (Qed objects certs)
@@ -121,6 +125,7 @@ pub first_step-before : (s : PlainStep) → first_step (before s (Contradiction 
 first_step-before (Cited by) = refl
 first_step-before (Inferred lit cert) = refl
 first_step-before (Made form names certs) = refl
+first_step-before (Applied theorem args names certs) = refl
 first_step-before (Claimed shown inner) = refl
 first_step-before (Copied form names shown certs inner) = refl
 

@@ -9,21 +9,21 @@ use Rattle.e_literal.specs.declared.literal.Lit.{Lit}
 use Rattle.e_literal.specs.Literal.{all_in_scope}
 use Rattle.e_literal.specs.WellFormed.{is_well_formed}
 use Rattle.e_literal.specs.Scopes.{grown}
-use Rattle.e_literal.specs.Use.{scope_of}
+use Rattle.e_literal.specs.Use.{Stated, scope_of}
 use Rattle.e_construct.specs.Construct.{made, gives}
 use Rattle.e_construct.specs.Superposing as superposing
 use Rattle.e_theorem.specs.Statements.{stated}
 use Rattle.e_deriv.specs.declared.names.Names.{Names}
-use Rattle.e_deriv.specs.Script.{Script, Cite, Hence, Make, Claim, Superposed, Qed, Contradiction, Cases, size, depth}
-use Rattle.e_deriv.specs.Lines.{proof_lines}
-use Rattle.e_deriv.specs.Steps.{fits}
+use Rattle.e_deriv.specs.Script.{Script, Cite, Hence, Make, Apply, Claim, Superposed, Qed, Contradiction, Cases, size, depth}
+use Rattle.e_deriv.specs.Lines.{theorem_at, proof_lines}
 use Rattle.e_deriv.specs.Naming.{named, declared_names}
-use Rattle.e_deriv.specs.Fitting.{all_objects}
-use Rattle.e_book.specs.Limits.{most_of, most_steps, most_depth, most_facts, most_terms}
+use Rattle.e_deriv.specs.Fitting.{all_objects, form_fits}
+use Rattle.e_book.specs.Limits.{most_of, most_steps, most_depth, most_facts, most_terms, most_blanks}
 pub use Rattle.e_book.specs.Limits.{monomials, count_monomials}
-use Rattle.e_book.specs.Headed.{Headed, is_known}
+use Rattle.e_book.specs.Headed.{Headed, is_known, stated_by}
 pub use Rattle.e_book.specs.Scope.{scope_of_names}
 use Rattle.e_book.specs.Scope.{has, fresh}
+use Rattle.e_book.specs.Applies.{count_blanks}
 use Rattle.e_book.specs.Steps.{few_objects}
 use Rattle.e_book.specs.Entry.{Entry}
 
@@ -45,41 +45,48 @@ pub record NamesDiffer (ns : Names) : Type 0 where
   pub points_circles : are_apart ns.points ns.circles ≡ true
   pub lines_circles : are_apart ns.lines ns.circles ≡ true
 
--- at each construction and superposition none of the new names is in scope and no two are equal, there is one for each new
--- object, and with them not too many objects are in scope
-unfoldable pub NewNamesFit : Names → Script → Type 0
-NewNamesFit ns (Cite by rest) = NewNamesFit ns rest
-NewNamesFit ns (Hence lit cert rest) = NewNamesFit ns rest
-NewNamesFit ns (Make form names certs rest) =
+-- at each construction, use of an earlier theorem and superposition none of the new names is in scope and no two are equal, there
+-- is one for each new object, and with them not too many objects are in scope
+unfoldable pub NewNamesFit : List Stated → Names → Script → Type 0
+NewNamesFit before ns (Cite by rest) = NewNamesFit before ns rest
+NewNamesFit before ns (Hence lit cert rest) = NewNamesFit before ns rest
+NewNamesFit before ns (Make form names certs rest) =
     (fresh ns [] names ≡ Ok tt) × (length names ≡ length (made form))
     × (few_objects (named ns (made form) names) ≡ Ok tt)
-    × NewNamesFit (named ns (made form) names) rest
-NewNamesFit ns (Claim shown inner rest) = NewNamesFit ns inner × NewNamesFit ns rest
-NewNamesFit ns (Superposed form names shown certs inner rest) =
+    × NewNamesFit before (named ns (made form) names) rest
+NewNamesFit before ns (Apply theorem args names certs rest) =
+    (fresh ns [] names ≡ Ok tt) × (length names ≡ length (theorem_at before theorem).made)
+    × (few_objects (named ns (theorem_at before theorem).made names) ≡ Ok tt)
+    × NewNamesFit before (named ns (theorem_at before theorem).made names) rest
+NewNamesFit before ns (Claim shown inner rest) = NewNamesFit before ns inner × NewNamesFit before ns rest
+NewNamesFit before ns (Superposed form names shown certs inner rest) =
     (fresh ns [] names ≡ Ok tt) × (length names ≡ length superposing.made)
     × (few_objects (named ns superposing.made names) ≡ Ok tt)
-    × NewNamesFit (named ns superposing.made names) inner
-    × NewNamesFit ns rest
-NewNamesFit ns (Qed objects certs) = Unit {0}
-NewNamesFit ns (Contradiction against) = Unit {0}
-NewNamesFit ns (Cases lit first second) = NewNamesFit ns first × NewNamesFit ns second
+    × NewNamesFit before (named ns superposing.made names) inner
+    × NewNamesFit before ns rest
+NewNamesFit before ns (Qed objects certs) = Unit {0}
+NewNamesFit before ns (Contradiction against) = Unit {0}
+NewNamesFit before ns (Cases lit first second) = NewNamesFit before ns first × NewNamesFit before ns second
 
 -- so many literals are facts before the script, repeats counted, and nowhere in it more than the limit
-unfoldable pub few_facts : ℕ → Scope → Script → Bool
-few_facts n s (Cite by rest) = nat_le (n + 1) most_facts && few_facts (n + 1) s rest
-few_facts n s (Hence lit cert rest) = nat_le (n + 1) most_facts && few_facts (n + 1) s rest
-few_facts n s (Make form names certs rest) =
-    nat_le (n + length (gives form s)) most_facts && few_facts (n + length (gives form s)) (grown s (made form)) rest
-few_facts n s (Claim shown inner rest) =
-    few_facts n s inner && (nat_le (n + length shown) most_facts && few_facts (n + length shown) s rest)
-few_facts n s (Superposed form names shown certs inner rest) =
+unfoldable pub few_facts : List Stated → ℕ → Scope → Script → Bool
+few_facts before n s (Cite by rest) = nat_le (n + 1) most_facts && few_facts before (n + 1) s rest
+few_facts before n s (Hence lit cert rest) = nat_le (n + 1) most_facts && few_facts before (n + 1) s rest
+few_facts before n s (Make form names certs rest) =
+    nat_le (n + length (gives form s)) most_facts && few_facts before (n + length (gives form s)) (grown s (made form)) rest
+few_facts before n s (Apply theorem args names certs rest) =
+    nat_le (n + length (theorem_at before theorem).shown) most_facts
+    && few_facts before (n + length (theorem_at before theorem).shown) (grown s (theorem_at before theorem).made) rest
+few_facts before n s (Claim shown inner rest) =
+    few_facts before n s inner && (nat_le (n + length shown) most_facts && few_facts before (n + length shown) s rest)
+few_facts before n s (Superposed form names shown certs inner rest) =
     nat_le (n + length (superposing.gives form s)) most_facts
-    && (few_facts (n + length (superposing.gives form s)) (grown s superposing.made) inner
-    && (nat_le (n + length shown) most_facts && few_facts (n + length shown) s rest))
-few_facts n s (Qed objects certs) = true
-few_facts n s (Contradiction against) = true
-few_facts n s (Cases lit first second) =
-    nat_le (n + 1) most_facts && (few_facts (n + 1) s first && few_facts (n + 1) s second)
+    && (few_facts before (n + length (superposing.gives form s)) (grown s superposing.made) inner
+    && (nat_le (n + length shown) most_facts && few_facts before (n + length shown) s rest))
+few_facts before n s (Qed objects certs) = true
+few_facts before n s (Contradiction against) = true
+few_facts before n s (Cases lit first second) =
+    nat_le (n + 1) most_facts && (few_facts before (n + 1) s first && few_facts before (n + 1) s second)
 
 -- an atom of diagrams or of equal objects
 abbrev pub is_diagram_atom : Atom → Bool
@@ -95,6 +102,7 @@ unfoldable pub has_good_literals : Script → Bool
 has_good_literals (Cite by rest) = is_diagram_lit by.lit && has_good_literals rest
 has_good_literals (Hence lit cert rest) = is_well_formed lit && has_good_literals rest
 has_good_literals (Make form names certs rest) = has_good_literals rest
+has_good_literals (Apply theorem args names certs rest) = has_good_literals rest
 has_good_literals (Claim shown inner rest) = list_all is_well_formed shown && (has_good_literals inner && has_good_literals rest)
 has_good_literals (Superposed form names shown certs inner rest) =
     list_all is_well_formed shown && (has_good_literals inner && has_good_literals rest)
@@ -103,20 +111,35 @@ has_good_literals (Contradiction against) = true
 has_good_literals (Cases lit first second) = is_well_formed lit && (has_good_literals first && has_good_literals second)
 
 -- the facts before the script have so many monomials, and nowhere in it more than the limit
-unfoldable pub few_terms : ℕ → Scope → Script → Bool
-few_terms n s (Cite by rest) = few_terms n s rest
-few_terms n s (Hence lit cert rest) = nat_le (n + monomials lit.atom) most_terms && few_terms (n + monomials lit.atom) s rest
-few_terms n s (Make form names certs rest) = few_terms n (grown s (made form)) rest
-few_terms n s (Claim shown inner rest) =
-    few_terms n s inner && (nat_le (n + count_monomials shown) most_terms && few_terms (n + count_monomials shown) s rest)
-few_terms n s (Superposed form names shown certs inner rest) =
+unfoldable pub few_terms : List Stated → ℕ → Scope → Script → Bool
+few_terms before n s (Cite by rest) = few_terms before n s rest
+few_terms before n s (Hence lit cert rest) = nat_le (n + monomials lit.atom) most_terms && few_terms before (n + monomials lit.atom) s rest
+few_terms before n s (Make form names certs rest) = few_terms before n (grown s (made form)) rest
+few_terms before n s (Apply theorem args names certs rest) =
+    nat_le (n + count_monomials (theorem_at before theorem).shown) most_terms
+    && few_terms before (n + count_monomials (theorem_at before theorem).shown) (grown s (theorem_at before theorem).made) rest
+few_terms before n s (Claim shown inner rest) =
+    few_terms before n s inner && (nat_le (n + count_monomials shown) most_terms && few_terms before (n + count_monomials shown) s rest)
+few_terms before n s (Superposed form names shown certs inner rest) =
     nat_le (n + count_monomials (superposing.gives form s)) most_terms
-    && (few_terms (n + count_monomials (superposing.gives form s)) (grown s superposing.made) inner
-    && (nat_le (n + count_monomials shown) most_terms && few_terms (n + count_monomials shown) s rest))
-few_terms n s (Qed objects certs) = true
-few_terms n s (Contradiction against) = true
-few_terms n s (Cases lit first second) =
-    nat_le (n + monomials lit.atom) most_terms && (few_terms (n + monomials lit.atom) s first && few_terms (n + monomials lit.atom) s second)
+    && (few_terms before (n + count_monomials (superposing.gives form s)) (grown s superposing.made) inner
+    && (nat_le (n + count_monomials shown) most_terms && few_terms before (n + count_monomials shown) s rest))
+few_terms before n s (Qed objects certs) = true
+few_terms before n s (Contradiction against) = true
+few_terms before n s (Cases lit first second) =
+    nat_le (n + monomials lit.atom) most_terms && (few_terms before (n + monomials lit.atom) s first && few_terms before (n + monomials lit.atom) s second)
+
+-- no line has more blanks than the limit
+unfoldable pub few_blanks : Script → Bool
+few_blanks (Cite by rest) = few_blanks rest
+few_blanks (Hence lit cert rest) = few_blanks rest
+few_blanks (Make form names certs rest) = few_blanks rest
+few_blanks (Apply theorem args names certs rest) = nat_le (count_blanks args) most_blanks && few_blanks rest
+few_blanks (Claim shown inner rest) = few_blanks inner && few_blanks rest
+few_blanks (Superposed form names shown certs inner rest) = few_blanks inner && few_blanks rest
+few_blanks (Qed objects certs) = true
+few_blanks (Contradiction against) = true
+few_blanks (Cases lit first second) = few_blanks first && few_blanks second
 
 pub record Fits (known : List Headed) (t : Entry) : Type 0 where
   -- no earlier theorem has its title
@@ -134,12 +157,14 @@ pub record Fits (known : List Headed) (t : Entry) : Type 0 where
   pub good_given : IsTrue (list_all is_well_formed t.statement.given)
   pub good_shown : IsTrue (list_all is_well_formed t.statement.shown)
   pub good_script : IsTrue (has_good_literals t.script)
-  -- each line of the script has objects of the right sorts, all in scope where it stands
-  pub script : IsTrue (list_all fits (proof_lines (stated t.statement) t.script))
-  pub new_names : NewNamesFit (declared_names (stated t.statement) t.names) t.script
+  -- each line of the script has objects of the right sorts, all in scope where it stands, whatever its blanks are filled with; each
+  -- theorem that it uses is an earlier one
+  pub script : IsTrue (list_all (λ x. form_fits (stated_by known) x x.here) (proof_lines (stated_by known) (stated t.statement) t.script t.script))
+  pub new_names : NewNamesFit (stated_by known) (declared_names (stated t.statement) t.names) t.script
   pub steps : size t.script ≤ most_steps
   pub depth : depth t.script ≤ most_depth
   pub given_facts : length t.statement.given ≤ most_facts
   pub given_terms : count_monomials t.statement.given ≤ most_terms
-  pub facts : IsTrue (few_facts (length t.statement.given) (scope_of (stated t.statement)) t.script)
-  pub terms : IsTrue (few_terms (count_monomials t.statement.given) (scope_of (stated t.statement)) t.script)
+  pub facts : IsTrue (few_facts (stated_by known) (length t.statement.given) (scope_of (stated t.statement)) t.script)
+  pub terms : IsTrue (few_terms (stated_by known) (count_monomials t.statement.given) (scope_of (stated t.statement)) t.script)
+  pub blanks : IsTrue (few_blanks t.script)

@@ -6,12 +6,13 @@ use Rattle.e_literal.specs.declared.object.Sort.TheVariants as sorts
 use Rattle.e_book.specs.declared.fault.Kind.{Kind}
 use Rattle.e_book.specs.declared.fault.Kind.TheVariants.{Malformed}
 use Rattle.e_book.specs.declared.form.Form.{Form}
-use Rattle.e_book.specs.declared.form.Form.TheVariants.{Theorem, Declare, Given, Made, Show, Proof, By, Hence, Let, Qed, Contradiction, Claim, Superpose, Cases, Else, End}
+use Rattle.e_book.specs.declared.form.Form.TheVariants.{Theorem, Declare, Given, Made, Show, Proof, By, Hence, Let, Apply, Qed, Contradiction, Claim, Superpose, Cases, Else, End}
 use Rattle.e_book.specs.Reading.{◌>>=◌, cut_at, word_at, title_at, end_at}
 unfoldable pub use Rattle.e_book.specs.Reading.{names_of, not_empty, some_names}
 use Rattle.e_book.specs.Literals.{lit_of, diagram_lit_of, lits_of}
 use Rattle.e_book.specs.Lets.{let_of}
 use Rattle.e_book.specs.Superposes.{superpose_of}
+use Rattle.e_book.specs.Applies.{apply_of}
 
 -- objects of a sort
 unfoldable pub declare_of : Sort → List (List ℕ) → Result Form Kind
@@ -67,6 +68,7 @@ form_named w ws =
     if bytes_eq w (codes "by") then by_of ws else
     if bytes_eq w (codes "hence") then (lit_of ws >>= λ l. Ok (Hence l)) else
     if bytes_eq w (codes "let") then (let_of ws >>= λ l. Ok (Let l)) else
+    if bytes_eq w (codes "apply") then (apply_of ws >>= λ a. Ok (Apply a)) else
     if bytes_eq w (codes "qed") then (names_of ws >>= λ ns. Ok (Qed ns)) else
     if bytes_eq w (codes "contradiction") then bare ws Contradiction else
     if bytes_eq w (codes "claim") then (lits_of ws >>= λ ls. Ok (Claim ls)) else

@@ -1,10 +1,10 @@
 -- What a theorem is that canonical lines can spell.
-use Rattle.std.specs.Prelude.{◌≡◌, ℕ, ◌<◌, Bool, true, false, ◌&&◌, List, [], length, nat_lt, None, Some}
+use Rattle.std.specs.Prelude.{◌≡◌, ℕ, ◌<◌, Bool, true, false, ◌&&◌, ◌==◌, List, [], length, nat_lt, Option, None, Some}
 use Rattle.std.specs.List.{list_all, AllByRecursion}
 use Rattle.e_text.specs.Names.{is_name, is_title}
-use Rattle.e_deriv.specs.Script.{Script, Cite, Hence, Make, Claim, Superposed, Qed, Contradiction, Cases}
+use Rattle.e_deriv.specs.Script.{Script, Cite, Hence, Make, Apply, Claim, Superposed, Qed, Contradiction, Cases}
 use Rattle.e_book.specs.Limits.{most_theorems}
-use Rattle.e_book.specs.Headed.{Headed}
+use Rattle.e_book.specs.Headed.{Headed, place_in, title_at}
 use Rattle.e_book.specs.Entry.{Entry}
 use Rattle.e_book.specs.Fits.{Fits}
 
@@ -18,6 +18,8 @@ is_plain (Hence lit None rest) = is_plain rest
 is_plain (Hence lit (Some cert) rest) = false
 is_plain (Make form names [] rest) = list_all is_name names && is_plain rest
 is_plain (Make form names certs rest) = false
+is_plain (Apply theorem args names [] rest) = list_all is_name names && is_plain rest
+is_plain (Apply theorem args names certs rest) = false
 is_plain (Claim shown inner rest) = nat_lt 0 (length shown) && (is_plain inner && is_plain rest)
 is_plain (Superposed form names shown [] inner rest) =
     list_all is_name names && (nat_lt 0 (length shown) && (is_plain inner && is_plain rest))
@@ -27,6 +29,27 @@ is_plain (Qed objects certs) = false
 is_plain (Contradiction None) = true
 is_plain (Contradiction (Some against)) = false
 is_plain (Cases lit first second) = is_plain first && is_plain second
+
+-- a place, if it is found, is this one
+abbrev pub is_place : ℕ → Option ℕ → Bool
+is_place k None = false
+is_place k (Some i) = i == k
+
+-- the theorem at a place has a title, and is the first with it
+abbrev pub is_named_by_title : List Headed → ℕ → Bool
+is_named_by_title known k = is_title (title_at known k) && is_place k (place_in known (title_at known k))
+
+-- the earlier theorems that a script uses can be named by their titles
+unfoldable pub names_theorems : List Headed → Script → Bool
+names_theorems known (Cite by rest) = names_theorems known rest
+names_theorems known (Hence lit cert rest) = names_theorems known rest
+names_theorems known (Make form names certs rest) = names_theorems known rest
+names_theorems known (Apply theorem args names certs rest) = is_named_by_title known theorem && names_theorems known rest
+names_theorems known (Claim shown inner rest) = names_theorems known inner && names_theorems known rest
+names_theorems known (Superposed form names shown certs inner rest) = names_theorems known inner && names_theorems known rest
+names_theorems known (Qed objects certs) = true
+names_theorems known (Contradiction against) = true
+names_theorems known (Cases lit first second) = names_theorems known first && names_theorems known second
 
 pub record HasSpelling (known : List Headed) (t : Entry) : Type 0 where
   -- objects in scope, names that differ, fitting arguments at each citation and construction, names of new objects that are
@@ -39,3 +62,4 @@ pub record HasSpelling (known : List Headed) (t : Entry) : Type 0 where
   pub circle_names : AreNames t.names.circles
   pub some_shown : 0 < length t.statement.shown
   pub script : is_plain t.script ≡ true
+  pub theorems : names_theorems known t.script ≡ true

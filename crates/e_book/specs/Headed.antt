@@ -1,8 +1,11 @@
 -- Theorems that are known: their titles and their statements, in order.
-use Rattle.std.specs.Prelude.{ℕ, Bool, List, [], ◌∷◌, Option, map}
+use Rattle.std.specs.Prelude.{ℕ, Bool, List, [], ◌∷◌, Option, map, slice_index_or}
 use Rattle.std.specs.List.{list_any, position}
 use Rattle.std.specs.Str.{bytes_eq}
+use Rattle.e_literal.specs.Use.{Stated}
 use Rattle.e_theorem.specs.declared.statement.Statement.{Statement}
+use Rattle.e_theorem.specs.Statements.{all_stated}
+use Rattle.e_deriv.specs.Lines.{theorem_at}
 
 -- a statement under its title
 pub record Headed : Type 0 where
@@ -24,9 +27,21 @@ titles known = map (λ h. h.title) known
 abbrev pub statements : List Headed → List Statement
 statements known = map (λ h. h.statement) known
 
+-- what they state
+abbrev pub stated_by : List Headed → List Stated
+stated_by known = all_stated (statements known)
+
+-- what the theorem at a place states; past the end one that says nothing
+abbrev pub theorem_of : List Headed → ℕ → Stated
+theorem_of known k = theorem_at (stated_by known) k
+
 -- an earlier theorem has this title
 abbrev pub is_known : List Headed → List ℕ → Bool
 is_known known title = list_any (bytes_eq title) (titles known)
+
+-- the title of the theorem at a place; past the end no word
+abbrev pub title_at : List Headed → ℕ → List ℕ
+title_at known k = slice_index_or (titles known) k []
 
 -- where the theorem with this title stands
 abbrev pub place_in : List Headed → List ℕ → Option ℕ

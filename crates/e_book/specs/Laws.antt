@@ -18,7 +18,7 @@ Shows (Ok l ∷ lines) (text ∷ texts) rest = (l.bytes ≡ text) × Shows lines
 -- a theorem that has a spelling is read from its canonical lines, and the lines behind them are left
 abbrev pub CanonicalLinesAreRead : Type 0
 CanonicalLinesAreRead = (known : List Headed) (last : ℕ) (t : Entry) (lines rest : List (Result Seen LineFault)) → HasSpelling known t
-    → Shows lines (map line_of (forms_of t)) rest → read_from known last None lines ≡ Ok (Some (t, rest))
+    → Shows lines (map line_of (forms_of known t)) rest → read_from known last None lines ≡ Ok (Some (t, rest))
 
 -- and a theorem that is read, from whatever lines, has a spelling
 abbrev pub ReadTheoremsHaveASpelling : Type 0

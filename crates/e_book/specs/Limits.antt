@@ -44,6 +44,10 @@ most_coefficient = 1000000
 abbrev pub most_terms : ℕ
 most_terms = 1024
 
+-- blanks of a line
+abbrev pub most_blanks : ℕ
+most_blanks = 6
+
 abbrev pub what_of : Sort → What
 what_of sorts.Point = limits.Points
 what_of sorts.Line = limits.Lines

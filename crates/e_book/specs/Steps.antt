@@ -3,12 +3,14 @@ use Rattle.std.specs.Prelude.{ℕ, ◌+◌, ◌≤◌, Bool, true, false, ◌≡
 use Rattle.std.specs.List.{list_all}
 use Rattle.e_literal.specs.declared.object.Sort.{Sort}
 use Rattle.e_literal.specs.declared.object.Sort.TheVariants as sorts
+use Rattle.e_literal.specs.declared.object.Obj.{Obj}
 use Rattle.e_literal.specs.declared.literal.Lit.{Lit}
+use Rattle.e_literal.specs.Use.{Stated}
 use Rattle.e_construct.specs.Construct.{made, gives}
 use Rattle.e_construct.specs.Superposing as superposing
 use Rattle.e_deriv.specs.declared.names.Names.{Names}
 use Rattle.e_deriv.specs.Naming.{names_of_sort, with_names, named, declared_names}
-use Rattle.e_deriv.specs.PlainStep.{PlainStep, Cited, Inferred, Made, Claimed, Copied, all_before}
+use Rattle.e_deriv.specs.PlainStep.{PlainStep, Cited, Inferred, Made, Applied, Claimed, Copied, all_before}
 use Rattle.e_deriv.specs.Script.{Script}
 use Rattle.e_book.specs.declared.fault.Kind.{Kind}
 use Rattle.e_book.specs.declared.fault.Kind.TheVariants.{Malformed, NameTaken, Limit}
@@ -17,6 +19,7 @@ use Rattle.e_book.specs.declared.fault.What.TheVariants as limits
 use Rattle.e_book.specs.declared.literal.RawLit.{RawLit}
 use Rattle.e_book.specs.declared.lets.RawLet.{RawLet}
 use Rattle.e_book.specs.declared.superposes.RawSuperpose.{RawSuperpose}
+use Rattle.e_book.specs.declared.applies.RawApply.{RawApply}
 use Rattle.e_book.specs.declared.blocks.Outer.{Outer}
 use Rattle.e_book.specs.declared.blocks.Opened.{Opened}
 use Rattle.e_book.specs.declared.blocks.Opened.TheVariants as opened
@@ -31,13 +34,14 @@ use Rattle.e_book.specs.declared.draft.Around.{Around}
 use Rattle.e_book.specs.declared.fault.Trouble.{Trouble}
 use Rattle.e_book.specs.Reading.{◌>>=◌, with_front, Fails}
 use Rattle.e_book.specs.Literals.{monos_of}
-use Rattle.e_book.specs.Limits.{most_theorems, most_of, most_steps, most_depth, most_facts, most_monomials, most_coefficient, most_terms, what_of, within, monomials, count_monomials}
+use Rattle.e_book.specs.Limits.{most_theorems, most_of, most_steps, most_depth, most_facts, most_monomials, most_coefficient, most_terms, most_blanks, what_of, within, monomials, count_monomials}
 use Rattle.e_theorem.specs.Statements.{stated}
-use Rattle.e_book.specs.Headed.{Headed, is_known}
+use Rattle.e_book.specs.Headed.{Headed, is_known, theorem_of}
 use Rattle.e_book.specs.Entry.{statement_of_draft, script_of_close}
 use Rattle.e_book.specs.Blocks.{made_in}
 use Rattle.e_book.specs.Superposes.{superpose_in}
 use Rattle.e_book.specs.Scope.{scope_of_names, fresh, lit_in, lits_in, by_in, let_in, qed_in}
+use Rattle.e_book.specs.Applies.{count_blanks, apply_in}
 
 -- which lines may come at a place
 abbrev pub allowed : Place → Form → Bool
@@ -55,6 +59,7 @@ allowed Showing forms.Proof = true
 allowed Proving (forms.By r ns l) = true
 allowed Proving (forms.Hence l) = true
 allowed Proving (forms.Let l) = true
+allowed Proving (forms.Apply a) = true
 allowed Proving (forms.Qed ns) = true
 allowed Proving forms.Contradiction = true
 allowed Proving (forms.Claim ls) = true
@@ -127,6 +132,23 @@ built d raw = do
   let after = named d.in_scope (made form) raw.new
   few ← few_objects after
   with_step (record d { in_scope = after }) (Made form raw.new []) (length (gives form (scope_of_names d.in_scope)))
+
+-- a theorem is used within the limits of objects, of steps, of facts, of monomials and of blanks. What it shows are facts, and its
+-- made objects are in scope behind the line.
+unfoldable pub used_by : Draft → Stated → ℕ → List (Option Obj) → List (List ℕ) → Result Draft Kind
+used_by d t theorem args new = do
+  let after = named d.in_scope t.made new
+  few ← few_objects after
+  e ← with_step (record d { in_scope = after }) (Applied theorem args new []) (length t.shown)
+  n ← terms_after e.terms t.shown
+  written ← within (count_blanks args) most_blanks limits.Blanks
+  Ok (record e { terms = n })
+
+-- an earlier theorem: its title and the names, then the limits
+unfoldable pub applied : List Headed → Draft → RawApply → Result Draft Kind
+applied known d raw = do
+  a ← apply_in known d.in_scope raw
+  used_by d (theorem_of known a.0) a.0 a.1 raw.new
 
 -- ---- blocks inside a block
 
@@ -238,28 +260,60 @@ ClosesInside d o close (Err e) new =
 unfoldable pub shut : Draft → CloseLine → Result Draft Kind
 shut d close = within (d.lines + 1) most_steps limits.Steps >>= λ few. closed (record d { lines = d.lines + 1 }) d.outers d.steps close
 
-unfoldable pub stepped : Draft → Form → Result Draft Kind
-stepped d (forms.Theorem t) = Err Malformed
-stepped d (forms.Declare sort ns) = declared d.names sort ns >>= λ names. Ok (record d { names = names; declared = d.declared ++ replicate (length ns) sort })
-stepped d (forms.Given raws) = with_front d.given (lits_in d.names raws) >>= λ ls. within (d.facts + length raws) most_facts limits.Facts >>= λ few. with_terms (record d { given = ls; facts = d.facts + length raws; place = Giving }) raws
-stepped d (forms.Made sort ns) = declared d.names sort ns >>= λ names. Ok (record d { names = names; made = d.made ++ replicate (length ns) sort; place = Making })
-stepped d (forms.Show raws) = with_front d.shown (lits_in d.names raws) >>= λ ls. few_monos raws >>= λ few. Ok (record d { shown = ls; place = Showing })
+-- declared objects
+abbrev pub declares : Draft → Sort → List (List ℕ) → Result Draft Kind
+declares d sort ns = declared d.names sort ns >>= λ names. Ok (record d { names = names; declared = d.declared ++ replicate (length ns) sort })
+
+-- given literals: their names, then the limits
+abbrev pub supposes : Draft → List RawLit → Result Draft Kind
+supposes d raws = with_front d.given (lits_in d.names raws) >>= λ ls. within (d.facts + length raws) most_facts limits.Facts >>= λ few. with_terms (record d { given = ls; facts = d.facts + length raws; place = Giving }) raws
+
+-- made objects
+abbrev pub makes : Draft → Sort → List (List ℕ) → Result Draft Kind
+makes d sort ns = declared d.names sort ns >>= λ names. Ok (record d { names = names; made = d.made ++ replicate (length ns) sort; place = Making })
+
+-- shown literals
+abbrev pub shows : Draft → List RawLit → Result Draft Kind
+shows d raws = with_front d.shown (lits_in d.names raws) >>= λ ls. few_monos raws >>= λ few. Ok (record d { shown = ls; place = Showing })
+
 -- the proof begins with the declared objects, and the names of the made ones are free again
-stepped d forms.Proof = Ok (record d { in_scope = declared_names (stated (statement_of_draft d)) d.names; place = Proving })
-stepped d (forms.By r ns l) = by_in d.in_scope r ns l >>= λ b. with_step d (Cited b) 1
-stepped d (forms.Hence raw) = lit_in d.in_scope raw >>= λ l. with_step d (Inferred l None) 1 >>= λ e. with_terms e (raw ∷ [])
-stepped d (forms.Let raw) = built d raw
-stepped d (forms.Qed ns) = qed_in d.in_scope (made_in d.outers d.made) ns >>= λ objects. shut d (closes.Qed objects)
-stepped d forms.Contradiction = shut d closes.Contradiction
-stepped d (forms.Claim raws) = claimed d raws
-stepped d (forms.Superpose raw) = superposed d raw
-stepped d (forms.Cases raw) = split d raw
-stepped d forms.Else = Ok (record d { place = Proving })
-stepped d forms.End = Ok (record d { place = Done })
+abbrev pub proof_begun : Draft → Result Draft Kind
+proof_begun d = Ok (record d { in_scope = declared_names (stated (statement_of_draft d)) d.names; place = Proving })
+
+-- a citation: its rule, its names and its literal, then the limits
+abbrev pub cited : Draft → List ℕ → List (List ℕ) → RawLit → Result Draft Kind
+cited d r ns l = by_in d.in_scope r ns l >>= λ b. with_step d (Cited b) 1
+
+-- a literal that is to be allowed: its names, then the limits
+abbrev pub inferred : Draft → RawLit → Result Draft Kind
+inferred d raw = lit_in d.in_scope raw >>= λ l. with_step d (Inferred l None) 1 >>= λ e. with_terms e (raw ∷ [])
+
+-- the close by qed: its objects, then the limit of steps
+abbrev pub concluded : Draft → List (List ℕ) → Result Draft Kind
+concluded d ns = qed_in d.in_scope (made_in d.outers d.made) ns >>= λ objects. shut d (closes.Qed objects)
+
+unfoldable pub stepped : List Headed → Draft → Form → Result Draft Kind
+stepped known d (forms.Theorem t) = Err Malformed
+stepped known d (forms.Declare sort ns) = declares d sort ns
+stepped known d (forms.Given raws) = supposes d raws
+stepped known d (forms.Made sort ns) = makes d sort ns
+stepped known d (forms.Show raws) = shows d raws
+stepped known d forms.Proof = proof_begun d
+stepped known d (forms.By r ns l) = cited d r ns l
+stepped known d (forms.Hence raw) = inferred d raw
+stepped known d (forms.Let raw) = built d raw
+stepped known d (forms.Apply raw) = applied known d raw
+stepped known d (forms.Qed ns) = concluded d ns
+stepped known d forms.Contradiction = shut d closes.Contradiction
+stepped known d (forms.Claim raws) = claimed d raws
+stepped known d (forms.Superpose raw) = superposed d raw
+stepped known d (forms.Cases raw) = split d raw
+stepped known d forms.Else = Ok (record d { place = Proving })
+stepped known d forms.End = Ok (record d { place = Done })
 
 -- a line at its place: its form there, then its names from left to right, then the limits
-unfoldable pub step : Draft → Form → Result Draft Kind
-step d form = if allowed d.place form then stepped d form else Err Malformed
+unfoldable pub step : List Headed → Draft → Form → Result Draft Kind
+step known d form = if allowed d.place form then stepped known d form else Err Malformed
 
 -- what the names and the counts are known to be: within the limits
 pub record FewNamed (ns : Names) : Type 0 where

@@ -1,5 +1,5 @@
 //! The blocks of a proof that are open while its lines come.
-ghost use Rattle.std.specs.Prelude.{◌≡◌, ◌∷◌, [], OnOk, IfOk, length, Some, None, Option};
+ghost use Rattle.std.specs.Prelude.{◌≡◌, ◌∷◌, [], OnOk, IfOk, length, reverse, Some, None, Option};
 ghost use Rattle.e_deriv.specs.Script.{script_of};
 ghost use Rattle.e_book.specs.Blocks.{TopIs};
 
@@ -119,6 +119,13 @@ impl Outers {
         ensures { result ≡ length self.now }
     {
         self.outers.len()
+    }
+
+    /// They, the outermost first.
+    pub fn items(&self) -> &[Outer]
+        ensures { reverse result.now ≡ self.now }
+    {
+        &self.outers
     }
 
     /// One more, which is the innermost now. It fails only for want of memory.

@@ -1,12 +1,15 @@
 //! A book, theorem by theorem.
-ghost use Rattle.std.specs.Prelude.{◌≡◌, ◌≤◌, ◌<◌, ◌^◌, ◌+◌, List, [], length, None, IfOk, OnOk, IfSome, OnSome};
+ghost use Rattle.std.specs.Prelude.{◌≡◌, ◌≤◌, ◌<◌, ◌^◌, ◌+◌, List, [], length, None, IfOk, OnOk, IfSome, OnSome, IsTrue};
+ghost use Rattle.std.specs.List.{list_all};
+ghost use Rattle.e_book.specs.Limits.{most_theorems};
+ghost use Rattle.e_book.specs.Headed.{stated_by};
 ghost use Rattle.e_book.specs.Reading.{texts, Gives};
 ghost use Rattle.e_book.specs.Steps.{FitsScope};
 ghost use Rattle.e_book.specs.Entry.{entry_of};
 ghost use Rattle.e_book.specs.Fits.{Fits};
 ghost use Rattle.e_theorem.specs.Statements.{stated};
 ghost use Rattle.e_deriv.specs.Script.{script_of};
-ghost use Rattle.e_deriv.specs.Fitting.{IsFitting};
+ghost use Rattle.e_deriv.specs.Fitting.{is_small_statement, IsFitting};
 ghost use Rattle.e_book.specs.Book.{starts_with_hash, is_skipped, line_step, is_done, read_from, last_line, BookReads};
 
 use crate::draft::{Draft, Place};
@@ -50,14 +53,16 @@ fn line_step(
     draft: Option<Draft>,
     words: &[&[u8]],
 ) -> Result<Draft, Trouble>
-    requires { IfSome draft FitsScope }
+    requires draft { IfSome draft FitsScope }
+    requires known { OnSome draft (length known.now ≤ most_theorems) }
     ensures value { Gives (λ d. d) result (line_step known.now draft (texts words.now)) }
     ensures fits { IfOk result FitsScope }
+    ensures few { OnOk result (length known.now ≤ most_theorems) }
 {
     let form = form_of(alloc, words)?;
     match draft {
         None => Draft::begin(alloc, known, &form),
-        Some(draft) => draft.taking(alloc, &form),
+        Some(draft) => draft.taking(alloc, known, &form),
     }
 }
 
@@ -103,18 +108,21 @@ fn read_theorem(
 ///
 /// It takes the lines up to the theorem's `end`. A fault is the first of the book from here on, and after it the
 /// lines are not used again. The lines are those of a text with at most 1,600 bytes a line and 4,194,304 bytes in all.
-#[tactic(auto, using(crate::proofs::Keeps::reading_fits, crate::proofs::GoodLines::reading_fitting))]
+/// The known theorems are statements, as each is that is read.
+#[tactic(auto, using(crate::proofs::Keeps::reading_fits, crate::proofs::Fitting::reading_fitting))]
 pub fn next_theorem(
     alloc: Global,
     lines: &mut Lines,
     known: &Known,
 ) -> Result<Option<Theorem>, BookFault>
-    requires { last_line lines.old < 2 ^ 32 }
+    requires lines { last_line lines.old < 2 ^ 32 }
+    requires known { IsTrue (list_all is_small_statement (stated_by known.now)) }
     ensures read { BookReads result lines.new (read_from known.now (last_line lines.old) None lines.old.lines) }
     ensures last { OnOk result (last_line lines.new ≡ last_line lines.old) }
     ensures shorter { IfOk result (λ t. OnSome t (length lines.new.lines < length lines.old.lines)) }
     ensures fits { IfOk result (λ o. IfSome o (λ t. Fits known.now (entry_of t))) }
-    ensures fitting { IfOk result (λ o. IfSome o (λ t. IsFitting (stated t.statement) (script_of t.block))) }
+    ensures fitting { IfOk result (λ o. IfSome o (λ t. IsFitting (stated_by known.now) (stated t.statement) (script_of t.block))) }
+    ensures states { IfOk result (λ o. IfSome o (λ t. IsTrue (is_small_statement (stated t.statement)))) }
 {
     read_theorem(alloc, lines, known)
 }

@@ -2,15 +2,18 @@
 ghost use Rattle.std.specs.Prelude.{◌≡◌, ◌≤◌, ◌<◌, ◌+◌, ◌^◌, ◌++◌, ◌∷◌, List, [], length, replicate, IfOk, OnOk, Ok, Err};
 ghost use Rattle.e_book.specs.Reading.{Gives, Moves};
 ghost use Rattle.e_book.specs.Scope.{names_of_sort, with_names};
-ghost use Rattle.e_book.specs.Steps.{allowed, declared, few_objects, no_names, count_names, FewNamed};
-ghost use Rattle.e_book.specs.Limits.{within, most_of, what_of};
+ghost use Rattle.e_book.specs.Steps.{allowed, declared, no_names, count_names, FewNamed};
 
+use crate::applies::{Application, RawApply, apply_in, count_blanks};
 use crate::blocks::{Closed, Opened, Outer, Outers};
 use crate::fault::{Kind, Trouble, What};
 use crate::form::Form;
 use crate::known::Known;
 use crate::lets::RawLet;
-use crate::limits::{MAX_FACTS, facts_of, few_monos, monomials, terms_of, terms_with};
+use crate::limits::{
+    MAX_BLANKS, MAX_DEPTH, MAX_FACTS, MAX_STEPS, MAX_THEOREMS, facts_of, few_monos, few_objects,
+    monomials, most_of, terms_of, terms_with, what_of, within,
+};
 use crate::literal::RawLit;
 use crate::scope::{by_in, fresh, let_in, lit_in, put_lits, put_names, qed_in, scope_of_names};
 use crate::steps::{CloseLine, Steps};
@@ -23,24 +26,6 @@ use e_text::{Name, Title};
 use e_theorem::Statement;
 use std::alloc::{AllocError, Global};
 use std::{mem, slice};
-
-/// How many theorems a book may have.
-pub const MAX_THEOREMS: usize = 500;
-
-/// How many points may be in scope.
-pub const MAX_POINTS: usize = 40;
-
-/// How many lines may be in scope.
-pub const MAX_LINES: usize = 24;
-
-/// How many circles may be in scope.
-pub const MAX_CIRCLES: usize = 16;
-
-/// How many step and close lines a theorem may have.
-pub const MAX_STEPS: usize = 1_024;
-
-/// How many blocks may stand one inside the other.
-pub const MAX_DEPTH: usize = 32;
 
 /// Which lines may come.
 #[derive(Clone, Copy, Debug, PartialEq, Eq)]
@@ -108,6 +93,7 @@ fn allowed(place: Place, form: &Form) -> bool
         Form::By(..) => matches!(place, Place::Proving),
         Form::Hence(_) => matches!(place, Place::Proving),
         Form::Let(_) => matches!(place, Place::Proving),
+        Form::Apply(_) => matches!(place, Place::Proving),
         Form::Qed(_) => matches!(place, Place::Proving),
         Form::Contradiction => matches!(place, Place::Proving),
         Form::Claim(_) => matches!(place, Place::Proving),
@@ -116,48 +102,6 @@ fn allowed(place: Place, form: &Form) -> bool
         Form::Else => matches!(place, Place::Splitting),
         Form::End => matches!(place, Place::Closed),
     }
-}
-
-/// At most so many, or the limit.
-fn within(count: usize, most: usize, what: What) -> Result<(), Trouble>
-    ensures { Gives (λ u. u) result (within count most what) }
-{
-    if count > most {
-        return Err(Trouble::Fault(Kind::Limit(what)));
-    }
-    Ok(())
-}
-
-fn most_of(sort: Sort) -> usize
-    ensures { result ≡ most_of sort }
-{
-    match sort {
-        Sort::Point => MAX_POINTS,
-        Sort::Line => MAX_LINES,
-        Sort::Circle => MAX_CIRCLES,
-    }
-}
-
-fn what_of(sort: Sort) -> What
-    ensures { result ≡ what_of sort }
-{
-    match sort {
-        Sort::Point => What::Points,
-        Sort::Line => What::Lines,
-        Sort::Circle => What::Circles,
-    }
-}
-
-/// The limits of objects in scope: points, then lines, then circles.
-#[tactic(auto, unfolding(crate::specs::Steps::few_objects))]
-fn few_objects(names: &Names) -> Result<(), Trouble>
-    ensures value { Gives (λ u. u) result (few_objects names.now) }
-    ensures fits { IfOk result (λ u. FewNamed names.now) }
-{
-    within(names.points.len(), MAX_POINTS, What::Points)?;
-    within(names.lines.len(), MAX_LINES, What::Lines)?;
-    within(names.circles.len(), MAX_CIRCLES, What::Circles)?;
-    Ok(())
 }
 
 fn no_names(alloc: Global) -> Names
@@ -207,8 +151,9 @@ fn repeated(alloc: Global, sort: Sort, count: usize) -> Result<Items<Sort>, Allo
 
 impl Draft {
     ghost use Rattle.e_deriv.specs.PlainStep.{plain_step, Claimed, Copied, all_before};
-    ghost use Rattle.e_book.specs.Limits.{most_depth, most_terms};
-    ghost use Rattle.e_book.specs.Steps.{FitsScope, FitsOuter, HasRoom, ClosesInside, begin, step, stepped, with_step, with_terms, built, room_inside, interrupted, begun_with, begun_terms, claimed, superposed, copies_begun, split, outer_with, resumed, second_begun, closed, shut};
+    ghost use Rattle.e_theorem.specs.Statements.{stated};
+    ghost use Rattle.e_book.specs.Limits.{most_depth, most_terms, most_theorems};
+    ghost use Rattle.e_book.specs.Steps.{FitsScope, FitsOuter, HasRoom, ClosesInside, begin, step, stepped, declares, supposes, makes, proof_begun, cited, inferred, concluded, with_step, with_terms, built, used_by, applied, room_inside, interrupted, begun_with, begun_terms, claimed, superposed, copies_begun, split, outer_with, resumed, second_begun, closed, shut};
     ghost use Rattle.e_book.specs.Blocks.{made_in};
     ghost use Rattle.e_book.specs.Entry.{entry_of, entry_of_draft, script_of_close};
 
@@ -217,6 +162,7 @@ impl Draft {
     pub fn begin(alloc: Global, known: &Known, form: &Form) -> Result<Draft, Trouble>
         ensures value { Gives (λ d. d) result (begin known.now form.now) }
         ensures fits { IfOk result FitsScope }
+        ensures few { OnOk result (length known.now ≤ most_theorems) }
     {
         let Form::Theorem(title) = form else {
             return Err(Trouble::Fault(Kind::Malformed));
@@ -246,32 +192,35 @@ impl Draft {
     }
 
     /// The draft with the next line.
-    pub fn taking(mut self, alloc: Global, form: &Form) -> Result<Draft, Trouble>
-        requires { FitsScope self }
-        ensures value { Gives (λ d. d) result (step self form.now) }
+    pub fn taking(mut self, alloc: Global, known: &Known, form: &Form) -> Result<Draft, Trouble>
+        requires draft { FitsScope self }
+        requires known { length known.now ≤ most_theorems }
+        ensures value { Gives (λ d. d) result (step known.now self form.now) }
         ensures fits { IfOk result FitsScope }
     {
-        self.step(alloc, form)?;
+        self.step(alloc, known, form)?;
         Ok(self)
     }
 
     /// The next line: its form at this place, its names from left to right, then the limits.
     #[tactic(auto, unfolding(crate::specs::Steps::step))]
-    pub fn step(&mut self, alloc: Global, form: &Form) -> Result<(), Trouble>
-        requires { FitsScope self.old }
-        ensures value { Moves result self.new (step self.old form.now) }
+    pub fn step(&mut self, alloc: Global, known: &Known, form: &Form) -> Result<(), Trouble>
+        requires draft { FitsScope self.old }
+        requires known { length known.now ≤ most_theorems }
+        ensures value { Moves result self.new (step known.now self.old form.now) }
         ensures fits { OnOk result (FitsScope self.new) }
     {
         if !allowed(self.place, form) {
             return Err(Trouble::Fault(Kind::Malformed));
         }
-        self.stepped(alloc, form)
+        self.stepped(alloc, known, form)
     }
 
     #[tactic(auto, unfolding(crate::specs::Steps::stepped))]
-    fn stepped(&mut self, alloc: Global, form: &Form) -> Result<(), Trouble>
-        requires { FitsScope self.old }
-        ensures value { Moves result self.new (stepped self.old form.now) }
+    fn stepped(&mut self, alloc: Global, known: &Known, form: &Form) -> Result<(), Trouble>
+        requires draft { FitsScope self.old }
+        requires known { length known.now ≤ most_theorems }
+        ensures value { Moves result self.new (stepped known.now self.old form.now) }
         ensures fits { OnOk result (FitsScope self.new) }
     {
         match form {
@@ -289,6 +238,7 @@ impl Draft {
             Form::By(rule, args, lit) => self.cite(alloc, *rule, args.items(), lit),
             Form::Hence(raw) => self.infer(alloc, raw),
             Form::Let(raw) => self.build(alloc, raw),
+            Form::Apply(raw) => self.apply(alloc, known, raw),
             Form::Qed(names) => self.conclude(alloc, names.items()),
             Form::Contradiction => self.shut(alloc, CloseLine::Contradiction),
             Form::Claim(raw) => self.claim(alloc, raw.items()),
@@ -306,10 +256,9 @@ impl Draft {
     }
 
     /// Declared objects.
-    #[tactic(auto, unfolding(crate::specs::Steps::stepped))]
     fn declare(&mut self, alloc: Global, sort: Sort, names: &[Name]) -> Result<(), Trouble>
         requires { FitsScope self.old }
-        ensures value { Moves result self.new (stepped self.old (Form.Declare sort names.now)) }
+        ensures value { Moves result self.new (declares self.old sort names.now) }
         ensures fits { OnOk result (FitsScope self.new) }
     {
         declare(&mut self.names, sort, names)?;
@@ -319,10 +268,9 @@ impl Draft {
     }
 
     /// Made objects.
-    #[tactic(auto, unfolding(crate::specs::Steps::stepped))]
     fn make(&mut self, alloc: Global, sort: Sort, names: &[Name]) -> Result<(), Trouble>
         requires { FitsScope self.old }
-        ensures value { Moves result self.new (stepped self.old (Form.Made sort names.now)) }
+        ensures value { Moves result self.new (makes self.old sort names.now) }
         ensures fits { OnOk result (FitsScope self.new) }
     {
         declare(&mut self.names, sort, names)?;
@@ -333,10 +281,9 @@ impl Draft {
     }
 
     /// The proof begins with the declared objects.
-    #[tactic(auto, unfolding(crate::specs::Steps::stepped))]
     fn begin_proof(&mut self, alloc: Global) -> Result<(), Trouble>
         requires { FitsScope self.old }
-        ensures value { Moves result self.new (stepped self.old Form.Proof) }
+        ensures value { Moves result self.new (proof_begun self.old) }
         ensures fits { OnOk result (FitsScope self.new) }
     {
         let nothing = Scope {
@@ -351,10 +298,9 @@ impl Draft {
     }
 
     /// Given literals: their names, and then the limits of facts and of monomials.
-    #[tactic(auto, unfolding(crate::specs::Steps::stepped))]
     fn give(&mut self, alloc: Global, raw: &[RawLit]) -> Result<(), Trouble>
         requires { FitsScope self.old }
-        ensures value { Moves result self.new (stepped self.old (Form.Given raw.now)) }
+        ensures value { Moves result self.new (supposes self.old raw.now) }
         ensures fits { OnOk result (FitsScope self.new) }
     {
         put_lits(alloc, &self.names, raw, &mut self.given)?;
@@ -367,10 +313,10 @@ impl Draft {
     }
 
     /// A literal that is to be allowed: its names, and then the limits.
-    #[tactic(auto, unfolding(crate::specs::Steps::stepped, e_deriv::specs::PlainStep::plain_step))]
+    #[tactic(auto, unfolding(e_deriv::specs::PlainStep::plain_step))]
     fn infer(&mut self, alloc: Global, raw: &RawLit) -> Result<(), Trouble>
         requires { FitsScope self.old }
-        ensures value { Moves result self.new (stepped self.old (Form.Hence raw.now)) }
+        ensures value { Moves result self.new (inferred self.old raw.now) }
         ensures fits { OnOk result (FitsScope self.new) }
     {
         let lit = lit_in(alloc, &self.in_scope, raw)?;
@@ -379,7 +325,6 @@ impl Draft {
     }
 
     /// A citation: its rule, names and literal, and then the limits.
-    #[tactic(auto, unfolding(crate::specs::Steps::stepped))]
     fn cite(
         &mut self,
         alloc: Global,
@@ -388,7 +333,7 @@ impl Draft {
         lit: &RawLit,
     ) -> Result<(), Trouble>
         requires { FitsScope self.old }
-        ensures value { Moves result self.new (stepped self.old (Form.By rule args.now lit.now)) }
+        ensures value { Moves result self.new (cited self.old rule args.now lit.now) }
         ensures fits { OnOk result (FitsScope self.new) }
     {
         let by = by_in(alloc, &self.in_scope, rule, args, lit)?;
@@ -413,6 +358,48 @@ impl Draft {
             certs: Items::empty(alloc),
         };
         self.add_step(step, given.len())
+    }
+
+    /// The use of an earlier theorem: its title and the names, and then the limits.
+    #[tactic(auto, unfolding(crate::specs::Steps::applied))]
+    fn apply(&mut self, alloc: Global, known: &Known, raw: &RawApply) -> Result<(), Trouble>
+        requires draft { FitsScope self.old }
+        requires known { length known.now ≤ most_theorems }
+        ensures value { Moves result self.new (applied known.now self.old raw.now) }
+        ensures fits { OnOk result (FitsScope self.new) }
+    {
+        let application = apply_in(alloc, known, &self.in_scope, raw)?;
+        let statement = known.statement(application.theorem as usize);
+        self.use_theorem(alloc, statement, application, raw.new.items())
+    }
+
+    /// A theorem is used: the limits of objects, of steps, of facts, of monomials and of blanks. What it shows are facts,
+    /// and its made objects are in scope after the line.
+    #[tactic(auto, unfolding(crate::specs::Steps::used_by, e_deriv::specs::PlainStep::plain_step))]
+    fn use_theorem(
+        &mut self,
+        alloc: Global,
+        statement: &Statement,
+        application: Application,
+        new: &[Name],
+    ) -> Result<(), Trouble>
+        requires { FitsScope self.old }
+        ensures value { Moves result self.new (used_by self.old (stated statement.now) application.theorem application.args new.now) }
+        ensures fits { OnOk result (FitsScope self.new) }
+    {
+        let Application { theorem, args } = application;
+        put_names(&mut self.in_scope, statement.made.items(), new)?;
+        few_objects(&self.in_scope)?;
+        let blanks = count_blanks(args.items());
+        let step = Step::Apply {
+            theorem,
+            args,
+            names: Items::new(Vec::from_slice(alloc, new)?),
+            certs: Items::empty(alloc),
+        };
+        self.add_step(step, statement.shown.len())?;
+        self.terms = terms_of(self.terms, statement.shown.items())?;
+        within(blanks, MAX_BLANKS, What::Blanks)
     }
 
     /// The limits of a line that begins an inner block with so many facts: of steps, of depth and of facts.
@@ -529,10 +516,9 @@ impl Draft {
     }
 
     /// The close by `qed`: its objects, and then the limit of steps.
-    #[tactic(auto, unfolding(crate::specs::Steps::stepped))]
     fn conclude(&mut self, alloc: Global, names: &[Name]) -> Result<(), Trouble>
         requires { FitsScope self.old }
-        ensures value { Moves result self.new (stepped self.old (Form.Qed names.now)) }
+        ensures value { Moves result self.new (concluded self.old names.now) }
         ensures fits { OnOk result (FitsScope self.new) }
     {
         let objects = qed_in(alloc, &self.in_scope, self.goal_made(), names)?;

@@ -3,6 +3,7 @@ ghost use Rattle.std.specs.Prelude.{◌≡◌, List, length, IfOk, [], ◌∷◌
 ghost use Rattle.e_book.specs.Reading.{texts, Gives};
 ghost use Rattle.e_book.specs.Forms.{declare_of, sort_of, made_of, by_of, form_of, form_named, theorem_of, bare};
 
+use crate::applies::{RawApply, apply_of};
 use crate::fault::{Kind, Trouble};
 use crate::lets::{RawLet, let_of};
 use crate::literal::{RawLit, diagram_lit_of, lit_of, lits_of};
@@ -33,6 +34,8 @@ pub enum Form {
     Hence(RawLit),
     /// `let ..`, a construction
     Let(RawLet),
+    /// `apply TITLE ARGUMENTS`, or with `as NAMES` behind
+    Apply(RawApply),
     /// `qed`, or `qed NAMES`
     Qed(Items<Name>),
     /// `contradiction`
@@ -159,6 +162,9 @@ fn form_named(alloc: Global, word: &[u8], rest: &[&[u8]]) -> Result<Form, Troubl
     }
     if is(word, b"let") {
         return Ok(Form::Let(let_of(alloc, rest)?));
+    }
+    if is(word, b"apply") {
+        return Ok(Form::Apply(apply_of(alloc, rest)?));
     }
     if is(word, b"qed") {
         return Ok(Form::Qed(names_of(alloc, rest)?));

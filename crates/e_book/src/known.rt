@@ -1,6 +1,7 @@
 //! The theorems that are known.
 ghost use Rattle.std.specs.Prelude.{◌≡◌, ◌++◌, ◌∷◌, [], ◌<◌, ◌≤◌, ◌^◌, OnOk, OnErr, length, slice_get, Some, false};
-ghost use Rattle.e_book.specs.Headed.{headed, titles, statements, is_known, place_in};
+ghost use Rattle.e_book.specs.Headed.{headed, titles, statements, is_known, place_in, theorem_of};
+ghost use Rattle.e_theorem.specs.Statements.{stated};
 
 use e_text::Title;
 use e_theorem::Statement;
@@ -79,6 +80,15 @@ impl Known {
         ensures { slice_get (titles self.now) place ≡ Some result }
     {
         *self.titles.get_index(place).unwrap()
+    }
+
+    /// What the theorem at a place states.
+    #[tactic(auto, using(crate::proofs::SideBySide::statement_at))]
+    pub fn statement(&self, place: usize) -> &Statement
+        requires { place < length self.now }
+        ensures { stated result.now ≡ theorem_of self.now place }
+    {
+        &self.statements[place]
     }
 
     /// The statements, in order.

@@ -4,6 +4,7 @@
 //! the limits are asked. So the first thing that is wrong with a book is one thing at one line.
 #![tactic(auto)]
 
+mod applies;
 mod blocks;
 mod book;
 mod draft;
@@ -22,6 +23,7 @@ mod terms;
 mod theorem;
 mod words;
 
+pub use applies::{Application, RawApply, apply_in};
 pub use blocks::{Closed, Opened, Outer, Outers};
 pub use book::next_theorem;
 pub use draft::{Draft, Place};
@@ -30,12 +32,12 @@ pub use form::{Form, form_of};
 pub use known::Known;
 pub use laws::{canonical_lines_are_read, read_theorems_have_a_spelling};
 pub use lets::RawLet;
-pub use literal::{RawAtom, RawLit};
+pub use limits::few_monos;
+pub use literal::{RawAtom, RawLit, diagram_lit_of, lit_of};
+pub use scope::{args_in, let_in, lit_in, qed_in, scope_of_names};
 pub use steps::{CloseLine, Steps};
-pub use sum::{RawMono, RawTerm};
-pub use superposes::RawSuperpose;
+pub use sum::{RawMono, RawTerm, term_of};
+pub use superposes::{Placement, RawSuperpose, superpose_in};
+pub use terms::term_in;
 pub use theorem::Theorem;
-pub use words::{Words, collected};
-
-#[cfg(test)]
-mod tests;
+pub use words::{Words, collected, names_of};

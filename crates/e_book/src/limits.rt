@@ -1,16 +1,38 @@
-//! The limits of literals that are written.
+//! The limits of a book.
 ghost use Rattle.std.specs.Prelude.{◌≡◌, ◌≤◌, ◌+◌, length, nat_le, IfOk};
 ghost use Rattle.std.specs.List.{list_all};
 ghost use Rattle.e_book.specs.Reading.{Gives};
 ghost use Rattle.e_book.specs.Literals.{monos_of};
 ghost use Rattle.e_book.specs.declared.fault.What.TheVariants as limits;
-ghost use Rattle.e_book.specs.Limits.{most_coefficient, most_facts, most_terms, within};
-ghost use Rattle.e_book.specs.Steps.{are_short, are_small, few_monos, terms_behind, terms_after};
+ghost use Rattle.e_book.specs.Limits.{most_coefficient, most_facts, most_terms, most_of, what_of, within};
+ghost use Rattle.e_book.specs.Steps.{are_short, are_small, few_monos, terms_behind, terms_after, few_objects, FewNamed};
 
 use crate::fault::{Kind, Trouble, What};
 use crate::literal::{RawAtom, RawLit};
 use crate::sum::{MAX_COEFFICIENT, RawMono};
-use e_literal::{Atom, Lit};
+use e_deriv::Names;
+use e_literal::{Atom, Lit, Sort};
+
+/// How many theorems a book may have.
+pub const MAX_THEOREMS: usize = 500;
+
+/// How many points may be in scope.
+pub const MAX_POINTS: usize = 40;
+
+/// How many lines may be in scope.
+pub const MAX_LINES: usize = 24;
+
+/// How many circles may be in scope.
+pub const MAX_CIRCLES: usize = 16;
+
+/// How many step and close lines a theorem may have.
+pub const MAX_STEPS: usize = 1_024;
+
+/// How many blocks may stand one inside the other.
+pub const MAX_DEPTH: usize = 32;
+
+/// How many blanks may stand on a line.
+pub const MAX_BLANKS: usize = 6;
 
 /// How many monomials a literal may have, as it is written.
 pub const MAX_MONOMIALS: usize = 32;
@@ -20,6 +42,50 @@ pub const MAX_FACTS: usize = 2_048;
 
 /// How many monomials the literals that are facts may have, repeats counted.
 pub const MAX_TERMS: usize = 1_024;
+
+/// At most so many, or the limit.
+pub(crate) fn within(count: usize, most: usize, what: What) -> Result<(), Trouble>
+    ensures { Gives (λ u. u) result (within count most what) }
+{
+    if count > most {
+        return Err(Trouble::Fault(Kind::Limit(what)));
+    }
+    Ok(())
+}
+
+/// How many objects of a sort may be in scope.
+pub(crate) fn most_of(sort: Sort) -> usize
+    ensures { result ≡ most_of sort }
+{
+    match sort {
+        Sort::Point => MAX_POINTS,
+        Sort::Line => MAX_LINES,
+        Sort::Circle => MAX_CIRCLES,
+    }
+}
+
+/// The limit of objects of a sort.
+pub(crate) fn what_of(sort: Sort) -> What
+    ensures { result ≡ what_of sort }
+{
+    match sort {
+        Sort::Point => What::Points,
+        Sort::Line => What::Lines,
+        Sort::Circle => What::Circles,
+    }
+}
+
+/// The limits of objects in scope: points, then lines, then circles.
+#[tactic(auto, unfolding(crate::specs::Steps::few_objects))]
+pub(crate) fn few_objects(names: &Names) -> Result<(), Trouble>
+    ensures value { Gives (λ u. u) result (few_objects names.now) }
+    ensures fits { IfOk result (λ u. FewNamed names.now) }
+{
+    within(names.points.len(), MAX_POINTS, What::Points)?;
+    within(names.lines.len(), MAX_LINES, What::Lines)?;
+    within(names.circles.len(), MAX_CIRCLES, What::Circles)?;
+    Ok(())
+}
 
 /// How many monomials a literal has.
 fn count_of(lit: &RawLit) -> usize
@@ -66,7 +132,7 @@ fn are_small(lits: &[RawLit]) -> bool
 
 /// The limits of each literal: of its monomials, and then of the coefficients of all.
 #[tactic(auto, unfolding(crate::specs::Steps::few_monos))]
-pub(crate) fn few_monos(lits: &[RawLit]) -> Result<(), Trouble>
+pub fn few_monos(lits: &[RawLit]) -> Result<(), Trouble>
     ensures { Gives (λ u. u) result (few_monos lits.now) }
 {
     if !are_short(lits) {

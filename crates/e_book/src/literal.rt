@@ -248,7 +248,7 @@ fn signed_of(alloc: Global, neg: bool, words: &[&[u8]]) -> Result<RawLit, Troubl
 
 /// A literal; `not` stands once before any form but those with `!=` and `<=`.
 #[tactic(auto, unfolding(crate::specs::Literals::lit_of))]
-pub(crate) fn lit_of(alloc: Global, words: &[&[u8]]) -> Result<RawLit, Trouble>
+pub fn lit_of(alloc: Global, words: &[&[u8]]) -> Result<RawLit, Trouble>
     ensures { Gives (λ l. l) result (lit_of (texts words.now)) }
 {
     match words {
@@ -275,7 +275,7 @@ fn is_diagram_raw(atom: &RawAtom) -> bool
 
 /// A literal of diagrams or of equal objects.
 #[tactic(auto, unfolding(crate::specs::Literals::diagram_lit_of))]
-pub(crate) fn diagram_lit_of(alloc: Global, words: &[&[u8]]) -> Result<RawLit, Trouble>
+pub fn diagram_lit_of(alloc: Global, words: &[&[u8]]) -> Result<RawLit, Trouble>
     ensures { Gives (λ l. l) result (diagram_lit_of (texts words.now)) }
 {
     let lit = lit_of(alloc, words)?;

@@ -21,7 +21,7 @@ use e_text::{Name, Title, contains, place_of};
 use std::alloc::{AllocError, Global};
 
 /// How many objects of each sort have names.
-pub(crate) fn scope_of_names(names: &Names) -> Scope
+pub fn scope_of_names(names: &Names) -> Scope
     requires { FewNames names.now }
     ensures { result ≡ scope_of_names names.now }
 {
@@ -220,7 +220,7 @@ fn negated_in(atom: &RawAtom, neg: bool) -> bool
 
 /// The literal with the objects that its names stand for; the leftmost fault.
 #[tactic(auto, unfolding(crate::specs::Scope::lit_in))]
-pub(crate) fn lit_in(alloc: Global, names: &Names, lit: &RawLit) -> Result<Lit, Trouble>
+pub fn lit_in(alloc: Global, names: &Names, lit: &RawLit) -> Result<Lit, Trouble>
     requires { FewNames names.now }
     ensures { Gives (λ l. l) result (lit_in names.now lit.now) }
 {
@@ -248,7 +248,7 @@ pub(crate) fn put_lits(
 }
 
 #[tactic(auto, unfolding(crate::specs::Scope::object_as))]
-fn object_as(names: &Names, sort: Sort, name: Name) -> Result<Obj, Trouble>
+pub(crate) fn object_as(names: &Names, sort: Sort, name: Name) -> Result<Obj, Trouble>
     requires { FewNames names.now }
     ensures { Gives (λ o. o) result (object_as names.now sort name) }
 {
@@ -304,7 +304,7 @@ fn known_rule(name: Title) -> Result<Rule, Trouble>
 
 /// An object for each variable of a rule: points, then lines, then circles.
 #[tactic(auto, unfolding(crate::specs::Scope::args_in))]
-fn args_in(alloc: Global, names: &Names, sig: Sig, args: &[Name]) -> Result<Items<Obj>, Trouble>
+pub fn args_in(alloc: Global, names: &Names, sig: Sig, args: &[Name]) -> Result<Items<Obj>, Trouble>
     requires names { FewNames names.now }
     requires count { length args.now ≡ sig.points + sig.lines + sig.circles }
     ensures { Gives (λ l. l) result (args_in names.now sig args.now) }
@@ -407,7 +407,7 @@ fn first_fitting(
 
 /// A construction: its new names, then its arguments, then what it avoids.
 #[tactic(auto, unfolding(crate::specs::Scope::let_in))]
-pub(crate) fn let_in(alloc: Global, names: &Names, raw: &RawLet) -> Result<Construction, Trouble>
+pub fn let_in(alloc: Global, names: &Names, raw: &RawLet) -> Result<Construction, Trouble>
     requires { FewNames names.now }
     ensures { Gives (λ f. f) result (let_in names.now raw.now) }
 {
@@ -441,7 +441,7 @@ fn objects_of_sorts(
 
 /// The objects behind `qed`: as many as there are made ones, and then each of its sort.
 #[tactic(auto, unfolding(crate::specs::Scope::qed_in))]
-pub(crate) fn qed_in(
+pub fn qed_in(
     alloc: Global,
     names: &Names,
     made: &[Sort],

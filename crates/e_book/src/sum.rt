@@ -60,7 +60,7 @@ fn term_named(word: &[u8], rest: &[&[u8]]) -> Result<RawTerm, Trouble>
 }
 
 #[tactic(auto, unfolding(crate::specs::Sums::term_of))]
-fn term_of(words: &[&[u8]]) -> Result<RawTerm, Trouble>
+pub fn term_of(words: &[&[u8]]) -> Result<RawTerm, Trouble>
     ensures { Gives (λ t. t) result (term_of (texts words.now)) }
 {
     match words {

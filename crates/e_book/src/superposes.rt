@@ -108,18 +108,14 @@ fn placed_in(names: &Names, args: &[Name]) -> Result<Superpose, Trouble>
 
 /// A superposition, and the literals that its block shows.
 #[derive(Debug, Drop)]
-pub(crate) struct Placement {
+pub struct Placement {
     pub form: Superpose,
     pub shown: Items<Lit>,
 }
 
 /// The objects, then the new names, then the literals; the leftmost fault.
 #[tactic(auto, unfolding(crate::specs::Superposes::superpose_in))]
-pub(crate) fn superpose_in(
-    alloc: Global,
-    names: &Names,
-    raw: &RawSuperpose,
-) -> Result<Placement, Trouble>
+pub fn superpose_in(alloc: Global, names: &Names, raw: &RawSuperpose) -> Result<Placement, Trouble>
     requires { FewNames names.now }
     ensures { Gives (λ p. (p.form, p.shown)) result (superpose_in names.now raw.now) }
 {

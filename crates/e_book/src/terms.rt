@@ -20,7 +20,7 @@ fn point(names: &Names, name: Name) -> Result<u16, Trouble>
 }
 
 #[tactic(auto, unfolding(crate::specs::Scope::term_in))]
-fn term_in(names: &Names, term: &RawTerm) -> Result<Term, Trouble>
+pub fn term_in(names: &Names, term: &RawTerm) -> Result<Term, Trouble>
     requires { FewNames names.now }
     ensures { Gives (λ t. t) result (term_in names.now term.now) }
 {

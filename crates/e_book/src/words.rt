@@ -46,7 +46,7 @@ pub fn cut<'b, 'a>(words: &'b [&'a [u8]], word: &[u8]) -> (&'b [&'a [u8]], &'b [
 }
 
 /// Words that are names.
-pub(crate) fn names_of(alloc: Global, words: &[&[u8]]) -> Result<Items<Name>, Trouble>
+pub fn names_of(alloc: Global, words: &[&[u8]]) -> Result<Items<Name>, Trouble>
     ensures { Gives (λ n. n) result (names_of (texts words.now)) }
 {
     let mut names = Items::empty(alloc);

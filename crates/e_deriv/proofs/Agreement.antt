@@ -1,25 +1,30 @@
 -- Lines that are certified, lines that are licensed, and proofs: what each gives of the others.
-use Rattle.std.proofs.Common.{◌≡◌, List, [], ◌∷◌, ◌++◌, refl, sym, ◌∙◌, subst, Bool, true, false, Some, None, ◌&&◌, true≢false}
+use Rattle.std.proofs.Common.{◌≡◌, ℕ, List, [], ◌∷◌, ◌++◌, refl, sym, ap, ◌∙◌, subst, Bool, true, false, Option, Some, None, ◌&&◌, ltb, length, true≢false}
 use Rattle.std.specs.Prelude.{IsTrue}
 use Rattle.std.specs.List.{list_all}
 use Rattle.std.proofs.lemmas.List.Folds.{list_all-append}
 use Rattle.e_literal.specs.declared.literal.Lit.{Lit}
+use Rattle.e_literal.specs.declared.object.Obj.{Obj}
 use Rattle.e_literal.specs.declared.object.Scope.{Scope}
 use Rattle.e_literal.specs.Literal.{negation}
 use Rattle.e_literal.specs.Facts.{joined, joined_all}
 use Rattle.e_literal.specs.Scopes.{grown}
-use Rattle.e_literal.specs.Use.{Stated, scope_of}
+use Rattle.e_literal.specs.Use.{Stated, are_arguments, needs_of_use, gives_of_use, scope_of}
+use Rattle.e_clause.specs.Allowed.{Allowed, AllAllowed}
 use Rattle.e_clause.specs.Certify.{certify_all}
 use Rattle.e_clause.proofs.Sound.{all_allowed_of_certified, contradictory_of_certified}
 use Rattle.e_construct.specs.Construct.{made, gives}
 use Rattle.e_construct.specs.Superposing as superposing
-use Rattle.e_deriv.specs.Script.{Script, Cite, Hence, Make, Claim, Superposed, Qed, Contradiction, Cases, erased}
+use Rattle.e_theorem.specs.Choice.{fills, is_choice, IsGood}
+use Rattle.e_deriv.specs.Script.{Script, Cite, Hence, Make, Apply, Claim, Superposed, Qed, Contradiction, Cases}
+use Rattle.e_deriv.specs.Parts.{rest_of, inner_of, args_of, written, has_no_blank, filled_in, filled_by}
 use Rattle.e_deriv.specs.Goal.{Goal, goal_of, facts_of_statement, goal_of_statement}
-use Rattle.e_deriv.specs.Lines.{Line, line, lines, proof_lines}
-use Rattle.e_deriv.specs.Steps.{fits, needs, are_over}
+use Rattle.e_deriv.specs.Lines.{Line, line, lines, theorem_at, proof_lines}
+use Rattle.e_deriv.specs.Steps.{fits, needs, are_over, is_applied}
 use Rattle.e_deriv.specs.Proves.{Proves, IsProof}
-use Rattle.e_deriv.specs.Licensed.{AllLicensed}
+use Rattle.e_deriv.specs.Licensed.{Licensed, AllLicensed}
 use Rattle.e_deriv.specs.Certified.{is_certified, certs_of, certified_beside, Certified}
+use Rattle.e_deriv.proofs.Choices.{written_again, no_blank_again, fills_again, least_of_good}
 
 and_left : (a b : Bool) → (a && b) ≡ true → a ≡ true
 and_left true b h = refl
@@ -40,253 +45,204 @@ all_right p xs ys h = and_right _ _ (sym (list_all-append p xs ys) ∙ h)
 
 -- ---- lists of lines, one behind the other
 
-pub both_licensed : (xs ys : List Line) → AllLicensed xs → AllLicensed ys → AllLicensed (xs ++ ys)
-both_licensed [] ys h k = k
-both_licensed (x ∷ xs) ys h k = (h.0, both_licensed xs ys h.1 k)
+pub both_licensed : (before : List Stated) (xs ys : List Line) → AllLicensed before xs → AllLicensed before ys → AllLicensed before (xs ++ ys)
+both_licensed before [] ys h k = k
+both_licensed before (x ∷ xs) ys h k = (h.0, both_licensed before xs ys h.1 k)
 
-pub first_licensed : (xs ys : List Line) → AllLicensed (xs ++ ys) → AllLicensed xs
-first_licensed [] ys h = tt
-first_licensed (x ∷ xs) ys h = (h.0, first_licensed xs ys h.1)
+pub first_licensed : (before : List Stated) (xs ys : List Line) → AllLicensed before (xs ++ ys) → AllLicensed before xs
+first_licensed before [] ys h = tt
+first_licensed before (x ∷ xs) ys h = (h.0, first_licensed before xs ys h.1)
 
-pub second_licensed : (xs ys : List Line) → AllLicensed (xs ++ ys) → AllLicensed ys
-second_licensed [] ys h = h
-second_licensed (x ∷ xs) ys h = second_licensed xs ys h.1
+pub second_licensed : (before : List Stated) (xs ys : List Line) → AllLicensed before (xs ++ ys) → AllLicensed before ys
+second_licensed before [] ys h = h
+second_licensed before (x ∷ xs) ys h = second_licensed before xs ys h.1
 
 -- ---- one line
 
 -- what the test of a line says
-record Parts (x : Line) (more : List Line) : Type 0 where
-  form : IsTrue (fits x)
-  certs : IsTrue (certify_all x.scope x.facts (needs x) (certs_of x.here))
+record Parts (before : List Stated) (x : Line) (more : List Line) : Type 0 where
+  form : IsTrue (fits before x)
+  certs : IsTrue (certify_all x.scope x.facts (needs before x) (certs_of x.here))
   beside : IsTrue (certified_beside x.here x.scope x.facts)
-  rest : IsTrue (list_all is_certified more)
+  rest : IsTrue (list_all (is_certified before) more)
 
-parts_of : (x : Line) (rest : List Line) → list_all is_certified (x ∷ rest) ≡ true → Parts x rest
-parts_of x rest h =
-    let c = certify_all x.scope x.facts (needs x) (certs_of x.here) in
+parts_of : (before : List Stated) (x : Line) (rest : List Line) → list_all (is_certified before) (x ∷ rest) ≡ true → Parts before x rest
+parts_of before x rest h =
+    let c = certify_all x.scope x.facts (needs before x) (certs_of x.here) in
     let b = certified_beside x.here x.scope x.facts in
-    let r = list_all is_certified rest in
-    let here = and_left (fits x && (c && b)) r h in
-    let both = and_right (fits x) (c && b) here in
-    record { form = and_left (fits x) (c && b) here; certs = and_left c b both; beside = and_right c b both; rest = and_right (fits x && (c && b)) r h }
+    let r = list_all (is_certified before) rest in
+    let here = and_left (fits before x && (c && b)) r h in
+    let both = and_right (fits before x) (c && b) here in
+    record { form = and_left (fits before x) (c && b) here; certs = and_left c b both; beside = and_right c b both; rest = and_right (fits before x && (c && b)) r h }
 
--- ---- certified lines are licensed
+-- ---- certified lines are a proof
 
-pub licensed_of_certified : (d : Script) (s : Scope) (facts : List Lit) (goal : Goal) →
-    list_all is_certified (lines d s facts goal) ≡ true → AllLicensed (lines d s facts goal)
-unfolding lines
-licensed_of_certified (Cite by rest) s facts goal h =
-    let x = line (Cite by rest) s facts goal in
-    let q = parts_of x (lines rest s (joined facts by.lit) goal) h in
-    (record { fits = q.form; allowed = tt; beside = q.beside }, licensed_of_certified rest s (joined facts by.lit) goal q.rest)
-licensed_of_certified (Hence lit None rest) s facts goal h =
-    let x = line (Hence lit None rest) s facts goal in
-    let q = parts_of x (lines rest s (joined facts lit) goal) h in
-    absurd (true≢false (sym q.certs))
-licensed_of_certified (Hence lit (Some cert) rest) s facts goal h =
-    let x = line (Hence lit (Some cert) rest) s facts goal in
-    let q = parts_of x (lines rest s (joined facts lit) goal) h in (
-      record { fits = q.form; allowed = all_allowed_of_certified s facts (needs x) (certs_of x.here) q.certs; beside = tt },
-      licensed_of_certified rest s (joined facts lit) goal q.rest,
-    )
-licensed_of_certified (Make form names certs rest) s facts goal h =
-    let x = line (Make form names certs rest) s facts goal in
-    let after = joined_all facts (gives form s) in
-    let q = parts_of x (lines rest (grown s (made form)) after goal) h in (
-      record { fits = q.form; allowed = all_allowed_of_certified s facts (needs x) certs q.certs; beside = tt },
-      licensed_of_certified rest (grown s (made form)) after goal q.rest,
-    )
-licensed_of_certified (Claim shown inner rest) s facts goal h =
-    let x = line (Claim shown inner rest) s facts goal in
-    let one = lines inner s facts (goal_of shown) in
-    let other = lines rest s (joined_all facts shown) goal in
-    let q = parts_of x (one ++ other) h in (
-      record { fits = q.form; allowed = tt; beside = tt },
-      both_licensed one other (licensed_of_certified inner s facts (goal_of shown) (all_left is_certified one other q.rest))
-          (licensed_of_certified rest s (joined_all facts shown) goal (all_right is_certified one other q.rest)),
-    )
-licensed_of_certified (Superposed form names shown certs inner rest) s facts goal h =
-    let x = line (Superposed form names shown certs inner rest) s facts goal in
-    let t = grown s superposing.made in
-    let given = joined_all facts (superposing.gives form s) in
-    let one = lines inner t given (goal_of shown) in
-    let other = lines rest s (joined_all facts shown) goal in
-    let q = parts_of x (one ++ other) h in (
-      record { fits = q.form; allowed = all_allowed_of_certified s facts (needs x) certs q.certs; beside = tt },
-      both_licensed one other (licensed_of_certified inner t given (goal_of shown) (all_left is_certified one other q.rest))
-          (licensed_of_certified rest s (joined_all facts shown) goal (all_right is_certified one other q.rest)),
-    )
-licensed_of_certified (Cases lit first second) s facts goal h =
-    let x = line (Cases lit first second) s facts goal in
-    let one = lines first s (joined facts lit) goal in
-    let other = lines second s (joined facts (negation lit)) goal in
-    let q = parts_of x (one ++ other) h in (
-      record { fits = q.form; allowed = tt; beside = tt },
-      both_licensed one other (licensed_of_certified first s (joined facts lit) goal (all_left is_certified one other q.rest))
-          (licensed_of_certified second s (joined facts (negation lit)) goal (all_right is_certified one other q.rest)),
-    )
-licensed_of_certified (Qed objects certs) s facts goal h =
-    let x = line (Qed objects certs) s facts goal in
-    let q = parts_of x [] h in
-    (record { fits = q.form; allowed = all_allowed_of_certified s facts (needs x) certs q.certs; beside = tt }, tt)
-licensed_of_certified (Contradiction None) s facts goal h =
-    let q = parts_of (line (Contradiction None) s facts goal) [] h in
-    absurd (true≢false (sym q.beside))
-licensed_of_certified (Contradiction (Some a)) s facts goal h =
-    let q = parts_of (line (Contradiction (Some a)) s facts goal) [] h in
-    (record { fits = q.form; allowed = tt; beside = contradictory_of_certified s facts a q.beside }, tt)
-
--- ---- licensed lines are a proof, and the other way round
-
-proves_of_licensed : (d : Script) (s : Scope) (facts : List Lit) (goal : Goal) → AllLicensed (lines d s facts goal) → Proves s facts goal d
+proves_of_certified : (before : List Stated) (d : Script) (s : Scope) (facts : List Lit) (goal : Goal) →
+    list_all (is_certified before) (lines before d d s facts goal) ≡ true → Proves before s facts goal d
 unfolding lines Proves
-proves_of_licensed (Cite by rest) s facts goal h = (h.0.fits, h.0.beside, proves_of_licensed rest s (joined facts by.lit) goal h.1)
-proves_of_licensed (Hence lit cert rest) s facts goal h = (h.0.fits, h.0.allowed.0, proves_of_licensed rest s (joined facts lit) goal h.1)
-proves_of_licensed (Make form names certs rest) s facts goal h =
-    (h.0.fits, h.0.allowed, proves_of_licensed rest (grown s (made form)) (joined_all facts (gives form s)) goal h.1)
-proves_of_licensed (Claim shown inner rest) s facts goal h =
-    let one = lines inner s facts (goal_of shown) in
-    let other = lines rest s (joined_all facts shown) goal in (
-      h.0.fits,
-      proves_of_licensed inner s facts (goal_of shown) (first_licensed one other h.1),
-      proves_of_licensed rest s (joined_all facts shown) goal (second_licensed one other h.1),
+proves_of_certified before (Cite by rest) s facts goal h =
+    let x = line (Cite by rest) (Cite by rest) s facts goal in
+    let q = parts_of before x (lines before rest rest s (joined facts by.lit) goal) h in
+    (q.form, q.beside, proves_of_certified before rest s (joined facts by.lit) goal q.rest)
+proves_of_certified before (Hence lit None rest) s facts goal h =
+    let x = line (Hence lit None rest) (Hence lit None rest) s facts goal in
+    let q = parts_of before x (lines before rest rest s (joined facts lit) goal) h in
+    absurd (true≢false (sym q.certs))
+proves_of_certified before (Hence lit (Some cert) rest) s facts goal h =
+    let x = line (Hence lit (Some cert) rest) (Hence lit (Some cert) rest) s facts goal in
+    let q = parts_of before x (lines before rest rest s (joined facts lit) goal) h in
+    (q.form, (all_allowed_of_certified s facts (needs before x) (certs_of x.here) q.certs).0, proves_of_certified before rest s (joined facts lit) goal q.rest)
+proves_of_certified before (Make form names certs rest) s facts goal h =
+    let x = line (Make form names certs rest) (Make form names certs rest) s facts goal in
+    let after = joined_all facts (gives form s) in
+    let q = parts_of before x (lines before rest rest (grown s (made form)) after goal) h in
+    (q.form, all_allowed_of_certified s facts (needs before x) certs q.certs, proves_of_certified before rest (grown s (made form)) after goal q.rest)
+proves_of_certified before (Apply theorem args names certs rest) s facts goal h =
+    let x = line (Apply theorem args names certs rest) (Apply theorem args names certs rest) s facts goal in
+    let t = theorem_at before theorem in
+    let after = joined_all facts (gives_of_use t (written args) s) in
+    let q = parts_of before x (lines before rest rest (grown s t.made) after goal) h in
+    (q.beside, q.form, all_allowed_of_certified s facts (needs before x) certs q.certs, proves_of_certified before rest (grown s t.made) after goal q.rest)
+proves_of_certified before (Claim shown inner rest) s facts goal h =
+    let x = line (Claim shown inner rest) (Claim shown inner rest) s facts goal in
+    let one = lines before inner inner s facts (goal_of shown) in
+    let other = lines before rest rest s (joined_all facts shown) goal in
+    let q = parts_of before x (one ++ other) h in (
+      q.form,
+      proves_of_certified before inner s facts (goal_of shown) (all_left (is_certified before) one other q.rest),
+      proves_of_certified before rest s (joined_all facts shown) goal (all_right (is_certified before) one other q.rest),
     )
-proves_of_licensed (Superposed form names shown certs inner rest) s facts goal h =
-    let t = grown s superposing.made in
+proves_of_certified before (Superposed form names shown certs inner rest) s facts goal h =
+    let x = line (Superposed form names shown certs inner rest) (Superposed form names shown certs inner rest) s facts goal in
+    let g = grown s superposing.made in
     let given = joined_all facts (superposing.gives form s) in
-    let one = lines inner t given (goal_of shown) in
-    let other = lines rest s (joined_all facts shown) goal in (
+    let one = lines before inner inner g given (goal_of shown) in
+    let other = lines before rest rest s (joined_all facts shown) goal in
+    let q = parts_of before x (one ++ other) h in (
+      and_left (superposing.fits form s) (are_over s shown) q.form,
+      all_allowed_of_certified s facts (needs before x) certs q.certs,
+      and_right (superposing.fits form s) (are_over s shown) q.form,
+      proves_of_certified before inner g given (goal_of shown) (all_left (is_certified before) one other q.rest),
+      proves_of_certified before rest s (joined_all facts shown) goal (all_right (is_certified before) one other q.rest),
+    )
+proves_of_certified before (Qed objects certs) s facts goal h =
+    let x = line (Qed objects certs) (Qed objects certs) s facts goal in
+    let q = parts_of before x [] h in
+    (q.form, all_allowed_of_certified s facts (needs before x) certs q.certs)
+proves_of_certified before (Contradiction None) s facts goal h =
+    let q = parts_of before (line (Contradiction None) (Contradiction None) s facts goal) [] h in
+    absurd (true≢false (sym q.beside))
+proves_of_certified before (Contradiction (Some a)) s facts goal h =
+    let q = parts_of before (line (Contradiction (Some a)) (Contradiction (Some a)) s facts goal) [] h in
+    contradictory_of_certified s facts a q.beside
+proves_of_certified before (Cases lit first second) s facts goal h =
+    let x = line (Cases lit first second) (Cases lit first second) s facts goal in
+    let one = lines before first first s (joined facts lit) goal in
+    let other = lines before second second s (joined facts (negation lit)) goal in
+    let q = parts_of before x (one ++ other) h in (
+      q.form,
+      proves_of_certified before first s (joined facts lit) goal (all_left (is_certified before) one other q.rest),
+      proves_of_certified before second s (joined facts (negation lit)) goal (all_right (is_certified before) one other q.rest),
+    )
+
+-- ---- licensed lines are a proof, with the blanks filled
+
+-- the filled arguments are a choice for themselves
+applied_again : (before : List Stated) (theorem : ℕ) (s : Scope) (pattern : List (Option Obj)) (args : List Obj) → is_applied before theorem s pattern args ≡ true → is_applied before theorem s (filled_in args) args ≡ true
+applied_again before theorem s pattern args h =
+    let low = ltb theorem (length before) in
+    let t = theorem_at before theorem in
+    and_both low (is_choice t s (filled_in args) args) (and_left low (is_choice t s pattern args) h)
+    (and_both (fills (filled_in args) args) (are_arguments t s args) (fills_again args) (and_right (fills pattern args) (are_arguments t s args) (and_right low (is_choice t s pattern args) h)))
+
+proves_of_licensed : (before : List Stated) (d f : Script) (s : Scope) (facts : List Lit) (goal : Goal) → AllLicensed before (lines before d f s facts goal) → Proves before s facts goal (filled_by d f)
+unfolding lines Proves filled_by
+proves_of_licensed before (Cite by rest) f s facts goal h = (h.0.fits, h.0.beside, proves_of_licensed before rest (rest_of f) s (joined facts by.lit) goal h.1)
+proves_of_licensed before (Hence lit cert rest) f s facts goal h = (h.0.fits, h.0.allowed.0, proves_of_licensed before rest (rest_of f) s (joined facts lit) goal h.1)
+proves_of_licensed before (Make form names certs rest) f s facts goal h =
+    (h.0.fits, h.0.allowed, proves_of_licensed before rest (rest_of f) (grown s (made form)) (joined_all facts (gives form s)) goal h.1)
+proves_of_licensed before (Apply theorem pattern names certs rest) f s facts goal h =
+    let t = theorem_at before theorem in
+    let args = args_of f in
+    let again : args ≡ written (filled_in args) = sym (written_again args) in (
+      no_blank_again args,
+      subst (λ xs. is_applied before theorem s (filled_in args) xs ≡ true) again (applied_again before theorem s pattern args h.0.fits),
+      subst (λ xs. AllAllowed s facts (needs_of_use t xs s)) again h.0.allowed,
+      subst (λ xs. Proves before (grown s t.made) (joined_all facts (gives_of_use t xs s)) goal (filled_by rest (rest_of f))) again
+          (proves_of_licensed before rest (rest_of f) (grown s t.made) (joined_all facts (gives_of_use t args s)) goal h.1),
+    )
+proves_of_licensed before (Claim shown inner rest) f s facts goal h =
+    let one = lines before inner (inner_of f) s facts (goal_of shown) in
+    let other = lines before rest (rest_of f) s (joined_all facts shown) goal in (
+      h.0.fits,
+      proves_of_licensed before inner (inner_of f) s facts (goal_of shown) (first_licensed before one other h.1),
+      proves_of_licensed before rest (rest_of f) s (joined_all facts shown) goal (second_licensed before one other h.1),
+    )
+proves_of_licensed before (Superposed form names shown certs inner rest) f s facts goal h =
+    let g = grown s superposing.made in
+    let given = joined_all facts (superposing.gives form s) in
+    let one = lines before inner (inner_of f) g given (goal_of shown) in
+    let other = lines before rest (rest_of f) s (joined_all facts shown) goal in (
       and_left (superposing.fits form s) (are_over s shown) h.0.fits,
       h.0.allowed,
       and_right (superposing.fits form s) (are_over s shown) h.0.fits,
-      proves_of_licensed inner t given (goal_of shown) (first_licensed one other h.1),
-      proves_of_licensed rest s (joined_all facts shown) goal (second_licensed one other h.1),
+      proves_of_licensed before inner (inner_of f) g given (goal_of shown) (first_licensed before one other h.1),
+      proves_of_licensed before rest (rest_of f) s (joined_all facts shown) goal (second_licensed before one other h.1),
     )
-proves_of_licensed (Cases lit first second) s facts goal h =
-    let one = lines first s (joined facts lit) goal in
-    let other = lines second s (joined facts (negation lit)) goal in (
+proves_of_licensed before (Qed objects certs) f s facts goal h = (h.0.fits, h.0.allowed)
+proves_of_licensed before (Contradiction against) f s facts goal h = h.0.beside
+proves_of_licensed before (Cases lit first second) f s facts goal h =
+    let one = lines before first (inner_of f) s (joined facts lit) goal in
+    let other = lines before second (rest_of f) s (joined facts (negation lit)) goal in (
       h.0.fits,
-      proves_of_licensed first s (joined facts lit) goal (first_licensed one other h.1),
-      proves_of_licensed second s (joined facts (negation lit)) goal (second_licensed one other h.1),
+      proves_of_licensed before first (inner_of f) s (joined facts lit) goal (first_licensed before one other h.1),
+      proves_of_licensed before second (rest_of f) s (joined facts (negation lit)) goal (second_licensed before one other h.1),
     )
-proves_of_licensed (Qed objects certs) s facts goal h = (h.0.fits, h.0.allowed)
-proves_of_licensed (Contradiction against) s facts goal h = h.0.beside
 
-licensed_of_proves : (d : Script) (s : Scope) (facts : List Lit) (goal : Goal) → Proves s facts goal d → AllLicensed (lines d s facts goal)
+-- ---- each line of a proof is licensed
+
+licensed_of_proves : (before : List Stated) (d : Script) (s : Scope) (facts : List Lit) (goal : Goal) → Proves before s facts goal d → AllLicensed before (lines before d d s facts goal)
 unfolding lines Proves
-licensed_of_proves (Cite by rest) s facts goal h = (record { fits = h.0; allowed = tt; beside = h.1 }, licensed_of_proves rest s (joined facts by.lit) goal h.2)
-licensed_of_proves (Hence lit cert rest) s facts goal h = (record { fits = h.0; allowed = (h.1, tt); beside = tt }, licensed_of_proves rest s (joined facts lit) goal h.2)
-licensed_of_proves (Make form names certs rest) s facts goal h =
-    (record { fits = h.0; allowed = h.1; beside = tt }, licensed_of_proves rest (grown s (made form)) (joined_all facts (gives form s)) goal h.2)
-licensed_of_proves (Claim shown inner rest) s facts goal h =
-    let one = lines inner s facts (goal_of shown) in
-    let other = lines rest s (joined_all facts shown) goal in (
-      record { fits = h.0; allowed = tt; beside = tt },
-      both_licensed one other (licensed_of_proves inner s facts (goal_of shown) h.1) (licensed_of_proves rest s (joined_all facts shown) goal h.2),
+licensed_of_proves before (Cite by rest) s facts goal h = (record { fits = h.0; allowed = tt; beside = h.1 }, licensed_of_proves before rest s (joined facts by.lit) goal h.2)
+licensed_of_proves before (Hence lit cert rest) s facts goal h = (record { fits = h.0; allowed = (h.1, tt); beside = tt }, licensed_of_proves before rest s (joined facts lit) goal h.2)
+licensed_of_proves before (Make form names certs rest) s facts goal h =
+    (record { fits = h.0; allowed = h.1; beside = tt }, licensed_of_proves before rest (grown s (made form)) (joined_all facts (gives form s)) goal h.2)
+licensed_of_proves before (Apply theorem args names certs rest) s facts goal h =
+    let t = theorem_at before theorem in
+    let good : IsGood t s facts args (written args) = record { is_choice = and_right (ltb theorem (length before)) (is_choice t s args (written args)) h.1; allowed = h.2 } in (
+      record { fits = h.1; allowed = h.2; beside = least_of_good t s facts args (written args) h.0 good },
+      licensed_of_proves before rest (grown s t.made) (joined_all facts (gives_of_use t (written args) s)) goal h.3,
     )
-licensed_of_proves (Superposed form names shown certs inner rest) s facts goal h =
-    let t = grown s superposing.made in
+licensed_of_proves before (Claim shown inner rest) s facts goal h =
+    let one = lines before inner inner s facts (goal_of shown) in
+    let other = lines before rest rest s (joined_all facts shown) goal in (
+      record { fits = h.0; allowed = tt; beside = tt },
+      both_licensed before one other (licensed_of_proves before inner s facts (goal_of shown) h.1) (licensed_of_proves before rest s (joined_all facts shown) goal h.2),
+    )
+licensed_of_proves before (Superposed form names shown certs inner rest) s facts goal h =
+    let g = grown s superposing.made in
     let given = joined_all facts (superposing.gives form s) in
-    let one = lines inner t given (goal_of shown) in
-    let other = lines rest s (joined_all facts shown) goal in (
+    let one = lines before inner inner g given (goal_of shown) in
+    let other = lines before rest rest s (joined_all facts shown) goal in (
       record { fits = and_both (superposing.fits form s) (are_over s shown) h.0 h.2; allowed = h.1; beside = tt },
-      both_licensed one other (licensed_of_proves inner t given (goal_of shown) h.3) (licensed_of_proves rest s (joined_all facts shown) goal h.4),
+      both_licensed before one other (licensed_of_proves before inner g given (goal_of shown) h.3) (licensed_of_proves before rest s (joined_all facts shown) goal h.4),
     )
-licensed_of_proves (Cases lit first second) s facts goal h =
-    let one = lines first s (joined facts lit) goal in
-    let other = lines second s (joined facts (negation lit)) goal in (
+licensed_of_proves before (Qed objects certs) s facts goal h = (record { fits = h.0; allowed = h.1; beside = tt }, tt)
+licensed_of_proves before (Contradiction against) s facts goal h = (record { fits = refl; allowed = tt; beside = h }, tt)
+licensed_of_proves before (Cases lit first second) s facts goal h =
+    let one = lines before first first s (joined facts lit) goal in
+    let other = lines before second second s (joined facts (negation lit)) goal in (
       record { fits = h.0; allowed = tt; beside = tt },
-      both_licensed one other (licensed_of_proves first s (joined facts lit) goal h.1) (licensed_of_proves second s (joined facts (negation lit)) goal h.2),
+      both_licensed before one other (licensed_of_proves before first s (joined facts lit) goal h.1) (licensed_of_proves before second s (joined facts (negation lit)) goal h.2),
     )
-licensed_of_proves (Qed objects certs) s facts goal h = (record { fits = h.0; allowed = h.1; beside = tt }, tt)
-licensed_of_proves (Contradiction against) s facts goal h = (record { fits = refl; allowed = tt; beside = h }, tt)
-
--- ---- certificates change nothing of what is licensed
-
-pub licensed_erased : (d : Script) (s : Scope) (facts : List Lit) (goal : Goal) → AllLicensed (lines d s facts goal) → AllLicensed (lines (erased d) s facts goal)
-unfolding lines erased
-licensed_erased (Cite by rest) s facts goal h =
-    (record { fits = h.0.fits; allowed = h.0.allowed; beside = h.0.beside }, licensed_erased rest s (joined facts by.lit) goal h.1)
-licensed_erased (Hence lit cert rest) s facts goal h =
-    (record { fits = h.0.fits; allowed = h.0.allowed; beside = tt }, licensed_erased rest s (joined facts lit) goal h.1)
-licensed_erased (Make form names certs rest) s facts goal h =
-    (record { fits = h.0.fits; allowed = h.0.allowed; beside = tt }, licensed_erased rest (grown s (made form)) (joined_all facts (gives form s)) goal h.1)
-licensed_erased (Claim shown inner rest) s facts goal h =
-    let one = lines inner s facts (goal_of shown) in
-    let other = lines rest s (joined_all facts shown) goal in (
-      record { fits = h.0.fits; allowed = h.0.allowed; beside = h.0.beside },
-      both_licensed _ _ (licensed_erased inner s facts (goal_of shown) (first_licensed one other h.1))
-          (licensed_erased rest s (joined_all facts shown) goal (second_licensed one other h.1)),
-    )
-licensed_erased (Superposed form names shown certs inner rest) s facts goal h =
-    let t = grown s superposing.made in
-    let given = joined_all facts (superposing.gives form s) in
-    let one = lines inner t given (goal_of shown) in
-    let other = lines rest s (joined_all facts shown) goal in (
-      record { fits = h.0.fits; allowed = h.0.allowed; beside = tt },
-      both_licensed _ _ (licensed_erased inner t given (goal_of shown) (first_licensed one other h.1))
-          (licensed_erased rest s (joined_all facts shown) goal (second_licensed one other h.1)),
-    )
-licensed_erased (Cases lit first second) s facts goal h =
-    let one = lines first s (joined facts lit) goal in
-    let other = lines second s (joined facts (negation lit)) goal in (
-      record { fits = h.0.fits; allowed = h.0.allowed; beside = h.0.beside },
-      both_licensed _ _ (licensed_erased first s (joined facts lit) goal (first_licensed one other h.1))
-          (licensed_erased second s (joined facts (negation lit)) goal (second_licensed one other h.1)),
-    )
-licensed_erased (Qed objects certs) s facts goal h = (record { fits = h.0.fits; allowed = h.0.allowed; beside = tt }, tt)
-licensed_erased (Contradiction against) s facts goal h = (record { fits = h.0.fits; allowed = h.0.allowed; beside = h.0.beside }, tt)
-
-pub licensed_of_erased : (d : Script) (s : Scope) (facts : List Lit) (goal : Goal) → AllLicensed (lines (erased d) s facts goal) → AllLicensed (lines d s facts goal)
-unfolding lines erased
-licensed_of_erased (Cite by rest) s facts goal h =
-    (record { fits = h.0.fits; allowed = h.0.allowed; beside = h.0.beside }, licensed_of_erased rest s (joined facts by.lit) goal h.1)
-licensed_of_erased (Hence lit cert rest) s facts goal h =
-    (record { fits = h.0.fits; allowed = h.0.allowed; beside = tt }, licensed_of_erased rest s (joined facts lit) goal h.1)
-licensed_of_erased (Make form names certs rest) s facts goal h =
-    (record { fits = h.0.fits; allowed = h.0.allowed; beside = tt }, licensed_of_erased rest (grown s (made form)) (joined_all facts (gives form s)) goal h.1)
-licensed_of_erased (Claim shown inner rest) s facts goal h =
-    let one = lines (erased inner) s facts (goal_of shown) in
-    let other = lines (erased rest) s (joined_all facts shown) goal in (
-      record { fits = h.0.fits; allowed = h.0.allowed; beside = h.0.beside },
-      both_licensed _ _ (licensed_of_erased inner s facts (goal_of shown) (first_licensed one other h.1))
-          (licensed_of_erased rest s (joined_all facts shown) goal (second_licensed one other h.1)),
-    )
-licensed_of_erased (Superposed form names shown certs inner rest) s facts goal h =
-    let t = grown s superposing.made in
-    let given = joined_all facts (superposing.gives form s) in
-    let one = lines (erased inner) t given (goal_of shown) in
-    let other = lines (erased rest) s (joined_all facts shown) goal in (
-      record { fits = h.0.fits; allowed = h.0.allowed; beside = tt },
-      both_licensed _ _ (licensed_of_erased inner t given (goal_of shown) (first_licensed one other h.1))
-          (licensed_of_erased rest s (joined_all facts shown) goal (second_licensed one other h.1)),
-    )
-licensed_of_erased (Cases lit first second) s facts goal h =
-    let one = lines (erased first) s (joined facts lit) goal in
-    let other = lines (erased second) s (joined facts (negation lit)) goal in (
-      record { fits = h.0.fits; allowed = h.0.allowed; beside = h.0.beside },
-      both_licensed _ _ (licensed_of_erased first s (joined facts lit) goal (first_licensed one other h.1))
-          (licensed_of_erased second s (joined facts (negation lit)) goal (second_licensed one other h.1)),
-    )
-licensed_of_erased (Qed objects certs) s facts goal h = (record { fits = h.0.fits; allowed = h.0.allowed; beside = tt }, tt)
-licensed_of_erased (Contradiction against) s facts goal h = (record { fits = h.0.fits; allowed = h.0.allowed; beside = h.0.beside }, tt)
 
 -- ---- the same of the proof of a statement
 
-pub proof_of_licensed : (t : Stated) (d : Script) → AllLicensed (proof_lines t d) → IsProof t d
-proof_of_licensed t d h = proves_of_licensed d (scope_of t) (facts_of_statement t) (goal_of_statement t) h
+pub proof_of_certified : (before : List Stated) (t : Stated) (d : Script) → Certified before t d → IsProof before t d
+proof_of_certified before t d h = proves_of_certified before d (scope_of t) (facts_of_statement t) (goal_of_statement t) h
 
-pub licensed_of_proof : (t : Stated) (d : Script) → IsProof t d → AllLicensed (proof_lines t d)
-licensed_of_proof t d h = licensed_of_proves d (scope_of t) (facts_of_statement t) (goal_of_statement t) h
+pub proof_of_licensed : (before : List Stated) (t : Stated) (d f : Script) → AllLicensed before (proof_lines before t d f) → IsProof before t (filled_by d f)
+proof_of_licensed before t d f h = proves_of_licensed before d f (scope_of t) (facts_of_statement t) (goal_of_statement t) h
 
-pub proof_of_certified : (t : Stated) (d : Script) → Certified t d → IsProof t d
-proof_of_certified t d h =
-    proof_of_licensed t d (licensed_of_certified d (scope_of t) (facts_of_statement t) (goal_of_statement t) h)
-
-pub licensed_of_derived : (t : Stated) (d script : Script) → Certified t d → erased d ≡ erased script → AllLicensed (proof_lines t script)
-licensed_of_derived t d script h same =
-    let s = scope_of t in
-    let facts = facts_of_statement t in
-    let goal = goal_of_statement t in
-    let all = licensed_of_certified d s facts goal h in
-    licensed_of_erased script s facts goal (subst (λ e. AllLicensed (lines e s facts goal)) same (licensed_erased d s facts goal all))
+pub licensed_of_proof : (before : List Stated) (t : Stated) (d : Script) → IsProof before t d → AllLicensed before (proof_lines before t d d)
+licensed_of_proof before t d h = licensed_of_proves before d (scope_of t) (facts_of_statement t) (goal_of_statement t) h

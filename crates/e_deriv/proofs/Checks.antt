@@ -1,5 +1,5 @@
 -- Derivations at small size, and what they become with one premise less.
-use Rattle.std.proofs.Common.{◌≡◌, ℕ, List, [], ◌∷◌, refl, sym, true≢false, Some, None, Ok, Err, inl, inr}
+use Rattle.std.proofs.Common.{Option, ◌≡◌, ℕ, List, [], ◌∷◌, refl, sym, true≢false, Some, None, Ok, Err, inl, inr}
 use Rattle.e_literal.specs.declared.object.Sort.TheVariants.{Point, Line}
 use Rattle.e_literal.specs.declared.object.Obj.{Obj}
 use Rattle.e_literal.specs.declared.object.Scope.{Scope}
@@ -24,7 +24,7 @@ use Rattle.e_clause.specs.Table.Incidence.{incidence}
 use Rattle.e_clause.specs.Instance.{Inst}
 use Rattle.e_deriv.specs.declared.stop.Wanted.TheVariants.{Literal, Contradiction as AContradiction}
 use Rattle.e_deriv.specs.declared.names.Names.{Names}
-use Rattle.e_deriv.specs.Script.{Script, Cite, Hence, Make, Claim, Qed, Contradiction, Cases, size, depth, erased}
+use Rattle.e_deriv.specs.Script.{Script, Cite, Hence, Make, Apply, Claim, Qed, Contradiction, Cases, size, depth, erased}
 use Rattle.e_deriv.specs.Lines.{line, lines}
 use Rattle.e_deriv.specs.Goal.{goal_of_statement}
 use Rattle.e_deriv.specs.Licensed.{IsFirstUnlicensed}
@@ -57,26 +57,26 @@ unfolding size
 three_lines = refl
 
 -- each of the three lines is certified
-four_certified : Certified four derivation
+four_certified : Certified [] four derivation
 unfolding lines joined Inst table incidence
 four_certified = refl
 
-four_verified : verdict four derivation ≡ Ok 4
+four_verified : verdict [] four derivation ≡ Ok 4
 unfolding lines joined Inst table incidence
 four_verified = refl
 
 -- a script's hence has no certificate
-bare_at_two : verdict four (erased derivation) ≡ Err 2
+bare_at_two : verdict [] four (erased derivation) ≡ Err 2
 unfolding lines joined Inst table incidence erased
 bare_at_two = refl
 
 -- with one premise less the first line is not licensed, and it lacks the literal cited
-one_less_stops : IsFirstUnlicensed one_less (erased derivation) 1 (Literal (between 0 1 3))
+one_less_stops : IsFirstUnlicensed [] one_less (erased derivation) 1 (Literal (between 0 1 3))
 unfolding lines joined Inst table incidence erased
 one_less_stops =
     record {
-      line = line (erased derivation) (record { points = 4; lines = 0; circles = 0 }) (between 0 1 2 ∷ []) (goal_of_statement one_less);
-      context = record { place = 0; number = refl; at = refl; earlier = tt };
+      line = line (erased derivation) (erased derivation) (record { points = 4; lines = 0; circles = 0 }) (between 0 1 2 ∷ []) (goal_of_statement one_less);
+      context = record { filled = erased derivation; place = 0; number = refl; at = refl; earlier = tt };
       lacks = (refl, refl);
     }
 
@@ -102,12 +102,12 @@ made_between first second =
 abbrev made_derivation : Script
 made_derivation = made_between (Plain Fact ∷ []) (Plain Fact ∷ Plain Fact ∷ Plain Fact ∷ [])
 
-halfway_certified : Certified (halfway apart_points) made_derivation
+halfway_certified : Certified [] (halfway apart_points) made_derivation
 unfolding lines joined shape_row
 halfway_certified = refl
 
 -- a construction has one certificate for each of its needs
-one_less_certificate : verdict (halfway apart_points) (made_between (Plain Fact ∷ []) (Plain Fact ∷ Plain Fact ∷ [])) ≡ Err 2
+one_less_certificate : verdict [] (halfway apart_points) (made_between (Plain Fact ∷ []) (Plain Fact ∷ Plain Fact ∷ [])) ≡ Err 2
 unfolding lines joined shape_row
 one_less_certificate = refl
 
@@ -116,7 +116,7 @@ abbrev names_of_halfway : Names
 names_of_halfway = record { points = (97 ∷ []) ∷ (98 ∷ []) ∷ (99 ∷ []) ∷ []; lines = []; circles = [] }
 
 -- in the proof the name of the statement's made point is not in scope; each new name is in scope after its line
-three_names : names_lines (declared_names (halfway apart_points) names_of_halfway) made_derivation ≡
+three_names : names_lines [] (declared_names (halfway apart_points) names_of_halfway) made_derivation ≡
     record { points = (97 ∷ []) ∷ (98 ∷ []) ∷ []; lines = []; circles = [] }
     ∷ record { points = (97 ∷ []) ∷ (98 ∷ []) ∷ []; lines = (109 ∷ []) ∷ []; circles = [] }
     ∷ record { points = (97 ∷ []) ∷ (98 ∷ []) ∷ (101 ∷ []) ∷ []; lines = (109 ∷ []) ∷ []; circles = [] } ∷ []
@@ -136,12 +136,12 @@ agree (inl h) = true≢false (sym h)
 agree (inr u) = u.fails (λ t. 1) refl refl
 
 -- a contradiction without facts is refused at line 1, and any value of right from 1 on shows it
-nothing_refuses : IsRefused nothing (Contradiction None) 1 AContradiction (Some ((Right, 1) ∷ []))
+nothing_refuses : IsRefused [] nothing (Contradiction None) 1 AContradiction (Some ((Right, 1) ∷ []))
 unfolding lines
 nothing_refuses =
     record {
-      line = line (Contradiction None) no_scope [] (goal_of_statement nothing);
-      context = record { place = 0; number = refl; at = refl; earlier = tt };
+      line = line (Contradiction None) (Contradiction None) no_scope [] (goal_of_statement nothing);
+      context = record { filled = Contradiction None; place = 0; number = refl; at = refl; earlier = tt };
       lacks = agree;
       shown = record { in_order = refl; of_step = λ t. refl; counterexample = record { is_admissible = refl; facts_hold = refl; wanted_fails = refl } };
     }
@@ -161,7 +161,7 @@ stands_on = record { declared = Point ∷ Line ∷ []; given = on_line ∷ []; m
 abbrev split : Script
 split = Cases on_line (Qed [] (Plain Fact ∷ [])) (Contradiction (Some (Clash on_line)))
 
-split_certified : Certified stands_on split
+split_certified : Certified [] stands_on split
 unfolding lines joined
 split_certified = refl
 
@@ -174,7 +174,7 @@ unfolding depth
 two_deep = refl
 
 -- the first block has the literal for a fact, not its negation
-no_clash_in_the_first : verdict stands_on (Cases on_line (Contradiction (Some (Clash on_line))) (Qed [] (Plain Fact ∷ []))) ≡ Err 2
+no_clash_in_the_first : verdict [] stands_on (Cases on_line (Contradiction (Some (Clash on_line))) (Qed [] (Plain Fact ∷ []))) ≡ Err 2
 unfolding lines joined
 no_clash_in_the_first = refl
 
@@ -190,16 +190,40 @@ abbrev on_one_line : Stated
 on_one_line =
     record { declared = Point ∷ Point ∷ Line ∷ []; given = apart (point 0) (point 1) ∷ on 0 0 ∷ on 1 0 ∷ []; made = []; shown = two_on_line }
 
-claim_certified : Certified on_one_line (with_point two_on_line (Qed [] (Plain Fact ∷ [])))
+claim_certified : Certified [] on_one_line (with_point two_on_line (Qed [] (Plain Fact ∷ [])))
 unfolding lines joined shape_row
 claim_certified = refl
 
 -- behind the claim the point is gone
-point_is_gone : verdict on_one_line (with_point two_on_line (Hence (between 0 2 1) (Some (Plain Fact)) (Qed [] (Plain Fact ∷ [])))) ≡ Err 4
+point_is_gone : verdict [] on_one_line (with_point two_on_line (Hence (between 0 2 1) (Some (Plain Fact)) (Qed [] (Plain Fact ∷ [])))) ≡ Err 4
 unfolding lines joined shape_row
 point_is_gone = refl
 
 -- what a claim shows cannot speak of it
-point_is_not_claimed : verdict on_one_line (with_point (between 0 2 1 ∷ []) (Qed [] (Plain Fact ∷ []))) ≡ Err 1
+point_is_not_claimed : verdict [] on_one_line (with_point (between 0 2 1 ∷ []) (Qed [] (Plain Fact ∷ []))) ≡ Err 1
 unfolding lines joined shape_row
 point_is_not_claimed = refl
+
+-- ---- an earlier theorem: a point of a line is on it
+
+abbrev about_lines : Stated
+about_lines = record { declared = Point ∷ Line ∷ []; given = on 0 0 ∷ []; made = []; shown = on 0 0 ∷ [] }
+
+abbrev two_lines : Stated
+two_lines = record { declared = Point ∷ Line ∷ Line ∷ []; given = on 0 0 ∷ on 0 1 ∷ []; made = []; shown = on 0 0 ∷ [] }
+
+abbrev applied : List (Option Obj) → Script
+applied args = Apply 0 args [] (Plain Fact ∷ []) (Qed [] (Plain Fact ∷ []))
+
+application_certified : Certified (about_lines ∷ []) two_lines (applied (Some (point 0) ∷ Some (obj Line 0) ∷ []))
+unfolding lines joined
+application_certified = refl
+
+-- a derivation has no blank, and applies an earlier theorem
+blank_is_left : verdict (about_lines ∷ []) two_lines (applied (Some (point 0) ∷ None ∷ [])) ≡ Err 1
+unfolding lines joined
+blank_is_left = refl
+
+no_such_theorem : verdict [] two_lines (applied (Some (point 0) ∷ Some (obj Line 0) ∷ [])) ≡ Err 1
+unfolding lines joined
+no_such_theorem = refl

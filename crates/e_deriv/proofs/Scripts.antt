@@ -10,10 +10,10 @@ use Rattle.e_clause.specs.declared.cert.By.{By}
 use Rattle.e_clause.specs.declared.cert.Cert.{Cert}
 use Rattle.e_deriv.specs.declared.block.Block.{Block}
 use Rattle.e_deriv.specs.declared.block.Step.{Step, Row_of-Step, end_of-Step, more_of-Step, items-the_row-Step, items_hidden-the_row-Step-0}
-use Rattle.e_deriv.specs.declared.block.Step.TheVariants.{Cite as CiteStep, Hence as HenceStep, Make as MakeStep, Claim as ClaimStep, Superposed as SuperposedStep, Claim', Superposed'}
+use Rattle.e_deriv.specs.declared.block.Step.TheVariants.{Cite as CiteStep, Hence as HenceStep, Make as MakeStep, Apply as ApplyStep, Claim as ClaimStep, Superposed as SuperposedStep, Claim', Superposed'}
 use Rattle.e_deriv.specs.declared.block.Close.TheVariants.{Qed as QedClose, Contradiction as ContradictionClose, Cases as CasesClose}
-use Rattle.e_deriv.specs.Script.{Script, Cite, Hence, Make, Claim, Superposed, Qed, Contradiction, Cases, step_script, row_script, close_script, steps_script, script_of, size, depth, erased}
-use Rattle.e_deriv.specs.PlainStep.{Cited, Inferred, Made, Claimed, Copied, plain_step, before}
+use Rattle.e_deriv.specs.Script.{Script, Cite, Hence, Make, Apply, Claim, Superposed, Qed, Contradiction, Cases, step_script, row_script, close_script, steps_script, script_of, size, depth, erased}
+use Rattle.e_deriv.specs.PlainStep.{Cited, Inferred, Made, Applied, Claimed, Copied, plain_step, before}
 
 row_script-items : (n : _) (row : Row_of-Step n) (rest : Script) → row_script row rest ≡ steps_script (items-the_row-Step n row) rest
 unfolding row_script
@@ -41,6 +41,10 @@ pub step_script-Make : (form : Construction) (names : List (List ℕ)) (certs : 
 unfolding step_script
 step_script-Make form names certs rest = refl
 
+pub step_script-Apply : (theorem : ℕ) (args : List (Option Obj)) (names : List (List ℕ)) (certs : List Cert) (rest : Script) → step_script (ApplyStep theorem args names certs) rest ≡ Apply theorem args names certs rest
+unfolding step_script
+step_script-Apply theorem args names certs rest = refl
+
 pub step_script-Claim : (shown : List Lit) (inner : Box Block Global) (rest : Script) → step_script (ClaimStep shown inner) rest ≡ Claim shown (script_of inner.value) rest
 unfolding step_script
 step_script-Claim shown inner rest = ap (λ s. Claim shown s rest) (row_script-block inner (close_script inner.value.close))
@@ -63,7 +67,7 @@ close_script-Cases lit first second =
     ap (λ s. Cases lit s (row_script (row_of (ClaimStep [] second)).1 (close_script second.value.close))) (row_script-block first (close_script first.value.close))
     ∙ ap (Cases lit (script_of first.value)) (row_script-block second (close_script second.value.close))
 
-pub ruleset scripts = (step_script-Cite, step_script-Hence, step_script-Make, step_script-Claim, step_script-Superposed, close_script-Qed, close_script-Contradiction, close_script-Cases)
+pub ruleset scripts = (step_script-Cite, step_script-Hence, step_script-Make, step_script-Apply, step_script-Claim, step_script-Superposed, close_script-Qed, close_script-Contradiction, close_script-Cases)
 
 pub size-Cite : (by : By) (rest : Script) → size (Cite by rest) ≡ 1 + size rest
 unfolding size
@@ -76,6 +80,10 @@ size-Hence lit cert rest = refl
 pub size-Make : (form : Construction) (names : List (List ℕ)) (certs : List Cert) (rest : Script) → size (Make form names certs rest) ≡ 1 + size rest
 unfolding size
 size-Make form names certs rest = refl
+
+pub size-Apply : (theorem : ℕ) (args : List (Option Obj)) (names : List (List ℕ)) (certs : List Cert) (rest : Script) → size (Apply theorem args names certs rest) ≡ 1 + size rest
+unfolding size
+size-Apply theorem args names certs rest = refl
 
 pub size-Claim : (shown : List Lit) (inner : Script) (rest : Script) → size (Claim shown inner rest) ≡ 1 + size inner + size rest
 unfolding size
@@ -97,7 +105,7 @@ pub size-Cases : (lit : Lit) (first : Script) (second : Script) → size (Cases 
 unfolding size
 size-Cases lit first second = refl
 
-pub ruleset sizes = (common_steps, scripts, size-Cite, size-Hence, size-Make, size-Claim, size-Superposed, size-Qed, size-Contradiction, size-Cases)
+pub ruleset sizes = (common_steps, scripts, size-Cite, size-Hence, size-Make, size-Apply, size-Claim, size-Superposed, size-Qed, size-Contradiction, size-Cases)
 
 pub depth-Cite : (by : By) (rest : Script) → depth (Cite by rest) ≡ depth rest
 unfolding depth
@@ -110,6 +118,10 @@ depth-Hence lit cert rest = refl
 pub depth-Make : (form : Construction) (names : List (List ℕ)) (certs : List Cert) (rest : Script) → depth (Make form names certs rest) ≡ depth rest
 unfolding depth
 depth-Make form names certs rest = refl
+
+pub depth-Apply : (theorem : ℕ) (args : List (Option Obj)) (names : List (List ℕ)) (certs : List Cert) (rest : Script) → depth (Apply theorem args names certs rest) ≡ depth rest
+unfolding depth
+depth-Apply theorem args names certs rest = refl
 
 pub depth-Claim : (shown : List Lit) (inner : Script) (rest : Script) → depth (Claim shown inner rest) ≡ max (1 + depth inner) (depth rest)
 unfolding depth
@@ -131,7 +143,7 @@ pub depth-Cases : (lit : Lit) (first : Script) (second : Script) → depth (Case
 unfolding depth
 depth-Cases lit first second = refl
 
-pub ruleset depths = (common_steps, scripts, depth-Cite, depth-Hence, depth-Make, depth-Claim, depth-Superposed, depth-Qed, depth-Contradiction, depth-Cases)
+pub ruleset depths = (common_steps, scripts, depth-Cite, depth-Hence, depth-Make, depth-Apply, depth-Claim, depth-Superposed, depth-Qed, depth-Contradiction, depth-Cases)
 
 pub erased-Cite : (by : By) (rest : Script) → erased (Cite by rest) ≡ Cite by (erased rest)
 unfolding erased
@@ -144,6 +156,10 @@ erased-Hence lit cert rest = refl
 pub erased-Make : (form : Construction) (names : List (List ℕ)) (certs : List Cert) (rest : Script) → erased (Make form names certs rest) ≡ Make form names [] (erased rest)
 unfolding erased
 erased-Make form names certs rest = refl
+
+pub erased-Apply : (theorem : ℕ) (args : List (Option Obj)) (names : List (List ℕ)) (certs : List Cert) (rest : Script) → erased (Apply theorem args names certs rest) ≡ Apply theorem args names [] (erased rest)
+unfolding erased
+erased-Apply theorem args names certs rest = refl
 
 pub erased-Claim : (shown : List Lit) (inner : Script) (rest : Script) → erased (Claim shown inner rest) ≡ Claim shown (erased inner) (erased rest)
 unfolding erased
@@ -169,7 +185,7 @@ pub steps_script-append : (xs ys : List Step) (rest : Script) → steps_script (
 steps_script-append [] ys rest = refl
 steps_script-append (x ∷ xs) ys rest = ap (step_script x) (steps_script-append xs ys rest)
 
-pub ruleset erasing = (common_steps, scripts, erased-Cite, erased-Hence, erased-Make, erased-Claim, erased-Superposed, erased-Qed, erased-Contradiction, erased-Cases, steps_script-append)
+pub ruleset erasing = (common_steps, scripts, erased-Cite, erased-Hence, erased-Make, erased-Apply, erased-Claim, erased-Superposed, erased-Qed, erased-Contradiction, erased-Cases, steps_script-append)
 
 -- the step at this place, and what comes after it; the loop goes over `seen`
 pub steps_at : (items seen : List Step) (rest : Script) (i : ℕ) (s : Step) → seen ≡ items → i < length seen → s ≡ get_or seen i s →
@@ -194,6 +210,10 @@ pub plain_step-Make : (form : Construction) (names : List (List ℕ)) (certs : L
 unfolding plain_step
 plain_step-Make form names certs = refl
 
+pub plain_step-Apply : (theorem : ℕ) (args : List (Option Obj)) (names : List (List ℕ)) (certs : List Cert) → plain_step (ApplyStep theorem args names certs) ≡ Applied theorem args names certs
+unfolding plain_step
+plain_step-Apply theorem args names certs = refl
+
 pub plain_step-Claim : (shown : List Lit) (inner : Box Block Global) → plain_step (ClaimStep shown inner) ≡ Claimed shown (script_of inner.value)
 unfolding plain_step
 plain_step-Claim shown inner = ap (Claimed shown) (row_script-block inner (close_script inner.value.close))
@@ -202,7 +222,7 @@ pub plain_step-Superposed : (form : Superpose) (names : List (List ℕ)) (shown 
 unfolding plain_step
 plain_step-Superposed form names shown certs inner = ap (Copied form names shown certs) (row_script-block inner (close_script inner.value.close))
 
-pub ruleset plain_steps = (plain_step-Cite, plain_step-Hence, plain_step-Make, plain_step-Claim, plain_step-Superposed)
+pub ruleset plain_steps = (plain_step-Cite, plain_step-Hence, plain_step-Make, plain_step-Apply, plain_step-Claim, plain_step-Superposed)
 
 -- a step before what comes after it
 pub step_script-plain : (s : Step) (rest : Script) → step_script s rest ≡ before (plain_step s) rest
@@ -210,5 +230,6 @@ unfolding step_script plain_step
 step_script-plain (CiteStep by) rest = refl
 step_script-plain (HenceStep lit cert) rest = refl
 step_script-plain (MakeStep form names certs) rest = refl
+step_script-plain (ApplyStep theorem args names certs) rest = refl
 step_script-plain (Claim' shown p0 n0 row0 close0) rest = refl
 step_script-plain (Superposed' form names shown certs p0 n0 row0 close0) rest = refl

@@ -1,20 +1,29 @@
--- The first line that is not licensed, and what it lacks, are one; and where each line is licensed there is none.
-use Rattle.std.proofs.Common.{◌≡◌, ℕ, zero, suc, List, [], ◌∷◌, ◌++◌, refl, sym, ap, ◌∙◌, subst, true≢false, Some, None}
+-- What holds before a line, the first line that is not licensed, and what it lacks, are one; and where each line is licensed there
+-- is no such line.
+use Rattle.std.proofs.Common.{◌≡◌, ℕ, zero, suc, ◌+◌, ◌<◌, List, [], ◌∷◌, ◌++◌, length, refl, sym, ap, ◌∙◌, subst, Bool, true, false, ◌&&◌, true≢false, Option, Some, None, inl, inr, ◌⊎◌, length-append}
 use Rattle.std.specs.Prelude.{take, slice_get, unwrap_or}
 use Rattle.std.proofs.Common.{arith}
 use Rattle.e_literal.specs.declared.literal.Lit.{Lit}
+use Rattle.e_literal.specs.declared.object.Obj.{Obj}
 use Rattle.e_literal.specs.declared.object.Scope.{Scope}
-use Rattle.e_literal.specs.Use.{Stated}
+use Rattle.e_literal.specs.Literal.{negation}
+use Rattle.e_literal.specs.Facts.{joined, joined_all}
+use Rattle.e_literal.specs.Scopes.{grown}
+use Rattle.e_literal.specs.Use.{Stated, are_arguments, needs_of_use, gives_of_use, scope_of}
 use Rattle.e_clause.specs.Allowed.{Allowed, AllAllowed}
+use Rattle.e_construct.specs.Construct.{made, gives}
+use Rattle.e_construct.specs.Superposing as superposing
+use Rattle.e_theorem.specs.Choice.{fills, is_choice}
 use Rattle.e_deriv.specs.declared.stop.Wanted.{Wanted}
-use Rattle.e_deriv.specs.declared.stop.Wanted.TheVariants.{Literal, Contradiction as AContradiction}
-use Rattle.e_deriv.specs.Script.{Script, Cite, Hence, Make, Superposed, Qed, Contradiction, erased}
-use Rattle.e_deriv.specs.Goal.{Goal}
-use Rattle.e_deriv.specs.Lines.{Line, line, proof_lines}
-use Rattle.e_deriv.specs.Steps.{needs}
+use Rattle.e_deriv.specs.declared.stop.Wanted.TheVariants.{Literal, Match, Contradiction as AContradiction}
+use Rattle.e_deriv.specs.Script.{Script, Cite, Hence, Make, Apply, Claim, Superposed, Qed, Contradiction, Cases, size}
+use Rattle.e_deriv.specs.Parts.{rest_of, inner_of, args_of, written, has_no_blank}
+use Rattle.e_deriv.specs.Goal.{Goal, goal_of, facts_of_statement, goal_of_statement}
+use Rattle.e_deriv.specs.Lines.{Line, line, lines, theorem_at, proof_lines}
+use Rattle.e_deriv.specs.Steps.{fits, needs_at, needs_as_written, is_applied}
 use Rattle.e_deriv.specs.Licensed.{Licensed, AllLicensed, IsFirstNotAllowed, Lacks, IsContext, IsFirstUnlicensed}
-use Rattle.e_deriv.specs.Certified.{Certified}
-use Rattle.e_deriv.proofs.Agreement.{licensed_of_derived}
+use Rattle.e_deriv.specs.Laws.{SamePlace}
+use Rattle.e_deriv.proofs.Choices.{only_choice, least_is_one}
 
 -- ---- lists of literals
 
@@ -23,7 +32,7 @@ allowed_at s facts [] l later h = h.0
 allowed_at s facts (e ∷ es) l later h = allowed_at s facts es l later h.1
 
 -- where each literal is allowed none is the first that is not
-none_not_allowed : (s : Scope) (facts ls : List Lit) (l : Lit) → AllAllowed s facts ls → ¬ IsFirstNotAllowed s facts ls l
+pub none_not_allowed : (s : Scope) (facts ls : List Lit) (l : Lit) → AllAllowed s facts ls → ¬ IsFirstNotAllowed s facts ls l
 none_not_allowed s facts ls l h first = first.not_allowed (allowed_at s facts first.earlier l first.later (subst (AllAllowed s facts) first.split h))
 
 head_same : {A : Type 0} (x y : A) (xs ys : List A) → x ∷ xs ≡ y ∷ ys → x ≡ y
@@ -50,89 +59,324 @@ one_not_allowed s facts ls l l' a b =
 
 -- ---- one line
 
-lacks_nothing : (here : Script) (s : Scope) (facts : List Lit) (goal : Goal) (w : Wanted) →
-    Licensed (line here s facts goal) → ¬ Lacks (line here s facts goal) here w
-lacks_nothing (Cite by rest) s facts goal (Literal l) h k = true≢false (sym h.beside ∙ k.0)
-lacks_nothing (Hence lit cert rest) s facts goal (Literal l) h k = none_not_allowed s facts (needs (line (Hence lit cert rest) s facts goal)) l h.allowed k
-lacks_nothing (Make form names certs rest) s facts goal (Literal l) h k = none_not_allowed s facts (needs (line (Make form names certs rest) s facts goal)) l h.allowed k
-lacks_nothing (Superposed form names shown certs inner rest) s facts goal (Literal l) h k = none_not_allowed s facts (needs (line (Superposed form names shown certs inner rest) s facts goal)) l h.allowed k
-lacks_nothing (Qed objects certs) s facts goal (Literal l) h k = none_not_allowed s facts (needs (line (Qed objects certs) s facts goal)) l h.allowed k
-lacks_nothing (Contradiction against) s facts goal AContradiction h k = k h.beside
-lacks_nothing (Contradiction against) s facts goal (Literal l) h k = k
-lacks_nothing here s facts goal w h k = k
+right : (a b : Bool) → (a && b) ≡ true → b ≡ true
+right true b h = h
+right false b h = absurd (true≢false (sym h))
 
--- a line that is licensed lacks nothing
-pub lacks_not : (x : Line) (w : Wanted) → Licensed x → ¬ Lacks x x.here w
-lacks_not x w h k = lacks_nothing x.here x.scope x.facts x.goal w h k
+left : (a b : Bool) → (a && b) ≡ true → a ≡ true
+left true b h = refl
+left false b h = h
 
-lacks_same : (here : Script) (s : Scope) (facts : List Lit) (goal : Goal) (v w : Wanted) →
-    Lacks (line here s facts goal) here v → Lacks (line here s facts goal) here w → v ≡ w
-lacks_same (Cite by rest) s facts goal (Literal l) (Literal l') h k = ap Literal (h.1 ∙ sym k.1)
-lacks_same (Hence lit cert rest) s facts goal (Literal l) (Literal l') h k = ap Literal (one_not_allowed s facts (needs (line (Hence lit cert rest) s facts goal)) l l' h k)
-lacks_same (Make form names certs rest) s facts goal (Literal l) (Literal l') h k = ap Literal (one_not_allowed s facts (needs (line (Make form names certs rest) s facts goal)) l l' h k)
-lacks_same (Superposed form names shown certs inner rest) s facts goal (Literal l) (Literal l') h k = ap Literal (one_not_allowed s facts (needs (line (Superposed form names shown certs inner rest) s facts goal)) l l' h k)
-lacks_same (Qed objects certs) s facts goal (Literal l) (Literal l') h k = ap Literal (one_not_allowed s facts (needs (line (Qed objects certs) s facts goal)) l l' h k)
-lacks_same (Contradiction against) s facts goal AContradiction AContradiction h k = refl
-lacks_same (Contradiction against) s facts goal (Literal l) w h k = absurd h
-lacks_same (Contradiction against) s facts goal AContradiction (Literal l) h k = absurd k
-lacks_same here s facts goal AContradiction w h k = absurd h
-lacks_same here s facts goal w AContradiction h k = absurd k
-lacks_same here s facts goal v w h k = absurd h
+abbrev at_place : Script → Scope → List Lit → Goal → List Obj → Line
+at_place here s facts goal args = record { scope = s; facts = facts; goal = goal; here = here; args = args }
 
--- what a line lacks is one
-lacks_one : (x y : Line) (v w : Wanted) → x ≡ y → Lacks x x.here v → Lacks y y.here w → v ≡ w
-lacks_one x y v w e h k = lacks_same y.here y.scope y.facts y.goal v w (subst (λ z. Lacks z z.here v) e h) k
+lacks_nothing : (before : List Stated) (here : Script) (s : Scope) (facts : List Lit) (goal : Goal) (args : List Obj) (w : Wanted) →
+    Licensed before (at_place here s facts goal args) → ¬ Lacks before (at_place here s facts goal args) here w
+lacks_nothing before (Cite by rest) s facts goal args (Literal l) h k = true≢false (sym h.beside ∙ k.0)
+lacks_nothing before (Hence lit cert rest) s facts goal args (Literal l) h k = none_not_allowed s facts (needs_at before (Hence lit cert rest) s goal args) l h.allowed k
+lacks_nothing before (Make form names certs rest) s facts goal args (Literal l) h k = none_not_allowed s facts (needs_at before (Make form names certs rest) s goal args) l h.allowed k
+lacks_nothing before (Apply theorem pattern names certs rest) s facts goal args (Literal l) h k =
+    let t = theorem_at before theorem in
+    let same : args ≡ written pattern = only_choice pattern args k.0 (left (fills pattern args) (are_arguments t s args) (right _ (is_choice t s pattern args) h.fits)) in
+    none_not_allowed s facts (needs_of_use t (written pattern) s) l (subst (λ xs. AllAllowed s facts (needs_of_use t xs s)) same h.allowed) k.1
+lacks_nothing before (Apply theorem pattern names certs rest) s facts goal args Match h k = k.1 args h.beside.good
+lacks_nothing before (Superposed form names shown certs inner rest) s facts goal args (Literal l) h k =
+    none_not_allowed s facts (needs_at before (Superposed form names shown certs inner rest) s goal args) l h.allowed k
+lacks_nothing before (Qed objects certs) s facts goal args (Literal l) h k = none_not_allowed s facts (needs_at before (Qed objects certs) s goal args) l h.allowed k
+lacks_nothing before (Contradiction against) s facts goal args AContradiction h k = k h.beside
+lacks_nothing before here s facts goal args w h k = k
+
+-- what a line lacks does not look at how its blanks are filled
+lacks_again : (before : List Stated) (here : Script) (s : Scope) (facts : List Lit) (goal : Goal) (a b : List Obj) (w : Wanted) →
+    Lacks before (at_place here s facts goal a) here w → Lacks before (at_place here s facts goal b) here w
+lacks_again before (Cite by rest) s facts goal a b (Literal l) k = k
+lacks_again before (Hence lit cert rest) s facts goal a b (Literal l) k = k
+lacks_again before (Make form names certs rest) s facts goal a b (Literal l) k = k
+lacks_again before (Apply theorem pattern names certs rest) s facts goal a b (Literal l) k = k
+lacks_again before (Apply theorem pattern names certs rest) s facts goal a b Match k = k
+lacks_again before (Superposed form names shown certs inner rest) s facts goal a b (Literal l) k = k
+lacks_again before (Qed objects certs) s facts goal a b (Literal l) k = k
+lacks_again before (Contradiction against) s facts goal a b AContradiction k = k
+lacks_again before here s facts goal a b w k = absurd k
+
+lacks_same : (before : List Stated) (here : Script) (s : Scope) (facts : List Lit) (goal : Goal) (args : List Obj) (v w : Wanted) →
+    Lacks before (at_place here s facts goal args) here v → Lacks before (at_place here s facts goal args) here w → v ≡ w
+lacks_same before (Cite by rest) s facts goal args (Literal l) (Literal l') h k = ap Literal (h.1 ∙ sym k.1)
+lacks_same before (Hence lit cert rest) s facts goal args (Literal l) (Literal l') h k = ap Literal (one_not_allowed s facts (needs_at before (Hence lit cert rest) s goal []) l l' h k)
+lacks_same before (Make form names certs rest) s facts goal args (Literal l) (Literal l') h k = ap Literal (one_not_allowed s facts (needs_at before (Make form names certs rest) s goal []) l l' h k)
+lacks_same before (Apply theorem pattern names certs rest) s facts goal args (Literal l) (Literal l') h k =
+    ap Literal (one_not_allowed s facts (needs_of_use (theorem_at before theorem) (written pattern) s) l l' h.1 k.1)
+lacks_same before (Apply theorem pattern names certs rest) s facts goal args Match Match h k = refl
+lacks_same before (Apply theorem pattern names certs rest) s facts goal args (Literal l) Match h k = absurd (true≢false (sym h.0 ∙ k.0))
+lacks_same before (Apply theorem pattern names certs rest) s facts goal args Match (Literal l) h k = absurd (true≢false (sym k.0 ∙ h.0))
+lacks_same before (Superposed form names shown certs inner rest) s facts goal args (Literal l) (Literal l') h k =
+    ap Literal (one_not_allowed s facts (needs_at before (Superposed form names shown certs inner rest) s goal []) l l' h k)
+lacks_same before (Qed objects certs) s facts goal args (Literal l) (Literal l') h k = ap Literal (one_not_allowed s facts (needs_at before (Qed objects certs) s goal []) l l' h k)
+lacks_same before (Contradiction against) s facts goal args AContradiction AContradiction h k = refl
+lacks_same before (Contradiction against) s facts goal args (Literal l) w h k = absurd h
+lacks_same before (Contradiction against) s facts goal args Match w h k = absurd h
+lacks_same before (Contradiction against) s facts goal args w (Literal l) h k = absurd k
+lacks_same before (Contradiction against) s facts goal args w Match h k = absurd k
+lacks_same before here s facts goal args v AContradiction h k = absurd k
+lacks_same before here s facts goal args AContradiction w h k = absurd h
+lacks_same before here s facts goal args v Match h k = absurd k
+lacks_same before here s facts goal args Match w h k = absurd h
+lacks_same before here s facts goal args v w h k = absurd h
+
+-- at one place a line lacks one thing, and nothing where it is licensed
+place_is : (x y : Line) → SamePlace x y → x ≡ at_place y.here y.scope y.facts y.goal x.args
+place_is x y e =
+    ap (λ h. at_place h x.scope x.facts x.goal x.args) e.here ∙ ap (λ s. at_place y.here s x.facts x.goal x.args) e.scope
+    ∙ ap (λ f. at_place y.here y.scope f x.goal x.args) e.facts ∙ ap (λ g. at_place y.here y.scope y.facts g x.args) e.goal
+
+lacks_moved : (before : List Stated) (x y : Line) (w : Wanted) → SamePlace x y → Lacks before x x.here w → Lacks before y y.here w
+lacks_moved before x y w e k =
+    lacks_again before y.here y.scope y.facts y.goal x.args y.args w (subst (λ z. Lacks before z z.here w) (place_is x y e) k)
+
+pub lacks_not : (before : List Stated) (x y : Line) (w : Wanted) → SamePlace x y → Lacks before x x.here w → Licensed before y → ⊥
+lacks_not before x y w e k h = lacks_nothing before y.here y.scope y.facts y.goal y.args w h (lacks_moved before x y w e k)
+
+lacks_one : (before : List Stated) (x y : Line) (v w : Wanted) → SamePlace x y → Lacks before x x.here v → Lacks before y y.here w → v ≡ w
+lacks_one before x y v w e h k = lacks_same before y.here y.scope y.facts y.goal y.args v w (lacks_moved before x y v e h) k
 
 -- ---- lists of lines
 
-some_same : {A : Type 0} (x y : A) → Some x ≡ Some y → x ≡ y
+pub some_same : {A : Type 0} (x y : A) → Some x ≡ Some y → x ≡ y
 some_same x y e = ap (λ o. unwrap_or o x) e
 
--- in a list whose lines are all licensed each is
-licensed_at : (xs : List Line) (p : ℕ) (x : Line) → AllLicensed xs → slice_get xs p ≡ Some x → Licensed x
-licensed_at [] p x h e = absurd (none_is_not_some x e)
-  where
-    none_is_not_some : (x : Line) → None ≡ Some x → ⊥
-    none_is_not_some x e = cc
-licensed_at (y ∷ ys) zero x h e = subst Licensed (some_same y x e) h.0
-licensed_at (y ∷ ys) (suc p) x h e = licensed_at ys p x h.1 e
+pub none_is_not_some : {A : Type 0} (x : A) → None ≡ Some x → ⊥
+none_is_not_some x e = cc
 
--- a line that lacks something, where all before it are licensed, is at one place
-same_place : (xs : List Line) (p q : ℕ) (x y : Line) (v w : Wanted) →
-    slice_get xs p ≡ Some x → slice_get xs q ≡ Some y → AllLicensed (take p xs) → AllLicensed (take q xs) →
-    Lacks x x.here v → Lacks y y.here w → p ≡ q
-same_place [] p q x y v w at at' a b h k = absurd (none_is_not_some x at)
-  where
-    none_is_not_some : (x : Line) → None ≡ Some x → ⊥
-    none_is_not_some x e = cc
-same_place (z ∷ zs) zero zero x y v w at at' a b h k = refl
-same_place (z ∷ zs) zero (suc q) x y v w at at' a b h k = absurd (lacks_not x v (subst Licensed (some_same z x at) b.0) h)
-same_place (z ∷ zs) (suc p) zero x y v w at at' a b h k = absurd (lacks_not y w (subst Licensed (some_same z y at') a.0) k)
-same_place (z ∷ zs) (suc p) (suc q) x y v w at at' a b h k = ap suc (same_place zs p q x y v w at at' a.1 b.1 h k)
+-- the line at a place, where all lines before it are licensed
+pub record Stands (before : List Stated) (xs : List Line) (p : ℕ) (x : Line) : Type 0 where
+  pub at : slice_get xs p ≡ Some x
+  pub earlier : AllLicensed before (take p xs)
+
+same_line : (x y : Line) → x ≡ y → SamePlace x y
+same_line x y e = record { scope = ap (λ z. z.scope) e; facts = ap (λ z. z.facts) e; goal = ap (λ z. z.goal) e; here = ap (λ z. z.here) e }
+
+-- in two lists that begin alike
+first_place : (before : List Stated) (a b : Line) (xs ys : List Line) (x y : Line) → SamePlace a b → Stands before (a ∷ xs) zero x → Stands before (b ∷ ys) zero y → SamePlace x y
+first_place before a b xs ys x y e p q =
+    subst (λ z. SamePlace z y) (some_same a x p.at) (subst (λ z. SamePlace a z) (some_same b y q.at) e)
+
+behind : (before : List Stated) (a : Line) (xs : List Line) (p : ℕ) (x : Line) → Stands before (a ∷ xs) (suc p) x → Stands before xs p x
+behind before a xs p x h = record { at = h.at; earlier = h.earlier.1 }
+
+-- a line of two lists one behind the other stands in the first or in the second, and so in two such pairs of the same lengths
+record Both (before : List Stated) (xs xs' : List Line) (p : ℕ) (x y : Line) : Type 0 where
+  one : Stands before xs p x
+  other : Stands before xs' p y
+
+record Further (before : List Stated) (ys ys' : List Line) (x y : Line) : Type 0 where
+  place : ℕ
+  one : Stands before ys place x
+  other : Stands before ys' place y
+
+parted : (before : List Stated) (xs xs' ys ys' : List Line) (p : ℕ) (x y : Line) → length xs ≡ length xs' →
+    Stands before (xs ++ ys) p x → Stands before (xs' ++ ys') p y → Both before xs xs' p x y ⊎ Further before ys ys' x y
+parted before [] [] ys ys' p x y n h k = inr (record { place = p; one = h; other = k })
+parted before [] (b ∷ xs') ys ys' p x y n h k = absurd (omega (arith, n))
+parted before (a ∷ xs) [] ys ys' p x y n h k = absurd (omega (arith, n))
+parted before (a ∷ xs) (b ∷ xs') ys ys' zero x y n h k = inl (record { one = record { at = h.at; earlier = tt }; other = record { at = k.at; earlier = tt } })
+parted before (a ∷ xs) (b ∷ xs') ys ys' (suc p) x y n h k =
+    elim (parted before xs xs' ys ys' p x y (omega (arith, n)) (behind before a (xs ++ ys) p x h) (behind before b (xs' ++ ys') p y k)) [
+      | inl r ↦ inl (record {
+        one = record { at = r.one.at; earlier = (h.earlier.0, r.one.earlier) };
+        other = record { at = r.other.at; earlier = (k.earlier.0, r.other.earlier) };
+      })
+      | inr r ↦ inr r
+    ]
+
+pub lines_length : (before : List Stated) (d f : Script) (s : Scope) (facts : List Lit) (goal : Goal) → length (lines before d f s facts goal) ≡ size d
+unfolding lines size
+lines_length before (Cite by rest) f s facts goal = let h = lines_length before rest (rest_of f) s (joined facts by.lit) goal in omega (arith, h)
+lines_length before (Hence lit cert rest) f s facts goal = let h = lines_length before rest (rest_of f) s (joined facts lit) goal in omega (arith, h)
+lines_length before (Make form names certs rest) f s facts goal =
+    let h = lines_length before rest (rest_of f) (grown s (made form)) (joined_all facts (gives form s)) goal in omega (arith, h)
+lines_length before (Apply theorem args names certs rest) f s facts goal =
+    let h = lines_length before rest (rest_of f) (grown s (theorem_at before theorem).made) (joined_all facts (gives_of_use (theorem_at before theorem) (args_of f) s)) goal in omega (arith, h)
+lines_length before (Claim shown inner rest) f s facts goal =
+    let one = lines before inner (inner_of f) s facts (goal_of shown) in
+    let other = lines before rest (rest_of f) s (joined_all facts shown) goal in
+    let h = lines_length before inner (inner_of f) s facts (goal_of shown) in
+    let k = lines_length before rest (rest_of f) s (joined_all facts shown) goal in
+    omega (arith, h, k, length-append one other)
+lines_length before (Superposed form names shown certs inner rest) f s facts goal =
+    let one = lines before inner (inner_of f) (grown s superposing.made) (joined_all facts (superposing.gives form s)) (goal_of shown) in
+    let other = lines before rest (rest_of f) s (joined_all facts shown) goal in
+    let h = lines_length before inner (inner_of f) (grown s superposing.made) (joined_all facts (superposing.gives form s)) (goal_of shown) in
+    let k = lines_length before rest (rest_of f) s (joined_all facts shown) goal in
+    omega (arith, h, k, length-append one other)
+lines_length before (Qed objects certs) f s facts goal = refl
+lines_length before (Contradiction against) f s facts goal = refl
+lines_length before (Cases lit first second) f s facts goal =
+    let one = lines before first (inner_of f) s (joined facts lit) goal in
+    let other = lines before second (rest_of f) s (joined facts (negation lit)) goal in
+    let h = lines_length before first (inner_of f) s (joined facts lit) goal in
+    let k = lines_length before second (rest_of f) s (joined facts (negation lit)) goal in
+    omega (arith, h, k, length-append one other)
+
+pub same_length : (before : List Stated) (d f f' : Script) (s : Scope) (facts : List Lit) (goal : Goal) → length (lines before d f s facts goal) ≡ length (lines before d f' s facts goal)
+same_length before d f f' s facts goal = lines_length before d f s facts goal ∙ sym (lines_length before d f' s facts goal)
+
+-- ---- one context
+
+alike : (here f f' : Script) (s : Scope) (facts : List Lit) (goal : Goal) → SamePlace (line here f s facts goal) (line here f' s facts goal)
+alike here f f' s facts goal = record { scope = refl; facts = refl; goal = refl; here = refl }
+
+nothing_behind : (before : List Stated) (a : Line) (p : ℕ) (x : Line) → Stands before (a ∷ []) (suc p) x → ⊥
+nothing_behind before a p x h = none_is_not_some x h.at
+
+same_context : (before : List Stated) (d f f' : Script) (s : Scope) (facts : List Lit) (goal : Goal) (p : ℕ) (x y : Line) →
+    Stands before (lines before d f s facts goal) p x → Stands before (lines before d f' s facts goal) p y → SamePlace x y
+unfolding lines
+same_context before (Cite by rest) f f' s facts goal zero x y h k =
+    first_place before _ _ (lines before rest (rest_of f) s (joined facts by.lit) goal) (lines before rest (rest_of f') s (joined facts by.lit) goal) x y (alike (Cite by rest) f f' s facts goal) h k
+same_context before (Cite by rest) f f' s facts goal (suc p) x y h k =
+    same_context before rest (rest_of f) (rest_of f') s (joined facts by.lit) goal p x y (behind before _ _ p x h) (behind before _ _ p y k)
+same_context before (Hence lit cert rest) f f' s facts goal zero x y h k =
+    first_place before _ _ (lines before rest (rest_of f) s (joined facts lit) goal) (lines before rest (rest_of f') s (joined facts lit) goal) x y (alike (Hence lit cert rest) f f' s facts goal) h k
+same_context before (Hence lit cert rest) f f' s facts goal (suc p) x y h k =
+    same_context before rest (rest_of f) (rest_of f') s (joined facts lit) goal p x y (behind before _ _ p x h) (behind before _ _ p y k)
+same_context before (Make form names certs rest) f f' s facts goal zero x y h k =
+    let after = joined_all facts (gives form s) in
+    first_place before _ _ (lines before rest (rest_of f) (grown s (made form)) after goal) (lines before rest (rest_of f') (grown s (made form)) after goal) x y (alike (Make form names certs rest) f f' s facts goal) h k
+same_context before (Make form names certs rest) f f' s facts goal (suc p) x y h k =
+    same_context before rest (rest_of f) (rest_of f') (grown s (made form)) (joined_all facts (gives form s)) goal p x y (behind before _ _ p x h) (behind before _ _ p y k)
+same_context before (Apply theorem pattern names certs rest) f f' s facts goal zero x y h k =
+    let t = theorem_at before theorem in
+    first_place before _ _ (lines before rest (rest_of f) (grown s t.made) (joined_all facts (gives_of_use t (args_of f) s)) goal)
+    (lines before rest (rest_of f') (grown s t.made) (joined_all facts (gives_of_use t (args_of f') s)) goal) x y (alike (Apply theorem pattern names certs rest) f f' s facts goal) h k
+same_context before (Apply theorem pattern names certs rest) f f' s facts goal (suc p) x y h k =
+    let t = theorem_at before theorem in
+    let e : args_of f' ≡ args_of f = least_is_one t s facts pattern (args_of f') (args_of f) k.earlier.0.beside h.earlier.0.beside in
+    let below = behind before _ (lines before rest (rest_of f') (grown s t.made) (joined_all facts (gives_of_use t (args_of f') s)) goal) p y k in
+    same_context before rest (rest_of f) (rest_of f') (grown s t.made) (joined_all facts (gives_of_use t (args_of f) s)) goal p x y (behind before _ _ p x h)
+    (subst (λ xs. Stands before (lines before rest (rest_of f') (grown s t.made) (joined_all facts (gives_of_use t xs s)) goal) p y) e below)
+same_context before (Claim shown inner rest) f f' s facts goal zero x y h k =
+    first_place before _ _ (lines before inner (inner_of f) s facts (goal_of shown) ++ lines before rest (rest_of f) s (joined_all facts shown) goal)
+    (lines before inner (inner_of f') s facts (goal_of shown) ++ lines before rest (rest_of f') s (joined_all facts shown) goal) x y (alike (Claim shown inner rest) f f' s facts goal) h k
+same_context before (Claim shown inner rest) f f' s facts goal (suc p) x y h k =
+    let one = lines before inner (inner_of f) s facts (goal_of shown) in
+    let one' = lines before inner (inner_of f') s facts (goal_of shown) in
+    let other = lines before rest (rest_of f) s (joined_all facts shown) goal in
+    let other' = lines before rest (rest_of f') s (joined_all facts shown) goal in
+    elim (parted before one one' other other' p x y (same_length before inner (inner_of f) (inner_of f') s facts (goal_of shown)) (behind before _ _ p x h) (behind before _ _ p y k)) [
+      | inl r ↦ same_context before inner (inner_of f) (inner_of f') s facts (goal_of shown) p x y r.one r.other
+      | inr r ↦ same_context before rest (rest_of f) (rest_of f') s (joined_all facts shown) goal r.place x y r.one r.other
+    ]
+same_context before (Superposed form names shown certs inner rest) f f' s facts goal zero x y h k =
+    let g = grown s superposing.made in
+    let given = joined_all facts (superposing.gives form s) in
+    first_place before _ _ (lines before inner (inner_of f) g given (goal_of shown) ++ lines before rest (rest_of f) s (joined_all facts shown) goal)
+    (lines before inner (inner_of f') g given (goal_of shown) ++ lines before rest (rest_of f') s (joined_all facts shown) goal) x y (alike (Superposed form names shown certs inner rest) f f' s facts goal) h k
+same_context before (Superposed form names shown certs inner rest) f f' s facts goal (suc p) x y h k =
+    let g = grown s superposing.made in
+    let given = joined_all facts (superposing.gives form s) in
+    let one = lines before inner (inner_of f) g given (goal_of shown) in
+    let one' = lines before inner (inner_of f') g given (goal_of shown) in
+    let other = lines before rest (rest_of f) s (joined_all facts shown) goal in
+    let other' = lines before rest (rest_of f') s (joined_all facts shown) goal in
+    elim (parted before one one' other other' p x y (same_length before inner (inner_of f) (inner_of f') g given (goal_of shown)) (behind before _ _ p x h) (behind before _ _ p y k)) [
+      | inl r ↦ same_context before inner (inner_of f) (inner_of f') g given (goal_of shown) p x y r.one r.other
+      | inr r ↦ same_context before rest (rest_of f) (rest_of f') s (joined_all facts shown) goal r.place x y r.one r.other
+    ]
+same_context before (Qed objects certs) f f' s facts goal zero x y h k = first_place before _ _ [] [] x y (alike (Qed objects certs) f f' s facts goal) h k
+same_context before (Qed objects certs) f f' s facts goal (suc p) x y h k = absurd (nothing_behind before _ p x h)
+same_context before (Contradiction against) f f' s facts goal zero x y h k = first_place before _ _ [] [] x y (alike (Contradiction against) f f' s facts goal) h k
+same_context before (Contradiction against) f f' s facts goal (suc p) x y h k = absurd (nothing_behind before _ p x h)
+same_context before (Cases lit first second) f f' s facts goal zero x y h k =
+    first_place before _ _ (lines before first (inner_of f) s (joined facts lit) goal ++ lines before second (rest_of f) s (joined facts (negation lit)) goal)
+    (lines before first (inner_of f') s (joined facts lit) goal ++ lines before second (rest_of f') s (joined facts (negation lit)) goal) x y (alike (Cases lit first second) f f' s facts goal) h k
+same_context before (Cases lit first second) f f' s facts goal (suc p) x y h k =
+    let one = lines before first (inner_of f) s (joined facts lit) goal in
+    let one' = lines before first (inner_of f') s (joined facts lit) goal in
+    let other = lines before second (rest_of f) s (joined facts (negation lit)) goal in
+    let other' = lines before second (rest_of f') s (joined facts (negation lit)) goal in
+    elim (parted before one one' other other' p x y (same_length before first (inner_of f) (inner_of f') s (joined facts lit) goal) (behind before _ _ p x h) (behind before _ _ p y k)) [
+      | inl r ↦ same_context before first (inner_of f) (inner_of f') s (joined facts lit) goal p x y r.one r.other
+      | inr r ↦ same_context before second (rest_of f) (rest_of f') s (joined facts (negation lit)) goal r.place x y r.one r.other
+    ]
+
+-- ---- lists in which lines are licensed
+
+-- an earlier line is licensed
+pub record Earlier (before : List Stated) (xs : List Line) (p : ℕ) : Type 0 where
+  pub line : Line
+  pub stands : Stands before xs p line
+  pub licensed : Licensed before line
+
+pub earlier_line : (before : List Stated) (xs : List Line) (p q : ℕ) (y : Line) → p < q → Stands before xs q y → Earlier before xs p
+earlier_line before [] p q y lt h = absurd (none_is_not_some y h.at)
+earlier_line before (a ∷ xs) p zero y lt h = absurd (omega (arith, lt))
+earlier_line before (a ∷ xs) zero (suc q) y lt h = record { line = a; stands = record { at = refl; earlier = tt }; licensed = h.earlier.0 }
+earlier_line before (a ∷ xs) (suc p) (suc q) y lt h =
+    let e = earlier_line before xs p q y (omega (arith, lt)) (behind before a xs q y h) in
+    record { line = e.line; stands = record { at = e.stands.at; earlier = (h.earlier.0, e.stands.earlier) }; licensed = e.licensed }
+
+-- in a list of licensed lines each is
+pub licensed_line : (before : List Stated) (xs ys : List Line) (p : ℕ) (y : Line) → length xs ≡ length ys → AllLicensed before xs → slice_get ys p ≡ Some y → Earlier before xs p
+licensed_line before [] [] p y n h e = absurd (none_is_not_some y e)
+licensed_line before [] (b ∷ ys) p y n h e = absurd (omega (arith, n))
+licensed_line before (a ∷ xs) [] p y n h e = absurd (omega (arith, n))
+licensed_line before (a ∷ xs) (b ∷ ys) zero y n h e = record { line = a; stands = record { at = refl; earlier = tt }; licensed = h.0 }
+licensed_line before (a ∷ xs) (b ∷ ys) (suc p) y n h e =
+    let r = licensed_line before xs ys p y (omega (arith, n)) h.1 e in
+    record { line = r.line; stands = record { at = r.stands.at; earlier = (h.0, r.stands.earlier) }; licensed = r.licensed }
 
 -- ---- the laws
 
 same_suc : (p q : ℕ) → suc p ≡ suc q → p ≡ q
 same_suc p q e = omega (arith, e)
 
-pub one_context : (t : Stated) (script : Script) (n : ℕ) (x y : Line) → IsContext t script n x → IsContext t script n y → x ≡ y
-one_context t script n x y a b =
+abbrev of_context : (before : List Stated) (t : Stated) (script : Script) (n : ℕ) (x : Line) (c : IsContext before t script n x) → Stands before (proof_lines before t script c.filled) c.place x
+of_context before t script n x c = record { at = c.at; earlier = c.earlier }
+
+pub one_context : (before : List Stated) (t : Stated) (script : Script) (n : ℕ) (x y : Line) → IsContext before t script n x → IsContext before t script n y → SamePlace x y
+one_context before t script n x y a b =
     let e = same_suc a.place b.place (sym a.number ∙ b.number) in
-    some_same x y (sym a.at ∙ ap (slice_get (proof_lines t script)) e ∙ b.at)
+    same_context before script a.filled b.filled (scope_of t) (facts_of_statement t) (goal_of_statement t) a.place x y (of_context before t script n x a)
+    (subst (λ p. Stands before (proof_lines before t script b.filled) p y) (sym e) (of_context before t script n y b))
 
-pub no_stop_of_licensed : (t : Stated) (script : Script) (n : ℕ) (w : Wanted) → AllLicensed (proof_lines t script) → ¬ IsFirstUnlicensed t script n w
-no_stop_of_licensed t script n w h stop =
-    lacks_not stop.line w (licensed_at (proof_lines t script) stop.context.place stop.line h stop.context.at) stop.lacks
+pub no_stop_of_licensed : (before : List Stated) (t : Stated) (script f : Script) (n : ℕ) (w : Wanted) → AllLicensed before (proof_lines before t script f) → ¬ IsFirstUnlicensed before t script n w
+no_stop_of_licensed before t script f n w h stop =
+    let c = stop.context in
+    let s = scope_of t in
+    let facts = facts_of_statement t in
+    let goal = goal_of_statement t in
+    let e = licensed_line before (proof_lines before t script f) (proof_lines before t script c.filled) c.place stop.line (same_length before script f c.filled s facts goal) h c.at in
+    lacks_not before stop.line e.line w (same_context before script c.filled f s facts goal c.place stop.line e.line (of_context before t script n stop.line c) e.stands) stop.lacks e.licensed
 
-pub one_stop : (t : Stated) (script : Script) (n m : ℕ) (v w : Wanted) →
-    IsFirstUnlicensed t script n v → IsFirstUnlicensed t script m w → (n ≡ m) × (v ≡ w)
-one_stop t script n m v w a b =
-    let xs = proof_lines t script in
-    let p = a.context.place in
-    let q = b.context.place in
-    let e = same_place xs p q a.line b.line v w a.context.at b.context.at a.context.earlier b.context.earlier a.lacks b.lacks in
-    let same = some_same a.line b.line (sym a.context.at ∙ ap (slice_get xs) e ∙ b.context.at) in
-    (a.context.number ∙ ap suc e ∙ sym b.context.number, lacks_one a.line b.line v w same a.lacks b.lacks)
+-- no line before the first that is not licensed lacks anything
+no_earlier : (before : List Stated) (t : Stated) (script : Script) (n m : ℕ) (v w : Wanted) (a : IsFirstUnlicensed before t script n v) (b : IsFirstUnlicensed before t script m w) → a.context.place < b.context.place → ⊥
+no_earlier before t script n m v w a b lt =
+    let e = earlier_line before (proof_lines before t script b.context.filled) a.context.place b.context.place b.line lt (of_context before t script m b.line b.context) in
+    lacks_not before a.line e.line v (same_context before script a.context.filled b.context.filled (scope_of t) (facts_of_statement t) (goal_of_statement t) a.context.place a.line e.line (of_context before t script n a.line a.context) e.stands) a.lacks e.licensed
 
-pub no_stop_of_derived : (t : Stated) (d script : Script) (n : ℕ) (w : Wanted) → Certified t d → erased d ≡ erased script → ¬ IsFirstUnlicensed t script n w
-no_stop_of_derived t d script n w h same = no_stop_of_licensed t script n w (licensed_of_derived t d script h same)
+pub order : (p q : ℕ) → (p < q) ⊎ ((q < p) ⊎ (p ≡ q))
+order zero zero = inr (inr refl)
+order zero (suc q) = inl (omega arith)
+order (suc p) zero = inr (inl (omega arith))
+order (suc p) (suc q) = elim (order p q) [
+  | inl h ↦ inl (omega (arith, h))
+  | inr h ↦ elim h [
+    | inl k ↦ inr (inl (omega (arith, k)))
+    | inr k ↦ inr (inr (ap suc k))
+  ]
+]
+
+same_place : (before : List Stated) (t : Stated) (script : Script) (n m : ℕ) (v w : Wanted) (a : IsFirstUnlicensed before t script n v) (b : IsFirstUnlicensed before t script m w) → a.context.place ≡ b.context.place
+same_place before t script n m v w a b = elim (order a.context.place b.context.place) [
+  | inl h ↦ absurd (no_earlier before t script n m v w a b h)
+  | inr h ↦ elim h [
+    | inl k ↦ absurd (no_earlier before t script m n w v b a k)
+    | inr k ↦ k
+  ]
+]
+
+pub one_stop : (before : List Stated) (t : Stated) (script : Script) (n m : ℕ) (v w : Wanted) →
+    IsFirstUnlicensed before t script n v → IsFirstUnlicensed before t script m w → (n ≡ m) × (v ≡ w)
+one_stop before t script n m v w a b =
+    let e = a.context.number ∙ ap suc (same_place before t script n m v w a b) ∙ sym b.context.number in
+    (e, lacks_one before a.line b.line v w (one_context before t script m a.line b.line (subst (λ k. IsContext before t script k a.line) e a.context) b.context) a.lacks b.lacks)

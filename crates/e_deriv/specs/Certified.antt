@@ -6,8 +6,9 @@ use Rattle.e_literal.specs.declared.literal.Lit.{Lit}
 use Rattle.e_literal.specs.Use.{Stated}
 use Rattle.e_clause.specs.declared.cert.Cert.{Cert}
 use Rattle.e_clause.specs.Certify.{certify_all, certifies_against}
-use Rattle.e_deriv.specs.Script.{Script, Cite, Hence, Make, Claim, Superposed, Qed, Contradiction, Cases}
+use Rattle.e_deriv.specs.Script.{Script, Cite, Hence, Make, Apply, Claim, Superposed, Qed, Contradiction, Cases}
 use Rattle.e_deriv.specs.Lines.{Line, proof_lines, first_failure}
+use Rattle.e_deriv.specs.Parts.{has_no_blank}
 use Rattle.e_deriv.specs.Steps.{fits, needs, is_cited}
 
 -- the certificates of a line, one for each of its needs; a hence without its certificate has none
@@ -15,6 +16,7 @@ abbrev pub certs_of : Script → List Cert
 certs_of (Hence lit (Some cert) rest) = cert ∷ []
 certs_of (Hence lit None rest) = []
 certs_of (Make form names certs rest) = certs
+certs_of (Apply theorem args names certs rest) = certs
 certs_of (Superposed form names shown certs inner rest) = certs
 certs_of (Qed objects certs) = certs
 certs_of (Cite by rest) = []
@@ -22,22 +24,28 @@ certs_of (Claim shown inner rest) = []
 certs_of (Contradiction against) = []
 certs_of (Cases lit first second) = []
 
--- beside the needs: a citation's instance gives the literal; a contradiction has a certificate that shows one
+-- beside the needs: a citation's instance gives the literal; no argument of an application is a blank; a contradiction has a
+-- certificate that shows one
 abbrev pub certified_beside : Script → Scope → List Lit → Bool
 certified_beside (Cite by rest) s facts = is_cited facts by
+certified_beside (Apply theorem args names certs rest) s facts = has_no_blank args
 certified_beside (Contradiction (Some against)) s facts = certifies_against s facts against
 certified_beside (Contradiction None) s facts = false
 certified_beside _ s facts = true
 
 -- the line's form fits, and its certificates certify its needs
-abbrev pub is_certified : Line → Bool
-is_certified x =
-    fits x && (certify_all x.scope x.facts (needs x) (certs_of x.here) && certified_beside x.here x.scope x.facts)
+abbrev pub is_certified : List Stated → Line → Bool
+is_certified before x =
+    fits before x && (certify_all x.scope x.facts (needs before x) (certs_of x.here) && certified_beside x.here x.scope x.facts)
+
+-- the lines of a derivation, which has no blanks to fill
+abbrev pub derivation_lines : List Stated → Stated → Script → List Line
+derivation_lines before t d = proof_lines before t d d
 
 -- each line of the derivation is certified
-abbrev pub Certified : Stated → Script → Type 0
-Certified t d = IsTrue (list_all is_certified (proof_lines t d))
+abbrev pub Certified : List Stated → Stated → Script → Type 0
+Certified before t d = IsTrue (list_all (is_certified before) (derivation_lines before t d))
 
 -- the number of the first line that is not certified, or the number after the last
-abbrev pub verdict : Stated → Script → Result ℕ ℕ
-verdict t d = first_failure is_certified (proof_lines t d) 1
+abbrev pub verdict : List Stated → Stated → Script → Result ℕ ℕ
+verdict before t d = first_failure (is_certified before) (derivation_lines before t d) 1

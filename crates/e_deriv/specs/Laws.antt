@@ -1,46 +1,46 @@
 -- What follows from the definitions of lines, contexts and proofs, whatever is allowed.
-use Rattle.std.specs.Prelude.{◌≡◌, ℕ}
+use Rattle.std.specs.Prelude.{◌≡◌, ℕ, List}
 use Rattle.e_literal.specs.Use.{Stated}
 use Rattle.e_deriv.specs.declared.stop.Wanted.{Wanted}
-use Rattle.e_deriv.specs.Script.{Script, erased}
+use Rattle.e_deriv.specs.Script.{Script}
+use Rattle.e_deriv.specs.Parts.{filled_by}
 use Rattle.e_deriv.specs.Lines.{Line, proof_lines}
 use Rattle.e_deriv.specs.Proves.{IsProof}
 use Rattle.e_deriv.specs.Licensed.{AllLicensed, IsContext, IsFirstUnlicensed}
-use Rattle.e_deriv.specs.Certified.{Certified}
+use Rattle.e_deriv.specs.Certified.{Certified, derivation_lines}
 
 -- what is certified is a proof
 abbrev pub CertifiedProves : Type 0
-CertifiedProves = (t : Stated) (d : Script) → Certified t d → IsProof t d
+CertifiedProves = (before : List Stated) (t : Stated) (d : Script) → Certified before t d → IsProof before t d
 
--- a script is a proof exactly where each line of it is licensed
+-- a script whose lines are all licensed is a proof, with its blanks filled as there
 abbrev pub LicensedProves : Type 0
-LicensedProves = (t : Stated) (d : Script) → AllLicensed (proof_lines t d) → IsProof t d
+LicensedProves =
+    (before : List Stated) (t : Stated) (script filled : Script) → AllLicensed before (proof_lines before t script filled) → IsProof before t (filled_by script filled)
 
+-- and each line of a proof is licensed
 abbrev pub ProofIsLicensed : Type 0
-ProofIsLicensed = (t : Stated) (d : Script) → IsProof t d → AllLicensed (proof_lines t d)
+ProofIsLicensed = (before : List Stated) (t : Stated) (d : Script) → IsProof before t d → AllLicensed before (derivation_lines before t d)
 
--- the line of a number, with what holds before it, is one
+-- what holds before the line of a number is one, however the blanks of lines that are not licensed are filled
+pub record SamePlace (x y : Line) : Type 0 where
+  pub scope : x.scope ≡ y.scope
+  pub facts : x.facts ≡ y.facts
+  pub goal : x.goal ≡ y.goal
+  pub here : x.here ≡ y.here
+
 abbrev pub ContextIsOne : Type 0
-ContextIsOne = (t : Stated) (script : Script) (n : ℕ) (x y : Line) → IsContext t script n x → IsContext t script n y → x ≡ y
+ContextIsOne =
+    (before : List Stated) (t : Stated) (script : Script) (n : ℕ) (x y : Line) → IsContext before t script n x → IsContext before t script n y → SamePlace x y
 
 -- where each line is licensed none is the first that is not
 abbrev pub LicensedHasNoStop : Type 0
 LicensedHasNoStop =
-    (t : Stated) (script : Script) (n : ℕ) (w : Wanted) → AllLicensed (proof_lines t script) → ¬ IsFirstUnlicensed t script n w
+    (before : List Stated) (t : Stated) (script filled : Script) (n : ℕ) (w : Wanted) → AllLicensed before (proof_lines before t script filled)
+    → ¬ IsFirstUnlicensed before t script n w
 
 -- the first line that is not licensed is one, and what it lacks too
 abbrev pub StopIsOne : Type 0
 StopIsOne =
-    (t : Stated) (script : Script) (n m : ℕ) (v w : Wanted) →
-    IsFirstUnlicensed t script n v → IsFirstUnlicensed t script m w → (n ≡ m) × (v ≡ w)
-
--- a script with a certified derivation has each of its lines licensed
-abbrev pub DerivedIsLicensed : Type 0
-DerivedIsLicensed =
-    (t : Stated) (d script : Script) → Certified t d → erased d ≡ erased script → AllLicensed (proof_lines t script)
-
--- and so no first that is not
-abbrev pub DerivedHasNoStop : Type 0
-DerivedHasNoStop =
-    (t : Stated) (d script : Script) (n : ℕ) (w : Wanted) →
-    Certified t d → erased d ≡ erased script → ¬ IsFirstUnlicensed t script n w
+    (before : List Stated) (t : Stated) (script : Script) (n m : ℕ) (v w : Wanted) →
+    IsFirstUnlicensed before t script n v → IsFirstUnlicensed before t script m w → (n ≡ m) × (v ≡ w)

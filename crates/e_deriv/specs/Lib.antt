@@ -1,5 +1,6 @@
 pub mod Script
 pub mod PlainStep
+pub mod Parts
 pub mod Goal
 pub mod Lines
 pub mod Steps

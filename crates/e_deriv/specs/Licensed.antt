@@ -1,30 +1,35 @@
 -- When a line is licensed, whatever the blocks inside it are; the first that is not, and what it lacks.
 use Rattle.std.specs.Prelude.{◌≡◌, ℕ, suc, List, [], ◌∷◌, ◌++◌, take, slice_get, IsTrue, IsFalse, Some}
+use Rattle.e_literal.specs.declared.object.Obj.{Obj}
 use Rattle.e_literal.specs.declared.object.Scope.{Scope}
 use Rattle.e_literal.specs.declared.literal.Lit.{Lit}
 use Rattle.e_literal.specs.Use.{Stated}
 use Rattle.e_clause.specs.Allowed.{Allowed, AllAllowed}
 use Rattle.e_clause.specs.Consequence.{Contradictory}
+use Rattle.e_theorem.specs.Choice.{IsLeast, NoneIsGood}
 use Rattle.e_deriv.specs.declared.stop.Wanted.{Wanted}
-use Rattle.e_deriv.specs.declared.stop.Wanted.TheVariants.{Literal, Contradiction as AContradiction}
-use Rattle.e_deriv.specs.Script.{Script, Cite, Hence, Make, Superposed, Qed, Contradiction}
-use Rattle.e_deriv.specs.Lines.{Line, proof_lines}
-use Rattle.e_deriv.specs.Steps.{fits, needs, is_cited}
+use Rattle.e_deriv.specs.declared.stop.Wanted.TheVariants.{Literal, Match, Contradiction as AContradiction}
+use Rattle.e_deriv.specs.Script.{Script, Cite, Hence, Make, Apply, Superposed, Qed, Contradiction}
+use Rattle.e_deriv.specs.Parts.{has_no_blank}
+use Rattle.e_deriv.specs.Lines.{Line, theorem_at, proof_lines}
+use Rattle.e_deriv.specs.Steps.{fits, needs, needs_as_written, is_cited}
 
--- beside its form and its needs: a citation's instance gives the literal; at a contradiction the facts contradict each other
-abbrev pub LicensedBeside : Script → List Lit → Type 0
-LicensedBeside (Cite by rest) facts = IsTrue (is_cited facts by)
-LicensedBeside (Contradiction against) facts = Contradictory facts
-LicensedBeside _ facts = Unit {0}
+-- beside its form and its needs: a citation's instance gives the literal; the arguments of an application are the least good
+-- choice for its blanks; at a contradiction the facts contradict each other
+abbrev pub LicensedBeside : List Stated → Script → Scope → List Lit → List Obj → Type 0
+LicensedBeside before (Cite by rest) s facts args = IsTrue (is_cited facts by)
+LicensedBeside before (Apply theorem pattern names certs rest) s facts args = IsLeast (theorem_at before theorem) s facts pattern args
+LicensedBeside before (Contradiction against) s facts args = Contradictory facts
+LicensedBeside before _ s facts args = Unit {0}
 
-pub record Licensed (x : Line) : Type 0 where
-  pub fits : IsTrue (fits x)
-  pub allowed : AllAllowed x.scope x.facts (needs x)
-  pub beside : LicensedBeside x.here x.facts
+pub record Licensed (before : List Stated) (x : Line) : Type 0 where
+  pub fits : IsTrue (fits before x)
+  pub allowed : AllAllowed x.scope x.facts (needs before x)
+  pub beside : LicensedBeside before x.here x.scope x.facts x.args
 
-abbrev pub AllLicensed : List Line → Type 0
-AllLicensed [] = Unit {0}
-AllLicensed (x ∷ xs) = Licensed x × AllLicensed xs
+abbrev pub AllLicensed : List Stated → List Line → Type 0
+AllLicensed before [] = Unit {0}
+AllLicensed before (x ∷ xs) = Licensed before x × AllLicensed before xs
 
 -- the literal is the first of the list that is not allowed
 pub record IsFirstNotAllowed (scope : Scope) (facts : List Lit) (ls : List Lit) (l : Lit) : Type 0 where
@@ -34,25 +39,30 @@ pub record IsFirstNotAllowed (scope : Scope) (facts : List Lit) (ls : List Lit) 
   pub allowed : AllAllowed scope facts earlier
   pub not_allowed : ¬ Allowed scope facts l
 
--- what a line that is not licensed lacks
-abbrev pub Lacks : Line → Script → Wanted → Type 0
-Lacks x (Cite by rest) (Literal l) = IsFalse (is_cited x.facts by) × (l ≡ by.lit)
-Lacks x (Hence lit cert rest) (Literal l) = IsFirstNotAllowed x.scope x.facts (needs x) l
-Lacks x (Make form names certs rest) (Literal l) = IsFirstNotAllowed x.scope x.facts (needs x) l
-Lacks x (Superposed form names shown certs inner rest) (Literal l) = IsFirstNotAllowed x.scope x.facts (needs x) l
-Lacks x (Qed objects certs) (Literal l) = IsFirstNotAllowed x.scope x.facts (needs x) l
-Lacks x (Contradiction against) AContradiction = ¬ Contradictory x.facts
-Lacks x _ _ = ⊥
+-- what a line that is not licensed lacks; an application with blanks lacks a choice for them that is good
+abbrev pub Lacks : List Stated → Line → Script → Wanted → Type 0
+Lacks before x (Cite by rest) (Literal l) = IsFalse (is_cited x.facts by) × (l ≡ by.lit)
+Lacks before x (Hence lit cert rest) (Literal l) = IsFirstNotAllowed x.scope x.facts (needs_as_written before x) l
+Lacks before x (Make form names certs rest) (Literal l) = IsFirstNotAllowed x.scope x.facts (needs_as_written before x) l
+Lacks before x (Apply theorem pattern names certs rest) (Literal l) =
+    IsTrue (has_no_blank pattern) × IsFirstNotAllowed x.scope x.facts (needs_as_written before x) l
+Lacks before x (Apply theorem pattern names certs rest) Match =
+    IsFalse (has_no_blank pattern) × NoneIsGood (theorem_at before theorem) x.scope x.facts pattern
+Lacks before x (Superposed form names shown certs inner rest) (Literal l) = IsFirstNotAllowed x.scope x.facts (needs_as_written before x) l
+Lacks before x (Qed objects certs) (Literal l) = IsFirstNotAllowed x.scope x.facts (needs_as_written before x) l
+Lacks before x (Contradiction against) AContradiction = ¬ Contradictory x.facts
+Lacks before x _ _ = ⊥
 
--- the line has number n from 1 on, of the statement's script, and all lines before it are licensed
-pub record IsContext (t : Stated) (script : Script) (n : ℕ) (x : Line) : Type 0 where
+-- the line has number n from 1 on, of the statement's script with its blanks filled, and all lines before it are licensed
+pub record IsContext (before : List Stated) (t : Stated) (script : Script) (n : ℕ) (x : Line) : Type 0 where
+  pub filled : Script
   pub place : ℕ
   pub number : n ≡ suc place
-  pub at : slice_get (proof_lines t script) place ≡ Some x
-  pub earlier : AllLicensed (take place (proof_lines t script))
+  pub at : slice_get (proof_lines before t script filled) place ≡ Some x
+  pub earlier : AllLicensed before (take place (proof_lines before t script filled))
 
 -- line n is the first that is not licensed, and it lacks this
-pub record IsFirstUnlicensed (t : Stated) (script : Script) (n : ℕ) (wanted : Wanted) : Type 0 where
+pub record IsFirstUnlicensed (before : List Stated) (t : Stated) (script : Script) (n : ℕ) (wanted : Wanted) : Type 0 where
   pub line : Line
-  pub context : IsContext t script n line
-  pub lacks : Lacks line line.here wanted
+  pub context : IsContext before t script n line
+  pub lacks : Lacks before line line.here wanted

@@ -7,7 +7,8 @@ use Rattle.e_literal.specs.Use.{Stated, scope_of}
 use Rattle.e_construct.specs.Construct.{made}
 use Rattle.e_construct.specs.Superposing as superposing
 use Rattle.e_deriv.specs.declared.names.Names.{Names}
-use Rattle.e_deriv.specs.Script.{Script, Cite, Hence, Make, Claim, Superposed, Qed, Contradiction, Cases}
+use Rattle.e_deriv.specs.Lines.{theorem_at}
+use Rattle.e_deriv.specs.Script.{Script, Cite, Hence, Make, Apply, Claim, Superposed, Qed, Contradiction, Cases}
 
 -- the names of the objects of a sort
 abbrev pub names_of_sort : Names → Sort → List (List ℕ)
@@ -28,16 +29,17 @@ named ns _ _ = ns
 
 -- the names in scope before each line, in text order, where these are in scope before the first; those that an inner block
 -- brings are gone behind it
-unfoldable pub names_lines : Names → Script → List Names
-names_lines ns (Cite by rest) = ns ∷ names_lines ns rest
-names_lines ns (Hence lit cert rest) = ns ∷ names_lines ns rest
-names_lines ns (Make form names certs rest) = ns ∷ names_lines (named ns (made form) names) rest
-names_lines ns (Claim shown inner rest) = ns ∷ (names_lines ns inner ++ names_lines ns rest)
-names_lines ns (Superposed form names shown certs inner rest) =
-    ns ∷ (names_lines (named ns superposing.made names) inner ++ names_lines ns rest)
-names_lines ns (Qed objects certs) = ns ∷ []
-names_lines ns (Contradiction against) = ns ∷ []
-names_lines ns (Cases lit first second) = ns ∷ (names_lines ns first ++ names_lines ns second)
+unfoldable pub names_lines : List Stated → Names → Script → List Names
+names_lines before ns (Cite by rest) = ns ∷ names_lines before ns rest
+names_lines before ns (Hence lit cert rest) = ns ∷ names_lines before ns rest
+names_lines before ns (Make form names certs rest) = ns ∷ names_lines before (named ns (made form) names) rest
+names_lines before ns (Apply theorem args names certs rest) = ns ∷ names_lines before (named ns (theorem_at before theorem).made names) rest
+names_lines before ns (Claim shown inner rest) = ns ∷ (names_lines before ns inner ++ names_lines before ns rest)
+names_lines before ns (Superposed form names shown certs inner rest) =
+    ns ∷ (names_lines before (named ns superposing.made names) inner ++ names_lines before ns rest)
+names_lines before ns (Qed objects certs) = ns ∷ []
+names_lines before ns (Contradiction against) = ns ∷ []
+names_lines before ns (Cases lit first second) = ns ∷ (names_lines before ns first ++ names_lines before ns second)
 
 -- the names of the objects of a scope, which are the first of each sort
 abbrev pub first_names : Scope → Names → Names

@@ -1,18 +1,20 @@
 -- A step without where it lies in memory, for blocks whose steps come one after another.
 use Rattle.std.specs.Prelude.{ℕ, List, [], ◌∷◌, Option}
+use Rattle.e_literal.specs.declared.object.Obj.{Obj}
 use Rattle.e_literal.specs.declared.literal.Lit.{Lit}
 use Rattle.e_construct.specs.declared.construction.Construction.{Construction}
 use Rattle.e_construct.specs.declared.superpose.Superpose.{Superpose}
 use Rattle.e_clause.specs.declared.cert.By.{By}
 use Rattle.e_clause.specs.declared.cert.Cert.{Cert}
 use Rattle.e_deriv.specs.declared.block.Step.{Step}
-use Rattle.e_deriv.specs.declared.block.Step.TheVariants.{Cite as CiteStep, Hence as HenceStep, Make as MakeStep, Claim' as ClaimStep, Superposed' as SuperposedStep}
-use Rattle.e_deriv.specs.Script.{Script, Cite, Hence, Make, Claim, Superposed, row_script, close_script}
+use Rattle.e_deriv.specs.declared.block.Step.TheVariants.{Cite as CiteStep, Hence as HenceStep, Make as MakeStep, Apply as ApplyStep, Claim' as ClaimStep, Superposed' as SuperposedStep}
+use Rattle.e_deriv.specs.Script.{Script, Cite, Hence, Make, Apply, Claim, Superposed, row_script, close_script}
 
 pub data PlainStep : Type 0 where
   Cited : (by : By) → PlainStep
   Inferred : (lit : Lit) (cert : Option Cert) → PlainStep
   Made : (form : Construction) (names : List (List ℕ)) (certs : List Cert) → PlainStep
+  Applied : (theorem : ℕ) (args : List (Option Obj)) (names : List (List ℕ)) (certs : List Cert) → PlainStep
   Claimed : (shown : List Lit) (inner : Script) → PlainStep
   Copied : (form : Superpose) (names : List (List ℕ)) (shown : List Lit) (certs : List Cert) (inner : Script) → PlainStep
 
@@ -20,6 +22,7 @@ unfoldable pub plain_step : Step → PlainStep
 plain_step (CiteStep by) = Cited by
 plain_step (HenceStep lit cert) = Inferred lit cert
 plain_step (MakeStep form names certs) = Made form names certs
+plain_step (ApplyStep theorem args names certs) = Applied theorem args names certs
 plain_step (ClaimStep shown p0 n0 row0 close0) = Claimed shown (row_script row0 (close_script close0))
 plain_step (SuperposedStep form names shown certs p0 n0 row0 close0) = Copied form names shown certs (row_script row0 (close_script close0))
 
@@ -28,6 +31,7 @@ abbrev pub before : PlainStep → Script → Script
 before (Cited by) rest = Cite by rest
 before (Inferred lit cert) rest = Hence lit cert rest
 before (Made form names certs) rest = Make form names certs rest
+before (Applied theorem args names certs) rest = Apply theorem args names certs rest
 before (Claimed shown inner) rest = Claim shown inner rest
 before (Copied form names shown certs inner) rest = Superposed form names shown certs inner rest
 

@@ -1,5 +1,5 @@
 -- Why a script is refused: its first line that is not licensed, with values that show it; or a line that is too wide.
-use Rattle.std.specs.Prelude.{◌≡◌, ℕ, List, IsTrue, IsFalse, Contains, Option, Some, None}
+use Rattle.std.specs.Prelude.{◌≡◌, ℕ, List, IsTrue, IsFalse, Contains, MatchBool, Option, Some, None}
 use Rattle.e_literal.specs.declared.object.Term.{Term}
 use Rattle.e_literal.specs.declared.literal.Lit.{Lit}
 use Rattle.e_literal.specs.Facts.{is_metric}
@@ -7,10 +7,12 @@ use Rattle.e_literal.specs.Use.{Stated}
 use Rattle.e_clause.specs.Counterexample.{ListsCounterexample}
 use Rattle.e_clause.specs.Wide.{IsWideLit, IsWideContradiction, IsTooWideLit, IsTooWideContradiction}
 use Rattle.e_deriv.specs.declared.stop.Wanted.{Wanted}
-use Rattle.e_deriv.specs.declared.stop.Wanted.TheVariants.{Literal, Contradiction as AContradiction}
-use Rattle.e_deriv.specs.Script.{Script, Cite, Contradiction}
-use Rattle.e_deriv.specs.Lines.{Line}
-use Rattle.e_deriv.specs.Steps.{needs}
+use Rattle.e_theorem.specs.WideChoice.{SomeChoiceIsWide, SomeChoiceIsTooWide}
+use Rattle.e_deriv.specs.declared.stop.Wanted.TheVariants.{Literal, Match, Contradiction as AContradiction}
+use Rattle.e_deriv.specs.Script.{Script, Cite, Apply, Contradiction}
+use Rattle.e_deriv.specs.Parts.{has_no_blank}
+use Rattle.e_deriv.specs.Lines.{Line, theorem_at}
+use Rattle.e_deriv.specs.Steps.{needs_as_written}
 use Rattle.e_deriv.specs.Licensed.{Lacks, IsContext}
 
 -- ---- values
@@ -25,44 +27,52 @@ abbrev pub AgreementIsShown : List Lit → Option (List (Term × ℕ)) → Type 
 AgreementIsShown facts (Some values) = ListsCounterexample facts None values
 AgreementIsShown facts None = ⊥
 
--- what the line lacks is shown by these values; a citation has none
+-- what the line lacks is shown by these values; a citation has none, and so has a match
 abbrev pub IsShown : Script → List Lit → Wanted → Option (List (Term × ℕ)) → Type 0
 IsShown (Cite by rest) facts (Literal l) values = values ≡ None
 IsShown here facts (Literal l) values = LiteralIsShown facts l values
+IsShown here facts Match values = values ≡ None
 IsShown here facts AContradiction values = AgreementIsShown facts values
 
 -- line n is the first that is not licensed, it lacks this, and these values show it
-pub record IsRefused (t : Stated) (script : Script) (n : ℕ) (wanted : Wanted) (values : Option (List (Term × ℕ))) : Type 0 where
+pub record IsRefused (before : List Stated) (t : Stated) (script : Script) (n : ℕ) (wanted : Wanted) (values : Option (List (Term × ℕ))) : Type 0 where
   pub line : Line
-  pub context : IsContext t script n line
-  pub lacks : Lacks line line.here wanted
+  pub context : IsContext before t script n line
+  pub lacks : Lacks before line line.here wanted
   pub shown : IsShown line.here line.facts wanted values
 
 -- ---- wide lines
 
 -- one of the literals is wide
-pub record SomeIsWide (x : Line) : Type 0 where
+pub record SomeIsWide (before : List Stated) (x : Line) : Type 0 where
   pub lit : Lit
-  pub is_one : Contains (needs x) lit
+  pub is_one : Contains (needs_as_written before x) lit
   pub is_wide : IsWideLit x.scope x.facts lit
 
--- a literal that the line needs is wide, or its contradiction; a citation, a claim and a split need nothing and are never wide
-abbrev pub IsWideAt : Line → Script → Type 0
-IsWideAt x (Contradiction against) = IsWideContradiction x.facts
-IsWideAt x _ = SomeIsWide x
+-- a literal that the line needs is wide, for an application with blanks under a choice that is not above the least good one; or
+-- its contradiction is. A citation, a claim and a split need nothing and are never wide.
+abbrev pub IsWideAt : List Stated → Line → Script → Type 0
+IsWideAt before x (Contradiction against) = IsWideContradiction x.facts
+IsWideAt before x (Apply theorem pattern names certs rest) =
+    MatchBool (has_no_blank pattern) (SomeIsWide before x) (SomeChoiceIsWide (theorem_at before theorem) x.scope x.facts pattern)
+IsWideAt before x _ = SomeIsWide before x
 
-abbrev pub IsWideLine : Line → Type 0
-IsWideLine x = IsWideAt x x.here
+abbrev pub IsWideLine : List Stated → Line → Type 0
+IsWideLine before x = IsWideAt before x x.here
 
--- this wanted literal of the line, or its contradiction, is wide, and w is the width of one of its wide systems
-abbrev pub IsTooWide : Line → Script → Wanted → ℕ → Type 0
-IsTooWide x (Contradiction against) AContradiction w = IsTooWideContradiction x.facts w
-IsTooWide x (Contradiction against) (Literal l) w = ⊥
-IsTooWide x _ (Literal l) w = Contains (needs x) l × IsTooWideLit x.scope x.facts l w
-IsTooWide x _ AContradiction w = ⊥
+-- what is wanted on the line is wide, and w is the width of one of its wide systems
+abbrev pub IsTooWide : List Stated → Line → Script → Wanted → ℕ → Type 0
+IsTooWide before x (Contradiction against) AContradiction w = IsTooWideContradiction x.facts w
+IsTooWide before x (Contradiction against) _ w = ⊥
+IsTooWide before x (Apply theorem pattern names certs rest) (Literal l) w =
+    IsTrue (has_no_blank pattern) × Contains (needs_as_written before x) l × IsTooWideLit x.scope x.facts l w
+IsTooWide before x (Apply theorem pattern names certs rest) Match w =
+    IsFalse (has_no_blank pattern) × SomeChoiceIsTooWide (theorem_at before theorem) x.scope x.facts pattern w
+IsTooWide before x _ (Literal l) w = Contains (needs_as_written before x) l × IsTooWideLit x.scope x.facts l w
+IsTooWide before x _ _ w = ⊥
 
 -- each line before line n is licensed, and line n is too wide at what is wanted there
-pub record IsTooWideAt (t : Stated) (script : Script) (n : ℕ) (wanted : Wanted) (w : ℕ) : Type 0 where
+pub record IsTooWideAt (before : List Stated) (t : Stated) (script : Script) (n : ℕ) (wanted : Wanted) (w : ℕ) : Type 0 where
   pub line : Line
-  pub context : IsContext t script n line
-  pub too_wide : IsTooWide line line.here wanted w
+  pub context : IsContext before t script n line
+  pub too_wide : IsTooWide before line line.here wanted w

@@ -9,7 +9,7 @@ use Rattle.e_clause.specs.declared.cert.By.{By}
 use Rattle.e_clause.specs.declared.cert.Cert.{Cert}
 use Rattle.e_deriv.specs.declared.block.Block.{Block}
 use Rattle.e_deriv.specs.declared.block.Step.{Step, Row_of-Step, end_of-Step, more_of-Step}
-use Rattle.e_deriv.specs.declared.block.Step.TheVariants.{Cite as CiteStep, Hence as HenceStep, Make as MakeStep, Claim' as ClaimStep, Superposed' as SuperposedStep}
+use Rattle.e_deriv.specs.declared.block.Step.TheVariants.{Cite as CiteStep, Hence as HenceStep, Make as MakeStep, Apply as ApplyStep, Claim' as ClaimStep, Superposed' as SuperposedStep}
 use Rattle.e_deriv.specs.declared.block.Close.{Close}
 use Rattle.e_deriv.specs.declared.block.Close.TheVariants.{Qed as QedClose, Contradiction as ContradictionClose, Cases' as CasesClose}
 
@@ -18,6 +18,7 @@ pub data Script : Type 0 where
   Cite : (by : By) (rest : Script) → Script
   Hence : (lit : Lit) (cert : Option Cert) (rest : Script) → Script
   Make : (form : Construction) (names : List (List ℕ)) (certs : List Cert) (rest : Script) → Script
+  Apply : (theorem : ℕ) (args : List (Option Obj)) (names : List (List ℕ)) (certs : List Cert) (rest : Script) → Script
   Claim : (shown : List Lit) (inner : Script) (rest : Script) → Script
   Superposed : (form : Superpose) (names : List (List ℕ)) (shown : List Lit) (certs : List Cert) (inner : Script) (rest : Script) → Script
   Qed : (objects : List Obj) (certs : List Cert) → Script
@@ -30,6 +31,7 @@ unfoldable mutual
   step_script (CiteStep by) rest = Cite by rest
   step_script (HenceStep lit cert) rest = Hence lit cert rest
   step_script (MakeStep form names certs) rest = Make form names certs rest
+  step_script (ApplyStep theorem args names certs) rest = Apply theorem args names certs rest
   step_script (ClaimStep shown p0 n0 row0 close0) rest = Claim shown (row_script row0 (close_script close0)) rest
   step_script (SuperposedStep form names shown certs p0 n0 row0 close0) rest = Superposed form names shown certs (row_script row0 (close_script close0)) rest
 
@@ -55,6 +57,7 @@ unfoldable pub size : Script → ℕ
 size (Cite by rest) = 1 + size rest
 size (Hence lit cert rest) = 1 + size rest
 size (Make form names certs rest) = 1 + size rest
+size (Apply theorem args names certs rest) = 1 + size rest
 size (Claim shown inner rest) = 1 + size inner + size rest
 size (Superposed form names shown certs inner rest) = 1 + size inner + size rest
 size (Qed objects certs) = 1
@@ -66,6 +69,7 @@ unfoldable pub depth : Script → ℕ
 depth (Cite by rest) = depth rest
 depth (Hence lit cert rest) = depth rest
 depth (Make form names certs rest) = depth rest
+depth (Apply theorem args names certs rest) = depth rest
 depth (Claim shown inner rest) = max (1 + depth inner) (depth rest)
 depth (Superposed form names shown certs inner rest) = max (1 + depth inner) (depth rest)
 depth (Qed objects certs) = 1
@@ -77,6 +81,7 @@ unfoldable pub erased : Script → Script
 erased (Cite by rest) = Cite by (erased rest)
 erased (Hence lit cert rest) = Hence lit None (erased rest)
 erased (Make form names certs rest) = Make form names [] (erased rest)
+erased (Apply theorem args names certs rest) = Apply theorem args names [] (erased rest)
 erased (Claim shown inner rest) = Claim shown (erased inner) (erased rest)
 erased (Superposed form names shown certs inner rest) = Superposed form names shown [] (erased inner) (erased rest)
 erased (Qed objects certs) = Qed objects []

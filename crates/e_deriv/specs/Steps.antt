@@ -1,19 +1,23 @@
 -- What has to be so at a line beside what it has to be allowed: its objects are in scope, its form fits. What it needs.
-use Rattle.std.specs.Prelude.{List, [], ◌∷◌, map, Bool, true, false, ◌&&◌, is_some}
+use Rattle.std.specs.Prelude.{ℕ, List, [], ◌∷◌, map, length, Bool, true, false, ◌&&◌, nat_lt, Option, is_some}
 use Rattle.std.specs.Option.{option_map_or}
 use Rattle.std.specs.List.{list_all}
+use Rattle.e_literal.specs.declared.object.Obj.{Obj}
 use Rattle.e_literal.specs.declared.object.Scope.{Scope}
 use Rattle.e_literal.specs.declared.literal.Lit.{Lit}
 use Rattle.e_literal.specs.Literal.{negation, is_in_scope, all_in_scope}
 use Rattle.e_literal.specs.Facts.{has, has_all, others}
+use Rattle.e_literal.specs.Use.{Stated, needs_of_use}
 use Rattle.e_clause.specs.declared.cert.By.{By}
 use Rattle.e_clause.specs.Instance.{Inst}
 use Rattle.e_clause.specs.RuleKinds.{is_diagram_rule}
 use Rattle.e_construct.specs.Construct.{fits as fits_form, needs as needs_of_form}
 use Rattle.e_construct.specs.Superposing as superposing
-use Rattle.e_deriv.specs.Script.{Script, Cite, Hence, Make, Claim, Superposed, Qed, Contradiction, Cases}
+use Rattle.e_deriv.specs.Script.{Script, Cite, Hence, Make, Apply, Claim, Superposed, Qed, Contradiction, Cases}
 use Rattle.e_deriv.specs.Goal.{Goal, are_for, goal_with}
-use Rattle.e_deriv.specs.Lines.{Line}
+use Rattle.e_theorem.specs.Choice.{is_choice}
+use Rattle.e_deriv.specs.Parts.{args_of}
+use Rattle.e_deriv.specs.Lines.{Line, theorem_at}
 
 -- all objects of the literals are in scope
 abbrev pub are_over : Scope → List Lit → Bool
@@ -33,30 +37,41 @@ instance_gives facts l lits = has lits l && has_all facts (map negation (others 
 abbrev pub is_cited : List Lit → By → Bool
 is_cited facts by = option_map_or (instance_gives facts by.lit) (Inst by.rule by.args) false
 
+-- the arguments fill the pattern and fit the theorem, which is one of those before
+abbrev pub is_applied : List Stated → ℕ → Scope → List (Option Obj) → List Obj → Bool
+is_applied before theorem s pattern args =
+    nat_lt theorem (length before) && is_choice (theorem_at before theorem) s pattern args
+
 -- the line's form fits where it stands; what a superposition shows does not speak of the copied points
-abbrev pub fits_at : Script → Scope → Goal → Bool
-fits_at (Cite by rest) s goal = is_citation s by
-fits_at (Hence lit cert rest) s goal = all_in_scope s lit
-fits_at (Make form names certs rest) s goal = fits_form form s
-fits_at (Claim shown inner rest) s goal = are_over s shown
-fits_at (Superposed form names shown certs inner rest) s goal = superposing.fits form s && are_over s shown
-fits_at (Qed objects certs) s goal = are_for goal s objects
-fits_at (Contradiction against) s goal = true
-fits_at (Cases lit first second) s goal = all_in_scope s lit
+abbrev pub fits_at : List Stated → Script → Scope → Goal → List Obj → Bool
+fits_at before (Cite by rest) s goal args = is_citation s by
+fits_at before (Hence lit cert rest) s goal args = all_in_scope s lit
+fits_at before (Make form names certs rest) s goal args = fits_form form s
+fits_at before (Apply theorem pattern names certs rest) s goal args = is_applied before theorem s pattern args
+fits_at before (Claim shown inner rest) s goal args = are_over s shown
+fits_at before (Superposed form names shown certs inner rest) s goal args = superposing.fits form s && are_over s shown
+fits_at before (Qed objects certs) s goal args = are_for goal s objects
+fits_at before (Contradiction against) s goal args = true
+fits_at before (Cases lit first second) s goal args = all_in_scope s lit
 
 -- the literals that the line needs, in order
-abbrev pub needs_at : Script → Goal → List Lit
-needs_at (Hence lit cert rest) goal = lit ∷ []
-needs_at (Make form names certs rest) goal = needs_of_form form
-needs_at (Superposed form names shown certs inner rest) goal = superposing.needs form
-needs_at (Qed objects certs) goal = goal_with goal objects
-needs_at (Cite by rest) goal = []
-needs_at (Claim shown inner rest) goal = []
-needs_at (Contradiction against) goal = []
-needs_at (Cases lit first second) goal = []
+abbrev pub needs_at : List Stated → Script → Scope → Goal → List Obj → List Lit
+needs_at before (Hence lit cert rest) s goal args = lit ∷ []
+needs_at before (Make form names certs rest) s goal args = needs_of_form form
+needs_at before (Apply theorem pattern names certs rest) s goal args = needs_of_use (theorem_at before theorem) args s
+needs_at before (Superposed form names shown certs inner rest) s goal args = superposing.needs form
+needs_at before (Qed objects certs) s goal args = goal_with goal objects
+needs_at before (Cite by rest) s goal args = []
+needs_at before (Claim shown inner rest) s goal args = []
+needs_at before (Contradiction against) s goal args = []
+needs_at before (Cases lit first second) s goal args = []
 
-abbrev pub fits : Line → Bool
-fits x = fits_at x.here x.scope x.goal
+abbrev pub fits : List Stated → Line → Bool
+fits before x = fits_at before x.here x.scope x.goal x.args
 
-abbrev pub needs : Line → List Lit
-needs x = needs_at x.here x.goal
+abbrev pub needs : List Stated → Line → List Lit
+needs before x = needs_at before x.here x.scope x.goal x.args
+
+-- the needs of a line with the arguments that are written on it, where none is a blank
+abbrev pub needs_as_written : List Stated → Line → List Lit
+needs_as_written before x = needs_at before x.here x.scope x.goal (args_of x.here)

@@ -33,6 +33,15 @@ pub enum Step {
         names: Items<Name>,
         certs: Items<Cert>,
     },
+    /// Each given literal of an earlier theorem is allowed at the arguments, where blanks are filled by the least good choice; its
+    /// made objects, with these names, come into scope, and what it shows are facts.
+    Apply {
+        /// The theorem's place among those before.
+        theorem: u32,
+        args: Items<Option<Obj>>,
+        names: Items<Name>,
+        certs: Items<Cert>,
+    },
     /// The inner block proves the literals. Its objects and facts end with it, and the literals are facts.
     Claim {
         shown: Items<Lit>,

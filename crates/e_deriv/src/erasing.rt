@@ -43,6 +43,21 @@ fn erase_step(alloc: Global, step: &Step) -> Result<Step, AllocError>
                 certs: Items::empty(alloc),
             })
         }
+        Step::Apply {
+            theorem,
+            args,
+            names,
+            ..
+        } => {
+            let args = Vec::from_slice(alloc, args.items())?;
+            let new = Vec::from_slice(alloc, names.items())?;
+            Ok(Step::Apply {
+                theorem: *theorem,
+                args: Items::new(args),
+                names: Items::new(new),
+                certs: Items::empty(alloc),
+            })
+        }
         Step::Claim { shown, inner } => {
             let shown = copy_lits(alloc, shown.items())?;
             let inner = erase(alloc, inner)?;

@@ -1,12 +1,12 @@
 //! Laws of scripts and derivations, each as a function that does nothing and whose contract is the law.
-ghost use Rattle.e_deriv.specs.Laws.{CertifiedProves, LicensedProves, ProofIsLicensed, ContextIsOne, LicensedHasNoStop, StopIsOne, DerivedIsLicensed, DerivedHasNoStop};
+ghost use Rattle.e_deriv.specs.Laws.{CertifiedProves, LicensedProves, ProofIsLicensed, ContextIsOne, LicensedHasNoStop, StopIsOne};
 
 /// What is certified is a proof.
 pub fn certified_proves()
     ensures { CertifiedProves }
 {}
 
-/// A script of which each line is licensed is a proof.
+/// A script of which each line is licensed is a proof, with its blanks filled.
 pub fn licensed_proves()
     ensures { LicensedProves }
 {}
@@ -29,14 +29,4 @@ pub fn licensed_has_no_stop()
 /// The first line that is not licensed, and what it lacks, are determined by the script.
 pub fn stop_is_one()
     ensures { StopIsOne }
-{}
-
-/// Each line of a script that has a certified derivation is licensed.
-pub fn derived_is_licensed()
-    ensures { DerivedIsLicensed }
-{}
-
-/// A script that has a certified derivation has no first line that is not licensed.
-pub fn derived_has_no_stop()
-    ensures { DerivedHasNoStop }
 {}

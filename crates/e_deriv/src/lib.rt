@@ -11,8 +11,8 @@ mod stop;
 pub use block::{Block, Close, Step};
 pub use erasing::{copy_by, copy_construction, copy_lits, erase};
 pub use laws::{
-    certified_proves, context_is_one, derived_has_no_stop, derived_is_licensed,
-    licensed_has_no_stop, licensed_proves, proof_is_licensed, stop_is_one,
+    certified_proves, context_is_one, licensed_has_no_stop, licensed_proves, proof_is_licensed,
+    stop_is_one,
 };
 pub use names::Names;
 pub use sizes::{depth, size};

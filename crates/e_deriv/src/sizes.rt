@@ -13,7 +13,8 @@ pub fn size(block: &Block) -> u32
     let mut lines = 0u32;
     for step in &block.steps {
         match step {
-            Step::Cite(_) | Step::Hence { .. } | Step::Make { .. } => lines += 1,
+            Step::Cite(_) | Step::Hence { .. } | Step::Make { .. } | Step::Apply { .. } => lines +=
+                1,
             Step::Claim { inner, .. } => lines += size(inner) + 1,
             Step::Superposed { inner, .. } => lines += size(inner) + 1,
         }
@@ -33,7 +34,7 @@ pub fn depth(block: &Block) -> u32
     let mut deepest = 0u32;
     for step in &block.steps {
         match step {
-            Step::Cite(_) | Step::Hence { .. } | Step::Make { .. } => {}
+            Step::Cite(_) | Step::Hence { .. } | Step::Make { .. } | Step::Apply { .. } => {}
             Step::Claim { inner, .. } => deepest = deepest.max(depth(inner) + 1),
             Step::Superposed { inner, .. } => deepest = deepest.max(depth(inner) + 1),
         }

@@ -11,6 +11,8 @@ use std::alloc::{AllocError, AllocFailed};
 pub enum Wanted {
     /// The first literal that is not allowed; the cited one of a citation.
     Literal(Lit),
+    /// A good choice for the blanks of an application.
+    Match,
     /// That the facts contradict each other.
     Contradiction,
 }

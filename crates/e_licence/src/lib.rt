@@ -7,8 +7,6 @@ pub mod context;
 pub mod contradiction;
 pub mod licensing;
 pub mod limits;
-#[cfg(test)]
-mod tests;
 
 pub use blanks::{Filled, match_blanks};
 pub use context::{Context, Mark};

@@ -13,8 +13,6 @@ pub mod limits;
 pub mod listing;
 pub mod literals;
 pub mod systems;
-#[cfg(test)]
-mod tests;
 
 pub use consequence::{Metric, absurd, follows};
 pub use knowing::Known;

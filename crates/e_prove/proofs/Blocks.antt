@@ -1,27 +1,25 @@
 -- Blocks whose lines are judged one after another, and what the code says of them.
-use Rattle.std.proofs.Common.{◌≡◌, ℕ, ◌+◌, ◌*◌, ◌≤◌, ◌<◌, ◌^◌, List, [], ◌∷◌, ◌++◌, length, drop, get_or, refl, sym, ap, ◌∙◌, subst, Bool, true, Option, Result, Ok, Err, arith, Box, Global}
+use Rattle.std.proofs.Common.{◌≡◌, ℕ, ◌+◌, ◌≤◌, ◌<◌, ◌^◌, List, [], ◌∷◌, ◌++◌, length, drop, get_or, refl, sym, ap, ◌∙◌, subst, true, Option, Result, Ok, Err, arith, Box, Global}
 use Rattle.std.proofs.lemmas.Grind.{common_steps}
-use Rattle.std.specs.Prelude.{IsTrue, IfOk, IfErr, OnOk, take}
+use Rattle.std.specs.Prelude.{IfOk, OnOk, take}
 use Rattle.e_literal.specs.declared.literal.Lit.{Lit}
 use Rattle.e_literal.specs.declared.object.Obj.{Obj}
 use Rattle.e_literal.specs.Literal.{negation}
+use Rattle.e_literal.specs.Use.{Stated}
 use Rattle.e_literal.specs.Facts.{joined, joined_all}
 use Rattle.e_clause.specs.declared.cert.By.{By}
 use Rattle.e_clause.specs.declared.cert.Cert.{Cert}
 use Rattle.e_clause.specs.declared.cert.Against.{Against}
-use Rattle.e_clause.specs.Certify.{certify_all}
 use Rattle.e_clause.specs.Judged.{are_good_facts}
 use Rattle.e_construct.specs.declared.construction.Construction.{Construction}
 use Rattle.e_construct.specs.declared.superpose.Superpose.{Superpose}
 use Rattle.e_construct.specs.Superposing as superposing
 use Rattle.e_deriv.specs.declared.block.Block.{Block}
 use Rattle.e_deriv.specs.declared.block.Step.{Step}
-use Rattle.e_deriv.specs.declared.block.Step.TheVariants.{Cite as CiteStep, Hence as HenceStep, Make as MakeStep, Claim as ClaimStep, Superposed as SuperposedStep}
+use Rattle.e_deriv.specs.declared.block.Step.TheVariants.{Cite as CiteStep, Hence as HenceStep, Make as MakeStep, Apply as ApplyStep, Claim as ClaimStep, Superposed as SuperposedStep}
 use Rattle.e_deriv.specs.declared.block.Close.{Close}
 use Rattle.e_deriv.specs.declared.block.Close.TheVariants.{Qed as QedClose, Contradiction as ContradictionClose, Cases as CasesClose}
-use Rattle.e_deriv.specs.declared.names.Names.{Names}
 use Rattle.e_deriv.specs.declared.stop.Stop.{Stop}
-use Rattle.e_deriv.specs.declared.stop.Stop.TheVariants as stop
 use Rattle.e_deriv.specs.Script.{Script, Claim, Superposed, Cases, script_of, step_script, steps_script, close_script, size}
 use Rattle.e_deriv.specs.Goal.{Goal, goal_of}
 use Rattle.e_deriv.proofs.Scripts.{steps_at, steps_script-append, step_script-Claim, step_script-Superposed, close_script-Cases}
@@ -36,7 +34,7 @@ use Rattle.e_prove.specs.Halts.{HaltsIn, UnlessNoMemory, StopOf}
 use Rattle.e_prove.specs.Passing.{IsReadyFor, IsReadyStep, IsDerived, KeepsFacts, StopsWithin, IsPassed, StepStops}
 use Rattle.e_prove.proofs.Keeping.{stay_on, stay_joined, stay_all, all_stay, no_fewer}
 use Rattle.e_prove.proofs.Passing.{passed_none, passed_more, passed_as, stops_first, names_kept}
-use Rattle.e_prove.proofs.Inside.{ClaimReady, claim_stops, passed_claim, SuperposedReady, Certifies, superposed_stops, passed_superposed, superposed_halts, SplitReady, split_ready, split_derives, split_first, split_second, some_lines}
+use Rattle.e_prove.proofs.Inside.{ClaimReady, claim_stops, passed_claim, SuperposedReady, Certifies, superposed_stops, passed_superposed, superposed_halts, SplitReady, split_ready, split_other, split_derives, split_first, split_second}
 
 pub on_ok : {A E : Type 0} (p : Type 0) (r : Result A E) → p → OnOk r p
 on_ok p (Ok a) h = h
@@ -61,14 +59,14 @@ whole : (items seen : List Step) (i : ℕ) (s : Step) (d : Script) → seen ≡ 
     steps_script (take i items) (step_script s (steps_script (drop (i + 1) items) d)) ≡ steps_script items d
 whole items seen i s d same lt is = ap (steps_script (take i items)) (sym (steps_at items seen d i s same lt is)) ∙ parts items i d
 
-pub passed_start : (items new : List Step) (x : Standing) (n : ℕ) → new ≡ [] → IsPassed (steps_script (take 0 items)) x n (steps_script new) x n
-passed_start items new x n e =
-    passed_as (λ d. d) (λ d. d) (steps_script (take 0 items)) (steps_script new) x x n n (λ d. refl) (λ d. ap (λ xs. steps_script xs d) (sym e))
-    (passed_none x n (all_stay x.context.facts))
+pub passed_start : (before : List Stated) (items new : List Step) (x : Standing) (n : ℕ) → new ≡ [] → IsPassed before (steps_script (take 0 items)) x n (steps_script new) x n
+passed_start before items new x n e =
+    passed_as before (λ d. d) (λ d. d) (steps_script (take 0 items)) (steps_script new) x x n n (λ d. refl) (λ d. ap (λ xs. steps_script xs d) (sym e))
+    (passed_none before x n (all_stay x.context.facts))
 
-pub step_ready : (items seen done : List Step) (close : Script) (i : ℕ) (s : Step) (x y : Standing) (goal : Goal) (first n : ℕ) → seen ≡ items → i < length seen → s ≡ get_or seen i s →
-    IsPassed (steps_script (take i items)) x first (steps_script done) y n → IsReadyFor (steps_script items close) x goal → first + size (steps_script items close) < 2 ^ 32 → IsReadyStep s y n
-step_ready items seen done close i s x y goal first n same lt is p r few =
+pub step_ready : (before : List Stated) (items seen done : List Step) (close : Script) (i : ℕ) (s : Step) (x y : Standing) (goal : Goal) (first n : ℕ) → seen ≡ items → i < length seen → s ≡ get_or seen i s →
+    IsPassed before (steps_script (take i items)) x first (steps_script done) y n → IsReadyFor before (steps_script items close) x goal → first + size (steps_script items close) < 2 ^ 32 → IsReadyStep before s y n
+step_ready before items seen done close i s x y goal first n same lt is p r few =
     let left = steps_script (drop (i + 1) items) close in
     let e = whole items seen i s close same lt is in
     let count = p.number (step_script s left) in
@@ -76,25 +74,25 @@ step_ready items seen done close i s x y goal first n same lt is p r few =
     record {
       rest = left;
       goal = goal;
-      ready = p.ready (step_script s left) goal (subst (λ d. IsReadyFor d x goal) (sym e) r);
+      ready = p.ready (step_script s left) goal (subst (λ d. IsReadyFor before d x goal) (sym e) r);
       few = omega (arith, count, size_is, few);
     }
 
-pub step_stops : (items seen done : List Step) (close : Script) (i : ℕ) (s : Step) (x y : Standing) (goal : Goal) (first n : ℕ) (t : Stop) → seen ≡ items → i < length seen → s ≡ get_or seen i s →
-    IsPassed (steps_script (take i items)) x first (steps_script done) y n → IsReadyFor (steps_script items close) x goal → StepStops s y n t → StopsWithin (steps_script items close) x goal first t
-step_stops items seen done close i s x y goal first n t same lt is p r k =
+pub step_stops : (before : List Stated) (items seen done : List Step) (close : Script) (i : ℕ) (s : Step) (x y : Standing) (goal : Goal) (first n : ℕ) (t : Stop) → seen ≡ items → i < length seen → s ≡ get_or seen i s →
+    IsPassed before (steps_script (take i items)) x first (steps_script done) y n → IsReadyFor before (steps_script items close) x goal → StepStops before s y n t → StopsWithin before (steps_script items close) x goal first t
+step_stops before items seen done close i s x y goal first n t same lt is p r k =
     let left = steps_script (drop (i + 1) items) close in
     let e = whole items seen i s close same lt is in
-    let ready = subst (λ d. IsReadyFor d x goal) (sym e) r in
-    subst (λ d. StopsWithin d x goal first t) e (p.stops (step_script s left) goal t ready (k left goal (p.ready (step_script s left) goal ready)))
+    let ready = subst (λ d. IsReadyFor before d x goal) (sym e) r in
+    subst (λ d. StopsWithin before d x goal first t) e (p.stops (step_script s left) goal t ready (k left goal (p.ready (step_script s left) goal ready)))
 
-pub step_passed : (items seen done grown : List Step) (i : ℕ) (s d : Step) (x y z : Standing) (first n m : ℕ) → seen ≡ items → i < length seen → s ≡ get_or seen i s → grown ≡ done ++ d ∷ [] →
-    IsPassed (steps_script (take i items)) x first (steps_script done) y n → IsPassed (step_script s) y n (step_script d) z m →
-    IsPassed (steps_script (take (i + 1) items)) x first (steps_script grown) z m
-step_passed items seen done grown i s d x y z first n m same lt is more p q =
-    passed_as (λ w. steps_script (take i items) (step_script s w)) (λ w. steps_script done (step_script d w)) (steps_script (take (i + 1) items)) (steps_script grown) x z first m
+pub step_passed : (before : List Stated) (items seen done grown : List Step) (i : ℕ) (s d : Step) (x y z : Standing) (first n m : ℕ) → seen ≡ items → i < length seen → s ≡ get_or seen i s → grown ≡ done ++ d ∷ [] →
+    IsPassed before (steps_script (take i items)) x first (steps_script done) y n → IsPassed before (step_script s) y n (step_script d) z m →
+    IsPassed before (steps_script (take (i + 1) items)) x first (steps_script grown) z m
+step_passed before items seen done grown i s d x y z first n m same lt is more p q =
+    passed_as before (λ w. steps_script (take i items) (step_script s w)) (λ w. steps_script done (step_script d w)) (steps_script (take (i + 1) items)) (steps_script grown) x z first m
     (λ w. front items seen i s w same lt is) (λ w. sym (steps_script-append done (d ∷ []) w) ∙ ap (λ xs. steps_script xs w) (sym more))
-    (passed_more (steps_script (take i items)) (steps_script done) (step_script s) (step_script d) x y z first n m (stay_on x.context.facts y.context.facts z.context.facts p.kept q.kept) p q)
+    (passed_more before (steps_script (take i items)) (steps_script done) (step_script s) (step_script d) x y z first n m (stay_on x.context.facts y.context.facts z.context.facts p.kept q.kept) p q)
 
 -- ---- the close of a block
 
@@ -103,28 +101,28 @@ all_taken items seen i d same le =
     let e : take i seen ≡ seen = grind (arith, common_steps) in
     ap (λ xs. steps_script xs d) (subst (λ xs. take i xs ≡ xs) same e)
 
-pub close_ready : (items seen done : List Step) (close : Script) (i : ℕ) (x y : Standing) (goal : Goal) (first n : ℕ) → seen ≡ items → length seen ≤ i →
-    IsPassed (steps_script (take i items)) x first (steps_script done) y n → IsReadyFor (steps_script items close) x goal → IsReadyFor close y goal
-close_ready items seen done close i x y goal first n same le p r =
-    p.ready close goal (subst (λ d. IsReadyFor d x goal) (sym (all_taken items seen i close same le)) r)
+pub close_ready : (before : List Stated) (items seen done : List Step) (close : Script) (i : ℕ) (x y : Standing) (goal : Goal) (first n : ℕ) → seen ≡ items → length seen ≤ i →
+    IsPassed before (steps_script (take i items)) x first (steps_script done) y n → IsReadyFor before (steps_script items close) x goal → IsReadyFor before close y goal
+close_ready before items seen done close i x y goal first n same le p r =
+    p.ready close goal (subst (λ d. IsReadyFor before d x goal) (sym (all_taken items seen i close same le)) r)
 
-pub close_few : (items seen done : List Step) (close : Script) (i : ℕ) (x y : Standing) (first n : ℕ) → seen ≡ items → length seen ≤ i →
-    IsPassed (steps_script (take i items)) x first (steps_script done) y n → first + size (steps_script items close) ≡ n + size close
-close_few items seen done close i x y first n same le p =
+pub close_few : (before : List Stated) (items seen done : List Step) (close : Script) (i : ℕ) (x y : Standing) (first n : ℕ) → seen ≡ items → length seen ≤ i →
+    IsPassed before (steps_script (take i items)) x first (steps_script done) y n → first + size (steps_script items close) ≡ n + size close
+close_few before items seen done close i x y first n same le p =
     ap (λ d. first + size d) (sym (all_taken items seen i close same le)) ∙ p.number close
 
-pub close_derived : (items seen done : List Step) (close derived : Script) (i : ℕ) (x y : Standing) (goal : Goal) (first n : ℕ) → seen ≡ items → length seen ≤ i →
-    IsPassed (steps_script (take i items)) x first (steps_script done) y n → IsReadyFor (steps_script items close) x goal → IsDerived close y goal derived →
-    IsDerived (steps_script items close) x goal (steps_script done derived)
-close_derived items seen done close derived i x y goal first n same le p r d =
+pub close_derived : (before : List Stated) (items seen done : List Step) (close derived : Script) (i : ℕ) (x y : Standing) (goal : Goal) (first n : ℕ) → seen ≡ items → length seen ≤ i →
+    IsPassed before (steps_script (take i items)) x first (steps_script done) y n → IsReadyFor before (steps_script items close) x goal → IsDerived before close y goal derived →
+    IsDerived before (steps_script items close) x goal (steps_script done derived)
+close_derived before items seen done close derived i x y goal first n same le p r d =
     let e = all_taken items seen i close same le in
-    subst (λ w. IsDerived w x goal (steps_script done derived)) e (p.derives close derived goal (subst (λ w. IsReadyFor w x goal) (sym e) r) d)
+    subst (λ w. IsDerived before w x goal (steps_script done derived)) e (p.derives close derived goal (subst (λ w. IsReadyFor before w x goal) (sym e) r) d)
 
-pub close_stops : (items seen done : List Step) (close : Script) (i : ℕ) (x y : Standing) (goal : Goal) (first n : ℕ) (t : Stop) → seen ≡ items → length seen ≤ i →
-    IsPassed (steps_script (take i items)) x first (steps_script done) y n → IsReadyFor (steps_script items close) x goal → StopsWithin close y goal n t → StopsWithin (steps_script items close) x goal first t
-close_stops items seen done close i x y goal first n t same le p r k =
+pub close_stops : (before : List Stated) (items seen done : List Step) (close : Script) (i : ℕ) (x y : Standing) (goal : Goal) (first n : ℕ) (t : Stop) → seen ≡ items → length seen ≤ i →
+    IsPassed before (steps_script (take i items)) x first (steps_script done) y n → IsReadyFor before (steps_script items close) x goal → StopsWithin before close y goal n t → StopsWithin before (steps_script items close) x goal first t
+close_stops before items seen done close i x y goal first n t same le p r k =
     let e = all_taken items seen i close same le in
-    subst (λ w. StopsWithin w x goal first t) e (p.stops close goal t (subst (λ w. IsReadyFor w x goal) (sym e) r) k)
+    subst (λ w. StopsWithin before w x goal first t) e (p.stops close goal t (subst (λ w. IsReadyFor before w x goal) (sym e) r) k)
 
 pub kept_on : (x y z : Standing) → KeepsFacts x y → KeepsFacts y z → KeepsFacts x z
 kept_on x y z h k = stay_on x.context.facts y.context.facts z.context.facts h k
@@ -165,63 +163,69 @@ behind_is o x z w shown seen e k same is =
 
 -- ---- a claim
 
-pub claim_passed : (step : Step) (shown seen : List Lit) (inner : Box Block Global) (x z after : Standing) (n : ℕ) (o : Outer) (proved : ProvedBlock) (r : Result ProvedStep Stop) →
-    step ≡ ClaimStep shown inner → seen ≡ shown → ClaimReady shown (script_of inner.value) x → IsDerived (script_of inner.value) x (goal_of shown) (script_of proved.block) →
+pub claim_passed : (before : List Stated) (step : Step) (shown seen : List Lit) (inner : Box Block Global) (x z after : Standing) (n : ℕ) (o : Outer) (proved : ProvedBlock) (r : Result ProvedStep Stop) →
+    step ≡ ClaimStep shown inner → seen ≡ shown → ClaimReady before shown (script_of inner.value) x → IsDerived before (script_of inner.value) x (goal_of shown) (script_of proved.block) →
     proved.next ≡ n + 1 + size (script_of inner.value) → o ≡ outer_of x → KeepsFacts x z → IfOk r (λ p. (rest : Script) → step_script p.step rest ≡ Claim seen (script_of proved.block) rest) →
-    IfOk r (λ p. p.next ≡ proved.next) → OnOk r (after ≡ after_inner o seen z) → IfOk r (λ p. IsPassed (step_script step) x n (step_script p.step) after p.next)
-claim_passed step shown seen inner x z after n o proved (Err t) is same ready d count e k a b c = tt
-claim_passed step shown seen inner x z after n o proved (Ok p) is same ready d count e k a b c =
+    IfOk r (λ p. p.next ≡ proved.next) → OnOk r (after ≡ after_inner o seen z) → IfOk r (λ p. IsPassed before (step_script step) x n (step_script p.step) after p.next)
+claim_passed before step shown seen inner x z after n o proved (Err t) is same ready d count e k a b c = tt
+claim_passed before step shown seen inner x z after n o proved (Ok p) is same ready d count e k a b c =
     let S = script_of inner.value in
     let D = script_of proved.block in
-    let base = passed_claim shown S D x n proved.next ready.over d count in
-    let here = subst (λ w. IsPassed (Claim shown S) x n (Claim shown D) w proved.next) (sym (behind_is o x z after shown seen e k same c)) base in
-    passed_as (Claim shown S) (Claim shown D) (step_script step) (step_script p.step) x after n p.next
+    let base = passed_claim before shown S D x n proved.next ready.over d count in
+    let here = subst (λ w. IsPassed before (Claim shown S) x n (Claim shown D) w proved.next) (sym (behind_is o x z after shown seen e k same c)) base in
+    passed_as before (Claim shown S) (Claim shown D) (step_script step) (step_script p.step) x after n p.next
     (λ w. sym (ap (λ s. step_script s w) is ∙ step_script-Claim shown inner w)) (λ w. sym (a w ∙ ap (λ ls. Claim ls D w) same))
-    (subst (λ m. IsPassed (Claim shown S) x n (Claim shown D) after m) (sym b) here)
+    (subst (λ m. IsPassed before (Claim shown S) x n (Claim shown D) after m) (sym b) here)
 
-pub claim_stopped : (step : Step) (shown : List Lit) (inner : Box Block Global) (x : Standing) (n : ℕ) (t : Stop) → step ≡ ClaimStep shown inner → ClaimReady shown (script_of inner.value) x →
-    StopsWithin (script_of inner.value) x (goal_of shown) (n + 1) t → StepStops step x n t
-claim_stopped step shown inner x n t is ready k rest goal r =
-    subst (λ w. StopsWithin w x goal n t) (sym (ap (λ s. step_script s rest) is ∙ step_script-Claim shown inner rest))
-    (claim_stops shown (script_of inner.value) rest x goal n t ready.over k)
+pub claim_stopped : (before : List Stated) (step : Step) (shown : List Lit) (inner : Box Block Global) (x : Standing) (n : ℕ) (t : Stop) → step ≡ ClaimStep shown inner → ClaimReady before shown (script_of inner.value) x →
+    StopsWithin before (script_of inner.value) x (goal_of shown) (n + 1) t → StepStops before step x n t
+claim_stopped before step shown inner x n t is ready k rest goal r =
+    subst (λ w. StopsWithin before w x goal n t) (sym (ap (λ s. step_script s rest) is ∙ step_script-Claim shown inner rest))
+    (claim_stops before shown (script_of inner.value) rest x goal n t ready.over k)
 
 -- ---- a superposition
 
-pub superposed_passed : (step : Step) (form : Superpose) (names named : List (List ℕ)) (shown seen : List Lit) (written certs : List Cert) (inner : Box Block Global) (x z after : Standing) (n : ℕ) (o : Outer) (proved : ProvedBlock)
-    (r : Result ProvedStep Stop) → step ≡ SuperposedStep form names shown written inner → named ≡ names → seen ≡ shown → SuperposedReady form names shown (script_of inner.value) x → Certifies form x certs →
-    IsDerived (script_of inner.value) (after_superposed form names x) (goal_of shown) (script_of proved.block) → proved.next ≡ n + 1 + size (script_of inner.value) → o ≡ outer_of x → KeepsFacts x z →
+pub superposed_passed : (before : List Stated) (step : Step) (form : Superpose) (names named : List (List ℕ)) (shown seen : List Lit) (written certs : List Cert) (inner : Box Block Global) (x z after : Standing) (n : ℕ) (o : Outer) (proved : ProvedBlock)
+    (r : Result ProvedStep Stop) → step ≡ SuperposedStep form names shown written inner → named ≡ names → seen ≡ shown → SuperposedReady before form names shown (script_of inner.value) x → Certifies form x certs →
+    IsDerived before (script_of inner.value) (after_superposed form names x) (goal_of shown) (script_of proved.block) → proved.next ≡ n + 1 + size (script_of inner.value) → o ≡ outer_of x → KeepsFacts x z →
     IfOk r (λ p. (rest : Script) → step_script p.step rest ≡ Superposed form named seen certs (script_of proved.block) rest) → IfOk r (λ p. p.next ≡ proved.next) → OnOk r (after ≡ after_inner o seen z) →
-    IfOk r (λ p. IsPassed (step_script step) x n (step_script p.step) after p.next)
-superposed_passed step form names named shown seen written certs inner x z after n o proved (Err t) is given same ready cs d count e k a b c = tt
-superposed_passed step form names named shown seen written certs inner x z after n o proved (Ok p) is given same ready cs d count e k a b c =
+    IfOk r (λ p. IsPassed before (step_script step) x n (step_script p.step) after p.next)
+superposed_passed before step form names named shown seen written certs inner x z after n o proved (Err t) is given same ready cs d count e k a b c = tt
+superposed_passed before step form names named shown seen written certs inner x z after n o proved (Ok p) is given same ready cs d count e k a b c =
     let S = script_of inner.value in
     let D = script_of proved.block in
-    let base = passed_superposed form names shown written certs S D x n proved.next ready.fits ready.over cs d count in
-    let here = subst (λ w. IsPassed (Superposed form names shown written S) x n (Superposed form names shown certs D) w proved.next) (sym (behind_is o x z after shown seen e k same c)) base in
-    passed_as (Superposed form names shown written S) (Superposed form names shown certs D) (step_script step) (step_script p.step) x after n p.next
+    let base = passed_superposed before form names shown written certs S D x n proved.next ready.fits ready.over cs d count in
+    let here = subst (λ w. IsPassed before (Superposed form names shown written S) x n (Superposed form names shown certs D) w proved.next) (sym (behind_is o x z after shown seen e k same c)) base in
+    passed_as before (Superposed form names shown written S) (Superposed form names shown certs D) (step_script step) (step_script p.step) x after n p.next
     (λ w. sym (ap (λ s. step_script s w) is ∙ step_script-Superposed form names shown written inner w))
     (λ w. sym (a w ∙ ap (λ ns. Superposed form ns seen certs D w) given ∙ ap (λ ls. Superposed form names ls certs D w) same))
-    (subst (λ m. IsPassed (Superposed form names shown written S) x n (Superposed form names shown certs D) after m) (sym b) here)
+    (subst (λ m. IsPassed before (Superposed form names shown written S) x n (Superposed form names shown certs D) after m) (sym b) here)
 
-pub superposed_stopped : (step : Step) (form : Superpose) (names : List (List ℕ)) (shown : List Lit) (written certs : List Cert) (inner : Box Block Global) (x : Standing) (n : ℕ) (t : Stop) →
-    step ≡ SuperposedStep form names shown written inner → SuperposedReady form names shown (script_of inner.value) x → Certifies form x certs →
-    StopsWithin (script_of inner.value) (after_superposed form names x) (goal_of shown) (n + 1) t → StepStops step x n t
-superposed_stopped step form names shown written certs inner x n t is ready cs k rest goal r =
-    subst (λ w. StopsWithin w x goal n t) (sym (ap (λ s. step_script s rest) is ∙ step_script-Superposed form names shown written inner rest))
-    (superposed_stops form names shown written certs (script_of inner.value) rest x goal n t ready.fits ready.over cs k)
+pub superposed_stopped : (before : List Stated) (step : Step) (form : Superpose) (names : List (List ℕ)) (shown : List Lit) (written certs : List Cert) (inner : Box Block Global) (x : Standing) (n : ℕ) (t : Stop) →
+    step ≡ SuperposedStep form names shown written inner → SuperposedReady before form names shown (script_of inner.value) x → Certifies form x certs →
+    StopsWithin before (script_of inner.value) (after_superposed form names x) (goal_of shown) (n + 1) t → StepStops before step x n t
+superposed_stopped before step form names shown written certs inner x n t is ready cs k rest goal r =
+    subst (λ w. StopsWithin before w x goal n t) (sym (ap (λ s. step_script s rest) is ∙ step_script-Superposed form names shown written inner rest))
+    (superposed_stops before form names shown written certs (script_of inner.value) rest x goal n t ready.fits ready.over cs k)
 
-pub superposed_refused : (step : Step) (form : Superpose) (names : List (List ℕ)) (shown : List Lit) (written : List Cert) (inner : Box Block Global) (x after : Standing) (n : ℕ) (h : Halt) (t : Stop) →
-    step ≡ SuperposedStep form names shown written inner → HaltsIn x.context (superposing.needs form) h → UnlessNoMemory (after ≡ x) h → StopOf h n after.names t → StepStops step x n t
-superposed_refused step form names shown written inner x after n h t is k m e rest goal r =
-    subst (λ w. StopsWithin w x goal n t) (sym (ap (λ s. step_script s rest) is ∙ step_script-Superposed form names shown written inner rest))
-    (stops_first (Superposed form names shown written (script_of inner.value) rest) x goal n h t (superposed_halts form names shown written (script_of inner.value) rest x goal h k) (names_kept h n x after t m e))
+pub superposed_refused : (before : List Stated) (step : Step) (form : Superpose) (names : List (List ℕ)) (shown : List Lit) (written : List Cert) (inner : Box Block Global) (x after : Standing) (n : ℕ) (h : Halt) (t : Stop) →
+    step ≡ SuperposedStep form names shown written inner → HaltsIn x.context (superposing.needs form) h → UnlessNoMemory (after ≡ x) h → StopOf h n after.names t → StepStops before step x n t
+superposed_refused before step form names shown written inner x after n h t is k m e rest goal r =
+    subst (λ w. StopsWithin before w x goal n t) (sym (ap (λ s. step_script s rest) is ∙ step_script-Superposed form names shown written inner rest))
+    (stops_first before (Superposed form names shown written (script_of inner.value) rest) x goal n h t (superposed_halts before form names shown written (script_of inner.value) rest (Superposed form names shown written (script_of inner.value) rest) x goal h k) (names_kept h n x after t m e))
 
 -- ---- a split
 
-pub split_parts : (close : Close) (lit : Lit) (first second : Box Block Global) (x : Standing) (goal : Goal) → close ≡ CasesClose lit first second → IsReadyFor (close_script close) x goal →
-    SplitReady lit (script_of first.value) (script_of second.value) x goal
-split_parts close lit first second x goal is r =
-    split_ready lit (script_of first.value) (script_of second.value) x goal (subst (λ d. IsReadyFor d x goal) (ap close_script is ∙ close_script-Cases lit first second) r)
+pub split_parts : (before : List Stated) (close : Close) (lit : Lit) (first second : Box Block Global) (x : Standing) (goal : Goal) → close ≡ CasesClose lit first second → IsReadyFor before (close_script close) x goal →
+    SplitReady before lit (script_of first.value) x goal
+split_parts before close lit first second x goal is r =
+    split_ready before lit (script_of first.value) (script_of second.value) x goal (subst (λ d. IsReadyFor before d x goal) (ap close_script is ∙ close_script-Cases lit first second) r)
+
+-- the second block, where the first is derived
+pub split_second_ready : (before : List Stated) (close : Close) (lit : Lit) (first second : Box Block Global) (derived : Script) (x : Standing) (goal : Goal) → close ≡ CasesClose lit first second →
+    IsDerived before (script_of first.value) (after_literal lit x) goal derived → IsReadyFor before (close_script close) x goal → IsReadyFor before (script_of second.value) (after_literal (negation lit) x) goal
+split_second_ready before close lit first second derived x goal is d r =
+    split_other before lit (script_of first.value) (script_of second.value) derived x goal d (subst (λ w. IsReadyFor before w x goal) (ap close_script is ∙ close_script-Cases lit first second) r)
 
 cases_size : (lit : Lit) (first second : Script) → size (Cases lit first second) ≡ 1 + size first + size second
 unfolding size
@@ -231,28 +235,28 @@ pub split_size : (close : Close) (lit : Lit) (first second : Box Block Global) �
 split_size close lit first second is =
     ap size (ap close_script is ∙ close_script-Cases lit first second) ∙ cases_size lit (script_of first.value) (script_of second.value)
 
-pub split_derived : (close : Close) (lit : Lit) (first second : Box Block Global) (one other : Block) (x : Standing) (goal : Goal) (r : Result ProvedClose Stop) → close ≡ CasesClose lit first second →
-    SplitReady lit (script_of first.value) (script_of second.value) x goal → IsDerived (script_of first.value) (after_literal lit x) goal (script_of one) →
-    IsDerived (script_of second.value) (after_literal (negation lit) x) goal (script_of other) → IfOk r (λ p. close_script p.close ≡ Cases lit (script_of one) (script_of other)) →
-    IfOk r (λ p. IsDerived (close_script close) x goal (close_script p.close))
-split_derived close lit first second one other x goal (Err t) is ready d e a = tt
-split_derived close lit first second one other x goal (Ok p) is ready d e a =
-    subst (λ w. IsDerived w x goal (close_script p.close)) (sym (ap close_script is ∙ close_script-Cases lit first second))
-    (subst (IsDerived (Cases lit (script_of first.value) (script_of second.value)) x goal) (sym a)
-    (split_derives lit (script_of first.value) (script_of second.value) (script_of one) (script_of other) x goal ready.over d e))
+pub split_derived : (before : List Stated) (close : Close) (lit : Lit) (first second : Box Block Global) (one other : Block) (x : Standing) (goal : Goal) (r : Result ProvedClose Stop) → close ≡ CasesClose lit first second →
+    SplitReady before lit (script_of first.value) x goal → IsDerived before (script_of first.value) (after_literal lit x) goal (script_of one) →
+    IsDerived before (script_of second.value) (after_literal (negation lit) x) goal (script_of other) → IfOk r (λ p. close_script p.close ≡ Cases lit (script_of one) (script_of other)) →
+    IfOk r (λ p. IsDerived before (close_script close) x goal (close_script p.close))
+split_derived before close lit first second one other x goal (Err t) is ready d e a = tt
+split_derived before close lit first second one other x goal (Ok p) is ready d e a =
+    subst (λ w. IsDerived before w x goal (close_script p.close)) (sym (ap close_script is ∙ close_script-Cases lit first second))
+    (subst (IsDerived before (Cases lit (script_of first.value) (script_of second.value)) x goal) (sym a)
+    (split_derives before lit (script_of first.value) (script_of second.value) (script_of one) (script_of other) x goal ready.over d e))
 
-pub split_stops_first : (close : Close) (lit : Lit) (first second : Box Block Global) (x : Standing) (goal : Goal) (n : ℕ) (t : Stop) → close ≡ CasesClose lit first second →
-    SplitReady lit (script_of first.value) (script_of second.value) x goal → StopsWithin (script_of first.value) (after_literal lit x) goal (n + 1) t → StopsWithin (close_script close) x goal n t
-split_stops_first close lit first second x goal n t is ready k =
-    subst (λ w. StopsWithin w x goal n t) (sym (ap close_script is ∙ close_script-Cases lit first second))
-    (split_first lit (script_of first.value) (script_of second.value) x goal n t ready.over k)
+pub split_stops_first : (before : List Stated) (close : Close) (lit : Lit) (first second : Box Block Global) (x : Standing) (goal : Goal) (n : ℕ) (t : Stop) → close ≡ CasesClose lit first second →
+    SplitReady before lit (script_of first.value) x goal → StopsWithin before (script_of first.value) (after_literal lit x) goal (n + 1) t → StopsWithin before (close_script close) x goal n t
+split_stops_first before close lit first second x goal n t is ready k =
+    subst (λ w. StopsWithin before w x goal n t) (sym (ap close_script is ∙ close_script-Cases lit first second))
+    (split_first before lit (script_of first.value) (script_of second.value) x goal n t ready.over k)
 
-pub split_stops_second : (close : Close) (lit : Lit) (first second : Box Block Global) (one : Block) (x : Standing) (goal : Goal) (n next : ℕ) (t : Stop) → close ≡ CasesClose lit first second →
-    SplitReady lit (script_of first.value) (script_of second.value) x goal → IsDerived (script_of first.value) (after_literal lit x) goal (script_of one) → next ≡ n + 1 + size (script_of first.value) →
-    StopsWithin (script_of second.value) (after_literal (negation lit) x) goal next t → StopsWithin (close_script close) x goal n t
-split_stops_second close lit first second one x goal n next t is ready d count k =
-    subst (λ w. StopsWithin w x goal n t) (sym (ap close_script is ∙ close_script-Cases lit first second))
-    (split_second lit (script_of first.value) (script_of second.value) (script_of one) x goal n next t ready.over d count k)
+pub split_stops_second : (before : List Stated) (close : Close) (lit : Lit) (first second : Box Block Global) (one : Block) (x : Standing) (goal : Goal) (n next : ℕ) (t : Stop) → close ≡ CasesClose lit first second →
+    SplitReady before lit (script_of first.value) x goal → IsDerived before (script_of first.value) (after_literal lit x) goal (script_of one) → next ≡ n + 1 + size (script_of first.value) →
+    StopsWithin before (script_of second.value) (after_literal (negation lit) x) goal next t → StopsWithin before (close_script close) x goal n t
+split_stops_second before close lit first second one x goal n next t is ready d count k =
+    subst (λ w. StopsWithin before w x goal n t) (sym (ap close_script is ∙ close_script-Cases lit first second))
+    (split_second before lit (script_of first.value) (script_of second.value) (script_of one) x goal n next t ready.over d count k)
 
 -- ---- lines alone
 
@@ -267,6 +271,10 @@ hence_one lit cert rest = refl
 pub make_one : (form : Construction) (names : List (List ℕ)) (certs : List Cert) (rest : Script) → size (step_script (MakeStep form names certs) rest) ≡ 1 + size rest
 unfolding step_script size
 make_one form names certs rest = refl
+
+pub apply_one : (theorem : ℕ) (args : List (Option Obj)) (names : List (List ℕ)) (certs : List Cert) (rest : Script) → size (step_script (ApplyStep theorem args names certs) rest) ≡ 1 + size rest
+unfolding step_script size
+apply_one theorem args names certs rest = refl
 
 pub qed_one : (objects : List Obj) (certs : List Cert) → size (close_script (QedClose objects certs)) ≡ 1
 unfolding close_script size

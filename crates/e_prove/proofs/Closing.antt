@@ -8,25 +8,28 @@ use Rattle.e_literal.specs.declared.object.Scope.{Scope}
 use Rattle.e_literal.specs.declared.literal.Lit.{Lit}
 use Rattle.e_literal.specs.Literal.{is_in_scope}
 use Rattle.e_literal.specs.Scopes.{same_sort, are_of_sorts}
+use Rattle.e_literal.specs.Use.{Stated}
 use Rattle.e_clause.specs.declared.cert.Cert.{Cert}
 use Rattle.e_clause.specs.declared.cert.Against.{Against}
 use Rattle.e_clause.specs.Certify.{certify_all, certifies_against}
-use Rattle.e_clause.specs.Judged.{are_good, are_good_facts}
+use Rattle.e_clause.specs.Judged.{are_good}
+use Rattle.e_clause.proofs.Sound.{all_allowed_of_certified, contradictory_of_certified}
 use Rattle.e_clause.specs.Wide.{IsTooWideContradiction}
 use Rattle.e_literal.specs.declared.object.Term.{Term}
 use Rattle.e_licence.specs.Licences.{IsConsistentBy}
 use Rattle.e_deriv.specs.declared.block.Close.TheVariants.{Qed as QedClose, Contradiction as ContradictionClose}
-use Rattle.e_deriv.specs.declared.stop.Wanted.TheVariants.{Literal, Contradiction as AContradiction}
+use Rattle.e_deriv.specs.declared.stop.Wanted.TheVariants.{Literal, Match, Contradiction as AContradiction}
 use Rattle.e_deriv.specs.Script.{Qed, close_script, erased}
 use Rattle.e_prove.specs.declared.standing.Standing.{Standing}
 use Rattle.e_prove.specs.Passing.{IsReadyFor}
 use Rattle.e_deriv.specs.Goal.{Goal, are_for, goal_with}
+use Rattle.e_deriv.specs.Parts.{filled_by}
 use Rattle.e_deriv.specs.Lines.{lines}
 use Rattle.e_licence.specs.Contexts.{Basis}
 use Rattle.e_prove.specs.declared.halt.Halt.{Halt}
 use Rattle.e_prove.specs.declared.halt.Halt.TheVariants as halt
 use Rattle.e_prove.specs.Halts.{HaltsIn}
-use Rattle.e_prove.specs.Judging.{IsClosed, CloseHalts, lines_at}
+use Rattle.e_prove.specs.Judging.{IsClosed, CloseHalts}
 use Rattle.e_prove.proofs.Licensing.{and_both, and_left, and_right}
 
 same_sorts : (a b : Sort) → same_sort a b ≡ true → a ≡ b
@@ -57,68 +60,72 @@ pub record QedFits (objects : List Obj) (x : Basis) (goal : Goal) : Type 0 where
   pub form : are_for goal x.scope objects ≡ true
   pub lits : are_good x.scope (goal_with goal objects) ≡ true
 
-qed_lines : (objects : List Obj) (certs : List Cert) (x : Standing) (goal : Goal) → IsReadyFor (Qed objects certs) x goal → QedFits objects x.context goal
+qed_lines : (before : List Stated) (objects : List Obj) (certs : List Cert) (x : Standing) (goal : Goal) → IsReadyFor before (Qed objects certs) x goal → QedFits objects x.context goal
 unfolding lines
-qed_lines objects certs x goal h =
-    let s = x.context.scope in
-    let facts = x.context.facts in
-    record {
-      form = and_left (are_for goal s objects) true h.forms;
-      lits = and_right (are_good_facts s facts) (are_good s (goal_with goal objects)) (and_left (are_good_facts s facts && are_good s (goal_with goal objects)) true h.lits);
-    }
+qed_lines before objects certs x goal r =
+    let form = and_left (are_for goal x.context.scope objects) true r.forms in
+    record { form = form; lits = ((r.lits (Qed objects certs)).1 form).0 }
 
-pub qed_fits : (objects : List Obj) (certs : List Cert) (x : Standing) (goal : Goal) → IsReadyFor (close_script (QedClose objects certs)) x goal → QedFits objects x.context goal
+pub qed_fits : (before : List Stated) (objects : List Obj) (certs : List Cert) (x : Standing) (goal : Goal) → IsReadyFor before (close_script (QedClose objects certs)) x goal → QedFits objects x.context goal
 unfolding close_script
-qed_fits objects certs x goal h = qed_lines objects certs x goal h
+qed_fits before objects certs x goal r = qed_lines before objects certs x goal r
 
-closed_by : (objects : List Obj) (written certs : List Cert) (x : Basis) (goal : Goal) → are_for goal x.scope objects ≡ true →
-    IsTrue (certify_all x.scope x.facts (goal_with goal objects) certs) → IsClosed (QedClose objects written) x goal (QedClose objects certs)
-unfolding lines erased close_script
-closed_by objects written certs x goal form h =
+closed_by : (before : List Stated) (objects : List Obj) (written certs : List Cert) (x : Basis) (goal : Goal) → are_for goal x.scope objects ≡ true →
+    IsTrue (certify_all x.scope x.facts (goal_with goal objects) certs) → IsClosed before (QedClose objects written) x goal (QedClose objects certs)
+unfolding lines erased filled_by close_script
+closed_by before objects written certs x goal form h =
     record {
+      licensed = (record { fits = form; allowed = all_allowed_of_certified x.scope x.facts (goal_with goal objects) certs h; beside = tt }, tt);
       certified = and_both _ _ (and_both _ _ form (and_both _ _ h refl)) refl;
       erased = refl;
     }
 
 -- a qed of which each literal has its certificate
-pub closed_qed : (objects kept : List Obj) (written certs given : List Cert) (wanted : List Lit) (x : Basis) (goal : Goal) →
+pub closed_qed : (before : List Stated) (objects kept : List Obj) (written certs given : List Cert) (wanted : List Lit) (x : Basis) (goal : Goal) →
     kept ≡ objects → given ≡ certs → wanted ≡ goal_with goal objects → are_for goal x.scope objects ≡ true → IsTrue (certify_all x.scope x.facts wanted certs) →
-    IsClosed (QedClose objects written) x goal (QedClose kept given)
-closed_qed objects kept written certs given wanted x goal same these all form h =
-    rw (same, these) (closed_by objects written certs x goal form (subst (λ ls. certify_all x.scope x.facts ls certs ≡ true) all h))
+    IsClosed before (QedClose objects written) x goal (QedClose kept given)
+closed_qed before objects kept written certs given wanted x goal same these all form h =
+    rw (same, these) (closed_by before objects written certs x goal form (subst (λ ls. certify_all x.scope x.facts ls certs ≡ true) all h))
 
 -- what halts at the literals of the goal
-qed_halts_at : (objects : List Obj) (written : List Cert) (x : Basis) (goal : Goal) (h : Halt) → HaltsIn x (goal_with goal objects) h →
-    CloseHalts (QedClose objects written) x goal h
+qed_halts_at : (before : List Stated) (objects : List Obj) (written : List Cert) (x : Basis) (goal : Goal) (h : Halt) → HaltsIn x (goal_with goal objects) h →
+    CloseHalts before (QedClose objects written) x goal h
 unfolding close_script
-qed_halts_at objects written x goal (halt.Lacks (Literal l) values) k = k
-qed_halts_at objects written x goal (halt.Lacks AContradiction values) k = absurd k
-qed_halts_at objects written x goal (halt.TooWide (Literal l) width) k = k
-qed_halts_at objects written x goal (halt.TooWide AContradiction width) k = absurd k
-qed_halts_at objects written x goal halt.NoMemory k = tt
+qed_halts_at before objects written x goal (halt.Lacks (Literal l) values) k filled = k
+qed_halts_at before objects written x goal (halt.Lacks Match values) k filled = absurd k
+qed_halts_at before objects written x goal (halt.Lacks AContradiction values) k filled = absurd k
+qed_halts_at before objects written x goal (halt.TooWide (Literal l) width) k filled = k
+qed_halts_at before objects written x goal (halt.TooWide Match width) k filled = absurd k
+qed_halts_at before objects written x goal (halt.TooWide AContradiction width) k filled = absurd k
+qed_halts_at before objects written x goal halt.NoMemory k filled = tt
 
-pub qed_halts : (objects : List Obj) (written : List Cert) (wanted : List Lit) (x : Basis) (goal : Goal) (h : Halt) → wanted ≡ goal_with goal objects →
-    HaltsIn x wanted h → CloseHalts (QedClose objects written) x goal h
-qed_halts objects written wanted x goal h all k = qed_halts_at objects written x goal h (subst (λ ls. HaltsIn x ls h) all k)
+pub qed_halts : (before : List Stated) (objects : List Obj) (written : List Cert) (wanted : List Lit) (x : Basis) (goal : Goal) (h : Halt) → wanted ≡ goal_with goal objects →
+    HaltsIn x wanted h → CloseHalts before (QedClose objects written) x goal h
+qed_halts before objects written wanted x goal h all k = qed_halts_at before objects written x goal h (subst (λ ls. HaltsIn x ls h) all k)
 
 -- a contradiction with its certificate
-closed_by_against : (written : Option Against) (a : Against) (x : Basis) (goal : Goal) → IsTrue (certifies_against x.scope x.facts a) →
-    IsClosed (ContradictionClose written) x goal (ContradictionClose (Some a))
-unfolding lines erased close_script
-closed_by_against written a x goal h = record { certified = and_both _ _ h refl; erased = refl }
+closed_by_against : (before : List Stated) (written : Option Against) (a : Against) (x : Basis) (goal : Goal) → IsTrue (certifies_against x.scope x.facts a) →
+    IsClosed before (ContradictionClose written) x goal (ContradictionClose (Some a))
+unfolding lines erased filled_by close_script
+closed_by_against before written a x goal h =
+    record {
+      licensed = (record { fits = refl; allowed = tt; beside = contradictory_of_certified x.scope x.facts a h }, tt);
+      certified = and_both _ _ h refl;
+      erased = refl;
+    }
 
-pub closed_contradiction : (written given : Option Against) (a : Against) (x : Basis) (goal : Goal) → given ≡ Some a → IsTrue (certifies_against x.scope x.facts a) →
-    IsClosed (ContradictionClose written) x goal (ContradictionClose given)
-closed_contradiction written given a x goal same h = rw same (closed_by_against written a x goal h)
+pub closed_contradiction : (before : List Stated) (written given : Option Against) (a : Against) (x : Basis) (goal : Goal) → given ≡ Some a → IsTrue (certifies_against x.scope x.facts a) →
+    IsClosed before (ContradictionClose written) x goal (ContradictionClose given)
+closed_contradiction before written given a x goal same h = rw same (closed_by_against before written a x goal h)
 
 -- facts that do not contradict each other
-pub contradiction_lacks : (written : Option Against) (x : Basis) (goal : Goal) (values : List (Term × ℕ)) → IsConsistentBy x.facts values →
-    CloseHalts (ContradictionClose written) x goal (halt.Lacks AContradiction (Some values))
+pub contradiction_lacks : (before : List Stated) (written : Option Against) (x : Basis) (goal : Goal) (values : List (Term × ℕ)) → IsConsistentBy x.facts values →
+    CloseHalts before (ContradictionClose written) x goal (halt.Lacks AContradiction (Some values))
 unfolding close_script
-contradiction_lacks written x goal values h = (h.not_contradictory, h.shown)
+contradiction_lacks before written x goal values h filled = (h.not_contradictory, h.shown)
 
 -- or one that is too wide
-pub contradiction_wide : (written : Option Against) (x : Basis) (goal : Goal) (width : ℕ) → IsTooWideContradiction x.facts width →
-    CloseHalts (ContradictionClose written) x goal (halt.TooWide AContradiction width)
+pub contradiction_wide : (before : List Stated) (written : Option Against) (x : Basis) (goal : Goal) (width : ℕ) → IsTooWideContradiction x.facts width →
+    CloseHalts before (ContradictionClose written) x goal (halt.TooWide AContradiction width)
 unfolding close_script
-contradiction_wide written x goal width h = h
+contradiction_wide before written x goal width h filled = h

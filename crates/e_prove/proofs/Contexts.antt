@@ -10,7 +10,9 @@ use Rattle.e_literal.specs.declared.object.Sort.{Sort}
 use Rattle.e_literal.specs.declared.object.Term.{Term}
 use Rattle.e_literal.specs.declared.literal.Lit.{Lit}
 use Rattle.e_literal.specs.Facts.{has, joined, joined_all}
+use Rattle.e_literal.specs.declared.object.Obj.{Obj}
 use Rattle.e_literal.specs.Scopes.{grown}
+use Rattle.e_literal.specs.Use.{Stated, gives_of_use}
 use Rattle.e_clause.specs.Assignment.{terms_of_atom, terms_of_lits}
 use Rattle.e_clause.specs.Judged.{is_good, are_good, are_few, most_terms, are_good_facts}
 use Rattle.e_construct.specs.declared.construction.Construction.{Construction}
@@ -19,7 +21,7 @@ use Rattle.e_deriv.specs.declared.names.Names.{Names}
 use Rattle.e_deriv.specs.Naming.{named}
 use Rattle.e_licence.specs.Contexts.{Basis}
 use Rattle.e_prove.specs.declared.standing.Standing.{Standing}
-use Rattle.e_prove.specs.Contexts.{after_make}
+use Rattle.e_prove.specs.Contexts.{after_make, after_apply}
 use Rattle.e_prove.proofs.Licensing.{and_both, and_left, and_right}
 
 none_named : (ns : Names) (sorts : List Sort) (new : List (List ℕ)) → min (length sorts) (length new) ≡ 0 → named ns sorts new ≡ ns
@@ -39,6 +41,11 @@ pub made_after : (form : Construction) (names : List (List ℕ)) (x mid after : 
     given ≡ gives form x.context.scope → mid.context ≡ record x.context { scope = grown x.context.scope sorts } → mid.names ≡ named x.names sorts names →
     after ≡ record mid { context = record mid.context { facts = joined_all mid.context.facts given } } → after ≡ after_make form names x
 made_after form names x mid after sorts given a b c d e = rw (e, c, d, b, a) refl
+
+pub applied_after : (t : Stated) (args : List Obj) (names : List (List ℕ)) (x mid after : Standing) (sorts : List Sort) (given : List Lit) → sorts ≡ t.made →
+    given ≡ gives_of_use t args x.context.scope → mid.context ≡ record x.context { scope = grown x.context.scope sorts } → mid.names ≡ named x.names sorts names →
+    after ≡ record mid { context = record mid.context { facts = joined_all mid.context.facts given } } → after ≡ after_apply t args names x
+applied_after t args names x mid after sorts given a b c d e = rw (e, c, d, b, a) refl
 
 -- ---- facts that are good
 
@@ -87,6 +94,12 @@ pub good_given : (form : Construction) (x wider : Basis) (sorts : List Sort) (gi
     wider ≡ record x { scope = grown x.scope sorts } → are_good_facts (grown x.scope (made form)) (joined_all x.facts (gives form x.scope)) ≡ true →
     are_good_facts wider.scope (joined_all wider.facts given) ≡ true
 good_given form x wider sorts given a b c h = rw (c, b, a) h
+
+-- what an application gives may join the facts once its objects are in scope
+pub good_applied : (t : Stated) (args : List Obj) (x wider : Basis) (sorts : List Sort) (given : List Lit) → sorts ≡ t.made → given ≡ gives_of_use t args x.scope →
+    wider ≡ record x { scope = grown x.scope sorts } → are_good_facts (grown x.scope t.made) (joined_all x.facts (gives_of_use t args x.scope)) ≡ true →
+    are_good_facts wider.scope (joined_all wider.facts given) ≡ true
+good_applied t args x wider sorts given a b c h = rw (c, b, a) h
 
 -- a copy of the literal at this place may join the facts that those before it have joined
 pub good_copy : (before x : Basis) (all : List Lit) (i : ℕ) (l m : Lit) → i < length all → l ≡ get_or all i l → m ≡ l → x.scope ≡ before.scope →

@@ -1,5 +1,5 @@
 -- Lists of lines, one behind the other, and where the judging halts in them.
-use Rattle.std.proofs.Common.{◌≡◌, ℕ, zero, suc, ◌+◌, List, [], ◌∷◌, ◌++◌, length, refl, sym, ap, ◌∙◌, subst, Bool, true, ◌&&◌, Some, None, arith, length-append}
+use Rattle.std.proofs.Common.{◌≡◌, ℕ, zero, suc, ◌+◌, List, [], ◌∷◌, ◌++◌, length, refl, sym, ap, ap₂, ◌∙◌, subst, Bool, true, ◌&&◌, Some, None, arith, length-append}
 use Rattle.std.specs.Prelude.{take, slice_get}
 use Rattle.std.specs.List.{list_all}
 use Rattle.std.proofs.lemmas.List.Folds.{list_all-append}
@@ -8,20 +8,24 @@ use Rattle.e_literal.specs.declared.literal.Lit.{Lit}
 use Rattle.e_literal.specs.Literal.{negation}
 use Rattle.e_literal.specs.Facts.{joined, joined_all}
 use Rattle.e_literal.specs.Scopes.{grown}
+use Rattle.e_literal.specs.Use.{Stated, gives_of_use}
 use Rattle.e_construct.specs.Construct.{made, gives}
 use Rattle.e_construct.specs.Superposing as superposing
 use Rattle.e_deriv.specs.declared.names.Names.{Names}
 use Rattle.e_deriv.specs.declared.stop.Stop.{Stop}
 use Rattle.e_deriv.specs.declared.stop.Stop.TheVariants as stop
-use Rattle.e_deriv.specs.Script.{Script, Cite, Hence, Make, Claim, Superposed, Qed, Contradiction, Cases, size}
+use Rattle.e_deriv.specs.Script.{Script, Cite, Hence, Make, Apply, Claim, Superposed, Qed, Contradiction, Cases, size}
 use Rattle.e_deriv.specs.Goal.{Goal, goal_of}
-use Rattle.e_deriv.specs.Lines.{Line, line, lines}
+use Rattle.e_deriv.specs.Parts.{rest_of, inner_of, args_of}
+use Rattle.e_deriv.specs.Lines.{Line, line, lines, theorem_at}
 use Rattle.e_deriv.specs.Naming.{named, names_lines}
 use Rattle.e_deriv.specs.Licensed.{Licensed, AllLicensed}
+use Rattle.e_deriv.specs.Fitting.{LitsFit, is_small}
 use Rattle.e_deriv.proofs.Agreement.{both_licensed}
 use Rattle.e_prove.specs.declared.halt.Halt.{Halt}
 use Rattle.e_prove.specs.declared.halt.Halt.TheVariants as halt
 use Rattle.e_prove.specs.Halts.{HaltsAt, StopOf, stop_of}
+use Rattle.e_prove.specs.Judging.{has_form}
 use Rattle.e_prove.specs.Passing.{HaltIn, StopIn}
 use Rattle.e_prove.proofs.Licensing.{and_both, and_left, and_right}
 
@@ -53,117 +57,95 @@ take_right (a ∷ xs) ys p (suc q) e = ap (λ zs. a ∷ zs) (take_right xs ys p 
 -- ---- halts
 
 -- at the first line
-pub halt_first : (x : Line) (xs : List Line) (m : Names) (ns : List Names) (first : ℕ) (h : Halt) → HaltsAt x h → HaltIn (x ∷ xs) (m ∷ ns) first h first m
-halt_first x xs m ns first h k = record { place = 0; number = omega arith; line = x; at = refl; earlier = tt; halts = k; named = refl }
+pub halt_first : (before : List Stated) (x : Line) (xs : List Line) (m : Names) (ns : List Names) (first : ℕ) (h : Halt) → HaltsAt before x h → HaltIn before (x ∷ xs) (m ∷ ns) first h first m
+halt_first before x xs m ns first h k = record { place = 0; number = omega arith; line = x; at = refl; earlier = tt; halts = k; named = refl }
 
 -- behind a line that is licensed
-halt_behind : (x : Line) (xs : List Line) (m : Names) (ns : List Names) (first : ℕ) (h : Halt) (n : ℕ) (names : Names) →
-    Licensed x → HaltIn xs ns (first + 1) h n names → HaltIn (x ∷ xs) (m ∷ ns) first h n names
-halt_behind x xs m ns first h n names l k =
+halt_behind : (before : List Stated) (x : Line) (xs : List Line) (m : Names) (ns : List Names) (first : ℕ) (h : Halt) (n : ℕ) (names : Names) →
+    Licensed before x → HaltIn before xs ns (first + 1) h n names → HaltIn before (x ∷ xs) (m ∷ ns) first h n names
+halt_behind before x xs m ns first h n names l k =
     record { place = suc k.place; number = omega (arith, k.number); line = k.line; at = k.at; earlier = (l, k.earlier); halts = k.halts; named = k.named }
 
 -- in the first of two lists
-halt_left : (xs ys : List Line) (ns ms : List Names) (first : ℕ) (h : Halt) (n : ℕ) (names : Names) →
-    HaltIn xs ns first h n names → HaltIn (xs ++ ys) (ns ++ ms) first h n names
-halt_left xs ys ns ms first h n names k =
+halt_left : (before : List Stated) (xs ys : List Line) (ns ms : List Names) (first : ℕ) (h : Halt) (n : ℕ) (names : Names) →
+    HaltIn before xs ns first h n names → HaltIn before (xs ++ ys) (ns ++ ms) first h n names
+halt_left before xs ys ns ms first h n names k =
     record {
       place = k.place;
       number = k.number;
       line = k.line;
       at = at_left xs ys k.place k.line k.at;
-      earlier = subst AllLicensed (sym (take_left xs ys k.place k.line k.at)) k.earlier;
+      earlier = subst (AllLicensed before) (sym (take_left xs ys k.place k.line k.at)) k.earlier;
       halts = k.halts;
       named = at_left ns ms k.place names k.named;
     }
 
 -- in the second, where the lines of the first are licensed
-halt_right : (xs ys : List Line) (ns ms : List Names) (k first : ℕ) (h : Halt) (n : ℕ) (names : Names) → length xs ≡ k → length ns ≡ k →
-    AllLicensed xs → HaltIn ys ms (first + k) h n names → HaltIn (xs ++ ys) (ns ++ ms) first h n names
-halt_right xs ys ns ms k first h n names e d l r =
+halt_right : (before : List Stated) (xs ys : List Line) (ns ms : List Names) (k first : ℕ) (h : Halt) (n : ℕ) (names : Names) → length xs ≡ k → length ns ≡ k →
+    AllLicensed before xs → HaltIn before ys ms (first + k) h n names → HaltIn before (xs ++ ys) (ns ++ ms) first h n names
+halt_right before xs ys ns ms k first h n names e d l r =
     record {
       place = k + r.place;
       number = omega (arith, r.number);
       line = r.line;
       at = at_right xs ys r.place (k + r.place) (omega (arith, e)) ∙ r.at;
-      earlier = subst AllLicensed (sym (take_right xs ys r.place (k + r.place) (omega (arith, e)))) (both_licensed xs (take r.place ys) l r.earlier);
+      earlier = subst (AllLicensed before) (sym (take_right xs ys r.place (k + r.place) (omega (arith, e)))) (both_licensed before xs (take r.place ys) l r.earlier);
       halts = r.halts;
       named = at_right ns ms r.place (k + r.place) (omega (arith, d)) ∙ r.named;
     }
 
 -- ---- stops
 
-stop_map : (xs ys : List Line) (ns ms : List Names) (first second : ℕ) (s : Stop) →
-    ((h : Halt) (n : ℕ) (names : Names) → HaltIn xs ns first h n names → HaltIn ys ms second h n names) → StopIn xs ns first s → StopIn ys ms second s
-stop_map xs ys ns ms first second (stop.Unlicensed n wanted values names) f k = f (halt.Lacks wanted values) n names k
-stop_map xs ys ns ms first second (stop.TooWide n wanted width names) f k = f (halt.TooWide wanted width) n names k
-stop_map xs ys ns ms first second stop.NoMemory f k = tt
+stop_map : (before : List Stated) (xs ys : List Line) (ns ms : List Names) (first second : ℕ) (s : Stop) →
+    ((h : Halt) (n : ℕ) (names : Names) → HaltIn before xs ns first h n names → HaltIn before ys ms second h n names) → StopIn before xs ns first s → StopIn before ys ms second s
+stop_map before xs ys ns ms first second (stop.Unlicensed n wanted values names) f k = f (halt.Lacks wanted values) n names k
+stop_map before xs ys ns ms first second (stop.TooWide n wanted width names) f k = f (halt.TooWide wanted width) n names k
+stop_map before xs ys ns ms first second stop.NoMemory f k = tt
 
-pub stop_behind : (x : Line) (xs : List Line) (m : Names) (ns : List Names) (first : ℕ) (s : Stop) → Licensed x → StopIn xs ns (first + 1) s → StopIn (x ∷ xs) (m ∷ ns) first s
-stop_behind x xs m ns first s l k =
-    stop_map xs (x ∷ xs) ns (m ∷ ns) (first + 1) first s (λ h n names. halt_behind x xs m ns first h n names l) k
+pub stop_behind : (before : List Stated) (x : Line) (xs : List Line) (m : Names) (ns : List Names) (first : ℕ) (s : Stop) → Licensed before x → StopIn before xs ns (first + 1) s → StopIn before (x ∷ xs) (m ∷ ns) first s
+stop_behind before x xs m ns first s l k =
+    stop_map before xs (x ∷ xs) ns (m ∷ ns) (first + 1) first s (λ h n names. halt_behind before x xs m ns first h n names l) k
 
-pub stop_left : (xs ys : List Line) (ns ms : List Names) (first : ℕ) (s : Stop) → StopIn xs ns first s → StopIn (xs ++ ys) (ns ++ ms) first s
-stop_left xs ys ns ms first s k = stop_map xs (xs ++ ys) ns (ns ++ ms) first first s (halt_left xs ys ns ms first) k
+pub stop_left : (before : List Stated) (xs ys : List Line) (ns ms : List Names) (first : ℕ) (s : Stop) → StopIn before xs ns first s → StopIn before (xs ++ ys) (ns ++ ms) first s
+stop_left before xs ys ns ms first s k = stop_map before xs (xs ++ ys) ns (ns ++ ms) first first s (halt_left before xs ys ns ms first) k
 
-pub stop_right : (xs ys : List Line) (ns ms : List Names) (k first : ℕ) (s : Stop) → length xs ≡ k → length ns ≡ k → AllLicensed xs → StopIn ys ms (first + k) s → StopIn (xs ++ ys) (ns ++ ms) first s
-stop_right xs ys ns ms k first s e d l r = stop_map ys (xs ++ ys) ms (ns ++ ms) (first + k) first s (λ h n names. halt_right xs ys ns ms k first h n names e d l) r
+pub stop_right : (before : List Stated) (xs ys : List Line) (ns ms : List Names) (k first : ℕ) (s : Stop) → length xs ≡ k → length ns ≡ k → AllLicensed before xs → StopIn before ys ms (first + k) s → StopIn before (xs ++ ys) (ns ++ ms) first s
+stop_right before xs ys ns ms k first s e d l r = stop_map before ys (xs ++ ys) ms (ns ++ ms) (first + k) first s (λ h n names. halt_right before xs ys ns ms k first h n names e d l) r
 
 -- at the first line, with these names before it
-stop_at_first : (x : Line) (xs : List Line) (m : Names) (ns : List Names) (first : ℕ) (h : Halt) → HaltsAt x h → StopIn (x ∷ xs) (m ∷ ns) first (stop_of h first m)
-stop_at_first x xs m ns first (halt.Lacks wanted values) k = halt_first x xs m ns first (halt.Lacks wanted values) k
-stop_at_first x xs m ns first (halt.TooWide wanted width) k = halt_first x xs m ns first (halt.TooWide wanted width) k
-stop_at_first x xs m ns first halt.NoMemory k = tt
+stop_at_first : (before : List Stated) (x : Line) (xs : List Line) (m : Names) (ns : List Names) (first : ℕ) (h : Halt) → HaltsAt before x h → StopIn before (x ∷ xs) (m ∷ ns) first (stop_of h first m)
+stop_at_first before x xs m ns first (halt.Lacks wanted values) k = halt_first before x xs m ns first (halt.Lacks wanted values) k
+stop_at_first before x xs m ns first (halt.TooWide wanted width) k = halt_first before x xs m ns first (halt.TooWide wanted width) k
+stop_at_first before x xs m ns first halt.NoMemory k = tt
 
-pub stop_first : (x : Line) (xs : List Line) (m : Names) (ns : List Names) (first : ℕ) (h : Halt) (s : Stop) → HaltsAt x h → StopOf h first m s → StopIn (x ∷ xs) (m ∷ ns) first s
-stop_first x xs m ns first h (stop.Unlicensed n wanted values names) k e = subst (StopIn (x ∷ xs) (m ∷ ns) first) (sym e) (stop_at_first x xs m ns first h k)
-stop_first x xs m ns first h (stop.TooWide n wanted width names) k e = subst (StopIn (x ∷ xs) (m ∷ ns) first) (sym e) (stop_at_first x xs m ns first h k)
-stop_first x xs m ns first h stop.NoMemory k e = tt
+pub stop_first : (before : List Stated) (x : Line) (xs : List Line) (m : Names) (ns : List Names) (first : ℕ) (h : Halt) (s : Stop) → HaltsAt before x h → StopOf h first m s → StopIn before (x ∷ xs) (m ∷ ns) first s
+stop_first before x xs m ns first h (stop.Unlicensed n wanted values names) k e = subst (StopIn before (x ∷ xs) (m ∷ ns) first) (sym e) (stop_at_first before x xs m ns first h k)
+stop_first before x xs m ns first h (stop.TooWide n wanted width names) k e = subst (StopIn before (x ∷ xs) (m ∷ ns) first) (sym e) (stop_at_first before x xs m ns first h k)
+stop_first before x xs m ns first h stop.NoMemory k e = tt
 
 -- ---- how many lines there are
 
-pub lines_length : (d : Script) (s : Scope) (facts : List Lit) (goal : Goal) → length (lines d s facts goal) ≡ size d
-unfolding lines size
-lines_length (Cite by rest) s facts goal = let h = lines_length rest s (joined facts by.lit) goal in omega (arith, h)
-lines_length (Hence lit cert rest) s facts goal = let h = lines_length rest s (joined facts lit) goal in omega (arith, h)
-lines_length (Make form names certs rest) s facts goal =
-    let h = lines_length rest (grown s (made form)) (joined_all facts (gives form s)) goal in omega (arith, h)
-lines_length (Claim shown inner rest) s facts goal =
-    let h = lines_length inner s facts (goal_of shown) in
-    let k = lines_length rest s (joined_all facts shown) goal in
-    omega (arith, h, k, length-append (lines inner s facts (goal_of shown)) (lines rest s (joined_all facts shown) goal))
-lines_length (Superposed form names shown certs inner rest) s facts goal =
-    let t = grown s superposing.made in
-    let given = joined_all facts (superposing.gives form s) in
-    let h = lines_length inner t given (goal_of shown) in
-    let k = lines_length rest s (joined_all facts shown) goal in
-    omega (arith, h, k, length-append (lines inner t given (goal_of shown)) (lines rest s (joined_all facts shown) goal))
-lines_length (Qed objects certs) s facts goal = refl
-lines_length (Contradiction against) s facts goal = refl
-lines_length (Cases lit first second) s facts goal =
-    let h = lines_length first s (joined facts lit) goal in
-    let k = lines_length second s (joined facts (negation lit)) goal in
-    omega (arith, h, k, length-append (lines first s (joined facts lit) goal) (lines second s (joined facts (negation lit)) goal))
-
-pub names_length : (ns : Names) (d : Script) → length (names_lines ns d) ≡ size d
+pub names_length : (before : List Stated) (ns : Names) (d : Script) → length (names_lines before ns d) ≡ size d
 unfolding names_lines size
-names_length ns (Cite by rest) = let h = names_length ns rest in omega (arith, h)
-names_length ns (Hence lit cert rest) = let h = names_length ns rest in omega (arith, h)
-names_length ns (Make form names certs rest) = let h = names_length (named ns (made form) names) rest in omega (arith, h)
-names_length ns (Claim shown inner rest) =
-    let h = names_length ns inner in
-    let k = names_length ns rest in
-    omega (arith, h, k, length-append (names_lines ns inner) (names_lines ns rest))
-names_length ns (Superposed form names shown certs inner rest) =
+names_length before ns (Cite by rest) = let h = names_length before ns rest in omega (arith, h)
+names_length before ns (Hence lit cert rest) = let h = names_length before ns rest in omega (arith, h)
+names_length before ns (Make form names certs rest) = let h = names_length before (named ns (made form) names) rest in omega (arith, h)
+names_length before ns (Apply theorem args names certs rest) = let h = names_length before (named ns (theorem_at before theorem).made names) rest in omega (arith, h)
+names_length before ns (Claim shown inner rest) =
+    let h = names_length before ns inner in
+    let k = names_length before ns rest in
+    omega (arith, h, k, length-append (names_lines before ns inner) (names_lines before ns rest))
+names_length before ns (Superposed form names shown certs inner rest) =
     let ms = named ns superposing.made names in
-    let h = names_length ms inner in
-    let k = names_length ns rest in
-    omega (arith, h, k, length-append (names_lines ms inner) (names_lines ns rest))
-names_length ns (Qed objects certs) = refl
-names_length ns (Contradiction against) = refl
-names_length ns (Cases lit first second) =
-    let h = names_length ns first in
-    let k = names_length ns second in
-    omega (arith, h, k, length-append (names_lines ns first) (names_lines ns second))
+    let h = names_length before ms inner in
+    let k = names_length before ns rest in
+    omega (arith, h, k, length-append (names_lines before ms inner) (names_lines before ns rest))
+names_length before ns (Qed objects certs) = refl
+names_length before ns (Contradiction against) = refl
+names_length before ns (Cases lit first second) =
+    let h = names_length before ns first in
+    let k = names_length before ns second in
+    omega (arith, h, k, length-append (names_lines before ns first) (names_lines before ns second))
 
 -- ---- tests of all lines
 
@@ -175,3 +157,81 @@ all_right p xs ys h = and_right _ _ (sym (list_all-append p xs ys) ∙ h)
 
 pub all_both : (p : Line → Bool) (xs ys : List Line) → list_all p xs ≡ true → list_all p ys ≡ true → list_all p (xs ++ ys) ≡ true
 all_both p xs ys h k = list_all-append p xs ys ∙ and_both _ _ h k
+
+-- ---- tests that look neither at the facts nor at how blanks are filled
+
+pub record IsBlind (p : Line → Bool) : Type 0 where
+  pub same : (here f f' : Script) (s : Scope) (facts facts' : List Lit) (goal : Goal) → p (line here f s facts goal) ≡ p (line here f' s facts' goal)
+
+both_same : (a b c d : Bool) → a ≡ b → c ≡ d → (a && c) ≡ (b && d)
+both_same a b c d e f = ap₂ (λ x y. x && y) e f
+
+both_lists : (p : Line → Bool) (xs xs' ys ys' : List Line) → list_all p xs ≡ list_all p xs' → list_all p ys ≡ list_all p ys' → list_all p (xs ++ ys) ≡ list_all p (xs' ++ ys')
+both_lists p xs xs' ys ys' e f = list_all-append p xs ys ∙ both_same _ _ _ _ e f ∙ sym (list_all-append p xs' ys')
+
+pub tests_again : (before : List Stated) (p : Line → Bool) → IsBlind p → (d f f' : Script) (s : Scope) (facts facts' : List Lit) (goal : Goal) →
+    list_all p (lines before d f s facts goal) ≡ list_all p (lines before d f' s facts' goal)
+unfolding lines
+tests_again before p b (Cite by rest) f f' s facts facts' goal =
+    both_same _ _ _ _ (b.same (Cite by rest) f f' s facts facts' goal) (tests_again before p b rest (rest_of f) (rest_of f') s (joined facts by.lit) (joined facts' by.lit) goal)
+tests_again before p b (Hence lit cert rest) f f' s facts facts' goal =
+    both_same _ _ _ _ (b.same (Hence lit cert rest) f f' s facts facts' goal) (tests_again before p b rest (rest_of f) (rest_of f') s (joined facts lit) (joined facts' lit) goal)
+tests_again before p b (Make form names certs rest) f f' s facts facts' goal =
+    both_same _ _ _ _ (b.same (Make form names certs rest) f f' s facts facts' goal)
+    (tests_again before p b rest (rest_of f) (rest_of f') (grown s (made form)) (joined_all facts (gives form s)) (joined_all facts' (gives form s)) goal)
+tests_again before p b (Apply theorem args names certs rest) f f' s facts facts' goal =
+    let t = theorem_at before theorem in
+    both_same _ _ _ _ (b.same (Apply theorem args names certs rest) f f' s facts facts' goal)
+    (tests_again before p b rest (rest_of f) (rest_of f') (grown s t.made) (joined_all facts (gives_of_use t (args_of f) s)) (joined_all facts' (gives_of_use t (args_of f') s)) goal)
+tests_again before p b (Claim shown inner rest) f f' s facts facts' goal =
+    both_same _ _ _ _ (b.same (Claim shown inner rest) f f' s facts facts' goal)
+    (both_lists p (lines before inner (inner_of f) s facts (goal_of shown)) (lines before inner (inner_of f') s facts' (goal_of shown))
+    (lines before rest (rest_of f) s (joined_all facts shown) goal) (lines before rest (rest_of f') s (joined_all facts' shown) goal)
+    (tests_again before p b inner (inner_of f) (inner_of f') s facts facts' (goal_of shown))
+    (tests_again before p b rest (rest_of f) (rest_of f') s (joined_all facts shown) (joined_all facts' shown) goal))
+tests_again before p b (Superposed form names shown certs inner rest) f f' s facts facts' goal =
+    let g = grown s superposing.made in
+    let given = superposing.gives form s in
+    both_same _ _ _ _ (b.same (Superposed form names shown certs inner rest) f f' s facts facts' goal)
+    (both_lists p (lines before inner (inner_of f) g (joined_all facts given) (goal_of shown)) (lines before inner (inner_of f') g (joined_all facts' given) (goal_of shown))
+    (lines before rest (rest_of f) s (joined_all facts shown) goal) (lines before rest (rest_of f') s (joined_all facts' shown) goal)
+    (tests_again before p b inner (inner_of f) (inner_of f') g (joined_all facts given) (joined_all facts' given) (goal_of shown))
+    (tests_again before p b rest (rest_of f) (rest_of f') s (joined_all facts shown) (joined_all facts' shown) goal))
+tests_again before p b (Qed objects certs) f f' s facts facts' goal = both_same _ _ _ _ (b.same (Qed objects certs) f f' s facts facts' goal) refl
+tests_again before p b (Contradiction against) f f' s facts facts' goal = both_same _ _ _ _ (b.same (Contradiction against) f f' s facts facts' goal) refl
+tests_again before p b (Cases lit first second) f f' s facts facts' goal =
+    let not_so = negation lit in
+    both_same _ _ _ _ (b.same (Cases lit first second) f f' s facts facts' goal)
+    (both_lists p (lines before first (inner_of f) s (joined facts lit) goal) (lines before first (inner_of f') s (joined facts' lit) goal)
+    (lines before second (rest_of f) s (joined facts not_so) goal) (lines before second (rest_of f') s (joined facts' not_so) goal)
+    (tests_again before p b first (inner_of f) (inner_of f') s (joined facts lit) (joined facts' lit) goal)
+    (tests_again before p b second (rest_of f) (rest_of f') s (joined facts not_so) (joined facts' not_so) goal))
+
+-- whether a line has its form, and whether few objects are in scope before it
+pub form_is_blind : (before : List Stated) → IsBlind (has_form before)
+form_is_blind before = record { same = by_form }
+  where
+    by_form : (here f f' : Script) (s : Scope) (facts facts' : List Lit) (goal : Goal) → has_form before (line here f s facts goal) ≡ has_form before (line here f' s facts' goal)
+    by_form (Cite by rest) f f' s facts facts' goal = refl
+    by_form (Hence lit cert rest) f f' s facts facts' goal = refl
+    by_form (Make form names certs rest) f f' s facts facts' goal = refl
+    by_form (Apply theorem args names certs rest) f f' s facts facts' goal = refl
+    by_form (Claim shown inner rest) f f' s facts facts' goal = refl
+    by_form (Superposed form names shown certs inner rest) f f' s facts facts' goal = refl
+    by_form (Qed objects certs) f f' s facts facts' goal = refl
+    by_form (Contradiction against) f f' s facts facts' goal = refl
+    by_form (Cases lit first second) f f' s facts facts' goal = refl
+
+pub scope_is_blind : IsBlind (λ y. is_small y.scope)
+scope_is_blind = record { same = λ here f f' s facts facts' goal. refl }
+
+-- ---- literals that fit, in lists of lines
+
+pub lits_first : (before : List Stated) (xs ys : List Line) → LitsFit before (xs ++ ys) → LitsFit before xs
+lits_first before [] ys h = tt
+lits_first before (x ∷ xs) ys h = (h.0, λ fit. ((h.1 fit).0, lits_first before xs ys (h.1 fit).1))
+
+-- in the second, where the lines of the first are licensed
+pub lits_second : (before : List Stated) (xs ys : List Line) → AllLicensed before xs → LitsFit before (xs ++ ys) → LitsFit before ys
+lits_second before [] ys l h = h
+lits_second before (x ∷ xs) ys l h = lits_second before xs ys l.1 (h.1 l.0.fits).1

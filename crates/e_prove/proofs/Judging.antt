@@ -1,133 +1,123 @@
 -- What a step is judged as.
-use Rattle.std.proofs.Common.{◌≡◌, ℕ, ◌≤◌, List, [], ◌∷◌, length, refl, ap, subst, true, false, Option, Some, None, arith}
+use Rattle.std.proofs.Common.{◌≡◌, ℕ, List, [], ◌∷◌, refl, ap, subst, true, false, Option, Some, None}
 use Rattle.std.specs.Prelude.{IsTrue}
-use Rattle.e_literal.specs.declared.object.Scope.{Scope}
 use Rattle.e_literal.specs.declared.object.Term.{Term}
 use Rattle.e_literal.specs.declared.literal.Lit.{Lit}
-use Rattle.e_literal.specs.Scopes.{grown}
-use Rattle.e_literal.proofs.Growing.{grown_bounds}
+use Rattle.e_literal.specs.Use.{Stated}
 use Rattle.e_construct.specs.declared.construction.Construction.{Construction}
-use Rattle.e_construct.specs.Construct.{needs, made, gives}
-use Rattle.e_construct.proofs.Sizes.{few_made}
+use Rattle.e_construct.specs.Construct.{needs, gives}
 use Rattle.e_clause.specs.declared.cert.By.{By}
 use Rattle.e_clause.specs.declared.cert.Cert.{Cert}
 use Rattle.e_clause.specs.Certify.{certifies, certify_all}
 use Rattle.e_clause.proofs.Sound.{allowed_of_certified, all_allowed_of_certified}
 use Rattle.e_deriv.specs.declared.block.Step.TheVariants.{Cite as CiteStep, Hence as HenceStep, Make as MakeStep}
 use Rattle.e_deriv.specs.declared.stop.Wanted.{Wanted}
-use Rattle.e_deriv.specs.declared.stop.Wanted.TheVariants.{Literal, Contradiction}
+use Rattle.e_deriv.specs.declared.stop.Wanted.TheVariants.{Literal, Match, Contradiction}
 use Rattle.e_deriv.specs.Script.{Cite, Hence, Make, step_script, erased}
+use Rattle.e_deriv.specs.Parts.{filled_by}
 use Rattle.e_deriv.specs.Lines.{lines}
 use Rattle.e_deriv.specs.Steps.{is_cited}
 use Rattle.e_deriv.specs.Naming.{names_lines}
 use Rattle.e_prove.specs.declared.halt.Halt.{Halt}
 use Rattle.e_prove.specs.declared.halt.Halt.TheVariants as halt
 use Rattle.e_prove.specs.declared.standing.Standing.{Standing}
-use Rattle.e_prove.specs.Contexts.{GrowsLittle, after_literal, after_make}
+use Rattle.e_prove.specs.Contexts.{after_literal, after_make}
 use Rattle.e_prove.specs.Halts.{HaltsIn}
 use Rattle.e_prove.specs.Judging.{IsJudged, StepHalts}
 use Rattle.e_prove.proofs.Licensing.{and_both}
 use Rattle.e_prove.proofs.Keeping.{stay_joined, stay_all}
 
-stays : (s : Scope) → GrowsLittle s s
-stays s = record { points = omega arith; lines = omega arith; circles = omega arith }
-
 -- ---- a citation
 
-judged_by : (by : By) (x : Standing) → is_cited x.context.facts by ≡ true → IsJudged (CiteStep by) x (CiteStep by) (after_literal by.lit x)
-unfolding lines erased names_lines step_script
-judged_by by x h =
+judged_by : (before : List Stated) (by : By) (x : Standing) → is_cited x.context.facts by ≡ true → IsJudged before (CiteStep by) x (CiteStep by) (after_literal by.lit x)
+unfolding lines erased filled_by names_lines step_script
+judged_by before by x h =
     record {
-      licensed = λ rest goal form. record { fits = form; allowed = tt; beside = h };
+      licensed = λ rest more goal form. record { fits = form; allowed = tt; beside = h };
       certified = λ rest more goal form. and_both _ _ form h;
       erased = λ rest more e. ap (Cite by) e;
-      next = λ rest goal. refl;
-      derived_next = λ rest goal. refl;
+      next = λ rest more goal. refl;
+      derived_next = λ more goal. refl;
       named = λ rest. refl;
-      grows = stays x.context.scope;
       kept = stay_joined x.context.facts by.lit;
     }
 
-pub judged_cite : (by derived : By) (x after : Standing) → derived ≡ by → is_cited x.context.facts by ≡ true → after ≡ after_literal by.lit x →
-    IsJudged (CiteStep by) x (CiteStep derived) after
-judged_cite by derived x after same h gives = rw (same, gives) (judged_by by x h)
+pub judged_cite : (before : List Stated) (by derived : By) (x after : Standing) → derived ≡ by → is_cited x.context.facts by ≡ true → after ≡ after_literal by.lit x →
+    IsJudged before (CiteStep by) x (CiteStep derived) after
+judged_cite before by derived x after same h gives = rw (same, gives) (judged_by before by x h)
 
 -- one that is not good lacks its literal, and has no values
-pub cite_halts : (by : By) (x : Standing) (w : Wanted) (values : Option (List (Term × ℕ))) → is_cited x.context.facts by ≡ false → w ≡ Literal by.lit → values ≡ None →
-    StepHalts (CiteStep by) x (halt.Lacks w values)
+pub cite_halts : (before : List Stated) (by : By) (x : Standing) (w : Wanted) (values : Option (List (Term × ℕ))) → is_cited x.context.facts by ≡ false → w ≡ Literal by.lit → values ≡ None →
+    StepHalts before (CiteStep by) x (halt.Lacks w values)
 unfolding step_script
-cite_halts by x w values h e none rest goal = rw (e, none) ((h, refl), refl)
+cite_halts before by x w values h e none rest filled goal = rw (e, none) ((h, refl), refl)
 
 -- ---- a hence
 
-judged_by_cert : (lit : Lit) (written : Option Cert) (cert : Cert) (x : Standing) → IsTrue (certifies x.context.scope x.context.facts lit cert) →
-    IsJudged (HenceStep lit written) x (HenceStep lit (Some cert)) (after_literal lit x)
-unfolding lines erased names_lines step_script
-judged_by_cert lit written cert x h =
+judged_by_cert : (before : List Stated) (lit : Lit) (written : Option Cert) (cert : Cert) (x : Standing) → IsTrue (certifies x.context.scope x.context.facts lit cert) →
+    IsJudged before (HenceStep lit written) x (HenceStep lit (Some cert)) (after_literal lit x)
+unfolding lines erased filled_by names_lines step_script
+judged_by_cert before lit written cert x h =
     record {
-      licensed = λ rest goal form. record { fits = form; allowed = (allowed_of_certified x.context.scope x.context.facts lit cert h, tt); beside = tt };
+      licensed = λ rest more goal form. record { fits = form; allowed = (allowed_of_certified x.context.scope x.context.facts lit cert h, tt); beside = tt };
       certified = λ rest more goal form. and_both _ _ form (and_both _ _ (and_both _ _ h refl) refl);
       erased = λ rest more e. ap (Hence lit None) e;
-      next = λ rest goal. refl;
-      derived_next = λ rest goal. refl;
+      next = λ rest more goal. refl;
+      derived_next = λ more goal. refl;
       named = λ rest. refl;
-      grows = stays x.context.scope;
       kept = stay_joined x.context.facts lit;
     }
 
-pub judged_hence : (lit derived : Lit) (written : Option Cert) (cert : Cert) (x after : Standing) → derived ≡ lit →
+pub judged_hence : (before : List Stated) (lit derived : Lit) (written : Option Cert) (cert : Cert) (x after : Standing) → derived ≡ lit →
     IsTrue (certifies x.context.scope x.context.facts lit cert) → after ≡ after_literal lit x →
-    IsJudged (HenceStep lit written) x (HenceStep derived (Some cert)) after
-judged_hence lit derived written cert x after same h gives = rw (same, gives) (judged_by_cert lit written cert x h)
+    IsJudged before (HenceStep lit written) x (HenceStep derived (Some cert)) after
+judged_hence before lit derived written cert x after same h gives = rw (same, gives) (judged_by_cert before lit written cert x h)
 
 -- what halts at its literal
-pub hence_halts : (lit : Lit) (written : Option Cert) (x : Standing) (h : Halt) → HaltsIn x.context (lit ∷ []) h → StepHalts (HenceStep lit written) x h
+pub hence_halts : (before : List Stated) (lit : Lit) (written : Option Cert) (x : Standing) (h : Halt) → HaltsIn x.context (lit ∷ []) h → StepHalts before (HenceStep lit written) x h
 unfolding step_script
-hence_halts lit written x (halt.Lacks (Literal l) values) k rest goal = k
-hence_halts lit written x (halt.Lacks Contradiction values) k rest goal = absurd k
-hence_halts lit written x (halt.TooWide (Literal l) width) k rest goal = k
-hence_halts lit written x (halt.TooWide Contradiction width) k rest goal = absurd k
-hence_halts lit written x halt.NoMemory k rest goal = tt
+hence_halts before lit written x (halt.Lacks (Literal l) values) k rest filled goal = k
+hence_halts before lit written x (halt.Lacks Match values) k rest filled goal = absurd k
+hence_halts before lit written x (halt.Lacks Contradiction values) k rest filled goal = absurd k
+hence_halts before lit written x (halt.TooWide (Literal l) width) k rest filled goal = k
+hence_halts before lit written x (halt.TooWide Match width) k rest filled goal = absurd k
+hence_halts before lit written x (halt.TooWide Contradiction width) k rest filled goal = absurd k
+hence_halts before lit written x halt.NoMemory k rest filled goal = tt
 
 -- ---- a construction
 
-grows_little : (s : Scope) (form : Construction) → GrowsLittle s (grown s (made form))
-grows_little s form =
-    let bounds = grown_bounds s (made form) in
-    let few : length (made form) ≤ 2 = few_made form in
-    record { points = omega (arith, few, bounds.few_points); lines = omega (arith, few, bounds.few_lines); circles = omega (arith, few, bounds.few_circles) }
-
-judged_by_certs : (form : Construction) (names : List (List ℕ)) (written certs : List Cert) (x : Standing) → IsTrue (certify_all x.context.scope x.context.facts (needs form) certs) →
-    IsJudged (MakeStep form names written) x (MakeStep form names certs) (after_make form names x)
-unfolding lines erased names_lines step_script
-judged_by_certs form names written certs x h =
+judged_by_certs : (before : List Stated) (form : Construction) (names : List (List ℕ)) (written certs : List Cert) (x : Standing) → IsTrue (certify_all x.context.scope x.context.facts (needs form) certs) →
+    IsJudged before (MakeStep form names written) x (MakeStep form names certs) (after_make form names x)
+unfolding lines erased filled_by names_lines step_script
+judged_by_certs before form names written certs x h =
     record {
-      licensed = λ rest goal fit. record { fits = fit; allowed = all_allowed_of_certified x.context.scope x.context.facts (needs form) certs h; beside = tt };
+      licensed = λ rest more goal fit. record { fits = fit; allowed = all_allowed_of_certified x.context.scope x.context.facts (needs form) certs h; beside = tt };
       certified = λ rest more goal fit. and_both _ _ fit (and_both _ _ h refl);
       erased = λ rest more e. ap (Make form names []) e;
-      next = λ rest goal. refl;
-      derived_next = λ rest goal. refl;
+      next = λ rest more goal. refl;
+      derived_next = λ more goal. refl;
       named = λ rest. refl;
-      grows = grows_little x.context.scope form;
       kept = stay_all x.context.facts (gives form x.context.scope);
     }
 
-pub judged_make : (form derived : Construction) (names kept : List (List ℕ)) (written certs given : List Cert) (needed : List Lit) (x after : Standing) →
+pub judged_make : (before : List Stated) (form derived : Construction) (names kept : List (List ℕ)) (written certs given : List Cert) (needed : List Lit) (x after : Standing) →
     derived ≡ form → kept ≡ names → given ≡ certs → needed ≡ needs form → IsTrue (certify_all x.context.scope x.context.facts needed certs) → after ≡ after_make form names x →
-    IsJudged (MakeStep form names written) x (MakeStep derived kept given) after
-judged_make form derived names kept written certs given needed x after same these those all h gives =
-    rw (same, these, those, gives) (judged_by_certs form names written certs x (subst (λ ls. certify_all x.context.scope x.context.facts ls certs ≡ true) all h))
+    IsJudged before (MakeStep form names written) x (MakeStep derived kept given) after
+judged_make before form derived names kept written certs given needed x after same these those all h gives =
+    rw (same, these, those, gives) (judged_by_certs before form names written certs x (subst (λ ls. certify_all x.context.scope x.context.facts ls certs ≡ true) all h))
 
 -- what halts at its needs
-make_halts_at : (form : Construction) (names : List (List ℕ)) (written : List Cert) (x : Standing) (h : Halt) → HaltsIn x.context (needs form) h →
-    StepHalts (MakeStep form names written) x h
+make_halts_at : (before : List Stated) (form : Construction) (names : List (List ℕ)) (written : List Cert) (x : Standing) (h : Halt) → HaltsIn x.context (needs form) h →
+    StepHalts before (MakeStep form names written) x h
 unfolding step_script
-make_halts_at form names written x (halt.Lacks (Literal l) values) k rest goal = k
-make_halts_at form names written x (halt.Lacks Contradiction values) k rest goal = absurd k
-make_halts_at form names written x (halt.TooWide (Literal l) width) k rest goal = k
-make_halts_at form names written x (halt.TooWide Contradiction width) k rest goal = absurd k
-make_halts_at form names written x halt.NoMemory k rest goal = tt
+make_halts_at before form names written x (halt.Lacks (Literal l) values) k rest filled goal = k
+make_halts_at before form names written x (halt.Lacks Match values) k rest filled goal = absurd k
+make_halts_at before form names written x (halt.Lacks Contradiction values) k rest filled goal = absurd k
+make_halts_at before form names written x (halt.TooWide (Literal l) width) k rest filled goal = k
+make_halts_at before form names written x (halt.TooWide Match width) k rest filled goal = absurd k
+make_halts_at before form names written x (halt.TooWide Contradiction width) k rest filled goal = absurd k
+make_halts_at before form names written x halt.NoMemory k rest filled goal = tt
 
-pub make_halts : (form : Construction) (names : List (List ℕ)) (written : List Cert) (needed : List Lit) (x : Standing) (h : Halt) → needed ≡ needs form →
-    HaltsIn x.context needed h → StepHalts (MakeStep form names written) x h
-make_halts form names written needed x h all k = make_halts_at form names written x h (subst (λ ls. HaltsIn x.context ls h) all k)
+pub make_halts : (before : List Stated) (form : Construction) (names : List (List ℕ)) (written : List Cert) (needed : List Lit) (x : Standing) (h : Halt) → needed ≡ needs form →
+    HaltsIn x.context needed h → StepHalts before (MakeStep form names written) x h
+make_halts before form names written needed x h all k = make_halts_at before form names written x h (subst (λ ls. HaltsIn x.context ls h) all k)

@@ -2,6 +2,7 @@ pub mod Licensing
 pub mod Keeping
 pub mod Contexts
 pub mod Judging
+pub mod Applying
 pub mod Halting
 pub mod Passing
 pub mod Inside

@@ -13,7 +13,7 @@ use Rattle.e_clause.specs.Judged.{is_good, are_good}
 use Rattle.e_clause.specs.Wide.{IsTooWideLit}
 use Rattle.e_clause.proofs.Sound.{all_allowed_of_certified}
 use Rattle.e_deriv.specs.declared.stop.Wanted.{Wanted}
-use Rattle.e_deriv.specs.declared.stop.Wanted.TheVariants.{Literal, Contradiction}
+use Rattle.e_deriv.specs.declared.stop.Wanted.TheVariants.{Literal, Match, Contradiction}
 use Rattle.e_deriv.specs.Refused.{LiteralIsShown}
 use Rattle.e_licence.specs.Contexts.{Basis}
 use Rattle.e_licence.specs.Licences.{IsRefusedBy, IsShownBy}
@@ -124,8 +124,10 @@ halts_among x ls i cs l (halt.Lacks (Literal m) values) lt is before h =
       },
       h.1,
     )
+halts_among x ls i cs l (halt.Lacks Match values) lt is before h = absurd h
 halts_among x ls i cs l (halt.Lacks Contradiction values) lt is before h = absurd h
 halts_among x ls i cs l (halt.TooWide (Literal m) width) lt is before h =
     (rw (only_contained l m h.0) (i, lt, sym is), h.1)
+halts_among x ls i cs l (halt.TooWide Match width) lt is before h = absurd h
 halts_among x ls i cs l (halt.TooWide Contradiction width) lt is before h = absurd h
 halts_among x ls i cs l halt.NoMemory lt is before h = tt

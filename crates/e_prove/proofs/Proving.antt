@@ -1,6 +1,6 @@
 -- Judging the proof of a statement.
-use Rattle.std.proofs.Common.{◌≡◌, ℕ, suc, ◌+◌, ◌-◌, ◌*◌, ◌^◌, ◌<◌, List, [], ◌∷◌, length, ◌≤◌, refl, sym, ap, ◌∙◌, subst, Some, true, arith, Result, Ok, Err}
-use Rattle.std.specs.Prelude.{IsTrue, slice_get, IfOk, IfErr}
+use Rattle.std.proofs.Common.{◌≡◌, ℕ, ◌+◌, ◌^◌, ◌<◌, List, length, ◌≤◌, refl, sym, ap, ◌∙◌, subst, true, arith}
+use Rattle.std.specs.Prelude.{slice_get}
 use Rattle.e_literal.specs.declared.literal.Lit.{Lit}
 use Rattle.e_literal.specs.declared.object.Scope.{Scope}
 use Rattle.e_literal.specs.declared.object.Sort.{Sort}
@@ -12,26 +12,29 @@ use Rattle.e_clause.specs.Judged.{are_good_facts}
 use Rattle.e_deriv.specs.declared.names.Names.{Names}
 use Rattle.e_deriv.specs.declared.stop.Stop.{Stop}
 use Rattle.e_deriv.specs.declared.stop.Stop.TheVariants as stop
-use Rattle.e_deriv.specs.Script.{Script, size}
+use Rattle.e_deriv.specs.Script.{Script}
 use Rattle.e_deriv.specs.Goal.{Goal, goal_of_statement, facts_of_statement}
 use Rattle.e_deriv.specs.Naming.{names_lines, declared_names}
+use Rattle.e_deriv.specs.Lines.{proof_lines}
+use Rattle.e_deriv.specs.Licensed.{AllLicensed}
+use Rattle.e_deriv.specs.Certified.{Certified}
 use Rattle.e_deriv.specs.Fitting.{IsFitting}
 use Rattle.e_prove.specs.Contexts.{start_of}
-use Rattle.e_prove.specs.Passing.{IsReadyFor, StopsWithin}
+use Rattle.e_prove.specs.Passing.{IsReadyFor, IsDerived, StopsWithin}
 use Rattle.e_prove.specs.Stops.{StopIs, HasNames}
 use Rattle.e_prove.proofs.Ready.{first_facts}
 
 -- ---- how many objects there are
 
 -- the declared and the made objects are at most 3,000
-few_objects : (t : Stated) (script : Script) → IsFitting t script → length t.declared + length t.made ≤ 3000
-few_objects t script h =
+few_objects : (before : List Stated) (t : Stated) (script : Script) → IsFitting before t script → length t.declared + length t.made ≤ 3000
+few_objects before t script h =
     let declared = total_grown nothing t.declared in
     let all = total_grown (scope_of t) t.made in
     omega (arith, declared, all, h.points, h.lines, h.circles)
 
-pub few_declared : (t : Stated) (script : Script) → IsFitting t script → length t.declared < 2 ^ 16
-few_declared t script h = omega (arith, few_objects t script h)
+pub few_declared : (before : List Stated) (t : Stated) (script : Script) → IsFitting before t script → length t.declared < 2 ^ 16
+few_declared before t script h = omega (arith, few_objects before t script h)
 
 -- so numbers of 16 bits are enough for the made objects
 pub record MadeFit (s : Scope) (n : ℕ) : Type 0 where
@@ -39,55 +42,61 @@ pub record MadeFit (s : Scope) (n : ℕ) : Type 0 where
   pub lines : s.lines + n < 2 ^ 16
   pub circles : s.circles + n < 2 ^ 16
 
-pub made_fit : (t : Stated) (script : Script) (s : Scope) → s ≡ scope_of t → IsFitting t script → MadeFit s (length t.made)
-made_fit t script s same h = rw same (fit t script h)
+pub made_fit : (before : List Stated) (t : Stated) (script : Script) (s : Scope) → s ≡ scope_of t → IsFitting before t script → MadeFit s (length t.made)
+made_fit before t script s same h = rw same (fit before t script h)
   where
-    fit : (t : Stated) (script : Script) → IsFitting t script → MadeFit (scope_of t) (length t.made)
-    fit t script h =
-        let few = few_objects t script h in
+    fit : (before : List Stated) (t : Stated) (script : Script) → IsFitting before t script → MadeFit (scope_of t) (length t.made)
+    fit before t script h =
+        let few = few_objects before t script h in
         let bounds = grown_bounds nothing t.declared in
         record { points = omega (arith, few, bounds.few_points); lines = omega (arith, few, bounds.few_lines); circles = omega (arith, few, bounds.few_circles) }
 
 -- ---- the start and the stop
 
-pub given_good : (t : Stated) (script : Script) → IsFitting t script → are_good_facts (scope_of t) (facts_of_statement t) ≡ true
-given_good t script h = first_facts script (scope_of t) (facts_of_statement t) (goal_of_statement t) h.lits
+pub given_good : (before : List Stated) (t : Stated) (script : Script) → IsFitting before t script → are_good_facts (scope_of t) (facts_of_statement t) ≡ true
+given_good before t script h = first_facts before script script (scope_of t) (facts_of_statement t) (goal_of_statement t) (h.lits script)
 
-ready_start : (t : Stated) (names : Names) (script : Script) → IsFitting t script → IsReadyFor script (start_of t names) (goal_of_statement t)
-ready_start t names script h =
-    let bounds = grown_bounds (scope_of t) t.made in
-    record {
-      forms = h.forms;
-      lits = h.lits;
-      points = omega (arith, bounds.points, h.points, h.short);
-      lines = omega (arith, bounds.lines, h.lines, h.short);
-      circles = omega (arith, bounds.circles, h.circles, h.short);
-    }
+ready_start : (before : List Stated) (t : Stated) (names : Names) (script : Script) → IsFitting before t script → IsReadyFor before script (start_of t names) (goal_of_statement t)
+ready_start before t names script h = record { forms = h.forms; lits = h.lits; scopes = h.scopes; statements = h.statements }
 
-pub ready_at_start : (t : Stated) (names : Names) (script : Script) (x : _) (goal : Goal) → x ≡ start_of t names → goal ≡ goal_of_statement t → IsFitting t script → IsReadyFor script x goal
-ready_at_start t names script x goal is same h = rw (is, same) (ready_start t names script h)
+pub ready_at_start : (before : List Stated) (t : Stated) (names : Names) (script : Script) (x : _) (goal : Goal) → x ≡ start_of t names → goal ≡ goal_of_statement t → IsFitting before t script → IsReadyFor before script x goal
+ready_at_start before t names script x goal is same h = rw (is, same) (ready_start before t names script h)
 
 -- the goal that the code writes
 pub goal_is : (t : Stated) (sorts : List Sort) (s : Scope) (kept made : List Obj) (shown : List Lit) → s ≡ scope_of t → sorts ≡ t.made →
     made ≡ next_objects s sorts → kept ≡ made → shown ≡ t.shown → let goal : Goal = record { made = kept; shown = shown } in goal ≡ goal_of_statement t
 goal_is t sorts s kept made shown a b c d e = rw (d, c, a, b, e) refl
 
-stop_at : (t : Stated) (names : Names) (script : Script) (s : Stop) → StopsWithin script (start_of t names) (goal_of_statement t) 1 s → StopIs t script s
-stop_at t names script (stop.Unlicensed n wanted values seen) k =
-    record { line = k.line; context = record { place = k.place; number = omega (arith, k.number); at = k.at; earlier = k.earlier }; lacks = k.halts.0; shown = k.halts.1 }
-stop_at t names script (stop.TooWide n wanted width seen) k =
-    record { line = k.line; context = record { place = k.place; number = omega (arith, k.number); at = k.at; earlier = k.earlier }; too_wide = k.halts }
-stop_at t names script stop.NoMemory k = tt
+stop_at : (before : List Stated) (t : Stated) (names : Names) (script : Script) (s : Stop) → StopsWithin before script (start_of t names) (goal_of_statement t) 1 s → StopIs before t script s
+stop_at before t names script (stop.Unlicensed n wanted values seen) k =
+    record { line = k.stops.line; context = record { filled = k.filled; place = k.stops.place; number = omega (arith, k.stops.number); at = k.stops.at; earlier = k.stops.earlier }; lacks = k.stops.halts.0; shown = k.stops.halts.1 }
+stop_at before t names script (stop.TooWide n wanted width seen) k =
+    record { line = k.stops.line; context = record { filled = k.filled; place = k.stops.place; number = omega (arith, k.stops.number); at = k.stops.at; earlier = k.stops.earlier }; too_wide = k.stops.halts }
+stop_at before t names script stop.NoMemory k = tt
 
-pub stop_is : (t : Stated) (names : Names) (script : Script) (x : _) (goal : Goal) (s : Stop) → x ≡ start_of t names → goal ≡ goal_of_statement t → StopsWithin script x goal 1 s → StopIs t script s
-stop_is t names script x goal s is same k =
-    stop_at t names script s (subst (λ y. StopsWithin script y (goal_of_statement t) 1 s) is (subst (λ g. StopsWithin script x g 1 s) same k))
+pub stop_is : (before : List Stated) (t : Stated) (names : Names) (script : Script) (x : _) (goal : Goal) (s : Stop) → x ≡ start_of t names → goal ≡ goal_of_statement t → StopsWithin before script x goal 1 s → StopIs before t script s
+stop_is before t names script x goal s is same k =
+    stop_at before t names script s (subst (λ y. StopsWithin before script y (goal_of_statement t) 1 s) is (subst (λ g. StopsWithin before script x g 1 s) same k))
 
-names_at : (t : Stated) (names : Names) (script : Script) (s : Stop) → StopsWithin script (start_of t names) (goal_of_statement t) 1 s → HasNames t names script s
-names_at t names script (stop.Unlicensed n wanted values seen) k = sym (ap (slice_get (names_lines (declared_names t names) script)) (omega (arith, k.number)) ∙ k.named)
-names_at t names script (stop.TooWide n wanted width seen) k = sym (ap (slice_get (names_lines (declared_names t names) script)) (omega (arith, k.number)) ∙ k.named)
-names_at t names script stop.NoMemory k = tt
+names_at : (before : List Stated) (t : Stated) (names : Names) (script : Script) (s : Stop) → StopsWithin before script (start_of t names) (goal_of_statement t) 1 s → HasNames before t names script s
+names_at before t names script (stop.Unlicensed n wanted values seen) k = sym (ap (slice_get (names_lines before (declared_names t names) script)) (omega (arith, k.stops.number)) ∙ k.stops.named)
+names_at before t names script (stop.TooWide n wanted width seen) k = sym (ap (slice_get (names_lines before (declared_names t names) script)) (omega (arith, k.stops.number)) ∙ k.stops.named)
+names_at before t names script stop.NoMemory k = tt
 
-pub names_are : (t : Stated) (names : Names) (script : Script) (x : _) (goal : Goal) (s : Stop) → x ≡ start_of t names → goal ≡ goal_of_statement t → StopsWithin script x goal 1 s → HasNames t names script s
-names_are t names script x goal s is same k =
-    names_at t names script s (subst (λ y. StopsWithin script y (goal_of_statement t) 1 s) is (subst (λ g. StopsWithin script x g 1 s) same k))
+pub names_are : (before : List Stated) (t : Stated) (names : Names) (script : Script) (x : _) (goal : Goal) (s : Stop) → x ≡ start_of t names → goal ≡ goal_of_statement t → StopsWithin before script x goal 1 s → HasNames before t names script s
+names_are before t names script x goal s is same k =
+    names_at before t names script s (subst (λ y. StopsWithin before script y (goal_of_statement t) 1 s) is (subst (λ g. StopsWithin before script x g 1 s) same k))
+
+-- ---- the derivation
+
+derived_at : (before : List Stated) (t : Stated) (names : Names) (script derived : Script) (x : _) (goal : Goal) → x ≡ start_of t names → goal ≡ goal_of_statement t → IsDerived before script x goal derived →
+    IsDerived before script (start_of t names) (goal_of_statement t) derived
+derived_at before t names script derived x goal is same d =
+    subst (λ y. IsDerived before script y (goal_of_statement t) derived) is (subst (λ g. IsDerived before script x g derived) same d)
+
+pub is_certified : (before : List Stated) (t : Stated) (names : Names) (script derived : Script) (x : _) (goal : Goal) → x ≡ start_of t names → goal ≡ goal_of_statement t → IsDerived before script x goal derived → Certified before t derived
+is_certified before t names script derived x goal is same d = (derived_at before t names script derived x goal is same d).certified
+
+pub is_licensed : (before : List Stated) (t : Stated) (names : Names) (script derived : Script) (x : _) (goal : Goal) → x ≡ start_of t names → goal ≡ goal_of_statement t → IsDerived before script x goal derived →
+    AllLicensed before (proof_lines before t script derived)
+is_licensed before t names script derived x goal is same d = (derived_at before t names script derived x goal is same d).licensed

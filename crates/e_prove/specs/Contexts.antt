@@ -1,10 +1,11 @@
 -- What holds before a line, and after a step.
-use Rattle.std.specs.Prelude.{ℕ, ◌+◌, ◌<◌, ◌≤◌, ◌^◌, List, length, take}
+use Rattle.std.specs.Prelude.{ℕ, ◌+◌, ◌<◌, ◌^◌, List, length, take}
+use Rattle.e_literal.specs.declared.object.Obj.{Obj}
 use Rattle.e_literal.specs.declared.object.Scope.{Scope}
 use Rattle.e_literal.specs.declared.literal.Lit.{Lit}
 use Rattle.e_literal.specs.Facts.{joined, joined_all}
 use Rattle.e_literal.specs.Scopes.{grown}
-use Rattle.e_literal.specs.Use.{Stated, scope_of}
+use Rattle.e_literal.specs.Use.{Stated, scope_of, gives_of_use}
 use Rattle.e_construct.specs.declared.construction.Construction.{Construction}
 use Rattle.e_construct.specs.Construct.{made, gives}
 use Rattle.e_construct.specs.declared.superpose.Superpose.{Superpose}
@@ -30,6 +31,14 @@ after_make form names x =
     record {
       context = record { scope = grown x.context.scope (made form); facts = joined_all x.context.facts (gives form x.context.scope) };
       names = named x.names (made form) names;
+    }
+
+-- after an application of the statement at these arguments, whose new objects have these names
+abbrev pub after_apply : Stated → List Obj → List (List ℕ) → Standing → Standing
+after_apply t args names x =
+    record {
+      context = record { scope = grown x.context.scope t.made; facts = joined_all x.context.facts (gives_of_use t args x.context.scope) };
+      names = named x.names t.made names;
     }
 
 -- after a superposition, whose copied points have these names: what its block begins with
@@ -65,12 +74,6 @@ pub record HasRoom (s : Scope) : Type 0 where
   pub points : s.points + 2 < 2 ^ 16
   pub lines : s.lines + 2 < 2 ^ 16
   pub circles : s.circles + 2 < 2 ^ 16
-
--- at most two objects more of each sort
-pub record GrowsLittle (s after : Scope) : Type 0 where
-  pub points : after.points ≤ s.points + 2
-  pub lines : after.lines ≤ s.lines + 2
-  pub circles : after.circles ≤ s.circles + 2
 
 -- the goal that the code writes
 abbrev pub goal_said : CodeGoal → Goal

@@ -1,5 +1,5 @@
 -- When a stop is right.
-use Rattle.std.specs.Prelude.{◌≡◌, ◌-◌, Some, slice_get}
+use Rattle.std.specs.Prelude.{◌≡◌, ◌-◌, List, Some, slice_get}
 use Rattle.e_literal.specs.Use.{Stated}
 use Rattle.e_deriv.specs.declared.names.Names.{Names}
 use Rattle.e_deriv.specs.declared.stop.Stop.{Stop}
@@ -10,13 +10,13 @@ use Rattle.e_deriv.specs.Refused.{IsRefused, IsTooWideAt}
 
 -- the line is the first that is not licensed, it lacks this, and the values show it; or each line before is licensed, and
 -- the line is too wide at what is wanted there; want of memory is free
-abbrev pub StopIs : Stated → Script → Stop → Type 0
-StopIs t script (Unlicensed step wanted values names) = IsRefused t script step wanted values
-StopIs t script (TooWide step wanted width names) = IsTooWideAt t script step wanted width
-StopIs t script NoMemory = Unit {0}
+abbrev pub StopIs : List Stated → Stated → Script → Stop → Type 0
+StopIs before t script (Unlicensed step wanted values names) = IsRefused before t script step wanted values
+StopIs before t script (TooWide step wanted width names) = IsTooWideAt before t script step wanted width
+StopIs before t script NoMemory = Unit {0}
 
 -- the names are those in scope before the line, where these are the names of the statement's declared and made objects
-abbrev pub HasNames : Stated → Names → Script → Stop → Type 0
-HasNames t names script (Unlicensed step wanted values seen) = Some seen ≡ slice_get (names_lines (declared_names t names) script) (step - 1)
-HasNames t names script (TooWide step wanted width seen) = Some seen ≡ slice_get (names_lines (declared_names t names) script) (step - 1)
-HasNames t names script NoMemory = Unit {0}
+abbrev pub HasNames : List Stated → Stated → Names → Script → Stop → Type 0
+HasNames before t names script (Unlicensed step wanted values seen) = Some seen ≡ slice_get (names_lines before (declared_names t names) script) (step - 1)
+HasNames before t names script (TooWide step wanted width seen) = Some seen ≡ slice_get (names_lines before (declared_names t names) script) (step - 1)
+HasNames before t names script NoMemory = Unit {0}

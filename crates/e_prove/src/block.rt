@@ -1,15 +1,18 @@
 //! Judging a block line by line, with the blocks inside it.
 ghost use Rattle.std.specs.Prelude.{◌≡◌, ◌+◌, ◌<◌, ◌^◌, IfOk, IfErr, OnOk};
+ghost use Rattle.e_theorem.specs.Statements.{all_stated};
 ghost use Rattle.e_deriv.specs.Script.{script_of, step_script, close_script, size};
 ghost use Rattle.e_prove.specs.Contexts.{goal_said};
 ghost use Rattle.e_prove.specs.Passing.{IsReadyFor, IsReadyStep, IsDerived, IsPassed, KeepsFacts, StepStops, StopsWithin};
 
+use crate::application::{Application, apply};
 use crate::close::{Goal, contradiction, qed};
 use crate::halt::{stop_at, told, told_close};
 use crate::inner::{Head, claimed, split, superposed};
 use crate::standing::Standing;
 use crate::step::{cite, hence, make, superpose};
 use e_deriv::{Block, Close, Step, Stop};
+use e_theorem::Statement;
 use std::alloc::Global;
 
 /// A block with its certificates, and the number of the line behind it.
@@ -37,22 +40,23 @@ pub struct ProvedClose {
 #[cycle(block)]
 pub fn prove_block(
     alloc: Global,
+    before: &[Statement],
     block: &Block,
     goal: &Goal,
     standing: &mut Standing,
     first: u32,
 ) -> Result<ProvedBlock, Stop>
-    requires ready { IsReadyFor (script_of block.now) standing.old (goal_said goal.now) }
+    requires ready { IsReadyFor (all_stated before.now) (script_of block.now) standing.old (goal_said goal.now) }
     requires few { first + size (script_of block.now) < 2 ^ 32 }
-    ensures derived { IfOk result (λ p. IsDerived (script_of block.now) standing.old (goal_said goal.now) (script_of p.block)) }
+    ensures derived { IfOk result (λ p. IsDerived (all_stated before.now) (script_of block.now) standing.old (goal_said goal.now) (script_of p.block)) }
     ensures next { IfOk result (λ p. p.next ≡ first + size (script_of block.now)) }
     ensures kept { OnOk result (KeepsFacts standing.old standing.new) }
-    ensures err { IfErr result (StopsWithin (script_of block.now) standing.old (goal_said goal.now) first) }
+    ensures err { IfErr result (StopsWithin (all_stated before.now) (script_of block.now) standing.old (goal_said goal.now) first) }
 {
     let mut steps = Vec::new(alloc);
     let mut number = first;
     for step in &block.steps {
-        match prove_step(alloc, step, standing, number) {
+        match prove_step(alloc, before, step, standing, number) {
             Ok(proved) => {
                 steps.push(proved.step)?;
                 number = proved.next;
@@ -60,7 +64,7 @@ pub fn prove_block(
             Err(stop) => return Err(stop),
         }
     }
-    match prove_close(alloc, &block.close, goal, standing, number) {
+    match prove_close(alloc, before, &block.close, goal, standing, number) {
         Ok(proved) => Ok(ProvedBlock {
             block: Block {
                 steps,
@@ -76,13 +80,14 @@ pub fn prove_block(
 #[cycle(block)]
 fn prove_step(
     alloc: Global,
+    before: &[Statement],
     step: &Step,
     standing: &mut Standing,
     number: u32,
 ) -> Result<ProvedStep, Stop>
-    requires { IsReadyStep step.now standing.old number }
-    ensures ok { IfOk result (λ p. IsPassed (step_script step.now) standing.old number (step_script p.step) standing.new p.next) }
-    ensures err { IfErr result (StepStops step.now standing.old number) }
+    requires { IsReadyStep (all_stated before.now) step.now standing.old number }
+    ensures ok { IfOk result (λ p. IsPassed (all_stated before.now) (step_script step.now) standing.old number (step_script p.step) standing.new p.next) }
+    ensures err { IfErr result (StepStops (all_stated before.now) step.now standing.old number) }
 {
     match step {
         Step::Cite(by) => {
@@ -97,13 +102,28 @@ fn prove_step(
             let judged = make(alloc, form, names.items(), standing);
             told(alloc, judged, standing, number)
         }
+        Step::Apply {
+            theorem,
+            args,
+            names,
+            ..
+        } => {
+            let statement = &before[*theorem as usize];
+            let application = Application {
+                theorem: *theorem,
+                args: args.items(),
+                names: names.items(),
+            };
+            let judged = apply(alloc, &application, statement, standing);
+            told(alloc, judged, standing, number)
+        }
         Step::Claim { shown, inner } => {
             let outer = standing.enter(alloc)?;
             let goal = Goal {
                 made: &[],
                 shown: shown.items(),
             };
-            match prove_block(alloc, inner, &goal, standing, number + 1) {
+            match prove_block(alloc, before, inner, &goal, standing, number + 1) {
                 Ok(proved) => claimed(alloc, shown.items(), proved, outer, standing),
                 Err(stop) => Err(stop),
             }
@@ -124,7 +144,7 @@ fn prove_step(
                 made: &[],
                 shown: shown.items(),
             };
-            match prove_block(alloc, inner, &goal, standing, number + 1) {
+            match prove_block(alloc, before, inner, &goal, standing, number + 1) {
                 Ok(proved) => {
                     let head = Head {
                         form,
@@ -143,17 +163,18 @@ fn prove_step(
 #[cycle(block)]
 fn prove_close(
     alloc: Global,
+    before: &[Statement],
     close: &Close,
     goal: &Goal,
     standing: &mut Standing,
     number: u32,
 ) -> Result<ProvedClose, Stop>
-    requires ready { IsReadyFor (close_script close.now) standing.old (goal_said goal.now) }
+    requires ready { IsReadyFor (all_stated before.now) (close_script close.now) standing.old (goal_said goal.now) }
     requires few { number + size (close_script close.now) < 2 ^ 32 }
-    ensures derived { IfOk result (λ p. IsDerived (close_script close.now) standing.old (goal_said goal.now) (close_script p.close)) }
+    ensures derived { IfOk result (λ p. IsDerived (all_stated before.now) (close_script close.now) standing.old (goal_said goal.now) (close_script p.close)) }
     ensures next { IfOk result (λ p. p.next ≡ number + size (close_script close.now)) }
     ensures kept { OnOk result (KeepsFacts standing.old standing.new) }
-    ensures err { IfErr result (StopsWithin (close_script close.now) standing.old (goal_said goal.now) number) }
+    ensures err { IfErr result (StopsWithin (all_stated before.now) (close_script close.now) standing.old (goal_said goal.now) number) }
 {
     match close {
         Close::Qed { objects, .. } => {
@@ -167,13 +188,13 @@ fn prove_close(
         Close::Cases { lit, first, second } => {
             let outer = standing.enter(alloc)?;
             standing.suppose(alloc, lit)?;
-            let one = match prove_block(alloc, first, goal, standing, number + 1) {
+            let one = match prove_block(alloc, before, first, goal, standing, number + 1) {
                 Ok(one) => one,
                 Err(stop) => return Err(stop),
             };
             standing.leave(outer);
             standing.suppose_not(alloc, lit)?;
-            match prove_block(alloc, second, goal, standing, one.next) {
+            match prove_block(alloc, before, second, goal, standing, one.next) {
                 Ok(other) => split(alloc, lit, one, other),
                 Err(stop) => Err(stop),
             }

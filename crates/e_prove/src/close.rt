@@ -2,6 +2,7 @@
 ghost use Rattle.std.specs.Prelude.{◌≡◌, List, Option, IfOk, IfErr, IsTrue, map};
 ghost use Rattle.e_literal.specs.Rename;
 ghost use Rattle.e_literal.specs.Rename.{image_in};
+ghost use Rattle.e_literal.specs.Use.{Stated};
 ghost use Rattle.e_clause.specs.declared.cert.Against.{Against};
 ghost use Rattle.e_clause.specs.declared.cert.Cert.{Cert};
 ghost use Rattle.e_clause.specs.Judged.{are_good};
@@ -29,8 +30,8 @@ pub struct Goal<'a> {
 pub fn qed(alloc: Global, objects: &[Obj], goal: &Goal, context: &Context) -> Result<Close, Halt>
     requires form { IsTrue (are_for (goal_said goal.now) context.now.scope objects.now) }
     requires lits { IsTrue (are_good context.now.scope (Rattle.e_deriv.specs.Goal.goal_with (goal_said goal.now) objects.now)) }
-    ensures ok { IfOk result (λ d. (certs : List Cert) → IsClosed (Qed objects.now certs) context.now (goal_said goal.now) d) }
-    ensures err { IfErr result (λ h. (certs : List Cert) → CloseHalts (Qed objects.now certs) context.now (goal_said goal.now) h) }
+    ensures ok { IfOk result (λ d. (before : List Stated) (certs : List Cert) → IsClosed before (Qed objects.now certs) context.now (goal_said goal.now) d) }
+    ensures err { IfErr result (λ h. (before : List Stated) (certs : List Cert) → CloseHalts before (Qed objects.now certs) context.now (goal_said goal.now) h) }
 {
     let wanted = goal_with(alloc, goal, objects)?;
     let certs = licences(alloc, context, &wanted)?;
@@ -42,8 +43,8 @@ pub fn qed(alloc: Global, objects: &[Obj], goal: &Goal, context: &Context) -> Re
 
 /// A contradiction: the facts contradict each other.
 pub fn contradiction(alloc: Global, context: &Context) -> Result<Close, Halt>
-    ensures ok { IfOk result (λ d. (goal : BlockGoal) (written : Option Against) → IsClosed (Contradiction written) context.now goal d) }
-    ensures err { IfErr result (λ h. (goal : BlockGoal) (written : Option Against) → CloseHalts (Contradiction written) context.now goal h) }
+    ensures ok { IfOk result (λ d. (before : List Stated) (goal : BlockGoal) (written : Option Against) → IsClosed before (Contradiction written) context.now goal d) }
+    ensures err { IfErr result (λ h. (before : List Stated) (goal : BlockGoal) (written : Option Against) → CloseHalts before (Contradiction written) context.now goal h) }
 {
     match against(alloc, context)? {
         Refuted::Yes(against) => Ok(Close::Contradiction {

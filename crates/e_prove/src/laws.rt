@@ -11,7 +11,7 @@ pub fn licensed_stops_for_memory()
     ensures { LicensedStopsForMemory }
 {}
 
-/// Where the script has a certified derivation and no line is wide, nothing but want of memory is a right stop.
+/// Where a certified derivation is judged as a script and no line is wide, nothing but want of memory is a right stop.
 pub fn derived_stops_for_memory()
     ensures { DerivedStopsForMemory }
 {}

@@ -1,6 +1,7 @@
 //! The derivation of a theorem: each line of its script judged in order.
 #![tactic(auto)]
 
+mod application;
 mod block;
 mod close;
 mod halt;
@@ -16,6 +17,3 @@ pub use laws::{
     refused_stops_there,
 };
 pub use prover::prove;
-
-#[cfg(test)]
-mod tests;

@@ -1,7 +1,10 @@
 //! The derivation of a theorem.
 ghost use Rattle.std.specs.Prelude.{◌≡◌, IfOk, IfErr};
-ghost use Rattle.e_theorem.specs.Statements.{stated};
+ghost use Rattle.e_theorem.specs.Statements.{stated, all_stated};
 ghost use Rattle.e_deriv.specs.Script.{script_of, erased};
+ghost use Rattle.e_deriv.specs.Parts.{filled_by};
+ghost use Rattle.e_deriv.specs.Lines.{proof_lines};
+ghost use Rattle.e_deriv.specs.Licensed.{AllLicensed};
 ghost use Rattle.e_deriv.specs.Fitting.{IsFitting};
 ghost use Rattle.e_deriv.specs.Certified.{Certified};
 ghost use Rattle.e_prove.specs.Stops.{StopIs, HasNames};
@@ -16,36 +19,44 @@ use e_theorem::Statement;
 use std::alloc::Global;
 
 /// The derivation of a theorem by its own script, from the statements before it: each line judged in order,
-/// with a certificate for each literal that it needs.
+/// with a certificate for each literal that it needs. Without its certificates it is the script, with the blanks of each
+/// application filled by the least good choice.
 ///
 /// `Unlicensed` comes only at the first line that is not licensed, with what it lacks, the values that show it where that
 /// is a metric literal or a contradiction, and the names in scope before it. `TooWide` comes only where each line before
 /// is licensed and the line is wide. The forms of the script's lines fit where they stand, and so do the literals, as
 /// those of a theorem that is read do (System E 2009, section 3.4).
 pub fn prove(alloc: Global, before: &[Statement], theorem: &Theorem) -> Result<Block, Stop>
-    requires { IsFitting (stated theorem.now.statement) (script_of theorem.now.block) }
-    ensures certified { IfOk result (λ d. Certified (stated theorem.now.statement) (script_of d)) }
-    ensures script { IfOk result (λ d. erased (script_of d) ≡ erased (script_of theorem.now.block)) }
-    ensures stop { IfErr result (StopIs (stated theorem.now.statement) (script_of theorem.now.block)) }
-    ensures names { IfErr result (HasNames (stated theorem.now.statement) theorem.now.names (script_of theorem.now.block)) }
+    requires { IsFitting (all_stated before.now) (stated theorem.now.statement) (script_of theorem.now.block) }
+    ensures certified { IfOk result (λ d. Certified (all_stated before.now) (stated theorem.now.statement) (script_of d)) }
+    ensures script { IfOk result (λ d. erased (script_of d) ≡ filled_by (erased (script_of theorem.now.block)) (script_of d)) }
+    ensures least { IfOk result (λ d. AllLicensed (all_stated before.now) (proof_lines (all_stated before.now) (stated theorem.now.statement) (script_of theorem.now.block) (script_of d))) }
+    ensures stop { IfErr result (StopIs (all_stated before.now) (stated theorem.now.statement) (script_of theorem.now.block)) }
+    ensures names { IfErr result (HasNames (all_stated before.now) (stated theorem.now.statement) theorem.now.names (script_of theorem.now.block)) }
 {
-    // No step so far uses an earlier statement.
-    let _ = before;
-    prove_parts(alloc, &theorem.statement, &theorem.names, &theorem.block)
+    prove_parts(
+        alloc,
+        before,
+        &theorem.statement,
+        &theorem.names,
+        &theorem.block,
+    )
 }
 
 /// The derivation of a statement by a script: each line judged in order, with a certificate for each literal that it needs.
 pub(crate) fn prove_parts(
     alloc: Global,
+    before: &[Statement],
     statement: &Statement,
     names: &Names,
     block: &Block,
 ) -> Result<Block, Stop>
-    requires { IsFitting (stated statement.now) (script_of block.now) }
-    ensures certified { IfOk result (λ d. Certified (stated statement.now) (script_of d)) }
-    ensures script { IfOk result (λ d. erased (script_of d) ≡ erased (script_of block.now)) }
-    ensures stop { IfErr result (StopIs (stated statement.now) (script_of block.now)) }
-    ensures names { IfErr result (HasNames (stated statement.now) names.now (script_of block.now)) }
+    requires { IsFitting (all_stated before.now) (stated statement.now) (script_of block.now) }
+    ensures certified { IfOk result (λ d. Certified (all_stated before.now) (stated statement.now) (script_of d)) }
+    ensures script { IfOk result (λ d. erased (script_of d) ≡ filled_by (erased (script_of block.now)) (script_of d)) }
+    ensures least { IfOk result (λ d. AllLicensed (all_stated before.now) (proof_lines (all_stated before.now) (stated statement.now) (script_of block.now) (script_of d))) }
+    ensures stop { IfErr result (StopIs (all_stated before.now) (stated statement.now) (script_of block.now)) }
+    ensures names { IfErr result (HasNames (all_stated before.now) (stated statement.now) names.now (script_of block.now)) }
 {
     let mut standing = Standing::first(alloc, statement, names)?;
     let made = next_objects(alloc, standing.context.scope(), statement.made.items())?;
@@ -53,7 +64,7 @@ pub(crate) fn prove_parts(
         made: &made,
         shown: statement.shown.items(),
     };
-    match prove_block(alloc, block, &goal, &mut standing, 1) {
+    match prove_block(alloc, before, block, &goal, &mut standing, 1) {
         Ok(proved) => Ok(proved.block),
         Err(stop) => Err(stop),
     }

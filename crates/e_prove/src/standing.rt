@@ -131,6 +131,15 @@ impl Standing {
     {
         join_all(&mut self.context, lits)
     }
+
+    /// Equal literals join the facts, one after the other. It fails only for want of memory; nothing is said of what holds
+    /// then.
+    pub fn join_equal(&mut self, alloc: Global, lits: &[Lit]) -> Result<(), AllocError>
+        requires { IsTrue (are_good_facts self.old.context.scope (joined_all self.old.context.facts lits.now)) }
+        ensures { OnOk result (self.new ≡ record self.old { context = record self.old.context { facts = joined_all self.old.context.facts lits.now } }) }
+    {
+        join_copies(alloc, &mut self.context, lits)
+    }
 }
 
 /// Puts each name last among those of its sort.

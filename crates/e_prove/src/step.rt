@@ -1,5 +1,6 @@
 //! Judging a step without what may be inside it.
 ghost use Rattle.std.specs.Prelude.{◌≡◌, IfOk, IfErr, OnOk, IsTrue, List, Option};
+ghost use Rattle.e_literal.specs.Use.{Stated};
 ghost use Rattle.e_literal.specs.Facts.{joined};
 ghost use Rattle.e_clause.specs.declared.cert.Cert.{Cert as Certificate};
 ghost use Rattle.e_clause.specs.Judged.{is_good, are_good, are_good_facts};
@@ -25,8 +26,8 @@ use std::alloc::Global;
 #[tactic(auto, unfolding(e_deriv::specs::Script::step_script))]
 pub fn cite(alloc: Global, by: &By, standing: &mut Standing) -> Result<Step, Halt>
     requires { IsTrue (are_good_facts standing.old.context.scope (joined standing.old.context.facts by.now.lit)) }
-    ensures ok { IfOk result (λ d. IsJudged (Cite by.now) standing.old d standing.new) }
-    ensures err { IfErr result (StepHalts (Cite by.now) standing.old) }
+    ensures ok { IfOk result (λ d. (before : List Stated) → IsJudged before (Cite by.now) standing.old d standing.new) }
+    ensures err { IfErr result (λ h. (before : List Stated) → StepHalts before (Cite by.now) standing.old h) }
     ensures kept { IfErr result (UnlessNoMemory (standing.new ≡ standing.old)) }
 {
     if !is_cited(alloc, by, standing.context.facts())? {
@@ -45,8 +46,8 @@ pub fn cite(alloc: Global, by: &By, standing: &mut Standing) -> Result<Step, Hal
 pub fn hence(alloc: Global, lit: &Lit, standing: &mut Standing) -> Result<Step, Halt>
     requires lit { IsTrue (is_good standing.old.context.scope lit.now) }
     requires after { IsTrue (are_good_facts standing.old.context.scope (joined standing.old.context.facts lit.now)) }
-    ensures ok { IfOk result (λ d. (cert : Option Certificate) → IsJudged (Hence lit.now cert) standing.old d standing.new) }
-    ensures err { IfErr result (λ h. (cert : Option Certificate) → StepHalts (Hence lit.now cert) standing.old h) }
+    ensures ok { IfOk result (λ d. (before : List Stated) (cert : Option Certificate) → IsJudged before (Hence lit.now cert) standing.old d standing.new) }
+    ensures err { IfErr result (λ h. (before : List Stated) (cert : Option Certificate) → StepHalts before (Hence lit.now cert) standing.old h) }
     ensures kept { IfErr result (UnlessNoMemory (standing.new ≡ standing.old)) }
 {
     let cert = licensed(alloc, &standing.context, lit)?;
@@ -69,8 +70,8 @@ pub fn make(
     requires room { HasRoom standing.old.context.scope }
     requires needs { IsTrue (are_good standing.old.context.scope (Construct.needs form.now)) }
     requires after { let after = after_make form.now names.now standing.old in IsTrue (are_good_facts after.context.scope after.context.facts) }
-    ensures ok { IfOk result (λ d. (certs : List Certificate) → IsJudged (Make form.now names.now certs) standing.old d standing.new) }
-    ensures err { IfErr result (λ h. (certs : List Certificate) → StepHalts (Make form.now names.now certs) standing.old h) }
+    ensures ok { IfOk result (λ d. (before : List Stated) (certs : List Certificate) → IsJudged before (Make form.now names.now certs) standing.old d standing.new) }
+    ensures err { IfErr result (λ h. (before : List Stated) (certs : List Certificate) → StepHalts before (Make form.now names.now certs) standing.old h) }
     ensures kept { IfErr result (UnlessNoMemory (standing.new ≡ standing.old)) }
 {
     let needs = form.needs(alloc)?;

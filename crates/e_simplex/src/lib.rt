@@ -14,13 +14,9 @@ pub mod number;
 pub mod pivot;
 pub mod readings;
 pub mod settled;
-#[cfg(test)]
-mod settling_tests;
 pub mod solve;
 pub mod solved;
 pub mod spread;
-#[cfg(test)]
-mod tests;
 pub mod unequal;
 
 pub use decision::{Absurdity, Verdict, decide, decide_counting};

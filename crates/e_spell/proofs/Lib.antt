@@ -1,4 +1,5 @@
 pub mod Spaced
+pub mod Applied
 pub mod Declared
 pub mod CertTexts
 pub mod ScriptTexts

@@ -9,14 +9,16 @@ use Rattle.e_deriv.specs.declared.names.Names.{Names}
 use Rattle.e_construct.specs.Construct.{made}
 use Rattle.e_construct.specs.Superposing as superposing
 use Rattle.e_deriv.specs.Naming.{named}
-use Rattle.e_deriv.specs.Script.{Script, Cite, Hence, Make, Claim, Superposed, Qed, Contradiction, Cases, erased}
+use Rattle.e_deriv.specs.Script.{Script, Cite, Hence, Make, Apply, Claim, Superposed, Qed, Contradiction, Cases, erased}
 use Rattle.e_book.specs.declared.form.Form.{Form}
 use Rattle.e_book.specs.declared.form.Form.TheVariants as forms
+use Rattle.e_deriv.specs.Parts.{filled_by}
+use Rattle.e_book.specs.Headed.{Headed, theorem_of}
 use Rattle.e_book.specs.Entry.{Entry}
-use Rattle.e_book.specs.Canonical.{line_of, by_form, hence_form, let_form, claim_form, superpose_form, qed_form, contradiction_form, cases_form, else_form, head_forms, script_forms, names_of_proof, end_form, forms_of}
+use Rattle.e_book.specs.Canonical.{line_of, by_form, hence_form, let_form, apply_form, claim_form, superpose_form, qed_form, contradiction_form, cases_form, else_form, head_forms, script_forms, names_of_proof, end_form, forms_of}
 use Rattle.e_spell.specs.Certificates.{certs_lines}
 use Rattle.e_spell.specs.Spelling.{script_lines, spelled_lines}
-use Rattle.e_spell.specs.Laws.{is_plain}
+use Rattle.e_spell.specs.Laws.{is_plain, filled_entry}
 use Rattle.e_spell.proofs.CertLines.{certs_go, contradiction_goes}
 
 form_is_plain : (f : Form) → is_plain (line_of f) ≡ true
@@ -31,6 +33,7 @@ form_is_plain forms.Proof = refl
 form_is_plain (forms.By r ns l) = refl
 form_is_plain (forms.Hence l) = refl
 form_is_plain (forms.Let l) = refl
+form_is_plain (forms.Apply a) = refl
 form_is_plain (forms.Qed ns) = refl
 form_is_plain forms.Contradiction = refl
 form_is_plain (forms.Claim ls) = refl
@@ -59,34 +62,39 @@ both_stay : (xs ys : List (List ℕ)) (fs gs : List Form) → filter is_plain xs
 both_stay xs ys fs gs x y =
     filter-append is_plain xs ys ∙ ap (λ (l : List (List ℕ)). l ++ filter is_plain ys) x ∙ ap (λ (l : List (List ℕ)). map line_of fs ++ l) y ∙ sym (lines_append fs gs)
 
-script_stays : (ns : Names) (d : Script) → filter is_plain (script_lines ns d) ≡ map line_of (script_forms ns (erased d))
+script_stays : (known : List Headed) (ns : Names) (d : Script) → filter is_plain (script_lines known ns d) ≡ map line_of (script_forms known ns (erased d))
 unfolding script_lines script_forms erased
-script_stays ns (Cite by rest) = ap (λ (x : List (List ℕ)). line_of (by_form ns by) ∷ x) (script_stays ns rest)
-script_stays ns (Hence lit cert rest) =
-    ap (λ (x : List (List ℕ)). line_of (hence_form ns lit) ∷ x) (certified_stay ns (option_to_list cert) (script_lines ns rest) ∙ script_stays ns rest)
-script_stays ns (Make form names cs rest) =
+script_stays known ns (Cite by rest) = ap (λ (x : List (List ℕ)). line_of (by_form ns by) ∷ x) (script_stays known ns rest)
+script_stays known ns (Hence lit cert rest) =
+    ap (λ (x : List (List ℕ)). line_of (hence_form ns lit) ∷ x) (certified_stay ns (option_to_list cert) (script_lines known ns rest) ∙ script_stays known ns rest)
+script_stays known ns (Make form names cs rest) =
     let after = named ns (made form) names in
-    ap (λ (x : List (List ℕ)). line_of (let_form ns form names) ∷ x) (certified_stay ns cs (script_lines after rest) ∙ script_stays after rest)
-script_stays ns (Claim shown inner rest) =
+    ap (λ (x : List (List ℕ)). line_of (let_form ns form names) ∷ x) (certified_stay ns cs (script_lines known after rest) ∙ script_stays known after rest)
+script_stays known ns (Apply theorem args names cs rest) =
+    let after = named ns (theorem_of known theorem).made names in
+    ap (λ (x : List (List ℕ)). line_of (apply_form known ns theorem args names) ∷ x) (certified_stay ns cs (script_lines known after rest) ∙ script_stays known after rest)
+script_stays known ns (Claim shown inner rest) =
     ap (λ (x : List (List ℕ)). line_of (claim_form ns shown) ∷ x)
-    (both_stay (script_lines ns inner) (script_lines ns rest) (script_forms ns (erased inner)) (script_forms ns (erased rest)) (script_stays ns inner) (script_stays ns rest))
-script_stays ns (Superposed form names shown cs inner rest) =
+    (both_stay (script_lines known ns inner) (script_lines known ns rest) (script_forms known ns (erased inner)) (script_forms known ns (erased rest)) (script_stays known ns inner) (script_stays known ns rest))
+script_stays known ns (Superposed form names shown cs inner rest) =
     let inside = named ns superposing.made names in
     ap (λ (x : List (List ℕ)). line_of (superpose_form ns form names shown) ∷ x)
-    (certified_stay ns cs (script_lines inside inner ++ script_lines ns rest)
-    ∙ both_stay (script_lines inside inner) (script_lines ns rest) (script_forms inside (erased inner)) (script_forms ns (erased rest)) (script_stays inside inner) (script_stays ns rest))
-script_stays ns (Qed objects cs) = ap (λ (x : List (List ℕ)). line_of (qed_form ns objects) ∷ x) (certs_go ns cs)
-script_stays ns (Contradiction a) = ap (λ (x : List (List ℕ)). line_of contradiction_form ∷ x) (contradiction_goes ns a)
-script_stays ns (Cases lit first second) =
+    (certified_stay ns cs (script_lines known inside inner ++ script_lines known ns rest)
+    ∙ both_stay (script_lines known inside inner) (script_lines known ns rest) (script_forms known inside (erased inner)) (script_forms known ns (erased rest)) (script_stays known inside inner) (script_stays known ns rest))
+script_stays known ns (Qed objects cs) = ap (λ (x : List (List ℕ)). line_of (qed_form ns objects) ∷ x) (certs_go ns cs)
+script_stays known ns (Contradiction a) = ap (λ (x : List (List ℕ)). line_of contradiction_form ∷ x) (contradiction_goes ns a)
+script_stays known ns (Cases lit first second) =
     ap (λ (x : List (List ℕ)). line_of (cases_form ns lit) ∷ x)
-    (both_stay (script_lines ns first) (line_of else_form ∷ script_lines ns second) (script_forms ns (erased first)) (else_form ∷ script_forms ns (erased second)) (script_stays ns first)
-    (ap (λ (x : List (List ℕ)). line_of else_form ∷ x) (script_stays ns second)))
+    (both_stay (script_lines known ns first) (line_of else_form ∷ script_lines known ns second) (script_forms known ns (erased first)) (else_form ∷ script_forms known ns (erased second)) (script_stays known ns first)
+    (ap (λ (x : List (List ℕ)). line_of else_form ∷ x) (script_stays known ns second)))
 
-pub plain_lines : (t : Entry) (d : Script) → erased d ≡ t.script → filter is_plain (spelled_lines t d) ≡ map line_of (forms_of t)
-plain_lines t d e =
+pub plain_lines : (known : List Headed) (t : Entry) (d : Script) → erased d ≡ filled_by t.script d → filter is_plain (spelled_lines known t d) ≡ map line_of (forms_of known (filled_entry t d))
+plain_lines known t d e =
     let end = line_of end_form ∷ [] in
-    filter-append is_plain (map line_of (head_forms t)) (script_lines (names_of_proof t) d ++ end)
-    ∙ ap (λ (x : List (List ℕ)). x ++ filter is_plain (script_lines (names_of_proof t) d ++ end)) (forms_stay (head_forms t))
+    let ns = names_of_proof t in
+    let script = filled_by t.script d in
+    filter-append is_plain (map line_of (head_forms t)) (script_lines known ns d ++ end)
+    ∙ ap (λ (x : List (List ℕ)). x ++ filter is_plain (script_lines known ns d ++ end)) (forms_stay (head_forms t))
     ∙ ap (λ (x : List (List ℕ)). map line_of (head_forms t) ++ x)
-    (filter-append is_plain (script_lines (names_of_proof t) d) end ∙ ap (λ (x : List (List ℕ)). x ++ end) (script_stays (names_of_proof t) d ∙ ap (λ (s : Script). map line_of (script_forms (names_of_proof t) s)) e) ∙ sym (lines_append (script_forms (names_of_proof t) t.script) (end_form ∷ [])))
-    ∙ sym (lines_append (head_forms t) (script_forms (names_of_proof t) t.script ++ end_form ∷ []))
+    (filter-append is_plain (script_lines known ns d) end ∙ ap (λ (x : List (List ℕ)). x ++ end) (script_stays known ns d ∙ ap (λ (s : Script). map line_of (script_forms known ns s)) e) ∙ sym (lines_append (script_forms known ns script) (end_form ∷ [])))
+    ∙ sym (lines_append (head_forms t) (script_forms known ns script ++ end_form ∷ []))

@@ -13,13 +13,14 @@ use Rattle.e_deriv.specs.declared.names.Names.{Names}
 use Rattle.e_deriv.specs.Naming.{named}
 use Rattle.e_deriv.specs.declared.block.Step.{Step}
 use Rattle.e_deriv.specs.Script.{Script, Qed, Contradiction, Cases, steps_script}
-use Rattle.e_deriv.specs.PlainStep.{PlainStep, Cited, Inferred, Made, Claimed, Copied, plain_step, before}
+use Rattle.e_deriv.specs.PlainStep.{PlainStep, Cited, Inferred, Made, Applied, Claimed, Copied, plain_step, before}
 use Rattle.e_deriv.proofs.Scripts.{scripts, plain_steps, step_script-plain}
 use Rattle.e_text.specs.Tokens.{spaced}
+use Rattle.e_book.specs.Headed.{Headed, theorem_of}
 use Rattle.e_book.specs.Canonical.{name_of_object, text_of}
 use Rattle.e_spell.specs.Certificates.{certs_lines}
 use Rattle.e_spell.specs.Spelling.{script_lines}
-use Rattle.e_spell.specs.Parts.{lit_text, certs_text, construction_words, claim_text, superposition_words, superposition_text, script_text, step_text, steps_text, names_behind, names_after, qed_text, contradicted_text, split_text}
+use Rattle.e_spell.specs.Parts.{lit_text, certs_text, construction_words, application_text, claim_text, superposition_words, superposition_text, script_text, step_text, steps_text, names_behind, names_after, qed_text, contradicted_text, split_text}
 use Rattle.e_spell.proofs.CertTexts.{of_certs, of_contradiction}
 
 pub of_lines : (xs ys : List (List ℕ)) → text_of (xs ++ ys) ≡ text_of xs ++ text_of ys
@@ -32,36 +33,41 @@ of_certified ns cs rest = of_lines (certs_lines ns cs) rest ∙ ap (λ (t : List
 
 -- ---- steps
 
-before_text : (ns : Names) (s : PlainStep) (rest : Script) → script_text ns (before s rest) ≡ step_text ns s ++ script_text (names_behind ns s) rest
+before_text : (known : List Headed) (ns : Names) (s : PlainStep) (rest : Script) → script_text known ns (before s rest) ≡ step_text known ns s ++ script_text known (names_behind known ns s) rest
 unfolding script_text script_lines superposition_words
-before_text ns (Cited by) rest = refl
-before_text ns (Inferred lit cert) rest =
-    ap (λ (t : List ℕ). lit_text (codes "hence") ns lit ++ t) (of_certified ns (option_to_list cert) (script_lines ns rest))
-    ∙ sym (append_assoc (lit_text (codes "hence") ns lit) (certs_text ns (option_to_list cert)) (text_of (script_lines ns rest)))
-before_text ns (Made form names certs) rest =
+before_text known ns (Cited by) rest = refl
+before_text known ns (Inferred lit cert) rest =
+    ap (λ (t : List ℕ). lit_text (codes "hence") ns lit ++ t) (of_certified ns (option_to_list cert) (script_lines known ns rest))
+    ∙ sym (append_assoc (lit_text (codes "hence") ns lit) (certs_text ns (option_to_list cert)) (text_of (script_lines known ns rest)))
+before_text known ns (Made form names certs) rest =
     let words = spaced (construction_words ns form names) ++ 10 ∷ [] in
-    let after = script_lines (named ns (made form) names) rest in
+    let after = script_lines known (named ns (made form) names) rest in
     ap (λ (t : List ℕ). codes "let" ++ (words ++ t)) (of_certified ns certs after)
     ∙ ap (λ (t : List ℕ). codes "let" ++ t) (sym (append_assoc words (certs_text ns certs) (text_of after)))
-before_text ns (Claimed shown inner) rest =
-    let inside = script_lines ns inner in
-    let after = script_lines ns rest in
+before_text known ns (Applied theorem args names certs) rest =
+    let line = application_text known ns theorem args names in
+    let after = script_lines known (named ns (theorem_of known theorem).made names) rest in
+    ap (λ (t : List ℕ). line ++ t) (of_certified ns certs after) ∙ sym (append_assoc line (certs_text ns certs) (text_of after))
+before_text known ns (Claimed shown inner) rest =
+    let inside = script_lines known ns inner in
+    let after = script_lines known ns rest in
     ap (λ (t : List ℕ). claim_text ns shown ++ t) (of_lines inside after)
     ∙ sym (append_assoc (claim_text ns shown) (text_of inside) (text_of after))
-before_text ns (Copied form names shown certs inner) rest =
+before_text known ns (Copied form names shown certs inner) rest =
     let line = superposition_text ns form names shown in
-    let inside = script_lines (named ns superposing.made names) inner in
-    let after = script_lines ns rest in
+    let inside = script_lines known (named ns superposing.made names) inner in
+    let after = script_lines known ns rest in
     ap (λ (t : List ℕ). line ++ t) (of_certified ns certs (inside ++ after) ∙ ap (λ (t : List ℕ). certs_text ns certs ++ t) (of_lines inside after) ∙ sym (append_assoc (certs_text ns certs) (text_of inside) (text_of after)))
     ∙ sym (append_assoc line (certs_text ns certs ++ text_of inside) (text_of after))
 
-pub of_steps : (ns : Names) (ss : List Step) (rest : Script) → script_text ns (steps_script ss rest) ≡ steps_text ns (map plain_step ss) ++ script_text (names_after ns (map plain_step ss)) rest
-of_steps ns [] rest = refl
-of_steps ns (s ∷ ss) rest =
-    let behind = names_behind ns (plain_step s) in
-    ap (script_text ns) (step_script-plain s (steps_script ss rest)) ∙ before_text ns (plain_step s) (steps_script ss rest)
-    ∙ ap (λ (t : List ℕ). step_text ns (plain_step s) ++ t) (of_steps behind ss rest)
-    ∙ sym (append_assoc (step_text ns (plain_step s)) (steps_text behind (map plain_step ss)) (script_text (names_after behind (map plain_step ss)) rest))
+pub of_steps : (known : List Headed) (ns : Names) (ss : List Step) (rest : Script)
+    → script_text known ns (steps_script ss rest) ≡ steps_text known ns (map plain_step ss) ++ script_text known (names_after known ns (map plain_step ss)) rest
+of_steps known ns [] rest = refl
+of_steps known ns (s ∷ ss) rest =
+    let behind = names_behind known ns (plain_step s) in
+    ap (script_text known ns) (step_script-plain s (steps_script ss rest)) ∙ before_text known ns (plain_step s) (steps_script ss rest)
+    ∙ ap (λ (t : List ℕ). step_text known ns (plain_step s) ++ t) (of_steps known behind ss rest)
+    ∙ sym (append_assoc (step_text known ns (plain_step s)) (steps_text known behind (map plain_step ss)) (script_text known (names_after known behind (map plain_step ss)) rest))
 
 pub ruleset plain = (common_steps, plain_steps)
 
@@ -69,17 +75,17 @@ pub ruleset blocks = (common_steps, of_steps)
 
 -- ---- closes
 
-pub script_text-Qed : (ns : Names) (objects : List Obj) (cs : List Cert) → script_text ns (Qed objects cs) ≡ qed_text ns objects cs
+pub script_text-Qed : (known : List Headed) (ns : Names) (objects : List Obj) (cs : List Cert) → script_text known ns (Qed objects cs) ≡ qed_text ns objects cs
 unfolding script_text script_lines
-script_text-Qed ns objects cs = ap (λ (t : List ℕ). codes "qed" ++ ((spaced (map (name_of_object ns) objects) ++ 10 ∷ []) ++ t)) (of_certs ns cs)
+script_text-Qed known ns objects cs = ap (λ (t : List ℕ). codes "qed" ++ ((spaced (map (name_of_object ns) objects) ++ 10 ∷ []) ++ t)) (of_certs ns cs)
 
-pub script_text-Contradiction : (ns : Names) (against : Option Against) → script_text ns (Contradiction against) ≡ contradicted_text ns against
+pub script_text-Contradiction : (known : List Headed) (ns : Names) (against : Option Against) → script_text known ns (Contradiction against) ≡ contradicted_text ns against
 unfolding script_text script_lines
-script_text-Contradiction ns against = ap (λ (t : List ℕ). codes "contradiction" ++ (10 ∷ t)) (of_contradiction ns against)
+script_text-Contradiction known ns against = ap (λ (t : List ℕ). codes "contradiction" ++ (10 ∷ t)) (of_contradiction ns against)
 
-pub script_text-Cases : (ns : Names) (lit : Lit) (first second : Script) → script_text ns (Cases lit first second) ≡ split_text ns lit first second
+pub script_text-Cases : (known : List Headed) (ns : Names) (lit : Lit) (first second : Script) → script_text known ns (Cases lit first second) ≡ split_text known ns lit first second
 unfolding script_text script_lines
-script_text-Cases ns lit first second =
-    ap (λ (t : List ℕ). lit_text (codes "cases") ns lit ++ t) (of_lines (script_lines ns first) ((codes "else") ∷ script_lines ns second))
+script_text-Cases known ns lit first second =
+    ap (λ (t : List ℕ). lit_text (codes "cases") ns lit ++ t) (of_lines (script_lines known ns first) ((codes "else") ∷ script_lines known ns second))
 
 pub ruleset closes = (common_steps, scripts, script_text-Qed, script_text-Contradiction, script_text-Cases)

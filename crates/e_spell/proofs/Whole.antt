@@ -8,6 +8,7 @@ use Rattle.e_deriv.specs.Script.{Script}
 use Rattle.e_theorem.specs.declared.statement.Statement.{Statement}
 use Rattle.e_book.specs.declared.form.Form.{Form}
 use Rattle.e_book.specs.declared.form.Form.TheVariants as forms
+use Rattle.e_book.specs.Headed.{Headed}
 use Rattle.e_book.specs.Entry.{Entry}
 use Rattle.e_text.specs.Tokens.{spaced}
 use Rattle.e_book.specs.Canonical.{line_of, lit_words, raw_of, given_form, show_form, grouped, declare_form, made_form, declared_objects, made_objects, given_forms, shown_forms, head_forms, names_of_proof, end_form, text_of}
@@ -63,11 +64,11 @@ of_head t =
     ap (λ (x : List ℕ). x ++ (statement_text t.names t.statement ++ (codes "proof" ++ 10 ∷ []))) (title_line t.title)
     ∙ ap (λ (x : List ℕ). (line_of (forms.Theorem t.title) ++ 10 ∷ []) ++ x) (of_statement t.names t.statement)
 
-of_proof : (ns : Names) (d : Script) → proof_text ns d ≡ text_of (script_lines ns d ++ line_of end_form ∷ [])
+of_proof : (known : List Headed) (ns : Names) (d : Script) → proof_text known ns d ≡ text_of (script_lines known ns d ++ line_of end_form ∷ [])
 unfolding script_text
-of_proof ns d = sym (of_lines (script_lines ns d) (line_of end_form ∷ []))
+of_proof known ns d = sym (of_lines (script_lines known ns d) (line_of end_form ∷ []))
 
-pub spelled_parts : (t : Entry) (d : Script) → theorem_text t d ≡ spelled t d
-spelled_parts t d =
-    ap (λ (x : List ℕ). x ++ proof_text (names_of_proof t) d) (of_head t) ∙ ap (λ (x : List ℕ). text (head_forms t) ++ x) (of_proof (names_of_proof t) d)
-    ∙ sym (of_lines (map line_of (head_forms t)) (script_lines (names_of_proof t) d ++ line_of end_form ∷ []))
+pub spelled_parts : (known : List Headed) (t : Entry) (d : Script) → theorem_text known t d ≡ spelled known t d
+spelled_parts known t d =
+    ap (λ (x : List ℕ). x ++ proof_text known (names_of_proof t) d) (of_head t) ∙ ap (λ (x : List ℕ). text (head_forms t) ++ x) (of_proof known (names_of_proof t) d)
+    ∙ sym (of_lines (map line_of (head_forms t)) (script_lines known (names_of_proof t) d ++ line_of end_form ∷ []))

@@ -28,13 +28,14 @@ use Rattle.e_clause.specs.declared.cert.Cert.TheVariants.{Plain, Transfer}
 use Rattle.e_deriv.specs.declared.names.Names.{Names}
 use Rattle.e_deriv.specs.Naming.{named}
 use Rattle.e_deriv.specs.Script.{Script}
-use Rattle.e_deriv.specs.PlainStep.{PlainStep, Cited, Inferred, Made as MadeStep, Claimed, Copied}
+use Rattle.e_deriv.specs.PlainStep.{PlainStep, Cited, Inferred, Made as MadeStep, Applied, Claimed, Copied}
 use Rattle.e_deriv.specs.declared.stop.Wanted.{Wanted}
 use Rattle.e_theorem.specs.declared.statement.Statement.{Statement}
+use Rattle.e_book.specs.Headed.{Headed, title_at, theorem_of}
 use Rattle.e_book.specs.Entry.{Entry}
 use Rattle.e_book.specs.Superposes.{superpose_pieces}
 use Rattle.e_text.specs.Tokens.{spaced}
-use Rattle.e_book.specs.Canonical.{lit_words, lits_words, filled, avoid_words, raw_of, rule_name, name_of_object, placed_names, sort_word, declared_objects, made_objects, names_of_proof, text_of}
+use Rattle.e_book.specs.Canonical.{lit_words, lits_words, filled, avoid_words, argument_name, argument_word, made_words, raw_of, rule_name, name_of_object, placed_names, sort_word, declared_objects, made_objects, names_of_proof, text_of}
 use Rattle.e_spell.specs.declared.declarations.Role.{Role}
 use Rattle.e_spell.specs.declared.declarations.Role.TheVariants.{Declared, Made}
 use Rattle.e_spell.specs.Certificates.{named_term, row_words}
@@ -109,6 +110,14 @@ abbrev pub construction_words : Names → Construction → List (List ℕ) → L
 construction_words ns form names =
     filled (pieces form.shape) names (map (name_of_object ns) form.args) ++ avoid_words (map (name_of_object ns) form.avoid)
 
+-- the use of an earlier theorem behind the first word of its line
+abbrev pub application_words : List Headed → Names → ℕ → List (Option Obj) → List (List ℕ) → List (List ℕ)
+application_words known ns theorem args names =
+    title_at known theorem ∷ (map argument_word (map (argument_name ns) args) ++ made_words names)
+
+abbrev pub application_text : List Headed → Names → ℕ → List (Option Obj) → List (List ℕ) → List ℕ
+application_text known ns theorem args names = codes "apply" ++ (spaced (application_words known ns theorem args names) ++ 10 ∷ [])
+
 -- literals with a semicolon between two
 abbrev pub list_words : Names → List Lit → List (List ℕ)
 list_words ns ls = lits_words (map (raw_of ns) ls)
@@ -124,34 +133,36 @@ abbrev pub superposition_text : Names → Superpose → List (List ℕ) → List
 superposition_text ns form names shown = codes "superpose" ++ (spaced (superposition_words ns form names shown) ++ 10 ∷ [])
 
 -- the lines of a script with its certificates
-unfoldable pub script_text : Names → Script → List ℕ
-script_text ns d = text_of (script_lines ns d)
+unfoldable pub script_text : List Headed → Names → Script → List ℕ
+script_text known ns d = text_of (script_lines known ns d)
 
 -- a step with its certificates, and the block inside it
-abbrev pub step_text : Names → PlainStep → List ℕ
-step_text ns (Cited by) = codes "by" ++ (spaced (citation_words ns by) ++ 10 ∷ [])
-step_text ns (Inferred lit cert) = lit_text (codes "hence") ns lit ++ certs_text ns (option_to_list cert)
-step_text ns (MadeStep form names certs) = codes "let" ++ ((spaced (construction_words ns form names) ++ 10 ∷ []) ++ certs_text ns certs)
-step_text ns (Claimed shown inner) = claim_text ns shown ++ script_text ns inner
-step_text ns (Copied form names shown certs inner) =
-    superposition_text ns form names shown ++ (certs_text ns certs ++ script_text (named ns superposing.made names) inner)
+abbrev pub step_text : List Headed → Names → PlainStep → List ℕ
+step_text known ns (Cited by) = codes "by" ++ (spaced (citation_words ns by) ++ 10 ∷ [])
+step_text known ns (Inferred lit cert) = lit_text (codes "hence") ns lit ++ certs_text ns (option_to_list cert)
+step_text known ns (MadeStep form names certs) = codes "let" ++ ((spaced (construction_words ns form names) ++ 10 ∷ []) ++ certs_text ns certs)
+step_text known ns (Applied theorem args names certs) = application_text known ns theorem args names ++ certs_text ns certs
+step_text known ns (Claimed shown inner) = claim_text ns shown ++ script_text known ns inner
+step_text known ns (Copied form names shown certs inner) =
+    superposition_text ns form names shown ++ (certs_text ns certs ++ script_text known (named ns superposing.made names) inner)
 
 -- the names in scope behind a step: those of an inner block are gone
-abbrev pub names_behind : Names → PlainStep → Names
-names_behind ns (Cited by) = ns
-names_behind ns (Inferred lit cert) = ns
-names_behind ns (MadeStep form names certs) = named ns (made form) names
-names_behind ns (Claimed shown inner) = ns
-names_behind ns (Copied form names shown certs inner) = ns
+abbrev pub names_behind : List Headed → Names → PlainStep → Names
+names_behind known ns (Cited by) = ns
+names_behind known ns (Inferred lit cert) = ns
+names_behind known ns (MadeStep form names certs) = named ns (made form) names
+names_behind known ns (Applied theorem args names certs) = named ns (theorem_of known theorem).made names
+names_behind known ns (Claimed shown inner) = ns
+names_behind known ns (Copied form names shown certs inner) = ns
 
 -- and behind several
-abbrev pub names_after : Names → List PlainStep → Names
-names_after ns [] = ns
-names_after ns (s ∷ steps) = names_after (names_behind ns s) steps
+abbrev pub names_after : List Headed → Names → List PlainStep → Names
+names_after known ns [] = ns
+names_after known ns (s ∷ steps) = names_after known (names_behind known ns s) steps
 
-abbrev pub steps_text : Names → List PlainStep → List ℕ
-steps_text ns [] = []
-steps_text ns (s ∷ steps) = step_text ns s ++ steps_text (names_behind ns s) steps
+abbrev pub steps_text : List Headed → Names → List PlainStep → List ℕ
+steps_text known ns [] = []
+steps_text known ns (s ∷ steps) = step_text known ns s ++ steps_text known (names_behind known ns s) steps
 
 abbrev pub qed_text : Names → List Obj → List Cert → List ℕ
 qed_text ns objects cs = codes "qed" ++ ((spaced (map (name_of_object ns) objects) ++ 10 ∷ []) ++ certs_text ns cs)
@@ -163,11 +174,11 @@ abbrev pub else_text : List ℕ
 else_text = codes "else" ++ 10 ∷ []
 
 -- two blocks behind the line of a split
-abbrev pub split_text : Names → Lit → Script → Script → List ℕ
-split_text ns lit first second = lit_text (codes "cases") ns lit ++ (script_text ns first ++ (else_text ++ script_text ns second))
+abbrev pub split_text : List Headed → Names → Lit → Script → Script → List ℕ
+split_text known ns lit first second = lit_text (codes "cases") ns lit ++ (script_text known ns first ++ (else_text ++ script_text known ns second))
 
-abbrev pub proof_text : Names → Script → List ℕ
-proof_text ns d = script_text ns d ++ (codes "end" ++ 10 ∷ [])
+abbrev pub proof_text : List Headed → Names → Script → List ℕ
+proof_text known ns d = script_text known ns d ++ (codes "end" ++ 10 ∷ [])
 
 -- the first words of a line of objects
 abbrev pub role_words : Role → Sort → List ℕ
@@ -204,8 +215,8 @@ abbrev pub head_text : List ℕ → Names → Statement → List ℕ
 head_text title ns t = title_text title ++ (statement_text ns t ++ (codes "proof" ++ 10 ∷ []))
 
 -- the spelling in its parts
-abbrev pub theorem_text : Entry → Script → List ℕ
-theorem_text t d = head_text t.title t.names t.statement ++ proof_text (names_of_proof t) d
+abbrev pub theorem_text : List Headed → Entry → Script → List ℕ
+theorem_text known t d = head_text t.title t.names t.statement ++ proof_text known (names_of_proof t) d
 
 -- ---- the last lines of a stop
 

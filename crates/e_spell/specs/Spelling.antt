@@ -5,42 +5,49 @@ use Rattle.std.specs.Fmt.{decimal}
 use Rattle.e_literal.specs.declared.object.Term.{Term}
 use Rattle.e_deriv.specs.declared.names.Names.{Names}
 use Rattle.e_deriv.specs.declared.stop.Wanted.{Wanted}
-use Rattle.e_deriv.specs.declared.stop.Wanted.TheVariants.{Literal, Contradiction as AContradiction}
+use Rattle.e_deriv.specs.declared.stop.Wanted.TheVariants.{Literal, Match, Contradiction as AContradiction}
 use Rattle.e_deriv.specs.declared.stop.Stop.{Stop}
 use Rattle.e_deriv.specs.declared.stop.Stop.TheVariants.{Unlicensed, TooWide, NoMemory}
 use Rattle.e_construct.specs.Construct.{made}
 use Rattle.e_construct.specs.Superposing as superposing
 use Rattle.e_deriv.specs.Naming.{named}
-use Rattle.e_deriv.specs.Script.{Script, Cite, Hence, Make, Claim, Superposed, Qed, Contradiction, Cases}
+use Rattle.e_deriv.specs.Script.{Script, Cite, Hence, Make, Apply, Claim, Superposed, Qed, Contradiction, Cases}
+use Rattle.e_book.specs.Headed.{Headed, theorem_of}
 use Rattle.e_book.specs.Entry.{Entry}
 use Rattle.e_text.specs.Tokens.{joined}
-use Rattle.e_book.specs.Canonical.{line_of, lit_words, raw_of, by_form, hence_form, let_form, claim_form, superpose_form, qed_form, contradiction_form, cases_form, else_form, end_form, head_forms, names_of_proof, text_of}
+use Rattle.e_book.specs.Canonical.{line_of, lit_words, raw_of, by_form, hence_form, let_form, apply_form, claim_form, superpose_form, qed_form, contradiction_form, cases_form, else_form, end_form, head_forms, names_of_proof, text_of}
 use Rattle.e_spell.specs.Certificates.{named_term, certs_lines, contradiction_lines}
 
 -- each line of a derivation, and below it one certificate for each literal that it needs, or that of a contradiction, where
--- these names are in scope before the first: those of new objects come into scope behind the certificates of the line that
--- makes them, and those of an inner block are gone behind it
-unfoldable pub script_lines : Names → Script → List (List ℕ)
-script_lines ns (Cite by rest) = line_of (by_form ns by) ∷ script_lines ns rest
-script_lines ns (Hence lit cert rest) = line_of (hence_form ns lit) ∷ (certs_lines ns (option_to_list cert) ++ script_lines ns rest)
-script_lines ns (Make form names certs rest) = line_of (let_form ns form names) ∷ (certs_lines ns certs ++ script_lines (named ns (made form) names) rest)
-script_lines ns (Claim shown inner rest) = line_of (claim_form ns shown) ∷ (script_lines ns inner ++ script_lines ns rest)
-script_lines ns (Superposed form names shown certs inner rest) =
-    line_of (superpose_form ns form names shown) ∷ (certs_lines ns certs ++ (script_lines (named ns superposing.made names) inner ++ script_lines ns rest))
-script_lines ns (Qed objects certs) = line_of (qed_form ns objects) ∷ certs_lines ns certs
-script_lines ns (Contradiction against) = line_of contradiction_form ∷ contradiction_lines ns against
-script_lines ns (Cases lit first second) = line_of (cases_form ns lit) ∷ (script_lines ns first ++ line_of else_form ∷ script_lines ns second)
+-- these theorems are known and these names are in scope before the first: those of new objects come into scope behind the
+-- certificates of the line that makes them, and those of an inner block are gone behind it
+unfoldable pub script_lines : List Headed → Names → Script → List (List ℕ)
+script_lines known ns (Cite by rest) = line_of (by_form ns by) ∷ script_lines known ns rest
+script_lines known ns (Hence lit cert rest) = line_of (hence_form ns lit) ∷ (certs_lines ns (option_to_list cert) ++ script_lines known ns rest)
+script_lines known ns (Make form names certs rest) =
+    line_of (let_form ns form names) ∷ (certs_lines ns certs ++ script_lines known (named ns (made form) names) rest)
+script_lines known ns (Apply theorem args names certs rest) =
+    line_of (apply_form known ns theorem args names) ∷ (certs_lines ns certs ++ script_lines known (named ns (theorem_of known theorem).made names) rest)
+script_lines known ns (Claim shown inner rest) = line_of (claim_form ns shown) ∷ (script_lines known ns inner ++ script_lines known ns rest)
+script_lines known ns (Superposed form names shown certs inner rest) =
+    line_of (superpose_form ns form names shown)
+    ∷ (certs_lines ns certs ++ (script_lines known (named ns superposing.made names) inner ++ script_lines known ns rest))
+script_lines known ns (Qed objects certs) = line_of (qed_form ns objects) ∷ certs_lines ns certs
+script_lines known ns (Contradiction against) = line_of contradiction_form ∷ contradiction_lines ns against
+script_lines known ns (Cases lit first second) =
+    line_of (cases_form ns lit) ∷ (script_lines known ns first ++ line_of else_form ∷ script_lines known ns second)
 
--- the lines of a theorem with its derivation, in order
-abbrev pub spelled_lines : Entry → Script → List (List ℕ)
-spelled_lines t d = map line_of (head_forms t) ++ (script_lines (names_of_proof t) d ++ line_of end_form ∷ [])
+-- the lines of a theorem behind those that are known, with its derivation, in order
+abbrev pub spelled_lines : List Headed → Entry → Script → List (List ℕ)
+spelled_lines known t d = map line_of (head_forms t) ++ (script_lines known (names_of_proof t) d ++ line_of end_form ∷ [])
 
-abbrev pub spelled : Entry → Script → List ℕ
-spelled t d = text_of (spelled_lines t d)
+abbrev pub spelled : List Headed → Entry → Script → List ℕ
+spelled known t d = text_of (spelled_lines known t d)
 
 -- what a line lacks
 abbrev pub wanted_words : Names → Wanted → List (List ℕ)
 wanted_words ns (Literal l) = lit_words (raw_of ns l)
+wanted_words ns Match = codes "match" ∷ []
 wanted_words ns AContradiction = codes "contradiction" ∷ []
 
 -- ---- the last lines of a stop

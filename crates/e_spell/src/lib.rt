@@ -1,6 +1,7 @@
 //! The one spelling of a derivation: each line of a theorem with the certificates that it needs.
 #![tactic(auto)]
 
+mod applications;
 mod certificates;
 mod constructions;
 mod declarations;
@@ -18,6 +19,3 @@ mod writer;
 pub use laws::lines_are_the_theorem;
 pub use stops::spell_stop;
 pub use writer::spell;
-
-#[cfg(test)]
-mod tests;

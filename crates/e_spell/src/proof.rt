@@ -4,14 +4,16 @@ ghost use Rattle.e_text.specs.Tokens.{spaced};
 ghost use Rattle.e_deriv.specs.PlainStep.{plain_step};
 ghost use Rattle.e_deriv.specs.Script.{script_of, close_script};
 ghost use Rattle.e_book.specs.Canonical.{name_of_object};
-ghost use Rattle.e_spell.specs.Parts.{citation_words, construction_words, certs_text, claim_text, superposition_text, step_text, steps_text, names_after, script_text, contradicted_text, proof_text};
+ghost use Rattle.e_spell.specs.Parts.{citation_words, construction_words, application_text, certs_text, claim_text, superposition_text, step_text, steps_text, names_after, script_text, contradicted_text, proof_text};
 
+use crate::applications::put_apply;
 use crate::certificates::{put_against_of, put_cert_of, put_certs};
 use crate::constructions::{put_let, put_superpose};
 use crate::literals::{put_literal, put_literal_line, put_literals, put_objects};
 use crate::rules::put_rule;
 use crate::scope::{name_new, with_copies};
 use crate::words::{end_line, put, put_line};
+use e_book::Known;
 use e_clause::{Against, By, Cert};
 use e_construct::{Construction, Superpose};
 use e_deriv::{Block, Close, Names, Step};
@@ -52,6 +54,22 @@ fn put_made(
     put_certs(out, names, certs)
 }
 
+/// The use of an earlier theorem, and a certificate for each literal that it needs, with the names in scope before it.
+fn put_applied(
+    out: &mut Vec<u8>,
+    known: &Known,
+    names: &Names,
+    theorem: u32,
+    args: &[Option<Obj>],
+    new: &[Name],
+    certs: &[Cert],
+) -> Result<(), AllocError>
+    ensures { OnOk result (out.new.items ≡ out.old.items ++ (application_text known.now names.now theorem args.now new.now ++ certs_text names.now certs.now)) }
+{
+    put_apply(out, known, names, theorem, args, new)?;
+    put_certs(out, names, certs)
+}
+
 /// The line of a claim.
 fn put_claim(out: &mut Vec<u8>, names: &Names, shown: &[Lit]) -> Result<(), AllocError>
     ensures { OnOk result (out.new.items ≡ out.old.items ++ claim_text names.now shown.now) }
@@ -80,8 +98,14 @@ fn put_superposed(
 /// points.
 #[cycle(put_block)]
 #[tactic(auto, using(crate::proofs::ScriptTexts::plain))]
-fn put_step(alloc: Global, out: &mut Vec<u8>, names: &Names, step: &Step) -> Result<(), AllocError>
-    ensures { OnOk result (out.new.items ≡ out.old.items ++ step_text names.now (plain_step step.now)) }
+fn put_step(
+    alloc: Global,
+    out: &mut Vec<u8>,
+    known: &Known,
+    names: &Names,
+    step: &Step,
+) -> Result<(), AllocError>
+    ensures { OnOk result (out.new.items ≡ out.old.items ++ step_text known.now names.now (plain_step step.now)) }
 {
     match step {
         Step::Cite(by) => put_by(out, names, by),
@@ -94,10 +118,24 @@ fn put_step(alloc: Global, out: &mut Vec<u8>, names: &Names, step: &Step) -> Res
             names: new,
             certs,
         } => put_made(out, names, form, new.items(), certs.items()),
+        Step::Apply {
+            theorem,
+            args,
+            names: new,
+            certs,
+        } => put_applied(
+            out,
+            known,
+            names,
+            *theorem,
+            args.items(),
+            new.items(),
+            certs.items(),
+        ),
         Step::Claim { shown, inner } => {
             put_claim(out, names, shown.items())?;
             let inside = names.copy(alloc)?;
-            put_block(alloc, out, inside, inner)
+            put_block(alloc, out, known, inside, inner)
         }
         Step::Superposed {
             form,
@@ -108,7 +146,7 @@ fn put_step(alloc: Global, out: &mut Vec<u8>, names: &Names, step: &Step) -> Res
         } => {
             put_superposed(out, names, *form, new.items(), shown.items(), certs.items())?;
             let inside = with_copies(alloc, names, *form, new.items())?;
-            put_block(alloc, out, inside, inner)
+            put_block(alloc, out, known, inside, inner)
         }
     }
 }
@@ -118,15 +156,16 @@ fn put_step(alloc: Global, out: &mut Vec<u8>, names: &Names, step: &Step) -> Res
 fn put_steps(
     alloc: Global,
     out: &mut Vec<u8>,
+    known: &Known,
     names: &mut Names,
     steps: &[Step],
 ) -> Result<(), AllocError>
-    ensures text { OnOk result (out.new.items ≡ out.old.items ++ steps_text names.old (map plain_step steps.now)) }
-    ensures names { OnOk result (names.new ≡ names_after names.old (map plain_step steps.now)) }
+    ensures text { OnOk result (out.new.items ≡ out.old.items ++ steps_text known.now names.old (map plain_step steps.now)) }
+    ensures names { OnOk result (names.new ≡ names_after known.now names.old (map plain_step steps.now)) }
 {
     for step in steps {
-        put_step(alloc, out, names, step)?;
-        name_new(names, step)?;
+        put_step(alloc, out, known, names, step)?;
+        name_new(known, names, step)?;
     }
     Ok(())
 }
@@ -157,10 +196,11 @@ fn put_contradiction(
 fn put_close(
     alloc: Global,
     out: &mut Vec<u8>,
+    known: &Known,
     names: &Names,
     close: &Close,
 ) -> Result<(), AllocError>
-    ensures { OnOk result (out.new.items ≡ out.old.items ++ script_text names.now (close_script close.now)) }
+    ensures { OnOk result (out.new.items ≡ out.old.items ++ script_text known.now names.now (close_script close.now)) }
 {
     match close {
         Close::Qed { objects, certs } => {
@@ -170,9 +210,9 @@ fn put_close(
         Close::Contradiction { against } => put_contradiction(out, names, against),
         Close::Cases { lit, first, second } => {
             put_literal_line(out, b"cases", names, lit)?;
-            put_block(alloc, out, names.copy(alloc)?, first)?;
+            put_block(alloc, out, known, names.copy(alloc)?, first)?;
             put_line(out, b"else")?;
-            put_block(alloc, out, names.copy(alloc)?, second)
+            put_block(alloc, out, known, names.copy(alloc)?, second)
         }
     }
 }
@@ -183,26 +223,28 @@ fn put_close(
 fn put_block(
     alloc: Global,
     out: &mut Vec<u8>,
+    known: &Known,
     names: Names,
     block: &Block,
 ) -> Result<(), AllocError>
-    ensures { OnOk result (out.new.items ≡ out.old.items ++ script_text names (script_of block.now)) }
+    ensures { OnOk result (out.new.items ≡ out.old.items ++ script_text known.now names (script_of block.now)) }
 {
     let mut names = names;
-    put_steps(alloc, out, &mut names, &block.steps)?;
-    put_close(alloc, out, &names, &block.close)
+    put_steps(alloc, out, known, &mut names, &block.steps)?;
+    put_close(alloc, out, known, &names, &block.close)
 }
 
 /// The lines from behind the word proof to the theorem's end, where these names are in scope before the first.
 pub(crate) fn put_proof(
     alloc: Global,
     out: &mut Vec<u8>,
+    known: &Known,
     names: Names,
     block: &Block,
 ) -> Result<(), AllocError>
-    ensures { OnOk result (out.new.items ≡ out.old.items ++ proof_text names (script_of block.now)) }
+    ensures { OnOk result (out.new.items ≡ out.old.items ++ proof_text known.now names (script_of block.now)) }
 {
-    put_block(alloc, out, names, block)?;
+    put_block(alloc, out, known, names, block)?;
     put_line(out, b"end")?;
     Ok(())
 }

@@ -3,10 +3,12 @@ ghost use Rattle.std.specs.Prelude.{◌≡◌, take, IfOk, OnOk};
 ghost use Rattle.e_construct.specs.Superposing.{made};
 ghost use Rattle.e_deriv.specs.Naming.{first_names, named};
 ghost use Rattle.e_deriv.specs.PlainStep.{plain_step};
+ghost use Rattle.e_book.specs.Headed.{theorem_of};
 ghost use Rattle.e_spell.specs.Counts.{scope_of_counts};
 ghost use Rattle.e_spell.specs.Parts.{names_behind};
 
 use crate::declarations::Counts;
+use e_book::Known;
 use e_construct::Superpose;
 use e_deriv::{Names, Step};
 use e_literal::{Items, Sort};
@@ -55,10 +57,27 @@ pub(crate) fn with_copies(
     Ok(inside)
 }
 
+/// The names of the made objects of an earlier theorem come into scope.
+#[tactic(auto, using(crate::proofs::Applied::made_past))]
+fn name_shown(
+    known: &Known,
+    names: &mut Names,
+    place: usize,
+    new: &[Name],
+) -> Result<(), AllocError>
+    ensures { OnOk result (names.new ≡ named names.old (theorem_of known.now place).made new.now) }
+{
+    if place < known.len() {
+        name_all(names, known.statement(place).made.items(), new)
+    } else {
+        Ok(())
+    }
+}
+
 /// The names of the objects that a step makes come into scope. Those of the block inside it are gone behind it.
 #[tactic(auto, using(crate::proofs::ScriptTexts::plain))]
-pub(crate) fn name_new(names: &mut Names, step: &Step) -> Result<(), AllocError>
-    ensures { OnOk result (names.new ≡ names_behind names.old (plain_step step.now)) }
+pub(crate) fn name_new(known: &Known, names: &mut Names, step: &Step) -> Result<(), AllocError>
+    ensures { OnOk result (names.new ≡ names_behind known.now names.old (plain_step step.now)) }
 {
     match step {
         Step::Cite(_) | Step::Hence { .. } | Step::Claim { .. } | Step::Superposed { .. } => Ok(()),
@@ -67,5 +86,10 @@ pub(crate) fn name_new(names: &mut Names, step: &Step) -> Result<(), AllocError>
             names: new,
             ..
         } => name_all(names, form.made(), new.items()),
+        Step::Apply {
+            theorem,
+            names: new,
+            ..
+        } => name_shown(known, names, *theorem as usize, new.items()),
     }
 }

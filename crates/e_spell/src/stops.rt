@@ -28,6 +28,7 @@ fn put_wanted(out: &mut Vec<u8>, names: &Names, wanted: &Wanted) -> Result<(), A
     out.extend_from_slice(b"| wanted")?;
     match wanted {
         Wanted::Literal(lit) => put_literal(out, names, lit)?,
+        Wanted::Match => put(out, b"match")?,
         Wanted::Contradiction => put(out, b"contradiction")?,
     }
     end_line(out)

@@ -262,9 +262,6 @@ facts_well scope (l ∷ ls) good =
     let here = and_left (is_good scope l) (are_good scope ls) good in
     both (is_well_formed l) (list_all is_well_formed ls) (and_right (all_in_scope scope l) (is_well_formed l) here) (facts_well scope ls (and_right (is_good scope l) (are_good scope ls) good))
 
-pub good_facts_well : (scope : Scope) (facts : List Lit) → are_good_facts scope facts ≡ true → list_all is_well_formed facts ≡ true
-good_facts_well scope facts h = facts_well scope facts (and_left (are_good scope facts) (are_few facts) h)
-
 pub facts_over : (scope : Scope) (facts : List Lit) → are_good scope facts ≡ true → list_all (all_in_scope scope) facts ≡ true
 facts_over scope [] good = refl
 facts_over scope (l ∷ ls) good =

@@ -17,8 +17,6 @@ pub mod plan;
 pub mod seeds;
 pub mod sought;
 pub mod sweep;
-#[cfg(test)]
-mod tests;
 pub mod ties;
 pub mod walk;
 

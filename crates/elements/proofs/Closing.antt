@@ -1,6 +1,5 @@
 -- The last lines behind the blocks.
 use Rattle.std.proofs.Common.{◌≡◌, ◌⊎◌, inl, inr, ℕ, ◌+◌, ◌<◌, ◌≤◌, List, [], ◌∷◌, ◌++◌, length, map, Option, Some, None, Result, Ok, Err, refl, sym, ap, subst, ◌∙◌, arith, append_assoc, length-append, take}
-use Rattle.std.specs.List.{flat_map}
 use Rattle.std.proofs.lemmas.List.{append-nil, take-append-le}
 use Rattle.std.proofs.Math.Seq.{take-append-add}
 use Rattle.e_io.specs.Bytes.{Grew, GrewByFront}
@@ -15,7 +14,7 @@ use Rattle.e_book.specs.Headed.{Headed}
 use Rattle.elements.specs.Outcome.{Rest, lines_of_book}
 use Rattle.elements.specs.Outcome as ends
 use Rattle.elements.specs.LastLines.{head_line, no_memory_line, read_fault_line}
-use Rattle.elements.specs.Answers.{Derived, AllDerived, theorems_of, block_of, written_with, Ended, EndsSo, Refuses, Widens, CutOff, Outputs, WroteAll, WroteFront, Checks, ChecksBook}
+use Rattle.elements.specs.Answers.{Derived, AllDerived, theorems_of, blocks_of, written_with, Ended, EndsSo, Refuses, Widens, CutOff, Outputs, WroteAll, WroteFront, Checks, ChecksBook}
 use Rattle.elements.specs.Input.{IsTextOf}
 use Rattle.elements.specs.Endings.{EndsWith, BreaksOff, BreaksInside, EndingIs, Closes, last_lines, answer_of}
 use Rattle.elements.proofs.History.{grew_more, grew_none, begins, breaks_off}
@@ -32,15 +31,15 @@ checks_all lines old new status.WriteFault w = absurd w.outputs
 checks_all lines old new status.NoMemory w = w
 
 -- the head line, the blocks and the last lines, one after another
-grew_all : (old s0 s1 s2 : Option (List ℕ)) (ds : List Derived) (last : List ℕ) → Grew old s0 head_line → Grew s0 s1 (flat_map block_of ds) → Grew s1 s2 last → Grew old s2 (written_with ds last)
-grew_all old s0 s1 s2 ds last h b l = grew_more old s0 s2 head_line (flat_map block_of ds ++ last) h (grew_more s0 s1 s2 (flat_map block_of ds) last b l)
+grew_all : (old s0 s1 s2 : Option (List ℕ)) (ds : List Derived) (last : List ℕ) → Grew old s0 head_line → Grew s0 s1 (blocks_of [] ds) → Grew s1 s2 last → Grew old s2 (written_with ds last)
+grew_all old s0 s1 s2 ds last h b l = grew_more old s0 s2 head_line (blocks_of [] ds ++ last) h (grew_more s0 s1 s2 (blocks_of [] ds) last b l)
 
 -- a front of the last lines, behind all that came before
-grew_front : (old s0 s1 s2 : Option (List ℕ)) (ds : List Derived) (last : List ℕ) → Grew old s0 head_line → Grew s0 s1 (flat_map block_of ds) → GrewByFront s1 s2 last
+grew_front : (old s0 s1 s2 : Option (List ℕ)) (ds : List Derived) (last : List ℕ) → Grew old s0 head_line → Grew s0 s1 (blocks_of [] ds) → GrewByFront s1 s2 last
     → (n : ℕ) × Grew old s2 (take n (written_with ds last))
 grew_front old s0 s1 s2 ds last h b l =
     let n = l.0 in
-    let blocks = flat_map block_of ds in (
+    let blocks = blocks_of [] ds in (
       length head_line + (length blocks + n),
       subst (λ (x : List ℕ). Grew old s2 x)
           (sym (take-append-add head_line (blocks ++ last) (length blocks + n) ∙ ap (λ (x : List ℕ). head_line ++ x) (take-append-add blocks last n)))
@@ -49,7 +48,7 @@ grew_front old s0 s1 s2 ds last h b l =
 
 -- the answer is right, by what its bytes are
 pub closed : (lines : Rest) (old s0 s1 s2 : Option (List ℕ)) (ds : List Derived) (last : List ℕ) (answer result : Status)
-    → Outputs lines answer (written_with ds last) → Grew old s0 head_line → Grew s0 s1 (flat_map block_of ds) → Closes s1 s2 last answer result → Checks lines old s2 result
+    → Outputs lines answer (written_with ds last) → Grew old s0 head_line → Grew s0 s1 (blocks_of [] ds) → Closes s1 s2 last answer result → Checks lines old s2 result
 closed lines old s0 s1 s2 ds last answer result outputs h b (inl c) =
     subst (Checks lines old s2) (sym c.0) (checks_all lines old s2 answer (record { out = written_with ds last; outputs = outputs; grew = grew_all old s0 s1 s2 ds last h b c.1 }))
 closed lines old s0 s1 s2 ds last answer result outputs h b (inr c) =
@@ -103,7 +102,7 @@ off_of_ending lines s0 s1 (Faulty f) e = off_of_end lines s0 s1 _ e
 -- the sink gave out inside a block
 pub closed_inside : (lines : Rest) (old s0 s1 : Option (List ℕ)) → Grew old s0 head_line → BreaksInside lines s0 s1 → WroteFront lines old s1
 closed_inside lines old s0 s1 h e =
-    let blocks = flat_map block_of e.derived in
+    let blocks = blocks_of [] e.derived in
     record {
       answer = status.NoMemory;
       out = written_with e.derived no_memory_line;

@@ -1,20 +1,21 @@
 -- The theorems taken so far, with their derivations and what was written.
 use Rattle.std.proofs.Common.{◌≡◌, ℕ, suc, ◌+◌, ◌-◌, ◌<◌, ◌≤◌, List, [], ◌∷◌, ◌++◌, length, map, Option, Some, None, Result, Ok, Err, refl, sym, ap, subst, ◌∙◌, arith, append_assoc, length-append, take}
-use Rattle.std.specs.List.{flat_map}
 use Rattle.std.proofs.lemmas.List.{append-nil}
-use Rattle.std.proofs.lemmas.Grind.{flat_map-append}
 use Rattle.std.proofs.Math.Seq.{take-append-add}
 use Rattle.e_io.specs.Bytes.{Grew, GrewByFront}
 use Rattle.e_theorem.specs.Statements.{stated}
-use Rattle.e_deriv.specs.Script.{Script}
-use Rattle.e_deriv.proofs.Agreement.{licensed_of_derived}
-use Rattle.e_book.specs.Headed.{Headed, headed}
+use Rattle.e_book.specs.Headed.{Headed, stated_by}
 use Rattle.e_book.specs.Entry.{Entry}
 use Rattle.e_book.specs.Book.{read_from}
 use Rattle.e_deriv.specs.Naming.{names_lines, declared_names}
-use Rattle.std.specs.Prelude.{slice_get}
-use Rattle.elements.specs.Outcome.{Rest, IsLicensed, Takes, Begins, number_behind, IsFront}
-use Rattle.elements.specs.Answers.{Derived, IsDerived, AllDerived, Refuses, Widens, theorems_of, block_of}
+use Rattle.std.specs.Prelude.{slice_get, IsTrue, true, ◌&&◌}
+use Rattle.std.specs.List.{list_all}
+use Rattle.std.proofs.lemmas.List.Folds.{list_all-append}
+use Rattle.std.proofs.lemmas.Bool.{and_from}
+use Rattle.e_literal.specs.Use.{Stated}
+use Rattle.e_deriv.specs.Fitting.{is_small_statement}
+use Rattle.elements.specs.Outcome.{Rest, with_theorem, IsLicensed, Takes, Begins, number_behind, IsFront}
+use Rattle.elements.specs.Answers.{Derived, IsDerived, AllDerived, Refuses, Widens, theorems_of, block_of, blocks_of}
 use Rattle.elements.specs.Endings.{EndsWith, BreaksOff, BreaksInside, BlocksAre, stop_ending}
 use Rattle.elements.specs.declared.blocks.Ending.{Ending}
 use Rattle.elements.specs.declared.blocks.Broken.{Broken}
@@ -29,18 +30,22 @@ use Rattle.e_book.specs.declared.fault.BookFault.{BookFault}
 
 pub record History (lines : Rest) (old : Option (List ℕ)) (known : List Headed) (rest : Rest) (new : Option (List ℕ)) : Type 0 where
   pub derived : List Derived
-  pub sound : AllDerived derived
+  pub sound : AllDerived [] derived
   pub begins : Begins lines (theorems_of derived) known rest
-  pub grew : Grew old new (flat_map block_of derived)
+  pub grew : Grew old new (blocks_of [] derived)
 
 -- one more theorem is taken
 takes_more : (last : ℕ) (known : List Headed) (lines : Rest) (ts : List Entry) (now : List Headed) (rest : Rest) (t : Entry) (after : Rest)
-    → Takes last known lines ts now rest → read_from now last None rest ≡ Ok (Some (t, after)) → IsLicensed t
-    → Takes last known lines (ts ++ t ∷ []) (now ++ headed t.title t.statement ∷ []) after
-takes_more last known lines [] now rest t after r h l =
-    (after, subst (λ (k : List Headed). read_from k last None lines ≡ Ok (Some (t, after))) (sym r.0) (ap (read_from now last None) r.1 ∙ h), l, (ap (λ (k : List Headed). k ++ headed t.title t.statement ∷ []) r.0, refl))
+    → Takes last known lines ts now rest → read_from now last None rest ≡ Ok (Some (t, after)) → IsLicensed now t
+    → Takes last known lines (ts ++ t ∷ []) (with_theorem now t) after
+takes_more last known lines [] now rest t after r h l = (
+  after,
+  subst (λ (k : List Headed). read_from k last None lines ≡ Ok (Some (t, after))) (sym r.0) (ap (read_from now last None) r.1 ∙ h),
+  subst (λ (k : List Headed). IsLicensed k t) (sym r.0) l,
+  (ap (λ (k : List Headed). with_theorem k t) r.0, refl),
+)
 takes_more last known lines (u ∷ us) now rest t after r h l =
-    (r.0, r.1, r.2, takes_more last (known ++ headed u.title u.statement ∷ []) r.0 us now rest t after r.3 h l)
+    (r.0, r.1, r.2, takes_more last (with_theorem known u) r.0 us now rest t after r.3 h l)
 
 pub grew_more : (a b c : Option (List ℕ)) (xs ys : List ℕ) → Grew a b xs → Grew b c ys → Grew a c (xs ++ ys)
 grew_more None b c xs ys p q = subst (λ (x : Option (List ℕ)). Grew x c ys) p q
@@ -50,41 +55,49 @@ pub grew_none : (a : Option (List ℕ)) → Grew a a []
 grew_none None = refl
 grew_none (Some old) = ap (λ (l : List ℕ). Some l) (sym (append-nil old))
 
-all_more : (ds : List Derived) (d : Derived) → AllDerived ds → IsDerived d → AllDerived (ds ++ d ∷ [])
-all_more [] d h k = (k, tt)
-all_more (e ∷ es) d h k = (h.0, all_more es d h.1 k)
+-- one more derivation, by what is known behind the others
+all_more : (last : ℕ) (known : List Headed) (lines : Rest) (ds : List Derived) (now : List Headed) (rest : Rest) (d : Derived)
+    → Takes last known lines (theorems_of ds) now rest → AllDerived known ds → IsDerived now d → AllDerived known (ds ++ d ∷ [])
+all_more last known lines [] now rest d r h k = (subst (λ (x : List Headed). IsDerived x d) (sym r.0) k, tt)
+all_more last known lines (e ∷ es) now rest d r h k = (h.0, all_more last (with_theorem known e.theorem) r.0 es now rest d r.3 h.1 k)
 
 theorems_more : (ds : List Derived) (d : Derived) → theorems_of (ds ++ d ∷ []) ≡ theorems_of ds ++ d.theorem ∷ []
 theorems_more [] d = refl
 theorems_more (e ∷ es) d = ap (λ (ts : List Entry). e.theorem ∷ ts) (theorems_more es d)
 
-blocks_more : (ds : List Derived) (d : Derived) → flat_map block_of (ds ++ d ∷ []) ≡ flat_map block_of ds ++ block_of d
-blocks_more ds d = flat_map-append block_of ds (d ∷ []) ∙ ap (λ (x : List ℕ). flat_map block_of ds ++ x) (append-nil (block_of d))
+blocks_more : (last : ℕ) (known : List Headed) (lines : Rest) (ds : List Derived) (now : List Headed) (rest : Rest) (d : Derived)
+    → Takes last known lines (theorems_of ds) now rest → blocks_of known (ds ++ d ∷ []) ≡ blocks_of known ds ++ block_of now d
+blocks_more last known lines [] now rest d r = append-nil (block_of known d) ∙ ap (λ (k : List Headed). block_of k d) r.0
+blocks_more last known lines (e ∷ es) now rest d r =
+    let behind = with_theorem known e.theorem in
+    ap (λ (x : List ℕ). block_of known e ++ x) (blocks_more last behind r.0 es now rest d r.3)
+    ∙ sym (append_assoc (block_of known e) (blocks_of behind es) (block_of now d))
 
 -- a theorem with a derivation has each of its lines licensed
-licensed : (d : Derived) → IsDerived d → IsLicensed d.theorem
-licensed d h = licensed_of_derived (stated d.theorem.statement) d.derivation d.theorem.script h.certified h.own
+licensed : (known : List Headed) (d : Derived) → IsDerived known d → IsLicensed known d.theorem
+licensed known d h = record { filled = d.derivation; licensed = h.least }
 
 pub begins : (lines : Rest) (old : Option (List ℕ)) → History lines old [] lines old
 begins lines old = record { derived = []; sound = tt; begins = (refl, refl); grew = grew_none old }
 
 begins_more : (lines : Rest) (ds : List Derived) (known : List Headed) (rest after : Rest) (d : Derived)
-    → Begins lines (theorems_of ds) known rest → read_from known (number_behind lines) None rest ≡ Ok (Some (d.theorem, after)) → IsDerived d
-    → Begins lines (theorems_of (ds ++ d ∷ [])) (known ++ headed d.theorem.title d.theorem.statement ∷ []) after
+    → Begins lines (theorems_of ds) known rest → read_from known (number_behind lines) None rest ≡ Ok (Some (d.theorem, after)) → IsDerived known d
+    → Begins lines (theorems_of (ds ++ d ∷ [])) (with_theorem known d.theorem) after
 begins_more lines ds known rest after d b h k =
-    subst (λ (ts : List Entry). Begins lines ts (known ++ headed d.theorem.title d.theorem.statement ∷ []) after) (sym (theorems_more ds d))
-    (takes_more (number_behind lines) [] lines (theorems_of ds) known rest d.theorem after b h (licensed d k))
+    subst (λ (ts : List Entry). Begins lines ts (with_theorem known d.theorem) after) (sym (theorems_more ds d))
+    (takes_more (number_behind lines) [] lines (theorems_of ds) known rest d.theorem after b h (licensed known d k))
 
 -- the block of the next theorem was written
 pub goes_on : (lines : Rest) (old new newer : Option (List ℕ)) (known : List Headed) (rest after : Rest) (d : Derived)
-    → History lines old known rest new → read_from known (number_behind lines) None rest ≡ Ok (Some (d.theorem, after)) → IsDerived d → Grew new newer (block_of d)
-    → History lines old (known ++ headed d.theorem.title d.theorem.statement ∷ []) after newer
+    → History lines old known rest new → read_from known (number_behind lines) None rest ≡ Ok (Some (d.theorem, after)) → IsDerived known d → Grew new newer (block_of known d)
+    → History lines old (with_theorem known d.theorem) after newer
 goes_on lines old new newer known rest after d h read k w =
+    let last = number_behind lines in
     record {
       derived = h.derived ++ d ∷ [];
-      sound = all_more h.derived d h.sound k;
+      sound = all_more last [] lines h.derived known rest d h.begins h.sound k;
       begins = begins_more lines h.derived known rest after d h.begins read k;
-      grew = subst (λ (b : List ℕ). Grew old newer b) (sym (blocks_more h.derived d)) (grew_more old new newer (flat_map block_of h.derived) (block_of d) h.grew w);
+      grew = subst (λ (b : List ℕ). Grew old newer b) (sym (blocks_more last [] lines h.derived known rest d h.begins)) (grew_more old new newer (blocks_of [] h.derived) (block_of known d) h.grew w);
     }
 
 -- this holds behind what was written
@@ -103,18 +116,31 @@ front_more a b c xs ys p q =
 
 -- a front of the block of the next theorem was written
 pub breaks_inside : (lines : Rest) (old new newer : Option (List ℕ)) (known : List Headed) (rest after : Rest) (d : Derived)
-    → History lines old known rest new → read_from known (number_behind lines) None rest ≡ Ok (Some (d.theorem, after)) → IsDerived d → GrewByFront new newer (block_of d)
+    → History lines old known rest new → read_from known (number_behind lines) None rest ≡ Ok (Some (d.theorem, after)) → IsDerived known d → GrewByFront new newer (block_of known d)
     → BreaksInside lines old newer
 breaks_inside lines old new newer known rest after d h read k w =
-    let f = front_more old new newer (flat_map block_of h.derived) (block_of d) h.grew w in
+    let last = number_behind lines in
+    let f = front_more old new newer (blocks_of [] h.derived) (block_of known d) h.grew w in
+    let blocks = sym (blocks_more last [] lines h.derived known rest d h.begins) in
     record {
       derived = h.derived ++ d ∷ [];
-      sound = all_more h.derived d h.sound k;
-      front = record { known = known ++ headed d.theorem.title d.theorem.statement ∷ []; rest = after; begins = begins_more lines h.derived known rest after d h.begins read k };
+      sound = all_more last [] lines h.derived known rest d h.begins h.sound k;
+      front = record { known = with_theorem known d.theorem; rest = after; begins = begins_more lines h.derived known rest after d h.begins read k };
       count = f.0;
-      short = subst (λ (b : List ℕ). f.0 ≤ length b) (sym (blocks_more h.derived d)) f.1;
-      grew = subst (λ (b : List ℕ). Grew old newer (take f.0 b)) (sym (blocks_more h.derived d)) f.2;
+      short = subst (λ (b : List ℕ). f.0 ≤ length b) blocks f.1;
+      grew = subst (λ (b : List ℕ). Grew old newer (take f.0 b)) blocks f.2;
     }
+
+-- one more statement stands behind those that are known
+stated_more : (known : List Headed) (t : Entry) → stated_by (with_theorem known t) ≡ stated_by known ++ stated t.statement ∷ []
+stated_more [] t = refl
+stated_more (k ∷ ks) t = ap (λ (l : List Stated). stated k.statement ∷ l) (stated_more ks t)
+
+pub small_more : (known : List Headed) (t : Entry) → IsTrue (list_all is_small_statement (stated_by known)) → IsTrue (is_small_statement (stated t.statement))
+    → IsTrue (list_all is_small_statement (stated_by (with_theorem known t)))
+small_more known t h s =
+    ap (list_all is_small_statement) (stated_more known t) ∙ list_all-append is_small_statement (stated_by known) (stated t.statement ∷ [])
+    ∙ and_from (list_all is_small_statement (stated_by known)) (is_small_statement (stated t.statement) && true) h (and_from (is_small_statement (stated t.statement)) true s refl)
 
 -- what the grammar gives, where the number behind the last line is that of all lines
 pub at_last : (known : List Headed) (a b : ℕ) (lines : Rest) (e : Result (Option (Entry × Rest)) BookFault) → a ≡ b → read_from known a None lines ≡ e → read_from known b None lines ≡ e
@@ -123,8 +149,8 @@ at_last known a b lines e is h = subst (λ (k : ℕ). read_from known k None lin
 -- the next theorem is refused
 pub stops_with : (lines : Rest) (old new : Option (List ℕ)) (known : List Headed) (rest after : Rest) (t : Entry) (step : ℕ) (wanted : Wanted) (values : Option (List (Term × ℕ))) (names : Names)
     → History lines old known rest new → read_from known (number_behind lines) None rest ≡ Ok (Some (t, after))
-    → IsRefused (stated t.statement) t.script step wanted values
-    → Some names ≡ slice_get (names_lines (declared_names (stated t.statement) t.names) t.script) (step - 1)
+    → IsRefused (stated_by known) (stated t.statement) t.script step wanted values
+    → Some names ≡ slice_get (names_lines (stated_by known) (declared_names (stated t.statement) t.names) t.script) (step - 1)
     → EndsWith lines old new (Refuses lines t.title step wanted values names)
 stops_with lines old new known rest after t step wanted values names h read refused named =
     ends_with lines old new known rest (Refuses lines t.title step wanted values names) h (t, after, read, record { titled = refl; refused = refused; named = named })
@@ -132,23 +158,23 @@ stops_with lines old new known rest after t step wanted values names h read refu
 -- a line of the next theorem is too wide
 pub widens_with : (lines : Rest) (old new : Option (List ℕ)) (known : List Headed) (rest after : Rest) (t : Entry) (step : ℕ) (wanted : Wanted) (width : ℕ) (names : Names)
     → History lines old known rest new → read_from known (number_behind lines) None rest ≡ Ok (Some (t, after))
-    → IsTooWideAt (stated t.statement) t.script step wanted width
-    → Some names ≡ slice_get (names_lines (declared_names (stated t.statement) t.names) t.script) (step - 1)
+    → IsTooWideAt (stated_by known) (stated t.statement) t.script step wanted width
+    → Some names ≡ slice_get (names_lines (stated_by known) (declared_names (stated t.statement) t.names) t.script) (step - 1)
     → EndsWith lines old new (Widens lines t.title step wanted width names)
 widens_with lines old new known rest after t step wanted width names h read too_wide named =
     ends_with lines old new known rest (Widens lines t.title step wanted width names) h (t, after, read, record { titled = refl; too_wide = too_wide; named = named })
 
 -- the bytes that were written are the block of this derivation
-pub spelled_as : (old new : Option (List ℕ)) (xs ys : List ℕ) (d : Derived) → xs ≡ ys → ys ≡ block_of d → Grew old new xs → Grew old new (block_of d)
-spelled_as old new xs ys d e f g = subst (λ (l : List ℕ). Grew old new l) (e ∙ f) g
+pub spelled_as : (old new : Option (List ℕ)) (xs ys : List ℕ) (known : List Headed) (d : Derived) → xs ≡ ys → ys ≡ block_of known d → Grew old new xs → Grew old new (block_of known d)
+spelled_as old new xs ys known d e f g = subst (λ (l : List ℕ). Grew old new l) (e ∙ f) g
 
-pub front_spelled_as : (old new : Option (List ℕ)) (xs ys : List ℕ) (d : Derived) → xs ≡ ys → ys ≡ block_of d → GrewByFront old new xs → GrewByFront old new (block_of d)
-front_spelled_as old new xs ys d e f g = subst (λ (l : List ℕ). GrewByFront old new l) (e ∙ f) g
+pub front_spelled_as : (old new : Option (List ℕ)) (xs ys : List ℕ) (known : List Headed) (d : Derived) → xs ≡ ys → ys ≡ block_of known d → GrewByFront old new xs → GrewByFront old new (block_of known d)
+front_spelled_as old new xs ys known d e f g = subst (λ (l : List ℕ). GrewByFront old new l) (e ∙ f) g
 
 -- the next theorem stops, or memory ran out
 pub stopped : (lines : Rest) (old new : Option (List ℕ)) (known : List Headed) (rest after : Rest) (t : Entry) (stop : Stop) (r : Result Ending Broken)
     → r ≡ stop_ending t.title stop → History lines old known rest new → read_from known (number_behind lines) None rest ≡ Ok (Some (t, after))
-    → StopIs (stated t.statement) t.script stop → HasNames (stated t.statement) t.names t.script stop → BlocksAre lines old new r
+    → StopIs (stated_by known) (stated t.statement) t.script stop → HasNames (stated_by known) (stated t.statement) t.names t.script stop → BlocksAre lines old new r
 stopped lines old new known rest after t (stops.Unlicensed step wanted values names) r e h read s k =
     subst (BlocksAre lines old new) (sym e) (stops_with lines old new known rest after t step wanted values names h read s k)
 stopped lines old new known rest after t (stops.TooWide step wanted width names) r e h read s k =

@@ -14,10 +14,10 @@ use Rattle.e_book.specs.declared.fault.Kind.{Kind}
 use Rattle.e_book.specs.declared.fault.BookFault.{BookFault}
 use Rattle.e_book.specs.declared.draft.Draft.{Draft}
 use Rattle.e_book.specs.Reading.{◌>>=◌}
-use Rattle.e_book.specs.Headed.{Headed, headed}
+use Rattle.e_book.specs.Headed.{Headed}
 use Rattle.e_book.specs.Entry.{Entry, entry_of_draft}
 use Rattle.e_book.specs.Book.{read_from, at_end, is_skipped, is_done, line_step, put_at}
-use Rattle.elements.specs.Outcome.{Rest, Takes, Ends, Accepted, IsOutcome, lines_of_book}
+use Rattle.elements.specs.Outcome.{Rest, with_theorem, Takes, Ends, Accepted, IsOutcome, lines_of_book}
 use Rattle.elements.specs.declared.status.Status.{Status}
 use Rattle.elements.specs.declared.status.Status.TheVariants as status
 use Rattle.elements.specs.Answers.{Checks, IsAccepted, theorems_of}
@@ -80,7 +80,7 @@ good_at_end known last s (Ok l ∷ lines) h =
 good_taken : (last : ℕ) (known : List Headed) (lines : Rest) (ts : List Entry) (now : List Headed) (rest : Rest) → Takes last known lines ts now rest → AreGood rest → AreGood lines
 good_taken last known lines [] now rest h good = subst AreGood (sym h.1) good
 good_taken last known lines (t ∷ ts) now rest h good =
-    good_before known last None lines t h.0 h.1 (good_taken last (known ++ headed t.title t.statement ∷ []) h.0 ts now rest h.3 good)
+    good_before known last None lines t h.0 h.1 (good_taken last (with_theorem known t) h.0 ts now rest h.3 good)
 
 good_accepted : (lines : Rest) (ts : List Entry) (n : ℕ) → IsOutcome lines ts (Accepted n) → AreGood lines
 good_accepted lines ts n h = good_taken _ [] lines ts h.known h.rest h.begins (good_at_end h.known _ None h.rest h.ends.0)

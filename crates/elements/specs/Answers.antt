@@ -1,19 +1,21 @@
 -- What a run answers to a text, and what it writes.
 use Rattle.std.specs.Prelude.{◌≡◌, ℕ, ◌+◌, ◌<◌, List, [], ◌∷◌, ◌++◌, map, take, length, codes, Option, Some, None}
-use Rattle.std.specs.List.{flat_map}
 use Rattle.e_io.specs.Bytes.{Grew, GrewByFront}
 use Rattle.e_literal.specs.declared.object.Term.{Term}
 use Rattle.e_theorem.specs.Statements.{stated}
 use Rattle.e_deriv.specs.declared.stop.Wanted.{Wanted}
 use Rattle.e_deriv.specs.declared.names.Names.{Names}
 use Rattle.e_deriv.specs.Script.{Script, erased}
+use Rattle.e_deriv.specs.Parts.{filled_by}
+use Rattle.e_deriv.specs.Lines.{proof_lines}
+use Rattle.e_deriv.specs.Licensed.{AllLicensed}
 use Rattle.e_deriv.specs.Certified.{Certified}
-use Rattle.e_book.specs.Headed.{Headed}
+use Rattle.e_book.specs.Headed.{Headed, stated_by}
 use Rattle.e_book.specs.Entry.{Entry}
 use Rattle.e_spell.specs.Spelling.{spelled, unlicensed_text, too_wide_text}
 use Rattle.elements.specs.declared.status.Status.{Status}
 use Rattle.elements.specs.declared.status.Status.TheVariants as status
-use Rattle.elements.specs.Outcome.{Rest, End, Ends, NextIs, Begins, IsFront, EndsBook, RefusedAt, TooWideAt, HasWide, number_behind, lines_of_book}
+use Rattle.elements.specs.Outcome.{Rest, End, Ends, NextIs, with_theorem, Begins, IsFront, EndsBook, RefusedAt, TooWideAt, HasWide, number_behind, lines_of_book}
 use Rattle.elements.specs.Outcome as ends
 use Rattle.elements.specs.LastLines.{head_line, accepted_line, fault_line, read_fault_line, no_memory_line, usage_line}
 
@@ -22,36 +24,44 @@ pub record Derived : Type 0 where
   pub theorem : Entry
   pub derivation : Script
 
--- the derivation is certified, and without its certificates it is the theorem's own script
-pub record IsDerived (d : Derived) : Type 0 where
-  pub certified : Certified (stated d.theorem.statement) d.derivation
-  pub own : erased d.derivation ≡ erased d.theorem.script
+-- With this known, the derivation is certified. Without its certificates it is the theorem's own script, with its blanks filled, and
+-- so filled each line of the script is licensed: the arguments of each application are the least good choice.
+pub record IsDerived (known : List Headed) (d : Derived) : Type 0 where
+  pub certified : Certified (stated_by known) (stated d.theorem.statement) d.derivation
+  pub own : erased d.derivation ≡ filled_by (erased d.theorem.script) d.derivation
+  pub least : AllLicensed (stated_by known) (proof_lines (stated_by known) (stated d.theorem.statement) d.theorem.script d.derivation)
 
-abbrev pub AllDerived : List Derived → Type 0
-AllDerived [] = Unit {0}
-AllDerived (d ∷ ds) = IsDerived d × AllDerived ds
+-- each by those before it
+abbrev pub AllDerived : List Headed → List Derived → Type 0
+AllDerived known [] = Unit {0}
+AllDerived known (d ∷ ds) = IsDerived known d × AllDerived (with_theorem known d.theorem) ds
 
 abbrev pub theorems_of : List Derived → List Entry
 theorems_of ds = map (λ d. d.theorem) ds
 
 -- the block of a derivation
-abbrev pub block_of : Derived → List ℕ
-block_of d = spelled d.theorem d.derivation
+abbrev pub block_of : List Headed → Derived → List ℕ
+block_of known d = spelled known d.theorem d.derivation
 
--- these bytes are the block of a derivation of the theorem
-pub record HasBlock (theorem : Entry) (bytes : List ℕ) : Type 0 where
+-- the blocks of derivations, one behind the other
+abbrev pub blocks_of : List Headed → List Derived → List ℕ
+blocks_of known [] = []
+blocks_of known (d ∷ ds) = block_of known d ++ blocks_of (with_theorem known d.theorem) ds
+
+-- with this known, these bytes are the block of a derivation of the theorem
+pub record HasBlock (known : List Headed) (theorem : Entry) (bytes : List ℕ) : Type 0 where
   pub derivation : Script
-  pub sound : IsDerived (record { theorem = theorem; derivation = derivation })
-  pub spells : bytes ≡ spelled theorem derivation
+  pub sound : IsDerived known (record { theorem = theorem; derivation = derivation })
+  pub spells : bytes ≡ spelled known theorem derivation
 
 -- the head line, the blocks, and the last lines
 abbrev pub written_with : List Derived → List ℕ → List ℕ
-written_with ds last = head_line ++ (flat_map block_of ds ++ last)
+written_with ds last = head_line ++ (blocks_of [] ds ++ last)
 
 -- theorems with their derivations, which are the first of the book, and what holds behind them
 pub record Ended (lines : Rest) (Holds : List Headed → Rest → Type 0) (last out : List ℕ) : Type 0 where
   pub derived : List Derived
-  pub sound : AllDerived derived
+  pub sound : AllDerived [] derived
   pub known : List Headed
   pub rest : Rest
   pub begins : Begins lines (theorems_of derived) known rest
@@ -65,17 +75,17 @@ EndsSo lines end known rest = Ends (number_behind lines) known rest end
 -- the next theorem is refused at this line
 abbrev pub Refuses : Rest → List ℕ → ℕ → Wanted → Option (List (Term × ℕ)) → Names → List Headed → Rest → Type 0
 Refuses lines title step wanted values names known rest =
-    NextIs (number_behind lines) known rest (λ t. RefusedAt t title step wanted values names)
+    NextIs (number_behind lines) known rest (λ t. RefusedAt known t title step wanted values names)
 
 -- a line of the next theorem is too wide
 abbrev pub Widens : Rest → List ℕ → ℕ → Wanted → ℕ → Names → List Headed → Rest → Type 0
 Widens lines title step wanted width names known rest =
-    NextIs (number_behind lines) known rest (λ t. TooWideAt t title step wanted width names)
+    NextIs (number_behind lines) known rest (λ t. TooWideAt known t title step wanted width names)
 
 -- theorems with their derivations: some of the first ones of the book
 pub record CutOff (lines : Rest) (last out : List ℕ) : Type 0 where
   pub derived : List Derived
-  pub sound : AllDerived derived
+  pub sound : AllDerived [] derived
   pub front : IsFront lines (theorems_of derived)
   pub bytes : out ≡ written_with derived last
 

@@ -1,6 +1,5 @@
 -- How the blocks of a book end, before the last lines are written.
 use Rattle.std.specs.Prelude.{◌≡◌, ◌⊎◌, ℕ, ◌≤◌, List, [], length, take, Option, Result, Ok, Err}
-use Rattle.std.specs.List.{flat_map}
 use Rattle.e_io.specs.Bytes.{Grew, GrewByFront}
 use Rattle.e_deriv.specs.declared.stop.Stop.{Stop}
 use Rattle.e_deriv.specs.declared.stop.Stop.TheVariants as stops
@@ -15,33 +14,33 @@ use Rattle.elements.specs.LastLines.{accepted_line, fault_line}
 use Rattle.e_book.specs.Headed.{Headed}
 use Rattle.elements.specs.Outcome.{Rest, Begins, IsFront}
 use Rattle.elements.specs.Outcome as ends
-use Rattle.elements.specs.Answers.{Derived, AllDerived, EndsSo, Refuses, Widens, theorems_of, block_of}
+use Rattle.elements.specs.Answers.{Derived, AllDerived, EndsSo, Refuses, Widens, theorems_of, blocks_of}
 
 -- the blocks of these theorems with their derivations were written, and this holds behind them
 pub record EndsWith (lines : Rest) (old new : Option (List ℕ)) (Holds : List Headed → Rest → Type 0) : Type 0 where
   pub derived : List Derived
-  pub sound : AllDerived derived
+  pub sound : AllDerived [] derived
   pub known : List Headed
   pub rest : Rest
   pub begins : Begins lines (theorems_of derived) known rest
   pub holds : Holds known rest
-  pub grew : Grew old new (flat_map block_of derived)
+  pub grew : Grew old new (blocks_of [] derived)
 
 -- the blocks of some of the first theorems were written
 pub record BreaksOff (lines : Rest) (old new : Option (List ℕ)) : Type 0 where
   pub derived : List Derived
-  pub sound : AllDerived derived
+  pub sound : AllDerived [] derived
   pub front : IsFront lines (theorems_of derived)
-  pub grew : Grew old new (flat_map block_of derived)
+  pub grew : Grew old new (blocks_of [] derived)
 
 -- a front of them was written
 pub record BreaksInside (lines : Rest) (old new : Option (List ℕ)) : Type 0 where
   pub derived : List Derived
-  pub sound : AllDerived derived
+  pub sound : AllDerived [] derived
   pub front : IsFront lines (theorems_of derived)
   pub count : ℕ
-  pub short : count ≤ length (flat_map block_of derived)
-  pub grew : Grew old new (take count (flat_map block_of derived))
+  pub short : count ≤ length (blocks_of [] derived)
+  pub grew : Grew old new (take count (blocks_of [] derived))
 
 -- a stop that is no want of memory
 abbrev pub StopsWith : Rest → Option (List ℕ) → Option (List ℕ) → List ℕ → Stop → Type 0

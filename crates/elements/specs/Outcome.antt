@@ -6,12 +6,13 @@ use Rattle.e_theorem.specs.Statements.{stated}
 use Rattle.e_deriv.specs.declared.stop.Wanted.{Wanted}
 use Rattle.e_deriv.specs.declared.names.Names.{Names}
 use Rattle.e_literal.specs.declared.object.Term.{Term}
+use Rattle.e_deriv.specs.Script.{Script}
 use Rattle.e_deriv.specs.Lines.{Line, proof_lines}
 use Rattle.e_deriv.specs.Naming.{names_lines, declared_names}
 use Rattle.e_deriv.specs.Licensed.{AllLicensed, IsContext, IsFirstUnlicensed}
 use Rattle.e_deriv.specs.Refused.{IsRefused, IsWideLine, IsTooWideAt}
 use Rattle.e_book.specs.declared.fault.BookFault.{BookFault}
-use Rattle.e_book.specs.Headed.{Headed, headed}
+use Rattle.e_book.specs.Headed.{Headed, headed, stated_by}
 use Rattle.e_book.specs.Entry.{Entry}
 use Rattle.e_book.specs.Book.{read_from}
 
@@ -19,16 +20,21 @@ use Rattle.e_book.specs.Book.{read_from}
 abbrev pub Rest : Type 0
 Rest = List (Result Seen LineFault)
 
--- each line of the theorem's script is licensed
-abbrev pub IsLicensed : Entry → Type 0
-IsLicensed t = AllLicensed (proof_lines (stated t.statement) t.script)
+-- behind a theorem it is known
+abbrev pub with_theorem : List Headed → Entry → List Headed
+with_theorem known t = known ++ headed t.title t.statement ∷ []
 
--- these theorems are read one after another, and each is licensed; then this is known, and these lines are left
+-- with this known, each line of the theorem's script is licensed, with its blanks filled
+pub record IsLicensed (known : List Headed) (t : Entry) : Type 0 where
+  pub filled : Script
+  pub licensed : AllLicensed (stated_by known) (proof_lines (stated_by known) (stated t.statement) t.script filled)
+
+-- these theorems are read one after another, and each is licensed by those before it; then this is known, and these lines are left
 abbrev pub Takes : ℕ → List Headed → Rest → List Entry → List Headed → Rest → Type 0
 Takes last known lines [] now rest = (known ≡ now) × (lines ≡ rest)
 Takes last known lines (t ∷ ts) now rest =
-    (after : Rest) × (read_from known last None lines ≡ Ok (Some (t, after))) × IsLicensed t
-    × Takes last (known ++ headed t.title t.statement ∷ []) after ts now rest
+    (after : Rest) × (read_from known last None lines ≡ Ok (Some (t, after))) × IsLicensed known t
+    × Takes last (with_theorem known t) after ts now rest
 
 -- how a book ends: all its theorems are taken; a line is not licensed; a line has a fault
 pub data End : Type 0 where
@@ -36,12 +42,12 @@ pub data End : Type 0 where
   Unlicensed : (title : List ℕ) (step : ℕ) (wanted : Wanted) (names : Names) → End
   Faulty : (fault : BookFault) → End
 
--- the next theorem has this title, its line of this number is the first unlicensed one and lacks this, and these are
--- the names of the objects in scope before it
-pub record StopsAt (t : Entry) (title : List ℕ) (step : ℕ) (wanted : Wanted) (names : Names) : Type 0 where
+-- with this known, the next theorem has this title, its line of this number is the first unlicensed one and lacks this, and these
+-- are the names of the objects in scope before it
+pub record StopsAt (known : List Headed) (t : Entry) (title : List ℕ) (step : ℕ) (wanted : Wanted) (names : Names) : Type 0 where
   pub titled : t.title ≡ title
-  pub first : IsFirstUnlicensed (stated t.statement) t.script step wanted
-  pub named : Some names ≡ slice_get (names_lines (declared_names (stated t.statement) t.names) t.script) (step - 1)
+  pub first : IsFirstUnlicensed (stated_by known) (stated t.statement) t.script step wanted
+  pub named : Some names ≡ slice_get (names_lines (stated_by known) (declared_names (stated t.statement) t.names) t.script) (step - 1)
 
 -- with this known, the next theorem of these lines is one of which this holds
 abbrev pub NextIs : ℕ → List Headed → Rest → (Entry → Type 0) → Type 0
@@ -51,7 +57,7 @@ NextIs last known lines P = (t : Entry) × (after : Rest) × (read_from known la
 abbrev pub Ends : ℕ → List Headed → Rest → End → Type 0
 Ends last known lines (Accepted n) = (read_from known last None lines ≡ Ok None) × (length known ≡ n)
 Ends last known lines (Unlicensed title step wanted names) =
-    NextIs last known lines (λ t. StopsAt t title step wanted names)
+    NextIs last known lines (λ t. StopsAt known t title step wanted names)
 Ends last known lines (Faulty fault) = read_from known last None lines ≡ Err fault
 
 -- the number behind the last line
@@ -86,25 +92,25 @@ pub record EndsBook (text : List ℕ) (end : End) : Type 0 where
 
 -- ---- how the judging of a theorem breaks off
 
--- the theorem has this title, its line of this number is the first unlicensed one and lacks this, these values show it,
--- and these are the names of the objects in scope before it
-pub record RefusedAt (t : Entry) (title : List ℕ) (step : ℕ) (wanted : Wanted) (values : Option (List (Term × ℕ))) (names : Names) : Type 0 where
+-- with this known, the theorem has this title, its line of this number is the first unlicensed one and lacks this, these values show
+-- it, and these are the names of the objects in scope before it
+pub record RefusedAt (known : List Headed) (t : Entry) (title : List ℕ) (step : ℕ) (wanted : Wanted) (values : Option (List (Term × ℕ))) (names : Names) : Type 0 where
   pub titled : t.title ≡ title
-  pub refused : IsRefused (stated t.statement) t.script step wanted values
-  pub named : Some names ≡ slice_get (names_lines (declared_names (stated t.statement) t.names) t.script) (step - 1)
+  pub refused : IsRefused (stated_by known) (stated t.statement) t.script step wanted values
+  pub named : Some names ≡ slice_get (names_lines (stated_by known) (declared_names (stated t.statement) t.names) t.script) (step - 1)
 
--- each line before is licensed, and this one is too wide at what is wanted there
-pub record TooWideAt (t : Entry) (title : List ℕ) (step : ℕ) (wanted : Wanted) (width : ℕ) (names : Names) : Type 0 where
+-- with this known, each line before is licensed, and this one is too wide at what is wanted there
+pub record TooWideAt (known : List Headed) (t : Entry) (title : List ℕ) (step : ℕ) (wanted : Wanted) (width : ℕ) (names : Names) : Type 0 where
   pub titled : t.title ≡ title
-  pub too_wide : IsTooWideAt (stated t.statement) t.script step wanted width
-  pub named : Some names ≡ slice_get (names_lines (declared_names (stated t.statement) t.names) t.script) (step - 1)
+  pub too_wide : IsTooWideAt (stated_by known) (stated t.statement) t.script step wanted width
+  pub named : Some names ≡ slice_get (names_lines (stated_by known) (declared_names (stated t.statement) t.names) t.script) (step - 1)
 
--- a line of the theorem is wide, and each line before it is licensed
-pub record HasWideLine (t : Entry) : Type 0 where
+-- with this known, a line of the theorem is wide, and each line before it is licensed
+pub record HasWideLine (known : List Headed) (t : Entry) : Type 0 where
   pub step : ℕ
   pub line : Line
-  pub context : IsContext (stated t.statement) t.script step line
-  pub is_wide : IsWideLine line
+  pub context : IsContext (stated_by known) (stated t.statement) t.script step line
+  pub is_wide : IsWideLine (stated_by known) line
 
 -- in a theorem of these lines whose earlier ones are licensed, a line is wide, and each line before it is licensed
 pub record HasWide (lines : Rest) : Type 0 where
@@ -112,4 +118,4 @@ pub record HasWide (lines : Rest) : Type 0 where
   pub known : List Headed
   pub rest : Rest
   pub begins : Begins lines theorems known rest
-  pub wide : NextIs (number_behind lines) known rest HasWideLine
+  pub wide : NextIs (number_behind lines) known rest (HasWideLine known)

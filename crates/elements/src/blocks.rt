@@ -4,7 +4,7 @@ ghost use Rattle.e_io.specs.Bytes.{Rose};
 ghost use Rattle.e_theorem.specs.Statements.{stated};
 ghost use Rattle.e_deriv.specs.Script.{script_of};
 ghost use Rattle.e_deriv.specs.Fitting.{IsFitting};
-ghost use Rattle.e_book.specs.Headed.{headed, is_known};
+ghost use Rattle.e_book.specs.Headed.{headed, is_known, stated_by};
 ghost use Rattle.e_book.specs.Entry.{entry_of};
 ghost use Rattle.e_prove.specs.Stops.{StopIs, HasNames};
 ghost use Rattle.elements.specs.Answers.{HasBlock};
@@ -16,7 +16,6 @@ use e_io::{Sink, write_all};
 use e_prove::prove;
 use e_spell::spell;
 use e_text::{Lines, Title};
-use e_theorem::Statement;
 use std::alloc::{AllocError, Global};
 
 /// How the blocks of a book end.
@@ -37,15 +36,15 @@ pub enum Broken {
     WriteFault,
 }
 
-/// The block of a theorem with its derivation.
-fn block(alloc: Global, before: &[Statement], theorem: &Theorem) -> Result<Vec<u8>, Stop>
-    requires { IsFitting (stated theorem.now.statement) (script_of theorem.now.block) }
-    ensures block { IfOk result (λ v. HasBlock (entry_of theorem.now) v.items) }
-    ensures stop { IfErr result (StopIs (stated theorem.now.statement) (script_of theorem.now.block)) }
-    ensures names { IfErr result (HasNames (stated theorem.now.statement) theorem.now.names (script_of theorem.now.block)) }
+/// The block of a theorem with its derivation from those that are known.
+fn block(alloc: Global, known: &Known, theorem: &Theorem) -> Result<Vec<u8>, Stop>
+    requires { IsFitting (stated_by known.now) (stated theorem.now.statement) (script_of theorem.now.block) }
+    ensures block { IfOk result (λ v. HasBlock known.now (entry_of theorem.now) v.items) }
+    ensures stop { IfErr result (StopIs (stated_by known.now) (stated theorem.now.statement) (script_of theorem.now.block)) }
+    ensures names { IfErr result (HasNames (stated_by known.now) (stated theorem.now.statement) theorem.now.names (script_of theorem.now.block)) }
 {
-    let derivation = prove(alloc, before, theorem)?;
-    Ok(spell(alloc, theorem, &derivation)?)
+    let derivation = prove(alloc, known.statements(), theorem)?;
+    Ok(spell(alloc, known, theorem, &derivation)?)
 }
 
 /// The next theorem stops, or memory ran out.
@@ -83,7 +82,7 @@ pub fn blocks<K: Sink>(alloc: Global, lines: &mut Lines, sink: &mut K) -> Result
             Err(BookFault::NoMemory) => return Err(Broken::NoMemory),
             Err(fault) => return Ok(Ending::Faulty(fault)),
         };
-        let block = match block(alloc, known.statements(), &theorem) {
+        let block = match block(alloc, &known, &theorem) {
             Ok(block) => block,
             Err(stop) => return stopped(theorem.title, stop),
         };

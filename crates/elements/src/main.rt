@@ -1,9 +1,9 @@
 //! `elements`: a proof checker for System E.
 #![tactic(auto)]
 
-#[cfg(test)]
-mod block_tests;
 mod blocks;
+#[cfg(test)]
+mod book_tests;
 mod checker;
 mod input;
 pub mod laws;

@@ -16,22 +16,31 @@ const WRITTEN: usize = 16;
 
 /// The exit status and the bytes of a run.
 #[derive(Drop)]
-pub struct Answered {
-    pub exit: u8,
-    pub out: Vec<u8>,
+struct Answered {
+    exit: u8,
+    out: Vec<u8>,
 }
 
-/// Runs the program with a word on a text, with the calls of the source and of the sink that fail.
-pub fn ran(
+/// The call that fails, if one does.
+fn failing(alloc: Global, call: Option<u64>) -> Result<Vec<u64>, AllocError> {
+    let mut calls = Vec::new(alloc);
+    if let Some(call) = call {
+        calls.push(call)?;
+    }
+    Ok(calls)
+}
+
+/// Runs the program with a word on a text, with the call of the source and that of the sink that fail.
+fn ran(
     alloc: Global,
     word: &str,
     text: Vec<u8>,
-    unread: &[u64],
-    unwritten: &[u64],
+    unread: Option<u64>,
+    unwritten: Option<u64>,
 ) -> Result<Answered, AllocError> {
     let words = vec![in alloc; String::from_str(alloc, word)?]?;
-    let mut source = MemSource::new(text, Vec::from_slice(alloc, unread)?, READ);
-    let mut sink = MemSink::new(alloc, ROOM, Vec::from_slice(alloc, unwritten)?, WRITTEN)?;
+    let mut source = MemSource::new(text, failing(alloc, unread)?, READ);
+    let mut sink = MemSink::new(alloc, ROOM, failing(alloc, unwritten)?, WRITTEN)?;
     let status = run(alloc, &words, &mut source, &mut sink);
     Ok(Answered {
         exit: exit_code(&status),
@@ -40,7 +49,7 @@ pub fn ran(
 }
 
 /// The bytes of a text of a test.
-pub fn unfolded(alloc: Global, text: &str) -> Result<Vec<u8>, AllocError> {
+fn unfolded(alloc: Global, text: &str) -> Result<Vec<u8>, AllocError> {
     let mut out = Vec::new(alloc);
     for byte in text.as_bytes() {
         out.push(match *byte {
@@ -52,9 +61,15 @@ pub fn unfolded(alloc: Global, text: &str) -> Result<Vec<u8>, AllocError> {
     Ok(out)
 }
 
-/// What `check` answers to a book: the lines that it writes, and the exit status.
-pub fn answer(alloc: Global, book: &str) -> Result<String, AllocError> {
-    let ran = ran(alloc, "check", unfolded(alloc, book)?, &[], &[])?;
+/// What the program answers to a word and a book, where these calls fail: the lines that it writes, and the exit status.
+pub fn told(
+    alloc: Global,
+    word: &str,
+    book: &str,
+    unread: Option<u64>,
+    unwritten: Option<u64>,
+) -> Result<String, AllocError> {
+    let ran = ran(alloc, word, unfolded(alloc, book)?, unread, unwritten)?;
     let mut text = String::new(alloc);
     for line in str::from_utf8(&ran.out).unwrap_or("").lines() {
         text.push_str(line)?;
@@ -64,16 +79,9 @@ pub fn answer(alloc: Global, book: &str) -> Result<String, AllocError> {
     Ok(text)
 }
 
-/// The same without the lines that begin with a bar.
-pub fn steps_answer(alloc: Global, book: &str) -> Result<String, AllocError> {
-    let mut text = String::new(alloc);
-    for line in answer(alloc, book)?.as_str().split('/') {
-        if !line.starts_with('|') {
-            text.push_str(line)?;
-            text.push_str("/")?;
-        }
-    }
-    Ok(text)
+/// What `check` answers to a book: the lines that it writes, and the exit status.
+pub fn answer(alloc: Global, book: &str) -> Result<String, AllocError> {
+    told(alloc, "check", book, None, None)
 }
 
 /// The part of a row of a test that stands there between its marks ` => `.

@@ -1,5 +1,6 @@
 use Rattle.std.proofs.Common.{◌≡◌, ◌≤◌, length, None}
-use Rattle.std.specs.Prelude.{IfSome}
+use Rattle.std.specs.Prelude.{IfSome, OnSome}
+use Rattle.e_book.specs.Limits.{most_theorems}
 use Rattle.e_book.specs.Steps.{FitsScope}
 use Rattle.e_book.specs.Book.{read_from, last_line}
 use Rattle.e_book.proofs.book.read_theorem.Given as goal
@@ -10,6 +11,7 @@ invariant-loop-line l = record {
   last : last_line l.lines ≡ last_line l.initial.lines;
   fewer : length l.lines.lines ≤ length l.initial.lines.lines;
   fits : IfSome l.draft FitsScope;
+  few : OnSome l.draft (length l.known ≤ most_theorems);
 }
 
 abbrev pub decreases-loop-line : goal.decreases-loop-line

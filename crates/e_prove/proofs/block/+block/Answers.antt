@@ -1,46 +1,47 @@
-use Rattle.std.proofs.Common.{◌≡◌, ◌+◌, rules, arith, sym, ap, ◌∙◌, subst, drop, true, IfOk}
-use Rattle.std.specs.Prelude.{IsTrue}
+use Rattle.std.proofs.Common.{◌≡◌, ◌+◌, ◌<◌, length, rules, arith, sym, ap, ◌∙◌, subst, true, IfOk}
 use Rattle.e_literal.specs.Literal.{negation}
 use Rattle.e_literal.specs.Facts.{joined}
 use Rattle.e_clause.specs.Judged.{are_good, are_good_facts}
+use Rattle.e_theorem.specs.Statements.{stated, all_stated}
 use Rattle.e_deriv.specs.declared.block.Close.TheViews.{the_lemmas}
-use Rattle.e_deriv.specs.declared.block.Step.TheVariants.{Cite, Hence, Make}
+use Rattle.e_deriv.specs.declared.block.Step.TheVariants.{Cite, Hence, Make, Apply}
 use Rattle.e_deriv.specs.declared.block.Close.TheVariants.{Qed, Contradiction}
 use Rattle.e_deriv.specs.Script.{script_of, step_script, close_script, size}
 use Rattle.e_deriv.specs.Goal.{goal_of, are_for, goal_with}
 use Rattle.e_prove.specs.Contexts.{goal_said, after_literal, after_superposed}
+use Rattle.e_prove.specs.Applying.{CanApply}
 use Rattle.e_prove.specs.Judging.{IsJudged, CloseHalts, StepHalts}
-use Rattle.e_prove.specs.Passing.{IsReadyFor, IsReadyStep, IsDerived, IsPassed, StopsWithin, StepStops, KeepsFacts}
+use Rattle.e_prove.specs.Passing.{IsReadyFor, IsReadyStep, IsDerived, IsPassed, StopsWithin}
 use Rattle.e_prove.proofs.Licensing.{ok_map, err_map}
 use Rattle.e_prove.proofs.Closing.{qed_fits}
-use Rattle.e_prove.proofs.Passing.{told_passed, told_stops, told_close_stops}
+use Rattle.e_prove.proofs.Passing.{told_passed, told_stops, told_close_stops, stops_as_memory}
 use Rattle.e_prove.proofs.Inside.{some_lines}
-use Rattle.e_prove.proofs.Ready.{cite_good, hence_good, one_good, make_good, make_room, claim_parts, claim_after, superposed_parts, superposed_after, block_facts}
-use Rattle.e_prove.proofs.Blocks.{on_ok, passed_start, step_ready, step_stops, step_passed, close_ready, close_few, close_derived, close_stops, kept_on, kept_literal, kept_superposed, few_left, good_left_for, good_behind, left_is, claim_passed, claim_stopped, superposed_passed, superposed_stopped, superposed_refused, split_parts, split_size, split_derived, split_stops_first, split_stops_second, cite_one, hence_one, make_one, qed_one, contradiction_one}
+use Rattle.e_prove.proofs.Ready.{cite_good, hence_good, one_good, make_good, make_room, claim_parts, claim_lines, claim_after, superposed_parts, superposed_lines, superposed_after, block_facts, room_of_small, apply_good, as_many, theorem_is}
+use Rattle.e_prove.proofs.Blocks.{on_ok, passed_start, step_ready, step_stops, step_passed, close_ready, close_few, close_derived, close_stops, kept_on, kept_literal, kept_superposed, few_left, good_left_for, good_behind, left_is, claim_passed, claim_stopped, superposed_passed, superposed_stopped, superposed_refused, split_parts, split_second_ready, split_size, split_derived, split_stops_first, split_stops_second, cite_one, hence_one, make_one, apply_one, qed_one, contradiction_one}
 use Rattle.e_prove.proofs.block.+block.Goals as goal
 
 -- ---- a block
 
 pub prove_block-loop-step-init : goal.prove_block-loop-step-init
-prove_block-loop-step-init t c = record { passed = passed_start c.args.block.now.steps.items c.new-steps.result.items c.args.standing.now c.args.first c.new-steps.ensures.items }
+prove_block-loop-step-init t c = record { passed = passed_start (all_stated c.args.before.now) c.args.block.now.steps.items c.new-steps.result.items c.args.standing.now c.args.first c.new-steps.ensures.items }
 
 pub prove_block-prove_step-requires : goal.prove_block-prove_step-requires
 prove_block-prove_step-requires t c = (
   search (rules, the_lemmas),
-  step_ready c.args.block.now.steps.items c.deref-step-items.result.now c.loop-step.steps.items (close_script c.args.block.now.close) c.loop-step.step-index c.step-item.result c.args.standing.now c.loop-step.standing
+  step_ready (all_stated c.args.before.now) c.args.block.now.steps.items c.deref-step-items.result.now c.loop-step.steps.items (close_script c.args.block.now.close) c.loop-step.step-index c.step-item.result c.args.standing.now c.loop-step.standing
       (goal_said c.args.goal.now) c.args.first c.loop-step.number c.deref-step-items.ensures.value c.loop-step-test.true c.step-item.is c.loop-step.invariant.passed c.requires.ready c.requires.few,
 )
 
 pub prove_block-returns-in-Err-clause-err : goal.prove_block-returns-in-Err-clause-err
 prove_block-returns-in-Err-clause-err t c =
-    step_stops c.args.block.now.steps.items c.deref-step-items.result.now c.loop-step.steps.items (close_script c.args.block.now.close) c.loop-step.step-index c.step-item.result c.args.standing.now c.loop-step.standing
+    step_stops (all_stated c.args.before.now) c.args.block.now.steps.items c.deref-step-items.result.now c.loop-step.steps.items (close_script c.args.block.now.close) c.loop-step.step-index c.step-item.result c.args.standing.now c.loop-step.standing
     (goal_said c.args.goal.now) c.args.first c.loop-step.number c.in-Err.stop c.deref-step-items.ensures.value c.loop-step-test.true c.step-item.is c.loop-step.invariant.passed c.requires.ready c.in-Err.ensures.err
 
 pub prove_block-loop-step-preserved : goal.prove_block-loop-step-preserved
 prove_block-loop-step-preserved t c =
     record {
       passed =
-          step_passed c.args.block.now.steps.items c.deref-step-items.result.now c.loop-step.steps.items c.push.new.self.items c.loop-step.step-index c.step-item.result c.in-Ok.proved.step c.args.standing.now c.loop-step.standing
+          step_passed (all_stated c.args.before.now) c.args.block.now.steps.items c.deref-step-items.result.now c.loop-step.steps.items c.push.new.self.items c.loop-step.step-index c.step-item.result c.in-Ok.proved.step c.args.standing.now c.loop-step.standing
           c.prove_step.new.standing c.args.first c.loop-step.number c.in-Ok.proved.next c.deref-step-items.ensures.value c.loop-step-test.true c.step-item.is c.in_ok-push-in-Ok.ensures.items c.loop-step.invariant.passed c.in-Ok.ensures.ok;
     }
 
@@ -50,10 +51,10 @@ prove_block-prove_close-requires t c =
     let close = close_script c.args.block.now.close in
     let i = c.loop-step.step-index in
     let p = c.loop-step.invariant.passed in
-    let few = close_few items c.deref-step-items.result.now c.loop-step.steps.items close i c.args.standing.now c.loop-step.standing c.args.first c.loop-step.number c.deref-step-items.ensures.value c.loop-step-test.false p in (
+    let few = close_few (all_stated c.args.before.now) items c.deref-step-items.result.now c.loop-step.steps.items close i c.args.standing.now c.loop-step.standing c.args.first c.loop-step.number c.deref-step-items.ensures.value c.loop-step-test.false p in (
       search (rules, the_lemmas),
       (
-        close_ready items c.deref-step-items.result.now c.loop-step.steps.items close i c.args.standing.now c.loop-step.standing (goal_said c.args.goal.now) c.args.first c.loop-step.number c.deref-step-items.ensures.value c.loop-step-test.false p
+        close_ready (all_stated c.args.before.now) items c.deref-step-items.result.now c.loop-step.steps.items close i c.args.standing.now c.loop-step.standing (goal_said c.args.goal.now) c.args.first c.loop-step.number c.deref-step-items.ensures.value c.loop-step-test.false p
             c.requires.ready,
         omega (arith, few, c.requires.few),
       ),
@@ -61,13 +62,13 @@ prove_block-prove_close-requires t c =
 
 pub prove_block-returns-in-Ok-prove_close-clause-derived : goal.prove_block-returns-in-Ok-prove_close-clause-derived
 prove_block-returns-in-Ok-prove_close-clause-derived t c =
-    close_derived c.args.block.now.steps.items c.deref-step-items.result.now c.loop-step.steps.items (close_script c.args.block.now.close) (close_script c.in-Ok-prove_close.proved.close) c.loop-step.step-index c.args.standing.now c.loop-step.standing
+    close_derived (all_stated c.args.before.now) c.args.block.now.steps.items c.deref-step-items.result.now c.loop-step.steps.items (close_script c.args.block.now.close) (close_script c.in-Ok-prove_close.proved.close) c.loop-step.step-index c.args.standing.now c.loop-step.standing
     (goal_said c.args.goal.now) c.args.first c.loop-step.number c.deref-step-items.ensures.value c.loop-step-test.false c.loop-step.invariant.passed c.requires.ready c.in-Ok-prove_close.ensures.derived
 
 pub prove_block-returns-in-Ok-prove_close-clause-next : goal.prove_block-returns-in-Ok-prove_close-clause-next
 prove_block-returns-in-Ok-prove_close-clause-next t c =
     c.in-Ok-prove_close.ensures.next
-    ∙ sym (close_few c.args.block.now.steps.items c.deref-step-items.result.now c.loop-step.steps.items (close_script c.args.block.now.close) c.loop-step.step-index c.args.standing.now c.loop-step.standing c.args.first c.loop-step.number
+    ∙ sym (close_few (all_stated c.args.before.now) c.args.block.now.steps.items c.deref-step-items.result.now c.loop-step.steps.items (close_script c.args.block.now.close) c.loop-step.step-index c.args.standing.now c.loop-step.standing c.args.first c.loop-step.number
     c.deref-step-items.ensures.value c.loop-step-test.false c.loop-step.invariant.passed)
 
 pub prove_block-returns-in-Ok-prove_close-clause-kept : goal.prove_block-returns-in-Ok-prove_close-clause-kept
@@ -76,23 +77,38 @@ prove_block-returns-in-Ok-prove_close-clause-kept t c =
 
 pub prove_block-returns-in-Err-prove_close-clause-err : goal.prove_block-returns-in-Err-prove_close-clause-err
 prove_block-returns-in-Err-prove_close-clause-err t c =
-    close_stops c.args.block.now.steps.items c.deref-step-items.result.now c.loop-step.steps.items (close_script c.args.block.now.close) c.loop-step.step-index c.args.standing.now c.loop-step.standing (goal_said c.args.goal.now) c.args.first
+    close_stops (all_stated c.args.before.now) c.args.block.now.steps.items c.deref-step-items.result.now c.loop-step.steps.items (close_script c.args.block.now.close) c.loop-step.step-index c.args.standing.now c.loop-step.standing (goal_said c.args.goal.now) c.args.first
     c.loop-step.number c.in-Err-prove_close.stop c.deref-step-items.ensures.value c.loop-step-test.false c.loop-step.invariant.passed c.requires.ready c.in-Err-prove_close.ensures.err
 
+pub prove_block-returns-in_err-push-in-Ok-clause-err : goal.prove_block-returns-in_err-push-in-Ok-clause-err
+prove_block-returns-in_err-push-in-Ok-clause-err t c = stops_as_memory (all_stated c.args.before.now) (script_of c.args.block.now) c.args.standing.now (goal_said c.args.goal.now) c.args.first c.from_residual.result (search rules)
+
 -- ---- a close
+
+pub prove_close-returns-in_err-outer-in-Cases-clause-err : goal.prove_close-returns-in_err-outer-in-Cases-clause-err
+prove_close-returns-in_err-outer-in-Cases-clause-err t c = stops_as_memory (all_stated c.args.before.now) (close_script c.args.close.now) c.args.standing.now (goal_said c.args.goal.now) c.args.number c.from_residual.result (search rules)
+
+pub prove_close-returns-in_err-suppose-in-Cases-clause-err : goal.prove_close-returns-in_err-suppose-in-Cases-clause-err
+prove_close-returns-in_err-suppose-in-Cases-clause-err t c = stops_as_memory (all_stated c.args.before.now) (close_script c.args.close.now) c.args.standing.now (goal_said c.args.goal.now) c.args.number c.from_residual-in_err-suppose-in-Cases.result (search rules)
+
+pub prove_close-returns-in_err-suppose_not-in-Cases-clause-err : goal.prove_close-returns-in_err-suppose_not-in-Cases-clause-err
+prove_close-returns-in_err-suppose_not-in-Cases-clause-err t c = stops_as_memory (all_stated c.args.before.now) (close_script c.args.close.now) c.args.standing.now (goal_said c.args.goal.now) c.args.number c.from_residual-in_err-suppose_not-in-Cases.result (search rules)
+
+pub prove_close-returns-in-Ok-prove_block-clause-err : goal.prove_close-returns-in-Ok-prove_block-clause-err
+prove_close-returns-in-Ok-prove_block-clause-err t c = stops_as_memory (all_stated c.args.before.now) (close_script c.args.close.now) c.args.standing.now (goal_said c.args.goal.now) c.args.number c.split.result c.split.ensures.err
 
 pub prove_close-qed-judged-requires-clause-form : goal.prove_close-qed-judged-requires-clause-form
 prove_close-qed-judged-requires-clause-form t c =
     let x = c.args.standing.now in
     let goal = goal_said c.args.goal.now in
-    let fit = qed_fits c.in-Qed.objects c.in-Qed.certs x goal (subst (λ close. IsReadyFor (close_script close) x goal) c.in-Qed.is c.requires.ready) in
+    let fit = qed_fits (all_stated c.args.before.now) c.in-Qed.objects c.in-Qed.certs x goal (subst (λ close. IsReadyFor (all_stated c.args.before.now) (close_script close) x goal) c.in-Qed.is c.requires.ready) in
     subst (λ os. are_for goal x.context.scope os ≡ true) (sym c.items.ensures) fit.form
 
 pub prove_close-qed-judged-requires-clause-lits : goal.prove_close-qed-judged-requires-clause-lits
 prove_close-qed-judged-requires-clause-lits t c =
     let x = c.args.standing.now in
     let goal = goal_said c.args.goal.now in
-    let fit = qed_fits c.in-Qed.objects c.in-Qed.certs x goal (subst (λ close. IsReadyFor (close_script close) x goal) c.in-Qed.is c.requires.ready) in
+    let fit = qed_fits (all_stated c.args.before.now) c.in-Qed.objects c.in-Qed.certs x goal (subst (λ close. IsReadyFor (all_stated c.args.before.now) (close_script close) x goal) c.in-Qed.is c.requires.ready) in
     subst (λ os. are_good x.context.scope (goal_with goal os) ≡ true) (sym c.items.ensures) fit.lits
 
 pub prove_close-told_close-requires : goal.prove_close-told_close-requires
@@ -105,8 +121,8 @@ pub prove_close-suppose-requires : goal.prove_close-suppose-requires
 prove_close-suppose-requires t c =
     let x = c.args.standing.now in
     let goal = goal_said c.args.goal.now in
-    let parts = split_parts c.args.close.now c.in-Cases.lit c.in-Cases.first c.in-Cases.second x goal c.in-Cases.is c.requires.ready in
-    block_facts (script_of c.in-Cases.first.value) (after_literal c.in-Cases.lit x) goal parts.one
+    let parts = split_parts (all_stated c.args.before.now) c.args.close.now c.in-Cases.lit c.in-Cases.first c.in-Cases.second x goal c.in-Cases.is c.requires.ready in
+    block_facts (all_stated c.args.before.now) (script_of c.in-Cases.first.value) (after_literal c.in-Cases.lit x) goal parts.one
 
 pub prove_close-overflow_add-number : goal.prove_close-overflow_add-number
 prove_close-overflow_add-number t c = let one = some_lines (close_script c.args.close.now) in omega (arith, one, c.requires.few)
@@ -115,13 +131,13 @@ pub prove_close-prove_block-requires : goal.prove_close-prove_block-requires
 prove_close-prove_block-requires t c =
     let x = c.args.standing.now in
     let goal = goal_said c.args.goal.now in
-    let parts = split_parts c.args.close.now c.in-Cases.lit c.in-Cases.first c.in-Cases.second x goal c.in-Cases.is c.requires.ready in
+    let parts = split_parts (all_stated c.args.before.now) c.args.close.now c.in-Cases.lit c.in-Cases.first c.in-Cases.second x goal c.in-Cases.is c.requires.ready in
     let count = split_size c.args.close.now c.in-Cases.lit c.in-Cases.first c.in-Cases.second c.in-Cases.is in
     let same = ap (λ b. size (script_of b)) c.deref.ensures in (
       search (rules, the_lemmas),
       (
-        subst (λ b. IsReadyFor (script_of b) c.suppose.new.self goal) (sym c.deref.ensures)
-            (subst (λ y. IsReadyFor (script_of c.in-Cases.first.value) y goal) (sym c.in_ok-suppose-in-Cases.ensures) parts.one),
+        subst (λ b. IsReadyFor (all_stated c.args.before.now) (script_of b) c.suppose.new.self goal) (sym c.deref.ensures)
+            (subst (λ y. IsReadyFor (all_stated c.args.before.now) (script_of c.in-Cases.first.value) y goal) (sym c.in_ok-suppose-in-Cases.ensures) parts.one),
         omega (arith, count, same, c.requires.few),
       ),
     )
@@ -130,10 +146,10 @@ pub prove_close-returns-in-Err-clause-err : goal.prove_close-returns-in-Err-clau
 prove_close-returns-in-Err-clause-err t c =
     let x = c.args.standing.now in
     let goal = goal_said c.args.goal.now in
-    let parts = split_parts c.args.close.now c.in-Cases.lit c.in-Cases.first c.in-Cases.second x goal c.in-Cases.is c.requires.ready in
-    split_stops_first c.args.close.now c.in-Cases.lit c.in-Cases.first c.in-Cases.second x goal c.args.number c.in-Err.stop c.in-Cases.is parts
-    (subst (λ y. StopsWithin (script_of c.in-Cases.first.value) y goal (c.args.number + 1) c.in-Err.stop) c.in_ok-suppose-in-Cases.ensures
-    (subst (λ b. StopsWithin (script_of b) c.suppose.new.self goal (c.args.number + 1) c.in-Err.stop) c.deref.ensures c.in-Err.ensures.err))
+    let parts = split_parts (all_stated c.args.before.now) c.args.close.now c.in-Cases.lit c.in-Cases.first c.in-Cases.second x goal c.in-Cases.is c.requires.ready in
+    split_stops_first (all_stated c.args.before.now) c.args.close.now c.in-Cases.lit c.in-Cases.first c.in-Cases.second x goal c.args.number c.in-Err.stop c.in-Cases.is parts
+    (subst (λ y. StopsWithin (all_stated c.args.before.now) (script_of c.in-Cases.first.value) y goal (c.args.number + 1) c.in-Err.stop) c.in_ok-suppose-in-Cases.ensures
+    (subst (λ b. StopsWithin (all_stated c.args.before.now) (script_of b) c.suppose.new.self goal (c.args.number + 1) c.in-Err.stop) c.deref.ensures c.in-Err.ensures.err))
 
 pub prove_close-leave-requires-clause-few : goal.prove_close-leave-requires-clause-few
 prove_close-leave-requires-clause-few t c =
@@ -144,26 +160,36 @@ pub prove_close-leave-requires-clause-good : goal.prove_close-leave-requires-cla
 prove_close-leave-requires-clause-good t c =
     good_left_for c.in_ok-outer-in-Cases.outer c.args.standing.now c.prove_block.new.standing c.in_ok-outer-in-Cases.ensures
     (kept_literal c.in-Cases.lit c.args.standing.now c.suppose.new.self c.prove_block.new.standing c.in_ok-suppose-in-Cases.ensures c.in-Ok.ensures.kept)
-    (block_facts (close_script c.args.close.now) c.args.standing.now (goal_said c.args.goal.now) c.requires.ready)
+    (block_facts (all_stated c.args.before.now) (close_script c.args.close.now) c.args.standing.now (goal_said c.args.goal.now) c.requires.ready)
 
 pub prove_close-suppose_not-requires : goal.prove_close-suppose_not-requires
 prove_close-suppose_not-requires t c =
     let x = c.args.standing.now in
     let goal = goal_said c.args.goal.now in
     let lit = c.in-Cases.lit in
-    let parts = split_parts c.args.close.now lit c.in-Cases.first c.in-Cases.second x goal c.in-Cases.is c.requires.ready in
+    let other =
+    split_second_ready (all_stated c.args.before.now) c.args.close.now lit c.in-Cases.first c.in-Cases.second (script_of c.in-Ok.one.block) x goal c.in-Cases.is
+    (subst (λ y. IsDerived (all_stated c.args.before.now) (script_of c.in-Cases.first.value) y goal (script_of c.in-Ok.one.block)) c.in_ok-suppose-in-Cases.ensures
+    (subst (λ b. IsDerived (all_stated c.args.before.now) (script_of b) c.suppose.new.self goal (script_of c.in-Ok.one.block)) c.deref.ensures c.in-Ok.ensures.derived))
+    c.requires.ready
+    in
     let back =
     left_is c.in_ok-outer-in-Cases.outer x c.prove_block.new.standing c.leave.new.self c.in_ok-outer-in-Cases.ensures
     (kept_literal lit x c.suppose.new.self c.prove_block.new.standing c.in_ok-suppose-in-Cases.ensures c.in-Ok.ensures.kept) c.leave.ensures
     in
-    subst (λ y. are_good_facts y.context.scope (joined y.context.facts (negation lit)) ≡ true) (sym back) (block_facts (script_of c.in-Cases.second.value) (after_literal (negation lit) x) goal parts.other)
+    subst (λ y. are_good_facts y.context.scope (joined y.context.facts (negation lit)) ≡ true) (sym back) (block_facts (all_stated c.args.before.now) (script_of c.in-Cases.second.value) (after_literal (negation lit) x) goal other)
 
 pub prove_close-prove_block-requires-in-Cases : goal.prove_close-prove_block-requires-in-Cases
 prove_close-prove_block-requires-in-Cases t c =
     let x = c.args.standing.now in
     let goal = goal_said c.args.goal.now in
     let lit = c.in-Cases.lit in
-    let parts = split_parts c.args.close.now lit c.in-Cases.first c.in-Cases.second x goal c.in-Cases.is c.requires.ready in
+    let other =
+    split_second_ready (all_stated c.args.before.now) c.args.close.now lit c.in-Cases.first c.in-Cases.second (script_of c.in-Ok.one.block) x goal c.in-Cases.is
+    (subst (λ y. IsDerived (all_stated c.args.before.now) (script_of c.in-Cases.first.value) y goal (script_of c.in-Ok.one.block)) c.in_ok-suppose-in-Cases.ensures
+    (subst (λ b. IsDerived (all_stated c.args.before.now) (script_of b) c.suppose.new.self goal (script_of c.in-Ok.one.block)) c.deref.ensures c.in-Ok.ensures.derived))
+    c.requires.ready
+    in
     let count = split_size c.args.close.now lit c.in-Cases.first c.in-Cases.second c.in-Cases.is in
     let back =
     left_is c.in_ok-outer-in-Cases.outer x c.prove_block.new.standing c.leave.new.self c.in_ok-outer-in-Cases.ensures
@@ -171,12 +197,12 @@ prove_close-prove_block-requires-in-Cases t c =
     in
     let begun = c.in_ok-suppose_not-in-Cases.ensures ∙ ap (after_literal (negation lit)) back in
     let same = ap (λ b. size (script_of b)) c.deref.ensures in
-    let other = ap (λ b. size (script_of b)) c.deref-in-Cases.ensures in (
+    let count_other = ap (λ b. size (script_of b)) c.deref-in-Cases.ensures in (
       search (rules, the_lemmas),
       (
-        subst (λ b. IsReadyFor (script_of b) c.suppose_not.new.self goal) (sym c.deref-in-Cases.ensures)
-            (subst (λ y. IsReadyFor (script_of c.in-Cases.second.value) y goal) (sym begun) parts.other),
-        omega (arith, count, same, other, c.in-Ok.ensures.next, c.requires.few),
+        subst (λ b. IsReadyFor (all_stated c.args.before.now) (script_of b) c.suppose_not.new.self goal) (sym c.deref-in-Cases.ensures)
+            (subst (λ y. IsReadyFor (all_stated c.args.before.now) (script_of c.in-Cases.second.value) y goal) (sym begun) other),
+        omega (arith, count, same, count_other, c.in-Ok.ensures.next, c.requires.few),
       ),
     )
 
@@ -189,9 +215,9 @@ pub prove_close-returns-in-Qed-clause-err : goal.prove_close-returns-in-Qed-clau
 prove_close-returns-in-Qed-clause-err t c =
     let x = c.args.standing.now in
     let goal = goal_said c.args.goal.now in
-    told_close_stops c.args.close.now x goal c.args.number c.qed-judged.result c.told_close.result
+    told_close_stops (all_stated c.args.before.now) c.args.close.now x goal c.args.number c.qed-judged.result c.told_close.result
     (err_map _ _ c.qed-judged.result
-    (λ h k. subst (λ close. CloseHalts close x.context goal h) (sym c.in-Qed.is) (subst (λ os. CloseHalts (Qed os c.in-Qed.certs) x.context goal h) c.items.ensures (k c.in-Qed.certs)))
+    (λ h k. subst (λ close. CloseHalts (all_stated c.args.before.now) close x.context goal h) (sym c.in-Qed.is) (subst (λ os. CloseHalts (all_stated c.args.before.now) (Qed os c.in-Qed.certs) x.context goal h) c.items.ensures (k (all_stated c.args.before.now) c.in-Qed.certs)))
     c.qed-judged.ensures.err)
     c.told_close.ensures.err
 
@@ -204,8 +230,8 @@ pub prove_close-returns-in-Contradiction-clause-err : goal.prove_close-returns-i
 prove_close-returns-in-Contradiction-clause-err t c =
     let x = c.args.standing.now in
     let goal = goal_said c.args.goal.now in
-    told_close_stops c.args.close.now x goal c.args.number c.contradiction-judged.result c.told_close-in-Contradiction.result
-    (err_map _ _ c.contradiction-judged.result (λ h k. subst (λ close. CloseHalts close x.context goal h) (sym c.in-Contradiction.is) (k goal c.in-Contradiction.against)) c.contradiction-judged.ensures.err)
+    told_close_stops (all_stated c.args.before.now) c.args.close.now x goal c.args.number c.contradiction-judged.result c.told_close-in-Contradiction.result
+    (err_map _ _ c.contradiction-judged.result (λ h k. subst (λ close. CloseHalts (all_stated c.args.before.now) close x.context goal h) (sym c.in-Contradiction.is) (k (all_stated c.args.before.now) goal c.in-Contradiction.against)) c.contradiction-judged.ensures.err)
     c.told_close-in-Contradiction.ensures.err
 
 pub prove_close-returns-in-Ok-prove_block-clause-derived : goal.prove_close-returns-in-Ok-prove_block-clause-derived
@@ -213,17 +239,17 @@ prove_close-returns-in-Ok-prove_block-clause-derived t c =
     let x = c.args.standing.now in
     let goal = goal_said c.args.goal.now in
     let lit = c.in-Cases.lit in
-    let parts = split_parts c.args.close.now lit c.in-Cases.first c.in-Cases.second x goal c.in-Cases.is c.requires.ready in
+    let parts = split_parts (all_stated c.args.before.now) c.args.close.now lit c.in-Cases.first c.in-Cases.second x goal c.in-Cases.is c.requires.ready in
     let back =
     left_is c.in_ok-outer-in-Cases.outer x c.prove_block.new.standing c.leave.new.self c.in_ok-outer-in-Cases.ensures
     (kept_literal lit x c.suppose.new.self c.prove_block.new.standing c.in_ok-suppose-in-Cases.ensures c.in-Ok.ensures.kept) c.leave.ensures
     in
     let begun = c.in_ok-suppose_not-in-Cases.ensures ∙ ap (after_literal (negation lit)) back in
-    split_derived c.args.close.now lit c.in-Cases.first c.in-Cases.second c.in-Ok.one.block c.in-Ok-prove_block.other.block x goal c.split.result c.in-Cases.is parts
-    (subst (λ y. IsDerived (script_of c.in-Cases.first.value) y goal (script_of c.in-Ok.one.block)) c.in_ok-suppose-in-Cases.ensures
-    (subst (λ b. IsDerived (script_of b) c.suppose.new.self goal (script_of c.in-Ok.one.block)) c.deref.ensures c.in-Ok.ensures.derived))
-    (subst (λ y. IsDerived (script_of c.in-Cases.second.value) y goal (script_of c.in-Ok-prove_block.other.block)) begun
-    (subst (λ b. IsDerived (script_of b) c.suppose_not.new.self goal (script_of c.in-Ok-prove_block.other.block)) c.deref-in-Cases.ensures c.in-Ok-prove_block.ensures.derived))
+    split_derived (all_stated c.args.before.now) c.args.close.now lit c.in-Cases.first c.in-Cases.second c.in-Ok.one.block c.in-Ok-prove_block.other.block x goal c.split.result c.in-Cases.is parts
+    (subst (λ y. IsDerived (all_stated c.args.before.now) (script_of c.in-Cases.first.value) y goal (script_of c.in-Ok.one.block)) c.in_ok-suppose-in-Cases.ensures
+    (subst (λ b. IsDerived (all_stated c.args.before.now) (script_of b) c.suppose.new.self goal (script_of c.in-Ok.one.block)) c.deref.ensures c.in-Ok.ensures.derived))
+    (subst (λ y. IsDerived (all_stated c.args.before.now) (script_of c.in-Cases.second.value) y goal (script_of c.in-Ok-prove_block.other.block)) begun
+    (subst (λ b. IsDerived (all_stated c.args.before.now) (script_of b) c.suppose_not.new.self goal (script_of c.in-Ok-prove_block.other.block)) c.deref-in-Cases.ensures c.in-Ok-prove_block.ensures.derived))
     c.split.ensures.close
 
 pub prove_close-returns-in-Ok-prove_block-clause-next : goal.prove_close-returns-in-Ok-prove_block-clause-next
@@ -248,24 +274,24 @@ prove_close-returns-in-Err-prove_block-clause-err t c =
     let x = c.args.standing.now in
     let goal = goal_said c.args.goal.now in
     let lit = c.in-Cases.lit in
-    let parts = split_parts c.args.close.now lit c.in-Cases.first c.in-Cases.second x goal c.in-Cases.is c.requires.ready in
+    let parts = split_parts (all_stated c.args.before.now) c.args.close.now lit c.in-Cases.first c.in-Cases.second x goal c.in-Cases.is c.requires.ready in
     let back =
     left_is c.in_ok-outer-in-Cases.outer x c.prove_block.new.standing c.leave.new.self c.in_ok-outer-in-Cases.ensures
     (kept_literal lit x c.suppose.new.self c.prove_block.new.standing c.in_ok-suppose-in-Cases.ensures c.in-Ok.ensures.kept) c.leave.ensures
     in
     let begun = c.in_ok-suppose_not-in-Cases.ensures ∙ ap (after_literal (negation lit)) back in
     let same = ap (λ b. size (script_of b)) c.deref.ensures in
-    split_stops_second c.args.close.now lit c.in-Cases.first c.in-Cases.second c.in-Ok.one.block x goal c.args.number c.in-Ok.one.next c.in-Err-prove_block.stop c.in-Cases.is parts
-    (subst (λ y. IsDerived (script_of c.in-Cases.first.value) y goal (script_of c.in-Ok.one.block)) c.in_ok-suppose-in-Cases.ensures
-    (subst (λ b. IsDerived (script_of b) c.suppose.new.self goal (script_of c.in-Ok.one.block)) c.deref.ensures c.in-Ok.ensures.derived))
+    split_stops_second (all_stated c.args.before.now) c.args.close.now lit c.in-Cases.first c.in-Cases.second c.in-Ok.one.block x goal c.args.number c.in-Ok.one.next c.in-Err-prove_block.stop c.in-Cases.is parts
+    (subst (λ y. IsDerived (all_stated c.args.before.now) (script_of c.in-Cases.first.value) y goal (script_of c.in-Ok.one.block)) c.in_ok-suppose-in-Cases.ensures
+    (subst (λ b. IsDerived (all_stated c.args.before.now) (script_of b) c.suppose.new.self goal (script_of c.in-Ok.one.block)) c.deref.ensures c.in-Ok.ensures.derived))
     (omega (arith, same, c.in-Ok.ensures.next))
-    (subst (λ y. StopsWithin (script_of c.in-Cases.second.value) y goal c.in-Ok.one.next c.in-Err-prove_block.stop) begun
-    (subst (λ b. StopsWithin (script_of b) c.suppose_not.new.self goal c.in-Ok.one.next c.in-Err-prove_block.stop) c.deref-in-Cases.ensures c.in-Err-prove_block.ensures.err))
+    (subst (λ y. StopsWithin (all_stated c.args.before.now) (script_of c.in-Cases.second.value) y goal c.in-Ok.one.next c.in-Err-prove_block.stop) begun
+    (subst (λ b. StopsWithin (all_stated c.args.before.now) (script_of b) c.suppose_not.new.self goal c.in-Ok.one.next c.in-Err-prove_block.stop) c.deref-in-Cases.ensures c.in-Err-prove_block.ensures.err))
 
 -- ---- steps of one line
 
 pub prove_step-cite-judged-requires : goal.prove_step-cite-judged-requires
-prove_step-cite-judged-requires t c = cite_good c.in-Cite.by c.args.standing.now c.args.number (subst (λ s. IsReadyStep s c.args.standing.now c.args.number) c.in-Cite.is c.requires)
+prove_step-cite-judged-requires t c = cite_good (all_stated c.args.before.now) c.in-Cite.by c.args.standing.now c.args.number (subst (λ s. IsReadyStep (all_stated c.args.before.now) s c.args.standing.now c.args.number) c.in-Cite.is c.requires)
 
 pub prove_step-told-requires : goal.prove_step-told-requires
 prove_step-told-requires t c = let one = some_lines (step_script c.args.step.now c.requires.rest) in omega (arith, one, c.requires.few)
@@ -273,26 +299,26 @@ prove_step-told-requires t c = let one = some_lines (step_script c.args.step.now
 pub prove_step-hence-judged-requires-clause-lit : goal.prove_step-hence-judged-requires-clause-lit
 prove_step-hence-judged-requires-clause-lit t c =
     one_good c.args.standing.now.context.scope c.in-Hence.lit
-    (hence_good c.in-Hence.lit c.in-Hence.cert c.args.standing.now c.args.number (subst (λ s. IsReadyStep s c.args.standing.now c.args.number) c.in-Hence.is c.requires)).needs
+    (hence_good (all_stated c.args.before.now) c.in-Hence.lit c.in-Hence.cert c.args.standing.now c.args.number (subst (λ s. IsReadyStep (all_stated c.args.before.now) s c.args.standing.now c.args.number) c.in-Hence.is c.requires)).needs
 
 pub prove_step-hence-judged-requires-clause-after : goal.prove_step-hence-judged-requires-clause-after
 prove_step-hence-judged-requires-clause-after t c =
-    (hence_good c.in-Hence.lit c.in-Hence.cert c.args.standing.now c.args.number (subst (λ s. IsReadyStep s c.args.standing.now c.args.number) c.in-Hence.is c.requires)).after
+    (hence_good (all_stated c.args.before.now) c.in-Hence.lit c.in-Hence.cert c.args.standing.now c.args.number (subst (λ s. IsReadyStep (all_stated c.args.before.now) s c.args.standing.now c.args.number) c.in-Hence.is c.requires)).after
 
 pub prove_step-told-requires-in-Hence : goal.prove_step-told-requires-in-Hence
 prove_step-told-requires-in-Hence t c = let one = some_lines (step_script c.args.step.now c.requires.rest) in omega (arith, one, c.requires.few)
 
 pub prove_step-make-judged-requires-clause-room : goal.prove_step-make-judged-requires-clause-room
 prove_step-make-judged-requires-clause-room t c =
-    make_room c.in-Make.form c.in-Make.names c.in-Make.certs c.args.standing.now c.args.number (subst (λ s. IsReadyStep s c.args.standing.now c.args.number) c.in-Make.is c.requires)
+    make_room (all_stated c.args.before.now) c.in-Make.form c.in-Make.names c.in-Make.certs c.args.standing.now c.args.number (subst (λ s. IsReadyStep (all_stated c.args.before.now) s c.args.standing.now c.args.number) c.in-Make.is c.requires)
 
 pub prove_step-make-judged-requires-clause-needs : goal.prove_step-make-judged-requires-clause-needs
 prove_step-make-judged-requires-clause-needs t c =
-    (make_good c.in-Make.form c.in-Make.names c.in-Make.certs c.args.standing.now c.args.number (subst (λ s. IsReadyStep s c.args.standing.now c.args.number) c.in-Make.is c.requires)).needs
+    (make_good (all_stated c.args.before.now) c.in-Make.form c.in-Make.names c.in-Make.certs c.args.standing.now c.args.number (subst (λ s. IsReadyStep (all_stated c.args.before.now) s c.args.standing.now c.args.number) c.in-Make.is c.requires)).needs
 
 pub prove_step-make-judged-requires-clause-after : goal.prove_step-make-judged-requires-clause-after
 prove_step-make-judged-requires-clause-after t c =
-    (make_good c.in-Make.form c.in-Make.names c.in-Make.certs c.args.standing.now c.args.number (subst (λ s. IsReadyStep s c.args.standing.now c.args.number) c.in-Make.is c.requires)).after
+    (make_good (all_stated c.args.before.now) c.in-Make.form c.in-Make.names c.in-Make.certs c.args.standing.now c.args.number (subst (λ s. IsReadyStep (all_stated c.args.before.now) s c.args.standing.now c.args.number) c.in-Make.is c.requires)).after
 
 pub prove_step-told-requires-in-Make : goal.prove_step-told-requires-in-Make
 prove_step-told-requires-in-Make t c = let one = some_lines (step_script c.args.step.now c.requires.rest) in omega (arith, one, c.requires.few)
@@ -301,43 +327,98 @@ pub prove_step-returns-in-Cite-clause-ok : goal.prove_step-returns-in-Cite-claus
 prove_step-returns-in-Cite-clause-ok t c =
     let x = c.args.standing.now in
     let after = c.cite-judged.new.standing in
-    subst (λ s. IfOk c.told.result (λ p. IsPassed (step_script s) x c.args.number (step_script p.step) after p.next)) (sym c.in-Cite.is)
-    (told_passed (Cite c.in-Cite.by) x after c.args.number c.cite-judged.result c.told.result (cite_one c.in-Cite.by) c.cite-judged.ensures.ok c.told.ensures.step c.told.ensures.next)
+    subst (λ s. IfOk c.told.result (λ p. IsPassed (all_stated c.args.before.now) (step_script s) x c.args.number (step_script p.step) after p.next)) (sym c.in-Cite.is)
+    (told_passed (all_stated c.args.before.now) (Cite c.in-Cite.by) x after c.args.number c.cite-judged.result c.told.result (cite_one c.in-Cite.by) (ok_map _ _ c.cite-judged.result (λ d h. h (all_stated c.args.before.now)) c.cite-judged.ensures.ok) c.told.ensures.step c.told.ensures.next)
 
 pub prove_step-returns-in-Cite-clause-err : goal.prove_step-returns-in-Cite-clause-err
 prove_step-returns-in-Cite-clause-err t c =
     let x = c.args.standing.now in
-    told_stops c.args.step.now x c.cite-judged.new.standing c.args.number c.cite-judged.result c.told.result
-    (err_map _ _ c.cite-judged.result (λ h k. subst (λ s. StepHalts s x h) (sym c.in-Cite.is) k) c.cite-judged.ensures.err) c.cite-judged.ensures.kept c.told.ensures.err
+    told_stops (all_stated c.args.before.now) c.args.step.now x c.cite-judged.new.standing c.args.number c.cite-judged.result c.told.result
+    (err_map _ _ c.cite-judged.result (λ h k. subst (λ s. StepHalts (all_stated c.args.before.now) s x h) (sym c.in-Cite.is) (k (all_stated c.args.before.now))) c.cite-judged.ensures.err) c.cite-judged.ensures.kept c.told.ensures.err
 
 pub prove_step-returns-in-Hence-clause-ok : goal.prove_step-returns-in-Hence-clause-ok
 prove_step-returns-in-Hence-clause-ok t c =
     let x = c.args.standing.now in
     let after = c.hence-judged.new.standing in
-    subst (λ s. IfOk c.told-in-Hence.result (λ p. IsPassed (step_script s) x c.args.number (step_script p.step) after p.next)) (sym c.in-Hence.is)
-    (told_passed (Hence c.in-Hence.lit c.in-Hence.cert) x after c.args.number c.hence-judged.result c.told-in-Hence.result (hence_one c.in-Hence.lit c.in-Hence.cert)
-    (ok_map _ _ c.hence-judged.result (λ d h. h c.in-Hence.cert) c.hence-judged.ensures.ok) c.told-in-Hence.ensures.step c.told-in-Hence.ensures.next)
+    subst (λ s. IfOk c.told-in-Hence.result (λ p. IsPassed (all_stated c.args.before.now) (step_script s) x c.args.number (step_script p.step) after p.next)) (sym c.in-Hence.is)
+    (told_passed (all_stated c.args.before.now) (Hence c.in-Hence.lit c.in-Hence.cert) x after c.args.number c.hence-judged.result c.told-in-Hence.result (hence_one c.in-Hence.lit c.in-Hence.cert)
+    (ok_map _ _ c.hence-judged.result (λ d h. h (all_stated c.args.before.now) c.in-Hence.cert) c.hence-judged.ensures.ok) c.told-in-Hence.ensures.step c.told-in-Hence.ensures.next)
 
 pub prove_step-returns-in-Hence-clause-err : goal.prove_step-returns-in-Hence-clause-err
 prove_step-returns-in-Hence-clause-err t c =
     let x = c.args.standing.now in
-    told_stops c.args.step.now x c.hence-judged.new.standing c.args.number c.hence-judged.result c.told-in-Hence.result
-    (err_map _ _ c.hence-judged.result (λ h k. subst (λ s. StepHalts s x h) (sym c.in-Hence.is) (k c.in-Hence.cert)) c.hence-judged.ensures.err) c.hence-judged.ensures.kept c.told-in-Hence.ensures.err
+    told_stops (all_stated c.args.before.now) c.args.step.now x c.hence-judged.new.standing c.args.number c.hence-judged.result c.told-in-Hence.result
+    (err_map _ _ c.hence-judged.result (λ h k. subst (λ s. StepHalts (all_stated c.args.before.now) s x h) (sym c.in-Hence.is) (k (all_stated c.args.before.now) c.in-Hence.cert)) c.hence-judged.ensures.err) c.hence-judged.ensures.kept c.told-in-Hence.ensures.err
 
 pub prove_step-returns-in-Make-clause-ok : goal.prove_step-returns-in-Make-clause-ok
 prove_step-returns-in-Make-clause-ok t c =
     let x = c.args.standing.now in
     let after = c.make-judged.new.standing in
-    subst (λ s. IfOk c.told-in-Make.result (λ p. IsPassed (step_script s) x c.args.number (step_script p.step) after p.next)) (sym c.in-Make.is)
-    (told_passed (Make c.in-Make.form c.in-Make.names c.in-Make.certs) x after c.args.number c.make-judged.result c.told-in-Make.result (make_one c.in-Make.form c.in-Make.names c.in-Make.certs)
-    (ok_map _ _ c.make-judged.result (λ d h. subst (λ ns. IsJudged (Make c.in-Make.form ns c.in-Make.certs) x d after) c.items.ensures (h c.in-Make.certs)) c.make-judged.ensures.ok) c.told-in-Make.ensures.step c.told-in-Make.ensures.next)
+    subst (λ s. IfOk c.told-in-Make.result (λ p. IsPassed (all_stated c.args.before.now) (step_script s) x c.args.number (step_script p.step) after p.next)) (sym c.in-Make.is)
+    (told_passed (all_stated c.args.before.now) (Make c.in-Make.form c.in-Make.names c.in-Make.certs) x after c.args.number c.make-judged.result c.told-in-Make.result (make_one c.in-Make.form c.in-Make.names c.in-Make.certs)
+    (ok_map _ _ c.make-judged.result (λ d h. subst (λ ns. IsJudged (all_stated c.args.before.now) (Make c.in-Make.form ns c.in-Make.certs) x d after) c.items.ensures (h (all_stated c.args.before.now) c.in-Make.certs)) c.make-judged.ensures.ok) c.told-in-Make.ensures.step c.told-in-Make.ensures.next)
 
 pub prove_step-returns-in-Make-clause-err : goal.prove_step-returns-in-Make-clause-err
 prove_step-returns-in-Make-clause-err t c =
     let x = c.args.standing.now in
-    told_stops c.args.step.now x c.make-judged.new.standing c.args.number c.make-judged.result c.told-in-Make.result
-    (err_map _ _ c.make-judged.result (λ h k. subst (λ s. StepHalts s x h) (sym c.in-Make.is) (subst (λ ns. StepHalts (Make c.in-Make.form ns c.in-Make.certs) x h) c.items.ensures (k c.in-Make.certs))) c.make-judged.ensures.err)
+    told_stops (all_stated c.args.before.now) c.args.step.now x c.make-judged.new.standing c.args.number c.make-judged.result c.told-in-Make.result
+    (err_map _ _ c.make-judged.result (λ h k. subst (λ s. StepHalts (all_stated c.args.before.now) s x h) (sym c.in-Make.is) (subst (λ ns. StepHalts (all_stated c.args.before.now) (Make c.in-Make.form ns c.in-Make.certs) x h) c.items.ensures (k (all_stated c.args.before.now) c.in-Make.certs))) c.make-judged.ensures.err)
     c.make-judged.ensures.kept c.told-in-Make.ensures.err
+
+-- ---- an application
+
+pub prove_step-bounds-before-theorem : goal.prove_step-bounds-before-theorem
+prove_step-bounds-before-theorem t c =
+    let y = c.in-Apply in
+    let ready = apply_good (all_stated c.args.before.now) y.theorem y.args y.names y.certs c.args.standing.now c.args.number (subst (λ s. IsReadyStep (all_stated c.args.before.now) s c.args.standing.now c.args.number) y.is c.requires) in
+    let many = as_many c.args.before.now in
+    omega (arith, many, ready.place)
+
+pub prove_step-told-requires-in-Apply : goal.prove_step-told-requires-in-Apply
+prove_step-told-requires-in-Apply t c = let one = some_lines (step_script c.args.step.now c.requires.rest) in omega (arith, one, c.requires.few)
+
+pub prove_step-apply-judged-requires : goal.prove_step-apply-judged-requires
+prove_step-apply-judged-requires t c =
+    let x = c.args.standing.now in
+    let y = c.in-Apply in
+    let ready = apply_good (all_stated c.args.before.now) y.theorem y.args y.names y.certs x c.args.number (subst (λ s. IsReadyStep (all_stated c.args.before.now) s x c.args.number) y.is c.requires) in
+    let many = as_many c.args.before.now in
+    let place : y.theorem < length c.args.before.now = omega (arith, many, ready.place) in
+    let is = theorem_is c.args.before.now y.theorem c.index-before-theorem.result place c.index-before-theorem.is in
+    subst (λ es. CanApply (stated c.index-before-theorem.result) es x.context) (sym c.items-in-Apply.ensures) (subst (λ w. CanApply w y.args x.context) is ready.can)
+
+pub prove_step-returns-in-Apply-clause-ok : goal.prove_step-returns-in-Apply-clause-ok
+prove_step-returns-in-Apply-clause-ok t c =
+    let x = c.args.standing.now in
+    let y = c.in-Apply in
+    let ready = apply_good (all_stated c.args.before.now) y.theorem y.args y.names y.certs x c.args.number (subst (λ s. IsReadyStep (all_stated c.args.before.now) s x c.args.number) y.is c.requires) in
+    let many = as_many c.args.before.now in
+    let place : y.theorem < length c.args.before.now = omega (arith, many, ready.place) in
+    let is = theorem_is c.args.before.now y.theorem c.index-before-theorem.result place c.index-before-theorem.is in
+    let after = c.apply-judged.new.standing in
+    subst (λ s. IfOk c.told-in-Apply.result (λ p. IsPassed (all_stated c.args.before.now) (step_script s) x c.args.number (step_script p.step) after p.next)) (sym y.is)
+    (told_passed (all_stated c.args.before.now) (Apply y.theorem y.args y.names y.certs) x after c.args.number c.apply-judged.result c.told-in-Apply.result (apply_one y.theorem y.args y.names y.certs)
+    (ok_map _ _ c.apply-judged.result
+    (λ d h. subst (λ ns. IsJudged (all_stated c.args.before.now) (Apply y.theorem y.args ns y.certs) x d after) c.items-in-Apply-2.ensures
+    (subst (λ es. IsJudged (all_stated c.args.before.now) (Apply y.theorem es c.items-in-Apply-2.result.now y.certs) x d after) c.items-in-Apply.ensures (h (all_stated c.args.before.now) y.certs is)))
+    c.apply-judged.ensures.ok)
+    c.told-in-Apply.ensures.step c.told-in-Apply.ensures.next)
+
+pub prove_step-returns-in-Apply-clause-err : goal.prove_step-returns-in-Apply-clause-err
+prove_step-returns-in-Apply-clause-err t c =
+    let x = c.args.standing.now in
+    let y = c.in-Apply in
+    let ready = apply_good (all_stated c.args.before.now) y.theorem y.args y.names y.certs x c.args.number (subst (λ s. IsReadyStep (all_stated c.args.before.now) s x c.args.number) y.is c.requires) in
+    let many = as_many c.args.before.now in
+    let place : y.theorem < length c.args.before.now = omega (arith, many, ready.place) in
+    let is = theorem_is c.args.before.now y.theorem c.index-before-theorem.result place c.index-before-theorem.is in
+    told_stops (all_stated c.args.before.now) c.args.step.now x c.apply-judged.new.standing c.args.number c.apply-judged.result c.told-in-Apply.result
+    (err_map _ _ c.apply-judged.result
+    (λ h k. subst (λ s. StepHalts (all_stated c.args.before.now) s x h) (sym y.is)
+    (subst (λ ns. StepHalts (all_stated c.args.before.now) (Apply y.theorem y.args ns y.certs) x h) c.items-in-Apply-2.ensures
+    (subst (λ es. StepHalts (all_stated c.args.before.now) (Apply y.theorem es c.items-in-Apply-2.result.now y.certs) x h) c.items-in-Apply.ensures (k (all_stated c.args.before.now) y.certs is))))
+    c.apply-judged.ensures.err)
+    c.apply-judged.ensures.kept c.told-in-Apply.ensures.err
 
 -- ---- a claim
 
@@ -347,43 +428,45 @@ prove_step-overflow_add-number t c = let one = some_lines (step_script c.args.st
 pub prove_step-prove_block-requires : goal.prove_step-prove_block-requires
 prove_step-prove_block-requires t c =
     let x = c.args.standing.now in
-    let ready = subst (λ s. IsReadyStep s x c.args.number) c.in-Claim.is c.requires in
-    let parts = claim_parts c.in-Claim.shown c.in-Claim.inner x c.args.number ready in
-    let behind = claim_after c.in-Claim.shown c.in-Claim.inner x c.args.number ready in
+    let ready = subst (λ s. IsReadyStep (all_stated c.args.before.now) s x c.args.number) c.in-Claim.is c.requires in
+    let parts = claim_parts (all_stated c.args.before.now) c.in-Claim.shown c.in-Claim.inner x c.args.number ready in
+    let few = claim_lines (all_stated c.args.before.now) c.in-Claim.shown c.in-Claim.inner x c.args.number ready in
     let same = ap (λ b. size (script_of b)) c.deref.ensures in (
       search (rules, the_lemmas),
       (
-        subst (λ b. IsReadyFor (script_of b) x (goal_of c.items-in-Claim.result.now)) (sym c.deref.ensures)
-            (subst (λ ls. IsReadyFor (script_of c.in-Claim.inner.value) x (goal_of ls)) (sym c.items-in-Claim.ensures) parts.block),
-        omega (arith, same, behind.few),
+        subst (λ b. IsReadyFor (all_stated c.args.before.now) (script_of b) x (goal_of c.items-in-Claim.result.now)) (sym c.deref.ensures)
+            (subst (λ ls. IsReadyFor (all_stated c.args.before.now) (script_of c.in-Claim.inner.value) x (goal_of ls)) (sym c.items-in-Claim.ensures) parts.block),
+        omega (arith, same, few),
       ),
     )
 
 pub prove_step-claimed-requires-clause-good : goal.prove_step-claimed-requires-clause-good
 prove_step-claimed-requires-clause-good t c =
     let x = c.args.standing.now in
-    let ready = subst (λ s. IsReadyStep s x c.args.number) c.in-Claim.is c.requires in
+    let ready = subst (λ s. IsReadyStep (all_stated c.args.before.now) s x c.args.number) c.in-Claim.is c.requires in
     good_behind c.in_ok-outer-in-Claim.outer x c.prove_block.new.standing c.in-Claim.shown c.items-in-Ok.result.now c.in_ok-outer-in-Claim.ensures c.in-Ok.ensures.kept c.items-in-Ok.ensures
-    (claim_after c.in-Claim.shown c.in-Claim.inner x c.args.number ready).after
+    (claim_after (all_stated c.args.before.now) c.in-Claim.shown c.in-Claim.inner (script_of c.in-Ok.proved.block) x c.args.number
+    (subst (λ ls. IsDerived (all_stated c.args.before.now) (script_of c.in-Claim.inner.value) x (goal_of ls) (script_of c.in-Ok.proved.block)) c.items-in-Claim.ensures
+    (subst (λ b. IsDerived (all_stated c.args.before.now) (script_of b) x (goal_of c.items-in-Claim.result.now) (script_of c.in-Ok.proved.block)) c.deref.ensures c.in-Ok.ensures.derived)) ready)
 
 pub prove_step-returns-in-Ok-clause-ok : goal.prove_step-returns-in-Ok-clause-ok
 prove_step-returns-in-Ok-clause-ok t c =
     let x = c.args.standing.now in
-    let ready = subst (λ s. IsReadyStep s x c.args.number) c.in-Claim.is c.requires in
+    let ready = subst (λ s. IsReadyStep (all_stated c.args.before.now) s x c.args.number) c.in-Claim.is c.requires in
     let same = ap (λ b. size (script_of b)) c.deref.ensures in
-    claim_passed c.args.step.now c.in-Claim.shown c.items-in-Ok.result.now c.in-Claim.inner x c.prove_block.new.standing c.claimed.new.standing c.args.number c.in_ok-outer-in-Claim.outer c.in-Ok.proved c.claimed.result
-    c.in-Claim.is c.items-in-Ok.ensures (claim_parts c.in-Claim.shown c.in-Claim.inner x c.args.number ready)
-    (subst (λ ls. IsDerived (script_of c.in-Claim.inner.value) x (goal_of ls) (script_of c.in-Ok.proved.block)) c.items-in-Claim.ensures
-    (subst (λ b. IsDerived (script_of b) x (goal_of c.items-in-Claim.result.now) (script_of c.in-Ok.proved.block)) c.deref.ensures c.in-Ok.ensures.derived))
+    claim_passed (all_stated c.args.before.now) c.args.step.now c.in-Claim.shown c.items-in-Ok.result.now c.in-Claim.inner x c.prove_block.new.standing c.claimed.new.standing c.args.number c.in_ok-outer-in-Claim.outer c.in-Ok.proved c.claimed.result
+    c.in-Claim.is c.items-in-Ok.ensures (claim_parts (all_stated c.args.before.now) c.in-Claim.shown c.in-Claim.inner x c.args.number ready)
+    (subst (λ ls. IsDerived (all_stated c.args.before.now) (script_of c.in-Claim.inner.value) x (goal_of ls) (script_of c.in-Ok.proved.block)) c.items-in-Claim.ensures
+    (subst (λ b. IsDerived (all_stated c.args.before.now) (script_of b) x (goal_of c.items-in-Claim.result.now) (script_of c.in-Ok.proved.block)) c.deref.ensures c.in-Ok.ensures.derived))
     (omega (arith, same, c.in-Ok.ensures.next)) c.in_ok-outer-in-Claim.ensures c.in-Ok.ensures.kept c.claimed.ensures.step c.claimed.ensures.next c.claimed.ensures.after
 
 pub prove_step-returns-in-Err-clause-err : goal.prove_step-returns-in-Err-clause-err
 prove_step-returns-in-Err-clause-err t c =
     let x = c.args.standing.now in
-    let ready = subst (λ s. IsReadyStep s x c.args.number) c.in-Claim.is c.requires in
-    claim_stopped c.args.step.now c.in-Claim.shown c.in-Claim.inner x c.args.number c.in-Err.stop c.in-Claim.is (claim_parts c.in-Claim.shown c.in-Claim.inner x c.args.number ready)
-    (subst (λ ls. StopsWithin (script_of c.in-Claim.inner.value) x (goal_of ls) (c.args.number + 1) c.in-Err.stop) c.items-in-Claim.ensures
-    (subst (λ b. StopsWithin (script_of b) x (goal_of c.items-in-Claim.result.now) (c.args.number + 1) c.in-Err.stop) c.deref.ensures c.in-Err.ensures.err))
+    let ready = subst (λ s. IsReadyStep (all_stated c.args.before.now) s x c.args.number) c.in-Claim.is c.requires in
+    claim_stopped (all_stated c.args.before.now) c.args.step.now c.in-Claim.shown c.in-Claim.inner x c.args.number c.in-Err.stop c.in-Claim.is (claim_parts (all_stated c.args.before.now) c.in-Claim.shown c.in-Claim.inner x c.args.number ready)
+    (subst (λ ls. StopsWithin (all_stated c.args.before.now) (script_of c.in-Claim.inner.value) x (goal_of ls) (c.args.number + 1) c.in-Err.stop) c.items-in-Claim.ensures
+    (subst (λ b. StopsWithin (all_stated c.args.before.now) (script_of b) x (goal_of c.items-in-Claim.result.now) (c.args.number + 1) c.in-Err.stop) c.deref.ensures c.in-Err.ensures.err))
 
 -- ---- a superposition
 
@@ -391,26 +474,26 @@ pub prove_step-superpose-requires-clause-room : goal.prove_step-superpose-requir
 prove_step-superpose-requires-clause-room t c =
     let x = c.args.standing.now in
     let y = c.in-Superposed in
-    let parts = superposed_parts y.form y.names y.shown y.certs y.inner x c.args.number (subst (λ s. IsReadyStep s x c.args.number) y.is c.requires) in
-    record { points = omega (arith, parts.points); lines = omega (arith, parts.lines); circles = omega (arith, parts.circles) }
+    let parts = superposed_parts (all_stated c.args.before.now) y.form y.names y.shown y.certs y.inner x c.args.number (subst (λ s. IsReadyStep (all_stated c.args.before.now) s x c.args.number) y.is c.requires) in
+    room_of_small x.context.scope parts.scope
 
 pub prove_step-superpose-requires-clause-needs : goal.prove_step-superpose-requires-clause-needs
 prove_step-superpose-requires-clause-needs t c =
     let x = c.args.standing.now in
     let y = c.in-Superposed in
-    (superposed_parts y.form y.names y.shown y.certs y.inner x c.args.number (subst (λ s. IsReadyStep s x c.args.number) y.is c.requires)).needs
+    (superposed_parts (all_stated c.args.before.now) y.form y.names y.shown y.certs y.inner x c.args.number (subst (λ s. IsReadyStep (all_stated c.args.before.now) s x c.args.number) y.is c.requires)).needs
 
 pub prove_step-superpose-requires-clause-after : goal.prove_step-superpose-requires-clause-after
 prove_step-superpose-requires-clause-after t c =
     let x = c.args.standing.now in
     let y = c.in-Superposed in
-    let parts = superposed_parts y.form y.names y.shown y.certs y.inner x c.args.number (subst (λ s. IsReadyStep s x c.args.number) y.is c.requires) in
-    block_facts (script_of y.inner.value) (after_superposed y.form y.names x) (goal_of y.shown) parts.block
+    let parts = superposed_parts (all_stated c.args.before.now) y.form y.names y.shown y.certs y.inner x c.args.number (subst (λ s. IsReadyStep (all_stated c.args.before.now) s x c.args.number) y.is c.requires) in
+    block_facts (all_stated c.args.before.now) (script_of y.inner.value) (after_superposed y.form y.names x) (goal_of y.shown) parts.block
 
 pub prove_step-returns-in-Err-superpose-clause-err : goal.prove_step-returns-in-Err-superpose-clause-err
 prove_step-returns-in-Err-superpose-clause-err t c =
     let y = c.in-Superposed in
-    superposed_refused c.args.step.now y.form y.names y.shown y.certs y.inner c.args.standing.now c.superpose.new.standing c.args.number c.in-Err-superpose.halt c.stop_at.result y.is c.in-Err-superpose.ensures.err
+    superposed_refused (all_stated c.args.before.now) c.args.step.now y.form y.names y.shown y.certs y.inner c.args.standing.now c.superpose.new.standing c.args.number c.in-Err-superpose.halt c.stop_at.result y.is c.in-Err-superpose.ensures.err
     c.in-Err-superpose.ensures.kept c.stop_at.ensures
 
 pub prove_step-overflow_add-number-in-Superposed : goal.prove_step-overflow_add-number-in-Superposed
@@ -420,17 +503,17 @@ pub prove_step-prove_block-requires-in-Superposed : goal.prove_step-prove_block-
 prove_step-prove_block-requires-in-Superposed t c =
     let x = c.args.standing.now in
     let y = c.in-Superposed in
-    let ready = subst (λ s. IsReadyStep s x c.args.number) y.is c.requires in
-    let parts = superposed_parts y.form y.names y.shown y.certs y.inner x c.args.number ready in
-    let behind = superposed_after y.form y.names y.shown y.certs y.inner x c.args.number ready in
+    let ready = subst (λ s. IsReadyStep (all_stated c.args.before.now) s x c.args.number) y.is c.requires in
+    let parts = superposed_parts (all_stated c.args.before.now) y.form y.names y.shown y.certs y.inner x c.args.number ready in
+    let few = superposed_lines (all_stated c.args.before.now) y.form y.names y.shown y.certs y.inner x c.args.number ready in
     let begun = c.in-Ok-superpose.ensures.after ∙ ap (λ ns. after_superposed y.form ns x) c.items-in-Superposed.ensures in
     let same = ap (λ b. size (script_of b)) c.deref-in-Superposed.ensures in (
       search (rules, the_lemmas),
       (
-        subst (λ b. IsReadyFor (script_of b) c.superpose.new.standing (goal_of c.items-in-Superposed-2.result.now)) (sym c.deref-in-Superposed.ensures)
-            (subst (λ ls. IsReadyFor (script_of y.inner.value) c.superpose.new.standing (goal_of ls)) (sym c.items-in-Superposed-2.ensures)
-            (subst (λ z. IsReadyFor (script_of y.inner.value) z (goal_of y.shown)) (sym begun) parts.block)),
-        omega (arith, same, behind.few),
+        subst (λ b. IsReadyFor (all_stated c.args.before.now) (script_of b) c.superpose.new.standing (goal_of c.items-in-Superposed-2.result.now)) (sym c.deref-in-Superposed.ensures)
+            (subst (λ ls. IsReadyFor (all_stated c.args.before.now) (script_of y.inner.value) c.superpose.new.standing (goal_of ls)) (sym c.items-in-Superposed-2.ensures)
+            (subst (λ z. IsReadyFor (all_stated c.args.before.now) (script_of y.inner.value) z (goal_of y.shown)) (sym begun) parts.block)),
+        omega (arith, same, few),
       ),
     )
 
@@ -448,7 +531,11 @@ prove_step-superposed-requires-clause-good t c =
     let begun = c.in-Ok-superpose.ensures.after ∙ ap (λ ns. after_superposed y.form ns x) c.items-in-Superposed.ensures in
     good_behind c.in_ok-outer-in-Superposed.outer x c.prove_block-in-Superposed.new.standing y.shown c.items-in-Ok-prove_block-2.result.now c.in_ok-outer-in-Superposed.ensures
     (kept_superposed y.form y.names x c.superpose.new.standing c.prove_block-in-Superposed.new.standing begun c.in-Ok-prove_block.ensures.kept) c.items-in-Ok-prove_block-2.ensures
-    (superposed_after y.form y.names y.shown y.certs y.inner x c.args.number (subst (λ s. IsReadyStep s x c.args.number) y.is c.requires)).after
+    (superposed_after (all_stated c.args.before.now) y.form y.names y.shown y.certs y.inner (script_of c.in-Ok-prove_block.proved.block) x c.args.number
+    (subst (λ z. IsDerived (all_stated c.args.before.now) (script_of y.inner.value) z (goal_of y.shown) (script_of c.in-Ok-prove_block.proved.block)) begun
+    (subst (λ ls. IsDerived (all_stated c.args.before.now) (script_of y.inner.value) c.superpose.new.standing (goal_of ls) (script_of c.in-Ok-prove_block.proved.block)) c.items-in-Superposed-2.ensures
+    (subst (λ b. IsDerived (all_stated c.args.before.now) (script_of b) c.superpose.new.standing (goal_of c.items-in-Superposed-2.result.now) (script_of c.in-Ok-prove_block.proved.block)) c.deref-in-Superposed.ensures c.in-Ok-prove_block.ensures.derived)))
+    (subst (λ s. IsReadyStep (all_stated c.args.before.now) s x c.args.number) y.is c.requires))
 
 pub prove_step-returns-in-Ok-prove_block-clause-ok : goal.prove_step-returns-in-Ok-prove_block-clause-ok
 prove_step-returns-in-Ok-prove_block-clause-ok t c =
@@ -456,11 +543,11 @@ prove_step-returns-in-Ok-prove_block-clause-ok t c =
     let y = c.in-Superposed in
     let begun = c.in-Ok-superpose.ensures.after ∙ ap (λ ns. after_superposed y.form ns x) c.items-in-Superposed.ensures in
     let same = ap (λ b. size (script_of b)) c.deref-in-Superposed.ensures in
-    superposed_passed c.args.step.now y.form y.names c.items-in-Ok-prove_block.result.now y.shown c.items-in-Ok-prove_block-2.result.now y.certs c.in-Ok-superpose.certs.items y.inner x c.prove_block-in-Superposed.new.standing c.superposed.new.standing c.args.number c.in_ok-outer-in-Superposed.outer c.in-Ok-prove_block.proved
-    c.superposed.result y.is c.items-in-Ok-prove_block.ensures c.items-in-Ok-prove_block-2.ensures (superposed_parts y.form y.names y.shown y.certs y.inner x c.args.number (subst (λ s. IsReadyStep s x c.args.number) y.is c.requires)) c.in-Ok-superpose.ensures.certs
-    (subst (λ z. IsDerived (script_of y.inner.value) z (goal_of y.shown) (script_of c.in-Ok-prove_block.proved.block)) begun
-    (subst (λ ls. IsDerived (script_of y.inner.value) c.superpose.new.standing (goal_of ls) (script_of c.in-Ok-prove_block.proved.block)) c.items-in-Superposed-2.ensures
-    (subst (λ b. IsDerived (script_of b) c.superpose.new.standing (goal_of c.items-in-Superposed-2.result.now) (script_of c.in-Ok-prove_block.proved.block)) c.deref-in-Superposed.ensures c.in-Ok-prove_block.ensures.derived)))
+    superposed_passed (all_stated c.args.before.now) c.args.step.now y.form y.names c.items-in-Ok-prove_block.result.now y.shown c.items-in-Ok-prove_block-2.result.now y.certs c.in-Ok-superpose.certs.items y.inner x c.prove_block-in-Superposed.new.standing c.superposed.new.standing c.args.number c.in_ok-outer-in-Superposed.outer c.in-Ok-prove_block.proved
+    c.superposed.result y.is c.items-in-Ok-prove_block.ensures c.items-in-Ok-prove_block-2.ensures (superposed_parts (all_stated c.args.before.now) y.form y.names y.shown y.certs y.inner x c.args.number (subst (λ s. IsReadyStep (all_stated c.args.before.now) s x c.args.number) y.is c.requires)) c.in-Ok-superpose.ensures.certs
+    (subst (λ z. IsDerived (all_stated c.args.before.now) (script_of y.inner.value) z (goal_of y.shown) (script_of c.in-Ok-prove_block.proved.block)) begun
+    (subst (λ ls. IsDerived (all_stated c.args.before.now) (script_of y.inner.value) c.superpose.new.standing (goal_of ls) (script_of c.in-Ok-prove_block.proved.block)) c.items-in-Superposed-2.ensures
+    (subst (λ b. IsDerived (all_stated c.args.before.now) (script_of b) c.superpose.new.standing (goal_of c.items-in-Superposed-2.result.now) (script_of c.in-Ok-prove_block.proved.block)) c.deref-in-Superposed.ensures c.in-Ok-prove_block.ensures.derived)))
     (omega (arith, same, c.in-Ok-prove_block.ensures.next)) c.in_ok-outer-in-Superposed.ensures (kept_superposed y.form y.names x c.superpose.new.standing c.prove_block-in-Superposed.new.standing begun c.in-Ok-prove_block.ensures.kept)
     c.superposed.ensures.step c.superposed.ensures.next c.superposed.ensures.after
 
@@ -469,8 +556,8 @@ prove_step-returns-in-Err-prove_block-clause-err t c =
     let x = c.args.standing.now in
     let y = c.in-Superposed in
     let begun = c.in-Ok-superpose.ensures.after ∙ ap (λ ns. after_superposed y.form ns x) c.items-in-Superposed.ensures in
-    superposed_stopped c.args.step.now y.form y.names y.shown y.certs c.in-Ok-superpose.certs.items y.inner x c.args.number c.in-Err-prove_block.stop y.is
-    (superposed_parts y.form y.names y.shown y.certs y.inner x c.args.number (subst (λ s. IsReadyStep s x c.args.number) y.is c.requires)) c.in-Ok-superpose.ensures.certs
-    (subst (λ z. StopsWithin (script_of y.inner.value) z (goal_of y.shown) (c.args.number + 1) c.in-Err-prove_block.stop) begun
-    (subst (λ ls. StopsWithin (script_of y.inner.value) c.superpose.new.standing (goal_of ls) (c.args.number + 1) c.in-Err-prove_block.stop) c.items-in-Superposed-2.ensures
-    (subst (λ b. StopsWithin (script_of b) c.superpose.new.standing (goal_of c.items-in-Superposed-2.result.now) (c.args.number + 1) c.in-Err-prove_block.stop) c.deref-in-Superposed.ensures c.in-Err-prove_block.ensures.err)))
+    superposed_stopped (all_stated c.args.before.now) c.args.step.now y.form y.names y.shown y.certs c.in-Ok-superpose.certs.items y.inner x c.args.number c.in-Err-prove_block.stop y.is
+    (superposed_parts (all_stated c.args.before.now) y.form y.names y.shown y.certs y.inner x c.args.number (subst (λ s. IsReadyStep (all_stated c.args.before.now) s x c.args.number) y.is c.requires)) c.in-Ok-superpose.ensures.certs
+    (subst (λ z. StopsWithin (all_stated c.args.before.now) (script_of y.inner.value) z (goal_of y.shown) (c.args.number + 1) c.in-Err-prove_block.stop) begun
+    (subst (λ ls. StopsWithin (all_stated c.args.before.now) (script_of y.inner.value) c.superpose.new.standing (goal_of ls) (c.args.number + 1) c.in-Err-prove_block.stop) c.items-in-Superposed-2.ensures
+    (subst (λ b. StopsWithin (all_stated c.args.before.now) (script_of b) c.superpose.new.standing (goal_of c.items-in-Superposed-2.result.now) (c.args.number + 1) c.in-Err-prove_block.stop) c.deref-in-Superposed.ensures c.in-Err-prove_block.ensures.err)))

@@ -5,9 +5,9 @@ use Rattle.e_prove.proofs.Judging.{judged_cite}
 use Rattle.e_prove.proofs.step.cite.Goals as goal
 
 pub returns-clause-ok : goal.returns-clause-ok
-returns-clause-ok c =
+returns-clause-ok c before =
     let x = c.args.standing.now in
     let by = c.args.by.now in
-    judged_cite by c.in_ok-derived.derived x _ c.in_ok-derived.ensures
+    judged_cite before by c.in_ok-derived.derived x _ c.in_ok-derived.ensures
     (sym (c.in_ok-is_cited.ensures ∙ ap (λ facts. is_cited facts by) c.facts.ensures) ∙ c.if-not-branch.false)
     (ap (λ k. record x { context = k }) (c.in_ok-add.ensures.joined ∙ ap (λ l. record x.context { facts = joined x.context.facts l }) c.in_ok-copy-2.ensures))

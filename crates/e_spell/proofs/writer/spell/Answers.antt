@@ -6,4 +6,4 @@ use Rattle.e_spell.proofs.Whole.{spelled_parts}
 use Rattle.e_spell.proofs.writer.spell.Goals as goal
 
 pub returns : goal.returns
-returns c = c.in_ok-put_theorem.ensures ∙ ap (λ (o : List ℕ). o ++ theorem_text (entry_of c.args.theorem.now) (script_of c.args.deriv.now)) c.new-out.ensures.items ∙ spelled_parts (entry_of c.args.theorem.now) (script_of c.args.deriv.now)
+returns c = c.in_ok-put_theorem.ensures ∙ ap (λ (o : List ℕ). o ++ theorem_text c.args.known.now (entry_of c.args.theorem.now) (script_of c.args.deriv.now)) c.new-out.ensures.items ∙ spelled_parts c.args.known.now (entry_of c.args.theorem.now) (script_of c.args.deriv.now)

@@ -4,7 +4,7 @@ use Rattle.e_book.specs.Entry.{entry_of}
 use Rattle.e_book.specs.Book.{last_line}
 use Rattle.elements.specs.Outcome.{number_behind}
 use Rattle.elements.specs.Answers.{Derived}
-use Rattle.elements.proofs.History.{at_last, goes_on, breaks_off, breaks_inside, stopped, spelled_as, front_spelled_as}
+use Rattle.elements.proofs.History.{at_last, small_more, goes_on, breaks_off, breaks_inside, stopped, spelled_as, front_spelled_as}
 use Rattle.elements.proofs.blocks.blocks.Goals as goal
 
 pub returns-in_default-clause-ending : goal.returns-in_default-clause-ending
@@ -13,7 +13,7 @@ returns-in_default-clause-ending g c =
     let made = c.in-Ok.ensures.block in
     let d : Derived = record { theorem = entry_of c.in-Ok-Some.theorem; derivation = made.derivation } in
     breaks_inside c.args.lines.now.lines (g.K.Sink.written c.args.sink.now) (g.K.Sink.written c.loop-theorem.sink) (g.K.Sink.written c.write_all.new.sink) c.loop-theorem.known c.loop-theorem.lines.lines c.next_theorem.new.lines.lines d c.loop-theorem.invariant.history read made.sound
-    (front_spelled_as (g.K.Sink.written c.loop-theorem.sink) (g.K.Sink.written c.write_all.new.sink) c.deref.result.now c.in-Ok.block.items d c.deref.ensures.value made.spells c.in_default.ensures.prefix)
+    (front_spelled_as (g.K.Sink.written c.loop-theorem.sink) (g.K.Sink.written c.write_all.new.sink) c.deref.result.now c.in-Ok.block.items c.loop-theorem.known d c.deref.ensures.value made.spells c.in_default.ensures.prefix)
 
 pub returns-in_default-keep-clause-ending : goal.returns-in_default-keep-clause-ending
 returns-in_default-keep-clause-ending g c =
@@ -22,7 +22,7 @@ returns-in_default-keep-clause-ending g c =
     let d : Derived = record { theorem = entry_of c.in-Ok-Some.theorem; derivation = made.derivation } in
     breaks_off c.args.lines.now.lines (g.K.Sink.written c.args.sink.now) (g.K.Sink.written c.write_all.new.sink) _ c.next_theorem.new.lines.lines
     (goes_on c.args.lines.now.lines (g.K.Sink.written c.args.sink.now) (g.K.Sink.written c.loop-theorem.sink) (g.K.Sink.written c.write_all.new.sink) c.loop-theorem.known c.loop-theorem.lines.lines c.next_theorem.new.lines.lines d c.loop-theorem.invariant.history read made.sound
-    (spelled_as (g.K.Sink.written c.loop-theorem.sink) (g.K.Sink.written c.write_all.new.sink) c.deref.result.now c.in-Ok.block.items d c.deref.ensures.value made.spells c.in-Ok-write_all.ensures.ok))
+    (spelled_as (g.K.Sink.written c.loop-theorem.sink) (g.K.Sink.written c.write_all.new.sink) c.deref.result.now c.in-Ok.block.items c.loop-theorem.known d c.deref.ensures.value made.spells c.in-Ok-write_all.ensures.ok))
 
 pub loop-theorem-preserved : goal.loop-theorem-preserved
 loop-theorem-preserved g c =
@@ -31,8 +31,9 @@ loop-theorem-preserved g c =
     let d : Derived = record { theorem = entry_of c.in-Ok-Some.theorem; derivation = made.derivation } in
     let fewer = rw c.in-Ok-Some.field-0-is at c.in-Ok-Some.ensures.shorter in
     record {
+      small = rw c.in-Ok-keep.ensures (small_more c.loop-theorem.known (entry_of c.in-Ok-Some.theorem) c.loop-theorem.invariant.small (rw c.in-Ok-Some.field-0-is at c.in-Ok-Some.ensures.states));
       history = rw c.in-Ok-keep.ensures (goes_on c.args.lines.now.lines (g.K.Sink.written c.args.sink.now) (g.K.Sink.written c.loop-theorem.sink) (g.K.Sink.written c.write_all.new.sink) c.loop-theorem.known c.loop-theorem.lines.lines c.next_theorem.new.lines.lines d c.loop-theorem.invariant.history read made.sound
-          (spelled_as (g.K.Sink.written c.loop-theorem.sink) (g.K.Sink.written c.write_all.new.sink) c.deref.result.now c.in-Ok.block.items d c.deref.ensures.value made.spells c.in-Ok-write_all.ensures.ok));
+          (spelled_as (g.K.Sink.written c.loop-theorem.sink) (g.K.Sink.written c.write_all.new.sink) c.deref.result.now c.in-Ok.block.items c.loop-theorem.known d c.deref.ensures.value made.spells c.in-Ok-write_all.ensures.ok));
       last = c.in-Ok-Some.ensures.last ∙ c.loop-theorem.invariant.last;
       count = omega (arith, ap length c.in-Ok-keep.ensures, length-append c.loop-theorem.known (headed c.in-Ok-Some.theorem.title c.in-Ok-Some.theorem.statement ∷ []), c.loop-theorem.invariant.count);
       few = omega (arith, fewer, c.loop-theorem.invariant.few);

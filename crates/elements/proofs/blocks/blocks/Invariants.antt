@@ -1,5 +1,9 @@
 use Rattle.std.proofs.Common.{◌≡◌, ◌≤◌, ◌+◌, length}
+use Rattle.std.specs.Prelude.{IsTrue}
+use Rattle.std.specs.List.{list_all}
+use Rattle.e_deriv.specs.Fitting.{is_small_statement}
 use Rattle.e_book.specs.Book.{last_line}
+use Rattle.e_book.specs.Headed.{stated_by}
 use Rattle.elements.specs.Outcome.{number_behind}
 use Rattle.elements.proofs.History.{History}
 use Rattle.elements.proofs.blocks.blocks.Given as goal
@@ -7,6 +11,7 @@ use Rattle.elements.proofs.blocks.blocks.Given as goal
 abbrev pub invariant-loop-theorem : goal.invariant-loop-theorem
 invariant-loop-theorem g l = record {
   history : History l.initial.lines.lines (g.K.Sink.written l.initial.sink) l.known l.lines.lines (g.K.Sink.written l.sink);
+  small : IsTrue (list_all is_small_statement (stated_by l.known));
   last : last_line l.lines ≡ number_behind l.initial.lines.lines;
   count : length l.known ≡ l.theorems;
   few : l.theorems + length l.lines.lines ≤ length l.initial.lines.lines;

@@ -1,4 +1,4 @@
-use Rattle.std.proofs.Common.{refl, [], ◌∷◌}
+use Rattle.std.proofs.Common.{refl, []}
 use Rattle.std.proofs.lemmas.Result.{err_from_is_err_and}
 use Rattle.e_deriv.specs.PlainStep.{Claimed, Copied}
 use Rattle.e_book.specs.declared.blocks.Opened.TheVariants as opened

@@ -1,0 +1,8 @@
+//! The book that `make` writes: theorems on points in order, each of which but every sixth uses the one before it.
+#![tactic(auto)]
+
+mod generating;
+#[cfg(test)]
+mod tests;
+
+pub use generating::generated;

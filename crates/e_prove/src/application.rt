@@ -1,0 +1,178 @@
+//! Judging an application of an earlier theorem.
+ghost use Rattle.std.specs.Prelude.{◌≡◌, List, IfOk, IfErr, IsTrue, IsFalse, MatchOption, Some, map};
+ghost use Rattle.e_literal.specs.Use.{Stated, are_arguments, needs_of_use, gives_of_use};
+ghost use Rattle.e_clause.specs.declared.cert.Cert.{Cert as Certificate};
+ghost use Rattle.e_clause.specs.Certify.{certify_all};
+ghost use Rattle.e_clause.specs.Judged.{are_good};
+ghost use Rattle.e_theorem.specs.Statements.{stated};
+ghost use Rattle.e_deriv.specs.declared.block.Step.TheVariants.{Apply};
+ghost use Rattle.e_deriv.specs.Fitting.{is_small, is_small_statement};
+ghost use Rattle.e_deriv.specs.Lines.{theorem_at};
+ghost use Rattle.e_deriv.specs.Parts;
+ghost use Rattle.e_deriv.specs.Parts.{has_no_blank};
+ghost use Rattle.e_prove.specs.Applying.{CanApply, IsUse};
+ghost use Rattle.e_prove.specs.Halts.{HaltsIn, HaltsFilling, HaltsApplying, UnlessNoMemory};
+ghost use Rattle.e_prove.specs.Halts;
+ghost use Rattle.e_prove.specs.Judging.{IsJudged, StepHalts};
+
+use crate::halt::Halt;
+use crate::licence::licences;
+use crate::standing::Standing;
+use e_clause::Cert;
+use e_deriv::{Step, Wanted};
+use e_licence::{Context, Filled, match_blanks};
+use e_literal::{Items, Lit, Obj};
+use e_text::Name;
+use e_theorem::{Applied, Statement, UseFault, use_of};
+use std::alloc::{AllocError, Global};
+
+/// An application as it is written.
+#[derive(Clone, Copy, Debug)]
+pub struct Application<'a> {
+    /// The theorem's place among those before.
+    pub theorem: u32,
+    pub args: &'a [Option<Obj>],
+    pub names: &'a [Name],
+}
+
+/// An application with all its arguments: a certificate for each given literal there, and the shown literals.
+#[derive(Debug, Drop)]
+pub struct Use {
+    pub args: Items<Obj>,
+    pub certs: Vec<Cert>,
+    pub gives: Items<Lit>,
+}
+
+/// An application: each given literal of the statement is allowed at the arguments, where blanks are filled by the least
+/// good choice. The made objects come into scope, and the shown literals are facts.
+#[tactic(auto, unfolding(e_deriv::specs::Script::step_script))]
+pub fn apply(
+    alloc: Global,
+    application: &Application,
+    statement: &Statement,
+    standing: &mut Standing,
+) -> Result<Step, Halt>
+    requires { CanApply (stated statement.now) application.now.args.now standing.old.context }
+    ensures ok { IfOk result (λ d. (before : List Stated) (certs : List Certificate) → theorem_at before application.now.theorem ≡ stated statement.now → IsJudged before (Apply application.now.theorem application.now.args.now application.now.names.now certs) standing.old d standing.new) }
+    ensures err { IfErr result (λ h. (before : List Stated) (certs : List Certificate) → theorem_at before application.now.theorem ≡ stated statement.now → StepHalts before (Apply application.now.theorem application.now.args.now application.now.names.now certs) standing.old h) }
+    ensures kept { IfErr result (UnlessNoMemory (standing.new ≡ standing.old)) }
+{
+    let used = used(alloc, statement, application.args, &standing.context)?;
+    let derived = Step::Apply {
+        theorem: application.theorem,
+        args: without_blanks(alloc, used.args.items())?,
+        names: Items::new(Vec::from_slice(alloc, application.names)?),
+        certs: Items::new(used.certs),
+    };
+    standing.grow(statement.made.items(), application.names)?;
+    standing.join_equal(alloc, used.gives.items())?;
+    Ok(derived)
+}
+
+/// The application of a statement, where it is good.
+fn used(
+    alloc: Global,
+    statement: &Statement,
+    pattern: &[Option<Obj>],
+    context: &Context,
+) -> Result<Use, Halt>
+    requires { CanApply (stated statement.now) pattern.now context.now }
+    ensures ok { IfOk result (IsUse (stated statement.now) pattern.now context.now) }
+    ensures err { IfErr result (HaltsApplying (stated statement.now) context.now pattern.now) }
+{
+    match written(alloc, pattern)? {
+        Some(args) => used_at(alloc, statement, args, context),
+        None => filled(alloc, statement, pattern, context),
+    }
+}
+
+/// The application with its blanks filled by the least good choice.
+fn filled(
+    alloc: Global,
+    statement: &Statement,
+    pattern: &[Option<Obj>],
+    context: &Context,
+) -> Result<Use, Halt>
+    requires { CanApply (stated statement.now) pattern.now context.now }
+    ensures ok { IfOk result (IsUse (stated statement.now) pattern.now context.now) }
+    ensures err { IfErr result (HaltsFilling (stated statement.now) context.now pattern.now) }
+{
+    match match_blanks(alloc, context, statement, pattern)? {
+        Filled::Found(args) => match used_at(alloc, statement, args, context) {
+            Ok(used) => Ok(used),
+            Err(halt) => Err(as_match(halt)),
+        },
+        Filled::None => Err(Halt::Lacks {
+            wanted: Wanted::Match,
+            values: None,
+        }),
+        Filled::TooWide(width) => Err(Halt::TooWide {
+            wanted: Wanted::Match,
+            width,
+        }),
+    }
+}
+
+/// The halt of an application at a good choice for its blanks: what is too wide there is a match that is too wide.
+fn as_match(halt: Halt) -> Halt
+    ensures { result ≡ Halts.as_match halt }
+{
+    match halt {
+        Halt::TooWide { width, .. } => Halt::TooWide {
+            wanted: Wanted::Match,
+            width,
+        },
+        halt => halt,
+    }
+}
+
+/// The application at these arguments: each given literal is allowed.
+fn used_at(
+    alloc: Global,
+    statement: &Statement,
+    args: Items<Obj>,
+    context: &Context,
+) -> Result<Use, Halt>
+    requires statement { IsTrue (is_small_statement (stated statement.now)) }
+    requires scope { IsTrue (is_small context.now.scope) }
+    requires fit { IsTrue (are_arguments (stated statement.now) context.now.scope args) }
+    requires needs { IsTrue (are_good context.now.scope (needs_of_use (stated statement.now) args context.now.scope)) }
+    ensures args { IfOk result (λ u. u.args ≡ args) }
+    ensures certified { IfOk result (λ u. IsTrue (certify_all context.now.scope context.now.facts (needs_of_use (stated statement.now) args context.now.scope) u.certs.items)) }
+    ensures gives { IfOk result (λ u. u.gives ≡ gives_of_use (stated statement.now) args context.now.scope) }
+    ensures err { IfErr result (HaltsIn context.now (needs_of_use (stated statement.now) args context.now.scope)) }
+{
+    match use_of(alloc, statement, args.items(), context.scope()) {
+        Ok(Applied { needs, gives }) => {
+            let certs = licences(alloc, context, needs.items())?;
+            Ok(Use { args, certs, gives })
+        }
+        Err(UseFault::BadArgs) => unreachable!(),
+        Err(UseFault::NoMemory) => Err(Halt::NoMemory),
+    }
+}
+
+/// The arguments, where none is a blank.
+fn written(alloc: Global, pattern: &[Option<Obj>]) -> Result<Option<Items<Obj>>, AllocError>
+    ensures { IfOk result (λ o. MatchOption o (IsFalse (has_no_blank pattern.now)) (λ args. IsTrue (has_no_blank pattern.now) × (args ≡ Parts.written pattern.now))) }
+{
+    let mut args = Items::empty(alloc);
+    for entry in pattern {
+        match entry {
+            Some(object) => args.push(*object)?,
+            None => return Ok(None),
+        }
+    }
+    Ok(Some(args))
+}
+
+/// The arguments as entries, none of them a blank.
+fn without_blanks(alloc: Global, args: &[Obj]) -> Result<Items<Option<Obj>>, AllocError>
+    ensures { IfOk result (λ entries. entries ≡ map Some args.now) }
+{
+    let mut entries = Items::empty(alloc);
+    for object in args {
+        entries.push(Some(*object))?;
+    }
+    Ok(entries)
+}

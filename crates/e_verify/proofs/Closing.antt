@@ -1,0 +1,78 @@
+-- The objects of a qed, and its goal.
+use Rattle.std.proofs.Common.{◌≡◌, ◌≤◌, List, [], ◌∷◌, length, map, refl, sym, ap, ◌∙◌, arith, Bool, true, false, ◌&&◌, true≢false}
+use Rattle.std.specs.List.{list_all}
+use Rattle.std.proofs.lemmas.Grind.{common_steps}
+use Rattle.e_literal.specs.declared.object.Sort.{Sort}
+use Rattle.e_literal.specs.declared.object.Sort.TheVariants.{Point, Line, Circle}
+use Rattle.e_literal.specs.declared.object.Obj.{Obj}
+use Rattle.e_literal.specs.declared.object.Scope.{Scope}
+use Rattle.e_literal.specs.declared.literal.Lit.{Lit}
+use Rattle.e_literal.specs.Literal.{is_in_scope}
+use Rattle.e_literal.specs.Scopes.{same_sort, are_of_sorts}
+use Rattle.e_literal.specs.Rename.{renamed, image_in, paired}
+use Rattle.e_literal.specs.Use.{Stated}
+use Rattle.e_literal.specs.WellFormed.{is_well_formed}
+use Rattle.e_literal.proofs.Terms.{and_left, and_right}
+use Rattle.e_clause.specs.declared.cert.Cert.{Cert}
+use Rattle.e_clause.specs.Certify.{certify_all}
+use Rattle.e_theorem.proofs.Renaming.{renamed_well_formed}
+use Rattle.e_deriv.specs.Script.{Qed}
+use Rattle.e_deriv.specs.Goal.{Goal, are_for, goal_with}
+use Rattle.e_deriv.specs.Certified.{is_certified}
+use Rattle.e_verify.specs.declared.standing.Standing.{Standing}
+use Rattle.e_verify.specs.Checking.{line_at}
+
+abbrev sorts_of : List Obj → List Sort
+sorts_of os = map (λ o. o.sort) os
+
+pub no_made : (s : Scope) (ms os : List Obj) → length ms ≡ 0 → 1 ≤ length os → are_of_sorts s (sorts_of ms) os ≡ false
+no_made s [] [] h k = absurd (omega (arith, k))
+no_made s [] (o ∷ os) h k = refl
+no_made s (m ∷ ms) os h k = absurd (omega (arith, h))
+
+pub no_objects : (s : Scope) (ms os : List Obj) → 1 ≤ length ms → length os ≡ 0 → are_of_sorts s (sorts_of ms) os ≡ false
+no_objects s [] os h k = absurd (omega (arith, h))
+no_objects s (m ∷ ms) [] h k = refl
+no_objects s (m ∷ ms) (o ∷ os) h k = absurd (omega (arith, k))
+
+pub ruleset objects = (common_steps, no_made, no_objects)
+
+same_sorts : (a b : Sort) → same_sort a b ≡ true → a ≡ b
+same_sorts Point Point h = refl
+same_sorts Point Line h = absurd (true≢false (sym h))
+same_sorts Point Circle h = absurd (true≢false (sym h))
+same_sorts Line Point h = absurd (true≢false (sym h))
+same_sorts Line Line h = refl
+same_sorts Line Circle h = absurd (true≢false (sym h))
+same_sorts Circle Point h = absurd (true≢false (sym h))
+same_sorts Circle Line h = absurd (true≢false (sym h))
+same_sorts Circle Circle h = refl
+
+-- objects that fit have the sorts asked for
+pub sorts_agree : (s : Scope) (sorts : List Sort) (os : List Obj) → are_of_sorts s sorts os ≡ true → sorts ≡ map (λ o. o.sort) os
+sorts_agree s [] [] h = refl
+sorts_agree s [] (o ∷ os) h = absurd (true≢false (sym h))
+sorts_agree s (sort ∷ sorts) [] h = absurd (true≢false (sym h))
+sorts_agree s (sort ∷ sorts) (o ∷ os) h =
+    let a = same_sort sort o.sort in
+    let b = is_in_scope s o in
+    let c = are_of_sorts s sorts os in
+    let rest = and_right b c (and_right a (b && c) h) in
+    ap (λ k. k ∷ sorts) (same_sorts sort o.sort (and_left a (b && c) h)) ∙ ap (λ ks. o.sort ∷ ks) (sorts_agree s sorts os rest)
+
+each_formed : (f : Lit → Lit) → ((l : Lit) → is_well_formed (f l) ≡ is_well_formed l) → (ls : List Lit) → list_all is_well_formed ls ≡ true → list_all is_well_formed (map f ls) ≡ true
+each_formed f e [] h = refl
+each_formed f e (l ∷ ls) h =
+    ap (λ b. b && list_all is_well_formed (map f ls)) (e l ∙ and_left (is_well_formed l) (list_all is_well_formed ls) h) ∙ each_formed f e ls (and_right (is_well_formed l) (list_all is_well_formed ls) h)
+
+pub goal_formed : (goal : Goal) (objects : List Obj) → list_all is_well_formed goal.shown ≡ true → list_all is_well_formed (goal_with goal objects) ≡ true
+goal_formed goal objects h = each_formed (renamed (image_in (paired goal.made objects))) (renamed_well_formed (image_in (paired goal.made objects))) goal.shown h
+
+and_true : (b : Bool) → (b && true) ≡ b
+and_true true = refl
+and_true false = refl
+
+pub qed_certified : (objects : List Obj) (certs : List Cert) (goal : Goal) (x : Standing) → are_for goal x.scope objects ≡ true → (before : List Stated)
+    → certify_all x.scope x.facts (goal_with goal objects) certs ≡ is_certified before (line_at (Qed objects certs) x goal)
+qed_certified objects certs goal x h before =
+    sym (ap (λ b. b && (certify_all x.scope x.facts (goal_with goal objects) certs && true)) h ∙ and_true (certify_all x.scope x.facts (goal_with goal objects) certs))

@@ -1,0 +1,14 @@
+pub mod StepTerms
+pub mod Totalling
+pub mod Smallness
+pub mod Added
+pub mod Summing
+pub mod Paired
+pub mod Formed
+pub mod FirstLines
+pub mod Certified
+pub mod Keeping
+pub mod Closing
+pub mod Passing
+pub mod Inside
+pub mod Verified

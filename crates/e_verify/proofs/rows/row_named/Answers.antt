@@ -1,0 +1,14 @@
+use Rattle.std.specs.Option.{option_map_or, option_copied}
+use Rattle.std.proofs.Common.{true, ◌&&◌}
+use Rattle.e_literal.specs.WellFormed.{is_well_formed}
+use Rattle.e_literal.proofs.Terms.{and_right}
+use Rattle.e_verify.specs.Small.{is_small}
+use Rattle.e_verify.proofs.Smallness.{if_some}
+use Rattle.e_verify.proofs.rows.row_named.Goals as goal
+
+pub returns-in-Below-clause-small : goal.returns-in-Below-clause-small
+returns-in-Below-clause-small c =
+    let p = c.args.place.now in
+    let above = option_map_or is_small p.above true in
+    let below = option_map_or is_small p.below true in
+    if_some is_small p.below (and_right above below (and_right (option_map_or is_well_formed (option_copied p.wanted) true) (above && below) c.requires.place))

@@ -1,0 +1,7 @@
+pub mod Totals
+pub mod Small
+pub mod Views
+pub mod Written
+pub mod Standing
+pub mod Checking
+pub mod Verdicts

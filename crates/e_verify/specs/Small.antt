@@ -1,0 +1,20 @@
+-- Rows that are short, with coefficients that are small.
+use Rattle.std.specs.Prelude.{List, length, Bool, true, ◌&&◌, nat_le}
+use Rattle.std.specs.List.{list_all}
+use Rattle.e_literal.specs.declared.object.Mono.{Mono}
+use Rattle.e_verify.specs.declared.rows.Comparison.{Comparison}
+use Rattle.e_verify.specs.declared.rows.Row.{Row}
+use Rattle.e_verify.specs.declared.rows.Row.TheVariants.{Sums}
+
+-- at most 32 monomials, with coefficients of at most 1,000,000
+abbrev pub are_small : List Mono → Bool
+are_small ms = nat_le (length ms) 32 && list_all (λ m. nat_le m.coeff 1000000) ms
+
+-- the sums that are compared are small
+abbrev pub is_short : Comparison → Bool
+is_short c = are_small c.plus.now && are_small c.minus.now
+
+-- the sums of the row are small
+abbrev pub is_small : Row → Bool
+is_small (Sums says x y turned) = are_small x.now && are_small y.now
+is_small _ = true

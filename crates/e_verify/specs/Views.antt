@@ -1,0 +1,37 @@
+-- The rows that the code names, and where it reads their names.
+use Rattle.std.specs.Prelude.{◌++◌, Bool, true, false}
+use Rattle.std.specs.Option.{option_map, option_copied}
+use Rattle.e_literal.specs.Rows.{Row, Says, Summands, plus, minus, negative, normal_summands}
+use Rattle.e_literal.specs.Rows as says
+use Rattle.e_clause.specs.Sum.{Place}
+use Rattle.e_clause.specs.System.{pos_row, top_row, right_row, least_row}
+use Rattle.e_verify.specs.declared.rows.Says.{Says as CodeSays}
+use Rattle.e_verify.specs.declared.rows.Says.TheVariants.{Zero, AtLeast, More, Not}
+use Rattle.e_verify.specs.declared.rows.Comparison.{Comparison}
+use Rattle.e_verify.specs.declared.rows.Row.{Row as CodeRow}
+use Rattle.e_verify.specs.declared.rows.Row.TheVariants.{Sums, Pos, Top, Right, Least}
+use Rattle.e_verify.specs.declared.rows.Place.{Place as CodePlace}
+
+abbrev pub says_of : CodeSays → Says
+says_of Zero = says.Zero
+says_of AtLeast = says.AtLeast
+says_of More = says.More
+says_of Not = says.Not
+
+-- the form, or minus the form
+abbrev pub turned_by : Bool → Summands → Summands
+turned_by true form = negative form
+turned_by false form = form
+
+abbrev pub row_said : CodeRow → Row
+row_said (Sums said x y turned) = record { says = says_of said; form = turned_by turned (normal_summands (plus x.now ++ minus y.now)) }
+row_said (Pos t) = pos_row t
+row_said (Top t) = top_row t
+row_said Right = right_row
+row_said (Least t) = least_row t
+
+abbrev pub comparison_said : Comparison → Row
+comparison_said c = record { says = says_of c.says; form = normal_summands (plus c.plus.now ++ minus c.minus.now) }
+
+abbrev pub place_said : CodePlace → Place
+place_said p = record { facts = p.facts.now; wanted = option_copied p.wanted; above = option_map row_said p.above; below = option_map row_said p.below }

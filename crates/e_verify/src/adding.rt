@@ -1,0 +1,84 @@
+// How rows are added up.
+
+ghost use Rattle.std.specs.Prelude.{◌≡◌, ◌≤◌, ◌^◌, ◌++◌, IsTrue, OnOk, pos, neg_ℤ, ◌+ℤ◌, ◌*ℤ◌, unsigned_abs, if◌then◌else◌};
+ghost use Rattle.e_literal.specs.Rows;
+ghost use Rattle.e_literal.specs.declared.object.Term.{Term as ATerm};
+ghost use Rattle.e_literal.specs.Rows.{coefficient, normal_summands};
+ghost use Rattle.e_verify.specs.Totals.{at};
+ghost use Rattle.e_verify.specs.Small.{are_small, is_small};
+ghost use Rattle.e_verify.specs.Views.{row_said};
+
+use crate::rows::Row;
+use crate::totals::Totals;
+use e_literal::{Mono, Term};
+use std::alloc::AllocError;
+
+/// Adds the row so many times.
+pub fn add_row(totals: &mut Totals, row: Row, multiplier: i128) -> Result<(), AllocError>
+    requires row { IsTrue (is_small row) }
+    requires multiplier { unsigned_abs multiplier ≤ 2 ^ 80 }
+    requires room { (t : ATerm) → unsigned_abs (at totals.old t) ≤ 2 ^ 120 }
+    ensures { OnOk result ((t : ATerm) → at totals.new t ≡ at totals.old t +ℤ multiplier *ℤ coefficient (row_said row.entry).form t) }
+{
+    match row {
+        Row::Sums {
+            plus,
+            minus,
+            turned,
+            ..
+        } => add_difference(totals, plus, minus, turned_by(turned, multiplier)),
+        Row::Pos(term) => totals.add(term, multiplier),
+        Row::Least(term) => totals.add(term, multiplier),
+        Row::Top(term) => {
+            totals.add(Term::Right, product(multiplier, 2))?;
+            totals.add(term, turned_by(true, multiplier))
+        }
+        Row::Right => totals.add(Term::Right, multiplier),
+    }
+}
+
+fn turned_by(turned: bool, multiplier: i128) -> i128
+    requires { unsigned_abs multiplier ≤ 2 ^ 80 }
+    ensures value { result ≡ (if turned then neg_ℤ multiplier else multiplier) }
+    ensures size { unsigned_abs result ≤ 2 ^ 80 }
+{
+    if turned { -multiplier } else { multiplier }
+}
+
+/// Adds the one sum less the other so many times.
+fn add_difference(
+    totals: &mut Totals,
+    plus: &[Mono],
+    minus: &[Mono],
+    multiplier: i128,
+) -> Result<(), AllocError>
+    requires plus { IsTrue (are_small plus.now) }
+    requires minus { IsTrue (are_small minus.now) }
+    requires multiplier { unsigned_abs multiplier ≤ 2 ^ 80 }
+    requires room { (t : ATerm) → unsigned_abs (at totals.old t) ≤ 2 ^ 120 }
+    ensures { OnOk result ((t : ATerm) → at totals.new t ≡ at totals.old t +ℤ multiplier *ℤ coefficient (normal_summands (Rows.plus plus.now ++ Rows.minus minus.now)) t) }
+{
+    add_sum(totals, plus, multiplier)?;
+    add_sum(totals, minus, turned_by(true, multiplier))
+}
+
+/// Adds the sum so many times.
+fn add_sum(totals: &mut Totals, sum: &[Mono], multiplier: i128) -> Result<(), AllocError>
+    requires sum { IsTrue (are_small sum.now) }
+    requires multiplier { unsigned_abs multiplier ≤ 2 ^ 80 }
+    requires room { (t : ATerm) → unsigned_abs (at totals.old t) ≤ 2 ^ 121 }
+    ensures { OnOk result ((t : ATerm) → at totals.new t ≡ at totals.old t +ℤ multiplier *ℤ coefficient (normal_summands (Rows.plus sum.now)) t) }
+{
+    for m in sum {
+        totals.add(m.term, product(multiplier, m.coeff))?;
+    }
+    Ok(())
+}
+
+fn product(multiplier: i128, coefficient: u32) -> i128
+    requires { unsigned_abs multiplier ≤ 2 ^ 80 }
+    ensures value { result ≡ multiplier *ℤ pos coefficient }
+    ensures size { unsigned_abs result ≤ 2 ^ 112 }
+{
+    multiplier * i128::from(coefficient)
+}

@@ -1,0 +1,93 @@
+// Closes without blocks inside: whether one is certified.
+
+ghost use Rattle.std.specs.Prelude.{◌≡◌, List, IfOk, IsTrue, map, true};
+ghost use Rattle.std.specs.List.{list_all};
+ghost use Rattle.std.specs.Option.{option_map_or};
+ghost use Rattle.e_literal.specs.Rename;
+ghost use Rattle.e_literal.specs.Rename.{image_in};
+ghost use Rattle.e_literal.specs.Scopes;
+ghost use Rattle.e_literal.specs.Use.{Stated};
+ghost use Rattle.e_literal.specs.WellFormed.{is_well_formed};
+ghost use Rattle.e_deriv.specs.Certified.{is_certified};
+ghost use Rattle.e_deriv.specs.Goal.{Goal as BlockGoal};
+ghost use Rattle.e_deriv.specs.Script.{Qed, Contradiction};
+ghost use Rattle.e_verify.specs.Checking.{line_at};
+ghost use Rattle.e_verify.specs.Standing.{goal_said};
+ghost use Rattle.e_verify.specs.Written.{is_good_cert, is_good_against};
+
+use crate::certificate::{certifies_against, certify_all};
+use crate::standing::{Goal, Standing};
+use e_clause::{Against, Cert};
+use e_literal::{Lit, Map, Obj, Scope, count, renamed};
+use std::alloc::{AllocError, Global};
+
+/// Whether a qed is certified: each literal of the goal, with these objects for its made ones.
+pub fn qed(
+    alloc: Global,
+    objects: &[Obj],
+    certs: &[Cert],
+    goal: &Goal,
+    standing: &Standing,
+) -> Result<bool, AllocError>
+    requires shown { IsTrue (list_all is_well_formed goal.now.shown.now) }
+    requires certs { IsTrue (list_all is_good_cert certs.now) }
+    ensures { IfOk result (λ b. (before : List Stated) → b ≡ is_certified before (line_at (Qed objects.now certs.now) standing.now (goal_said goal.now))) }
+{
+    if !are_of_sorts(standing.scope, goal.made, objects) {
+        return Ok(false);
+    }
+    let wanted = goal_with(alloc, goal, objects)?;
+    certify_all(alloc, standing.scope, &standing.facts, &wanted, certs)
+}
+
+/// Whether a contradiction is certified.
+pub fn contradiction(
+    alloc: Global,
+    against: &Option<Against>,
+    standing: &Standing,
+) -> Result<bool, AllocError>
+    requires { IsTrue (option_map_or is_good_against against.now true) }
+    ensures { IfOk result (λ b. (before : List Stated) (goal : BlockGoal) → b ≡ is_certified before (line_at (Contradiction against.now) standing.now goal)) }
+{
+    match against {
+        Some(against) => certifies_against(alloc, standing.scope, &standing.facts, against),
+        None => Ok(false),
+    }
+}
+
+/// Whether the objects are one for each of the made ones, of its sort, and in scope.
+#[tactic(auto, using(crate::proofs::Closing::objects))]
+fn are_of_sorts(scope: Scope, made: &[Obj], objects: &[Obj]) -> bool
+    ensures { result ≡ Scopes.are_of_sorts scope (map (λ o. o.sort) made.now) objects.now }
+{
+    match (made, objects) {
+        ([], []) => true,
+        ([first, made @ ..], [object, objects @ ..]) => {
+            first.sort == object.sort
+                && object.num < count(scope, object.sort)
+                && are_of_sorts(scope, made, objects)
+        }
+        ([], [_, ..]) => false,
+        ([_, ..], []) => false,
+    }
+}
+
+/// The literals of the goal with these objects for its made ones.
+fn goal_with(alloc: Global, goal: &Goal, objects: &[Obj]) -> Result<Vec<Lit>, AllocError>
+    requires one_sort { map (λ o. o.sort) goal.now.made.now ≡ map (λ o. o.sort) objects.now }
+    ensures { IfOk result (λ lits. lits.items ≡ Rattle.e_deriv.specs.Goal.goal_with (goal_said goal.now) objects.now) }
+{
+    let images = Map::paired(alloc, goal.made, objects)?;
+    with_images(alloc, goal.shown, &images)
+}
+
+/// The literals with the images of their objects.
+fn with_images(alloc: Global, lits: &[Lit], images: &Map) -> Result<Vec<Lit>, AllocError>
+    ensures { IfOk result (λ ls. ls.items ≡ map (Rename.renamed (image_in images.now)) lits.now) }
+{
+    let mut with = Vec::new(alloc);
+    for lit in lits {
+        with.push(renamed(alloc, lit, images)?)?;
+    }
+    Ok(with)
+}

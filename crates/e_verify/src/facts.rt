@@ -1,0 +1,137 @@
+// The facts before a line.
+
+ghost use Rattle.std.specs.Prelude.{◌≡◌, ◌≤◌, [], take, length, OnOk};
+ghost use Rattle.std.specs.List.{list_any};
+ghost use Rattle.e_literal.specs.Facts.{has_all, joined, joined_all, are_equal_points};
+ghost use Rattle.e_literal.specs.Literal.{negation};
+ghost use Rattle.e_literal.specs.Same.{term_eq};
+ghost use Rattle.e_clause.specs.Assignment.{terms_of_atom, terms_of_lits};
+
+use e_literal::{Atom, Lit, Mono, Term, same};
+use std::alloc::{AllocError, Global};
+use std::marker::Model;
+
+/// The facts before a line, which contracts see as their list. No two that are put in are the same.
+#[derive(Debug, Drop)]
+pub struct Facts {
+    lits: Vec<Lit>,
+}
+
+impl Model for Facts {
+    ghost use Rattle.std.specs.Prelude.{List};
+    ghost use Rattle.e_literal.specs.declared.literal.Lit.{Lit};
+
+    ghost Value = { List Lit };
+
+    ghost view = { λ f. f.lits.items };
+}
+
+impl Facts {
+    /// No facts.
+    pub fn new(alloc: Global) -> Facts
+        ensures { result ≡ [] }
+    {
+        Facts {
+            lits: Vec::new(alloc),
+        }
+    }
+
+    /// Whether one the same is there.
+    pub fn has(&self, lit: &Lit) -> bool
+        ensures { result ≡ Rattle.e_literal.specs.Facts.has self.now lit.now }
+    {
+        self.lits.iter().any(|fact| same(fact, lit))
+    }
+
+    /// Whether each of the literals is there.
+    pub fn have_all(&self, lits: &[Lit]) -> bool
+        ensures { result ≡ has_all self.now lits.now }
+    {
+        lits.iter().all(|lit| self.has(lit))
+    }
+
+    /// Whether the facts say that two points differ, in one order or the other.
+    pub fn are_apart(&self, a: u16, b: u16) -> bool
+        ensures { result ≡ Rattle.e_literal.specs.Facts.are_apart self.now a b }
+    {
+        self.has(&differ(a, b)) || self.has(&differ(b, a))
+    }
+
+    /// Whether the term stands in a fact, as it is written.
+    #[tactic(auto, using(crate::proofs::StepTerms::standing))]
+    pub fn has_term(&self, term: Term) -> bool
+        ensures { result ≡ list_any (term_eq term) (terms_of_lits self.now) }
+    {
+        stands_in_any(&self.lits, term)
+    }
+
+    /// Puts the literal last, unless one the same is there.
+    #[tactic(auto, unfolding(e_literal::specs::Facts::joined))]
+    pub fn add(&mut self, lit: Lit) -> Result<(), AllocError>
+        ensures { OnOk result (self.new ≡ joined self.old lit) }
+    {
+        if self.has(&lit) {
+            return Ok(());
+        }
+        self.lits.push(lit)?;
+        Ok(())
+    }
+
+    /// Puts the literals in, one after the other.
+    pub fn join(&mut self, lits: Vec<Lit>) -> Result<(), AllocError>
+        ensures { OnOk result (self.new ≡ joined_all self.old lits.items) }
+    {
+        for lit in lits {
+            self.add(lit)?;
+        }
+        Ok(())
+    }
+
+    /// The place after the last fact, to come back to.
+    pub fn mark(&self) -> usize
+        ensures { result ≡ length self.now }
+    {
+        self.lits.len()
+    }
+
+    /// Takes away all facts from the place on.
+    pub fn back_to(&mut self, mark: usize)
+        ensures { self.new ≡ take mark self.old }
+    {
+        self.lits.truncate(mark);
+    }
+}
+
+fn differ(a: u16, b: u16) -> Lit
+    ensures { result ≡ negation (are_equal_points a b) }
+{
+    Lit {
+        neg: true,
+        atom: Atom::EqP(a, b),
+    }
+}
+
+/// Whether the term stands in the literal, as it is written.
+#[tactic(auto, using(crate::proofs::StepTerms::standing))]
+pub fn stands_in(lit: &Lit, term: Term) -> bool
+    ensures { result ≡ list_any (term_eq term) (terms_of_atom lit.now.atom) }
+{
+    match &lit.atom {
+        Atom::MagEq(x, y) | Atom::MagLt(x, y) => {
+            is_among(x.items(), term) || is_among(y.items(), term)
+        }
+        _ => false,
+    }
+}
+
+fn stands_in_any(lits: &[Lit], term: Term) -> bool
+    ensures { result ≡ list_any (λ l. list_any (term_eq term) (terms_of_atom l.atom)) lits.now }
+{
+    lits.iter().any(|lit| stands_in(lit, term))
+}
+
+fn is_among(sum: &[Mono], term: Term) -> bool
+    ensures { result ≡ list_any (λ m. term_eq term m.term) sum.now }
+{
+    sum.iter().any(|m| term == m.term)
+}

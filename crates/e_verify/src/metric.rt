@@ -1,0 +1,140 @@
+// What a metric certificate shows.
+
+ghost use Rattle.std.specs.Prelude.{◌≡◌, IfOk, IfSome, IsTrue, true, option_and_then, if◌then◌else◌, Some, None};
+ghost use Rattle.std.specs.Option.{option_map, option_map_or, option_copied};
+ghost use Rattle.e_literal.specs.WellFormed.{is_well_formed};
+ghost use Rattle.e_clause.specs.Sum.{says_differ};
+ghost use Rattle.e_clause.specs.MetricCertificate;
+ghost use Rattle.e_verify.specs.Small.{is_small, is_short};
+ghost use Rattle.e_verify.specs.Views.{row_said, comparison_said};
+ghost use Rattle.e_verify.specs.Written.{is_good_name, is_good_sum, is_good_sums};
+
+use crate::facts::Facts;
+use crate::rows::{Comparison, Place, Row, Says, fact_row, goal_row};
+use crate::sums::refutes;
+use e_clause::{RowName, Sums};
+use e_literal::Lit;
+use std::alloc::{AllocError, Global};
+
+/// Whether the facts and the negation of the wanted literal, where one is wanted, cannot all be true, by these sums.
+pub fn sums_refute<'a>(
+    alloc: Global,
+    facts: &'a Facts,
+    wanted: Option<&'a Lit>,
+    sums: &'a Sums,
+) -> Result<bool, AllocError>
+    requires wanted { IsTrue (option_map_or is_well_formed (option_copied wanted) true) }
+    requires sums { IsTrue (is_good_sums sums.now) }
+    ensures { IfOk result (λ b. b ≡ MetricCertificate.sums_refute facts.now (option_copied wanted.entry) sums.now) }
+{
+    match sums {
+        Sums::One(sum) => {
+            let place = Place {
+                facts,
+                wanted,
+                above: None,
+                below: None,
+            };
+            refutes(alloc, &place, sum.rows())
+        }
+        Sums::Two {
+            differs,
+            above,
+            below,
+        } => match differing(facts, wanted, differs) {
+            Some(row) => both_refute(alloc, facts, wanted, row, above.rows(), below.rows()),
+            None => Ok(false),
+        },
+    }
+}
+
+/// Whether the form of the row is not more than 0 by the first sum, and not less by the second.
+fn both_refute<'a>(
+    alloc: Global,
+    facts: &'a Facts,
+    wanted: Option<&'a Lit>,
+    row: Comparison<'a>,
+    above: &'a [(i128, RowName)],
+    below: &'a [(i128, RowName)],
+) -> Result<bool, AllocError>
+    requires wanted { IsTrue (option_map_or is_well_formed (option_copied wanted) true) }
+    requires row { IsTrue (is_short row) }
+    requires above { IsTrue (is_good_sum above.now) }
+    requires below { IsTrue (is_good_sum below.now) }
+    ensures { IfOk result (λ b. b ≡ MetricCertificate.both_refute facts.now (option_copied wanted.entry) (comparison_said row.entry) above.now below.now) }
+{
+    let place = Place {
+        facts,
+        wanted,
+        above: Some(above_row(row)),
+        below: None,
+    };
+    if !refutes(alloc, &place, above)? {
+        return Ok(false);
+    }
+    let place = Place {
+        facts,
+        wanted,
+        above: None,
+        below: Some(below_row(row)),
+    };
+    refutes(alloc, &place, below)
+}
+
+/// The row that says that its form is not 0, or none where the name may not be used here.
+fn differing<'a>(
+    facts: &Facts,
+    wanted: Option<&'a Lit>,
+    name: &'a RowName,
+) -> Option<Comparison<'a>>
+    requires wanted { IsTrue (option_map_or is_well_formed (option_copied wanted) true) }
+    requires name { IsTrue (is_good_name name.now) }
+    ensures row { option_map comparison_said result ≡ MetricCertificate.differing facts.now (option_copied wanted.entry) name.now }
+    ensures small { IfSome result (λ c. IsTrue (is_short c)) }
+{
+    match name {
+        RowName::Fact(lit) => if_not(fact_row(facts, lit)),
+        RowName::Goal => if_not(goal_row(wanted)),
+        _ => None,
+    }
+}
+
+/// No row but where it says that its form is not 0.
+fn if_not<'a>(row: Option<Comparison<'a>>) -> Option<Comparison<'a>>
+    requires { IfSome row (λ c. IsTrue (is_short c)) }
+    ensures row { option_map comparison_said result ≡ option_and_then (λ r. if says_differ r.says then Some r else None) (option_map comparison_said row.entry) }
+    ensures small { IfSome result (λ c. IsTrue (is_short c)) }
+{
+    match row {
+        Some(row) if row.says == Says::Not => Some(row),
+        _ => None,
+    }
+}
+
+/// The row that says that the form is more than 0.
+fn above_row<'a>(row: Comparison<'a>) -> Row<'a>
+    requires { IsTrue (is_short row) }
+    ensures row { row_said result ≡ MetricCertificate.above_row (comparison_said row.entry) }
+    ensures small { IsTrue (is_small result) }
+{
+    Row::Sums {
+        says: Says::More,
+        plus: row.plus,
+        minus: row.minus,
+        turned: false,
+    }
+}
+
+/// The row that says that the form is less than 0.
+fn below_row<'a>(row: Comparison<'a>) -> Row<'a>
+    requires { IsTrue (is_short row) }
+    ensures row { row_said result ≡ MetricCertificate.below_row (comparison_said row.entry) }
+    ensures small { IsTrue (is_small result) }
+{
+    Row::Sums {
+        says: Says::More,
+        plus: row.plus,
+        minus: row.minus,
+        turned: true,
+    }
+}

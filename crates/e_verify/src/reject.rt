@@ -1,0 +1,26 @@
+// Why a derivation is refused.
+
+ghost use Rattle.std.specs.Prelude.{◌≡◌};
+ghost use Rattle.e_verify.specs.declared.reject.Reject.TheVariants.{NoMemory};
+
+use std::alloc::AllocError;
+use thiserror::Error;
+
+/// Why a derivation is refused.
+#[derive(Debug, Drop, PartialEq, Eq, Error)]
+pub enum Reject {
+    /// The line with this number, counted from 1 among the step and close lines, is the first that is not certified.
+    #[error("line {step} is not certified")]
+    Bad { step: u32 },
+    /// Want of memory.
+    #[error("out of memory")]
+    NoMemory,
+}
+
+impl From<AllocError> for Reject {
+    ghost from_gives = { λ _ e. e ≡ NoMemory };
+
+    fn from(_e: AllocError) -> Reject {
+        Reject::NoMemory
+    }
+}

@@ -1,0 +1,222 @@
+// The rows that a sum names.
+
+ghost use Rattle.std.specs.Prelude.{◌≡◌, IfSome, IsTrue, true};
+ghost use Rattle.std.specs.Option.{option_map, option_map_or, option_copied};
+ghost use Rattle.e_literal.specs.Rows;
+ghost use Rattle.e_literal.specs.Rows.{row_of_atom};
+ghost use Rattle.e_literal.specs.WellFormed.{is_good_atom, is_well_formed};
+ghost use Rattle.e_clause.specs.Sum;
+ghost use Rattle.e_clause.specs.declared.cert.RowName.TheVariants.{Least};
+ghost use Rattle.e_verify.specs.Small.{is_small, is_short};
+ghost use Rattle.e_verify.specs.Views.{row_said, comparison_said, says_of, place_said};
+ghost use Rattle.e_verify.specs.Written.{is_good_name, is_good_place};
+
+use crate::facts::{Facts, stands_in};
+use e_clause::RowName;
+use e_literal::{Atom, Lit, Mono, Term};
+
+/// What a row says of its form: that it is 0, at least 0, more than 0, or not 0.
+#[derive(Clone, Copy, PartialEq, Eq, Debug)]
+pub enum Says {
+    Zero,
+    AtLeast,
+    More,
+    Not,
+}
+
+/// A row of a step.
+#[derive(Clone, Copy, Debug)]
+pub enum Row<'a> {
+    /// The form is the one sum less the other, or minus that.
+    Sums {
+        says: Says,
+        plus: &'a [Mono],
+        minus: &'a [Mono],
+        turned: bool,
+    },
+    /// The term is more than 0.
+    Pos(Term),
+    /// The term is at most two right angles.
+    Top(Term),
+    /// The right angle is more than 0.
+    Right,
+    /// The term is at least 0.
+    Least(Term),
+}
+
+/// The row of a literal: what it says of the one sum less the other.
+#[derive(Clone, Copy, Debug)]
+pub struct Comparison<'a> {
+    pub says: Says,
+    pub plus: &'a [Mono],
+    pub minus: &'a [Mono],
+}
+
+/// What the names of rows are read at: the facts, the literal that is wanted, none where a contradiction is, and the rows
+/// that `above` and `below` name.
+#[derive(Clone, Copy, Debug)]
+pub struct Place<'a> {
+    pub facts: &'a Facts,
+    pub wanted: Option<&'a Lit>,
+    pub above: Option<Row<'a>>,
+    pub below: Option<Row<'a>>,
+}
+
+impl<'a> Row<'a> {
+    /// What it says of its form.
+    pub fn says(&self) -> Says
+        ensures { says_of result ≡ (row_said self.now).says }
+    {
+        match self {
+            Row::Sums { says, .. } => *says,
+            Row::Pos(_) | Row::Right => Says::More,
+            Row::Top(_) | Row::Least(_) => Says::AtLeast,
+        }
+    }
+}
+
+/// The row with this name, or none where the name may not be used here.
+pub fn row_named<'a>(place: &Place<'a>, name: &'a RowName) -> Option<Row<'a>>
+    requires place { IsTrue (is_good_place place.now) }
+    requires name { IsTrue (is_good_name name.now) }
+    ensures row { option_map row_said result ≡ Sum.row_named (place_said place.now) name.now }
+    ensures small { IfSome result (λ r. IsTrue (is_small r)) }
+{
+    match name {
+        RowName::Fact(lit) => unless_not(fact_row(place.facts, lit)),
+        RowName::Goal => unless_not(goal_row(place.wanted)),
+        RowName::Pos(term) => pos_row(place, *term),
+        RowName::Top(term) => top_row(place, *term),
+        RowName::Right => Some(Row::Right),
+        RowName::Least(term) => least_row(place, *term),
+        RowName::Above => place.above,
+        RowName::Below => place.below,
+    }
+}
+
+/// The row of a fact, whatever it says.
+pub fn fact_row<'a>(facts: &Facts, lit: &'a Lit) -> Option<Comparison<'a>>
+    requires { IsTrue (is_well_formed lit.now) }
+    ensures row { option_map comparison_said result ≡ Sum.fact_row facts.now lit.now }
+    ensures small { IfSome result (λ c. IsTrue (is_short c)) }
+{
+    if facts.has(lit) {
+        row_of(&lit.atom, lit.neg)
+    } else {
+        None
+    }
+}
+
+/// The row of the negated wanted literal, whatever it says.
+pub fn goal_row<'a>(wanted: Option<&'a Lit>) -> Option<Comparison<'a>>
+    requires { IsTrue (option_map_or is_well_formed (option_copied wanted) true) }
+    ensures row { option_map comparison_said result ≡ Sum.goal_row (option_copied wanted.entry) }
+    ensures small { IfSome result (λ c. IsTrue (is_short c)) }
+{
+    match wanted {
+        Some(lit) => row_of(&lit.atom, !lit.neg),
+        None => None,
+    }
+}
+
+/// The row of an atom or of its negation; none where it does not compare magnitudes.
+#[tactic(auto, using(crate::proofs::Smallness::good_sums))]
+fn row_of<'a>(atom: &'a Atom, neg: bool) -> Option<Comparison<'a>>
+    requires { IsTrue (is_good_atom atom.now) }
+    ensures row { option_map comparison_said result ≡ row_of_atom atom.now neg }
+    ensures small { IfSome result (λ c. IsTrue (is_short c)) }
+{
+    match atom {
+        Atom::MagEq(x, y) => Some(Comparison {
+            says: if neg { Says::Not } else { Says::Zero },
+            plus: x.items(),
+            minus: y.items(),
+        }),
+        Atom::MagLt(x, y) => Some(if neg {
+            Comparison {
+                says: Says::AtLeast,
+                plus: x.items(),
+                minus: y.items(),
+            }
+        } else {
+            Comparison {
+                says: Says::More,
+                plus: y.items(),
+                minus: x.items(),
+            }
+        }),
+        _ => None,
+    }
+}
+
+/// No row where it says that its form is not 0.
+fn unless_not<'a>(row: Option<Comparison<'a>>) -> Option<Row<'a>>
+    requires { IfSome row (λ c. IsTrue (is_short c)) }
+    ensures row { option_map row_said result ≡ Sum.unless_not (option_map comparison_said row.entry) }
+    ensures small { IfSome result (λ r. IsTrue (is_small r)) }
+{
+    match row {
+        Some(Comparison { says, plus, minus }) => {
+            if says == Says::Not {
+                return None;
+            }
+            Some(Row::Sums {
+                says,
+                plus,
+                minus,
+                turned: false,
+            })
+        }
+        None => None,
+    }
+}
+
+/// A segment of the step whose ends are apart by the facts.
+fn pos_row<'a>(place: &Place<'a>, term: Term) -> Option<Row<'a>>
+    ensures row { option_map row_said result ≡ Sum.pos_of (place_said place.now) term }
+    ensures small { IfSome result (λ r. IsTrue (is_small r)) }
+{
+    match term {
+        Term::Seg(a, b) if is_step_term(place, term) && place.facts.are_apart(a, b) => {
+            Some(Row::Pos(term))
+        }
+        _ => None,
+    }
+}
+
+/// An angle of the step.
+fn top_row<'a>(place: &Place<'a>, term: Term) -> Option<Row<'a>>
+    ensures row { option_map row_said result ≡ Sum.top_of (place_said place.now) term }
+    ensures small { IfSome result (λ r. IsTrue (is_small r)) }
+{
+    match term {
+        Term::Ang(_, _, _) if is_step_term(place, term) => Some(Row::Top(term)),
+        _ => None,
+    }
+}
+
+/// A term of the step.
+fn least_row<'a>(place: &Place<'a>, term: Term) -> Option<Row<'a>>
+    ensures row { option_map row_said result ≡ Sum.row_named (place_said place.now) (Least term) }
+    ensures small { IfSome result (λ r. IsTrue (is_small r)) }
+{
+    if is_step_term(place, term) {
+        Some(Row::Least(term))
+    } else {
+        None
+    }
+}
+
+/// Whether the term is one of the step, as it is written there.
+#[tactic(auto, using(crate::proofs::StepTerms::of_step))]
+fn is_step_term(place: &Place, term: Term) -> bool
+    ensures { result ≡ Sum.is_step_term (place_said place.now) term }
+{
+    if term == Term::Right || place.facts.has_term(term) {
+        return true;
+    }
+    match place.wanted {
+        Some(lit) => stands_in(lit, term),
+        None => false,
+    }
+}

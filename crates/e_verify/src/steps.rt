@@ -1,0 +1,182 @@
+// Steps without a block inside: whether one is certified, and what holds after it.
+
+ghost use Rattle.std.specs.Prelude.{◌≡◌, ◌&&◌, ℕ, List, IfOk, IsTrue, Some, None, if◌then◌else◌, true};
+ghost use Rattle.std.specs.List.{list_all};
+ghost use Rattle.std.specs.Option.{option_map, option_map_or};
+ghost use Rattle.e_literal.specs.Literal.{all_in_scope};
+ghost use Rattle.e_literal.specs.Use.{Stated};
+ghost use Rattle.e_literal.specs.WellFormed.{is_well_formed};
+ghost use Rattle.e_theorem.specs.Statements.{all_stated};
+ghost use Rattle.e_deriv.specs.Fitting.{is_small, is_small_statement};
+ghost use Rattle.e_deriv.specs.Parts.{has_no_blank, written};
+ghost use Rattle.e_deriv.specs.Certified.{is_certified};
+ghost use Rattle.e_deriv.specs.Goal.{Goal};
+ghost use Rattle.e_deriv.specs.Script.{Script, Cite, Hence, Make, Apply, Superposed};
+ghost use Rattle.e_deriv.specs.Steps;
+ghost use Rattle.e_deriv.specs.Steps.{is_citation};
+ghost use Rattle.e_verify.specs.Checking.{IsChecked, line_at};
+ghost use Rattle.e_verify.specs.Standing.{after_superposed};
+ghost use Rattle.e_verify.specs.Written.{is_good_cert};
+
+use crate::certificate::{certifies, certify_all};
+use crate::facts::Facts;
+use crate::instances::{instance_of, is_among, negated_others};
+use crate::scope::{are_over, objects_in};
+use crate::standing::Standing;
+use e_clause::{By, Cert};
+use e_construct::{Construction, Superpose};
+use e_literal::{Lit, Obj, Scope, grown, in_scope};
+use e_theorem::{Statement, UseFault, use_of};
+use std::alloc::{AllocError, Global};
+
+/// Whether a citation is certified; then its literal is a fact.
+pub fn cite(alloc: Global, by: &By, standing: &mut Standing) -> Result<bool, AllocError>
+    ensures { IfOk result (λ b. (before : List Stated) → IsChecked before (Cite by.now) standing.old standing.new b) }
+{
+    if !is_cited(alloc, standing.scope, &standing.facts, by)? {
+        return Ok(false);
+    }
+    standing.suppose(alloc, &by.lit)?;
+    Ok(true)
+}
+
+/// Whether the citation fits, and its instance gives the literal.
+fn is_cited(alloc: Global, scope: Scope, facts: &Facts, by: &By) -> Result<bool, AllocError>
+    ensures { IfOk result (λ b. b ≡ (is_citation scope by.now && Steps.is_cited facts.now by.now)) }
+{
+    if by.rule.is_transfer() || !objects_in(scope, by.args.items()) || !in_scope(&by.lit, scope) {
+        return Ok(false);
+    }
+    let Some(lits) = instance_of(alloc, by.rule, by.args.items())? else {
+        return Ok(false);
+    };
+    if !is_among(&lits, &by.lit) {
+        return Ok(false);
+    }
+    let needs = negated_others(alloc, lits, &by.lit)?;
+    Ok(facts.have_all(&needs))
+}
+
+/// Whether a hence is certified; then its literal is a fact.
+pub fn hence(
+    alloc: Global,
+    lit: &Lit,
+    cert: &Option<Cert>,
+    standing: &mut Standing,
+) -> Result<bool, AllocError>
+    requires lit { IsTrue (is_well_formed lit.now) }
+    requires cert { IsTrue (option_map_or is_good_cert cert.now true) }
+    ensures { IfOk result (λ b. (before : List Stated) → IsChecked before (Hence lit.now cert.now) standing.old standing.new b) }
+{
+    let Some(cert) = cert else {
+        return Ok(false);
+    };
+    if !in_scope(lit, standing.scope) {
+        return Ok(false);
+    }
+    if !certifies(alloc, standing.scope, &standing.facts, lit, cert)? {
+        return Ok(false);
+    }
+    standing.suppose(alloc, lit)?;
+    Ok(true)
+}
+
+/// Whether a construction is certified; then its objects are in scope, and what it gives are facts.
+pub fn make(
+    alloc: Global,
+    form: &Construction,
+    certs: &[Cert],
+    standing: &mut Standing,
+) -> Result<bool, AllocError>
+    requires scope { IsTrue (is_small standing.old.scope) }
+    requires certs { IsTrue (list_all is_good_cert certs.now) }
+    ensures { IfOk result (λ b. (before : List Stated) (names : List (List ℕ)) → IsChecked before (Make form.now names certs.now) standing.old standing.new b) }
+{
+    let scope = standing.scope;
+    if !form.fits(scope) {
+        return Ok(false);
+    }
+    let needs = form.needs(alloc)?;
+    if !certify_all(alloc, scope, &standing.facts, &needs, certs)? {
+        return Ok(false);
+    }
+    let given = form.gives(alloc, scope)?;
+    standing.scope = grown(scope, form.made());
+    standing.facts.join(given)?;
+    Ok(true)
+}
+
+/// Whether an application is certified; then the made objects are in scope, and what the theorem shows are facts.
+pub fn apply(
+    alloc: Global,
+    before: &[Statement],
+    theorem: u32,
+    args: &[Option<Obj>],
+    certs: &[Cert],
+    standing: &mut Standing,
+) -> Result<bool, AllocError>
+    requires scope { IsTrue (is_small standing.old.scope) }
+    requires statements { IsTrue (list_all is_small_statement (all_stated before.now)) }
+    requires certs { IsTrue (list_all is_good_cert certs.now) }
+    ensures { IfOk result (λ b. (names : List (List ℕ)) → IsChecked (all_stated before.now) (Apply theorem args.now names certs.now) standing.old standing.new b) }
+{
+    let Some(statement) = before.get(theorem as usize) else {
+        return Ok(false);
+    };
+    let Some(objects) = all_written(alloc, args)? else {
+        return Ok(false);
+    };
+    let scope = standing.scope;
+    let applied = match use_of(alloc, statement, &objects, scope) {
+        Ok(applied) => applied,
+        Err(UseFault::BadArgs) => return Ok(false),
+        Err(UseFault::NoMemory) => return Err(AllocError),
+    };
+    if !certify_all(alloc, scope, &standing.facts, applied.needs.items(), certs)? {
+        return Ok(false);
+    }
+    standing.scope = grown(scope, statement.made.items());
+    standing.suppose_all(alloc, applied.gives.items())?;
+    Ok(true)
+}
+
+/// Whether a superposition is certified; then the copied points are in scope, and what it gives are facts.
+pub fn superpose(
+    alloc: Global,
+    form: &Superpose,
+    shown: &[Lit],
+    certs: &[Cert],
+    standing: &mut Standing,
+) -> Result<bool, AllocError>
+    requires scope { IsTrue (is_small standing.old.scope) }
+    requires certs { IsTrue (list_all is_good_cert certs.now) }
+    ensures test { IfOk result (λ b. (before : List Stated) (names : List (List ℕ)) (inner rest : Script) (goal : Goal) → b ≡ is_certified before (line_at (Superposed form.now names shown.now certs.now inner rest) standing.old goal)) }
+    ensures after { IfOk result (λ b. IsTrue b → standing.new ≡ after_superposed form.now standing.old) }
+{
+    let scope = standing.scope;
+    if !form.fits(scope) || !are_over(scope, shown) {
+        return Ok(false);
+    }
+    let needs = form.needs(alloc)?;
+    if !certify_all(alloc, scope, &standing.facts, &needs, certs)? {
+        return Ok(false);
+    }
+    let given = form.gives(alloc, scope)?;
+    standing.scope = grown(scope, form.made());
+    standing.facts.join(given)?;
+    Ok(true)
+}
+
+/// The arguments, or none where one of them is a blank.
+fn all_written(alloc: Global, args: &[Option<Obj>]) -> Result<Option<Vec<Obj>>, AllocError>
+    ensures { IfOk result (λ o. option_map (λ v. v.items) o ≡ (if has_no_blank args.now then Some (written args.now) else None)) }
+{
+    let mut objects = Vec::new(alloc);
+    for arg in args {
+        let Some(object) = arg else {
+            return Ok(None);
+        };
+        objects.push(*object)?;
+    }
+    Ok(Some(objects))
+}

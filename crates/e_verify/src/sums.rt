@@ -1,0 +1,76 @@
+// Sums of rows, and when they are absurd.
+
+ghost use Rattle.std.specs.Prelude.{◌≡◌, IfOk, IsTrue};
+ghost use Rattle.std.specs.List.{list_all};
+ghost use Rattle.e_literal.specs.Absurd;
+ghost use Rattle.e_clause.specs.Sum;
+ghost use Rattle.e_verify.specs.Views.{says_of, place_said};
+ghost use Rattle.e_verify.specs.Written.{is_good_place, is_good_sum};
+
+use crate::adding::add_row;
+use crate::rows::{Place, Says, row_named};
+use crate::totals::Totals;
+use e_clause::RowName;
+use std::alloc::{AllocError, Global};
+
+/// Whether the sum is of good size, each of its rows may be used here, and it is absurd: all terms cancel, no row that says at
+/// least or more is taken away, and one that says more is added.
+pub fn refutes(alloc: Global, place: &Place, sum: &[(i128, RowName)]) -> Result<bool, AllocError>
+    requires place { IsTrue (is_good_place place.now) }
+    requires sum { IsTrue (is_good_sum sum.now) }
+    ensures { IfOk result (λ b. b ≡ Sum.refutes (place_said place.now) sum.now) }
+{
+    if !is_good_size(sum) {
+        return Ok(false);
+    }
+    let mut totals = Totals::new(alloc);
+    let mut strict = false;
+    for (multiplier, name) in sum {
+        let Some(row) = row_named(place, name) else {
+            return Ok(false);
+        };
+        if !is_good_sign(row.says(), *multiplier) {
+            return Ok(false);
+        }
+        let is_strict = is_strict(row.says(), *multiplier);
+        strict = strict || is_strict;
+        add_row(&mut totals, row, *multiplier)?;
+    }
+    let are_zero = totals.are_zero();
+    Ok(strict && are_zero)
+}
+
+fn is_good_size(sum: &[(i128, RowName)]) -> bool
+    ensures { result ≡ Sum.is_good_size sum.now }
+{
+    1 <= sum.len() && sum.len() <= 4096 && have_good_multipliers(sum)
+}
+
+fn have_good_multipliers(sum: &[(i128, RowName)]) -> bool
+    ensures { result ≡ list_all (λ x. Sum.is_good_multiplier x.0) sum.now }
+{
+    sum.iter().all(|(m, _)| is_good_multiplier(*m))
+}
+
+/// Whether it is not 0, and of size at most 2^80.
+fn is_good_multiplier(n: i128) -> bool
+    ensures { result ≡ Sum.is_good_multiplier n }
+{
+    n != 0 && n.unsigned_abs() <= 0x1_0000_0000_0000_0000_0000
+}
+
+fn is_good_sign(says: Says, multiplier: i128) -> bool
+    ensures { result ≡ Absurd.is_good_sign (says_of says) multiplier }
+{
+    match says {
+        Says::Zero => true,
+        Says::AtLeast | Says::More => 0 <= multiplier,
+        Says::Not => false,
+    }
+}
+
+fn is_strict(says: Says, multiplier: i128) -> bool
+    ensures { result ≡ Absurd.is_strict (says_of says) multiplier }
+{
+    says == Says::More && 1 <= multiplier
+}

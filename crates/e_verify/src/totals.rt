@@ -1,0 +1,97 @@
+// Sums of forms, term by term.
+
+ghost use Rattle.std.specs.Prelude.{◌≡◌, ◌≤◌, ◌<◌, ◌+◌, ◌^◌, ◌↔◌, IsTrue, OnOk, [], ◌∷◌, pos, ◌+ℤ◌, ◌*ℤ◌, unsigned_abs, length};
+ghost use Rattle.std.specs.List.{list_all};
+ghost use Rattle.e_literal.specs.declared.object.Term.{Term as ATerm};
+ghost use Rattle.e_literal.specs.Rows.{coefficient, normal_summands, times, plus};
+ghost use Rattle.e_literal.specs.Rows;
+ghost use Rattle.std.specs.BTreeMap.{values, IsOrdered};
+ghost use Rattle.std.specs.Ordering.{int_eq};
+ghost use Rattle.e_literal.specs.NormalForm.{term_cmp};
+ghost use Rattle.e_literal.specs.Same;
+ghost use Rattle.e_verify.specs.Totals.{at};
+ghost use Rattle.e_verify.specs.Small.{are_small};
+
+use e_literal::compare::canonical;
+use e_literal::{Mono, Term};
+use std::alloc::{AllocError, Global};
+use std::collections::BTreeMap;
+use std::marker::Model;
+
+/// The coefficient of each term in a sum.
+#[derive(Debug, Drop)]
+pub struct Totals {
+    of: BTreeMap<Term, i128>,
+}
+
+impl Model for Totals {
+    ghost use Rattle.std.specs.Prelude.{List, ℤ};
+    ghost use Rattle.e_literal.specs.declared.object.Term.{Term};
+
+    ghost Value = { List (Term × ℤ) };
+
+    ghost view = { λ t. t.of.entries };
+}
+
+impl Totals {
+    /// The sum of nothing.
+    pub fn new(alloc: Global) -> Totals
+        ensures { result ≡ [] }
+    {
+        Totals {
+            of: BTreeMap::new(alloc),
+        }
+    }
+
+    /// Whether each term cancels.
+    pub fn are_zero(&self) -> bool
+        ensures { IsTrue result ↔ ((t : ATerm) → at self.now t ≡ pos 0) }
+    {
+        are_all_zero(&self.of)
+    }
+
+    /// Adds a term with its coefficient, as a row has it: in its normal order, and dropped where it is 0.
+    pub fn add(&mut self, term: Term, n: i128) -> Result<(), AllocError>
+        requires { unsigned_abs (at self.old (Same.canonical term)) + unsigned_abs n < 2 ^ 127 }
+        ensures { OnOk result ((t : ATerm) → at self.new t ≡ at self.old t +ℤ coefficient (normal_summands (times n term ∷ [])) t) }
+    {
+        if is_degenerate(term) {
+            return Ok(());
+        }
+        let key = canonical(term);
+        let before = self.total(key);
+        self.of.insert(key, before + n)?;
+        Ok(())
+    }
+
+    fn total(&self, term: Term) -> i128
+        ensures { result ≡ at self.now term }
+    {
+        match self.of.get(&term) {
+            Some(total) => *total,
+            None => 0,
+        }
+    }
+}
+
+fn are_all_zero(of: &BTreeMap<Term, i128>) -> bool
+    ensures value { result ≡ list_all (λ n. int_eq n (pos 0)) (values of.now) }
+    ensures ordered { IsOrdered term_cmp of.now }
+{
+    for n in of.values() {
+        if *n != 0 {
+            return false;
+        }
+    }
+    true
+}
+
+fn is_degenerate(term: Term) -> bool
+    ensures { result ≡ Rows.is_degenerate term }
+{
+    match term {
+        Term::Seg(a, b) => a == b,
+        Term::Area(a, b, c) => a == b || b == c || a == c,
+        Term::Ang(_, _, _) | Term::Right => false,
+    }
+}

@@ -1,0 +1,63 @@
+// What a transfer certificate certifies.
+
+ghost use Rattle.std.specs.Prelude.{◌≡◌, IfOk, IsTrue, map};
+ghost use Rattle.std.specs.List.{list_all};
+ghost use Rattle.e_literal.specs.Literal.{negation};
+ghost use Rattle.e_literal.specs.WellFormed.{is_well_formed};
+ghost use Rattle.e_clause.specs.TransferCertificate;
+ghost use Rattle.e_verify.specs.Written.{is_good_part};
+
+use crate::certificate::part_certifies;
+use crate::facts::Facts;
+use crate::instances::{instance_of, is_among, negated_others};
+use e_clause::{Part, TransferCert};
+use e_literal::Lit;
+use std::alloc::{AllocError, Global};
+
+/// Whether the instance of the transfer clause gives the literal, by these parts.
+pub fn transfer_certifies(
+    alloc: Global,
+    facts: &Facts,
+    lit: &Lit,
+    cert: &TransferCert,
+) -> Result<bool, AllocError>
+    requires { IsTrue (list_all is_good_part cert.now.parts) }
+    ensures { IfOk result (λ b. b ≡ TransferCertificate.transfer_certifies facts.now lit.now cert.now) }
+{
+    if !cert.rule.is_transfer() {
+        return Ok(false);
+    }
+    let Some(lits) = instance_of(alloc, cert.rule, cert.args.items())? else {
+        return Ok(false);
+    };
+    if !is_among(&lits, lit) {
+        return Ok(false);
+    }
+    let needs = negated_others(alloc, lits, lit)?;
+    parts_certify(alloc, facts, &needs, cert.parts.items())
+}
+
+/// Whether there are as many parts as literals, and each certifies its literal.
+#[tactic(auto, using(crate::proofs::Paired::parts))]
+fn parts_certify(
+    alloc: Global,
+    facts: &Facts,
+    lits: &[Lit],
+    parts: &[Part],
+) -> Result<bool, AllocError>
+    requires lits { IsTrue (list_all is_well_formed lits.now) }
+    requires parts { IsTrue (list_all is_good_part parts.now) }
+    ensures { IfOk result (λ b. b ≡ TransferCertificate.parts_certify facts.now (map negation lits.now) parts.now) }
+{
+    match (lits, parts) {
+        ([], []) => Ok(true),
+        ([lit, lits @ ..], [part, parts @ ..]) => {
+            if !part_certifies(alloc, facts, lit, part)? {
+                return Ok(false);
+            }
+            parts_certify(alloc, facts, lits, parts)
+        }
+        ([], [_, ..]) => Ok(false),
+        ([_, ..], []) => Ok(false),
+    }
+}

@@ -1,0 +1,18 @@
+//! The tests of the crates that judge, over their public calls, in one crate above them so that none of them is proved
+//! twice.
+#![tactic(auto)]
+
+#[cfg(test)]
+mod deciding;
+#[cfg(test)]
+mod following;
+#[cfg(test)]
+mod licensing;
+#[cfg(test)]
+mod literals;
+#[cfg(test)]
+mod rows;
+#[cfg(test)]
+mod settling;
+#[cfg(test)]
+mod transferring;

@@ -1,0 +1,68 @@
+// Rows that are settled, and what is answered on further rows.
+
+use crate::rows::rows;
+use e_fraction::{Row, have_small_coefficients};
+use e_simplex::{Settled, Settling, Verdict, have_short_forms, settle};
+use std::alloc::{AllocError, Global};
+use std::process::Abort;
+use std::test::Fail;
+
+// Settled rows, further rows, and what is answered of all.
+fn questions() -> &'static str {
+    "\
+>a-b >b-c/>a-c/holds
+>a-b >b-c/>c-a/absurd
+=a-2b !a/=a-b/absurd
+=a-2b !a/>b-c !c/holds
+=a-b/!a-b/absurd
+>a >b/=a-x !x-y =y-b/holds
+>a >b/>x-a >b-x >a-b/absurd
+>a/>c-d >e-f >g-h >i-j >k-l >m-n >o-p >q-r >s-t/holds
+>a/>c-d >e-f >g-h >i-j >k-l >m-n >o-p >q-r >r-q/absurd
+>a-b >b-a//absurd when settled
+=a-b !a-b//absurd when settled"
+}
+
+fn verdict(
+    rt: &impl Abort,
+    alloc: Global,
+    settled: &Settled,
+    more: &[Row],
+) -> Result<&'static str, AllocError> {
+    assert!(rt; settled.rows().len() + more.len() <= 4096);
+    assert!(rt; have_small_coefficients(settled.rows()) && have_small_coefficients(more));
+    assert!(rt; have_short_forms(settled.rows()) && have_short_forms(more));
+    Ok(match settled.decide_with(alloc, more)? {
+        Verdict::Holds(_) => "holds",
+        Verdict::Absurd(_) => "absurd",
+        Verdict::TooWide => "too wide",
+    })
+}
+
+fn answer(
+    rt: &impl Abort,
+    alloc: Global,
+    first: &str,
+    more: &str,
+) -> Result<&'static str, AllocError> {
+    let more = rows(rt, alloc, more)?;
+    let first = rows(rt, alloc, first)?;
+    assert!(rt; first.len() <= 4096 && have_small_coefficients(&first) && have_short_forms(&first));
+    match settle(alloc, first)? {
+        Settling::Settled(settled) => verdict(rt, alloc, &settled, &more),
+        Settling::Absurd(_) => Ok("absurd when settled"),
+        Settling::TooWide => Ok("too wide when settled"),
+    }
+}
+
+#[test]
+fn further_rows(rt: HostRuntime) -> Result<(), Fail> {
+    for line in questions().split('\n') {
+        let mut parts = line.split('/');
+        let first = parts.next().unwrap_or("");
+        let more = parts.next().unwrap_or("");
+        let wanted = parts.next().unwrap_or("");
+        assert_eq!(rt; answer(&rt, rt.alloc(), first, more)?, wanted, "at {line}");
+    }
+    Ok(())
+}
