@@ -31,7 +31,7 @@ answered_at : (lines : Rest) (end other : End) (answer : Status) → other ≡ e
 answered_at lines end other answer e h = subst (λ (x : End). IsAnswer lines x answer) e h
 
 -- where the book ends so behind these theorems, an answer to that is one to its outcome
-answered_so : (text : List ℕ) (end : End) (answer : Status) (theorems : List Entry) (known : List Headed) (rest : Rest) (other : End) → EndsBook text end
+pub answered_so : (text : List ℕ) (end : End) (answer : Status) (theorems : List Entry) (known : List Headed) (rest : Rest) (other : End) → EndsBook text end
     → Begins (lines_of_book text) theorems known rest → EndsSo (lines_of_book text) other known rest → IsAnswer (lines_of_book text) other answer → IsAnswer (lines_of_book text) end answer
 answered_so text end answer theorems known rest other h b e k =
     answered_at (lines_of_book text) end other answer
@@ -101,7 +101,7 @@ widens_so lines theorems known rest title step wanted width names b w =
       wide = (w.0, w.1, w.2, record { step = step; line = at.line; context = at.context; is_wide = wide_line (stated_by known) at.line at.line.here wanted width at.too_wide });
     }
 
-is_answer_wide : (lines : Rest) (end : End) (title : List ℕ) (step : ℕ) (wanted : Wanted) (width : ℕ) → HasWide lines → IsAnswer lines end (status.TooWide title step wanted width)
+pub is_answer_wide : (lines : Rest) (end : End) (title : List ℕ) (step : ℕ) (wanted : Wanted) (width : ℕ) → HasWide lines → IsAnswer lines end (status.TooWide title step wanted width)
 is_answer_wide lines (ends.Accepted n) title step wanted width h = h
 is_answer_wide lines (ends.Unlicensed a b c d) title step wanted width h = h
 is_answer_wide lines (ends.Faulty f) title step wanted width h = h
@@ -128,6 +128,8 @@ answered text end old new (status.Verified n) h w = absurd w
 answered text end old new (status.Bad title step) h w = absurd w
 answered text end old new (status.Garbled line) h w = absurd w
 answered text end old new status.TextLimit h w = absurd w
+answered text end old new (status.Made n) h w = absurd w
+answered text end old new (status.Tried n s) h w = absurd w
 answered text (ends.Accepted n) old new status.ReadFault h w = tt
 answered text (ends.Unlicensed a b c d) old new status.ReadFault h w = tt
 answered text (ends.Faulty f) old new status.ReadFault h w = tt

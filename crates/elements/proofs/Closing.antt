@@ -30,12 +30,14 @@ checks_all lines old new (status.Verified n) w = w.outputs
 checks_all lines old new (status.Bad title step) w = w.outputs
 checks_all lines old new (status.Garbled line) w = w.outputs
 checks_all lines old new status.TextLimit w = w.outputs
+checks_all lines old new (status.Made n) w = w.outputs
+checks_all lines old new (status.Tried n s) w = w.outputs
 checks_all lines old new status.ReadFault w = w
 checks_all lines old new status.WriteFault w = absurd w.outputs
 checks_all lines old new status.NoMemory w = w
 
 -- the head line, the blocks and the last lines, one after another
-grew_all : (old s0 s1 s2 : Option (List ℕ)) (ds : List Derived) (last : List ℕ) → Grew old s0 head_line → Grew s0 s1 (blocks_of [] ds) → Grew s1 s2 last → Grew old s2 (written_with ds last)
+pub grew_all : (old s0 s1 s2 : Option (List ℕ)) (ds : List Derived) (last : List ℕ) → Grew old s0 head_line → Grew s0 s1 (blocks_of [] ds) → Grew s1 s2 last → Grew old s2 (written_with ds last)
 grew_all old s0 s1 s2 ds last h b l = grew_more old s0 s2 head_line (blocks_of [] ds ++ last) h (grew_more s0 s1 s2 (blocks_of [] ds) last b l)
 
 -- a front of the last lines, behind all that came before
@@ -68,9 +70,9 @@ ended lines s0 s1 Holds last e =
 -- the lines ended so, and the last lines of that answer come
 pub closed_ending : (lines : Rest) (old s0 s1 s2 : Option (List ℕ)) (ending : Ending) (result : Status)
     → Grew old s0 head_line → EndingIs lines s0 s1 ending → Closes s1 s2 (last_lines ending) (answer_of ending) result → Checks lines old s2 result
-closed_ending lines old s0 s1 s2 (All n) result h e c =
-    closed lines old s0 s1 s2 e.derived (last_lines (All n)) (answer_of (All n)) result
-    (ended lines s0 s1 (EndsSo lines (ends.Accepted n)) (last_lines (All n)) e) h e.grew c
+closed_ending lines old s0 s1 s2 (All n s) result h e c =
+    closed lines old s0 s1 s2 e.0.derived (last_lines (All n s)) (answer_of (All n s)) result
+    (ended lines s0 s1 (EndsSo lines (ends.Accepted n)) (last_lines (All n s)) e.0) h e.0.grew c
 closed_ending lines old s0 s1 s2 (Stopped title (stops.Unlicensed step wanted values names)) result h e c =
     let ending = Stopped title (stops.Unlicensed step wanted values names) in
     closed lines old s0 s1 s2 e.derived (last_lines ending) (answer_of ending) result
@@ -97,7 +99,7 @@ off_of_end lines s0 s1 Holds e =
     record { derived = e.derived; sound = e.sound; front = record { known = e.known; rest = e.rest; begins = e.begins }; grew = e.grew }
 
 pub off_of_ending : (lines : Rest) (s0 s1 : Option (List ℕ)) (ending : Ending) → EndingIs lines s0 s1 ending → BreaksOff lines s0 s1
-off_of_ending lines s0 s1 (All n) e = off_of_end lines s0 s1 _ e
+off_of_ending lines s0 s1 (All n s) e = off_of_end lines s0 s1 _ e.0
 off_of_ending lines s0 s1 (Stopped title (stops.Unlicensed step wanted values names)) e = off_of_end lines s0 s1 _ e
 off_of_ending lines s0 s1 (Stopped title (stops.TooWide step wanted width names)) e = off_of_end lines s0 s1 _ e
 off_of_ending lines s0 s1 (Stopped title stops.NoMemory) e = absurd e

@@ -5,3 +5,5 @@ mod OneOutcome
 mod Answering
 mod WholeBook
 mod Verifying
+mod Making
+mod Trials

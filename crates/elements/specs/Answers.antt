@@ -5,7 +5,7 @@ use Rattle.e_literal.specs.declared.object.Term.{Term}
 use Rattle.e_theorem.specs.Statements.{stated}
 use Rattle.e_deriv.specs.declared.stop.Wanted.{Wanted}
 use Rattle.e_deriv.specs.declared.names.Names.{Names}
-use Rattle.e_deriv.specs.Script.{Script, erased}
+use Rattle.e_deriv.specs.Script.{Script, erased, size}
 use Rattle.e_deriv.specs.Parts.{filled_by}
 use Rattle.e_deriv.specs.Lines.{proof_lines}
 use Rattle.e_deriv.specs.Licensed.{AllLicensed}
@@ -38,6 +38,11 @@ AllDerived known (d ∷ ds) = IsDerived known d × AllDerived (with_theorem know
 
 abbrev pub theorems_of : List Derived → List Entry
 theorems_of ds = map (λ d. d.theorem) ds
+
+-- the step and close lines of their theorems
+abbrev pub steps_of : List Derived → ℕ
+steps_of [] = 0
+steps_of (d ∷ ds) = steps_of ds + size d.theorem.script
 
 -- the block of a derivation
 abbrev pub block_of : List Headed → Derived → List ℕ
@@ -105,6 +110,8 @@ Outputs lines (status.Verified n) out = ⊥
 Outputs lines (status.Bad title step) out = ⊥
 Outputs lines (status.Garbled line) out = ⊥
 Outputs lines status.TextLimit out = ⊥
+Outputs lines (status.Made n) out = ⊥
+Outputs lines (status.Tried n s) out = ⊥
 
 -- the bytes of this answer were written
 pub record WroteAll (lines : Rest) (old new : Option (List ℕ)) (answer : Status) : Type 0 where
@@ -134,6 +141,8 @@ Checks lines old new (status.Verified n) = ⊥
 Checks lines old new (status.Bad title step) = ⊥
 Checks lines old new (status.Garbled line) = ⊥
 Checks lines old new status.TextLimit = ⊥
+Checks lines old new (status.Made n) = ⊥
+Checks lines old new (status.Tried n s) = ⊥
 
 -- the answer of an outcome, or that a line is too wide where one is that is reached; a fault of the source or the sink,
 -- and want of memory, can come in place of it
@@ -186,6 +195,8 @@ IsWhole _ = ⊥
 abbrev pub exit_of : Status → ℕ
 exit_of (status.Accepted n) = 0
 exit_of (status.Verified n) = 0
+exit_of (status.Made n) = 0
+exit_of (status.Tried n s) = 0
 exit_of (status.Bad title step) = 1
 exit_of (status.Garbled line) = 2
 exit_of status.TextLimit = 2

@@ -14,7 +14,7 @@ use Rattle.elements.specs.LastLines.{accepted_line, fault_line}
 use Rattle.e_book.specs.Headed.{Headed}
 use Rattle.elements.specs.Outcome.{Rest, Begins, IsFront}
 use Rattle.elements.specs.Outcome as ends
-use Rattle.elements.specs.Answers.{Derived, AllDerived, EndsSo, Refuses, Widens, theorems_of, blocks_of}
+use Rattle.elements.specs.Answers.{Derived, AllDerived, EndsSo, Refuses, Widens, theorems_of, steps_of, blocks_of}
 
 -- the blocks of these theorems with their derivations were written, and this holds behind them
 pub record EndsWith (lines : Rest) (old new : Option (List ℕ)) (Holds : List Headed → Rest → Type 0) : Type 0 where
@@ -49,7 +49,7 @@ StopsWith lines old new title (stops.TooWide step wanted width names) = EndsWith
 StopsWith lines old new title stops.NoMemory = ⊥
 
 abbrev pub EndingIs : Rest → Option (List ℕ) → Option (List ℕ) → Ending → Type 0
-EndingIs lines old new (All n) = EndsWith lines old new (EndsSo lines (ends.Accepted n))
+EndingIs lines old new (All n s) = (e : EndsWith lines old new (EndsSo lines (ends.Accepted n))) × (s ≡ steps_of e.derived)
 EndingIs lines old new (Stopped title stop) = StopsWith lines old new title stop
 EndingIs lines old new (Faulty f) = EndsWith lines old new (EndsSo lines (ends.Faulty f))
 
@@ -67,7 +67,7 @@ stop_ending title stops.NoMemory = Err NoMemory
 
 -- the last lines of an ending
 abbrev pub last_lines : Ending → List ℕ
-last_lines (All n) = accepted_line n
+last_lines (All n s) = accepted_line n
 last_lines (Stopped title stop) = stop_text title stop
 last_lines (Faulty f) = fault_line f
 
@@ -78,13 +78,13 @@ stop_answer title (stops.TooWide step wanted width names) = status.TooWide title
 stop_answer title stops.NoMemory = status.NoMemory
 
 abbrev pub answer_of : Ending → Status
-answer_of (All n) = status.Accepted n
+answer_of (All n s) = status.Accepted n
 answer_of (Stopped title stop) = stop_answer title stop
 answer_of (Faulty f) = status.Fault f
 
 -- a stop is no want of memory
 abbrev pub IsEnding : Ending → Type 0
-IsEnding (All n) = Unit {0}
+IsEnding (All n s) = Unit {0}
 IsEnding (Stopped title stop) = IsStop stop
 IsEnding (Faulty f) = Unit {0}
 

@@ -71,3 +71,7 @@ garbled_line line = codes "garbled " ++ (decimal line ++ codes "\n")
 
 abbrev pub text_limit_line : List ℕ
 text_limit_line = codes "text limit\n"
+
+abbrev pub tried_line : ℕ → ℕ → List ℕ
+tried_line n s =
+    codes "trial " ++ (decimal n ++ (codes " theorems " ++ (decimal n ++ (codes " steps " ++ (decimal s ++ (codes " verified " ++ (decimal n ++ codes "\n")))))))

@@ -5,4 +5,6 @@ pub mod LastLines
 pub mod Answers
 pub mod Endings
 pub mod Verifying
+pub mod Making
+pub mod Trying
 pub mod Laws

@@ -11,7 +11,7 @@ ghost use Rattle.elements.specs.Answers.{HasBlock};
 ghost use Rattle.elements.specs.Endings.{BlocksAre, stop_ending};
 
 use e_book::{BookFault, Known, Theorem, next_theorem};
-use e_deriv::Stop;
+use e_deriv::{Stop, size};
 use e_io::{Sink, write_all};
 use e_prove::prove;
 use e_spell::spell;
@@ -21,8 +21,8 @@ use std::alloc::{AllocError, Global};
 /// How the blocks of a book end.
 #[derive(Debug, Drop)]
 pub enum Ending {
-    /// All theorems are taken.
-    All { theorems: u32 },
+    /// All theorems are taken; they have so many step and close lines.
+    All { theorems: u32, steps: u32 },
     /// The next theorem stops.
     Stopped { title: Title, stop: Stop },
     /// The next line has a fault.
@@ -75,10 +75,11 @@ pub fn blocks<K: Sink>(alloc: Global, lines: &mut Lines, sink: &mut K) -> Result
 {
     let mut known = Known::new(alloc);
     let mut theorems = 0u32;
+    let mut steps = 0u32;
     loop {
         let theorem = match next_theorem(alloc, lines, &known) {
             Ok(Some(theorem)) => theorem,
-            Ok(None) => return Ok(Ending::All { theorems }),
+            Ok(None) => return Ok(Ending::All { theorems, steps }),
             Err(BookFault::NoMemory) => return Err(Broken::NoMemory),
             Err(fault) => return Ok(Ending::Faulty(fault)),
         };
@@ -89,9 +90,11 @@ pub fn blocks<K: Sink>(alloc: Global, lines: &mut Lines, sink: &mut K) -> Result
         let Ok(()) = write_all(sink, &block) else {
             return Err(Broken::WriteFault);
         };
+        let count = size(&theorem.block);
         let Ok(()) = keep(&mut known, theorem) else {
             return Err(Broken::NoMemory);
         };
         theorems += 1;
+        steps += count;
     }
 }

@@ -7,7 +7,7 @@ ghost use Rattle.elements.specs.LastLines.{head_line};
 ghost use Rattle.elements.specs.Endings.{Closes, IsEnding, last_lines, answer_of};
 
 use crate::blocks::{Broken, Ending, blocks};
-use crate::input::{InputFault, MOST_BYTES, read_text};
+use crate::input::{InputFault, LONGEST_LINE, MOST_BYTES, read_text};
 use crate::output::{accepted, fault};
 use crate::status::Status;
 use e_deriv::Stop;
@@ -15,9 +15,6 @@ use e_io::{Sink, Source, write_all};
 use e_spell::spell_stop;
 use e_text::{Lines, Title};
 use std::alloc::{AllocError, Global};
-
-/// The most bytes that a line of a book may have.
-const LONGEST_LINE: usize = 1600;
 
 /// Writes the last lines of an answer, and gives the answer.
 pub fn close<K: Sink>(sink: &mut K, last: &[u8], answer: Status) -> Status
@@ -34,12 +31,12 @@ pub fn close<K: Sink>(sink: &mut K, last: &[u8], answer: Status) -> Status
 }
 
 /// The last lines of an ending.
-fn last_lines(alloc: Global, ending: &Ending) -> Result<Vec<u8>, AllocError>
+pub fn last_lines(alloc: Global, ending: &Ending) -> Result<Vec<u8>, AllocError>
     requires { IsEnding ending.now }
     ensures { IfOk result (λ v. v.items ≡ Rattle.elements.specs.Endings.last_lines ending.now) }
 {
     match ending {
-        Ending::All { theorems } => accepted(alloc, *theorems),
+        Ending::All { theorems, .. } => accepted(alloc, *theorems),
         Ending::Stopped { title, stop } => spell_stop(alloc, *title, stop),
         Ending::Faulty(at) => fault(alloc, at),
     }
@@ -77,11 +74,11 @@ fn stop_answer(title: Title, stop: Stop) -> Status
 }
 
 /// The answer of an ending.
-fn answer_of(ending: Ending) -> Status
+pub fn answer_of(ending: Ending) -> Status
     ensures { result ≡ Rattle.elements.specs.Endings.answer_of ending }
 {
     match ending {
-        Ending::All { theorems } => Status::Accepted { theorems },
+        Ending::All { theorems, .. } => Status::Accepted { theorems },
         Ending::Stopped { title, stop } => stop_answer(title, stop),
         Ending::Faulty(fault) => Status::Fault(fault),
     }

@@ -10,6 +10,9 @@ use std::alloc::{AllocError, Global};
 /// The most bytes that a book may have.
 pub const MOST_BYTES: usize = 4_194_304;
 
+/// The most bytes that a line of a book may have.
+pub const LONGEST_LINE: usize = 1600;
+
 /// The most bytes that a derivation text may have.
 pub const MOST_TEXT: usize = 1 << 60;
 

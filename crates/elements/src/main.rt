@@ -5,12 +5,14 @@ mod blocks;
 #[cfg(test)]
 mod book_tests;
 mod checker;
+mod command;
 mod input;
 pub mod laws;
 #[cfg(test)]
 mod let_tests;
 #[cfg(test)]
 mod limit_tests;
+mod maker;
 mod output;
 #[cfg(test)]
 mod refusal_tests;
@@ -20,8 +22,10 @@ mod runner;
 #[cfg(test)]
 mod runs;
 mod status;
+mod store;
 #[cfg(test)]
 mod tests;
+mod trial;
 mod verifier;
 
 use e_io::{StdSink, StdSource};

@@ -1,6 +1,6 @@
 //! The last lines of an answer.
 ghost use Rattle.std.specs.Prelude.{◌≡◌, ◌++◌, [], IfOk, OnOk, codes, decimal};
-ghost use Rattle.elements.specs.LastLines.{accepted_line, verified_line, bad_line, garbled_line, fault_line, fault_words, faulty_line, what_word};
+ghost use Rattle.elements.specs.LastLines.{accepted_line, tried_line, verified_line, bad_line, garbled_line, fault_line, fault_words, faulty_line, what_word};
 
 use e_book::{BookFault, What};
 use e_text::Title;
@@ -23,6 +23,28 @@ pub fn accepted(alloc: Global, theorems: u32) -> Result<Vec<u8>, AllocError>
     ensures { IfOk result (λ v. v.items ≡ accepted_line theorems) }
 {
     line_with(alloc, b"accepted ", u64::from(theorems), b"\n")
+}
+
+/// The line of a generated book that is accepted and verified.
+pub fn tried(alloc: Global, theorems: u32, steps: u32) -> Result<Vec<u8>, AllocError>
+    ensures { IfOk result (λ v. v.items ≡ tried_line theorems steps) }
+{
+    let mut number = Buffer::new();
+    let mut count = Buffer::new();
+    let (number, count) = (
+        number.format(theorems).as_bytes(),
+        count.format(steps).as_bytes(),
+    );
+    let mut line = Vec::from_slice(alloc, b"trial ")?;
+    line.extend_from_slice(number)?;
+    line.extend_from_slice(b" theorems ")?;
+    line.extend_from_slice(number)?;
+    line.extend_from_slice(b" steps ")?;
+    line.extend_from_slice(count)?;
+    line.extend_from_slice(b" verified ")?;
+    line.extend_from_slice(number)?;
+    line.extend_from_slice(b"\n")?;
+    Ok(line)
 }
 
 /// The line of a verified derivation text.

@@ -18,6 +18,15 @@ pub enum Status {
     Verified {
         theorems: u32,
     },
+    /// The generated book is written.
+    Made {
+        theorems: u32,
+    },
+    /// The generated book is accepted, and what `check` writes of it is verified.
+    Tried {
+        theorems: u32,
+        steps: u32,
+    },
     /// The first line that is not licensed, and what it lacks.
     Unlicensed {
         title: Title,
@@ -63,7 +72,10 @@ pub fn exit_code(status: &Status) -> u8
     ensures { result ≡ exit_of status.now }
 {
     match status {
-        Status::Accepted { .. } | Status::Verified { .. } => 0,
+        Status::Accepted { .. }
+        | Status::Verified { .. }
+        | Status::Made { .. }
+        | Status::Tried { .. } => 0,
         Status::Unlicensed { .. } | Status::Bad { .. } => 1,
         Status::Fault(_) | Status::Garbled { .. } | Status::TextLimit => 2,
         Status::Usage => 3,

@@ -15,7 +15,7 @@ use e_judgement::{Judgement, judge};
 use std::alloc::{AllocError, Global};
 
 /// The answer of a judgement.
-fn answer_of(judgement: Judgement) -> Status
+pub fn answer_of(judgement: Judgement) -> Status
     ensures { result ≡ Rattle.elements.specs.Verifying.answer_of judgement }
 {
     match judgement {
@@ -26,7 +26,7 @@ fn answer_of(judgement: Judgement) -> Status
 }
 
 /// The line of a judgement.
-fn line_of(alloc: Global, judgement: Judgement) -> Result<Vec<u8>, AllocError>
+pub fn line_of(alloc: Global, judgement: Judgement) -> Result<Vec<u8>, AllocError>
     ensures { IfOk result (λ v. v.items ≡ Rattle.elements.specs.Verifying.line_of judgement) }
 {
     match judgement {
