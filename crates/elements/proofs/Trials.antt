@@ -92,12 +92,12 @@ pub accepted_told : (lines : Rest) (b c d : Option (List ℕ)) (n s : ℕ) (out 
     → Grew (Some []) b head_line → EndingIs lines b c (All n s) → Grew c d last → last ≡ accepted_line n → d ≡ Some out → JudgedAs out n s answer line → Told lines answer line
 accepted_told lines b c d n s out last line answer h e g is whole j =
     let all : Grew (Some []) d (written_with e.0.derived (accepted_line n)) =
-        grew_all (Some []) b c d e.0.derived (accepted_line n) h e.0.grew (subst (Grew c d) is g) in
+    grew_all (Some []) b c d e.0.derived (accepted_line n) h e.0.grew (subst (Grew c d) is g) in
     let bytes : out ≡ written_with e.0.derived (accepted_line n) = inside _ _ (sym whole ∙ all) in
     let is_accepted : IsAccepted lines n s out = record {
-          ended = record { derived = e.0.derived; sound = e.0.sound; known = e.0.known; rest = e.0.rest; begins = e.0.begins; holds = e.0.holds; bytes = bytes };
-          steps_are = e.1;
-        } in
+      ended = record { derived = e.0.derived; sound = e.0.sound; known = e.0.known; rest = e.0.rest; begins = e.0.begins; holds = e.0.holds; bytes = bytes };
+      steps_are = e.1;
+    } in
     judged_told lines n s j.0 answer line (record { out = out; accepted = is_accepted; judges = j.1 }) j.2 j.3
 
 -- ---- the answer to any other book
@@ -148,12 +148,18 @@ told_answer text line (status.Bad title step) end t k = judged_so text (judged.B
 told_answer text line (status.Garbled at) end t k = judged_so text (judged.Garbled at) (status.Garbled at) end t.0 t.0 k
 told_answer text line (status.Unlicensed title step wanted values) end t k =
     let o = t.1 in
-    inr (tt, answered_so text end (status.Unlicensed title step wanted values) (theorems_of o.derived) o.known o.rest (ends.Unlicensed title step wanted t.0) k o.begins
-        (stops_so (lines_of_book text) o.known o.rest title step wanted values t.0 o.holds) (refl, refl, refl))
+    inr (
+      tt,
+      answered_so text end (status.Unlicensed title step wanted values) (theorems_of o.derived) o.known o.rest (ends.Unlicensed title step wanted t.0) k o.begins
+          (stops_so (lines_of_book text) o.known o.rest title step wanted values t.0 o.holds) (refl, refl, refl),
+    )
 told_answer text line (status.TooWide title step wanted width) end t k =
     let o = t.1 in
-    inr (tt, is_answer_wide (lines_of_book text) end title step wanted width
-        (widens_so (lines_of_book text) (theorems_of o.derived) o.known o.rest title step wanted width t.0 o.begins o.holds))
+    inr (
+      tt,
+      is_answer_wide (lines_of_book text) end title step wanted width
+          (widens_so (lines_of_book text) (theorems_of o.derived) o.known o.rest title step wanted width t.0 o.begins o.holds),
+    )
 told_answer text line (status.Fault f) end t k =
     let o = t.0 in
     inr (tt, answered_so text end (status.Fault f) (theorems_of o.derived) o.known o.rest (ends.Faulty f) k o.begins o.holds refl)

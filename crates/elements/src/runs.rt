@@ -30,15 +30,24 @@ fn failing(alloc: Global, call: Option<u64>) -> Result<Vec<u64>, AllocError> {
     Ok(calls)
 }
 
-/// Runs the program with a word on a text, with the call of the source and that of the sink that fail.
+/// The words of a command, with one space between two.
+fn words_of(alloc: Global, command: &str) -> Result<Vec<String>, AllocError> {
+    let mut words = Vec::new(alloc);
+    for word in command.split(' ') {
+        words.push(String::from_str(alloc, word)?)?;
+    }
+    Ok(words)
+}
+
+/// Runs the program with a command on a text, with the call of the source and that of the sink that fail.
 fn ran(
     alloc: Global,
-    word: &str,
+    command: &str,
     text: Vec<u8>,
     unread: Option<u64>,
     unwritten: Option<u64>,
 ) -> Result<Answered, AllocError> {
-    let words = vec![in alloc; String::from_str(alloc, word)?]?;
+    let words = words_of(alloc, command)?;
     let mut source = MemSource::new(text, failing(alloc, unread)?, READ);
     let mut sink = MemSink::new(alloc, ROOM, failing(alloc, unwritten)?, WRITTEN)?;
     let status = run(alloc, &words, &mut source, &mut sink);
@@ -61,15 +70,15 @@ fn unfolded(alloc: Global, text: &str) -> Result<Vec<u8>, AllocError> {
     Ok(out)
 }
 
-/// What the program answers to a word and a book, where these calls fail: the lines that it writes, and the exit status.
+/// What the program answers to a command and a book, where these calls fail: the lines that it writes, and the exit status.
 pub fn told(
     alloc: Global,
-    word: &str,
+    command: &str,
     book: &str,
     unread: Option<u64>,
     unwritten: Option<u64>,
 ) -> Result<String, AllocError> {
-    let ran = ran(alloc, word, unfolded(alloc, book)?, unread, unwritten)?;
+    let ran = ran(alloc, command, unfolded(alloc, book)?, unread, unwritten)?;
     let mut text = String::new(alloc);
     for line in str::from_utf8(&ran.out).unwrap_or("").lines() {
         text.push_str(line)?;

@@ -6,7 +6,7 @@ use e_literal::{Atom, Items, Lit};
 use std::alloc::{AllocError, Global};
 use std::test::Fail;
 
-/// Runs on one book, each a word, the call of the source that fails, that of the sink, and the answer.
+/// Runs on one book, each a command, the call of the source that fails, that of the sink, and the answer.
 ///
 /// The source gives the book in its first call, and its end in the second. The sink takes 16 bytes a call.
 fn runs() -> &'static str {
@@ -16,7 +16,17 @@ check => 0 =>  => derivation 1/read fault/exit 4
 check => 1 =>  => derivation 1/read fault/exit 4
 check =>  => 0 => exit 5
 check =>  => 1 => derivation 1/exit 5
-check =>  => 2 => derivation 1/theorem T/points/exit 5"
+check =>  => 2 => derivation 1/theorem T/points/exit 5
+make =>  =>  => usage: elements check | verify | make N | trial N/exit 3
+make 0 =>  =>  => usage: elements check | verify | make N | trial N/exit 3
+make 01 =>  =>  => usage: elements check | verify | make N | trial N/exit 3
+make 501 =>  =>  => usage: elements check | verify | make N | trial N/exit 3
+trial 0 =>  =>  => usage: elements check | verify | make N | trial N/exit 3
+trial 1 1 =>  =>  => usage: elements check | verify | make N | trial N/exit 3
+make 1 => 0 => 1 => theorem G1/point/exit 5
+trial 1 =>  => 0 => exit 5
+trial 1 => 0 =>  => trial 1 theorems 1 steps 8 verified 1/exit 0
+trial 6 =>  =>  => trial 6 theorems 6 steps 113 verified 6/exit 0"
 }
 
 const BOOK: &str = "theorem T/points a/show a = a/proof/by eqr-p a : a = a/qed/end/";

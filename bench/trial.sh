@@ -1,0 +1,15 @@
+#!/usr/bin/env bash
+# Processor time of `elements trial N`: the generated book of N theorems is checked, and its derivations are verified.
+# The program is the first word, or crates/elements/out/elements.
+set -eu
+here="$(cd "$(dirname "$0")" && pwd)"
+program="${1:-$here/../crates/elements/out/elements}"
+echo "machine: $(sed -n 's/^model name[^:]*: //p' /proc/cpuinfo | head -1), $(nproc) processors, load $(cut -d' ' -f1 /proc/loadavg)"
+for count in 1 6 60 125 250 500; do
+    python3 - "$program" "$count" <<'END'
+import resource, subprocess, sys
+ran = subprocess.run([sys.argv[1], "trial", sys.argv[2]], stdout=subprocess.PIPE, check=False)
+used = resource.getrusage(resource.RUSAGE_CHILDREN)
+print("%9.3f s  %s" % (used.ru_utime + used.ru_stime, ran.stdout.decode().strip()))
+END
+done
