@@ -12,6 +12,8 @@ use Rattle.e_judgement.specs.declared.judgement.Judgement.{Judgement}
 use Rattle.e_judgement.specs.declared.judgement.Judgement.TheVariants as judged
 use Rattle.elements.specs.declared.status.Status.{Status}
 use Rattle.elements.specs.declared.status.Status.TheVariants as status
+use Rattle.elements.specs.declared.command.Command.{Command}
+use Rattle.elements.specs.declared.command.Command.TheVariants as commands
 use Rattle.elements.specs.declared.blocks.Ending.{Ending}
 use Rattle.elements.specs.declared.blocks.Ending.TheVariants.{All, Stopped, Faulty}
 use Rattle.elements.specs.Input.{IsTextOf}
@@ -176,3 +178,11 @@ pub answers_trial : (n : ℕ) (old new : Option (List ℕ)) (answer : Status) �
 answers_trial n old new answer (inl w) end k = told_answer (generated_text n) w.last answer end w.told k
 answers_trial n old new answer (inr w) end k =
     subst (λ (x : Status). IsTrialAnswer (lines_of_book (generated_text n)) end x) (sym w.0) (inr (tt, write_fault_answers (lines_of_book (generated_text n)) end))
+
+-- ---- the number of a command
+
+pub trial_number : (k : Command) (n m : ℕ) → k ≡ commands.Trial n → k ≡ commands.Trial m → n ≡ m
+trial_number k n m a b = cc
+
+pub make_number : (k : Command) (n m : ℕ) → k ≡ commands.Make n → k ≡ commands.Make m → n ≡ m
+make_number k n m a b = cc

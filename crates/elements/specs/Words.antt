@@ -27,3 +27,9 @@ abbrev pub reads : Command → Bool
 reads Check = true
 reads Verify = true
 reads _ = false
+
+-- what holds of its number, where it has one
+abbrev pub OfCount : (ℕ → Type 0) → Command → Type 0
+OfCount holds (Make n) = holds n
+OfCount holds (Trial n) = holds n
+OfCount holds _ = Unit {0}

@@ -1,6 +1,6 @@
 //! The words of a command.
-ghost use Rattle.std.specs.Prelude.{◌≡◌, map, string_bytes};
-ghost use Rattle.elements.specs.Words.{count_of, plain_command, counted_command, command_of};
+ghost use Rattle.std.specs.Prelude.{◌≡◌, ◌≤◌, IfSome, map, string_bytes};
+ghost use Rattle.elements.specs.Words.{count_of, plain_command, counted_command, command_of, OfCount};
 
 use e_text::number;
 
@@ -21,7 +21,8 @@ pub enum Command {
 
 /// How many theorems: a numeral from 1 to 500.
 fn count_of(word: &[u8]) -> Option<u32>
-    ensures { result ≡ count_of word.now }
+    ensures value { result ≡ count_of word.now }
+    ensures few { IfSome result (λ n. n ≤ 500) }
 {
     match number(word) {
         Some(count) if 1 <= count && count <= MOST_THEOREMS => Some(count as u32),
@@ -31,7 +32,8 @@ fn count_of(word: &[u8]) -> Option<u32>
 
 /// The command of one word.
 fn plain_command(word: &[u8]) -> Command
-    ensures { result ≡ plain_command word.now }
+    ensures value { result ≡ plain_command word.now }
+    ensures few { OfCount (λ n. n ≤ 500) result }
 {
     if word == b"check".as_slice() {
         Command::Check
@@ -44,7 +46,9 @@ fn plain_command(word: &[u8]) -> Command
 
 /// The command of a word and a number.
 fn counted_command(word: &[u8], count: Option<u32>) -> Command
-    ensures { result ≡ counted_command word.now count }
+    requires { IfSome count (λ n. n ≤ 500) }
+    ensures value { result ≡ counted_command word.now count }
+    ensures few { OfCount (λ n. n ≤ 500) result }
 {
     let Some(count) = count else {
         return Command::Unknown;
@@ -60,7 +64,8 @@ fn counted_command(word: &[u8], count: Option<u32>) -> Command
 
 /// What these words ask for.
 pub fn command_of(words: &[String]) -> Command
-    ensures { result ≡ command_of (map string_bytes words.now) }
+    ensures value { result ≡ command_of (map string_bytes words.now) }
+    ensures few { OfCount (λ n. n ≤ 500) result }
 {
     match words {
         [word] => plain_command(word.as_bytes()),

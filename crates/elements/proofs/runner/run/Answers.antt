@@ -1,25 +1,28 @@
-use Rattle.std.proofs.Common.{map}
+use Rattle.std.proofs.Common.{◌≡◌, ◌∙◌, ℕ, map, sym, subst}
 use Rattle.std.specs.Prelude.{string_bytes}
+use Rattle.elements.specs.Making.{Makes}
+use Rattle.elements.specs.Trying.{Tries}
 use Rattle.elements.proofs.Answering.{answers, answers_usage}
-use Rattle.elements.proofs.Verifying.{answers_text, whole_verified, whole_accepted, not_both}
+use Rattle.elements.proofs.Trials.{answers_trial, trial_number, make_number}
+use Rattle.elements.proofs.Verifying.{answers_text, whole_verified, whole_accepted}
 use Rattle.elements.proofs.runner.run.Goals as goal
 
-pub returns-then-is_check-clause-complete : goal.returns-then-is_check-clause-complete
-returns-then-is_check-clause-complete g c =
+pub returns-in-Check-clause-complete : goal.returns-in-Check-clause-complete
+returns-in-Check-clause-complete g c =
     λ w. answers (g.S.Source.left c.args.source.now) (g.K.Sink.written c.args.sink.now) (g.K.Sink.written c.check.new.sink) c.check.result c.check.ensures.checks
 
-pub returns-then-is_check-clause-end : goal.returns-then-is_check-clause-end
-returns-then-is_check-clause-end g c =
-    λ w. c.check.ensures.end (whole_accepted (g.S.Source.left c.args.source.now) (g.K.Sink.written c.args.sink.now) (g.K.Sink.written c.check.new.sink) c.check.result c.check.ensures.checks w)
+pub returns-in-Check-clause-end : goal.returns-in-Check-clause-end
+returns-in-Check-clause-end g c =
+    λ r w. c.check.ensures.end (whole_accepted (g.S.Source.left c.args.source.now) (g.K.Sink.written c.args.sink.now) (g.K.Sink.written c.check.new.sink) c.check.result c.check.ensures.checks w)
 
-pub returns-else-is_check-then-is_verify-clause-judged : goal.returns-else-is_check-then-is_verify-clause-judged
-returns-else-is_check-then-is_verify-clause-judged g c =
+pub returns-in-Verify-clause-judged : goal.returns-in-Verify-clause-judged
+returns-in-Verify-clause-judged g c =
     λ w. answers_text (g.S.Source.left c.args.source.now) (g.K.Sink.written c.args.sink.now) (g.K.Sink.written c.verify.new.sink) c.verify.result c.verify.ensures.verifies
 
-pub returns-else-is_check-then-is_verify-clause-end : goal.returns-else-is_check-then-is_verify-clause-end
-returns-else-is_check-then-is_verify-clause-end g c =
-    λ w. c.verify.ensures.end (whole_verified (g.S.Source.left c.args.source.now) (g.K.Sink.written c.args.sink.now) (g.K.Sink.written c.verify.new.sink) c.verify.result c.verify.ensures.verifies w)
+pub returns-in-Verify-clause-end : goal.returns-in-Verify-clause-end
+returns-in-Verify-clause-end g c =
+    λ r w. c.verify.ensures.end (whole_verified (g.S.Source.left c.args.source.now) (g.K.Sink.written c.args.sink.now) (g.K.Sink.written c.verify.new.sink) c.verify.result c.verify.ensures.verifies w)
 
-pub returns-else-is_check-else-is_verify-clause-usage : goal.returns-else-is_check-else-is_verify-clause-usage
-returns-else-is_check-else-is_verify-clause-usage g c =
-    λ w v. answers_usage (g.K.Sink.written c.args.sink.now) (g.K.Sink.written c.close.new.sink) c.close.result c.close.ensures.closes
+pub returns-in-Unknown-clause-usage : goal.returns-in-Unknown-clause-usage
+returns-in-Unknown-clause-usage g c =
+    λ w. answers_usage (g.K.Sink.written c.args.sink.now) (g.K.Sink.written c.close.new.sink) c.close.result c.close.ensures.closes
