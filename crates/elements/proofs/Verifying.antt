@@ -136,5 +136,5 @@ whole_accepted left old new answer c w = absurd w
 -- no words are both commands
 pub not_both : (words : List (List ℕ)) → is_check words ≡ true → is_verify words ≡ true → ⊥
 not_both [] h k = absurd cc
-not_both (w ∷ []) h k = absurd (true≢false (sym (ap (λ (x : List ℕ). bytes_eq x (codes "verify")) ((bytes_eq-Decides w (codes "check")).0 h)) ∙ k))
+not_both (w ∷ []) h k = absurd (true≢false (sym k ∙ ap (λ (x : List ℕ). bytes_eq x (codes "verify")) ((bytes_eq-Decides w (codes "check")).0 h)))
 not_both (w ∷ v ∷ words) h k = absurd cc

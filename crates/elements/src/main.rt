@@ -23,6 +23,8 @@ mod status;
 #[cfg(test)]
 mod tests;
 mod verifier;
+#[cfg(test)]
+mod verify_tests;
 
 use e_io::{StdSink, StdSource};
 pub use runner::run;

@@ -26,13 +26,13 @@ fn answer_of(judgement: Judgement) -> Status
 }
 
 /// The line of a judgement.
-fn line_of(alloc: Global, judgement: Judgement) -> Result<Vec<u8>, AllocError>
-    ensures { IfOk result (λ v. v.items ≡ Rattle.elements.specs.Verifying.line_of judgement) }
+fn line_of(alloc: Global, judgement: &Judgement) -> Result<Vec<u8>, AllocError>
+    ensures { IfOk result (λ v. v.items ≡ Rattle.elements.specs.Verifying.line_of judgement.now) }
 {
     match judgement {
-        Judgement::Verified { theorems } => verified(alloc, theorems),
-        Judgement::Bad { title, step } => bad(alloc, title, step),
-        Judgement::Garbled { line } => garbled(alloc, line),
+        Judgement::Verified { theorems } => verified(alloc, *theorems),
+        Judgement::Bad { title, step } => bad(alloc, *title, *step),
+        Judgement::Garbled { line } => garbled(alloc, *line),
     }
 }
 
@@ -43,7 +43,7 @@ fn judged(alloc: Global, text: &[u8]) -> Result<(Judgement, Vec<u8>), AllocError
     ensures line { IfOk result (λ j. j.1.items ≡ Rattle.elements.specs.Verifying.line_of j.0) }
 {
     let judgement = judge(alloc, text)?;
-    let line = line_of(alloc, judgement)?;
+    let line = line_of(alloc, &judgement)?;
     Ok((judgement, line))
 }
 
