@@ -12,14 +12,14 @@ pub returns-then-is_check-clause-end : goal.returns-then-is_check-clause-end
 returns-then-is_check-clause-end g c =
     λ w. c.check.ensures.end (whole_accepted (g.S.Source.left c.args.source.now) (g.K.Sink.written c.args.sink.now) (g.K.Sink.written c.check.new.sink) c.check.result c.check.ensures.checks w)
 
-pub returns-else-is_check-then-is_verify-clause-judged : goal.returns-else-is_check-then-is_verify-clause-judged
-returns-else-is_check-then-is_verify-clause-judged g c =
+pub returns-then-is_verify-clause-judged : goal.returns-then-is_verify-clause-judged
+returns-then-is_verify-clause-judged g c =
     λ w. answers_text (g.S.Source.left c.args.source.now) (g.K.Sink.written c.args.sink.now) (g.K.Sink.written c.verify.new.sink) c.verify.result c.verify.ensures.verifies
 
-pub returns-else-is_check-then-is_verify-clause-end : goal.returns-else-is_check-then-is_verify-clause-end
-returns-else-is_check-then-is_verify-clause-end g c =
+pub returns-then-is_verify-clause-end : goal.returns-then-is_verify-clause-end
+returns-then-is_verify-clause-end g c =
     λ w. c.verify.ensures.end (whole_verified (g.S.Source.left c.args.source.now) (g.K.Sink.written c.args.sink.now) (g.K.Sink.written c.verify.new.sink) c.verify.result c.verify.ensures.verifies w)
 
-pub returns-else-is_check-else-is_verify-clause-usage : goal.returns-else-is_check-else-is_verify-clause-usage
-returns-else-is_check-else-is_verify-clause-usage g c =
+pub returns-else-is_verify-clause-usage : goal.returns-else-is_verify-clause-usage
+returns-else-is_verify-clause-usage g c =
     λ w v. answers_usage (g.K.Sink.written c.args.sink.now) (g.K.Sink.written c.close.new.sink) c.close.result c.close.ensures.closes
