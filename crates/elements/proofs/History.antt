@@ -1,5 +1,5 @@
 -- The theorems taken so far, with their derivations and what was written.
-use Rattle.std.proofs.Common.{◌≡◌, ℕ, suc, ◌+◌, ◌-◌, ◌<◌, ◌≤◌, List, [], ◌∷◌, ◌++◌, length, map, Option, Some, None, Result, Ok, Err, refl, sym, ap, subst, ◌∙◌, arith, append_assoc, length-append, take}
+use Rattle.std.proofs.Common.{◌≡◌, ℕ, ◌+◌, ◌-◌, ◌≤◌, List, [], ◌∷◌, ◌++◌, length, Option, Some, None, Result, Ok, refl, sym, ap, subst, ◌∙◌, arith, append_assoc, length-append, take}
 use Rattle.std.proofs.lemmas.List.{append-nil}
 use Rattle.std.proofs.Math.Seq.{take-append-add}
 use Rattle.e_io.specs.Bytes.{Grew, GrewByFront}
@@ -14,7 +14,7 @@ use Rattle.std.proofs.lemmas.List.Folds.{list_all-append}
 use Rattle.std.proofs.lemmas.Bool.{and_from}
 use Rattle.e_literal.specs.Use.{Stated}
 use Rattle.e_deriv.specs.Fitting.{is_small_statement}
-use Rattle.elements.specs.Outcome.{Rest, with_theorem, IsLicensed, Takes, Begins, number_behind, IsFront}
+use Rattle.elements.specs.Outcome.{Rest, with_theorem, IsLicensed, Takes, Begins, number_behind}
 use Rattle.elements.specs.Answers.{Derived, IsDerived, AllDerived, Refuses, Widens, theorems_of, block_of, blocks_of}
 use Rattle.elements.specs.Endings.{EndsWith, BreaksOff, BreaksInside, BlocksAre, stop_ending}
 use Rattle.elements.specs.declared.blocks.Ending.{Ending}

@@ -16,7 +16,7 @@ use Rattle.elements.specs.Answers.{ChecksBook, IsReadFault, IsWriteFault, IsAcce
 use Rattle.elements.specs.Words.{is_check, is_verify}
 use Rattle.elements.specs.Input.{IsTextOf}
 use Rattle.elements.specs.Endings.{Closes}
-use Rattle.elements.specs.Verifying.{answer_of, line_of, Tells, told_line, WroteLine, WroteFrontOfLine, Verifies, VerifiesText, IsFailure, AnswersText}
+use Rattle.elements.specs.Verifying.{answer_of, line_of, Tells, told_line, WroteFrontOfLine, Verifies, VerifiesText, IsFailure, AnswersText}
 
 -- the line of an answer was written
 wrote : (text : List ℕ) (old new : Option (List ℕ)) (answer : Status) → Tells text answer → Grew old new (told_line answer) → Verifies text old new answer

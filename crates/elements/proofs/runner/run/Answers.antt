@@ -1,7 +1,5 @@
-use Rattle.std.proofs.Common.{map}
-use Rattle.std.specs.Prelude.{string_bytes}
 use Rattle.elements.proofs.Answering.{answers, answers_usage}
-use Rattle.elements.proofs.Verifying.{answers_text, whole_verified, whole_accepted, not_both}
+use Rattle.elements.proofs.Verifying.{answers_text, whole_verified, whole_accepted}
 use Rattle.elements.proofs.runner.run.Goals as goal
 
 pub returns-then-is_check-clause-complete : goal.returns-then-is_check-clause-complete

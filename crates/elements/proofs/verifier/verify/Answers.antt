@@ -1,4 +1,4 @@
-use Rattle.std.proofs.Common.{◌≡◌, ◌∙◌, refl, sym, ap, subst, List, ℕ, arith, length}
+use Rattle.std.proofs.Common.{refl, subst, List, ℕ, arith}
 use Rattle.elements.specs.LastLines.{no_memory_line, read_fault_line, text_limit_line}
 use Rattle.elements.specs.Verifying.{Verifies}
 use Rattle.elements.specs.declared.status.Status.TheVariants as status
