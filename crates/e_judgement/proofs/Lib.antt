@@ -1,5 +1,4 @@
 mod Passing
 pub mod OneJudgement
 mod WithCertificates
-mod GoodMarks
 mod Verifiable

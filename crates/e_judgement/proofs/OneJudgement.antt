@@ -1,21 +1,24 @@
 -- A derivation text has one judgement.
-use Rattle.std.proofs.Common.{◌≡◌, inl, inr, ℕ, ◌+◌, Bool, true, false, List, [], ◌∷◌, length, Result, Ok, Err, refl, sym, ap, subst, ◌∙◌}
+use Rattle.std.proofs.Common.{◌≡◌, inl, inr, ℕ, ◌+◌, Bool, true, false, true≢false, cond, ◌&&◌, List, [], ◌∷◌, length, Result, Ok, Err, refl, sym, ap, subst, ◌∙◌}
 use Rattle.std.specs.Prelude.{IsTrue, IsFalse}
 use Rattle.std.specs.List.{list_all}
-use Rattle.e_text.specs.Lines.{Seen}
 use Rattle.e_theorem.specs.Statements.{stated}
 use Rattle.e_deriv.specs.Lines.{Line, first_failure}
 use Rattle.e_deriv.specs.Certified.{is_certified, derivation_lines, verdict}
 use Rattle.e_book.specs.Headed.{Headed, stated_by}
 use Rattle.e_book.specs.Entry.{Entry}
-use Rattle.e_read.specs.Text.{at_start, piece_from, Piece, Derived, Last}
+use Rattle.e_read.specs.Text.{Piece, Derived, Last}
 use Rattle.e_judgement.specs.declared.judgement.Judgement.{Judgement}
 use Rattle.e_judgement.specs.declared.judgement.Judgement.TheVariants.{Bad, Garbled}
-use Rattle.e_judgement.specs.Judged.{Rest, with_theorem, ReadsNext, IsCertified, Passes, JudgedBehind, EndsThere, BreaksThere, FailsThere, Closes, IsJudged, is_head, JudgesLines, JudgesText, lines_of_text}
+use Rattle.e_judgement.specs.Judged.{Rest, with_theorem, ReadsNext, IsCertified, Passes, JudgedBehind, Closes, IsJudged, is_head, JudgesLines, JudgesText, lines_of_text}
+
+-- what was read, and the lines behind it
+abbrev Found : Type 0
+Found = Piece × Rest
 
 -- what reading gives
 abbrev Answer : Type 0
-Answer = Result (Piece × Rest) ℕ
+Answer = Result Found ℕ
 
 abbrev found : Entry → Rest → Answer
 found t rest = Ok (Derived t, rest)
@@ -26,38 +29,55 @@ ended rest = Ok (Last, rest)
 abbrev broken : ℕ → Answer
 broken line = Err line
 
+inside : (a b : Found) → let x : Answer = Ok a in x ≡ Ok b → a ≡ b
+inside a b e = cc
+
+abbrev entry_in : Entry → Piece → Entry
+entry_in t (Derived u) = u
+entry_in t Last = t
+
+abbrev is_derived : Piece → Bool
+is_derived (Derived t) = true
+is_derived Last = false
+
 same_entry : (t u : Entry) (xs ys : Rest) → found t xs ≡ found u ys → t ≡ u
-same_entry t u xs ys e = cc
+same_entry t u xs ys e = ap (λ (a : Found). entry_in t a.0) (inside (Derived t, xs) (Derived u, ys) e)
 
 same_rest : (t u : Entry) (xs ys : Rest) → found t xs ≡ found u ys → xs ≡ ys
-same_rest t u xs ys e = cc
+same_rest t u xs ys e = ap (λ (a : Found). a.1) (inside (Derived t, xs) (Derived u, ys) e)
 
 same_end : (xs ys : Rest) → ended xs ≡ ended ys → xs ≡ ys
-same_end xs ys e = cc
+same_end xs ys e = ap (λ (a : Found). a.1) (inside (Last, xs) (Last, ys) e)
 
 same_line : (n m : ℕ) → broken n ≡ broken m → n ≡ m
 same_line n m e = cc
 
 found_not_ended : (t : Entry) (xs ys : Rest) → found t xs ≡ ended ys → ⊥
-found_not_ended t xs ys e = cc
+found_not_ended t xs ys e = true≢false (ap (λ (a : Found). is_derived a.0) (inside (Derived t, xs) (Last, ys) e))
 
 found_not_broken : (t : Entry) (xs : Rest) (n : ℕ) → found t xs ≡ broken n → ⊥
-found_not_broken t xs n e = cc
+found_not_broken t xs n e = absurd cc
 
 ended_not_broken : (xs : Rest) (n : ℕ) → ended xs ≡ broken n → ⊥
-ended_not_broken xs n e = cc
+ended_not_broken xs n e = absurd cc
 
-same_step : (n m : ℕ) → Err {A = ℕ} n ≡ Err m → n ≡ m
+abbrev fails_at : ℕ → Result ℕ ℕ
+fails_at n = Err n
+
+same_step : (n m : ℕ) → fails_at n ≡ fails_at m → n ≡ m
 same_step n m e = cc
+
+passes_not : (n k : ℕ) → let x : Result ℕ ℕ = Ok n in x ≡ fails_at k → ⊥
+passes_not n k e = absurd cc
 
 -- where each line passes there is no first failure
 no_failure : (p : Line → Bool) (xs : List Line) (n k : ℕ) → list_all p xs ≡ true → first_failure p xs n ≡ Err k → ⊥
-no_failure p [] n k h e = cc
-no_failure p (x ∷ xs) n k h e = by (p x) h e
+no_failure p [] n k h e = passes_not n k e
+no_failure p (x ∷ xs) n k h e = by (p x) (λ good later. no_failure p xs (n + 1) k good later) h e
   where
-    by : (b : Bool) → (if b then list_all p xs else false) ≡ true → (if b then first_failure p xs (n + 1) else Err n) ≡ Err k → ⊥
-    by true h e = no_failure p xs (n + 1) k h e
-    by false h e = cc
+    by : (b : Bool) → (list_all p xs ≡ true → first_failure p xs (n + 1) ≡ Err k → ⊥) → (b && list_all p xs) ≡ true → cond b (first_failure p xs (n + 1)) (fails_at n) ≡ fails_at k → ⊥
+    by true more h e = more h e
+    by false more h e = true≢false (sym h)
 
 certified_no_failure : (known : List Headed) (t : Entry) (step : ℕ) → IsCertified known t → verdict (stated_by known) (stated t.statement) t.script ≡ Err step → ⊥
 certified_no_failure known t step c e =

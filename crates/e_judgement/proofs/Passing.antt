@@ -1,5 +1,5 @@
 -- The theorems passed so far.
-use Rattle.std.proofs.Common.{◌≡◌, inl, inr, ℕ, ◌+◌, true, false, true≢false, ◌&&◌, List, [], ◌∷◌, ◌++◌, length, Result, Ok, Err, refl, sym, ap, subst, ◌∙◌}
+use Rattle.std.proofs.Common.{◌≡◌, inl, inr, ℕ, ◌+◌, true, false, true≢false, List, [], ◌∷◌, ◌++◌, length, Result, Ok, Err, refl, sym, ap, subst, ◌∙◌}
 use Rattle.std.specs.Prelude.{IsTrue, IfOk}
 use Rattle.std.specs.List.{list_all}
 use Rattle.e_text.specs.Lines.{Seen, Ahead}
@@ -7,14 +7,14 @@ use Rattle.e_text.specs.declared.line.LineFault.{LineFault}
 use Rattle.e_theorem.specs.Statements.{stated}
 use Rattle.e_deriv.specs.Certified.{verdict}
 use Rattle.e_deriv.specs.Fitting.{is_small_statement}
-use Rattle.e_book.specs.Headed.{Headed, headed, stated_by}
+use Rattle.e_book.specs.Headed.{Headed, stated_by}
 use Rattle.e_book.specs.Entry.{Entry}
 use Rattle.e_book.specs.Book.{last_line}
 use Rattle.e_book.proofs.Fitting.{one_more_stated}
-use Rattle.e_read.specs.Text.{at_start, piece_from, Piece, Derived, Last}
+use Rattle.e_read.specs.Text.{at_start, piece_from, Piece, Last}
 use Rattle.e_judgement.specs.declared.judgement.Judgement.{Judgement}
-use Rattle.e_judgement.specs.declared.judgement.Judgement.TheVariants.{Verified, Bad, Garbled}
-use Rattle.e_judgement.specs.Judged.{Rest, with_theorem, ReadsNext, IsCertified, Passes, JudgedBehind, EndsThere, BreaksThere, FailsThere, Closes, IsJudged, is_head, JudgesLines, lines_of_text, JudgesText}
+use Rattle.e_judgement.specs.declared.judgement.Judgement.TheVariants.{Bad, Garbled}
+use Rattle.e_judgement.specs.Judged.{Rest, with_theorem, ReadsNext, IsCertified, Passes, JudgedBehind, Closes, IsJudged, is_head, JudgesLines, lines_of_text, JudgesText}
 
 pub record History (last : ℕ) (lines : Rest) (known : List Headed) (rest : Rest) : Type 0 where
   pub theorems : List Entry

@@ -1,10 +1,8 @@
 -- The judgement of a derivation text: its theorems are taken one after another, up to the first block in which a line has no form at
 -- its place or is not certified.
-use Rattle.std.specs.Prelude.{◌≡◌, ◌⊎◌, ℕ, ◌+◌, ◌-◌, ◌^◌, Bool, true, false, ◌&&◌, List, [], ◌∷◌, ◌++◌, length, codes, Result, Ok, Err, if◌then◌else◌, IsTrue, IsFalse}
+use Rattle.std.specs.Prelude.{◌≡◌, ◌⊎◌, ℕ, ◌+◌, ◌-◌, ◌^◌, Bool, ◌&&◌, List, [], ◌∷◌, ◌++◌, length, codes, Result, Ok, Err, IsTrue, IsFalse}
 use Rattle.std.specs.Str.{bytes_eq}
 use Rattle.e_text.specs.Lines.{Seen, lines_of, fault_line}
-use Rattle.e_text.specs.declared.line.LineEnd.{LineEnd}
-use Rattle.e_text.specs.declared.line.LineEnd.TheVariants.{Lf}
 use Rattle.e_text.specs.declared.line.LineFault.{LineFault}
 use Rattle.e_theorem.specs.Statements.{stated}
 use Rattle.e_deriv.specs.Certified.{Certified, verdict}

@@ -6,3 +6,6 @@ pub mod Erased
 pub mod Consequences
 pub mod Rooms
 pub mod GoalSorts
+pub mod GoodCerts
+mod GoodMarks
+pub mod GoodReadings

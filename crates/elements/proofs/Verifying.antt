@@ -16,7 +16,7 @@ use Rattle.elements.specs.Answers.{ChecksBook, IsReadFault, IsWriteFault, IsAcce
 use Rattle.elements.specs.Words.{is_check, is_verify}
 use Rattle.elements.specs.Input.{IsTextOf}
 use Rattle.elements.specs.Endings.{Closes}
-use Rattle.elements.specs.Verifying.{answer_of, line_of, Tells, told_line, WroteLine, WroteFrontOfLine, Verifies, VerifiesText, IsFailure, AnswersText}
+use Rattle.elements.specs.Verifying.{answer_of, line_of, Tells, told_line, WroteFrontOfLine, Verifies, VerifiesText, IsFailure, AnswersText}
 
 -- the line of an answer was written
 wrote : (text : List ℕ) (old new : Option (List ℕ)) (answer : Status) → Tells text answer → Grew old new (told_line answer) → Verifies text old new answer
@@ -136,5 +136,5 @@ whole_accepted left old new answer c w = absurd w
 -- no words are both commands
 pub not_both : (words : List (List ℕ)) → is_check words ≡ true → is_verify words ≡ true → ⊥
 not_both [] h k = absurd cc
-not_both (w ∷ []) h k = absurd (true≢false (sym (ap (λ (x : List ℕ). bytes_eq x (codes "verify")) ((bytes_eq-Decides w (codes "check")).0 h)) ∙ k))
+not_both (w ∷ []) h k = absurd (true≢false (sym k ∙ ap (λ (x : List ℕ). bytes_eq x (codes "verify")) ((bytes_eq-Decides w (codes "check")).0 h)))
 not_both (w ∷ v ∷ words) h k = absurd cc

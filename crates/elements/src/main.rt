@@ -27,6 +27,8 @@ mod store;
 mod tests;
 mod trial;
 mod verifier;
+#[cfg(test)]
+mod verify_tests;
 
 use e_io::{StdSink, StdSource};
 pub use runner::run;

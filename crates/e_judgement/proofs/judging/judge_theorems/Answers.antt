@@ -1,4 +1,4 @@
-use Rattle.std.proofs.Common.{◌≡◌, Ok, Err, [], ◌∷◌, ap, sym, ◌∙◌, arith, length, length-append}
+use Rattle.std.proofs.Common.{Ok, Err, [], ◌∷◌, ap, ◌∙◌, arith, length, length-append}
 use Rattle.e_book.specs.Book.{last_line}
 use Rattle.e_book.specs.Headed.{headed}
 use Rattle.e_book.specs.Entry.{entry_of}
@@ -10,39 +10,40 @@ use Rattle.e_judgement.proofs.judging.judge_theorems.Goals as goal
 pub check-requires : goal.check-requires
 check-requires c =
     verifiable c.loop-theorem.known (last_line c.loop-theorem.lines) c.loop-theorem.lines.lines c.read.new.lines.lines (entry_of c.in-Ok-Theorem.theorem)
-    c.loop-theorem.invariant.small c.in-Ok-Theorem.ensures.states c.in-Ok-Theorem.ensures.spelled c.in-Ok-Theorem.ensures.read
+    c.loop-theorem.invariant.small (rw c.in-Ok-Theorem.field-0-is at c.in-Ok-Theorem.ensures.states) (rw c.in-Ok-Theorem.field-0-is at c.in-Ok-Theorem.ensures.spelled) (rw c.in-Ok-Theorem.field-0-is at c.in-Ok-Theorem.ensures.read)
 
 pub returns-in-Ok-Last : goal.returns-in-Ok-Last
 returns-in-Ok-Last c =
     let last = last_line c.args.lines.now in
-    let read = reads_at c.loop-theorem.known (last_line c.loop-theorem.lines) last c.loop-theorem.lines.lines (Ok (Last, c.read.new.lines.lines)) c.loop-theorem.invariant.last c.in-Ok-Last.ensures.read.1 in
+    let read = reads_at c.loop-theorem.known (last_line c.loop-theorem.lines) last c.loop-theorem.lines.lines (Ok (Last, c.read.new.lines.lines)) c.loop-theorem.invariant.last (rw c.in-Ok-Last.field-0-is at c.in-Ok-Last.ensures.read).1 in
     ends_so last c.in-Ok-Last.theorems c.args.lines.now.lines c.loop-theorem.known c.loop-theorem.lines.lines c.read.new.lines.lines c.behind_the_last.result
-    c.loop-theorem.invariant.history c.in-Ok-Last.ensures.read.0 read c.behind_the_last.ensures
+    c.loop-theorem.invariant.history (rw c.in-Ok-Last.field-0-is at c.in-Ok-Last.ensures.read).0 read c.behind_the_last.ensures
 
 pub returns-in-Err-Garbled : goal.returns-in-Err-Garbled
 returns-in-Err-Garbled c =
     let last = last_line c.args.lines.now in
-    breaks_so last c.in-Err-Garbled.line c.args.lines.now.lines c.loop-theorem.known c.loop-theorem.lines.lines c.loop-theorem.invariant.history
-    (reads_at c.loop-theorem.known (last_line c.loop-theorem.lines) last c.loop-theorem.lines.lines (Err c.in-Err-Garbled.line) c.loop-theorem.invariant.last c.in-Err-Garbled.ensures.read)
+    let read = reads_at c.loop-theorem.known (last_line c.loop-theorem.lines) last c.loop-theorem.lines.lines (Err c.in-Err-Garbled.line) c.loop-theorem.invariant.last (rw c.in-Err-Garbled.field-0-is at c.in-Err-Garbled.ensures.read) in
+    rw c.in-Err-Garbled.field-0-is (breaks_so last c.in-Err-Garbled.line c.args.lines.now.lines c.loop-theorem.known c.loop-theorem.lines.lines c.loop-theorem.invariant.history read)
 
 pub returns-in-Err-Bad : goal.returns-in-Err-Bad
 returns-in-Err-Bad c =
     let last = last_line c.args.lines.now in
-    let read = reads_at c.loop-theorem.known (last_line c.loop-theorem.lines) last c.loop-theorem.lines.lines (Ok (Derived (entry_of c.in-Ok-Theorem.theorem), c.read.new.lines.lines)) c.loop-theorem.invariant.last c.in-Ok-Theorem.ensures.read in
-    fails_so last c.in-Err-Bad.step c.args.lines.now.lines c.loop-theorem.known c.loop-theorem.lines.lines (entry_of c.in-Ok-Theorem.theorem) c.read.new.lines.lines
-    c.loop-theorem.invariant.history read c.in-Err-Bad.ensures.bad
+    let read = reads_at c.loop-theorem.known (last_line c.loop-theorem.lines) last c.loop-theorem.lines.lines (Ok (Derived (entry_of c.in-Ok-Theorem.theorem), c.read.new.lines.lines)) c.loop-theorem.invariant.last (rw c.in-Ok-Theorem.field-0-is at c.in-Ok-Theorem.ensures.read) in
+    rw c.in-Err-Bad.field-0-is
+    (fails_so last c.in-Err-Bad.step c.args.lines.now.lines c.loop-theorem.known c.loop-theorem.lines.lines (entry_of c.in-Ok-Theorem.theorem) c.read.new.lines.lines
+    c.loop-theorem.invariant.history read (rw c.in-Err-Bad.field-0-is at c.in-Err-Bad.ensures.bad))
 
 pub keep-requires : goal.keep-requires
-keep-requires c = c.in-Ok-Theorem.ensures.spelled.fits.new
+keep-requires c = (rw c.in-Ok-Theorem.field-0-is at c.in-Ok-Theorem.ensures.spelled).fits.new
 
 pub loop-theorem-preserved : goal.loop-theorem-preserved
 loop-theorem-preserved c =
     let last = last_line c.args.lines.now in
     let t = entry_of c.in-Ok-Theorem.theorem in
-    let read = reads_at c.loop-theorem.known (last_line c.loop-theorem.lines) last c.loop-theorem.lines.lines (Ok (Derived t, c.read.new.lines.lines)) c.loop-theorem.invariant.last c.in-Ok-Theorem.ensures.read in
+    let read = reads_at c.loop-theorem.known (last_line c.loop-theorem.lines) last c.loop-theorem.lines.lines (Ok (Derived t, c.read.new.lines.lines)) c.loop-theorem.invariant.last (rw c.in-Ok-Theorem.field-0-is at c.in-Ok-Theorem.ensures.read) in
     let history = goes_on last c.args.lines.now.lines c.loop-theorem.known c.loop-theorem.lines.lines t c.read.new.lines.lines c.loop-theorem.invariant.history read c.in-Ok.ensures.certified in
-    let small = small_more c.loop-theorem.known t c.loop-theorem.invariant.small c.in-Ok-Theorem.ensures.states in
-    let few = c.in-Ok-Theorem.ensures.spelled.few_theorems in
+    let small = small_more c.loop-theorem.known t c.loop-theorem.invariant.small (rw c.in-Ok-Theorem.field-0-is at c.in-Ok-Theorem.ensures.states) in
+    let few = (rw c.in-Ok-Theorem.field-0-is at c.in-Ok-Theorem.ensures.spelled).few_theorems in
     record {
       history = rw c.in_ok-keep.ensures history;
       small = rw c.in_ok-keep.ensures small;

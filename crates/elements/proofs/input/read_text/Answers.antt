@@ -1,4 +1,4 @@
-use Rattle.std.proofs.Common.{◌+◌, arith, vec_len}
+use Rattle.std.proofs.Common.{◌+◌, arith}
 use Rattle.elements.proofs.Told.{told_all, told_enough}
 use Rattle.elements.proofs.input.read_text.Goals as goal
 

@@ -1,5 +1,4 @@
-use Rattle.std.proofs.Common.{◌≡◌, ◌∙◌, refl, subst}
-use Rattle.elements.specs.Answers.{IsReadFault}
+use Rattle.std.proofs.Common.{◌∙◌, refl}
 use Rattle.elements.specs.LastLines.{no_memory_line}
 use Rattle.elements.specs.declared.status.Status.TheVariants as status
 use Rattle.elements.proofs.Verifying.{told_closed, judged_closed, no_read_fault, no_write_fault}

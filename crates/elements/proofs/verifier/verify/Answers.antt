@@ -1,4 +1,4 @@
-use Rattle.std.proofs.Common.{◌≡◌, ◌∙◌, refl, sym, ap, subst, List, ℕ, arith, length}
+use Rattle.std.proofs.Common.{refl, subst, List, ℕ, arith}
 use Rattle.elements.specs.LastLines.{no_memory_line, read_fault_line, text_limit_line}
 use Rattle.elements.specs.Verifying.{Verifies}
 use Rattle.elements.specs.declared.status.Status.TheVariants as status
@@ -15,10 +15,10 @@ returns-in-Err-NoMemory-clause-verifies g c =
     any_text (g.S.Source.left c.args.source.now) (g.K.Sink.written c.args.sink.now) (g.K.Sink.written c.close-in-Err-NoMemory.new.sink) c.close-in-Err-NoMemory.result
     (λ text. told_closed text (g.K.Sink.written c.args.sink.now) (g.K.Sink.written c.close-in-Err-NoMemory.new.sink) no_memory_line status.NoMemory c.close-in-Err-NoMemory.result tt refl c.close-in-Err-NoMemory.ensures.closes)
 
-pub returns-then-clause-verifies : goal.returns-then-clause-verifies
-returns-then-clause-verifies g c =
-    long_text (g.S.Source.left c.args.source.now) c.in-Ok.text.items (g.K.Sink.written c.args.sink.now) (g.K.Sink.written c.close-then.new.sink) c.close-then.result c.in-Ok.ensures.text (omega arith)
-    (λ text far. told_closed text (g.K.Sink.written c.args.sink.now) (g.K.Sink.written c.close-then.new.sink) text_limit_line status.TextLimit c.close-then.result far refl c.close-then.ensures.closes)
+pub returns-then-len-gt-MOST_TEXT-clause-verifies : goal.returns-then-len-gt-MOST_TEXT-clause-verifies
+returns-then-len-gt-MOST_TEXT-clause-verifies g c =
+    long_text (g.S.Source.left c.args.source.now) c.in-Ok.text.items (g.K.Sink.written c.args.sink.now) (g.K.Sink.written c.close-then-len-gt-MOST_TEXT.new.sink) c.close-then-len-gt-MOST_TEXT.result c.in-Ok.ensures.text (omega arith)
+    (λ text far. told_closed text (g.K.Sink.written c.args.sink.now) (g.K.Sink.written c.close-then-len-gt-MOST_TEXT.new.sink) text_limit_line status.TextLimit c.close-then-len-gt-MOST_TEXT.result far refl c.close-then-len-gt-MOST_TEXT.ensures.closes)
 
 pub returns-clause-verifies : goal.returns-clause-verifies
 returns-clause-verifies g c =

@@ -1,9 +1,9 @@
 -- The literals of certificates that are read are well formed.
-use Rattle.std.proofs.Common.{◌≡◌, ℕ, ◌+◌, Bool, true, false, cond, ◌&&◌, ltb, List, [], ◌∷◌, ◌++◌, length, Option, Some, None, Result, Ok, Err, refl, sym, ap, subst, ◌∙◌}
+use Rattle.std.proofs.Common.{◌≡◌, ℕ, ◌+◌, Bool, true, false, cond, ◌&&◌, ltb, List, [], ◌∷◌, ◌++◌, length, Option, Some, None, Result, Ok, Err, refl, subst}
 use Rattle.std.specs.Prelude.{ℤ, codes, slice_get, ◌==◌}
 use Rattle.std.specs.List.{list_all}
 use Rattle.std.specs.Str.{bytes_eq}
-use Rattle.std.specs.Option.{option_to_list, option_map_or}
+use Rattle.std.specs.Option.{option_to_list}
 use Rattle.e_literal.specs.declared.literal.Lit.{Lit}
 use Rattle.e_literal.specs.declared.object.Obj.{Obj}
 use Rattle.e_literal.specs.WellFormed.{is_well_formed}
@@ -53,7 +53,7 @@ use Rattle.e_read.specs.Strict.{is_strict_mark, strict_mark}
 use Rattle.e_read.specs.Owed.{most_rows, fact_in, row_in, with_row, row_put, sum_begun, differs_put, sums_ended, has_more, certificate, transfer_put, part_put, metric_put, takes_metric, clash_put, transfer_rule, count_others, transfer_in, transfer_begun, ended, sums_behind, due_behind, marked, kept_of, settled}
 use Rattle.e_read.proofs.TakenLines.{passed}
 use Rattle.e_verify.specs.Written.{is_good_name, is_good_sum, is_good_sums, is_good_part, is_good_cert, is_good_against}
-use Rattle.e_judgement.proofs.WithCertificates.{is_good_kept, AreGood}
+use Rattle.e_read.proofs.GoodCerts.{AreGood}
 
 -- ---- what is said: no coefficient of a row's literal is 0
 
@@ -161,13 +161,15 @@ strict_said line ws m e =
 
 -- ---- rows
 
+one_lit : (ns : Names) (raw : RawLit) (l : Lit) → lit_in ns raw ≡ Ok l → lits_in ns (raw ∷ []) ≡ Ok (l ∷ [])
+one_lit ns raw l e = rw e refl
+
 good_fact : (ns : Names) (raw : RawLit) (l : Lit) → AtomSaid raw.atom → fact_in ns raw ≡ Ok l → is_well_formed l ≡ true
 good_fact ns raw l said e =
     let x = bind_ok (lit_in ns raw) (λ x. few_monos (raw ∷ []) >>= λ few. read_ok x) l e in
     let f = bind_ok (few_monos (raw ∷ [])) (λ few. read_ok x.0) l x.2 in
     let few = few_ok (raw ∷ []) f.0 f.1 in
-    let one : lits_in ns (raw ∷ []) ≡ Ok (x.0 ∷ []) = rw x.1 refl in
-    let good = good_lits ns (raw ∷ []) (x.0 ∷ []) one (said, tt) few.short few.small in
+    let good = good_lits ns (raw ∷ []) (x.0 ∷ []) (one_lit ns raw x.0 x.1) (said, tt) few.short few.small in
     subst (λ (y : Lit). is_well_formed y ≡ true) (ok_is x.0 l f.2) (both (is_well_formed x.0) true good).0
 
 abbrev GoodName : RowName → Type 0

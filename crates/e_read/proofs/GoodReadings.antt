@@ -1,0 +1,148 @@
+-- The certificates of a theorem that is read from a derivation text are well formed.
+use Rattle.std.proofs.Common.{◌≡◌, ℕ, Bool, true, false, true≢false, cond, inl, inr, List, [], ◌∷◌, ◌++◌, Option, Some, None, Result, Ok, Err, refl, sym, ap, subst}
+use Rattle.std.specs.Prelude.{◌⊎◌}
+use Rattle.std.specs.Option.{option_to_list}
+use Rattle.e_text.specs.Lines.{Seen}
+use Rattle.e_text.specs.declared.line.LineFault.{LineFault}
+use Rattle.e_literal.specs.declared.literal.Lit.{Lit}
+use Rattle.e_construct.specs.Construct.{needs}
+use Rattle.e_construct.specs.Superposing as superposing
+use Rattle.e_book.specs.declared.fault.Kind.{Kind}
+use Rattle.e_book.specs.declared.form.Form.{Form}
+use Rattle.e_book.specs.declared.form.Form.TheVariants as forms
+use Rattle.e_book.specs.declared.draft.Draft.{Draft}
+use Rattle.e_book.specs.Reading.{◌>>=◌}
+use Rattle.e_book.specs.Headed.{Headed}
+use Rattle.e_book.specs.Entry.{Entry, entry_of_draft}
+use Rattle.e_book.specs.Book.{is_done}
+use Rattle.e_book.specs.Steps.{begin, step}
+use Rattle.e_book.specs.Scope.{lit_in, let_in}
+use Rattle.e_book.specs.Superposes.{superpose_in}
+use Rattle.e_book.proofs.Answered.{appended}
+use Rattle.e_book.proofs.InScope.{bind_ok, ok_is, read_ok}
+use Rattle.e_read.specs.declared.owed.Due.{Due}
+use Rattle.e_read.specs.declared.owed.Due.TheVariants as due
+use Rattle.e_read.specs.declared.owed.Owed.{Owed}
+use Rattle.e_read.specs.declared.kept.Kept.{Kept}
+use Rattle.e_read.specs.declared.reading.Reading.{Reading}
+use Rattle.e_read.specs.Strict.{is_apart}
+use Rattle.e_read.specs.Needs.{one_each, needs_of_use, needs_at_qed, due_of}
+use Rattle.e_read.specs.Text.{owes_nothing, at_start, gone_on, taken, Piece, Derived, Last, derived, garbled_at, finished, or_on, is_end, piece_from}
+use Rattle.e_read.proofs.Bridge.{Answer, derives, garbled_ok}
+use Rattle.e_read.proofs.TakenLines.{passed, Stepped, line_taken}
+use Rattle.e_read.proofs.GoodCerts.{has_good_certs, is_good_kept, AreGood, filled_good}
+use Rattle.e_read.proofs.GoodMarks.{GoodDue, GoodOwed, strict_good, settled_good}
+
+-- ---- what a line owes
+
+owes : {X : Type 0} (r : Result X Kind) (f : X → List Lit) (new : Due) → (r >>= λ x. read_ok (one_each (f x))) ≡ Ok new → GoodDue new
+owes r f new e = let x = bind_ok r (λ x. read_ok (one_each (f x))) new e in subst GoodDue (ok_is (one_each (f x.0)) new x.2) refl
+
+due_good : (known : List Headed) (d : Draft) (f : Form) (new : Due) → due_of known d f ≡ Ok new → GoodDue new
+unfolding due_of
+due_good known d (forms.Hence raw) new e = owes (lit_in d.in_scope raw) (λ l. l ∷ []) new e
+due_good known d (forms.Let raw) new e = owes (let_in d.in_scope raw) (λ form. needs form) new e
+due_good known d (forms.Apply raw) new e = owes (needs_of_use known d raw) (λ ls. ls) new e
+due_good known d (forms.Superpose raw) new e = owes (superpose_in d.in_scope raw) (λ p. superposing.needs p.0) new e
+due_good known d (forms.Qed ns) new e = owes (needs_at_qed d ns) (λ ls. ls) new e
+due_good known d forms.Contradiction new e = subst GoodDue (ok_is (due.Contradiction None) new e) refl
+due_good known d f new e = subst GoodDue (ok_is due.Nothing new e) refl
+
+nothing_good : GoodOwed owes_nothing
+nothing_good = record { certs = refl; rows_of_sums = refl }
+
+gone_good : (known : List Headed) (draft : Option Draft) (f : Form) (d : Draft) (o : Owed) → gone_on known draft f ≡ Ok (d, o) → GoodOwed o
+gone_good known None f d o e =
+    let x = bind_ok (begin known f) (λ x. read_ok (x, owes_nothing)) (d, o) e in
+    subst GoodOwed (ap (λ (p : Draft × Owed). p.1) (ok_is (x.0, owes_nothing) (d, o) x.2)) nothing_good
+gone_good known (Some a) f d o e =
+    let end : Due → Draft → Draft × Owed = λ new x. (x, record { names = a.in_scope; due = new; sums = None }) in
+    let p = passed (is_apart a f) (due_of known a f >>= λ new. step known a f >>= λ x. Ok (end new x)) (d, o) e in
+    let n = bind_ok (due_of known a f) (λ new. step known a f >>= λ x. Ok (end new x)) (d, o) p.1 in
+    let x = bind_ok (step known a f) (λ x. Ok (end n.0 x)) (d, o) n.2 in
+    subst GoodOwed (ap (λ (q : Draft × Owed). q.1) (ok_is (end n.0 x.0) (d, o) x.2)) (record { certs = due_good known a f n.0 n.1; rows_of_sums = refl })
+
+-- ---- the lines of a block
+
+-- what was read of certificates is good
+record GoodReading (r : Reading) : Type 0 where
+  kept : AreGood r.kept
+  owed : GoodOwed r.owed
+
+taken_good : (known : List Headed) (r next : Reading) (l : Seen) → GoodReading r → taken known r l ≡ Ok next → GoodReading next
+taken_good known r next l h e =
+    elim (line_taken known r next l e) [
+      | inl c ↦ record {
+        kept = subst AreGood (sym c.2.kept) h.kept;
+        owed = strict_good r.owed l.bytes c.0 c.2.mark next.owed h.owed c.2.spelled c.2.owed;
+      }
+      | inr s ↦ behind s.1
+    ]
+  where
+    behind : Stepped known r next l.bytes → GoodReading next
+    behind s =
+        let good : GoodReading (record { draft = Some s.draft; owed = s.owed; kept = r.kept ++ option_to_list s.read }) = record {
+          kept = appended is_good_kept r.kept (option_to_list s.read) h.kept (settled_good r.owed s.read h.owed s.settled_is);
+          owed = gone_good known r.draft s.form s.draft s.owed s.gone;
+        } in
+        subst GoodReading (sym s.next_is) good
+
+some_is : (x y : Entry) → Some x ≡ Some y → x ≡ y
+some_is x y e = cc
+
+finished_good : (draft : Option Draft) (kept : List Kept) (t : Entry) → AreGood kept → finished draft kept ≡ Some t → has_good_certs t.script ≡ true
+finished_good None kept t h e = absurd cc
+finished_good (Some d) kept t h e = by (is_done d) e
+  where
+    by : (b : Bool) → cond b (Some (derived d kept)) None ≡ Some t → has_good_certs t.script ≡ true
+    by true k = subst (λ (x : Entry). has_good_certs x.script ≡ true) (some_is (derived d kept) t k) (filled_good (entry_of_draft d).script kept h).0
+    by false k = absurd cc
+
+ends_or : (b : Bool) (x y z : Result Answer ℕ) → cond b x y ≡ z → (x ≡ z) ⊎ (y ≡ z)
+ends_or true x y z e = inl e
+ends_or false x y z e = inr e
+
+inside : (a b : Answer) → let x : Result Answer ℕ = Ok a in x ≡ Ok b → a ≡ b
+inside a b e = cc
+
+abbrev entry_in : Entry → Piece → Entry
+entry_in t (Derived u) = u
+entry_in t Last = t
+
+abbrev is_derived : Piece → Bool
+is_derived (Derived t) = true
+is_derived Last = false
+
+no_last : (lines rest : List (Result Seen LineFault)) (t : Entry) → let end : Result Answer ℕ = Ok (Last, lines) in end ≡ derives t rest → ⊥
+no_last lines rest t e = true≢false (sym (ap (λ (a : Answer). is_derived a.0) (inside (Last, lines) (Derived t, rest) e)))
+
+same_theorem : (t u : Entry) (lines rest : List (Result Seen LineFault)) → derives t lines ≡ derives u rest → t ≡ u
+same_theorem t u lines rest e = ap (λ (a : Answer). entry_in t a.0) (inside (Derived t, lines) (Derived u, rest) e)
+
+goes_on : (t : Option Entry) (lines rest : List (Result Seen LineFault)) (more : Result Answer ℕ) (u : Entry) → or_on t lines more ≡ derives u rest → (t ≡ Some u) ⊎ (more ≡ derives u rest)
+goes_on None lines rest more u e = inr e
+goes_on (Some x) lines rest more u e = inl (ap (λ (y : Entry). Some y) (same_theorem x u lines rest e))
+
+certs_read : (known : List Headed) (last : ℕ) (r : Reading) (lines rest : List (Result Seen LineFault)) (t : Entry) → GoodReading r → piece_from known last r lines ≡ derives t rest → has_good_certs t.script ≡ true
+certs_read known last r [] rest t h e = absurd cc
+certs_read known last r (Err f ∷ lines) rest t h e = absurd cc
+certs_read known last r (Ok l ∷ lines) rest t h e =
+    let next : Result Reading ℕ = garbled_at l.number (taken known r l) in
+    let then : Reading → Result Answer ℕ = λ x. or_on (finished x.draft x.kept) lines (piece_from known last x lines) in
+    elim (ends_or (is_end known r.draft l) (Ok (Last, lines)) (next >>= then) (derives t rest) e) [
+      | inl p ↦ absurd (no_last lines rest t p)
+      | inr p ↦
+          let x = bind_ok next then (Derived t, rest) p in
+          let good = taken_good known r x.0 l h (garbled_ok l.number (taken known r l) x.0 x.1) in
+          elim (goes_on (finished x.0.draft x.0.kept) lines rest (piece_from known last x.0 lines) t x.2) [
+            | inl q ↦ finished_good x.0.draft x.0.kept t good.kept q
+            | inr q ↦ certs_read known last x.0 lines rest t good q
+          ]
+    ]
+
+start_good : GoodReading at_start
+start_good = record { kept = refl; owed = nothing_good }
+
+-- the certificates of a theorem that is read from its first line on
+pub good_certs_read : (known : List Headed) (last : ℕ) (lines rest : List (Result Seen LineFault)) (t : Entry) → piece_from known last at_start lines ≡ derives t rest → has_good_certs t.script ≡ true
+good_certs_read known last lines rest t e = certs_read known last at_start lines rest t start_good e
