@@ -1,5 +1,5 @@
 -- What is owed so far is spelled by the lines of certificates that were taken.
-use Rattle.std.proofs.Common.{◌≡◌, ℕ, ℤ, ◌+◌, ◌<◌, ◌≤◌, Bool, true, false, cond, eqb, ltb, List, [], ◌∷◌, ◌++◌, length, map, Option, Some, None, Result, Ok, Err, refl, sym, ap, subst, ◌∙◌, arith, append_assoc, length-append}
+use Rattle.std.proofs.Common.{◌≡◌, ℕ, zero, suc, ℤ, ◌+◌, ◌<◌, ◌≤◌, Bool, true, false, cond, eqb, ltb, List, [], ◌∷◌, ◌++◌, length, map, Option, Some, None, Result, Ok, Err, refl, sym, ap, subst, ◌∙◌, arith, append_assoc, length-append}
 use Rattle.std.specs.Prelude.{codes, slice_get}
 use Rattle.std.specs.List.{flat_map}
 use Rattle.std.specs.Fmt.{signed_decimal}
@@ -223,16 +223,16 @@ certs_more ns cs c = flat_map-append (cert_lines ns) cs (c ∷ []) ∙ ap (λ (l
 one_longer : (cs : List Cert) (c : Cert) (wanted : List Lit) → length cs < length wanted → length (cs ++ c ∷ []) ≤ length wanted
 one_longer cs c wanted lt = omega (arith, lt, length-append cs (c ∷ []))
 
-transfer_put_spelled : (ns : Names) (wanted : List Lit) (cs : List Cert) (t : OpenTransfer) (new : Due) → length cs < length wanted → transfer_put wanted cs t ≡ Ok new
-    → (due_lines ns new ≡ all_lines ns cs ++ begun_lines ns t) × (due_at_first new ≡ due.Literals wanted [] None) × FitsDue new
+-- a transfer with its parts so far stands behind the certificates
+abbrev TransferStands : Names → List Lit → List Cert → OpenTransfer → Due → Type 0
+TransferStands ns wanted cs t x = (due_lines ns x ≡ all_lines ns cs ++ begun_lines ns t) × (due_at_first x ≡ due.Literals wanted [] None) × FitsDue x
+
+transfer_put_spelled : (ns : Names) (wanted : List Lit) (cs : List Cert) (t : OpenTransfer) (new : Due) → length cs < length wanted → transfer_put wanted cs t ≡ Ok new → TransferStands ns wanted cs t new
 transfer_put_spelled ns wanted cs t new lt e = by_test (eqb (length t.parts) t.owed) e
   where
-    abbrev Good : Due → Type 0
-    Good x = (due_lines ns x ≡ all_lines ns cs ++ begun_lines ns t) × (due_at_first x ≡ due.Literals wanted [] None) × FitsDue x
-
-    by_test : (b : Bool) → cond b (read_ok (due.Literals wanted (cs ++ certificate t ∷ []) None)) (read_ok (due.Literals wanted cs (Some t))) ≡ Ok new → Good new
-    by_test true h = subst Good (ok_is (due.Literals wanted (cs ++ certificate t ∷ []) None) new h) (certs_more ns cs (certificate t), refl, one_longer cs (certificate t) wanted lt)
-    by_test false h = subst Good (ok_is (due.Literals wanted cs (Some t)) new h) (refl, refl, lt)
+    by_test : (b : Bool) → cond b (read_ok (due.Literals wanted (cs ++ certificate t ∷ []) None)) (read_ok (due.Literals wanted cs (Some t))) ≡ Ok new → TransferStands ns wanted cs t new
+    by_test true h = subst (λ (x : Due). TransferStands ns wanted cs t x) (ok_is (due.Literals wanted (cs ++ certificate t ∷ []) None) new h) (certs_more ns cs (certificate t), refl, one_longer cs (certificate t) wanted lt)
+    by_test false h = subst (λ (x : Due). TransferStands ns wanted cs t x) (ok_is (due.Literals wanted cs (Some t)) new h) (refl, refl, lt)
 
 part_put_spelled : (ns : Names) (d new : Due) (p : Part) → FitsDue d → part_put d p ≡ Ok new → Grows ns d new (part_lines ns p)
 part_put_spelled ns (due.Literals wanted cs None) new p f e =
@@ -241,13 +241,10 @@ part_put_spelled ns (due.Literals wanted cs None) new p f e =
     (record { lines = certs_more ns cs (Plain p); first = refl; fits = one_longer cs (Plain p) wanted (ltb-true (length cs) (length wanted) t.0) })
 part_put_spelled ns (due.Literals wanted cs (Some t)) new p f e =
     let g = transfer_put_spelled ns wanted cs (record t { parts = t.parts ++ p ∷ [] }) new f e in
-    record { lines = g.0 ∙ longer; first = g.1; fits = g.2 }
+    record { lines = g.0 ∙ longer (codes "|" ∷ codes "transfer" ∷ rule_name t.rule ∷ map (name_of_object ns) t.args); first = g.1; fits = g.2 }
   where
-    abbrev head : List (List ℕ)
-    head = codes "|" ∷ codes "transfer" ∷ rule_name t.rule ∷ map (name_of_object ns) t.args
-
-    longer : all_lines ns cs ++ head ∷ flat_map (part_lines ns) (t.parts ++ p ∷ []) ≡ all_lines ns cs ++ head ∷ flat_map (part_lines ns) t.parts ++ part_lines ns p
-    longer =
+    longer : (head : List (List ℕ)) → all_lines ns cs ++ (head ∷ flat_map (part_lines ns) (t.parts ++ p ∷ [])) ≡ (all_lines ns cs ++ (head ∷ flat_map (part_lines ns) t.parts)) ++ part_lines ns p
+    longer head =
         ap (λ (l : Lines). all_lines ns cs ++ head ∷ l) (flat_map-append (part_lines ns) t.parts (p ∷ []) ∙ ap (λ (l : Lines). flat_map (part_lines ns) t.parts ++ l) (append-nil (part_lines ns p)))
         ∙ sym (append_assoc (all_lines ns cs) (head ∷ flat_map (part_lines ns) t.parts) (part_lines ns p))
 part_put_spelled ns due.Nothing new p f e = absurd cc
@@ -267,3 +264,174 @@ clash_put_spelled ns (due.Contradiction None) new l e =
 clash_put_spelled ns (due.Contradiction (Some a)) new l e = absurd cc
 clash_put_spelled ns due.Nothing new l e = absurd cc
 clash_put_spelled ns (due.Literals wanted cs t) new l e = absurd cc
+
+-- ---- transfers
+
+transfer_rule_is : (o : Option ℕ) (r : ℕ) → transfer_rule o ≡ Ok r → o ≡ Some r
+transfer_rule_is None r e = absurd cc
+transfer_rule_is (Some k) r e = ap Some (ok_is k r (tested (is_transfer k) (read_ok k) r e).1)
+
+abbrev transfer : ℕ → List Obj → List Part → ℕ → OpenTransfer
+transfer r args ps n = record { rule = r; args = args; parts = ps; owed = n }
+
+-- a transfer that is begun has its own line
+record Begun (ns : Names) (title : List ℕ) (raws : List (List ℕ)) (t : OpenTransfer) : Type 0 where
+  rule : rule_name t.rule ≡ title
+  args : map (name_of_object ns) t.args ≡ raws
+  parts : t.parts ≡ []
+
+transfer_in_spelled : (ns : Names) (wanted : Lit) (title : List ℕ) (raws : List (List ℕ)) (t : OpenTransfer) → transfer_in ns wanted title raws ≡ Ok t → Begun ns title raws t
+unfolding transfer_in
+transfer_in_spelled ns wanted title raws t e =
+    let r = bind_ok (transfer_rule (place_of title)) (λ r. variables_of (sig_of r) >>= λ s. right_count (eqb (length raws) (s.points + s.lines + s.circles)) >>= λ right. args_in ns s raws >>= λ args. or_malformed (Inst r args) >>= λ lits. read_ok (transfer r args [] (count_others wanted lits))) t e in
+    let s = bind_ok (variables_of (sig_of r.0)) (λ s. right_count (eqb (length raws) (s.points + s.lines + s.circles)) >>= λ right. args_in ns s raws >>= λ args. or_malformed (Inst r.0 args) >>= λ lits. read_ok (transfer r.0 args [] (count_others wanted lits))) t r.2 in
+    let n = bind_ok (right_count (eqb (length raws) (s.0.points + s.0.lines + s.0.circles))) (λ right. args_in ns s.0 raws >>= λ args. or_malformed (Inst r.0 args) >>= λ lits. read_ok (transfer r.0 args [] (count_others wanted lits))) t s.2 in
+    let a = bind_ok (args_in ns s.0 raws) (λ args. or_malformed (Inst r.0 args) >>= λ lits. read_ok (transfer r.0 args [] (count_others wanted lits))) t n.2 in
+    let l = bind_ok (or_malformed (Inst r.0 a.0)) (λ lits. read_ok (transfer r.0 a.0 [] (count_others wanted lits))) t a.2 in
+    subst (λ (x : OpenTransfer). Begun ns title raws x) (ok_is (transfer r.0 a.0 [] (count_others wanted l.0)) t l.2)
+    (record { rule = rule_named title r.0 (transfer_rule_is (place_of title) r.0 r.1); args = args_named ns ns s.0 raws a.0 (keeps_all ns) a.1; parts = refl })
+
+-- what a place of a list has is one of its elements
+more_at : (wanted : List Lit) (n : ℕ) (l : Lit) → or_malformed (slice_get wanted n) ≡ Ok l → n < length wanted
+more_at [] n l e = absurd cc
+more_at (w ∷ ws) zero l e = omega arith
+more_at (w ∷ ws) (suc n) l e = let lt = more_at ws n l e in omega (arith, lt)
+
+transfer_begun_spelled : (ns : Names) (d new : Due) (title : List ℕ) (raws : List (List ℕ)) → FitsDue d → transfer_begun ns d title raws ≡ Ok new → Grows ns d new ((codes "|" ∷ codes "transfer" ∷ title ∷ raws) ∷ [])
+transfer_begun_spelled ns (due.Literals wanted cs None) new title raws f e =
+    let l = bind_ok (or_malformed (slice_get wanted (length cs))) (λ l. transfer_in ns l title raws >>= λ t. transfer_put wanted cs t) new e in
+    let t = bind_ok (transfer_in ns l.0 title raws) (λ t. transfer_put wanted cs t) new l.2 in
+    let b = transfer_in_spelled ns l.0 title raws t.0 t.1 in
+    let g = transfer_put_spelled ns wanted cs t.0 new (more_at wanted (length cs) l.0 l.1) t.2 in
+    record { lines = g.0 ∙ ap (λ (x : Lines). all_lines ns cs ++ x) (line t.0.parts (rule_name t.0.rule) title (map (name_of_object ns) t.0.args) raws b.parts b.rule b.args); first = g.1; fits = g.2 }
+  where
+    line : (ps : List Part) (rule title : List ℕ) (names raws : List (List ℕ)) → ps ≡ [] → rule ≡ title → names ≡ raws
+        → (codes "|" ∷ codes "transfer" ∷ rule ∷ names) ∷ flat_map (part_lines ns) ps ≡ (codes "|" ∷ codes "transfer" ∷ title ∷ raws) ∷ []
+    line ps rule title names raws p q r = rw (p, q, r) refl
+transfer_begun_spelled ns (due.Literals wanted cs (Some t)) new title raws f e = absurd cc
+transfer_begun_spelled ns due.Nothing new title raws f e = absurd cc
+transfer_begun_spelled ns (due.Contradiction a) new title raws f e = absurd cc
+
+-- ---- what is owed behind a line
+
+-- what is owed where no sums are open
+record Ended (o e : Owed) : Type 0 where
+  names : e.names ≡ o.names
+  sums : e.sums ≡ None
+  lines : due_lines o.names e.due ≡ owed_lines o
+  first : due_at_first e.due ≡ due_at_first o.due
+  fits : FitsDue e.due
+
+abbrev owed : Names → Due → Option OpenSums → Owed
+owed ns d s = record { names = ns; due = d; sums = s }
+
+ended_spelled : (ns : Names) (d : Due) (s : Option OpenSums) (e : Owed) → FitsDue d → ended (owed ns d s) s ≡ Ok e → Ended (owed ns d s) e
+ended_spelled ns d None e f h =
+    subst (λ (x : Owed). Ended (owed ns d None) x) (ok_is (owed ns d None) e h) (record { names = refl; sums = refl; lines = sym (append-nil (due_lines ns d)); first = refl; fits = f })
+ended_spelled ns d (Some s) e f h =
+    let all = bind_ok (sums_ended s) (λ all. metric_put d (metric all) >>= λ x. read_ok (owed ns x None)) e h in
+    let x = bind_ok (metric_put d (metric all.0)) (λ x. read_ok (owed ns x None)) e all.2 in
+    let g = metric_put_spelled ns d x.0 (metric all.0) f x.1 in
+    subst (λ (y : Owed). Ended (owed ns d (Some s)) y) (ok_is (owed ns x.0 None) e x.2)
+    (record { names = refl; sums = refl; lines = g.lines ∙ ap (λ (l : Lines). due_lines ns d ++ l) (sym (sums_ended_spelled ns s all.0 all.1)); first = g.first; fits = g.fits })
+
+-- a line of a certificate is one more line of what is owed
+pub record Marked (o new : Owed) (m : Mark) : Type 0 where
+  pub names : new.names ≡ o.names
+  pub lines : owed_text new ≡ owed_text o ++ mark_line m ∷ []
+  pub first : due_at_first new.due ≡ due_at_first o.due
+  pub fits : FitsDue new.due
+
+-- the words of one more line
+one_more : (o new : Owed) (m : Mark) → new.names ≡ o.names → due_at_first new.due ≡ due_at_first o.due → FitsDue new.due → owed_lines new ≡ owed_lines o ++ (codes "|" ∷ mark_words m) ∷ [] → Marked o new m
+one_more o new m n f g e = record { names = n; lines = ap (map joined) e ∙ map-append joined (owed_lines o) ((codes "|" ∷ mark_words m) ∷ []); first = f; fits = g }
+
+-- behind the end of the sums what is due grows
+due_marked : (o e : Owed) (d : Due) (m : Mark) → Ended o e → Grows e.names e.due d ((codes "|" ∷ mark_words m) ∷ []) → Marked o (due_behind e d) m
+due_marked o e d m h g =
+    one_more o (due_behind e d) m h.names (g.first ∙ h.first) g.fits
+    (ap (λ (s : Option OpenSums). due_lines e.names d ++ open_lines e.names s) h.sums ∙ append-nil (due_lines e.names d) ∙ g.lines
+    ∙ ap (λ (l : Lines). l ++ (codes "|" ∷ mark_words m) ∷ []) (ap (λ (ns : Names). due_lines ns e.due) h.names ∙ h.lines))
+
+-- or sums go on
+sums_marked : (o : Owed) (s : OpenSums) (m : Mark) → FitsDue o.due → open_lines o.names (Some s) ≡ open_lines o.names o.sums ++ (codes "|" ∷ mark_words m) ∷ [] → Marked o (sums_behind o s) m
+sums_marked o s m f e =
+    one_more o (sums_behind o s) m refl refl f
+    (ap (λ (l : Lines). due_lines o.names o.due ++ l) e ∙ sym (append_assoc (due_lines o.names o.due) (open_lines o.names o.sums) ((codes "|" ∷ mark_words m) ∷ [])))
+
+abbrev line_of_row : ℤ → List (List ℕ) → List (List ℕ)
+line_of_row m words = codes "|" ∷ signed_decimal m ∷ words
+
+pub marked_spelled : (o new : Owed) (m : Mark) → FitsDue o.due → CanonicalMark m → marked o m ≡ Ok new → Marked o new m
+unfolding marked
+marked_spelled o new marks.Fact f c h =
+    let e = bind_ok (ended o o.sums) (λ e. part_put e.due parts.Fact >>= λ d. read_ok (due_behind e d)) new h in
+    let d = bind_ok (part_put e.0.due parts.Fact) (λ d. read_ok (due_behind e.0 d)) new e.2 in
+    let end = ended_spelled o.names o.due o.sums e.0 f e.1 in
+    subst (λ (x : Owed). Marked o x marks.Fact) (ok_is (due_behind e.0 d.0) new d.2) (due_marked o e.0 d.0 marks.Fact end (part_put_spelled e.0.names e.0.due d.0 parts.Fact end.fits d.1))
+marked_spelled o new marks.Metric f c h =
+    let e = bind_ok (ended o o.sums) (λ e. cond (takes_metric e.due) (read_ok (sums_behind e sums.Begun)) (Err Malformed)) new h in
+    let t = tested (takes_metric e.0.due) (read_ok (sums_behind e.0 sums.Begun)) new e.2 in
+    let end = ended_spelled o.names o.due o.sums e.0 f e.1 in
+    subst (λ (x : Owed). Marked o x marks.Metric) (ok_is (sums_behind e.0 sums.Begun) new t.1)
+    (one_more o (sums_behind e.0 sums.Begun) marks.Metric end.names end.first end.fits
+    (ap (λ (l : Lines). l ++ metric_head ∷ []) (ap (λ (ns : Names). due_lines ns e.0.due) end.names ∙ end.lines)))
+marked_spelled o new (marks.Transfer title raws) f c h =
+    let e = bind_ok (ended o o.sums) (λ e. transfer_begun e.names e.due title raws >>= λ d. read_ok (due_behind e d)) new h in
+    let d = bind_ok (transfer_begun e.0.names e.0.due title raws) (λ d. read_ok (due_behind e.0 d)) new e.2 in
+    let end = ended_spelled o.names o.due o.sums e.0 f e.1 in
+    subst (λ (x : Owed). Marked o x (marks.Transfer title raws)) (ok_is (due_behind e.0 d.0) new d.2)
+    (due_marked o e.0 d.0 (marks.Transfer title raws) end (transfer_begun_spelled e.0.names e.0.due d.0 title raws end.fits d.1))
+marked_spelled o new (marks.Clash raw) f c h =
+    let e = bind_ok (ended o o.sums) (λ e. lit_in e.names raw >>= λ l. clash_put e.due l >>= λ d. read_ok (due_behind e d)) new h in
+    let l = bind_ok (lit_in e.0.names raw) (λ l. clash_put e.0.due l >>= λ d. read_ok (due_behind e.0 d)) new e.2 in
+    let d = bind_ok (clash_put e.0.due l.0) (λ d. read_ok (due_behind e.0 d)) new l.2 in
+    let end = ended_spelled o.names o.due o.sums e.0 f e.1 in
+    let named = lit_named e.0.names e.0.names raw l.0 (keeps_all e.0.names) c l.1 in
+    subst (λ (x : Owed). Marked o x (marks.Clash raw)) (ok_is (due_behind e.0 d.0) new d.2)
+    (due_marked o e.0 d.0 (marks.Clash raw) end
+    (subst (λ (x : RawLit). Grows e.0.names e.0.due d.0 ((codes "|" ∷ codes "clash" ∷ lit_words x) ∷ [])) named (clash_put_spelled e.0.names e.0.due d.0 l.0 d.1)))
+marked_spelled o new marks.Sum f c h =
+    let s = bind_ok (sum_begun o.sums) (λ s. read_ok (sums_behind o s)) new h in
+    subst (λ (x : Owed). Marked o x marks.Sum) (ok_is (sums_behind o s.0) new s.2) (sums_marked o s.0 marks.Sum f (sum_begun_spelled o.names o.sums s.0 s.1))
+marked_spelled o new (marks.Differs raw) f c h =
+    let r = bind_ok (row_in o.names raw) (λ r. differs_put o.sums r >>= λ s. read_ok (sums_behind o s)) new h in
+    let s = bind_ok (differs_put o.sums r.0) (λ s. read_ok (sums_behind o s)) new r.2 in
+    subst (λ (x : Owed). Marked o x (marks.Differs raw)) (ok_is (sums_behind o s.0) new s.2)
+    (sums_marked o s.0 (marks.Differs raw) f
+    (differs_put_spelled o.names o.sums r.0 s.0 s.1 ∙ ap (λ (w : List (List ℕ)). open_lines o.names o.sums ++ (codes "|" ∷ codes "differs" ∷ w) ∷ []) (row_spelled o.names raw r.0 c r.1)))
+marked_spelled o new (marks.Row m raw) f c h =
+    let r = bind_ok (row_in o.names raw) (λ r. row_put o.sums m r >>= λ s. read_ok (sums_behind o s)) new h in
+    let s = bind_ok (row_put o.sums m r.0) (λ s. read_ok (sums_behind o s)) new r.2 in
+    subst (λ (x : Owed). Marked o x (marks.Row m raw)) (ok_is (sums_behind o s.0) new s.2)
+    (sums_marked o s.0 (marks.Row m raw) f
+    (row_put_spelled o.names o.sums m r.0 s.0 s.1 ∙ ap (λ (w : List (List ℕ)). open_lines o.names o.sums ++ line_of_row m w ∷ []) (row_spelled o.names raw r.0 c r.1)))
+
+-- ---- where nothing is owed any more
+
+-- what is kept is what the lines spell
+pub record Settled (o : Owed) (k : Option Kept) : Type 0 where
+  pub lines : owed_text o ≡ kept_text o.names k
+  pub answers : Answers (due_at_first o.due) k
+
+kept_spelled : (ns : Names) (d : Due) (k : Option Kept) → FitsDue d → kept_of d ≡ Ok k → (map joined (due_lines ns d) ≡ kept_text ns k) × Answers (due_at_first d) k
+kept_spelled ns due.Nothing k f h = subst (λ (x : Option Kept). ([] ≡ kept_text ns x) × Answers due.Nothing x) (ok_is None k h) (refl, tt)
+kept_spelled ns (due.Literals wanted cs None) k f h =
+    let t = opened (has_more wanted cs) (read_ok (Some (kept.Certs cs))) k h in
+    subst (λ (x : Option Kept). (map joined (all_lines ns cs) ≡ kept_text ns x) × Answers (due.Literals wanted [] None) x) (ok_is (Some (kept.Certs cs)) k t) (refl, f)
+  where
+    opened : (b : Bool) (x : Result (Option Kept) Kind) (y : Option Kept) → cond b (Err Malformed) x ≡ Ok y → x ≡ Ok y
+    opened true x y e = absurd cc
+    opened false x y e = e
+kept_spelled ns (due.Literals wanted cs (Some t)) k f h = absurd cc
+kept_spelled ns (due.Contradiction None) k f h = absurd cc
+kept_spelled ns (due.Contradiction (Some a)) k f h =
+    subst (λ (x : Option Kept). (map joined (against_lines ns a) ≡ kept_text ns x) × Answers (due.Contradiction None) x) (ok_is (Some (kept.Against a)) k h) (refl, tt)
+
+pub settled_spelled : (o : Owed) (k : Option Kept) → FitsDue o.due → settled o ≡ Ok k → Settled o k
+unfolding settled
+settled_spelled o k f h =
+    let e = bind_ok (ended o o.sums) (λ e. kept_of e.due) k h in
+    let end = ended_spelled o.names o.due o.sums e.0 f e.1 in
+    let s = kept_spelled o.names e.0.due k end.fits e.2 in
+    record { lines = ap (map joined) (sym end.lines) ∙ s.0; answers = subst (λ (d : Due). Answers d k) end.first s.1 }
