@@ -118,12 +118,15 @@ abbrev pub names_first : Draft → Names
 names_first d = declared_names (stated (statement_of_draft d)) d.names
 
 -- at the place of else its line belongs to what is said
+abbrev BodyAt : List Headed → Place → Names → List Outer → List PlainStep → Names → CloseLine → List Kept → List (List ℕ) → Type 0
+BodyAt known Proving first os steps ns close ks ls = BlocksSaid known first os steps ks ns ls
+BodyAt known Splitting first os steps ns close ks ls = BlocksSaid known first os steps ks ns (ls ++ line_of else_form ∷ [])
+BodyAt known Closed first os steps ns close ks ls = ScriptSaid known first (all_before steps (script_of_close close)) ks ls
+BodyAt known Done first os steps ns close ks ls = (ms : List (List ℕ)) × ScriptSaid known first (all_before steps (script_of_close close)) ks ms × (ls ≡ ms ++ line_of end_form ∷ [])
+BodyAt known p first os steps ns close ks ls = ⊥
+
 abbrev pub BodySaid : List Headed → Place → Draft → List Kept → List (List ℕ) → Type 0
-BodySaid known Proving d ks ls = BlocksSaid known (names_first d) d.outers d.steps ks d.in_scope ls
-BodySaid known Splitting d ks ls = BlocksSaid known (names_first d) d.outers d.steps ks d.in_scope (ls ++ line_of else_form ∷ [])
-BodySaid known Closed d ks ls = ScriptSaid known (names_first d) (all_before d.steps (script_of_close d.close)) ks ls
-BodySaid known Done d ks ls = (ms : List (List ℕ)) × ScriptSaid known (names_first d) (all_before d.steps (script_of_close d.close)) ks ms × (ls ≡ ms ++ line_of end_form ∷ [])
-BodySaid known p d ks ls = ⊥
+BodySaid known p d ks ls = BodyAt known p (names_first d) d.outers d.steps d.in_scope d.close ks ls
 
 -- the title, the names and the statement
 abbrev pub head_of : Draft → Entry
