@@ -1,5 +1,5 @@
 -- The blocks of a proof that are open, and the lines that came of them.
-use Rattle.std.proofs.Common.{◌≡◌, ℕ, ◌+◌, true, List, [], ◌∷◌, ◌++◌, length, Option, Some, None, Result, Ok, Err, refl, sym, ap, subst, ◌∙◌, append_assoc}
+use Rattle.std.proofs.Common.{◌≡◌, ℕ, ◌+◌, true, false, List, [], ◌∷◌, ◌++◌, length, Option, Some, None, Result, Ok, Err, refl, sym, ap, subst, ◌∙◌, append_assoc}
 use Rattle.std.proofs.lemmas.List.{append-nil}
 use Rattle.e_literal.specs.declared.literal.Lit.{Lit}
 use Rattle.e_construct.specs.declared.superpose.Superpose.{Superpose}
@@ -24,6 +24,7 @@ use Rattle.e_book.specs.Reading.{◌>>=◌}
 use Rattle.e_book.specs.Limits.{within, most_steps, most_facts, monomials}
 use Rattle.e_book.specs.Headed.{Headed}
 use Rattle.e_book.specs.Entry.{Entry, statement_of_draft, script_of_close}
+use Rattle.e_book.specs.Book.{is_last}
 use Rattle.e_book.specs.Steps.{terms_after, counted_from, resumed, closed_inside, closed, shut}
 use Rattle.e_book.specs.Canonical.{line_of, claim_form, superpose_form, cases_form, else_form, end_form}
 use Rattle.e_book.proofs.InScope.{bind_ok, ok_is, read_ok}
@@ -132,10 +133,11 @@ BodySaid known p d ks ls = BodyAt known p (names_first d) d.outers d.steps d.in_
 abbrev pub head_of : Draft → Entry
 head_of d = record { title = d.title; names = d.names; statement = statement_of_draft d; script = Contradiction None }
 
--- what a line of the proof leaves: the head as it was, and a body
+-- what a line of the proof leaves: the head as it was, and a body; it is not the last line
 pub record Goes (known : List Headed) (d e : Draft) (ks : List Kept) (ls : List (List ℕ)) : Type 0 where
   pub head : head_of e ≡ head_of d
   pub body : BodySaid known e.place e ks ls
+  pub unfinished : is_last e.place ≡ false
 
 -- ---- blocks are closed
 
@@ -185,7 +187,7 @@ resumes known d e o os shown s ks ls p b h =
     let n = bind_ok (terms_after o.terms shown) (λ n. read_ok (counted d (o.facts + length shown) n)) x.0 few.2 in
     let is : resumed_at (counted d (o.facts + length shown) n.0) o os s ≡ e = ap (λ (y : Draft). resumed_at y o os s) (ok_is (counted d (o.facts + length shown) n.0) x.0 n.2) ∙ ok_is (resumed_at x.0 o os s) e x.2 in
     subst (λ (y : Draft). Goes known d y ks ls) is
-    (record { head = refl; body = subst (λ (q : Place). BodySaid known q (resumed_at (counted d (o.facts + length shown) n.0) o os s) ks ls) (sym p) b })
+    (record { head = refl; body = subst (λ (q : Place). BodySaid known q (resumed_at (counted d (o.facts + length shown) n.0) o os s) ks ls) (sym p) b; unfinished = ap is_last p })
 
 -- behind the first block of a split
 abbrev at_second : Draft → Outer → List Outer → Lit → Script → Draft
@@ -208,7 +210,7 @@ inside_ends known d e o os inner (opened.First lit) again ka ko ki start la lo l
     let else_line = line_of else_form ∷ [] in
     let blocks = blocks_open known (names_first d) os o' ka (ko ++ ki) o.in_scope la ((lo ++ li) ++ else_line) a (first_ends known o.in_scope start lit inner ko ki lo li b s) in
     subst (λ (y : Draft). Goes known d y (ka ++ (ko ++ ki)) (la ++ (lo ++ li))) (ok_is (at_second d o os lit inner) e h)
-    (record { head = refl; body = blocks_as known (names_first d) (o' ∷ os) [] (ka ++ (ko ++ ki)) (ka ++ (ko ++ ki)) o.in_scope (la ++ ((lo ++ li) ++ else_line)) ((la ++ (lo ++ li)) ++ else_line) refl (sym (append_assoc la (lo ++ li) else_line)) blocks })
+    (record { head = refl; body = blocks_as known (names_first d) (o' ∷ os) [] (ka ++ (ko ++ ki)) (ka ++ (ko ++ ki)) o.in_scope (la ++ ((lo ++ li) ++ else_line)) ((la ++ (lo ++ li)) ++ else_line) refl (sym (append_assoc la (lo ++ li) else_line)) blocks; unfinished = refl })
 inside_ends known d e o os inner (opened.Second lit first) again ka ko ki start la lo li p a b s more h =
     more (closes.Cases lit first inner) (second_ends known o.in_scope start lit first inner ko ki lo li b s) h
 
@@ -221,7 +223,7 @@ closed_goes : (known : List Headed) (d e : Draft) (os : List Outer) (ss : List P
 unfolding closed
 closed_goes known d e [] ss close ks kc ns ls lc p a s h =
     subst (λ (y : Draft). Goes known d y (ks ++ kc) (ls ++ lc)) (ok_is (shut_last d ss close) e h)
-    (record { head = refl; body = steps_closed known (names_first d) ns ss (script_of_close close) ks kc ls lc a s })
+    (record { head = refl; body = steps_closed known (names_first d) ns ss (script_of_close close) ks kc ls lc a s; unfinished = refl })
 closed_goes known d e (o ∷ os) ss close ks kc ns ls lc p a s h =
     let inner = steps_closed known a.start ns ss (script_of_close close) a.kept_inside kc a.lines_inside lc a.inside s in
     let goes = inside_ends known d e o os (all_before ss (script_of_close close)) o.opened (λ c. closed d os o.steps c) a.kept_around a.kept_opening (a.kept_inside ++ kc) a.start a.lines_around a.lines_opening (a.lines_inside ++ lc) p a.around a.opening inner
@@ -238,4 +240,4 @@ shut_goes known d e close ks kc ls lc p a s h =
     let x : Draft = record d { lines = d.lines + 1 } in
     let w = bind_ok (within (d.lines + 1) most_steps limits.Steps) (λ few. closed x d.outers d.steps close) e h in
     let g = closed_goes known x e d.outers d.steps close ks kc d.in_scope ls lc p a s w.2 in
-    record { head = g.head; body = g.body }
+    record { head = g.head; body = g.body; unfinished = g.unfinished }

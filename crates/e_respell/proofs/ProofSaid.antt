@@ -40,6 +40,7 @@ use Rattle.e_book.specs.Blocks.{made_in}
 use Rattle.e_book.specs.Scope.{scope_of_names, lit_in, lits_in, by_in, let_in, qed_in}
 use Rattle.e_book.specs.Superposes.{superpose_in}
 use Rattle.e_book.specs.Applies.{count_blanks, apply_in}
+use Rattle.e_book.specs.Book.{is_last}
 use Rattle.e_book.specs.Steps.{few_objects, with_step, few_monos, terms_behind, terms_after, with_terms, built, used_by, applied, outer_of, interrupted, deeper, claimed, superposed, split, shut, cited, inferred, concluded, stepped}
 use Rattle.e_book.specs.Canonical.{line_of, by_form, hence_form, let_form, apply_form, claim_form, superpose_form, cases_form, else_form, end_form, qed_form, contradiction_form}
 use Rattle.e_book.proofs.InScope.{bind_ok, ok_is, read_ok}
@@ -91,7 +92,7 @@ owing_against known d e f ks ls g (Some (kept.Against x)) a =
 
 -- the proof goes on at its place
 goes_on : (known : List Headed) (d x : Draft) (ks : List Kept) (ls : List (List ℕ)) → head_of x ≡ head_of d → x.place ≡ Proving → BlocksSaid known (names_first x) x.outers x.steps ks x.in_scope ls → Goes known d x ks ls
-goes_on known d x ks ls h p b = record { head = h; body = subst (λ (q : Place). BodySaid known q x ks ls) (sym p) b }
+goes_on known d x ks ls h p b = record { head = h; body = subst (λ (q : Place). BodySaid known q x ks ls) (sym p) b; unfinished = ap is_last p }
 
 -- ---- counts say nothing
 
@@ -110,7 +111,7 @@ abbrev with_count : Draft → ℕ → Draft
 with_count x n = record x { terms = n }
 
 counts_go : (known : List Headed) (d x e : Draft) (n : ℕ) (ks : List Kept) (ls : List (List ℕ)) → Goes known d x ks ls → with_count x n ≡ e → Goes known d e ks ls
-counts_go known d x e n ks ls g is = subst (λ (y : Draft). Goes known d y ks ls) is (record { head = g.head; body = g.body })
+counts_go known d x e n ks ls g is = subst (λ (y : Draft). Goes known d y ks ls) is (record { head = g.head; body = g.body; unfinished = g.unfinished })
 
 terms_go : (known : List Headed) (d x e : Draft) (raws : List RawLit) (ks : List Kept) (ls : List (List ℕ)) → Goes known d x ks ls → with_terms x raws ≡ Ok e → Goes known d e ks ls
 unfolding with_terms
@@ -303,7 +304,7 @@ pub takes_else : (known : List Headed) (d e : Draft) (owes : Due) (ks : List Kep
 unfolding stepped due_of
 takes_else known d e owes ks ls b o h =
     subst (λ (y : Due). Takes known d e forms.Else y ks ls) (ok_is due.Nothing owes o)
-    (owing_nothing known d e forms.Else ks ls (subst (λ (y : Draft). Goes known d y ks (ls ++ line_of forms.Else ∷ [])) (ok_is (at_place d Proving) e h) (record { head = refl; body = b })))
+    (owing_nothing known d e forms.Else ks ls (subst (λ (y : Draft). Goes known d y ks (ls ++ line_of forms.Else ∷ [])) (ok_is (at_place d Proving) e h) (record { head = refl; body = b; unfinished = refl })))
 
 -- ---- closes
 
@@ -328,10 +329,3 @@ takes_contradiction known d e owes ks ls p b o h =
     subst (λ (y : Due). Takes known d e forms.Contradiction y ks ls) (ok_is (due.Contradiction None) owes o)
     (owing_against known d e forms.Contradiction ks ls (λ a.
         shut_goes known d e closes.Contradiction ks (kept.Against a ∷ []) ls (line_of contradiction_form ∷ contradiction_lines d.in_scope (Some a)) p b (contradiction_said known d.in_scope a) h))
-
--- the last line of a theorem
-pub takes_end : (known : List Headed) (d e : Draft) (owes : Due) (ks : List Kept) (ls : List (List ℕ)) → BodySaid known Closed d ks ls → due_of known d forms.End ≡ Ok owes → stepped known d forms.End ≡ Ok e → Takes known d e forms.End owes ks ls
-unfolding stepped due_of
-takes_end known d e owes ks ls b o h =
-    subst (λ (y : Due). Takes known d e forms.End y ks ls) (ok_is due.Nothing owes o)
-    (owing_nothing known d e forms.End ks ls (subst (λ (y : Draft). Goes known d y ks (ls ++ line_of forms.End ∷ [])) (ok_is (at_place d Done) e h) (record { head = refl; body = (ls, b, refl) })))
