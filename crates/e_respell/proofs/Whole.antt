@@ -176,3 +176,139 @@ all_said known d o ks done s l =
     let script : script_lines known (names_of_proof t) (filled (entry_of_draft d).script ks).0 ≡ i.body.0 =
         ap (λ (x : List Kept). script_lines known (names_of_proof t) (filled (entry_of_draft d).script x).0) (sym (append-nil ks) ∙ sym (append-nil (ks ++ []))) ∙ i.body.1.spelled [] in
     so.all ∙ i.lines ∙ ap (λ (l : List (List ℕ)). head ++ l) i.body.2 ∙ ap (λ (l : List (List ℕ)). head ++ (l ++ end)) (sym script)
+
+-- ---- all lines
+
+ends_or : (b : Bool) (x y z : Result Answer ℕ) → cond b x y ≡ z → ((b ≡ true) × (x ≡ z)) ⊎ ((b ≡ false) × (y ≡ z))
+ends_or true x y z e = inl (refl, e)
+ends_or false x y z e = inr (refl, e)
+
+answer_is : (a b : Answer) → let x : Result Answer ℕ = Ok a in x ≡ Ok b → a ≡ b
+answer_is a b e = cc
+
+-- no theorem is the last line
+no_last : (lines rest : List (Result Seen LineFault)) (t : Entry) → let end : Result Answer ℕ = Ok (Last, lines) in end ≡ derives t rest → ⊥
+no_last lines rest t e = not_both (ap (λ (a : Answer). is_theorem a.0) (answer_is _ _ e)) where
+  is_theorem : Piece → Bool
+  is_theorem (Derived u) = true
+  is_theorem Last = false
+
+  not_both : false ≡ true → ⊥
+  not_both h = absurd cc
+
+derived_is : (t u : Entry) (lines rest : List (Result Seen LineFault)) → derives t lines ≡ derives u rest → (t ≡ u) × (lines ≡ rest)
+derived_is t u lines rest e = (ap (λ (a : Answer). entry_in t a.0) (answer_is _ _ e), ap (λ (a : Answer). a.1) (answer_is _ _ e)) where
+  entry_in : Entry → Piece → Entry
+  entry_in t (Derived u) = u
+  entry_in t Last = t
+
+-- how it goes on behind a line that is taken
+goes_on : (t : Option Entry) (lines rest : List (Result Seen LineFault)) (more : Result Answer ℕ) (u : Entry) → or_on t lines more ≡ derives u rest
+    → ((x : Entry) × (t ≡ Some x) × (derives x lines ≡ derives u rest)) ⊎ ((t ≡ None) × (more ≡ derives u rest))
+goes_on None lines rest more u e = inr (refl, e)
+goes_on (Some x) lines rest more u e = inl (x, refl, e)
+
+unfinished : (draft : Option Draft) (kept : List Kept) (x : Entry) → is_finished draft ≡ false → finished draft kept ≡ Some x → ⊥
+unfinished None kept x h e = absurd cc
+unfinished (Some d) kept x h e = none_is (derived d kept) x (ap (λ (b : Bool). cond b (Some (derived d kept)) None) (sym h) ∙ e)
+  where
+    none_is : (y x : Entry) → cond false (Some y) None ≡ Some x → ⊥
+    none_is y x e = absurd cc
+
+still : (draft : Option Draft) (kept : List Kept) → finished draft kept ≡ None → is_finished draft ≡ false
+still None kept e = refl
+still (Some d) kept e = open_still (is_done d) (derived d kept) e
+  where
+    open_still : (b : Bool) (x : Entry) → let none : Option Entry = None in cond b (Some x) None ≡ none → b ≡ false
+    open_still true x h = absurd cc
+    open_still false x h = refl
+
+closed_is : (d : Draft) (kept : List Kept) (x : Entry) → finished (Some d) kept ≡ Some x → (is_done d ≡ true) × (derived d kept ≡ x)
+closed_is d kept x e = by_test (is_done d) (derived d kept) e
+  where
+    by_test : (b : Bool) (y : Entry) → cond b (Some y) None ≡ Some x → (b ≡ true) × (y ≡ x)
+    by_test true y h = (refl, cc)
+    by_test false y h = absurd cc
+
+-- the lines that are still taken, with those before them, are the spelling
+record Rest (known : List Headed) (done : List (List ℕ)) (t : Entry) (lines rest : List (Result Seen LineFault)) : Type 0 where
+  texts : List (List ℕ)
+  shows : ShowsLf lines texts rest
+  all : done ++ texts ≡ spelled_lines known t t.script
+
+-- a line that is taken ends with a line feed
+ends_with_lf : (known : List Headed) (r next : Reading) (l : Seen) → taken known r l ≡ Ok next → l.end ≡ ends.Lf
+unfolding taken
+ends_with_lf known r next l e = is_lf l.end (passed (is_lf_end l.end) (worded known r l.bytes (tokens_of l.bytes)) next e).0
+  where
+    is_lf : (x : LineEnd) → is_lf_end x ≡ true → x ≡ ends.Lf
+    is_lf ends.Lf h = refl
+    is_lf x h = absurd cc
+
+-- one line more
+one_more : (known : List Headed) (done : List (List ℕ)) (t : Entry) (l : Seen) (lines rest : List (Result Seen LineFault)) → l.end ≡ ends.Lf → Rest known (done ++ l.bytes ∷ []) t lines rest → Rest known done t (Ok l ∷ lines) rest
+one_more known done t l lines rest end r =
+    record { texts = l.bytes ∷ r.texts; shows = (refl, end, r.shows); all = sym (append_assoc done (l.bytes ∷ []) r.texts) ∙ r.all }
+
+-- how reading goes on behind a line
+abbrev After : List Headed → ℕ → Reading → List (Result Seen LineFault) → List (Result Seen LineFault) → Entry → Type 0
+After known last next lines rest t =
+    ((x : Entry) × (finished next.draft next.kept ≡ Some x) × (derives x lines ≡ derives t rest)) ⊎ ((finished next.draft next.kept ≡ None) × (piece_from known last next lines ≡ derives t rest))
+
+-- behind a line of a certificate
+certificate_rest : (known : List Headed) (last : ℕ) (r next : Reading) (lines rest : List (Result Seen LineFault)) (t : Entry) (done : List (List ℕ)) → is_finished r.draft ≡ false → next.draft ≡ r.draft → After known last next lines rest t
+    → (is_finished next.draft ≡ false → piece_from known last next lines ≡ derives t rest → Rest known done t lines rest) → Rest known done t lines rest
+certificate_rest known last r next lines rest t done unended same goes more =
+    let unended_still : is_finished next.draft ≡ false = ap is_finished same ∙ unended in
+    elim goes [
+      | inl q ↦ absurd (unfinished next.draft next.kept q.0 unended_still q.1)
+      | inr q ↦ more unended_still q.1
+    ]
+
+-- behind any other line
+step_rest : (known : List Headed) (last : ℕ) (next : Reading) (d : Draft) (o : Owed) (lines rest : List (Result Seen LineFault)) (t : Entry) (done : List (List ℕ)) → next.draft ≡ Some d → StepSaid known d o next.kept done → After known last next lines rest t
+    → (is_finished next.draft ≡ false → piece_from known last next lines ≡ derives t rest → Rest known done t lines rest) → Rest known done t lines rest
+step_rest known last next d o lines rest t done draft_is s goes more =
+    elim goes [
+      | inl q ↦
+          let c = closed_is d next.kept q.0 (sym (ap (λ (x : Option Draft). finished x next.kept) draft_is) ∙ q.1) in
+          let p = derived_is q.0 t lines rest q.2 in
+          let is : derived d next.kept ≡ t = c.1 ∙ p.0 in
+          record { texts = []; shows = p.1; all = append-nil done ∙ all_said known d o next.kept done s c.0 ∙ ap (λ (x : Entry). spelled_lines known x x.script) is }
+      | inr q ↦ more (still next.draft next.kept q.0) q.1
+    ]
+
+whole : (known : List Headed) (last : ℕ) (r : Reading) (lines rest : List (Result Seen LineFault)) (t : Entry) (done : List (List ℕ)) → SaidSoFar known r.draft r.owed r.kept done → is_finished r.draft ≡ false
+    → piece_from known last r lines ≡ derives t rest → Rest known done t lines rest
+whole known last r [] rest t done s unended e = absurd cc
+whole known last r (Err f ∷ lines) rest t done s unended e = absurd cc
+whole known last r (Ok l ∷ lines) rest t done s unended e =
+    let next : Result Reading ℕ = garbled_at l.number (taken known r l) in
+    let then : Reading → Result Answer ℕ = λ x. or_on (finished x.draft x.kept) lines (piece_from known last x lines) in
+    elim (ends_or (is_end known r.draft l) (Ok (Last, lines)) (next >>= then) (derives t rest) e) [
+      | inl p ↦ absurd (no_last lines rest t p.1)
+      | inr p ↦
+          let x = bind_ok next then (Derived t, rest) p.1 in
+          let took = garbled_ok l.number (taken known r l) x.0 x.1 in
+          let goes = goes_on (finished x.0.draft x.0.kept) lines rest (piece_from known last x.0 lines) t x.2 in
+          let now = done ++ l.bytes ∷ [] in
+          one_more known done t l lines rest (ends_with_lf known r x.0 l took)
+          (elim (line_taken known r x.0 l took) [
+            | inl c ↦
+                let so = certified_said known r x.0 l.bytes c.0 done s c.2 in
+                certificate_rest known last r x.0 lines rest t now unended c.2.draft goes (λ n h. whole known last x.0 lines rest t now so n h)
+            | inr c ↦
+                let st = stepped_said known r x.0 l.bytes done s c.1 in
+                let kept_is : r.kept ++ option_to_list c.1.read ≡ x.0.kept = sym (ap (λ (y : Reading). y.kept) c.1.next_is) in
+                let owed_is : c.1.owed ≡ x.0.owed = sym (ap (λ (y : Reading). y.owed) c.1.next_is) in
+                let draft_is : x.0.draft ≡ Some c.1.draft = ap (λ (y : Reading). y.draft) c.1.next_is in
+                let here = subst (λ (ks : List Kept). StepSaid known c.1.draft c.1.owed ks now) kept_is st in
+                let so = subst (λ (y : Option Draft). SaidSoFar known y x.0.owed x.0.kept now) (sym draft_is) (subst (λ (y : Owed). SaidSoFar known (Some c.1.draft) y x.0.kept now) owed_is here.so_far) in
+                step_rest known last x.0 c.1.draft c.1.owed lines rest t now draft_is here goes (λ n h. whole known last x.0 lines rest t now so n h)
+          ])
+    ]
+
+pub read_is_spelled_so : (known : List Headed) (last : ℕ) (t : Entry) (lines rest : List (Result Seen LineFault)) → piece_from known last at_start lines ≡ derives t rest → ShowsLf lines (spelled_lines known t t.script) rest
+read_is_spelled_so known last t lines rest e =
+    let r = whole known last at_start lines rest t [] (start_said known) refl e in
+    subst (λ (texts : List (List ℕ)). ShowsLf lines texts rest) r.all r.shows

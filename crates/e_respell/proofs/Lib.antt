@@ -1,0 +1,17 @@
+pub mod NamesSpelled
+pub mod LitsRead
+pub mod LitsSpelled
+pub mod LinePieces
+pub mod FormsRead
+pub mod RulesSpelled
+pub mod FormsSpelled
+pub mod MarksRead
+pub mod OwedSpelled
+pub mod Groups
+pub mod HeadSaid
+pub mod ScriptsSaid
+pub mod BlocksSaid
+pub mod ProofSaid
+pub mod HeadTaken
+pub mod LinesSaid
+pub mod Whole
