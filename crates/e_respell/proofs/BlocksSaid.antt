@@ -1,5 +1,5 @@
 -- The blocks of a proof that are open, and the lines that came of them.
-use Rattle.std.proofs.Common.{◌≡◌, ℕ, ◌+◌, true, false, List, [], ◌∷◌, ◌++◌, length, Option, Some, None, Result, Ok, Err, refl, sym, ap, subst, ◌∙◌, append_assoc}
+use Rattle.std.proofs.Common.{◌≡◌, ℕ, ◌+◌, false, List, [], ◌∷◌, ◌++◌, length, None, Result, Ok, refl, sym, ap, subst, ◌∙◌, append_assoc}
 use Rattle.std.proofs.lemmas.List.{append-nil}
 use Rattle.e_literal.specs.declared.literal.Lit.{Lit}
 use Rattle.e_construct.specs.declared.superpose.Superpose.{Superpose}
@@ -227,7 +227,7 @@ closed_goes known d e [] ss close ks kc ns ls lc p a s h =
 closed_goes known d e (o ∷ os) ss close ks kc ns ls lc p a s h =
     let inner = steps_closed known a.start ns ss (script_of_close close) a.kept_inside kc a.lines_inside lc a.inside s in
     let goes = inside_ends known d e o os (all_before ss (script_of_close close)) o.opened (λ c. closed d os o.steps c) a.kept_around a.kept_opening (a.kept_inside ++ kc) a.start a.lines_around a.lines_opening (a.lines_inside ++ lc) p a.around a.opening inner
-        (λ c sc hc. closed_goes known d e os o.steps c a.kept_around (a.kept_opening ++ (a.kept_inside ++ kc)) o.in_scope a.lines_around (a.lines_opening ++ (a.lines_inside ++ lc)) p a.around sc hc) h in
+    (λ c sc hc. closed_goes known d e os o.steps c a.kept_around (a.kept_opening ++ (a.kept_inside ++ kc)) o.in_scope a.lines_around (a.lines_opening ++ (a.lines_inside ++ lc)) p a.around sc hc) h in
     let kept : a.kept_around ++ (a.kept_opening ++ (a.kept_inside ++ kc)) ≡ ks ++ kc = sym (ap (λ (k : List Kept). k ++ kc) a.kept ∙ three a.kept_around a.kept_opening a.kept_inside kc) in
     let lines : a.lines_around ++ (a.lines_opening ++ (a.lines_inside ++ lc)) ≡ ls ++ lc = sym (ap (λ (l : List (List ℕ)). l ++ lc) a.lines ∙ three a.lines_around a.lines_opening a.lines_inside lc) in
     subst (λ (l : List (List ℕ)). Goes known d e (ks ++ kc) l) lines (subst (λ (k : List Kept). Goes known d e k (a.lines_around ++ (a.lines_opening ++ (a.lines_inside ++ lc)))) kept goes)

@@ -1,7 +1,6 @@
 -- A line of a proof that is read is spelled with the names that it was read with.
 use Rattle.std.proofs.Common.{◌≡◌, ℕ, ◌+◌, Bool, true, false, cond, eqb, List, [], ◌∷◌, ◌++◌, length, map, Option, Some, None, Result, Ok, Err, refl, sym, ap, subst, ◌∙◌, arith, append_assoc}
-use Rattle.std.specs.Prelude.{is_some}
-use Rattle.std.specs.List.{list_all, list_any, AllByRecursion}
+use Rattle.std.specs.List.{list_any}
 use Rattle.std.proofs.lemmas.Bool.{eqb-true}
 use Rattle.std.proofs.lemmas.List.{map-append}
 use Rattle.e_literal.specs.declared.object.Sort.{Sort}
@@ -9,7 +8,6 @@ use Rattle.e_literal.specs.declared.object.Sort.TheVariants.{Point, Line}
 use Rattle.e_literal.specs.declared.object.Obj.{Obj}
 use Rattle.e_literal.specs.declared.object.Scope.{Scope}
 use Rattle.e_literal.specs.declared.literal.Lit.{Lit}
-use Rattle.e_clause.specs.declared.rule.Sig.{Sig}
 use Rattle.e_clause.specs.declared.cert.By.{By}
 use Rattle.e_clause.specs.Instance.{place_of}
 use Rattle.e_clause.specs.Sigs.{sig_of}
@@ -26,22 +24,19 @@ use Rattle.e_book.specs.declared.literal.RawLit.{RawLit}
 use Rattle.e_book.specs.declared.lets.RawLet.{RawLet}
 use Rattle.e_book.specs.declared.superposes.RawSuperpose.{RawSuperpose}
 use Rattle.e_book.specs.declared.applies.RawApply.{RawApply}
-use Rattle.e_book.specs.declared.form.Form.{Form}
 use Rattle.e_book.specs.declared.form.Form.TheVariants as forms
 use Rattle.e_book.specs.Reading.{◌>>=◌, each}
-use Rattle.e_book.specs.Headed.{Headed, theorem_of, title_at, place_in}
+use Rattle.e_book.specs.Headed.{Headed, theorem_of, place_in}
 use Rattle.e_book.specs.Literals.{is_diagram_raw}
 use Rattle.e_book.specs.Superposes.{superpose, placed_in, superpose_in}
 use Rattle.e_book.specs.Scope.{scope_of_names, used, number_of, fresh, lit_in, lits_in, object_as, known_rule, variables_of, right_count, args_in, by_in, right_sort, arguments_in, construction, first_fitting, let_in, objects_of_sorts, qed_in}
 use Rattle.e_book.specs.Applies.{known_place, entry_in, entries_in, apply_in}
-use Rattle.e_book.specs.Canonical.{name_of_object, line_pieces, filled, avoid_words, line_of, raw_of, placed_names, by_form, hence_form, let_form, argument_name, apply_form, claim_form, superpose_form, cases_form, qed_form}
-use Rattle.e_book.proofs.Building.{superpose_fits}
+use Rattle.e_book.specs.Canonical.{name_of_object, line_pieces, filled, avoid_words, line_of, placed_names, by_form, hence_form, let_form, argument_name, apply_form, claim_form, superpose_form, cases_form, qed_form}
 use Rattle.e_book.proofs.Citations.{counted}
-use Rattle.e_book.proofs.Differ.{both}
 use Rattle.e_book.proofs.InScope.{bind_ok, ok_is, read_ok}
-use Rattle.e_book.proofs.Uses.{use_fits, found_title}
+use Rattle.e_book.proofs.Uses.{found_title}
 use Rattle.e_read.specs.Strict.{is_direct, are_direct}
-use Rattle.e_respell.proofs.NamesSpelled.{Keeps, keeps_all, used_named, number_named, object_named}
+use Rattle.e_respell.proofs.NamesSpelled.{keeps_all, used_named, number_named, object_named}
 use Rattle.e_respell.proofs.LitsRead.{Signed, AllSigned}
 use Rattle.e_respell.proofs.LitsSpelled.{each_back, canonical, diagram_canonical, lit_named, lits_named}
 use Rattle.e_respell.proofs.RulesSpelled.{rule_named, args_named}

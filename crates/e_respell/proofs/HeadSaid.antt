@@ -1,5 +1,5 @@
 -- The head of a theorem is spelled by the lines that were read of it.
-use Rattle.std.proofs.Common.{◌≡◌, ℕ, ◌+◌, ◌<◌, true, false, List, [], ◌∷◌, ◌++◌, length, map, Result, Ok, Err, refl, sym, ap, subst, ◌∙◌, append_assoc}
+use Rattle.std.proofs.Common.{◌≡◌, ℕ, ◌<◌, false, List, [], ◌∷◌, ◌++◌, length, map, refl, sym, ap, ◌∙◌, append_assoc}
 use Rattle.std.specs.Prelude.{replicate}
 use Rattle.std.proofs.lemmas.List.{append-nil, map-append}
 use Rattle.e_literal.specs.declared.object.Sort.{Sort}
@@ -11,9 +11,8 @@ use Rattle.e_deriv.specs.declared.names.Names.{Names}
 use Rattle.e_deriv.specs.Naming.{names_of_sort, with_names}
 use Rattle.e_book.specs.declared.form.Form.{Form}
 use Rattle.e_book.specs.declared.form.Form.TheVariants as forms
-use Rattle.e_book.specs.declared.draft.Draft.{Draft}
 use Rattle.e_book.specs.Scope.{scope_of_names}
-use Rattle.e_book.specs.Canonical.{Group, group, grouped, declare_form, made_form, given_form, show_form}
+use Rattle.e_book.specs.Canonical.{group, grouped, declare_form, made_form, given_form, show_form}
 use Rattle.e_read.specs.Strict.{ends_with}
 use Rattle.e_respell.proofs.NamesSpelled.{Keeps}
 use Rattle.e_respell.proofs.Groups.{grown_append, more_groups, count_is, scope_more, keeps_before, keeps_new}
@@ -88,10 +87,10 @@ declared_said ns title declared given made shown said sort new g m s h lt a =
     let now = with_names ns sort (names_of_sort ns sort ++ new) in
     let scope : scope_of_names ns ≡ grown nothing declared = a.scope ∙ ap (grown (grown nothing declared)) m in
     let line : (more : Names) → Keeps now more → head_parts more title (declared ++ xs) given made shown ≡ said ++ forms.Declare sort new ∷ [] = λ more k.
-        let part : declared_part more (declared ++ xs) ≡ declared_part more declared ++ forms.Declare sort new ∷ [] =
-            ap (map declare_form) (more_groups more nothing declared sort (names_of_sort ns sort) new h lt (count_said ns (grown nothing declared) sort scope) (keeps_new ns more sort new k)) ∙ map-append declare_form (grouped more (next_objects nothing declared)) (group sort new ∷ []) in
-        bare_head more title (declared ++ xs) given made shown g m s ∙ ap (λ (l : List Form). forms.Theorem title ∷ ((l ++ []) ++ [])) part ∙ at_declared (forms.Theorem title) (forms.Declare sort new) (declared_part more declared)
-        ∙ ap (λ (l : List Form). l ++ forms.Declare sort new ∷ []) (sym (bare_head more title declared given made shown g m s) ∙ a.forms more (keeps_before ns more sort new k)) in
+    let part : declared_part more (declared ++ xs) ≡ declared_part more declared ++ forms.Declare sort new ∷ [] =
+    ap (map declare_form) (more_groups more nothing declared sort (names_of_sort ns sort) new h lt (count_said ns (grown nothing declared) sort scope) (keeps_new ns more sort new k)) ∙ map-append declare_form (grouped more (next_objects nothing declared)) (group sort new ∷ []) in
+    bare_head more title (declared ++ xs) given made shown g m s ∙ ap (λ (l : List Form). forms.Theorem title ∷ ((l ++ []) ++ [])) part ∙ at_declared (forms.Theorem title) (forms.Declare sort new) (declared_part more declared)
+    ∙ ap (λ (l : List Form). l ++ forms.Declare sort new ∷ []) (sym (bare_head more title declared given made shown g m s) ∙ a.forms more (keeps_before ns more sort new k)) in
     record {
       scope = scope_more ns sort new ∙ ap (λ (x : Scope). grown x xs) scope ∙ sym (grown_append nothing declared xs) ∙ ap (grown (grown nothing (declared ++ xs))) (sym m);
       forms = line;
@@ -119,11 +118,11 @@ made_said ns title declared given made shown said sort new s h lt a =
     let from = grown nothing declared in
     let now = with_names ns sort (names_of_sort ns sort ++ new) in
     let line : (more : Names) → Keeps now more → head_parts more title declared given (made ++ xs) shown ≡ said ++ forms.Made sort new ∷ [] = λ more k.
-        let front = declared_part more declared ++ given_part more given in
-        let part : made_part more declared (made ++ xs) ≡ made_part more declared made ++ forms.Made sort new ∷ [] =
-            ap (map made_form) (more_groups more from made sort (names_of_sort ns sort) new h lt (count_said ns (grown from made) sort a.scope) (keeps_new ns more sort new k)) ∙ map-append made_form (grouped more (next_objects from made)) (group sort new ∷ []) in
-        none_shown more title declared given (made ++ xs) shown s ∙ ap (λ (l : List Form). forms.Theorem title ∷ (front ++ (l ++ []))) part ∙ at_made (forms.Theorem title) (forms.Made sort new) front (made_part more declared made)
-        ∙ ap (λ (l : List Form). l ++ forms.Made sort new ∷ []) (sym (none_shown more title declared given made shown s) ∙ a.forms more (keeps_before ns more sort new k)) in
+    let front = declared_part more declared ++ given_part more given in
+    let part : made_part more declared (made ++ xs) ≡ made_part more declared made ++ forms.Made sort new ∷ [] =
+    ap (map made_form) (more_groups more from made sort (names_of_sort ns sort) new h lt (count_said ns (grown from made) sort a.scope) (keeps_new ns more sort new k)) ∙ map-append made_form (grouped more (next_objects from made)) (group sort new ∷ []) in
+    none_shown more title declared given (made ++ xs) shown s ∙ ap (λ (l : List Form). forms.Theorem title ∷ (front ++ (l ++ []))) part ∙ at_made (forms.Theorem title) (forms.Made sort new) front (made_part more declared made)
+    ∙ ap (λ (l : List Form). l ++ forms.Made sort new ∷ []) (sym (none_shown more title declared given made shown s) ∙ a.forms more (keeps_before ns more sort new k)) in
     record {
       scope = scope_more ns sort new ∙ ap (λ (x : Scope). grown x xs) a.scope ∙ sym (grown_append from made xs);
       forms = line;

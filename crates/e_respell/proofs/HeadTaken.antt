@@ -1,5 +1,5 @@
 -- Each line of a head adds itself to what was said.
-use Rattle.std.proofs.Common.{◌≡◌, ℕ, ◌+◌, ◌<◌, Bool, true, false, cond, not, eqb, List, [], ◌∷◌, ◌++◌, length, map, Option, Some, None, Result, Ok, Err, refl, sym, ap, subst, ◌∙◌, arith, append_assoc}
+use Rattle.std.proofs.Common.{◌≡◌, ℕ, ◌+◌, ◌<◌, true, not, eqb, List, [], ◌∷◌, ◌++◌, length, map, Ok, refl, sym, ap, subst, ◌∙◌, arith, append_assoc}
 use Rattle.std.specs.Prelude.{replicate}
 use Rattle.std.proofs.lemmas.Bool.{eqb-true, not-true}
 use Rattle.std.proofs.lemmas.List.{append-nil, map-append}
@@ -8,8 +8,6 @@ use Rattle.e_literal.specs.declared.literal.Lit.{Lit}
 use Rattle.e_deriv.specs.declared.names.Names.{Names}
 use Rattle.e_deriv.specs.Naming.{names_of_sort, with_names}
 use Rattle.e_deriv.specs.PlainStep.{PlainStep}
-use Rattle.e_book.specs.declared.fault.Kind.{Kind}
-use Rattle.e_book.specs.declared.fault.Kind.TheVariants.{NameTaken}
 use Rattle.e_book.specs.declared.fault.What.TheVariants as limits
 use Rattle.e_book.specs.declared.literal.RawLit.{RawLit}
 use Rattle.e_book.specs.declared.form.Form.{Form}
@@ -31,7 +29,7 @@ use Rattle.e_book.proofs.InScope.{bind_ok, ok_is, read_ok}
 use Rattle.e_read.specs.declared.kept.Kept.{Kept}
 use Rattle.e_read.specs.Strict.{is_direct, are_direct, ends_with}
 use Rattle.e_respell.proofs.NamesSpelled.{Keeps, keeps_all}
-use Rattle.e_respell.proofs.LitsRead.{Signed, AllSigned}
+use Rattle.e_respell.proofs.LitsRead.{AllSigned}
 use Rattle.e_respell.proofs.LitsSpelled.{canonical, lit_named}
 use Rattle.e_respell.proofs.HeadSaid.{HeadSaid, title_said, declared_said, given_said, made_said, shown_said}
 use Rattle.e_respell.proofs.ScriptsSaid.{no_steps}
@@ -133,14 +131,14 @@ puts_declared known d e sort new ks ls a g lt apart h =
     let x : Draft = declaring d (with_more d.names sort new) sort new in
     let is : x ≡ e = ap (λ (ns : Names). declaring d ns sort new) (names_are d.names sort new n.0 n.1) ∙ ok_is (declaring d n.0 sort new) e n.2 in
     let head : InHead Declaring x ks (ls ++ line_of (forms.Declare sort new) ∷ []) = record {
-        said = i.said ++ forms.Declare sort new ∷ [];
-        head = declared_said d.names d.title d.declared d.given d.made d.shown i.said sort new i.empty.0 i.empty.1 i.empty.2 (not-true (ends_with d.declared sort) apart) lt i.head;
-        lines = one_line i.said (forms.Declare sort new) ls i.lines;
-        kept = i.kept;
-        steps = i.steps;
-        outers = i.outers;
-        empty = i.empty;
-      } in
+      said = i.said ++ forms.Declare sort new ∷ [];
+      head = declared_said d.names d.title d.declared d.given d.made d.shown i.said sort new i.empty.0 i.empty.1 i.empty.2 (not-true (ends_with d.declared sort) apart) lt i.head;
+      lines = one_line i.said (forms.Declare sort new) ls i.lines;
+      kept = i.kept;
+      steps = i.steps;
+      outers = i.outers;
+      empty = i.empty;
+    } in
     subst (λ (y : Draft). Puts known y (forms.Declare sort new) ks ls) is (subst (λ (p : Place). DraftSaid known p x ks (ls ++ line_of (forms.Declare sort new) ∷ [])) (sym at.0) head)
 
 abbrev making : Draft → Names → Sort → List (List ℕ) → Draft
@@ -155,14 +153,14 @@ puts_made known d e sort new ks ls a g lt apart h =
     let x : Draft = making d (with_more d.names sort new) sort new in
     let is : x ≡ e = ap (λ (ns : Names). making d ns sort new) (names_are d.names sort new n.0 n.1) ∙ ok_is (making d n.0 sort new) e n.2 in
     let head : InHead Making x ks (ls ++ line_of (forms.Made sort new) ∷ []) = record {
-        said = i.said ++ forms.Made sort new ∷ [];
-        head = made_said d.names d.title d.declared d.given d.made d.shown i.said sort new i.empty (not-true (ends_with d.made sort) apart) lt i.head;
-        lines = one_line i.said (forms.Made sort new) ls i.lines;
-        kept = i.kept;
-        steps = i.steps;
-        outers = i.outers;
-        empty = i.empty;
-      } in
+      said = i.said ++ forms.Made sort new ∷ [];
+      head = made_said d.names d.title d.declared d.given d.made d.shown i.said sort new i.empty (not-true (ends_with d.made sort) apart) lt i.head;
+      lines = one_line i.said (forms.Made sort new) ls i.lines;
+      kept = i.kept;
+      steps = i.steps;
+      outers = i.outers;
+      empty = i.empty;
+    } in
     subst (λ (y : Draft). Puts known y (forms.Made sort new) ks ls) is head
 
 -- ---- literals
@@ -217,14 +215,14 @@ puts_given known d e raws ks ls a g one dir s h =
     let x : Draft = with_count (giving d (d.given ++ o.lit ∷ []) (length raws)) t.0 in
     let is : x ≡ e = ap (λ (l : List Lit). with_count (giving d l (length raws)) t.0) (sym o.all_are) ∙ t.1 in
     let head : InHead Giving x ks (ls ++ line_of (forms.Given raws) ∷ []) = record {
-        said = i.said ++ forms.Given raws ∷ [];
-        head = given_said d.names d.title d.declared d.given d.made d.shown i.said o.lit (forms.Given raws) i.empty.0 i.empty.1 o.named i.head;
-        lines = one_line i.said (forms.Given raws) ls i.lines;
-        kept = i.kept;
-        steps = i.steps;
-        outers = i.outers;
-        empty = i.empty;
-      } in
+      said = i.said ++ forms.Given raws ∷ [];
+      head = given_said d.names d.title d.declared d.given d.made d.shown i.said o.lit (forms.Given raws) i.empty.0 i.empty.1 o.named i.head;
+      lines = one_line i.said (forms.Given raws) ls i.lines;
+      kept = i.kept;
+      steps = i.steps;
+      outers = i.outers;
+      empty = i.empty;
+    } in
     subst (λ (y : Draft). Puts known y (forms.Given raws) ks ls) is head
 
 abbrev showing : Draft → List Lit → Draft
@@ -241,14 +239,14 @@ puts_shown known d e raws ks ls a g one dir s h =
     let x : Draft = showing d (d.shown ++ o.lit ∷ []) in
     let is : x ≡ e = ap (λ (l : List Lit). showing d l) (sym o.all_are) ∙ ok_is (showing d all.0) e few.2 in
     let head : InHead Showing x ks (ls ++ line_of (forms.Show raws) ∷ []) = record {
-        said = i.said ++ forms.Show raws ∷ [];
-        head = shown_said d.names d.title d.declared d.given d.made d.shown i.said o.lit (forms.Show raws) o.shown i.head;
-        lines = one_line i.said (forms.Show raws) ls i.lines;
-        kept = i.kept;
-        steps = i.steps;
-        outers = i.outers;
-        empty = tt;
-      } in
+      said = i.said ++ forms.Show raws ∷ [];
+      head = shown_said d.names d.title d.declared d.given d.made d.shown i.said o.lit (forms.Show raws) o.shown i.head;
+      lines = one_line i.said (forms.Show raws) ls i.lines;
+      kept = i.kept;
+      steps = i.steps;
+      outers = i.outers;
+      empty = tt;
+    } in
     subst (λ (y : Draft). Puts known y (forms.Show raws) ks ls) is head
 
 -- ---- the proof begins
@@ -269,7 +267,7 @@ puts_proof known d e ks ls a g h =
     let given = given_forms d.names (statement_of_draft d) in
     let shown = shown_forms d.names (statement_of_draft d) in
     let whole : head_forms (head_of d) ≡ i.said ++ forms.Proof ∷ [] =
-        ap (λ (l : List Form). title ∷ l) (sym (append_assoc given shown (forms.Proof ∷ []))) ∙ ap (λ (l : List Form). l ++ forms.Proof ∷ []) (i.head.forms d.names (keeps_all d.names)) in
+    ap (λ (l : List Form). title ∷ l) (sym (append_assoc given shown (forms.Proof ∷ []))) ∙ ap (λ (l : List Form). l ++ forms.Proof ∷ []) (i.head.forms d.names (keeps_all d.names)) in
     subst (λ (y : Draft). Puts known y forms.Proof ks ls) (ok_is (proving d) e h)
     (record {
       said = [];

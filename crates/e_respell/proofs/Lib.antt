@@ -15,3 +15,4 @@ pub mod ProofSaid
 pub mod HeadTaken
 pub mod LinesSaid
 pub mod Whole
+pub mod ShownText

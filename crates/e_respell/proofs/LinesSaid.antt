@@ -1,9 +1,7 @@
 -- Each line of a theorem adds itself to what was said, and what it owes is said behind it.
-use Rattle.std.proofs.Common.{◌≡◌, ℕ, ◌≤◌, Bool, true, false, ◌&&◌, eqb, List, [], ◌∷◌, ◌++◌, length, map, Option, Some, None, Result, Ok, Err, refl, sym, ap, subst, ◌∙◌, arith, append_assoc}
+use Rattle.std.proofs.Common.{◌≡◌, ℕ, true, false, eqb, List, [], ◌∷◌, ◌++◌, length, map, Option, Some, None, Ok, refl, sym, ap, subst, ◌∙◌, arith, append_assoc}
 use Rattle.std.specs.Option.{option_to_list}
 use Rattle.std.proofs.lemmas.List.{append-nil}
-use Rattle.e_text.specs.Tokens.{joined}
-use Rattle.e_literal.specs.declared.object.Sort.{Sort}
 use Rattle.e_literal.specs.declared.literal.Lit.{Lit}
 use Rattle.e_construct.specs.Construct.{needs}
 use Rattle.e_construct.specs.Superposing as superposing
@@ -17,7 +15,6 @@ use Rattle.e_book.specs.declared.form.Form.TheVariants as forms
 use Rattle.e_book.specs.declared.draft.Place.{Place}
 use Rattle.e_book.specs.declared.draft.Place.TheVariants.{Declaring, Giving, Making, Showing, Proving, Splitting, Closed, Done}
 use Rattle.e_book.specs.declared.draft.Draft.{Draft}
-use Rattle.e_book.specs.Reading.{◌>>=◌}
 use Rattle.e_book.specs.Headed.{Headed}
 use Rattle.e_book.specs.Entry.{Entry}
 use Rattle.e_clause.specs.declared.cert.Sums.TheVariants.{One}
@@ -32,16 +29,15 @@ use Rattle.e_book.proofs.Differ.{both}
 use Rattle.e_book.proofs.InScope.{bind_ok, ok_is, read_ok}
 use Rattle.e_read.specs.declared.owed.Due.{Due}
 use Rattle.e_read.specs.declared.owed.Due.TheVariants as due
-use Rattle.e_read.specs.declared.owed.Owed.{Owed}
 use Rattle.e_read.specs.declared.kept.Kept.{Kept}
 use Rattle.e_read.specs.declared.kept.Kept.TheVariants as kept
 use Rattle.e_read.specs.Strict.{are_direct, is_strict, is_apart}
 use Rattle.e_read.specs.Needs.{one_each, needs_of_use, needs_at_qed, due_of}
 use Rattle.e_respell.proofs.FormsRead.{Read}
 use Rattle.e_respell.proofs.OwedSpelled.{owed_text, kept_text, due_at_first, FitsDue, Answers}
-use Rattle.e_respell.proofs.BlocksSaid.{BodySaid, Goes, head_of}
+use Rattle.e_respell.proofs.BlocksSaid.{BodySaid, head_of}
 use Rattle.e_respell.proofs.ProofSaid.{Takes, takes_by, takes_hence, takes_let, takes_apply, takes_claim, takes_superpose, takes_cases, takes_else, takes_qed, takes_contradiction}
-use Rattle.e_respell.proofs.HeadTaken.{InHead, InProof, DraftSaid, Puts, puts_declared, puts_made, puts_given, puts_shown, puts_proof}
+use Rattle.e_respell.proofs.HeadTaken.{InProof, DraftSaid, Puts, puts_declared, puts_made, puts_given, puts_shown, puts_proof}
 
 -- ---- what a line leaves
 

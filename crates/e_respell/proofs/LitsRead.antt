@@ -1,6 +1,6 @@
 -- What the spelling of a literal says of its sign: not stands before no <=.
 use Rattle.std.proofs.Common.{◌≡◌, ℕ, Bool, true, false, cond, ◌&&◌, List, [], ◌∷◌, take, drop, Option, Some, None, Result, Ok, Err, refl, ap, subst, ◌∙◌}
-use Rattle.std.specs.Prelude.{codes, not}
+use Rattle.std.specs.Prelude.{codes}
 use Rattle.std.specs.List.{slice_split, position_or_len, AllByRecursion}
 use Rattle.std.specs.Str.{bytes_eq}
 use Rattle.e_book.specs.declared.fault.Kind.{Kind}
@@ -9,11 +9,10 @@ use Rattle.e_book.specs.declared.sum.RawMono.{RawMono}
 use Rattle.e_book.specs.declared.literal.RawLit.{RawLit}
 use Rattle.e_book.specs.declared.literal.RawAtom.{RawAtom}
 use Rattle.e_book.specs.declared.literal.RawAtom.TheVariants as raw
-use Rattle.e_book.specs.Reading.{◌>>=◌, each, or_malformed, two_names, three_names}
-use Rattle.e_book.specs.Literals.{sign_of, is_sign, object_of, sums_of, equal_sides, sides_of, negation_of, sign_first, compared, signed, related, signed_of, lit_of, diagram_lit_of, is_semicolon, lits_of}
+use Rattle.e_book.specs.Reading.{◌>>=◌, or_malformed, two_names, three_names}
+use Rattle.e_book.specs.Literals.{sign_of, is_sign, object_of, sums_of, equal_sides, sides_of, negation_of, sign_first, compared, signed, related, signed_of, lit_of, is_semicolon, lits_of}
 use Rattle.e_book.proofs.InScope.{bind_ok, ok_is, read_ok}
-use Rattle.e_book.proofs.SaidLits.{each_said, diagram_said}
-use Rattle.e_read.specs.Strict.{is_less, is_direct, are_direct}
+use Rattle.e_book.proofs.SaidLits.{each_said}
 
 abbrev pub is_at_most : RawAtom → Bool
 is_at_most (raw.SumsAtMost x y) = true
@@ -87,12 +86,12 @@ sides_signed negated left (w ∷ ws) l e =
     let a = bind_ok (sides_of s.0.0 left s.0.1) (λ a. read_ok (signed neg.0 a)) l neg.2 in
     let is = ok_is (pair t.0 ws) s.0 t.2 in
     let holds = by_sign (λ sign. (neg : Bool) (a : RawAtom) → negation_of negated sign ≡ Ok neg → sides_of sign left ws ≡ Ok a → (neg && is_at_most a) ≡ false)
-        (bytes_eq w (codes "=")) (bytes_eq w (codes "!=")) (bytes_eq w (codes "<")) (bytes_eq w (codes "<=")) _ _ _ _ t.0
-        (λ neg a n k. unsigned a neg (equal_other (object_of left) (object_of ws) left ws a k))
-        (λ neg a n k. unsigned a neg (equal_other (object_of left) (object_of ws) left ws a k))
-        (λ neg a n k. unsigned a neg (from_sums raw.SumsLess (λ x y. refl) left ws a k))
-        (λ neg a n k. at_most_signed negated neg a n)
-        (sign_found (sign_of w) t.0 t.1) in
+    (bytes_eq w (codes "=")) (bytes_eq w (codes "!=")) (bytes_eq w (codes "<")) (bytes_eq w (codes "<=")) _ _ _ _ t.0
+    (λ neg a n k. unsigned a neg (equal_other (object_of left) (object_of ws) left ws a k))
+    (λ neg a n k. unsigned a neg (equal_other (object_of left) (object_of ws) left ws a k))
+    (λ neg a n k. unsigned a neg (from_sums raw.SumsLess (λ x y. refl) left ws a k))
+    (λ neg a n k. at_most_signed negated neg a n)
+    (sign_found (sign_of w) t.0 t.1) in
     subst Signed (ok_is (signed neg.0 a.0) l a.2)
     (holds neg.0 a.0 (ap (λ q. negation_of negated q.0) is ∙ neg.1) (ap (λ q. sides_of q.0 left q.1) is ∙ a.1))
 

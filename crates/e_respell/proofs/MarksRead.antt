@@ -1,12 +1,11 @@
 -- What the spelling of a line of a certificate says of it.
-use Rattle.std.proofs.Common.{◌≡◌, ℕ, ℤ, Bool, true, false, cond, ◌&&◌, List, [], ◌∷◌, Result, Ok, Err, refl, subst, ◌∙◌}
+use Rattle.std.proofs.Common.{◌≡◌, ℕ, Bool, true, false, cond, ◌&&◌, List, [], ◌∷◌, Result, Ok, Err, refl, subst}
 use Rattle.std.specs.Prelude.{codes}
 use Rattle.std.specs.Str.{bytes_eq}
 use Rattle.std.proofs.lemmas.Slice.Eq.{bytes_eq-Decides}
 use Rattle.e_book.specs.declared.fault.Kind.{Kind}
 use Rattle.e_book.specs.declared.fault.Kind.TheVariants.{Malformed}
 use Rattle.e_book.specs.declared.sum.RawTerm.{RawTerm}
-use Rattle.e_book.specs.declared.literal.RawLit.{RawLit}
 use Rattle.e_book.specs.Reading.{◌>>=◌, title_at, end_at, names_of}
 use Rattle.e_book.specs.Sums.{term_of}
 use Rattle.e_book.specs.Literals.{lit_of, is_diagram_raw, diagram_lit_of}
@@ -18,7 +17,7 @@ use Rattle.e_read.specs.declared.mark.RawRow.TheVariants as rows
 use Rattle.e_read.specs.declared.mark.Mark.{Mark}
 use Rattle.e_read.specs.declared.mark.Mark.TheVariants as marks
 use Rattle.e_read.specs.Marks.{bare_row, row_named, row_of, may_differ, multiplier_of, bare, differs_of, transfer_of, row_mark_of, mark_named, mark_of, mark_line}
-use Rattle.e_read.specs.Strict.{is_direct, is_strict_row, is_strict_mark, strict_mark}
+use Rattle.e_read.specs.Strict.{is_strict_row, is_strict_mark, strict_mark}
 use Rattle.e_respell.proofs.LitsRead.{Signed, lit_signed}
 use Rattle.e_respell.proofs.LitsSpelled.{Canonical, canonical, diagram_canonical}
 

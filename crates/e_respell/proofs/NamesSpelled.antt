@@ -1,5 +1,5 @@
 -- A name that is read stands at the place of its object.
-use Rattle.std.proofs.Common.{◌≡◌, ℕ, ◌<◌, List, [], length, Option, Some, None, Result, Ok, Err, refl, ap, subst, ◌∙◌}
+use Rattle.std.proofs.Common.{◌≡◌, ℕ, ◌<◌, List, [], length, Option, Some, None, Ok, refl, ap, subst, ◌∙◌}
 use Rattle.std.specs.List.{position}
 use Rattle.std.specs.Str.{bytes_eq}
 use Rattle.std.proofs.lemmas.List.Quantifiers.{position-Some}
@@ -10,8 +10,6 @@ use Rattle.e_literal.specs.declared.object.Obj.{Obj}
 use Rattle.e_literal.specs.Literal.{obj}
 use Rattle.e_deriv.specs.declared.names.Names.{Names}
 use Rattle.e_deriv.specs.Naming.{names_of_sort}
-use Rattle.e_book.specs.declared.fault.Kind.{Kind}
-use Rattle.e_book.specs.Reading.{◌>>=◌}
 use Rattle.e_book.specs.Scope.{object_at, or_else, object_in, object_of, known_object, used, number_at, number_of, object_as}
 use Rattle.e_book.specs.Canonical.{name_at, name_of_object}
 use Rattle.e_book.proofs.InScope.{bind_ok, ok_is, read_ok}

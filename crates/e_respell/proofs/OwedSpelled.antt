@@ -3,7 +3,7 @@ use Rattle.std.proofs.Common.{◌≡◌, ℕ, zero, suc, ℤ, ◌+◌, ◌<◌, 
 use Rattle.std.specs.Prelude.{codes, slice_get}
 use Rattle.std.specs.List.{flat_map}
 use Rattle.std.specs.Fmt.{signed_decimal}
-use Rattle.std.proofs.lemmas.Bool.{ltb-true, ltb-false}
+use Rattle.std.proofs.lemmas.Bool.{ltb-true}
 use Rattle.std.proofs.lemmas.Grind.{flat_map-append}
 use Rattle.std.proofs.lemmas.List.{append-nil, map-append}
 use Rattle.e_text.specs.Tokens.{joined}
@@ -16,12 +16,9 @@ use Rattle.e_clause.specs.declared.cert.Sums.TheVariants.{One, Two}
 use Rattle.e_clause.specs.declared.cert.MetricCert.{MetricCert}
 use Rattle.e_clause.specs.declared.cert.Part.{Part}
 use Rattle.e_clause.specs.declared.cert.Part.TheVariants as parts
-use Rattle.e_clause.specs.declared.cert.TransferCert.{TransferCert}
 use Rattle.e_clause.specs.declared.cert.Cert.{Cert}
-use Rattle.e_clause.specs.declared.cert.Cert.TheVariants.{Plain, Transfer}
-use Rattle.e_clause.specs.declared.cert.Against.{Against}
+use Rattle.e_clause.specs.declared.cert.Cert.TheVariants.{Plain}
 use Rattle.e_clause.specs.declared.cert.Against.TheVariants as against
-use Rattle.e_clause.specs.declared.rule.Sig.{Sig}
 use Rattle.e_clause.specs.Instance.{Inst, place_of}
 use Rattle.e_clause.specs.Sigs.{sig_of}
 use Rattle.e_clause.specs.RuleKinds.{is_transfer}
@@ -50,9 +47,9 @@ use Rattle.e_read.specs.declared.kept.Kept.TheVariants as kept
 use Rattle.e_read.specs.Marks.{mark_words, mark_line}
 use Rattle.e_read.specs.Marks as reading
 use Rattle.e_read.specs.Owed.{most_rows, fact_in, row_in, with_row, row_put, sum_begun, differs_put, sums_ended, has_more, certificate, transfer_put, part_put, metric_put, takes_metric, clash_put, transfer_rule, count_others, transfer_in, transfer_begun, ended, sums_behind, due_behind, marked, kept_of, settled}
-use Rattle.e_spell.specs.Certificates.{named_term, row_words, row_line, sum_lines, sums_lines, metric_lines, part_lines, transfer_lines, cert_lines, certs_lines, against_lines, contradiction_lines}
+use Rattle.e_spell.specs.Certificates.{row_words, row_line, sum_lines, metric_lines, part_lines, transfer_lines, cert_lines, certs_lines, against_lines, contradiction_lines}
 use Rattle.e_respell.proofs.NamesSpelled.{keeps_all}
-use Rattle.e_respell.proofs.LitsSpelled.{Canonical, term_named, lit_named}
+use Rattle.e_respell.proofs.LitsSpelled.{term_named, lit_named}
 use Rattle.e_respell.proofs.RulesSpelled.{rule_named, args_named}
 use Rattle.e_respell.proofs.MarksRead.{CanonicalRow, CanonicalMark}
 

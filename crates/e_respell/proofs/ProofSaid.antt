@@ -1,21 +1,18 @@
 -- Each line of a proof adds itself to what was said.
-use Rattle.std.proofs.Common.{◌≡◌, ℕ, ◌+◌, ◌≤◌, true, List, [], ◌∷◌, ◌++◌, length, Option, Some, None, Result, Ok, Err, refl, sym, ap, subst, ◌∙◌, append_assoc}
+use Rattle.std.proofs.Common.{◌≡◌, ℕ, ◌+◌, ◌≤◌, true, List, [], ◌∷◌, ◌++◌, length, Option, Some, None, Result, Ok, refl, sym, ap, subst, ◌∙◌, append_assoc}
 use Rattle.std.specs.Option.{option_to_list}
 use Rattle.std.proofs.lemmas.List.{append-nil}
 use Rattle.e_literal.specs.declared.literal.Lit.{Lit}
 use Rattle.e_literal.specs.declared.object.Obj.{Obj}
-use Rattle.e_literal.specs.declared.object.Sort.{Sort}
 use Rattle.e_literal.specs.Use.{Stated}
 use Rattle.e_construct.specs.declared.construction.Construction.{Construction}
 use Rattle.e_construct.specs.declared.superpose.Superpose.{Superpose}
 use Rattle.e_construct.specs.Construct.{made, gives, needs}
 use Rattle.e_construct.specs.Superposing as superposing
-use Rattle.e_clause.specs.declared.cert.By.{By}
 use Rattle.e_clause.specs.declared.cert.Cert.{Cert}
 use Rattle.e_clause.specs.declared.cert.Against.{Against as Contradicts}
 use Rattle.e_deriv.specs.declared.names.Names.{Names}
 use Rattle.e_deriv.specs.Naming.{named}
-use Rattle.e_deriv.specs.Script.{Script}
 use Rattle.e_deriv.specs.PlainStep.{PlainStep, Cited, Inferred, Made, Applied}
 use Rattle.e_book.specs.declared.fault.Kind.{Kind}
 use Rattle.e_book.specs.declared.fault.What.TheVariants as limits
@@ -27,10 +24,9 @@ use Rattle.e_book.specs.declared.form.Form.{Form}
 use Rattle.e_book.specs.declared.form.Form.TheVariants as forms
 use Rattle.e_book.specs.declared.blocks.Opened.{Opened}
 use Rattle.e_book.specs.declared.blocks.Opened.TheVariants as opened
-use Rattle.e_book.specs.declared.steps.CloseLine.{CloseLine}
 use Rattle.e_book.specs.declared.steps.CloseLine.TheVariants as closes
 use Rattle.e_book.specs.declared.draft.Place.{Place}
-use Rattle.e_book.specs.declared.draft.Place.TheVariants.{Proving, Splitting, Closed, Done}
+use Rattle.e_book.specs.declared.draft.Place.TheVariants.{Proving, Splitting}
 use Rattle.e_book.specs.declared.draft.Draft.{Draft}
 use Rattle.e_book.specs.Reading.{◌>>=◌}
 use Rattle.e_book.specs.Limits.{within, most_steps, most_depth, most_facts, most_blanks}
@@ -41,8 +37,8 @@ use Rattle.e_book.specs.Scope.{scope_of_names, lit_in, lits_in, by_in, let_in, q
 use Rattle.e_book.specs.Superposes.{superpose_in}
 use Rattle.e_book.specs.Applies.{count_blanks, apply_in}
 use Rattle.e_book.specs.Book.{is_last}
-use Rattle.e_book.specs.Steps.{few_objects, with_step, few_monos, terms_behind, terms_after, with_terms, built, used_by, applied, outer_of, interrupted, deeper, claimed, superposed, split, shut, cited, inferred, concluded, stepped}
-use Rattle.e_book.specs.Canonical.{line_of, by_form, hence_form, let_form, apply_form, claim_form, superpose_form, cases_form, else_form, end_form, qed_form, contradiction_form}
+use Rattle.e_book.specs.Steps.{few_objects, with_step, few_monos, terms_behind, terms_after, with_terms, built, used_by, applied, outer_of, interrupted, deeper, claimed, superposed, split, shut, stepped}
+use Rattle.e_book.specs.Canonical.{line_of, by_form, hence_form, let_form, apply_form, claim_form, superpose_form, cases_form, qed_form, contradiction_form}
 use Rattle.e_book.proofs.InScope.{bind_ok, ok_is, read_ok}
 use Rattle.e_read.specs.declared.owed.Due.{Due}
 use Rattle.e_read.specs.declared.owed.Due.TheVariants as due
@@ -56,8 +52,8 @@ use Rattle.e_respell.proofs.LinePieces.{OneLine}
 use Rattle.e_respell.proofs.FormsRead.{Read}
 use Rattle.e_respell.proofs.FormsSpelled.{hence_spelled, cases_spelled, claim_spelled, by_spelled, let_spelled, apply_spelled, superpose_spelled, qed_spelled}
 use Rattle.e_respell.proofs.OwedSpelled.{kept_text, due_at_first, Answers}
-use Rattle.e_respell.proofs.ScriptsSaid.{StepsSaid, ScriptSaid, steps_as, script_as, cited_said, inferred_said, made_said, applied_said, qed_said, contradiction_said}
-use Rattle.e_respell.proofs.BlocksSaid.{Opening, BlocksSaid, BodySaid, Goes, names_first, head_of, blocks_as, blocks_more, blocks_open, shut_goes}
+use Rattle.e_respell.proofs.ScriptsSaid.{steps_as, script_as, cited_said, inferred_said, made_said, applied_said, qed_said, contradiction_said}
+use Rattle.e_respell.proofs.BlocksSaid.{Opening, BlocksSaid, BodySaid, Goes, names_first, head_of, blocks_more, blocks_open, shut_goes}
 
 -- ---- what a line leaves
 
@@ -145,11 +141,11 @@ takes_hence known d e r owes ks ls p b dir s o h =
     let line = hence_spelled ns r l.0 dir s l.1 in
     subst (λ (y : Due). Takes known d e (forms.Hence r) y ks ls) (ok_is (one_each (w.0 ∷ [])) owes w.2)
     (owing_certs known d e (forms.Hence r) (w.0 ∷ []) ks ls (λ cs le.
-        let said = steps_as known ns (Inferred l.0 None ∷ []) (kept.Certs cs ∷ []) (kept.Certs cs ∷ []) ns (line_of (hence_form ns l.0) ∷ certs_lines ns cs) (line_of (forms.Hence r) ∷ certs_lines ns cs) refl
-            (ap (λ (f : Form). line_of f ∷ certs_lines ns cs) line) (inferred_said known ns l.0 cs le) in
-        let blocks = blocks_more known (names_first d) d.outers d.steps (Inferred l.0 None ∷ []) ks (kept.Certs cs ∷ []) ns ns ls (line_of (forms.Hence r) ∷ certs_lines ns cs) b said in
-        terms_go known d x.0 e (r ∷ []) (ks ++ kept.Certs cs ∷ []) (ls ++ line_of (forms.Hence r) ∷ certs_lines ns cs)
-        (step_goes known d d x.0 (Inferred l.0 None) 1 (ks ++ kept.Certs cs ∷ []) (ls ++ line_of (forms.Hence r) ∷ certs_lines ns cs) refl p blocks x.1) x.2))
+    let said = steps_as known ns (Inferred l.0 None ∷ []) (kept.Certs cs ∷ []) (kept.Certs cs ∷ []) ns (line_of (hence_form ns l.0) ∷ certs_lines ns cs) (line_of (forms.Hence r) ∷ certs_lines ns cs) refl
+    (ap (λ (f : Form). line_of f ∷ certs_lines ns cs) line) (inferred_said known ns l.0 cs le) in
+    let blocks = blocks_more known (names_first d) d.outers d.steps (Inferred l.0 None ∷ []) ks (kept.Certs cs ∷ []) ns ns ls (line_of (forms.Hence r) ∷ certs_lines ns cs) b said in
+    terms_go known d x.0 e (r ∷ []) (ks ++ kept.Certs cs ∷ []) (ls ++ line_of (forms.Hence r) ∷ certs_lines ns cs)
+    (step_goes known d d x.0 (Inferred l.0 None) 1 (ks ++ kept.Certs cs ∷ []) (ls ++ line_of (forms.Hence r) ∷ certs_lines ns cs) refl p blocks x.1) x.2))
 
 abbrev at_names : Draft → Names → Draft
 at_names d ns = record d { in_scope = ns }
@@ -165,7 +161,7 @@ built_goes known d e l cs ks ls p b s h =
     let few = bind_ok (few_objects (after form.0)) (λ few. build form.0) e form.2 in
     let lines = line_of (forms.Let l) ∷ certs_lines ns cs in
     let said = steps_as known ns (Made form.0 l.new [] ∷ []) (kept.Certs cs ∷ []) (kept.Certs cs ∷ []) (after form.0) (line_of (let_form ns form.0 l.new) ∷ certs_lines ns cs) lines refl
-        (ap (λ (x : List ℕ). x ∷ certs_lines ns cs) (let_spelled ns l form.0 s form.1)) (made_said known ns form.0 l.new cs) in
+    (ap (λ (x : List ℕ). x ∷ certs_lines ns cs) (let_spelled ns l form.0 s form.1)) (made_said known ns form.0 l.new cs) in
     let blocks = blocks_more known (names_first d) d.outers d.steps (Made form.0 l.new [] ∷ []) ks (kept.Certs cs ∷ []) ns (after form.0) ls lines b said in
     step_goes known d (at_names d (after form.0)) e (Made form.0 l.new []) (length (gives form.0 (scope_of_names ns))) (ks ++ kept.Certs cs ∷ []) (ls ++ lines) refl p blocks few.2
 
@@ -199,7 +195,7 @@ applied_goes known d e raw cs ks ls p b h =
     let after = named ns (theorem_of known a.0.0).made raw.new in
     let lines = line_of (forms.Apply raw) ∷ certs_lines ns cs in
     let said = steps_as known ns (Applied a.0.0 a.0.1 raw.new [] ∷ []) (kept.Certs cs ∷ []) (kept.Certs cs ∷ []) after (line_of (apply_form known ns a.0.0 a.0.1 raw.new) ∷ certs_lines ns cs) lines refl
-        (ap (λ (f : Form). line_of f ∷ certs_lines ns cs) (apply_spelled known ns raw a.0 a.1)) (applied_said known ns a.0.0 a.0.1 raw.new cs) in
+    (ap (λ (f : Form). line_of f ∷ certs_lines ns cs) (apply_spelled known ns raw a.0 a.1)) (applied_said known ns a.0.0 a.0.1 raw.new cs) in
     used_goes known d e (theorem_of known a.0.0) a.0.0 a.0.1 raw.new (ks ++ kept.Certs cs ∷ []) (ls ++ lines) p
     (blocks_more known (names_first d) d.outers d.steps (Applied a.0.0 a.0.1 raw.new [] ∷ []) ks (kept.Certs cs ∷ []) ns after ls lines b said) a.2
 
@@ -318,9 +314,9 @@ takes_qed known d e ns owes ks ls p b o h =
     let line = qed_spelled d.in_scope sorts ns os.0 os.1 in
     subst (λ (y : Due). Takes known d e (forms.Qed ns) y ks ls) (ok_is (one_each w.0) owes w.2)
     (owing_certs known d e (forms.Qed ns) w.0 ks ls (λ cs le.
-        let said = script_as known d.in_scope (script_of_close (closes.Qed os.0)) (kept.Certs cs ∷ []) (kept.Certs cs ∷ []) (line_of (qed_form d.in_scope os.0) ∷ certs_lines d.in_scope cs) (line_of (forms.Qed ns) ∷ certs_lines d.in_scope cs) refl
-            (ap (λ (f : Form). line_of f ∷ certs_lines d.in_scope cs) line) (qed_said known d.in_scope os.0 cs) in
-        shut_goes known d e (closes.Qed os.0) ks (kept.Certs cs ∷ []) ls (line_of (forms.Qed ns) ∷ certs_lines d.in_scope cs) p b said os.2))
+    let said = script_as known d.in_scope (script_of_close (closes.Qed os.0)) (kept.Certs cs ∷ []) (kept.Certs cs ∷ []) (line_of (qed_form d.in_scope os.0) ∷ certs_lines d.in_scope cs) (line_of (forms.Qed ns) ∷ certs_lines d.in_scope cs) refl
+    (ap (λ (f : Form). line_of f ∷ certs_lines d.in_scope cs) line) (qed_said known d.in_scope os.0 cs) in
+    shut_goes known d e (closes.Qed os.0) ks (kept.Certs cs ∷ []) ls (line_of (forms.Qed ns) ∷ certs_lines d.in_scope cs) p b said os.2))
 
 pub takes_contradiction : (known : List Headed) (d e : Draft) (owes : Due) (ks : List Kept) (ls : List (List ℕ)) → d.place ≡ Proving → BodySaid known Proving d ks ls
     → due_of known d forms.Contradiction ≡ Ok owes → stepped known d forms.Contradiction ≡ Ok e → Takes known d e forms.Contradiction owes ks ls
@@ -328,4 +324,4 @@ unfolding stepped due_of
 takes_contradiction known d e owes ks ls p b o h =
     subst (λ (y : Due). Takes known d e forms.Contradiction y ks ls) (ok_is (due.Contradiction None) owes o)
     (owing_against known d e forms.Contradiction ks ls (λ a.
-        shut_goes known d e closes.Contradiction ks (kept.Against a ∷ []) ls (line_of contradiction_form ∷ contradiction_lines d.in_scope (Some a)) p b (contradiction_said known d.in_scope a) h))
+    shut_goes known d e closes.Contradiction ks (kept.Against a ∷ []) ls (line_of contradiction_form ∷ contradiction_lines d.in_scope (Some a)) p b (contradiction_said known d.in_scope a) h))

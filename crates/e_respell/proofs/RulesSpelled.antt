@@ -1,5 +1,5 @@
 -- A rule that is read is spelled by the name that it was read by, and its arguments by theirs.
-use Rattle.std.proofs.Common.{◌≡◌, ℕ, zero, suc, ◌+◌, Bool, true, false, cond, List, [], ◌∷◌, ◌++◌, map, take, drop, Option, Some, None, Result, Ok, Err, refl, sym, ap, subst, ◌∙◌, arith, append_assoc}
+use Rattle.std.proofs.Common.{◌≡◌, ℕ, suc, ◌+◌, Bool, true, false, cond, List, [], ◌∷◌, ◌++◌, map, take, drop, Option, Some, Ok, refl, sym, ap, ◌∙◌, arith, append_assoc}
 use Rattle.std.specs.Prelude.{slice_get}
 use Rattle.std.specs.Option.{option_map, option_map_or}
 use Rattle.std.specs.List.{position_from}
@@ -12,9 +12,8 @@ use Rattle.e_literal.specs.declared.object.Obj.{Obj}
 use Rattle.e_clause.specs.declared.rule.Sig.{Sig}
 use Rattle.e_clause.specs.Rows.{Row}
 use Rattle.e_clause.specs.Table.{table}
-use Rattle.e_clause.specs.Instance.{place_of, name_of}
+use Rattle.e_clause.specs.Instance.{place_of}
 use Rattle.e_deriv.specs.declared.names.Names.{Names}
-use Rattle.e_book.specs.declared.fault.Kind.{Kind}
 use Rattle.e_book.specs.Reading.{◌>>=◌}
 use Rattle.e_book.specs.Scope.{object_as, objects_as, args_in}
 use Rattle.e_book.specs.Canonical.{name_of_object, rule_name}

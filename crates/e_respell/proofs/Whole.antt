@@ -1,5 +1,5 @@
 -- The lines that are read as a theorem with its derivation are those of its one spelling.
-use Rattle.std.proofs.Common.{◌≡◌, ℕ, Bool, true, false, cond, ◌&&◌, inl, inr, List, [], ◌∷◌, ◌++◌, map, Option, Some, None, Result, Ok, Err, refl, sym, ap, subst, ◌∙◌, append_assoc}
+use Rattle.std.proofs.Common.{◌≡◌, ℕ, Bool, true, false, cond, inl, inr, List, [], ◌∷◌, ◌++◌, map, Option, Some, None, Result, Ok, Err, refl, sym, ap, subst, ◌∙◌, append_assoc}
 use Rattle.std.specs.Prelude.{◌⊎◌}
 use Rattle.std.specs.Option.{option_to_list}
 use Rattle.std.specs.Str.{bytes_eq}
@@ -11,15 +11,13 @@ use Rattle.e_text.specs.declared.line.LineEnd.{LineEnd}
 use Rattle.e_text.specs.declared.line.LineEnd.TheVariants as ends
 use Rattle.e_text.specs.declared.line.LineFault.{LineFault}
 use Rattle.e_deriv.specs.declared.names.Names.{Names}
-use Rattle.e_book.specs.declared.fault.Kind.{Kind}
-use Rattle.e_book.specs.declared.fault.Kind.TheVariants.{Malformed}
 use Rattle.e_book.specs.declared.form.Form.{Form}
 use Rattle.e_book.specs.declared.draft.Place.{Place}
 use Rattle.e_book.specs.declared.draft.Place.TheVariants.{Done}
 use Rattle.e_book.specs.declared.draft.Draft.{Draft}
 use Rattle.e_book.specs.Reading.{◌>>=◌}
 use Rattle.e_book.specs.Headed.{Headed}
-use Rattle.e_book.specs.Entry.{Entry, entry_of_draft, script_of_close}
+use Rattle.e_book.specs.Entry.{Entry, entry_of_draft}
 use Rattle.e_book.specs.Book.{is_last, is_done}
 use Rattle.e_book.specs.Steps.{begin, step}
 use Rattle.e_book.specs.Canonical.{line_of, head_forms, end_form, names_of_proof}
@@ -31,7 +29,7 @@ use Rattle.e_read.specs.declared.owed.Owed.{Owed}
 use Rattle.e_read.specs.declared.kept.Kept.{Kept}
 use Rattle.e_read.specs.declared.reading.Reading.{Reading}
 use Rattle.e_read.specs.Marks.{mark_line}
-use Rattle.e_read.specs.Strict.{is_strict, is_apart, strict_form}
+use Rattle.e_read.specs.Strict.{is_strict, is_apart}
 use Rattle.e_read.specs.Needs.{due_of}
 use Rattle.e_read.specs.Filled.{filled}
 use Rattle.e_read.specs.Text.{Piece, Derived, Last, owes_nothing, at_start, gone_on, worded, is_lf_end, taken, derived, garbled_at, is_finished, finished, or_on, is_end, piece_from}
@@ -43,7 +41,7 @@ use Rattle.e_respell.proofs.FormsRead.{Read, form_facts}
 use Rattle.e_respell.proofs.MarksRead.{strict_mark_read}
 use Rattle.e_respell.proofs.OwedSpelled.{owed_text, kept_text, due_at_first, FitsDue, Answers, marked_spelled, settled_spelled}
 use Rattle.e_respell.proofs.HeadTaken.{InProof, DraftSaid, puts_begun}
-use Rattle.e_respell.proofs.LinesSaid.{Leaves, nothing_left, step_left, due_at_start}
+use Rattle.e_respell.proofs.LinesSaid.{Leaves, step_left, due_at_start}
 
 -- ---- what was said so far
 
@@ -80,11 +78,11 @@ certified_said known r next line words done s c =
     let m = strict_mark_read line words c.mark c.spelled in
     let o = marked_spelled r.owed next.owed c.mark s.fits m.1 c.owed in
     let here : SaidSoFar known r.draft next.owed r.kept (done ++ line ∷ []) = record {
-        before = s.before;
-        all = ap (λ (l : List ℕ). done ++ l ∷ []) m.0 ∙ ap (λ (l : List (List ℕ)). l ++ mark_line c.mark ∷ []) s.all ∙ append_assoc s.before (owed_text r.owed) (mark_line c.mark ∷ []) ∙ ap (λ (l : List (List ℕ)). s.before ++ l) (sym o.lines);
-        fits = o.fits;
-        said = same_names known r.draft r.kept s.before r.owed next.owed o.names o.first s.said;
-      } in
+      before = s.before;
+      all = ap (λ (l : List ℕ). done ++ l ∷ []) m.0 ∙ ap (λ (l : List (List ℕ)). l ++ mark_line c.mark ∷ []) s.all ∙ append_assoc s.before (owed_text r.owed) (mark_line c.mark ∷ []) ∙ ap (λ (l : List (List ℕ)). s.before ++ l) (sym o.lines);
+      fits = o.fits;
+      said = same_names known r.draft r.kept s.before r.owed next.owed o.names o.first s.said;
+    } in
     subst (λ (d : Option Draft). SaidSoFar known d next.owed next.kept (done ++ line ∷ [])) (sym c.draft)
     (subst (λ (ks : List Kept). SaidSoFar known r.draft next.owed ks (done ++ line ∷ [])) (sym c.kept) here)
 
@@ -174,7 +172,7 @@ all_said known d o ks done s l =
     let head = map line_of (head_forms t) in
     let end = line_of end_form ∷ [] in
     let script : script_lines known (names_of_proof t) (filled (entry_of_draft d).script ks).0 ≡ i.body.0 =
-        ap (λ (x : List Kept). script_lines known (names_of_proof t) (filled (entry_of_draft d).script x).0) (sym (append-nil ks) ∙ sym (append-nil (ks ++ []))) ∙ i.body.1.spelled [] in
+    ap (λ (x : List Kept). script_lines known (names_of_proof t) (filled (entry_of_draft d).script x).0) (sym (append-nil ks) ∙ sym (append-nil (ks ++ []))) ∙ i.body.1.spelled [] in
     so.all ∙ i.lines ∙ ap (λ (l : List (List ℕ)). head ++ l) i.body.2 ∙ ap (λ (l : List (List ℕ)). head ++ (l ++ end)) (sym script)
 
 -- ---- all lines

@@ -3,4 +3,4 @@
 
 mod laws;
 
-pub use laws::what_is_read_is_spelled_so;
+pub use laws::{one_text_for_one_tree, what_is_read_is_spelled_so};
