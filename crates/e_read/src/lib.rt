@@ -16,8 +16,12 @@ mod reading;
 mod strict;
 mod words;
 
+pub use kept::{Certs, Kept, KeptLines, Rows};
 pub use laws::derivations_are_of_books;
+pub use mark::{Mark, RawRow};
+pub use owed::{Due, OpenSums, OpenTransfer, Owed};
 pub use reader::{Piece, TextFault, read};
+pub use reading::Reading;
 
 #[cfg(test)]
 mod tests;
