@@ -11,7 +11,7 @@ use std::vec::IntoIter;
 
 /// The rows of a sum, seen as their list.
 #[derive(Debug, Drop)]
-pub(crate) struct Rows {
+pub struct Rows {
     rows: Vec<(i128, RowName)>,
 }
 
@@ -60,7 +60,7 @@ impl Rows {
 
 /// The certificates of a line, seen as their list.
 #[derive(Debug, Drop)]
-pub(crate) struct Certs {
+pub struct Certs {
     certs: Vec<Cert>,
 }
 
@@ -117,14 +117,14 @@ impl Certs {
 
 /// What was read below a step or a close line that has certificates.
 #[derive(Debug, Drop)]
-pub(crate) enum Kept {
+pub enum Kept {
     Certs(Certs),
     Against(Against),
 }
 
 /// What was read below the lines of a block, in their order, seen as its list.
 #[derive(Debug, Drop)]
-pub(crate) struct KeptLines {
+pub struct KeptLines {
     lines: Vec<Kept>,
 }
 
@@ -170,7 +170,7 @@ impl KeptLines {
 
 /// What is left of it, seen as its list.
 #[derive(Drop)]
-pub(crate) struct Queue {
+pub struct Queue {
     rest: IntoIter<Kept>,
 }
 

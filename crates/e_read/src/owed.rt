@@ -23,7 +23,7 @@ const MAX_ROWS: usize = 4_096;
 
 /// The sums of a metric certificate while they come.
 #[derive(Debug, Drop)]
-pub(crate) enum OpenSums {
+pub enum OpenSums {
     /// Behind the head.
     Begun,
     /// The rows of the one sum so far.
@@ -38,7 +38,7 @@ pub(crate) enum OpenSums {
 
 /// A transfer while its parts come.
 #[derive(Debug, Drop)]
-pub(crate) struct OpenTransfer {
+pub struct OpenTransfer {
     pub rule: Rule,
     pub args: Items<Obj>,
     pub parts: Items<Part>,
@@ -48,7 +48,7 @@ pub(crate) struct OpenTransfer {
 
 /// What certificates a line has.
 #[derive(Debug, Drop)]
-pub(crate) enum Due {
+pub enum Due {
     /// None.
     Nothing,
     /// One for each of these literals.
@@ -65,7 +65,7 @@ pub(crate) enum Due {
 
 /// What a line owes, and what of it was read.
 #[derive(Debug, Drop)]
-pub(crate) struct Owed {
+pub struct Owed {
     /// The names in scope before the line.
     pub names: Names,
     pub due: Due,

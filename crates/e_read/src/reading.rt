@@ -26,7 +26,7 @@ use std::alloc::{AllocError, Global};
 
 /// What the lines of a block have said so far.
 #[derive(Debug, Drop)]
-pub(crate) struct Reading {
+pub struct Reading {
     /// The theorem, once its first line has come.
     pub draft: Option<Draft>,
     /// What the last line but those of certificates owes.

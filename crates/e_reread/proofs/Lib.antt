@@ -1,0 +1,6 @@
+pub mod FilledBack
+pub mod MarksAgain
+pub mod RowsAgain
+pub mod Feeding
+pub mod TransfersAgain
+pub mod CertsPut
