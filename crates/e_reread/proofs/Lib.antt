@@ -4,3 +4,5 @@ pub mod RowsAgain
 pub mod Feeding
 pub mod TransfersAgain
 pub mod CertsPut
+pub mod CertsGood
+pub mod LinesTaken
