@@ -6,3 +6,5 @@ pub mod TransfersAgain
 pub mod CertsPut
 pub mod CertsGood
 pub mod LinesTaken
+pub mod Readies
+pub mod DueAgain
