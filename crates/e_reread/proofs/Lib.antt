@@ -8,3 +8,5 @@ pub mod CertsGood
 pub mod LinesTaken
 pub mod Readies
 pub mod DueAgain
+pub mod Standing
+pub mod ScriptAlong
