@@ -38,7 +38,7 @@ use Rattle.e_book.specs.Blocks.{made_in}
 use Rattle.e_book.specs.Headed.{Headed, stated_by, theorem_of}
 use Rattle.e_book.specs.Scope.{scope_of_names}
 use Rattle.e_book.specs.Fits.{few_facts, few_terms, is_diagram_lit, has_good_literals, NewNamesFit}
-use Rattle.e_book.specs.Canonical.{by_form, hence_form, let_form, apply_form, claim_form, superpose_form, qed_form, contradiction_form, cases_form, else_form}
+use Rattle.e_book.specs.Canonical.{line_of, by_form, hence_form, let_form, apply_form, claim_form, superpose_form, qed_form, contradiction_form, cases_form, else_form}
 use Rattle.e_book.specs.HasSpelling.{is_plain}
 use Rattle.e_book.proofs.Differ.{both}
 use Rattle.e_book.proofs.Lookups.{objects_named}
@@ -301,3 +301,244 @@ claim_along known d i shown inner rest given goal s t u =
               (t.along (proving d after) (claim_closed d i t.last shown (steps_of (erased inner)) (close_of (erased inner)) (erased inner) (same_script (erased inner) p.plain_inner) p.facts p.terms) refl)
               (u.along e (one_more d u.last i (Claimed shown (erased inner)) (erased rest) e h) done));
     }
+
+-- ---- superpositions
+
+copy_certified : (known : List Headed) (d : Draft) (i : Inside) (form : Superpose) (names : List (List ℕ)) (shown : List Lit) (certs : List Cert) (inner rest : Script) (given : List Lit) (goal : Goal)
+    → Stood known d i (Superposed form names shown certs inner rest) given goal
+    → (list_all (is_certified (stated_by known)) (lines (stated_by known) inner inner (grown (scope_of_names i.in_scope) superposing.made) (joined_all given (superposing.gives form (scope_of_names i.in_scope))) (goal_of shown)) ≡ true)
+    × (list_all (is_certified (stated_by known)) (lines (stated_by known) rest rest (scope_of_names i.in_scope) (joined_all given shown) goal) ≡ true)
+    × (certify_all (scope_of_names i.in_scope) given (superposing.needs form) certs ≡ true)
+unfolding lines
+copy_certified known d i form names shown certs inner rest given goal s =
+    let before = stated_by known in
+    let sc = scope_of_names i.in_scope in
+    let here = line (Superposed form names shown certs inner rest) (Superposed form names shown certs inner rest) sc given goal in
+    let inside = lines before inner inner (grown sc superposing.made) (joined_all given (superposing.gives form sc)) (goal_of shown) in
+    let after = lines before rest rest sc (joined_all given shown) goal in
+    let a = first_of (is_certified before) here (inside ++ after) s.certified in
+    let b = both_of (is_certified before) inside after a.1 in
+    (b.0, b.1, (one_certified before here a.0).certs)
+
+copy_inside : (known : List Headed) (d : Draft) (i : Inside) (form : Superpose) (names : List (List ℕ)) (shown : List Lit) (certs : List Cert) (inner rest : Script) (given : List Lit) (goal : Goal)
+    → Stood known d i (Superposed form names shown certs inner rest) given goal
+    → Stood known d (copied i form names shown) inner (joined_all given (superposing.gives form (scope_of_names i.in_scope))) (goal_of shown)
+unfolding erased NewNamesFit
+copy_inside known d i form names shown certs inner rest given goal s =
+    let before = stated_by known in
+    let sc = scope_of_names i.in_scope in
+    let scope : grown sc superposing.made ≡ scope_of_names (named i.in_scope superposing.made names) = named_scope i.in_scope superposing.made names s.ready.new_names.1 in
+    record {
+      ready = copy_inner known d i form names shown (erased inner) (erased rest) given goal s.ready;
+      goal_is = refl;
+      certified = subst (λ (z : Scope). list_all (is_certified before) (lines before inner inner z (joined_all given (superposing.gives form sc)) (goal_of shown)) ≡ true) scope (copy_certified known d i form names shown certs inner rest given goal s).0;
+      written = (superposed_written form names shown certs inner rest s.written).2;
+    }
+
+copy_next : (known : List Headed) (d : Draft) (i : Inside) (n : ℕ) (form : Superpose) (names : List (List ℕ)) (shown : List Lit) (certs : List Cert) (inner rest : Script) (given : List Lit) (goal : Goal) → n ≡ i.lines + 1 + size (erased inner)
+    → Stood known d i (Superposed form names shown certs inner rest) given goal → Stood known d (resume i n (Copied form names shown [] (erased inner)) shown) rest (joined_all given shown) goal
+unfolding erased
+copy_next known d i n form names shown certs inner rest given goal count s = record {
+  ready = copy_rest known d i n form names shown (erased inner) (erased rest) given goal count s.ready;
+  goal_is = s.goal_is;
+  certified = (copy_certified known d i form names shown certs inner rest given goal s).1;
+  written = (superposed_written form names shown certs inner rest s.written).3;
+}
+
+copy_along : (known : List Headed) (d : Draft) (i : Inside) (form : Superpose) (names : List (List ℕ)) (shown : List Lit) (certs : List Cert) (inner rest : Script) (given : List Lit) (goal : Goal)
+    → Stood known d i (Superposed form names shown certs inner rest) given goal
+    → (t : Spelled known d (copied i form names shown) inner) → Spelled known d (resume i t.last.lines (Copied form names shown [] (erased inner)) shown) rest → Spelled known d i (Superposed form names shown certs inner rest)
+unfolding erased script_lines kepts size depth
+copy_along known d i form names shown certs inner rest given goal s t u =
+    let r = s.ready in
+    let p = copy_parts known d i form names shown (erased inner) (erased rest) given goal r in
+    let begins = copied i form names shown in
+    let after = resume i t.last.lines (Copied form names shown [] (erased inner)) shown in
+    let wanted = superposing.needs form in
+    let c = (copy_certified known d i form names shown certs inner rest given goal s).2 in
+    record {
+      last = u.last;
+      lines = omega (arith, t.lines, u.lines);
+      along = λ e h done.
+          then_along known (proving d i) (proving d begins) e (superpose_form i.in_scope form names shown) (one_each wanted) (flat_map (cert_lines i.in_scope) certs) (Some (kept.Certs certs))
+              (script_lines known begins.in_scope inner ++ script_lines known i.in_scope rest) (kepts inner ++ kepts rest) (record {
+                good = superpose_named i.in_scope form names shown p.good;
+                strict = all_direct i.in_scope shown;
+                apart = refl;
+                owes = superpose_due known (proving d i) form names shown p.good;
+                steps = step_superpose known d i form names shown p.good p.few (omega (arith, r.few, at_least (erased rest))) (omega (arith, r.shallow, deep_at_least (erased inner))) p.facts_first p.terms_first;
+                going = refl;
+                keeps = certs_kept i.in_scope wanted certs r.order (good_certs i.in_scope given wanted certs c (superposed_written form names shown certs inner rest s.written).1);
+              }) (along_append known (proving d begins) (proving d after) e (script_lines known begins.in_scope inner) (script_lines known i.in_scope rest) (kepts inner) (kepts rest)
+                  (t.along (proving d after) (superpose_closed d i t.last form names shown (steps_of (erased inner)) (close_of (erased inner)) (erased inner) (same_script (erased inner) p.plain_inner) p.facts p.terms) refl)
+                  (u.along e (one_more d u.last i (Copied form names shown [] (erased inner)) (erased rest) e h) done));
+    }
+
+-- ---- splits
+
+cases_certified : (known : List Headed) (d : Draft) (i : Inside) (l : Lit) (one two : Script) (given : List Lit) (goal : Goal) → Stood known d i (Cases l one two) given goal
+    → (list_all (is_certified (stated_by known)) (lines (stated_by known) one one (scope_of_names i.in_scope) (joined given l) goal) ≡ true)
+    × (list_all (is_certified (stated_by known)) (lines (stated_by known) two two (scope_of_names i.in_scope) (joined given (negation l)) goal) ≡ true)
+unfolding lines
+cases_certified known d i l one two given goal s =
+    let before = stated_by known in
+    let sc = scope_of_names i.in_scope in
+    let in_one = lines before one one sc (joined given l) goal in
+    let in_two = lines before two two sc (joined given (negation l)) goal in
+    both_of (is_certified before) in_one in_two (first_of (is_certified before) (line (Cases l one two) (Cases l one two) sc given goal) (in_one ++ in_two) s.certified).1
+
+cases_one : (known : List Headed) (d : Draft) (i : Inside) (l : Lit) (one two : Script) (given : List Lit) (goal : Goal) → Stood known d i (Cases l one two) given goal → Stood known d (opens i l) one (joined given l) goal
+unfolding erased
+cases_one known d i l one two given goal s = record {
+  ready = cases_first known d i l (erased one) (erased two) given goal s.ready;
+  goal_is = s.goal_is;
+  certified = (cases_certified known d i l one two given goal s).0;
+  written = (cases_written l one two s.written).0;
+}
+
+cases_two : (known : List Headed) (d : Draft) (i : Inside) (n : ℕ) (l : Lit) (one two : Script) (given : List Lit) (goal : Goal) → n ≡ i.lines + 1 + size (erased one) → Stood known d i (Cases l one two) given goal
+    → Stood known d (second i n l (erased one)) two (joined given (negation l)) goal
+unfolding erased
+cases_two known d i n l one two given goal count s = record {
+  ready = cases_second known d i n l (erased one) (erased two) given goal count s.ready;
+  goal_is = s.goal_is;
+  certified = (cases_certified known d i l one two given goal s).1;
+  written = (cases_written l one two s.written).1;
+}
+
+cases_along : (known : List Headed) (d : Draft) (i : Inside) (l : Lit) (one two : Script) (given : List Lit) (goal : Goal) → Stood known d i (Cases l one two) given goal
+    → (t : Spelled known d (opens i l) one) → Spelled known d (second i t.last.lines l (erased one)) two → Spelled known d i (Cases l one two)
+unfolding erased script_lines kepts size depth due_of
+cases_along known d i l one two given goal s t u =
+    let r = s.ready in
+    let p = cases_parts known d i l (erased one) (erased two) given goal r in
+    let between = second i t.last.lines l (erased one) in
+    let ns = i.in_scope in
+    record {
+      last = u.last;
+      lines = omega (arith, t.lines, u.lines);
+      along = λ e h done.
+          let last = second_closed d i u.last l (erased one) (steps_of (erased two)) (close_of (erased two)) (erased two) (same_script (erased two) p.plain_second) ∙ no_more d u.last i (closes.Cases l (erased one) (erased two)) e h in
+          let behind_else = then_along known (splitting d between) (proving d between) e else_form due.Nothing [] None (script_lines known ns two) (kepts two) (record {
+            good = tt;
+            strict = refl;
+            apart = refl;
+            owes = refl;
+            steps = step_else known d between;
+            going = refl;
+            keeps = nothing_kept ns;
+          }) (u.along e last done) in
+          then_along known (proving d i) (proving d (opens i l)) e (cases_form ns l) due.Nothing [] None (script_lines known ns one ++ line_of else_form ∷ script_lines known ns two) (kepts one ++ kepts two) (record {
+            good = lit_named ns l r.order p.plain.within p.plain.good;
+            strict = lit_direct ns l;
+            apart = refl;
+            owes = refl;
+            steps = step_cases known d i l r.order p.plain (omega (arith, r.few, at_least (erased one))) (omega (arith, r.shallow, deep_at_least (erased one))) p.facts p.terms;
+            going = refl;
+            keeps = nothing_kept ns;
+          }) (along_append known (proving d (opens i l)) (splitting d between) e (script_lines known ns one) (line_of else_form ∷ script_lines known ns two) (kepts one) (kepts two)
+              (t.along (splitting d between) (first_closed d i t.last l (steps_of (erased one)) (close_of (erased one)) (erased one) (same_script (erased one) p.plain_first)) refl) behind_else);
+    }
+
+-- ---- other lines that close a block
+
+abbrev one_line : Inside → Inside
+one_line i = record i { lines = i.lines + 1 }
+
+qed_along : (known : List Headed) (d : Draft) (i : Inside) (os : List Obj) (certs : List Cert) (given : List Lit) (goal : Goal) → Stood known d i (Qed os certs) given goal → Spelled known d i (Qed os certs)
+unfolding erased script_lines kepts lines size
+qed_along known d i os certs given goal s =
+    let before = stated_by known in
+    let r = s.ready in
+    let ns = i.in_scope in
+    let sc = scope_of_names ns in
+    let here = line (Qed os certs) (Qed os certs) sc given goal in
+    let one = one_certified before here (first_of (is_certified before) here [] s.certified).0 in
+    let h : are_of_sorts sc (made_in i.outers d.made) os ≡ true = subst (λ (l : List Sort). are_of_sorts sc l os ≡ true) r.goal_sorts one.fitting in
+    let wanted = goal_with goal os in
+    record {
+      last = one_line i;
+      lines = refl;
+      along = λ e c done.
+          goes_along known (proving d i) e (qed_form ns os) (one_each wanted) (flat_map (cert_lines ns) certs) (Some (kept.Certs certs)) (record {
+            good = objects_named ns os r.order (of_sorts_in_scope sc (made_in i.outers d.made) os h);
+            strict = refl;
+            apart = refl;
+            owes = qed_due known (proving d i) goal os r.order h s.goal_is;
+            steps = step_qed known d i os r.order h (omega (arith, r.few)) ∙ no_more d (one_line i) i (closes.Qed os) e c;
+            going = done;
+            keeps = certs_kept ns wanted certs r.order (good_certs ns given wanted certs one.certs (qed_written os certs s.written));
+          });
+    }
+
+contradiction_along : (known : List Headed) (d : Draft) (i : Inside) (a : Against) (given : List Lit) (goal : Goal) → Stood known d i (Contradiction (Some a)) given goal → Spelled known d i (Contradiction (Some a))
+unfolding erased script_lines kepts lines size due_of
+contradiction_along known d i a given goal s =
+    let before = stated_by known in
+    let r = s.ready in
+    let ns = i.in_scope in
+    let here = line (Contradiction (Some a)) (Contradiction (Some a)) (scope_of_names ns) given goal in
+    let one = one_certified before here (first_of (is_certified before) here [] s.certified).0 in
+    record {
+      last = one_line i;
+      lines = refl;
+      along = λ e c done.
+          goes_along known (proving d i) e contradiction_form (due.Contradiction None) (against_lines ns a) (Some (kept.Against a)) (record {
+            good = tt;
+            strict = refl;
+            apart = refl;
+            owes = refl;
+            steps = step_contradiction known d i (omega (arith, r.few)) ∙ no_more d (one_line i) i closes.Contradiction e c;
+            going = done;
+            keeps = against_kept ns a r.order (good_against ns given a one.beside (contradiction_written (Some a) s.written));
+          });
+    }
+
+-- ---- all lines
+
+-- a line that lacks its certificate is not certified
+no_hence : (known : List Headed) (d : Draft) (i : Inside) (l : Lit) (rest : Script) (given : List Lit) (goal : Goal) → Stood known d i (Hence l None rest) given goal → ⊥
+unfolding lines
+no_hence known d i l rest given goal s =
+    let before = stated_by known in
+    let sc = scope_of_names i.in_scope in
+    let here = line (Hence l None rest) (Hence l None rest) sc given goal in
+    let c = (one_certified before here (first_of (is_certified before) here (lines before rest rest sc (joined given l) goal) s.certified).0).certs in
+    absurd cc
+
+no_contradiction : (known : List Headed) (d : Draft) (i : Inside) (given : List Lit) (goal : Goal) → Stood known d i (Contradiction None) given goal → ⊥
+unfolding lines
+no_contradiction known d i given goal s =
+    let before = stated_by known in
+    let here = line (Contradiction None) (Contradiction None) (scope_of_names i.in_scope) given goal in
+    let c = (one_certified before here (first_of (is_certified before) here [] s.certified).0).beside in
+    absurd cc
+
+pub script_spelled : (known : List Headed) (d : Draft) (i : Inside) (script : Script) (given : List Lit) (goal : Goal) → Stood known d i script given goal → Spelled known d i script
+script_spelled known d i (Cite b rest) given goal s =
+    cite_along known d i b rest given goal s (script_spelled known d (behind i (Cited b) 1) rest (joined given b.lit) goal (cite_next known d i b rest given goal s))
+script_spelled known d i (Hence l None rest) given goal s = absurd (no_hence known d i l rest given goal s)
+script_spelled known d i (Hence l (Some c) rest) given goal s =
+    hence_along known d i l c rest given goal s (script_spelled known d (inferred i l) rest (joined given l) goal (hence_next known d i l c rest given goal s))
+script_spelled known d i (Make form names certs rest) given goal s =
+    make_along known d i form names certs rest given goal s
+    (script_spelled known d (constructed i form names) rest (joined_all given (gives form (scope_of_names i.in_scope))) goal (make_next known d i form names certs rest given goal s))
+script_spelled known d i (Apply theorem args names certs rest) given goal s =
+    let t = theorem_of known theorem in
+    apply_along known d i theorem args names certs rest given goal s
+    (script_spelled known d (applied_behind i t theorem args names) rest (joined_all given (gives_of_use t (written_args args) (scope_of_names i.in_scope))) goal (apply_next known d i theorem args names certs rest given goal s))
+script_spelled known d i (Claim shown inner rest) given goal s =
+    let t = script_spelled known d (deep i (opened.Claim shown) 0) inner given (goal_of shown) (claim_inside known d i shown inner rest given goal s) in
+    let u = script_spelled known d (resume i t.last.lines (Claimed shown (erased inner)) shown) rest (joined_all given shown) goal (claim_next known d i t.last.lines shown inner rest given goal t.lines s) in
+    claim_along known d i shown inner rest given goal s t u
+script_spelled known d i (Superposed form names shown certs inner rest) given goal s =
+    let t = script_spelled known d (copied i form names shown) inner (joined_all given (superposing.gives form (scope_of_names i.in_scope))) (goal_of shown) (copy_inside known d i form names shown certs inner rest given goal s) in
+    let u = script_spelled known d (resume i t.last.lines (Copied form names shown [] (erased inner)) shown) rest (joined_all given shown) goal (copy_next known d i t.last.lines form names shown certs inner rest given goal t.lines s) in
+    copy_along known d i form names shown certs inner rest given goal s t u
+script_spelled known d i (Qed os certs) given goal s = qed_along known d i os certs given goal s
+script_spelled known d i (Contradiction None) given goal s = absurd (no_contradiction known d i given goal s)
+script_spelled known d i (Contradiction (Some a)) given goal s = contradiction_along known d i a given goal s
+script_spelled known d i (Cases l one two) given goal s =
+    let t = script_spelled known d (opens i l) one (joined given l) goal (cases_one known d i l one two given goal s) in
+    let u = script_spelled known d (second i t.last.lines l (erased one)) two (joined given (negation l)) goal (cases_two known d i t.last.lines l one two given goal t.lines s) in
+    cases_along known d i l one two given goal s t u
