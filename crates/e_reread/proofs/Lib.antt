@@ -10,3 +10,4 @@ pub mod Readies
 pub mod DueAgain
 pub mod Standing
 pub mod ScriptAlong
+pub mod HeadAlong
