@@ -115,7 +115,7 @@ plain_along : (known : List Headed) (d e last : Draft) (f : Form) (fs : List For
 plain_along known d e last f fs good strict apart owes steps going rest =
     then_along known d e last f due.Nothing [] None (map line_of fs) [] (record { good = good; strict = strict; apart = apart; owes = owes; steps = steps; going = going; keeps = nothing_kept d.in_scope }) rest
 
-draft_is : (x y : Draft) → (let some : Draft → Option Draft = λ d. Some d in some x ≡ some y) → x ≡ y
+pub draft_is : (x y : Draft) → (let some : Draft → Option Draft = λ d. Some d in some x ≡ some y) → x ≡ y
 draft_is x y e = cc
 
 none_along : (known : List Headed) (d : Draft) → Along known d [] d []

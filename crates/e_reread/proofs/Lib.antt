@@ -11,3 +11,4 @@ pub mod DueAgain
 pub mod Standing
 pub mod ScriptAlong
 pub mod HeadAlong
+pub mod Whole

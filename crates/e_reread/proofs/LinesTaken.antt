@@ -164,7 +164,7 @@ marks_taken known r d (words ∷ lines) last here going fed = (
 
 -- ---- a line of the script with its certificates
 
-form_leads : (known : List Headed) (r : Reading) (d e : Draft) (ks : List Kept) (f : Form) (owed : Due) → Stands r d ks → GoodForm f → is_strict (as_read f) ≡ true → is_apart d (as_read f) ≡ true → due_of known d (as_read f) ≡ Ok owed
+pub form_leads : (known : List Headed) (r : Reading) (d e : Draft) (ks : List Kept) (f : Form) (owed : Due) → Stands r d ks → GoodForm f → is_strict (as_read f) ≡ true → is_apart d (as_read f) ≡ true → due_of known d (as_read f) ≡ Ok owed
     → step known d (as_read f) ≡ Ok e → worded known r (line_of f) (tokens_of (line_of f)) ≡ Ok (record { draft = Some e; owed = owing d.in_scope owed None; kept = ks })
 form_leads known r d e ks f owed s good strict apart due steps =
     ap (worded known r (line_of f)) (words_again f good) ∙ no_bar known r (line_of f) f
