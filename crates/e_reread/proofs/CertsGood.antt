@@ -1,12 +1,12 @@
 -- Certificates that certify can be spelled, where the literals that they name are well formed.
-use Rattle.std.proofs.Common.{◌≡◌, ℕ, ℤ, Bool, true, false, not, leb, ◌&&◌, List, [], ◌∷◌, length, Option, Some, None, is_some, refl, arith}
+use Rattle.std.proofs.Common.{◌≡◌, ℤ, Bool, true, false, not, leb, ◌&&◌, List, [], ◌∷◌, length, Option, Some, None, is_some, refl, arith}
 use Rattle.std.specs.Option.{option_map_or}
 use Rattle.std.specs.List.{list_all, AllByRecursion}
-use Rattle.std.proofs.lemmas.Bool.{leb-true, not-true}
+use Rattle.std.proofs.lemmas.Bool.{leb-true}
 use Rattle.e_literal.specs.declared.literal.Atom.{Atom}
 use Rattle.e_literal.specs.declared.literal.Atom.TheVariants as atoms
 use Rattle.e_literal.specs.declared.literal.Lit.{Lit}
-use Rattle.e_literal.specs.Literal.{kind_of_atom, is_in_scope, all_in_scope, negation}
+use Rattle.e_literal.specs.Literal.{kind_of_atom, all_in_scope, negation}
 use Rattle.e_literal.specs.Facts.{is_metric, has, others}
 use Rattle.e_literal.specs.Rows.{Row}
 use Rattle.e_clause.specs.declared.cert.RowName.{RowName}
@@ -26,11 +26,11 @@ use Rattle.e_clause.specs.Sum.{Place, is_good_multiplier, is_good_size, refutes}
 use Rattle.e_clause.specs.MetricCertificate.{differing, both_refute, above_row, below_row, sums_refute, row_name_in, sum_in, sums_in}
 use Rattle.e_clause.specs.PartCertificate.{part_certifies, part_in}
 use Rattle.e_clause.specs.TransferCertificate.{parts_certify, instance_certifies, transfer_certifies, args_in, transfer_in}
-use Rattle.e_clause.specs.Certify.{cert_holds, cert_in, certifies, certify_all, against_holds, against_in, certifies_against}
+use Rattle.e_clause.specs.Certify.{certifies, certify_all, against_holds, certifies_against}
 use Rattle.e_deriv.specs.declared.names.Names.{Names}
 use Rattle.e_verify.specs.Written.{is_good_name, is_good_sum, is_good_sums, is_good_part, is_good_cert, is_good_against}
 use Rattle.e_book.specs.Scope.{scope_of_names}
-use Rattle.e_book.specs.Fits.{is_diagram_atom, is_diagram_lit}
+use Rattle.e_book.specs.Fits.{is_diagram_atom}
 use Rattle.e_book.proofs.Differ.{both}
 use Rattle.e_read.specs.Marks.{may_differ}
 use Rattle.e_reread.proofs.RowsAgain.{raw_row}

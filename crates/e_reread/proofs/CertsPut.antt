@@ -1,5 +1,5 @@
 -- The lines of certificates are read as these certificates.
-use Rattle.std.proofs.Common.{◌≡◌, ℕ, ◌+◌, ◌≤◌, ◌<◌, Bool, true, false, cond, eqb, ltb, List, [], ◌∷◌, ◌++◌, length, map, Option, Some, None, Result, Ok, refl, sym, ap, subst, ◌∙◌, arith, append_assoc, length-append}
+use Rattle.std.proofs.Common.{◌≡◌, ℕ, ◌+◌, ◌<◌, Bool, true, false, cond, eqb, ltb, List, [], ◌∷◌, ◌++◌, length, map, Option, Some, None, Result, Ok, refl, sym, ap, subst, ◌∙◌, arith, append_assoc, length-append}
 use Rattle.std.specs.Prelude.{slice_get}
 use Rattle.std.specs.List.{flat_map, AllByRecursion}
 use Rattle.std.proofs.lemmas.Bool.{lt-ltb, le-ltb, eq-eqb, ne_eqb}
@@ -8,7 +8,6 @@ use Rattle.e_literal.specs.declared.object.Obj.{Obj}
 use Rattle.e_literal.specs.declared.literal.Lit.{Lit}
 use Rattle.e_literal.specs.Literal.{all_in_scope}
 use Rattle.e_clause.specs.declared.cert.Part.{Part}
-use Rattle.e_clause.specs.declared.cert.TransferCert.{TransferCert}
 use Rattle.e_clause.specs.declared.cert.Cert.{Cert}
 use Rattle.e_clause.specs.declared.cert.Cert.TheVariants.{Plain, Transfer}
 use Rattle.e_clause.specs.declared.cert.Against.{Against}
@@ -28,8 +27,8 @@ use Rattle.e_read.specs.declared.kept.Kept.{Kept}
 use Rattle.e_read.specs.declared.kept.Kept.TheVariants as kept
 use Rattle.e_read.specs.Owed.{certificate, transfer_put, part_put, marked, settled}
 use Rattle.e_read.specs.Needs.{one_each}
-use Rattle.e_spell.specs.Certificates.{part_lines, transfer_lines, cert_lines, against_lines}
-use Rattle.e_reread.proofs.Feeding.{OneMark, Fed, fed_append, owing, Ends, Puts, puts_append, GoodSums, metric_fed, GoodPart, part_fed}
+use Rattle.e_spell.specs.Certificates.{part_lines, cert_lines, against_lines}
+use Rattle.e_reread.proofs.Feeding.{Fed, owing, Ends, Puts, puts_append, GoodSums, metric_fed, GoodPart, part_fed}
 use Rattle.e_reread.proofs.TransfersAgain.{GoodTransfer, part_way, rule_titled, transfer_again}
 
 -- ---- transfers

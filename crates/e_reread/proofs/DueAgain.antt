@@ -1,5 +1,5 @@
 -- What the lines of a script owe, as they are spelled.
-use Rattle.std.proofs.Common.{◌≡◌, ℕ, Bool, true, false, eqb, ◌&&◌, List, [], ◌∷◌, length, map, Option, Some, None, is_some, Ok, refl, sym, ap, subst, ◌∙◌}
+use Rattle.std.proofs.Common.{◌≡◌, ℕ, true, eqb, ◌&&◌, List, [], ◌∷◌, length, map, Option, Some, None, is_some, Ok, refl, sym, ap, subst, ◌∙◌}
 use Rattle.std.specs.List.{list_all}
 use Rattle.std.proofs.lemmas.Bool.{eq-eqb}
 use Rattle.std.proofs.lemmas.List.{length-map}
@@ -32,7 +32,7 @@ use Rattle.e_book.proofs.Building.{GoodLet}
 use Rattle.e_book.proofs.Built.{of_sorts_length, let_number_again}
 use Rattle.e_book.proofs.Superposed.{GoodSuperpose, superpose_number_again}
 use Rattle.e_book.proofs.Applied.{GoodApply, apply_number_again}
-use Rattle.e_read.specs.Strict.{is_direct, are_direct}
+use Rattle.e_read.specs.Strict.{are_direct}
 use Rattle.e_read.specs.Needs.{open_goal, one_each, needs_in, needs_of_use as needs_of_line, needs_at_qed, due_of}
 use Rattle.e_reread.proofs.RowsAgain.{lit_direct}
 

@@ -1,5 +1,5 @@
 -- Lines of certificates that are taken one after another, and what is owed behind them.
-use Rattle.std.proofs.Common.{◌≡◌, ℕ, ◌+◌, ◌≤◌, ◌<◌, ℤ, Bool, true, false, cond, ltb, List, [], ◌∷◌, ◌++◌, length, map, Option, Some, None, Ok, Err, refl, sym, ap, subst, ◌∙◌, arith, append_assoc, length-append}
+use Rattle.std.proofs.Common.{◌≡◌, ℕ, ◌+◌, ◌≤◌, ◌<◌, ℤ, Bool, true, false, cond, ltb, List, [], ◌∷◌, ◌++◌, length, map, Option, Some, None, Ok, Err, refl, sym, ap, subst, arith, append_assoc, length-append}
 use Rattle.std.specs.Prelude.{codes}
 use Rattle.std.specs.Fmt.{signed_decimal}
 use Rattle.std.specs.List.{AllByRecursion}
@@ -94,8 +94,7 @@ rows_fed : (ns : Names) (d : Due) (at : List (ℤ × RowName) → OpenSums) (don
 rows_fed ns d at done [] takes o g few = ap (λ (rows : List (ℤ × RowName)). owing ns d (Some (at rows))) (sym (append-nil done))
 rows_fed ns d at done (x ∷ more) takes o g few =
     let next = done ++ x ∷ [] in
-    let rest = rows_fed ns d at next more takes o g.1 (omega (arith, few, length-append done (x ∷ []))) in
-    (
+    let rest = rows_fed ns d at next more takes o g.1 (omega (arith, few, length-append done (x ∷ []))) in (
       owing ns d (Some (at next)),
       one_row ns d at done x takes o g.0 (omega (arith, few)),
       subst (λ (rows : List (ℤ × RowName)). Fed (owing ns d (Some (at next))) (map (row_line ns) more) (owing ns d (Some (at rows)))) (append_assoc done (x ∷ []) more) rest,

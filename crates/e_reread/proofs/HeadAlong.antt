@@ -1,6 +1,5 @@
 -- The lines of a statement are taken in the one spelling of a derivation.
-use Rattle.std.proofs.Common.{◌≡◌, ℕ, zero, suc, ◌+◌, Bool, true, false, cond, not, ◌&&◌, List, [], ◌∷◌, ◌++◌, length, map, replicate, Option, Some, None, Result, Ok, Err, refl, sym, ap, subst, ◌∙◌, append_assoc}
-use Rattle.std.specs.Prelude.{◌==◌}
+use Rattle.std.proofs.Common.{◌≡◌, ℕ, zero, suc, ◌+◌, Bool, true, false, cond, List, [], ◌∷◌, ◌++◌, length, map, replicate, Option, Some, None, Result, Ok, refl, sym, ap, subst, ◌∙◌, append_assoc}
 use Rattle.std.proofs.lemmas.List.{append-nil}
 use Rattle.e_literal.specs.declared.object.Sort.{Sort}
 use Rattle.e_literal.specs.declared.object.Obj.{Obj}
@@ -9,7 +8,6 @@ use Rattle.e_literal.specs.Scopes.{same_sort}
 use Rattle.e_deriv.specs.declared.names.Names.{Names}
 use Rattle.e_theorem.specs.declared.statement.Statement.{Statement}
 use Rattle.e_book.specs.declared.fault.Kind.{Kind}
-use Rattle.e_book.specs.declared.fault.Kind.TheVariants.{Malformed}
 use Rattle.e_book.specs.declared.literal.RawLit.{RawLit}
 use Rattle.e_book.specs.declared.form.Form.{Form}
 use Rattle.e_book.specs.declared.form.Form.TheVariants as forms
@@ -17,14 +15,14 @@ use Rattle.e_book.specs.declared.draft.Draft.{Draft}
 use Rattle.e_book.specs.declared.draft.Place.TheVariants.{Giving, Making, Showing}
 use Rattle.e_book.specs.declared.fault.What.TheVariants as limits
 use Rattle.e_book.specs.Reading.{◌>>=◌, with_front}
-use Rattle.e_book.specs.Limits.{what_of, within, most_facts}
+use Rattle.e_book.specs.Limits.{within, most_facts}
 use Rattle.e_book.specs.Headed.{Headed}
 use Rattle.e_book.specs.Scope.{lits_in}
 use Rattle.e_book.specs.Steps.{few_monos, terms_behind, with_terms, allowed, declared, declares, supposes, makes, shows, proof_begun, stepped, step}
 use Rattle.e_book.specs.Book.{is_done}
 use Rattle.e_book.specs.Canonical.{line_of, Group, group, grouped_before, grouped, name_of_object, declare_form, made_form, given_form, show_form, declared_objects, made_objects, given_forms, shown_forms}
 use Rattle.e_book.proofs.Respelled.{GoodForm, as_read}
-use Rattle.e_book.proofs.Declared.{Runs, form_step}
+use Rattle.e_book.proofs.Declared.{Runs}
 use Rattle.e_book.proofs.InScope.{bind_ok, ok_is}
 use Rattle.e_read.specs.declared.owed.Due.TheVariants as due
 use Rattle.e_read.specs.declared.kept.Kept.{Kept}

@@ -1,5 +1,5 @@
 -- Lines that are taken one after another, in the one spelling of a derivation.
-use Rattle.std.proofs.Common.{◌≡◌, ℕ, Bool, true, false, List, [], ◌∷◌, ◌++◌, map, Option, Some, None, Ok, refl, sym, ap, subst, ◌∙◌, append_assoc}
+use Rattle.std.proofs.Common.{◌≡◌, ℕ, true, false, List, [], ◌∷◌, ◌++◌, map, Option, Some, None, Ok, refl, sym, ap, subst, ◌∙◌, append_assoc}
 use Rattle.std.specs.Prelude.{codes}
 use Rattle.std.specs.Option.{option_to_list}
 use Rattle.std.specs.Str.{bytes_eq}
@@ -11,7 +11,6 @@ use Rattle.e_book.specs.declared.lets.RawLet.{RawLet}
 use Rattle.e_book.specs.declared.form.Form.{Form}
 use Rattle.e_book.specs.declared.form.Form.TheVariants as forms
 use Rattle.e_book.specs.declared.draft.Draft.{Draft}
-use Rattle.e_book.specs.Reading.{◌>>=◌}
 use Rattle.e_book.specs.Headed.{Headed}
 use Rattle.e_book.specs.Steps.{step}
 use Rattle.e_book.specs.Book.{is_done}
@@ -32,7 +31,7 @@ use Rattle.e_read.specs.Owed.{marked, settled}
 use Rattle.e_read.specs.Needs.{due_of}
 use Rattle.e_read.specs.Text.{stepped, worded}
 use Rattle.e_reread.proofs.MarksAgain.{MarkNamed, mark_tokens_again, strict_mark_again}
-use Rattle.e_reread.proofs.Feeding.{bar_words, OneMark, Fed, owing}
+use Rattle.e_reread.proofs.Feeding.{OneMark, Fed, owing}
 use Rattle.e_reread.proofs.CertsPut.{Keeps}
 
 -- ---- lines of the script are in the one spelling

@@ -1,12 +1,11 @@
 -- The line of a mark is read as that mark.
-use Rattle.std.proofs.Common.{◌≡◌, ℕ, zero, suc, ◌≤◌, ◌<◌, ◌^◌, ℤ, pos, negsuc, neg_ℤ, Bool, true, false, not, ◌&&◌, ◌||◌, ltb, leb, eqb, List, [], ◌∷◌, length, Ok, refl, sym, ap, subst, ◌∙◌, arith, rules, tests, true≢false}
+use Rattle.std.proofs.Common.{◌≡◌, ℕ, zero, suc, ◌≤◌, ◌<◌, ◌^◌, ℤ, pos, negsuc, Bool, true, false, not, ◌||◌, ltb, leb, eqb, List, [], ◌∷◌, length, Ok, refl, ◌∙◌, arith, rules, tests}
 use Rattle.std.specs.Prelude.{codes, unsigned_abs}
 use Rattle.std.specs.Fmt.{decimal, signed_decimal}
 use Rattle.std.specs.Ordering.{int_eq}
 use Rattle.std.specs.Str.{bytes_eq}
 use Rattle.std.specs.List.{list_all}
 use Rattle.std.proofs.lemmas.Bool.{leb-true, lt-ltb, le-leb, ne_eqb, not-true}
-use Rattle.std.proofs.lemmas.Bool.Decides.{Decides-int_eq}
 use Rattle.e_text.specs.Names.{is_digit, is_title}
 use Rattle.e_text.specs.Numerals.{is_numeral}
 use Rattle.e_text.specs.Tokens.{is_blank, has_bytes, is_token, tokens_of, AreTokens}

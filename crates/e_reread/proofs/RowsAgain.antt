@@ -1,5 +1,5 @@
 -- A row of a certificate, with the names of its objects, is read as that row.
-use Rattle.std.proofs.Common.{◌≡◌, Bool, true, false, ◌&&◌, List, [], ◌∷◌, Ok, refl}
+use Rattle.std.proofs.Common.{◌≡◌, Bool, true, false, ◌&&◌, [], ◌∷◌, Ok, refl}
 use Rattle.std.specs.List.{list_all}
 use Rattle.e_literal.specs.declared.object.Sort.TheVariants.{Point}
 use Rattle.e_literal.specs.declared.object.Obj.{Obj}

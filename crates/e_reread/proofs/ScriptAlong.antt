@@ -1,12 +1,12 @@
 -- The lines of a script with their certificates are taken.
-use Rattle.std.proofs.Common.{◌≡◌, ℕ, ◌+◌, ◌≤◌, Bool, true, false, leb, ◌&&◌, List, [], ◌∷◌, ◌++◌, length, Option, Some, None, Ok, refl, sym, ap, subst, ◌∙◌, arith}
+use Rattle.std.proofs.Common.{◌≡◌, ℕ, ◌+◌, ◌≤◌, true, leb, List, [], ◌∷◌, ◌++◌, Option, Some, None, refl, subst, ◌∙◌, arith}
 use Rattle.std.specs.List.{list_all, flat_map}
 use Rattle.std.proofs.lemmas.Bool.{leb-true}
 use Rattle.e_literal.specs.declared.object.Sort.{Sort}
 use Rattle.e_literal.specs.declared.object.Obj.{Obj}
 use Rattle.e_literal.specs.declared.object.Scope.{Scope}
 use Rattle.e_literal.specs.declared.literal.Lit.{Lit}
-use Rattle.e_literal.specs.Literal.{negation, all_in_scope}
+use Rattle.e_literal.specs.Literal.{negation}
 use Rattle.e_literal.specs.WellFormed.{is_well_formed}
 use Rattle.e_literal.specs.Scopes.{grown, are_of_sorts}
 use Rattle.e_literal.specs.Facts.{joined, joined_all}
@@ -18,17 +18,17 @@ use Rattle.e_clause.specs.declared.cert.Cert.{Cert}
 use Rattle.e_clause.specs.Certify.{certify_all}
 use Rattle.e_construct.specs.declared.construction.Construction.{Construction}
 use Rattle.e_construct.specs.declared.superpose.Superpose.{Superpose}
-use Rattle.e_construct.specs.Construct.{sorts_of, made, gives, needs}
+use Rattle.e_construct.specs.Construct.{made, gives, needs}
 use Rattle.e_construct.specs.Superposing as superposing
 use Rattle.e_deriv.specs.PlainStep.{Cited, Inferred, Made, Applied, Claimed, Copied}
 use Rattle.e_deriv.specs.Naming.{named}
 use Rattle.e_deriv.specs.Script.{Script, Cite, Hence, Make, Apply, Claim, Superposed, Qed, Contradiction, Cases, size, depth, erased}
 use Rattle.e_deriv.specs.Goal.{Goal, goal_of, goal_with}
-use Rattle.e_deriv.specs.Lines.{Line, line, lines}
+use Rattle.e_deriv.specs.Lines.{line, lines}
 use Rattle.e_deriv.specs.Parts.{written as written_args}
 use Rattle.e_deriv.specs.Steps.{is_citation}
 use Rattle.e_deriv.specs.Certified.{is_certified}
-use Rattle.e_verify.specs.Written.{is_good_cert, is_written_well}
+use Rattle.e_verify.specs.Written.{is_good_cert}
 use Rattle.e_verify.proofs.Passing.{cite_written, hence_written, make_written, apply_written, claim_written, superposed_written, qed_written, contradiction_written, cases_written}
 use Rattle.e_book.specs.declared.blocks.Opened.TheVariants as opened
 use Rattle.e_book.specs.declared.steps.CloseLine.TheVariants as closes
@@ -182,15 +182,15 @@ make_along known d i form names certs rest given goal s t =
       lines = omega (arith, t.lines);
       along = λ e h done.
           then_along known (proving d i) (proving d (constructed i form names)) e (let_form i.in_scope form names) (one_each (needs form)) (flat_map (cert_lines i.in_scope) certs) (Some (kept.Certs certs))
-              (script_lines known (named i.in_scope (made form) names) rest) (kepts rest) (record {
-                good = let_named i.in_scope form names r.order good (list_names names (both (list_all _ names) (is_plain (erased rest)) r.plain).0);
-                strict = refl;
-                apart = refl;
-                owes = let_due known (proving d i) form names r.order good;
-                steps = step_let known d i form names r.order good r.new_names.2 (omega (arith, r.few, at_least (erased rest))) most;
-                going = refl;
-                keeps = certs_kept i.in_scope (needs form) certs r.order (good_certs i.in_scope given (needs form) certs one.certs (make_written form names certs rest s.written).0);
-              }) (t.along e (one_more d t.last i (Made form names []) (erased rest) e h) done);
+          (script_lines known (named i.in_scope (made form) names) rest) (kepts rest) (record {
+            good = let_named i.in_scope form names r.order good (list_names names (both (list_all _ names) (is_plain (erased rest)) r.plain).0);
+            strict = refl;
+            apart = refl;
+            owes = let_due known (proving d i) form names r.order good;
+            steps = step_let known d i form names r.order good r.new_names.2 (omega (arith, r.few, at_least (erased rest))) most;
+            going = refl;
+            keeps = certs_kept i.in_scope (needs form) certs r.order (good_certs i.in_scope given (needs form) certs one.certs (make_written form names certs rest s.written).0);
+          }) (t.along e (one_more d t.last i (Made form names []) (erased rest) e h) done);
     }
 
 -- ---- uses of earlier theorems
@@ -298,8 +298,8 @@ claim_along known d i shown inner rest given goal s t u =
             going = refl;
             keeps = nothing_kept i.in_scope;
           }) (along_append known (proving d begins) (proving d after) e (script_lines known i.in_scope inner) (script_lines known i.in_scope rest) (kepts inner) (kepts rest)
-              (t.along (proving d after) (claim_closed d i t.last shown (steps_of (erased inner)) (close_of (erased inner)) (erased inner) (same_script (erased inner) p.plain_inner) p.facts p.terms) refl)
-              (u.along e (one_more d u.last i (Claimed shown (erased inner)) (erased rest) e h) done));
+          (t.along (proving d after) (claim_closed d i t.last shown (steps_of (erased inner)) (close_of (erased inner)) (erased inner) (same_script (erased inner) p.plain_inner) p.facts p.terms) refl)
+          (u.along e (one_more d u.last i (Claimed shown (erased inner)) (erased rest) e h) done));
     }
 
 -- ---- superpositions
@@ -361,17 +361,17 @@ copy_along known d i form names shown certs inner rest given goal s t u =
       lines = omega (arith, t.lines, u.lines);
       along = λ e h done.
           then_along known (proving d i) (proving d begins) e (superpose_form i.in_scope form names shown) (one_each wanted) (flat_map (cert_lines i.in_scope) certs) (Some (kept.Certs certs))
-              (script_lines known begins.in_scope inner ++ script_lines known i.in_scope rest) (kepts inner ++ kepts rest) (record {
-                good = superpose_named i.in_scope form names shown p.good;
-                strict = all_direct i.in_scope shown;
-                apart = refl;
-                owes = superpose_due known (proving d i) form names shown p.good;
-                steps = step_superpose known d i form names shown p.good p.few (omega (arith, r.few, at_least (erased rest))) (omega (arith, r.shallow, deep_at_least (erased inner))) p.facts_first p.terms_first;
-                going = refl;
-                keeps = certs_kept i.in_scope wanted certs r.order (good_certs i.in_scope given wanted certs c (superposed_written form names shown certs inner rest s.written).1);
-              }) (along_append known (proving d begins) (proving d after) e (script_lines known begins.in_scope inner) (script_lines known i.in_scope rest) (kepts inner) (kepts rest)
-                  (t.along (proving d after) (superpose_closed d i t.last form names shown (steps_of (erased inner)) (close_of (erased inner)) (erased inner) (same_script (erased inner) p.plain_inner) p.facts p.terms) refl)
-                  (u.along e (one_more d u.last i (Copied form names shown [] (erased inner)) (erased rest) e h) done));
+          (script_lines known begins.in_scope inner ++ script_lines known i.in_scope rest) (kepts inner ++ kepts rest) (record {
+            good = superpose_named i.in_scope form names shown p.good;
+            strict = all_direct i.in_scope shown;
+            apart = refl;
+            owes = superpose_due known (proving d i) form names shown p.good;
+            steps = step_superpose known d i form names shown p.good p.few (omega (arith, r.few, at_least (erased rest))) (omega (arith, r.shallow, deep_at_least (erased inner))) p.facts_first p.terms_first;
+            going = refl;
+            keeps = certs_kept i.in_scope wanted certs r.order (good_certs i.in_scope given wanted certs c (superposed_written form names shown certs inner rest s.written).1);
+          }) (along_append known (proving d begins) (proving d after) e (script_lines known begins.in_scope inner) (script_lines known i.in_scope rest) (kepts inner) (kepts rest)
+          (t.along (proving d after) (superpose_closed d i t.last form names shown (steps_of (erased inner)) (close_of (erased inner)) (erased inner) (same_script (erased inner) p.plain_inner) p.facts p.terms) refl)
+          (u.along e (one_more d u.last i (Copied form names shown [] (erased inner)) (erased rest) e h) done));
     }
 
 -- ---- splits
@@ -437,7 +437,7 @@ cases_along known d i l one two given goal s t u =
             going = refl;
             keeps = nothing_kept ns;
           }) (along_append known (proving d (opens i l)) (splitting d between) e (script_lines known ns one) (line_of else_form ∷ script_lines known ns two) (kepts one) (kepts two)
-              (t.along (splitting d between) (first_closed d i t.last l (steps_of (erased one)) (close_of (erased one)) (erased one) (same_script (erased one) p.plain_first)) refl) behind_else);
+          (t.along (splitting d between) (first_closed d i t.last l (steps_of (erased one)) (close_of (erased one)) (erased one) (same_script (erased one) p.plain_first)) refl) behind_else);
     }
 
 -- ---- other lines that close a block

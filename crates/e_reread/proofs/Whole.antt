@@ -1,6 +1,5 @@
 -- The lines of a derivation's one spelling are read as the theorem with that derivation.
-use Rattle.std.proofs.Common.{◌≡◌, ℕ, Bool, true, false, cond, List, [], ◌∷◌, ◌++◌, length, map, Option, Some, None, Result, Ok, Err, refl, sym, ap, subst, ◌∙◌, arith, append_assoc}
-use Rattle.std.specs.Prelude.{codes}
+use Rattle.std.proofs.Common.{◌≡◌, ℕ, true, false, List, [], ◌∷◌, ◌++◌, length, map, Option, Some, None, Result, Ok, Err, refl, sym, ap, subst, ◌∙◌, arith, append_assoc}
 use Rattle.std.specs.List.{list_all}
 use Rattle.std.proofs.lemmas.List.{append-nil}
 use Rattle.e_text.specs.Tokens.{tokens_of}
@@ -27,13 +26,12 @@ use Rattle.e_book.specs.declared.draft.Draft.{Draft}
 use Rattle.e_book.specs.Headed.{Headed, stated_by}
 use Rattle.e_book.specs.Scope.{scope_of_names}
 use Rattle.e_book.specs.Steps.{begin, begun, closed, stepped, step}
-use Rattle.e_book.specs.Entry.{Entry, entry_of_draft}
+use Rattle.e_book.specs.Entry.{Entry}
 use Rattle.e_book.specs.Fits.{few_facts, few_terms, count_monomials}
 use Rattle.e_book.specs.Book.{is_done}
 use Rattle.e_book.specs.Canonical.{line_of, given_form, show_form, declare_form, made_form, grouped, declared_objects, made_objects, given_forms, shown_forms, end_form, names_of_proof}
 use Rattle.e_book.specs.HasSpelling.{HasSpelling}
 use Rattle.e_book.proofs.Differ.{both}
-use Rattle.e_book.proofs.Respelled.{as_read}
 use Rattle.e_book.proofs.LineWords.{words_again}
 use Rattle.e_book.proofs.Lookups.{InOrder, in_order}
 use Rattle.e_book.proofs.Declared.{Runs, runs_append, Few, run_from, all_first}
@@ -51,12 +49,12 @@ use Rattle.e_read.specs.declared.reading.Reading.{Reading}
 use Rattle.e_read.specs.Filled.{filled}
 use Rattle.e_read.specs.Owed.{settled}
 use Rattle.e_read.specs.Needs.{due_of}
-use Rattle.e_read.specs.Text.{Piece, Derived, owes_nothing, at_start, gone_on, all_settled, worded, taken, derived, finished, is_end, piece_from}
-use Rattle.e_spell.specs.Spelling.{script_lines, spelled_lines}
+use Rattle.e_read.specs.Text.{Piece, Derived, owes_nothing, at_start, worded, taken, derived, finished, is_end, piece_from}
+use Rattle.e_spell.specs.Spelling.{script_lines}
 use Rattle.e_reread.specs.Laws.{ShowsEnded, CanBeSpelled, SpelledIsRead}
 use Rattle.e_reread.proofs.FilledBack.{kepts, filled_back}
-use Rattle.e_reread.proofs.LinesTaken.{strict_form_again, no_bar, OneLine, AllTaken, Stands, Along, along_append, form_leads}
-use Rattle.e_reread.proofs.Standing.{Stood, Spelled}
+use Rattle.e_reread.proofs.LinesTaken.{strict_form_again, no_bar, AllTaken, Stands, Along, along_append, form_leads}
+use Rattle.e_reread.proofs.Standing.{Stood}
 use Rattle.e_reread.proofs.ScriptAlong.{script_spelled}
 use Rattle.e_reread.proofs.HeadAlong.{draft_is, head_along, statement_heads}
 
