@@ -26,7 +26,7 @@ use Rattle.e_book.proofs.Differ.{both}
 use Rattle.e_book.proofs.Lookups.{InOrder, objects_again}
 use Rattle.e_book.proofs.RuleNames.{title_again, rule_name_is}
 use Rattle.e_read.specs.declared.owed.OpenTransfer.{OpenTransfer}
-use Rattle.e_read.specs.Owed.{transfer_rule, transfer_in}
+use Rattle.e_read.specs.Owed.{transfer_rule, transfer_at, transfer_in}
 use Rattle.e_reread.proofs.Feeding.{GoodPart}
 
 -- ---- the row of the rule
@@ -119,7 +119,7 @@ part_way rule args done n = record { rule = rule; args = args; parts = done; owe
 
 pub transfer_again : (ns : Names) (l : Lit) (t : TransferCert) → InOrder ns → GoodTransfer ns l t
     → transfer_in ns l (rule_name t.rule) (map (name_of_object ns) t.args) ≡ Ok (part_way t.rule t.args [] (length t.parts))
-unfolding transfer_in
+unfolding transfer_in transfer_at
 transfer_again ns l t o g =
     let r = of_row t.rule t.args g.lits g.instance in
     let a = arguments_read ns r.row t.args o r.fitting g.args in
