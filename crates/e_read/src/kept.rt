@@ -170,7 +170,7 @@ impl KeptLines {
 
 /// What is left of it, seen as its list.
 #[derive(Drop)]
-pub(crate) struct Queue {
+pub struct Queue {
     rest: IntoIter<Kept>,
 }
 

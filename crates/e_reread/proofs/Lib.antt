@@ -1,0 +1,14 @@
+pub mod FilledBack
+pub mod MarksAgain
+pub mod RowsAgain
+pub mod Feeding
+pub mod TransfersAgain
+pub mod CertsPut
+pub mod CertsGood
+pub mod LinesTaken
+pub mod Readies
+pub mod DueAgain
+pub mod Standing
+pub mod ScriptAlong
+pub mod HeadAlong
+pub mod Whole
