@@ -1,38 +1,8 @@
 //! `elements`: a proof checker for System E.
 #![tactic(auto)]
 
-mod blocks;
-#[cfg(test)]
-mod book_tests;
-mod checker;
-mod command;
-mod input;
-pub mod laws;
-#[cfg(test)]
-mod let_tests;
-#[cfg(test)]
-mod limit_tests;
-mod maker;
-mod output;
-#[cfg(test)]
-mod refusal_tests;
-#[cfg(test)]
-mod rule_tests;
-mod runner;
-#[cfg(test)]
-mod runs;
-mod status;
-mod store;
-#[cfg(test)]
-mod tests;
-mod trial;
-mod verifier;
-#[cfg(test)]
-mod verify_tests;
-
 use e_io::{StdSink, StdSource};
-pub use runner::run;
-pub use status::{Status, exit_code};
+use e_run::{Status, exit_code, run};
 use std::alloc::{AllocError, Global};
 use std::env;
 use std::io::ErrorKind;

@@ -1,0 +1,152 @@
+-- A book that has an outcome is answered so.
+use Rattle.std.proofs.Common.{◌≡◌, inl, inr, ℕ, List, [], Option, Some, None, refl, sym, ap, subst, ◌∙◌}
+use Rattle.e_run.specs.declared.status.Status.{Status}
+use Rattle.e_run.specs.declared.status.Status.TheVariants as status
+use Rattle.std.specs.Prelude.{Contains, Bool, true, false, MatchBool}
+use Rattle.e_literal.specs.declared.object.Term.{Term}
+use Rattle.e_literal.specs.declared.literal.Lit.{Lit}
+use Rattle.e_clause.specs.Wide.{IsWideLit, IsTooWideLit}
+use Rattle.e_deriv.specs.declared.stop.Wanted.{Wanted}
+use Rattle.e_deriv.specs.declared.stop.Wanted.TheVariants.{Literal, Match, Contradiction as AContradiction}
+use Rattle.e_deriv.specs.declared.names.Names.{Names}
+use Rattle.e_deriv.specs.Script.{Script, Cite, Hence, Make, Apply, Claim, Superposed, Qed, Contradiction, Cases}
+use Rattle.e_deriv.specs.Lines.{Line, theorem_at}
+use Rattle.e_deriv.specs.Parts.{has_no_blank}
+use Rattle.e_deriv.specs.Steps.{needs_as_written}
+use Rattle.e_theorem.specs.WideChoice.{SomeChoiceIsWide, SomeChoiceIsTooWide}
+use Rattle.e_literal.specs.declared.object.Obj.{Obj}
+use Rattle.e_literal.specs.declared.object.Scope.{Scope}
+use Rattle.e_literal.specs.Use.{Stated}
+use Rattle.e_deriv.specs.Refused.{SomeIsWide, IsWideAt, IsTooWide}
+use Rattle.e_book.specs.Headed.{Headed, stated_by}
+use Rattle.e_book.specs.Entry.{Entry}
+use Rattle.e_run.specs.Outcome.{Rest, End, EndsBook, Begins, StopsAt, RefusedAt, HasWide, lines_of_book}
+use Rattle.e_run.specs.Outcome as ends
+use Rattle.e_run.specs.Answers.{Checks, ChecksBook, EndsSo, Refuses, Widens, IsAnswer, Answers, AnswersUsage, theorems_of}
+use Rattle.e_run.specs.Endings.{Closes}
+use Rattle.e_run.specs.LastLines.{usage_line}
+use Rattle.e_run.proofs.OneOutcome.{outcome_is_one}
+
+answered_at : (lines : Rest) (end other : End) (answer : Status) → other ≡ end → IsAnswer lines other answer → IsAnswer lines end answer
+answered_at lines end other answer e h = subst (λ (x : End). IsAnswer lines x answer) e h
+
+-- where the book ends so behind these theorems, an answer to that is one to its outcome
+pub answered_so : (text : List ℕ) (end : End) (answer : Status) (theorems : List Entry) (known : List Headed) (rest : Rest) (other : End) → EndsBook text end
+    → Begins (lines_of_book text) theorems known rest → EndsSo (lines_of_book text) other known rest → IsAnswer (lines_of_book text) other answer → IsAnswer (lines_of_book text) end answer
+answered_so text end answer theorems known rest other h b e k =
+    answered_at (lines_of_book text) end other answer
+    (outcome_is_one (lines_of_book text) theorems h.theorems other end (record { known = known; rest = rest; begins = b; ends = e }) h.outcome) k
+
+stop_of_refusal : (known : List Headed) (t : Entry) (title : List ℕ) (step : ℕ) (wanted : Wanted) (values : Option (List (Term × ℕ))) (names : Names)
+    → RefusedAt known t title step wanted values names → StopsAt known t title step wanted names
+stop_of_refusal known t title step wanted values names r =
+    record { titled = r.titled; first = record { line = r.refused.line; context = r.refused.context; lacks = r.refused.lacks }; named = r.named }
+
+-- where the next theorem is refused the book stops there
+pub stops_so : (lines : Rest) (known : List Headed) (rest : Rest) (title : List ℕ) (step : ℕ) (wanted : Wanted) (values : Option (List (Term × ℕ))) (names : Names)
+    → Refuses lines title step wanted values names known rest → EndsSo lines (ends.Unlicensed title step wanted names) known rest
+stops_so lines known rest title step wanted values names r = (r.0, r.1, r.2, stop_of_refusal known r.0 title step wanted values names r.3)
+
+-- a literal that is too wide is wide
+wide_lit : (scope : Scope) (facts : List Lit) (l : Lit) (w : ℕ) → IsTooWideLit scope facts l w → IsWideLit scope facts l
+wide_lit scope facts l w h =
+    record { not_plain = h.not_plain; rows = h.rows; is_system = h.is_system; is_wide = h.has_width.is_wide }
+
+some_wide : (before : List Stated) (x : Line) (l : Lit) (w : ℕ) → Contains (needs_as_written before x) l × IsTooWideLit x.scope x.facts l w → SomeIsWide before x
+some_wide before x l w h = record { lit = l; is_one = h.0; is_wide = wide_lit x.scope x.facts l w h.1 }
+
+some_choice_wide : (t : Stated) (scope : Scope) (facts : List Lit) (pattern : List (Option Obj)) (w : ℕ)
+    → SomeChoiceIsTooWide t scope facts pattern w → SomeChoiceIsWide t scope facts pattern
+some_choice_wide t scope facts pattern w h =
+    record { args = h.args; is_choice = h.is_choice; not_above = h.not_above; lit = h.lit; is_given = h.is_given; is_wide = wide_lit scope facts h.lit w h.is_wide }
+
+written_wide : (b : Bool) (A B : Type 0) → b ≡ true → A → MatchBool b A B
+written_wide true A B e h = h
+written_wide false A B e h = absurd cc
+
+blank_wide : (b : Bool) (A B : Type 0) → b ≡ false → B → MatchBool b A B
+blank_wide true A B e h = absurd cc
+blank_wide false A B e h = h
+
+-- a line that is too wide is wide
+wide_line : (before : List Stated) (x : Line) (here : Script) (wanted : Wanted) (w : ℕ) → IsTooWide before x here wanted w → IsWideAt before x here
+wide_line before x (Contradiction against) AContradiction w h =
+    record { no_clash = h.no_clash; rows = h.rows; is_system = h.is_system; is_wide = h.has_width.is_wide }
+wide_line before x (Contradiction against) (Literal l) w h = absurd h
+wide_line before x (Contradiction against) Match w h = absurd h
+wide_line before x (Apply theorem pattern names certs rest) (Literal l) w h =
+    written_wide (has_no_blank pattern) (SomeIsWide before x) (SomeChoiceIsWide (theorem_at before theorem) x.scope x.facts pattern) h.0 (some_wide before x l w (h.1, h.2))
+wide_line before x (Apply theorem pattern names certs rest) Match w h =
+    blank_wide (has_no_blank pattern) (SomeIsWide before x) (SomeChoiceIsWide (theorem_at before theorem) x.scope x.facts pattern) h.0
+    (some_choice_wide (theorem_at before theorem) x.scope x.facts pattern w h.1)
+wide_line before x (Cite by rest) (Literal l) w h = some_wide before x l w h
+wide_line before x (Hence lit cert rest) (Literal l) w h = some_wide before x l w h
+wide_line before x (Make form names certs rest) (Literal l) w h = some_wide before x l w h
+wide_line before x (Claim shown inner rest) (Literal l) w h = some_wide before x l w h
+wide_line before x (Superposed form names shown certs inner rest) (Literal l) w h = some_wide before x l w h
+wide_line before x (Qed objects certs) (Literal l) w h = some_wide before x l w h
+wide_line before x (Cases lit first second) (Literal l) w h = some_wide before x l w h
+wide_line before x here Match w h = absurd h
+wide_line before x here AContradiction w h = absurd h
+
+pub widens_so : (lines : Rest) (theorems : List Entry) (known : List Headed) (rest : Rest) (title : List ℕ) (step : ℕ) (wanted : Wanted) (width : ℕ) (names : Names)
+    → Begins lines theorems known rest → Widens lines title step wanted width names known rest → HasWide lines
+widens_so lines theorems known rest title step wanted width names b w =
+    let at = w.3.too_wide in
+    record {
+      theorems = theorems;
+      known = known;
+      rest = rest;
+      begins = b;
+      wide = (w.0, w.1, w.2, record { step = step; line = at.line; context = at.context; is_wide = wide_line (stated_by known) at.line at.line.here wanted width at.too_wide });
+    }
+
+pub is_answer_wide : (lines : Rest) (end : End) (title : List ℕ) (step : ℕ) (wanted : Wanted) (width : ℕ) → HasWide lines → IsAnswer lines end (status.TooWide title step wanted width)
+is_answer_wide lines (ends.Accepted n) title step wanted width h = h
+is_answer_wide lines (ends.Unlicensed a b c d) title step wanted width h = h
+is_answer_wide lines (ends.Faulty f) title step wanted width h = h
+
+-- by what the answer is
+pub answered : (text : List ℕ) (end : End) (old new : Option (List ℕ)) (answer : Status) → EndsBook text end → Checks (lines_of_book text) old new answer → IsAnswer (lines_of_book text) end answer
+answered text end old new (status.Accepted n) h w =
+    let o = w.outputs in
+    answered_so text end (status.Accepted n) (theorems_of o.derived) o.known o.rest (ends.Accepted n) h o.begins o.holds refl
+answered text end old new (status.Unlicensed title step wanted values) h w =
+    let o = w.outputs.1 in
+    let names = w.outputs.0 in
+    answered_so text end (status.Unlicensed title step wanted values) (theorems_of o.derived) o.known o.rest (ends.Unlicensed title step wanted names) h o.begins
+    (stops_so (lines_of_book text) o.known o.rest title step wanted values names o.holds) (refl, refl, refl)
+answered text end old new (status.TooWide title step wanted width) h w =
+    let o = w.outputs.1 in
+    is_answer_wide (lines_of_book text) end title step wanted width
+    (widens_so (lines_of_book text) (theorems_of o.derived) o.known o.rest title step wanted width w.outputs.0 o.begins o.holds)
+answered text end old new (status.Fault f) h w =
+    let o = w.outputs in
+    answered_so text end (status.Fault f) (theorems_of o.derived) o.known o.rest (ends.Faulty f) h o.begins o.holds refl
+answered text end old new status.Usage h w = absurd w
+answered text end old new (status.Verified n) h w = absurd w
+answered text end old new (status.Bad title step) h w = absurd w
+answered text end old new (status.Garbled line) h w = absurd w
+answered text end old new status.TextLimit h w = absurd w
+answered text end old new (status.Made n) h w = absurd w
+answered text end old new (status.Tried n s) h w = absurd w
+answered text (ends.Accepted n) old new status.ReadFault h w = tt
+answered text (ends.Unlicensed a b c d) old new status.ReadFault h w = tt
+answered text (ends.Faulty f) old new status.ReadFault h w = tt
+answered text (ends.Accepted n) old new status.WriteFault h w = tt
+answered text (ends.Unlicensed a b c d) old new status.WriteFault h w = tt
+answered text (ends.Faulty f) old new status.WriteFault h w = tt
+answered text (ends.Accepted n) old new status.NoMemory h w = tt
+answered text (ends.Unlicensed a b c d) old new status.NoMemory h w = tt
+answered text (ends.Faulty f) old new status.NoMemory h w = tt
+
+-- where the source tells its bytes
+pub answers : (left old new : Option (List ℕ)) (answer : Status) → ChecksBook left old new answer → Answers left answer
+answers left old new answer c text end told h =
+    let all = subst (λ (l : Option (List ℕ)). ChecksBook l old new answer) told c in
+    answered text end old new answer h (subst (λ (t : List ℕ). Checks (lines_of_book t) old new answer) all.1 all.2)
+
+-- the usage line was written, or a front of it
+pub answers_usage : (old new : Option (List ℕ)) (answer : Status) → Closes old new usage_line status.Usage answer → AnswersUsage old new answer
+answers_usage old new answer (inl c) = subst (AnswersUsage old new) (sym c.0) c.1
+answers_usage old new answer (inr c) = subst (AnswersUsage old new) (sym c.0) c.1

@@ -1,0 +1,152 @@
+-- A book that is accepted has no line with a fault, and so no byte past its limit.
+use Rattle.std.proofs.Common.{◌≡◌, ℕ, zero, suc, ◌+◌, ◌-◌, ◌<◌, ◌≤◌, Bool, true, false, cond, ltb, List, [], ◌∷◌, ◌++◌, length, take, drop, inl, inr, Option, Some, None, Result, Ok, Err, refl, sym, ap, subst, ◌∙◌, arith, length-drop, length-take-le}
+use Rattle.std.specs.List.{position_or_len, list_all}
+use Rattle.std.proofs.lemmas.Bool.{lt-ltb, cases_lt}
+use Rattle.e_text.specs.declared.line.LineEnd.{LineEnd}
+use Rattle.e_text.specs.declared.line.LineEnd.TheVariants.{TextEnd}
+use Rattle.e_text.specs.declared.line.LineFault.{LineFault}
+use Rattle.e_text.specs.declared.line.LineFault.TheVariants.{Bytes}
+use Rattle.e_text.specs.Tokens.{tokens_of}
+use Rattle.e_text.specs.Lines.{is_lf, Bounds, Spot, Seen, AreGood, checked, closed, ended, lines_of}
+use Rattle.e_text.proofs.FirstLine.{then_lines}
+use Rattle.e_text.proofs.WholeLines.{lines_of-closed, lines_of-open, spot_behind}
+use Rattle.e_book.specs.declared.fault.Kind.{Kind}
+use Rattle.e_book.specs.declared.fault.BookFault.{BookFault}
+use Rattle.e_book.specs.declared.draft.Draft.{Draft}
+use Rattle.e_book.specs.Reading.{◌>>=◌}
+use Rattle.e_book.specs.Headed.{Headed}
+use Rattle.e_book.specs.Entry.{Entry, entry_of_draft}
+use Rattle.e_book.specs.Book.{read_from, at_end, is_skipped, is_done, line_step, put_at}
+use Rattle.e_run.specs.Outcome.{Rest, with_theorem, Takes, Ends, Accepted, IsOutcome, lines_of_book}
+use Rattle.e_run.specs.declared.status.Status.{Status}
+use Rattle.e_run.specs.declared.status.Status.TheVariants as status
+use Rattle.e_run.specs.Answers.{Checks, IsAccepted, theorems_of}
+
+abbrev Answer : Type 0
+Answer = Result (Option (Entry × Rest)) BookFault
+
+abbrev found : Entry → Rest → Answer
+found t rest = Ok (Some (t, rest))
+
+abbrev none_left : Answer
+none_left = Ok None
+
+abbrev pair : Entry → Rest → Entry × Rest
+pair t rest = (t, rest)
+
+same_found : (t u : Entry) (xs ys : Rest) → found t xs ≡ found u ys → pair t xs ≡ pair u ys
+same_found t u xs ys e = cc
+
+bind_ok : {F A B : Type 0} (r : Result A F) (f : A → Result B F) (y : B) → (r >>= f) ≡ Ok y → (x : A) × (r ≡ Ok x) × (f x ≡ Ok y)
+bind_ok (Ok x) f y e = (x, refl, e)
+bind_ok (Err d) f y e = absurd cc
+
+at_end_found : (last : ℕ) (s : Option Draft) (t : Entry) (rest : Rest) → at_end last s ≡ found t rest → ⊥
+at_end_found last None t rest e = cc
+at_end_found last (Some d) t rest e = cc
+
+-- where a theorem is read, the lines are good if those behind it are
+by_found : (b : Bool) (e t : Entry) (lines rest : Rest) (r : Answer) → cond b (found e lines) r ≡ found t rest → AreGood rest → (r ≡ found t rest → AreGood lines) → AreGood lines
+by_found true e t lines rest r h good more = subst AreGood (sym (ap (λ (p : Entry × Rest). p.1) (same_found e t lines rest h))) good
+by_found false e t lines rest r h good more = more h
+
+by_skip : (b : Bool) (lines : Rest) (r q a : Answer) → cond b r q ≡ a → (r ≡ a → AreGood lines) → (q ≡ a → AreGood lines) → AreGood lines
+by_skip true lines r q a h skipped read = skipped h
+by_skip false lines r q a h skipped read = read h
+
+good_before : (known : List Headed) (last : ℕ) (s : Option Draft) (lines : Rest) (t : Entry) (rest : Rest) → read_from known last s lines ≡ found t rest → AreGood rest → AreGood lines
+good_before known last s [] t rest h good = absurd (at_end_found last s t rest h)
+good_before known last s (Err f ∷ lines) t rest h good = absurd cc
+good_before known last s (Ok l ∷ lines) t rest h good =
+    by_skip (is_skipped (tokens_of l.bytes)) lines (read_from known last s lines) (put_at l.number (line_step known s (tokens_of l.bytes)) >>= λ d. cond (is_done d) (found (entry_of_draft d) lines) (read_from known last (Some d) lines)) (found t rest) h
+    (λ e. good_before known last s lines t rest e good)
+    (λ q. let a = bind_ok (put_at l.number (line_step known s (tokens_of l.bytes))) (λ d. cond (is_done d) (found (entry_of_draft d) lines) (read_from known last (Some d) lines)) (Some (t, rest)) q in
+    by_found (is_done a.0) (entry_of_draft a.0) t lines rest (read_from known last (Some a.0) lines) a.2 good (λ e. good_before known last (Some a.0) lines t rest e good))
+
+by_none : (b : Bool) (e : Entry) (lines : Rest) (r : Answer) → cond b (found e lines) r ≡ none_left → (r ≡ none_left → AreGood lines) → AreGood lines
+by_none true e lines r h more = absurd cc
+by_none false e lines r h more = more h
+
+-- where none is read any more, all lines are good
+good_at_end : (known : List Headed) (last : ℕ) (s : Option Draft) (lines : Rest) → read_from known last s lines ≡ none_left → AreGood lines
+good_at_end known last s [] h = tt
+good_at_end known last s (Err f ∷ lines) h = absurd cc
+good_at_end known last s (Ok l ∷ lines) h =
+    by_skip (is_skipped (tokens_of l.bytes)) lines (read_from known last s lines) (put_at l.number (line_step known s (tokens_of l.bytes)) >>= λ d. cond (is_done d) (found (entry_of_draft d) lines) (read_from known last (Some d) lines)) none_left h
+    (λ e. good_at_end known last s lines e)
+    (λ q. let a = bind_ok (put_at l.number (line_step known s (tokens_of l.bytes))) (λ d. cond (is_done d) (found (entry_of_draft d) lines) (read_from known last (Some d) lines)) None q in
+    by_none (is_done a.0) (entry_of_draft a.0) lines (read_from known last (Some a.0) lines) a.2 (λ e. good_at_end known last (Some a.0) lines e))
+
+good_taken : (last : ℕ) (known : List Headed) (lines : Rest) (ts : List Entry) (now : List Headed) (rest : Rest) → Takes last known lines ts now rest → AreGood rest → AreGood lines
+good_taken last known lines [] now rest h good = subst AreGood (sym h.1) good
+good_taken last known lines (t ∷ ts) now rest h good =
+    good_before known last None lines t h.0 h.1 (good_taken last (with_theorem known t) h.0 ts now rest h.3 good)
+
+good_accepted : (lines : Rest) (ts : List Entry) (n : ℕ) → IsOutcome lines ts (Accepted n) → AreGood lines
+good_accepted lines ts n h = good_taken _ [] lines ts h.known h.rest h.begins (good_at_end h.known _ None h.rest h.ends.0)
+
+-- ---- a text without a faulty line is short enough
+
+not_passed : (w : Bounds) (at : Spot) (bytes : List ℕ) (end : LineEnd) (behind : ℕ) (rest : Rest) → w.most < behind → AreGood (then_lines (checked w at bytes end behind) rest) → ⊥
+not_passed w at bytes end behind rest far good =
+    let test : ltb w.most behind ≡ true = lt-ltb _ _ far in
+    rw test at good
+
+not_passed_alone : (w : Bounds) (at : Spot) (bytes : List ℕ) (end : LineEnd) (behind : ℕ) → w.most < behind → AreGood (checked w at bytes end behind ∷ []) → ⊥
+not_passed_alone w at bytes end behind far good =
+    let test : ltb w.most behind ≡ true = lt-ltb _ _ far in
+    rw test at good
+
+good_rest : (r : Result Seen LineFault) (rest : Rest) → AreGood (then_lines r rest) → AreGood rest
+good_rest (Ok l) rest h = h
+good_rest (Err f) rest h = absurd h
+
+short_by_size : (size : ℕ) (w : Bounds) (at : Spot) (text : List ℕ) → length text ≤ size → at.before ≤ w.most → AreGood (lines_of w at text) → at.before + length text ≤ w.most
+short_by_size zero w at [] le within good = omega arith
+short_by_size zero w at (b ∷ bs) le within good = absurd (omega arith)
+short_by_size (suc size) w at [] le within good = omega arith
+short_by_size (suc size) w at (b ∷ bs) le within good =
+    let text : List ℕ = b ∷ bs in
+    let n = position_or_len is_lf text in
+    elim (cases_lt n (length text)) [
+      | inl lt ↦
+          let part = take n text in
+          let len : length part ≡ n = length-take-le n text (omega arith) in
+          let after = drop (n + 1) text in
+          let split = subst AreGood (lines_of-closed w at text lt) good in
+          elim (cases_lt w.most (at.before + length part + 1)) [
+            | inl far ↦ absurd (not_passed w at (ended part []).0 (ended part []).1 (at.before + length part + 1) (lines_of w (spot_behind at (length part)) after) far split)
+            | inr near ↦
+                let more = short_by_size size w (spot_behind at (length part)) after (omega (arith, length-drop (n + 1) text)) near (good_rest (closed w at part) (lines_of w (spot_behind at (length part)) after) split) in
+                omega (arith, more, length-drop (n + 1) text)
+          ]
+      | inr le' ↦
+          elim (cases_lt w.most (at.before + length text)) [
+            | inl far ↦ absurd (not_passed_alone w at text TextEnd (at.before + length text) far (subst AreGood (lines_of-open w at text (omega arith) le') good))
+            | inr near ↦ near
+          ]
+    ]
+
+-- an accepted book has at most as many bytes as a book may have
+pub accepted_is_short : (text : List ℕ) (ts : List Entry) (n : ℕ) → IsOutcome (lines_of_book text) ts (Accepted n) → length text ≤ 4194304
+accepted_is_short text ts n h =
+    omega (arith, short_by_size (length text) (record { longest = 1600; most = 4194304 }) (record { line = 1; before = 0 }) text (omega arith) (omega arith) (good_accepted (lines_of_book text) ts n h))
+
+-- the same, by the answer
+pub read_is_short : (old new : Option (List ℕ)) (text : List ℕ) (answer : Status) → IsAccepted answer → Checks (lines_of_book text) old new answer → length text ≤ 4194304
+read_is_short old new text (status.Accepted n) a h =
+    let o = h.outputs in
+    accepted_is_short text (theorems_of o.derived) n (record { known = o.known; rest = o.rest; begins = o.begins; ends = o.holds })
+read_is_short old new text (status.Unlicensed title step wanted values) a h = absurd a
+read_is_short old new text (status.TooWide title step wanted width) a h = absurd a
+read_is_short old new text (status.Fault f) a h = absurd a
+read_is_short old new text status.Usage a h = absurd a
+read_is_short old new text (status.Verified n) a h = absurd a
+read_is_short old new text (status.Bad title step) a h = absurd a
+read_is_short old new text (status.Garbled line) a h = absurd a
+read_is_short old new text status.TextLimit a h = absurd a
+read_is_short old new text status.ReadFault a h = absurd a
+read_is_short old new text status.WriteFault a h = absurd a
+read_is_short old new text status.NoMemory a h = absurd a
+read_is_short old new text (status.Made n) a h = absurd a
+read_is_short old new text (status.Tried n s) a h = absurd a

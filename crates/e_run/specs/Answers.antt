@@ -1,0 +1,219 @@
+-- What a run answers to a text, and what it writes.
+use Rattle.std.specs.Prelude.{◌≡◌, ℕ, ◌+◌, ◌<◌, List, [], ◌∷◌, ◌++◌, map, take, length, codes, Option, Some, None}
+use Rattle.e_io.specs.Bytes.{Grew, GrewByFront}
+use Rattle.e_literal.specs.declared.object.Term.{Term}
+use Rattle.e_theorem.specs.Statements.{stated}
+use Rattle.e_deriv.specs.declared.stop.Wanted.{Wanted}
+use Rattle.e_deriv.specs.declared.names.Names.{Names}
+use Rattle.e_deriv.specs.Script.{Script, erased, size}
+use Rattle.e_deriv.specs.Parts.{filled_by}
+use Rattle.e_deriv.specs.Lines.{proof_lines}
+use Rattle.e_deriv.specs.Licensed.{AllLicensed}
+use Rattle.e_deriv.specs.Certified.{Certified}
+use Rattle.e_book.specs.Headed.{Headed, stated_by}
+use Rattle.e_book.specs.Entry.{Entry}
+use Rattle.e_spell.specs.Spelling.{spelled, unlicensed_text, too_wide_text}
+use Rattle.e_run.specs.declared.status.Status.{Status}
+use Rattle.e_run.specs.declared.status.Status.TheVariants as status
+use Rattle.e_run.specs.Outcome.{Rest, End, Ends, NextIs, with_theorem, Begins, IsFront, EndsBook, RefusedAt, TooWideAt, HasWide, number_behind, lines_of_book}
+use Rattle.e_run.specs.Outcome as ends
+use Rattle.e_run.specs.LastLines.{head_line, accepted_line, fault_line, read_fault_line, no_memory_line, usage_line}
+
+-- a theorem with a derivation of it
+pub record Derived : Type 0 where
+  pub theorem : Entry
+  pub derivation : Script
+
+-- With this known, the derivation is certified. Without its certificates it is the theorem's own script, with its blanks filled, and
+-- so filled each line of the script is licensed: the arguments of each application are the least good choice.
+pub record IsDerived (known : List Headed) (d : Derived) : Type 0 where
+  pub certified : Certified (stated_by known) (stated d.theorem.statement) d.derivation
+  pub own : erased d.derivation ≡ filled_by (erased d.theorem.script) d.derivation
+  pub least : AllLicensed (stated_by known) (proof_lines (stated_by known) (stated d.theorem.statement) d.theorem.script d.derivation)
+
+-- each by those before it
+abbrev pub AllDerived : List Headed → List Derived → Type 0
+AllDerived known [] = Unit {0}
+AllDerived known (d ∷ ds) = IsDerived known d × AllDerived (with_theorem known d.theorem) ds
+
+abbrev pub theorems_of : List Derived → List Entry
+theorems_of ds = map (λ d. d.theorem) ds
+
+-- the step and close lines of their theorems
+abbrev pub steps_of : List Derived → ℕ
+steps_of [] = 0
+steps_of (d ∷ ds) = steps_of ds + size d.theorem.script
+
+-- the block of a derivation
+abbrev pub block_of : List Headed → Derived → List ℕ
+block_of known d = spelled known d.theorem d.derivation
+
+-- the blocks of derivations, one behind the other
+abbrev pub blocks_of : List Headed → List Derived → List ℕ
+blocks_of known [] = []
+blocks_of known (d ∷ ds) = block_of known d ++ blocks_of (with_theorem known d.theorem) ds
+
+-- with this known, these bytes are the block of a derivation of the theorem
+pub record HasBlock (known : List Headed) (theorem : Entry) (bytes : List ℕ) : Type 0 where
+  pub derivation : Script
+  pub sound : IsDerived known (record { theorem = theorem; derivation = derivation })
+  pub spells : bytes ≡ spelled known theorem derivation
+
+-- the head line, the blocks, and the last lines
+abbrev pub written_with : List Derived → List ℕ → List ℕ
+written_with ds last = head_line ++ (blocks_of [] ds ++ last)
+
+-- theorems with their derivations, which are the first of the book, and what holds behind them
+pub record Ended (lines : Rest) (Holds : List Headed → Rest → Type 0) (last out : List ℕ) : Type 0 where
+  pub derived : List Derived
+  pub sound : AllDerived [] derived
+  pub known : List Headed
+  pub rest : Rest
+  pub begins : Begins lines (theorems_of derived) known rest
+  pub holds : Holds known rest
+  pub bytes : out ≡ written_with derived last
+
+-- behind them the book ends so
+abbrev pub EndsSo : Rest → End → List Headed → Rest → Type 0
+EndsSo lines end known rest = Ends (number_behind lines) known rest end
+
+-- the next theorem is refused at this line
+abbrev pub Refuses : Rest → List ℕ → ℕ → Wanted → Option (List (Term × ℕ)) → Names → List Headed → Rest → Type 0
+Refuses lines title step wanted values names known rest =
+    NextIs (number_behind lines) known rest (λ t. RefusedAt known t title step wanted values names)
+
+-- a line of the next theorem is too wide
+abbrev pub Widens : Rest → List ℕ → ℕ → Wanted → ℕ → Names → List Headed → Rest → Type 0
+Widens lines title step wanted width names known rest =
+    NextIs (number_behind lines) known rest (λ t. TooWideAt known t title step wanted width names)
+
+-- theorems with their derivations: some of the first ones of the book
+pub record CutOff (lines : Rest) (last out : List ℕ) : Type 0 where
+  pub derived : List Derived
+  pub sound : AllDerived [] derived
+  pub front : IsFront lines (theorems_of derived)
+  pub bytes : out ≡ written_with derived last
+
+-- what is written in all under an answer to a book of these lines
+abbrev pub Outputs : Rest → Status → List ℕ → Type 0
+Outputs lines (status.Accepted n) out = Ended lines (EndsSo lines (ends.Accepted n)) (accepted_line n) out
+Outputs lines (status.Unlicensed title step wanted values) out =
+    (names : Names) × Ended lines (Refuses lines title step wanted values names) (unlicensed_text title step wanted values names) out
+Outputs lines (status.TooWide title step wanted width) out =
+    (names : Names) × Ended lines (Widens lines title step wanted width names) (too_wide_text title step wanted width names) out
+Outputs lines (status.Fault f) out = Ended lines (EndsSo lines (ends.Faulty f)) (fault_line f) out
+Outputs lines status.ReadFault out = CutOff lines read_fault_line out
+Outputs lines status.NoMemory out = CutOff lines no_memory_line out
+Outputs lines status.WriteFault out = ⊥
+Outputs lines status.Usage out = ⊥
+Outputs lines (status.Verified n) out = ⊥
+Outputs lines (status.Bad title step) out = ⊥
+Outputs lines (status.Garbled line) out = ⊥
+Outputs lines status.TextLimit out = ⊥
+Outputs lines (status.Made n) out = ⊥
+Outputs lines (status.Tried n s) out = ⊥
+
+-- the bytes of this answer were written
+pub record WroteAll (lines : Rest) (old new : Option (List ℕ)) (answer : Status) : Type 0 where
+  pub out : List ℕ
+  pub outputs : Outputs lines answer out
+  pub grew : Grew old new out
+
+-- a front of the bytes of some answer was written
+pub record WroteFront (lines : Rest) (old new : Option (List ℕ)) : Type 0 where
+  pub answer : Status
+  pub out : List ℕ
+  pub outputs : Outputs lines answer out
+  pub count : ℕ
+  pub grew : Grew old new (take count out)
+
+-- a book of these lines is answered so, and this was written
+abbrev pub Checks : Rest → Option (List ℕ) → Option (List ℕ) → Status → Type 0
+Checks lines old new status.WriteFault = WroteFront lines old new
+Checks lines old new (status.Accepted n) = WroteAll lines old new (status.Accepted n)
+Checks lines old new (status.Unlicensed title step wanted values) = WroteAll lines old new (status.Unlicensed title step wanted values)
+Checks lines old new (status.TooWide title step wanted width) = WroteAll lines old new (status.TooWide title step wanted width)
+Checks lines old new (status.Fault f) = WroteAll lines old new (status.Fault f)
+Checks lines old new status.ReadFault = WroteAll lines old new status.ReadFault
+Checks lines old new status.NoMemory = WroteAll lines old new status.NoMemory
+Checks lines old new status.Usage = ⊥
+Checks lines old new (status.Verified n) = ⊥
+Checks lines old new (status.Bad title step) = ⊥
+Checks lines old new (status.Garbled line) = ⊥
+Checks lines old new status.TextLimit = ⊥
+Checks lines old new (status.Made n) = ⊥
+Checks lines old new (status.Tried n s) = ⊥
+
+-- the answer of an outcome, or that a line is too wide where one is that is reached; a fault of the source or the sink,
+-- and want of memory, can come in place of it
+abbrev pub IsAnswer : Rest → End → Status → Type 0
+IsAnswer lines (ends.Accepted n) (status.Accepted m) = m ≡ n
+IsAnswer lines (ends.Unlicensed title step wanted names) (status.Unlicensed p i w values) = (p ≡ title) × (i ≡ step) × (w ≡ wanted)
+IsAnswer lines (ends.Faulty f) (status.Fault g) = g ≡ f
+IsAnswer lines end (status.TooWide title step wanted width) = HasWide lines
+IsAnswer lines end status.ReadFault = Unit {0}
+IsAnswer lines end status.WriteFault = Unit {0}
+IsAnswer lines end status.NoMemory = Unit {0}
+IsAnswer lines end other = ⊥
+
+-- where a source tells its bytes, whatever the outcome of that book is, the answer is that
+abbrev pub Answers : Option (List ℕ) → Status → Type 0
+Answers left answer = (text : List ℕ) (end : End) → left ≡ Some text → EndsBook text end → IsAnswer (lines_of_book text) end answer
+
+-- where a source tells its bytes, the text is all of them
+abbrev pub IsAllOf : Option (List ℕ) → List ℕ → Type 0
+IsAllOf None text = Unit {0}
+IsAllOf (Some bytes) text = text ≡ bytes
+
+-- the book that a source tells is answered so, and this was written
+abbrev pub ChecksBook : Option (List ℕ) → Option (List ℕ) → Option (List ℕ) → Status → Type 0
+ChecksBook left old new answer = (text : List ℕ) × IsAllOf left text × Checks (lines_of_book text) old new answer
+
+abbrev pub IsWriteFault : Status → Type 0
+IsWriteFault status.WriteFault = Unit {0}
+IsWriteFault _ = ⊥
+
+abbrev pub IsReadFault : Status → Type 0
+IsReadFault status.ReadFault = Unit {0}
+IsReadFault _ = ⊥
+
+abbrev pub IsAccepted : Status → Type 0
+IsAccepted (status.Accepted n) = Unit {0}
+IsAccepted _ = ⊥
+
+abbrev pub IsVerified : Status → Type 0
+IsVerified (status.Verified n) = Unit {0}
+IsVerified _ = ⊥
+
+-- the source had to be read to its end
+abbrev pub IsWhole : Status → Type 0
+IsWhole (status.Accepted n) = Unit {0}
+IsWhole (status.Verified n) = Unit {0}
+IsWhole _ = ⊥
+
+-- the status with which the program exits
+abbrev pub exit_of : Status → ℕ
+exit_of (status.Accepted n) = 0
+exit_of (status.Verified n) = 0
+exit_of (status.Made n) = 0
+exit_of (status.Tried n s) = 0
+exit_of (status.Bad title step) = 1
+exit_of (status.Garbled line) = 2
+exit_of status.TextLimit = 2
+exit_of (status.Unlicensed title step wanted values) = 1
+exit_of (status.TooWide title step wanted width) = 8
+exit_of (status.Fault f) = 2
+exit_of status.Usage = 3
+exit_of status.ReadFault = 4
+exit_of status.WriteFault = 5
+exit_of status.NoMemory = 6
+
+-- the usage line was written, or a front of it and the sink failed
+abbrev pub AnswersUsage : Option (List ℕ) → Option (List ℕ) → Status → Type 0
+AnswersUsage old new status.Usage = Grew old new usage_line
+AnswersUsage old new status.WriteFault = GrewByFront old new usage_line
+AnswersUsage old new _ = ⊥
+
+abbrev pub IsUsage : Status → Type 0
+IsUsage status.Usage = Unit {0}
+IsUsage _ = ⊥

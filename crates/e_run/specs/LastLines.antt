@@ -1,0 +1,77 @@
+-- The last lines of each answer.
+use Rattle.std.specs.Prelude.{ℕ, List, [], ◌∷◌, ◌++◌, codes, decimal}
+use Rattle.e_book.specs.declared.fault.BookFault.{BookFault}
+use Rattle.e_book.specs.declared.fault.BookFault.TheVariants as faults
+use Rattle.e_book.specs.declared.fault.What.{What}
+use Rattle.e_book.specs.declared.fault.What.TheVariants as limits
+
+-- the line that comes before the blocks
+abbrev pub head_line : List ℕ
+head_line = codes "derivation 1\n"
+
+abbrev pub accepted_line : ℕ → List ℕ
+accepted_line n = codes "accepted " ++ (decimal n ++ codes "\n")
+
+abbrev pub what_word : What → List ℕ
+what_word limits.Bytes = codes "bytes"
+what_word limits.LineBytes = codes "line-bytes"
+what_word limits.Theorems = codes "theorems"
+what_word limits.Points = codes "points"
+what_word limits.Lines = codes "lines"
+what_word limits.Circles = codes "circles"
+what_word limits.Steps = codes "steps"
+what_word limits.Depth = codes "depth"
+what_word limits.Facts = codes "facts"
+what_word limits.Monomials = codes "monomials"
+what_word limits.Coefficient = codes "coefficient"
+what_word limits.Terms = codes "terms"
+what_word limits.Blanks = codes "blanks"
+
+-- what is wrong with a line
+abbrev pub fault_words : BookFault → List ℕ
+fault_words (faults.Malformed line) = codes " malformed\n"
+fault_words (faults.UnknownName line) = codes " unknown-name\n"
+fault_words (faults.NameTaken line) = codes " name-taken\n"
+fault_words (faults.WrongSort line) = codes " wrong-sort\n"
+fault_words (faults.Limit line what) = codes " limit " ++ (what_word what ++ codes "\n")
+fault_words (faults.Unended line) = codes " unended\n"
+fault_words faults.NoMemory = codes "\n"
+
+-- the number of the faulty line
+abbrev pub faulty_line : BookFault → ℕ
+faulty_line (faults.Malformed line) = line
+faulty_line (faults.UnknownName line) = line
+faulty_line (faults.NameTaken line) = line
+faulty_line (faults.WrongSort line) = line
+faulty_line (faults.Limit line what) = line
+faulty_line (faults.Unended line) = line
+faulty_line faults.NoMemory = 0
+
+abbrev pub fault_line : BookFault → List ℕ
+fault_line f = codes "fault " ++ (decimal (faulty_line f) ++ fault_words f)
+
+abbrev pub usage_line : List ℕ
+usage_line = codes "usage: elements check | verify | make N | trial N\n"
+
+abbrev pub read_fault_line : List ℕ
+read_fault_line = codes "read fault\n"
+
+abbrev pub no_memory_line : List ℕ
+no_memory_line = codes "no memory\n"
+
+abbrev pub verified_line : ℕ → List ℕ
+verified_line n = codes "verified " ++ (decimal n ++ codes "\n")
+
+-- the theorem and the number of its line
+abbrev pub bad_line : List ℕ → ℕ → List ℕ
+bad_line title step = codes "bad " ++ (title ++ (codes " " ++ (decimal step ++ codes "\n")))
+
+abbrev pub garbled_line : ℕ → List ℕ
+garbled_line line = codes "garbled " ++ (decimal line ++ codes "\n")
+
+abbrev pub text_limit_line : List ℕ
+text_limit_line = codes "text limit\n"
+
+abbrev pub tried_line : ℕ → ℕ → List ℕ
+tried_line n s =
+    codes "trial " ++ (decimal n ++ (codes " theorems " ++ (decimal n ++ (codes " steps " ++ (decimal s ++ (codes " verified " ++ (decimal n ++ codes "\n")))))))

@@ -1,0 +1,75 @@
+//! The words of a command.
+ghost use Rattle.std.specs.Prelude.{◌≡◌, ◌≤◌, IfSome, map, string_bytes};
+ghost use Rattle.e_run.specs.Words.{count_of, plain_command, counted_command, command_of, OfCount};
+
+use e_text::number;
+
+/// The most theorems of a generated book.
+const MOST_THEOREMS: u128 = 500;
+
+/// What a run is asked for.
+#[derive(Clone, Copy, Debug, PartialEq, Eq)]
+pub enum Command {
+    Check,
+    Verify,
+    /// So many theorems are generated.
+    Make(u32),
+    /// So many theorems are generated, checked and verified.
+    Trial(u32),
+    Unknown,
+}
+
+/// How many theorems: a numeral from 1 to 500.
+fn count_of(word: &[u8]) -> Option<u32>
+    ensures value { result ≡ count_of word.now }
+    ensures few { IfSome result (λ n. n ≤ 500) }
+{
+    match number(word) {
+        Some(count) if 1 <= count && count <= MOST_THEOREMS => Some(count as u32),
+        _ => None,
+    }
+}
+
+/// The command of one word.
+fn plain_command(word: &[u8]) -> Command
+    ensures value { result ≡ plain_command word.now }
+    ensures few { OfCount (λ n. n ≤ 500) result }
+{
+    if word == b"check".as_slice() {
+        Command::Check
+    } else if word == b"verify".as_slice() {
+        Command::Verify
+    } else {
+        Command::Unknown
+    }
+}
+
+/// The command of a word and a number.
+fn counted_command(word: &[u8], count: Option<u32>) -> Command
+    requires { IfSome count (λ n. n ≤ 500) }
+    ensures value { result ≡ counted_command word.now count }
+    ensures few { OfCount (λ n. n ≤ 500) result }
+{
+    let Some(count) = count else {
+        return Command::Unknown;
+    };
+    if word == b"make".as_slice() {
+        Command::Make(count)
+    } else if word == b"trial".as_slice() {
+        Command::Trial(count)
+    } else {
+        Command::Unknown
+    }
+}
+
+/// What these words ask for.
+pub fn command_of(words: &[String]) -> Command
+    ensures value { result ≡ command_of (map string_bytes words.now) }
+    ensures few { OfCount (λ n. n ≤ 500) result }
+{
+    match words {
+        [word] => plain_command(word.as_bytes()),
+        [word, number] => counted_command(word.as_bytes(), count_of(number.as_bytes())),
+        _ => Command::Unknown,
+    }
+}

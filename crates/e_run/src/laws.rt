@@ -1,0 +1,22 @@
+//! What follows from the definitions of books and their outcomes.
+ghost use Rattle.e_run.specs.Laws.{LinesHaveOneReading, BooksHaveOneOutcome, RefusalIsOutcome, TooWideIsWide};
+
+/// No list of lines has two readings.
+pub fn lines_have_one_reading()
+    ensures { LinesHaveOneReading }
+{}
+
+/// A book has one outcome.
+pub fn books_have_one_outcome()
+    ensures { BooksHaveOneOutcome }
+{}
+
+/// Where the next theorem of a book is refused, the book's outcome is that stop.
+pub fn refusal_is_outcome()
+    ensures { RefusalIsOutcome }
+{}
+
+/// Where a line is too wide that is reached, a reached line is wide.
+pub fn too_wide_is_wide()
+    ensures { TooWideIsWide }
+{}

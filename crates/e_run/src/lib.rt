@@ -1,0 +1,19 @@
+//! The run of `elements`, a proof checker for System E: what it answers to its words, and what it writes.
+#![tactic(auto)]
+
+mod blocks;
+mod checker;
+mod command;
+mod input;
+mod laws;
+mod maker;
+mod output;
+mod runner;
+mod status;
+mod store;
+mod trial;
+mod verifier;
+
+pub use laws::{books_have_one_outcome, lines_have_one_reading, refusal_is_outcome, too_wide_is_wide};
+pub use runner::run;
+pub use status::{Status, exit_code};

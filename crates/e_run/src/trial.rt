@@ -1,0 +1,98 @@
+//! `trial`: a generated book is checked, and its derivations are verified, within one call.
+ghost use Rattle.std.specs.Prelude.{◌≡◌, ◌≤◌, ◌<◌, ◌^◌, length, IfOk, Some, []};
+ghost use Rattle.e_io.specs.Bytes.{Rose};
+ghost use Rattle.e_generate.specs.Generated.{generated_text};
+ghost use Rattle.e_run.specs.Outcome.{lines_of_book};
+ghost use Rattle.e_run.specs.Answers.{IsReadFault, IsWriteFault};
+ghost use Rattle.e_run.specs.Trying.{IsAccepted, JudgedAs, Told, Tries};
+
+use crate::blocks::{Ending, blocks};
+use crate::checker::{answer_of, close, last_lines};
+use crate::input::{LONGEST_LINE, MOST_BYTES, read_text};
+use crate::output::{accepted, tried};
+use crate::status::Status;
+use crate::store::Store;
+use crate::verifier;
+use e_generate::generated;
+use e_io::{Sink, SureSource, write_all};
+use e_judgement::{Judgement, judge};
+use e_text::Lines;
+use std::alloc::{AllocError, Global};
+
+/// An answer with its line.
+struct Answer {
+    status: Status,
+    line: Vec<u8>,
+}
+
+/// The answer to an accepted book, by the judgement of what is written then.
+fn judged(alloc: Global, text: &[u8], theorems: u32, steps: u32) -> Result<Answer, AllocError>
+    requires { length text.now ≤ 2 ^ 60 }
+    ensures { IfOk result (λ a. JudgedAs text.now theorems steps a.status a.line.items) }
+{
+    match judge(alloc, text)? {
+        Judgement::Verified { theorems: count } if count == theorems => Ok(Answer {
+            status: Status::Tried { theorems, steps },
+            line: tried(alloc, theorems, steps)?,
+        }),
+        judgement => Ok(Answer {
+            line: verifier::line_of(alloc, &judgement)?,
+            status: verifier::answer_of(judgement),
+        }),
+    }
+}
+
+/// The answer to a book in memory, with its line.
+fn answer_to(alloc: Global, lines: &mut Lines) -> Result<Answer, AllocError>
+    requires first { lines.old.line ≡ 1 }
+    requires few { length lines.old.lines < 2 ^ 31 }
+    ensures { IfOk result (λ a. Told lines.old.lines a.status a.line.items) }
+{
+    let mut store = Store::new(alloc);
+    let Ok(()) = write_all(&mut store, b"derivation 1\n") else {
+        return Err(AllocError);
+    };
+    let ending = match blocks(alloc, lines, &mut store) {
+        Ok(ending) => ending,
+        Err(_) => return Err(AllocError),
+    };
+    let line = last_lines(alloc, &ending)?;
+    let Ending::All { theorems, steps } = ending else {
+        return Ok(Answer {
+            status: answer_of(ending),
+            line,
+        });
+    };
+    let Ok(()) = write_all(&mut store, &line) else {
+        return Err(AllocError);
+    };
+    judged(alloc, &store.into_bytes(), theorems, steps)
+}
+
+/// The answer to the generated book of so many theorems, with its line.
+fn answer_for(alloc: Global, theorems: u32) -> Result<Answer, AllocError>
+    requires { theorems ≤ 500 }
+    ensures { IfOk result (λ a. Told (lines_of_book (generated_text theorems)) a.status a.line.items) }
+{
+    let mut source = SureSource::new(generated(alloc, theorems)?);
+    let text = match read_text(alloc, &mut source, MOST_BYTES) {
+        Ok(text) => text,
+        Err(_) => return Err(AllocError),
+    };
+    let mut lines = Lines::new(&text, LONGEST_LINE, MOST_BYTES as u64);
+    answer_to(alloc, &mut lines)
+}
+
+/// Checks the generated book of so many theorems, judges what `check` writes of it, and writes the line of the answer.
+pub fn trial<K: Sink>(alloc: Global, theorems: u32, sink: &mut K) -> Status
+    requires { theorems ≤ 500 }
+    ensures tries { Tries theorems (K.written sink.old) (K.written sink.new) result }
+    ensures rises { K.faults sink.old ≤ K.faults sink.new }
+    ensures cause { IsWriteFault result → Rose (K.faults sink.old) (K.faults sink.new) }
+    ensures no_read { IsReadFault result → ⊥ }
+{
+    match answer_for(alloc, theorems) {
+        Ok(Answer { status, line }) => close(sink, &line, status),
+        Err(_) => close(sink, b"no memory\n", Status::NoMemory),
+    }
+}

@@ -1,5 +1,0 @@
-use Rattle.elements.proofs.Answering.{widens_so}
-use Rattle.elements.proofs.laws.too_wide_is_wide.Goals as goal
-
-pub returns : goal.returns
-returns c = widens_so

@@ -1,0 +1,19 @@
+//! The tests of the run of the program, over its public call, in a crate above it, so that it is not proved twice.
+#![tactic(auto)]
+
+#[cfg(test)]
+mod book_tests;
+#[cfg(test)]
+mod let_tests;
+#[cfg(test)]
+mod limit_tests;
+#[cfg(test)]
+mod refusal_tests;
+#[cfg(test)]
+mod rule_tests;
+#[cfg(test)]
+mod runs;
+#[cfg(test)]
+mod tests;
+#[cfg(test)]
+mod verify_tests;
