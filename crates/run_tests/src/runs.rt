@@ -1,8 +1,8 @@
 //! Runs of the program over memory, for the tests.
 //!
 //! In the texts of tests a slash ends a line, and a tilde is a byte that no book may hold.
-use e_run::{exit_code, run};
 use e_io::{MemSink, MemSource};
+use e_run::{exit_code, run};
 use std::alloc::{AllocError, Global};
 
 /// The room of a sink, in bytes.
