@@ -1,0 +1,4 @@
+mod Rooms
+mod LitRooms
+mod Assembly
+mod Whole
