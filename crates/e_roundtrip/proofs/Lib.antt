@@ -1,4 +1,9 @@
 mod Rooms
 mod LitRooms
+mod RuleRooms
+mod CertRooms
+mod FormRooms
+mod HeadRooms
+mod ScriptRooms
 mod Assembly
 mod Whole
