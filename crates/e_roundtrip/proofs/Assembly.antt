@@ -1,22 +1,18 @@
 -- The lines of blocks are read as their theorems, one after another.
-use Rattle.std.proofs.Common.{◌≡◌, ℕ, ◌+◌, ◌≤◌, ◌^◌, true, List, [], ◌∷◌, ◌++◌, length, map, Ok, Err, Result, inl, refl, sym, ap, subst, ◌∙◌, arith, append_assoc, length-append}
-use Rattle.std.specs.Prelude.{codes, decimal}
-use Rattle.std.specs.Str.{bytes_eq}
-use Rattle.std.proofs.lemmas.List.{append-nil}
-use Rattle.e_text.specs.Lines.{Seen, lf_text, numbered}
-use Rattle.e_text.specs.declared.line.LineFault.{LineFault}
+use Rattle.std.proofs.Common.{◌≡◌, ℕ, ◌+◌, List, [], ◌∷◌, ◌++◌, length, map, inl, refl, sym, subst, arith, append_assoc, length-append}
+use Rattle.e_text.specs.Lines.{numbered}
 use Rattle.e_deriv.specs.Script.{Script}
 use Rattle.e_book.specs.Headed.{Headed, headed}
 use Rattle.e_book.specs.Entry.{Entry}
-use Rattle.e_book.specs.Canonical.{text_of}
 use Rattle.e_book.proofs.Differ.{same_bytes}
-use Rattle.e_read.specs.Text.{Last, at_start, piece_from, last_line_of}
+use Rattle.e_read.specs.Text.{last_line_of}
 use Rattle.e_spell.specs.Spelling.{spelled_lines}
-use Rattle.e_reread.specs.Laws.{ShowsEnded, CanBeSpelled}
+use Rattle.e_reread.specs.Laws.{ShowsEnded}
 use Rattle.e_reread.proofs.Whole.{spelled_is_read}
 use Rattle.e_judgement.specs.declared.judgement.Judgement.TheVariants.{Verified}
 use Rattle.e_judgement.specs.Judged.{with_theorem, Passes, EndsThere, IsJudged}
-use Rattle.e_roundtrip.specs.Written.{AllCanBeSpelled, lines_of_blocks}
+use Rattle.e_roundtrip.specs.Written.{AllCanBeSpelled}
+use Rattle.e_roundtrip.proofs.BlockRooms.{lines_of_blocks}
 
 -- ---- lines behind one another
 
@@ -56,9 +52,11 @@ passed last known k (p ∷ ps) more h =
     let behind = lines_of_blocks next ps ++ more in
     let front = shown_front k own behind in
     let rest = passed last next front.0 ps more h.1 in
-    let reads = spelled_is_read known last p.0 p.1 (numbered k (own ++ behind)) (numbered front.0 behind) h.0 front.1 in
-    (rest.0, subst (λ (ls : List (List ℕ)). Passes last known (numbered k ls) (map entry_with (p ∷ ps)) (known_behind next ps) (numbered rest.0 more)) (sym (append_assoc own (lines_of_blocks next ps) more))
-        (numbered front.0 behind, reads, h.0.certified, rest.1))
+    let reads = spelled_is_read known last p.0 p.1 (numbered k (own ++ behind)) (numbered front.0 behind) h.0 front.1 in (
+      rest.0,
+      subst (λ (ls : List (List ℕ)). Passes last known (numbered k ls) (map entry_with (p ∷ ps)) (known_behind next ps) (numbered rest.0 more)) (sym (append_assoc own (lines_of_blocks next ps) more))
+          (numbered front.0 behind, reads, h.0.certified, rest.1),
+    )
 
 -- ---- the last line
 

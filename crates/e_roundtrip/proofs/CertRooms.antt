@@ -1,6 +1,6 @@
 -- The lines of certificates are short.
-use Rattle.std.proofs.Common.{◌≡◌, ℕ, suc, ◌+◌, ◌*◌, ◌^◌, ◌<◌, ◌≤◌, ℤ, pos, negsuc, Bool, true, false, leb, not, ◌&&◌, List, [], ◌∷◌, ◌++◌, length, map, Option, Some, None, refl, sym, ap, ◌∙◌, arith}
-use Rattle.std.specs.Prelude.{codes, decimal, unsigned_abs}
+use Rattle.std.proofs.Common.{◌≡◌, ℕ, suc, ◌+◌, ◌*◌, ◌^◌, ◌≤◌, ℤ, pos, negsuc, true, leb, not, List, [], ◌∷◌, ◌++◌, length, map, Some, refl, arith}
+use Rattle.std.specs.Prelude.{codes, decimal}
 use Rattle.std.specs.Ordering.{int_eq}
 use Rattle.std.specs.Fmt.{signed_decimal}
 use Rattle.std.specs.List.{list_all, flat_map, AllByRecursion}
@@ -14,7 +14,6 @@ use Rattle.e_clause.specs.declared.cert.Sums.{Sums}
 use Rattle.e_clause.specs.declared.cert.Sums.TheVariants.{One, Two}
 use Rattle.e_clause.specs.declared.cert.Part.{Part}
 use Rattle.e_clause.specs.declared.cert.Part.TheVariants as parts
-use Rattle.e_clause.specs.declared.cert.TransferCert.{TransferCert}
 use Rattle.e_clause.specs.declared.cert.Cert.{Cert}
 use Rattle.e_clause.specs.declared.cert.Cert.TheVariants.{Plain, Transfer}
 use Rattle.e_clause.specs.declared.cert.Against.{Against}
@@ -26,11 +25,10 @@ use Rattle.e_book.specs.Canonical.{rule_name, name_of_object}
 use Rattle.e_book.proofs.Differ.{both}
 use Rattle.e_book.proofs.Lookups.{InOrder}
 use Rattle.e_book.proofs.LitLookups.{diagram_is_good}
-use Rattle.e_spell.specs.Certificates.{row_words, row_line, sum_lines, sums_lines, metric_lines, part_lines, transfer_lines, cert_lines, certs_lines, against_lines, contradiction_lines}
+use Rattle.e_spell.specs.Certificates.{row_words, row_line, sum_lines, sums_lines, part_lines, cert_lines, certs_lines, against_lines, contradiction_lines}
 use Rattle.e_reread.proofs.Feeding.{GoodRow, GoodSum, GoodSums, GoodPart}
-use Rattle.e_reread.proofs.TransfersAgain.{GoodTransfer}
 use Rattle.e_reread.proofs.CertsPut.{GoodCert, GoodCerts, GoodAgainst}
-use Rattle.e_roundtrip.proofs.Rooms.{is_short, short_word, short_number, Room, room_none, room_more, room_word, room_append, room_line}
+use Rattle.e_roundtrip.proofs.Rooms.{is_short, short_word, short_number, Room, room_none, room_more, room_word, room_line}
 use Rattle.e_roundtrip.proofs.LitRooms.{room_objects, room_term, room_one}
 use Rattle.e_roundtrip.proofs.RuleRooms.{short_rule, few_arguments}
 
@@ -91,9 +89,10 @@ all_sum ns xs o g = (bar_word (codes "sum") refl, all_rows ns xs o g.each)
 
 all_sums : (ns : Names) (s : Sums) → InOrder ns → GoodSums ns s → AllRoom (sums_lines ns s)
 all_sums ns (One xs) o g = all_sum ns xs o g
-all_sums ns (Two differs above below) o g =
-    (behind_bar 2190 _ (omega arith) (room_word 7 2182 (codes "differs") (row_words ns differs) refl (room_row ns differs o g.name.good)),
-    all_append (sum_lines ns above) (sum_lines ns below) (all_sum ns above o g.first) (all_sum ns below o g.second))
+all_sums ns (Two differs above below) o g = (
+  behind_bar 2190 _ (omega arith) (room_word 7 2182 (codes "differs") (row_words ns differs) refl (room_row ns differs o g.name.good)),
+  all_append (sum_lines ns above) (sum_lines ns below) (all_sum ns above o g.first) (all_sum ns below o g.second),
+)
 
 all_part : (ns : Names) (p : Part) → InOrder ns → GoodPart ns p → AllRoom (part_lines ns p)
 all_part ns parts.Fact o g = (bar_word (codes "fact") refl, tt)
@@ -106,10 +105,11 @@ all_parts ns (p ∷ ps) o g = all_append (part_lines ns p) (flat_map (part_lines
 all_cert : (ns : Names) (l : Lit) (c : Cert) → InOrder ns → GoodCert ns l c → AllRoom (cert_lines ns c)
 all_cert ns l (Plain p) o g = all_part ns p o g
 all_cert ns l (Transfer t) o g =
-    let n = 17 * length t.args in
-    (behind_bar (8 + 1 + (24 + 1 + n)) _ (omega (arith, few_arguments t.rule t.args g.lits g.instance))
-    (room_word 8 (24 + 1 + n) (codes "transfer") _ refl (room_word 24 n (rule_name t.rule) (map (name_of_object ns) t.args) (short_rule t.rule) (room_objects ns t.args o))),
-    all_parts ns t.parts o g.parts)
+    let n = 17 * length t.args in (
+      behind_bar (8 + 1 + (24 + 1 + n)) _ (omega (arith, few_arguments t.rule t.args g.lits g.instance))
+          (room_word 8 (24 + 1 + n) (codes "transfer") _ refl (room_word 24 n (rule_name t.rule) (map (name_of_object ns) t.args) (short_rule t.rule) (room_objects ns t.args o))),
+      all_parts ns t.parts o g.parts,
+    )
 
 all_certs : (ns : Names) (ls : List Lit) (cs : List Cert) → InOrder ns → GoodCerts ns ls cs → AllRoom (flat_map (cert_lines ns) cs)
 all_certs ns [] [] o g = tt

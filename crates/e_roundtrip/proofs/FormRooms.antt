@@ -1,5 +1,5 @@
 -- The lines of steps and of close lines are short.
-use Rattle.std.proofs.Common.{◌≡◌, ℕ, zero, suc, ◌+◌, ◌*◌, ◌<◌, ◌≤◌, Bool, true, false, leb, ◌&&◌, List, [], ◌∷◌, ◌++◌, length, map, Option, Some, None, refl, sym, ap, ◌∙◌, arith, length-append}
+use Rattle.std.proofs.Common.{◌≡◌, ℕ, ◌+◌, ◌*◌, ◌≤◌, Bool, true, leb, ◌&&◌, List, [], ◌∷◌, ◌++◌, length, map, Option, Some, None, refl, arith, length-append}
 use Rattle.std.specs.Prelude.{codes}
 use Rattle.std.specs.List.{list_all, AllByRecursion}
 use Rattle.std.proofs.lemmas.Bool.{leb-true}
@@ -18,7 +18,7 @@ use Rattle.e_construct.specs.declared.construction.Shape.TheVariants.{Free, OnLi
 use Rattle.e_construct.specs.declared.construction.Construction.{Construction}
 use Rattle.e_construct.specs.declared.superpose.Superpose.{Superpose}
 use Rattle.e_construct.specs.Shapes.{shape_row}
-use Rattle.e_construct.specs.Construct.{row_of, sorts_of, made_by_row, gives_of_avoided, avoiding, gives}
+use Rattle.e_construct.specs.Construct.{row_of, sorts_of, made_by_row, gives_of_avoided, gives}
 use Rattle.e_construct.specs.Lines.{Piece, New, Argument, Word, pieces}
 use Rattle.e_deriv.specs.declared.names.Names.{Names}
 use Rattle.e_book.specs.Limits.{most_facts, most_terms, count_monomials}
@@ -28,7 +28,7 @@ use Rattle.e_book.specs.Canonical.{filled, avoid_words, argument_word, argument_
 use Rattle.e_book.specs.HasSpelling.{AreNames}
 use Rattle.e_book.proofs.Differ.{both}
 use Rattle.e_book.proofs.Lookups.{InOrder}
-use Rattle.e_roundtrip.proofs.Rooms.{is_short, short_name, short_title, Room, room_none, room_more, room_word, room_append, room_line, room_names, IsShortLine}
+use Rattle.e_roundtrip.proofs.Rooms.{is_short, short_name, short_title, Room, room_none, room_more, room_word, room_append, room_line, IsShortLine}
 use Rattle.e_roundtrip.proofs.LitRooms.{short_at, short_object, room_objects, room_one, room_lits}
 use Rattle.e_roundtrip.proofs.RuleRooms.{short_rule}
 

@@ -1,5 +1,5 @@
 -- The lines of a statement are short.
-use Rattle.std.proofs.Common.{◌≡◌, ℕ, zero, suc, ◌+◌, ◌*◌, ◌<◌, ◌≤◌, Bool, true, false, cond, ◌&&◌, List, [], ◌∷◌, ◌++◌, length, map, refl, sym, ap, ◌∙◌, arith, length-append}
+use Rattle.std.proofs.Common.{◌≡◌, ℕ, suc, ◌+◌, ◌*◌, ◌≤◌, Bool, true, false, cond, List, [], ◌∷◌, ◌++◌, length, map, refl, ap, arith}
 use Rattle.std.specs.Prelude.{codes}
 use Rattle.std.specs.List.{list_all, AllByRecursion}
 use Rattle.e_text.specs.Lines.{AreShort}
@@ -10,19 +10,19 @@ use Rattle.e_literal.specs.declared.object.Scope.{Scope}
 use Rattle.e_literal.specs.declared.literal.Lit.{Lit}
 use Rattle.e_literal.specs.WellFormed.{is_well_formed}
 use Rattle.e_literal.specs.Scopes.{same_sort, nothing, with_one, grown, next_objects}
-use Rattle.e_literal.specs.Use.{Stated, scope_of}
+use Rattle.e_literal.specs.Use.{scope_of}
 use Rattle.e_theorem.specs.declared.statement.Statement.{Statement}
 use Rattle.e_theorem.specs.Statements.{stated}
 use Rattle.e_deriv.specs.declared.names.Names.{Names}
 use Rattle.e_book.specs.declared.form.Form.{Form}
 use Rattle.e_book.specs.declared.form.Form.TheVariants as forms
-use Rattle.e_book.specs.Headed.{Headed, headed}
+use Rattle.e_book.specs.Headed.{Headed}
 use Rattle.e_book.specs.Entry.{Entry}
 use Rattle.e_book.specs.Canonical.{Group, group, grouped_before, grouped, lit_words, raw_of, sort_word, name_of_object, line_of, given_form, show_form, declare_form, made_form, declared_objects, made_objects, given_forms, shown_forms, head_forms}
 use Rattle.e_book.specs.HasSpelling.{HasSpelling}
 use Rattle.e_book.proofs.Differ.{both}
 use Rattle.e_book.proofs.Lookups.{InOrder, in_order}
-use Rattle.e_roundtrip.proofs.Rooms.{is_short, short_title, Room, room_none, room_more, room_word, room_append, room_line, IsShortLine}
+use Rattle.e_roundtrip.proofs.Rooms.{is_short, short_title, Room, room_none, room_word, room_append, room_line, IsShortLine}
 use Rattle.e_roundtrip.proofs.LitRooms.{short_object, room_one}
 use Rattle.e_roundtrip.proofs.FormRooms.{AllWords, room_words}
 
@@ -143,6 +143,7 @@ short_head known t h =
     (all_declare (length declared) (grouped ns declared) (omega (arith, few, length_next nothing st.declared)) (groups_of ns declared o)) (all_given ns st.given o h.fits.good_given) in
     let shown = forms_append (map made_form (grouped ns made)) (map (show_form ns) st.shown)
     (all_made (length made) (grouped ns made) (omega (arith, few, length_next (scope_of (stated st)) st.made)) (groups_of ns made o)) (all_shown ns st.shown o h.fits.good_shown) in
-    let last : AreShortForms proof = (room_line 6 _ (omega arith) (room_word 5 0 (codes "proof") [] refl room_none), tt) in
-    (room_line 33 _ (omega arith) (room_word 7 25 (codes "theorem") _ refl (room_word 24 0 t.title [] (short_title t.title h.title) room_none)),
-    forms_append (given_forms ns st) (shown_forms ns st ++ proof) given (forms_append (shown_forms ns st) proof shown last))
+    let last : AreShortForms proof = (room_line 6 _ (omega arith) (room_word 5 0 (codes "proof") [] refl room_none), tt) in (
+      room_line 33 _ (omega arith) (room_word 7 25 (codes "theorem") _ refl (room_word 24 0 t.title [] (short_title t.title h.title) room_none)),
+      forms_append (given_forms ns st) (shown_forms ns st ++ proof) given (forms_append (shown_forms ns st) proof shown last),
+    )

@@ -5,5 +5,6 @@ mod CertRooms
 mod FormRooms
 mod HeadRooms
 mod ScriptRooms
+mod BlockRooms
 mod Assembly
 mod Whole

@@ -1,5 +1,5 @@
 -- How many bytes literals take on a line.
-use Rattle.std.proofs.Common.{◌≡◌, ℕ, zero, suc, ◌+◌, ◌*◌, ◌^◌, ◌<◌, ◌≤◌, Bool, true, false, cond, leb, eqb, ◌&&◌, List, [], ◌∷◌, ◌++◌, length, map, get_or, refl, sym, ap, ◌∙◌, arith, length-append}
+use Rattle.std.proofs.Common.{◌≡◌, ℕ, zero, suc, ◌+◌, ◌*◌, ◌≤◌, Bool, true, false, cond, leb, eqb, List, [], ◌∷◌, ◌++◌, length, map, refl, arith, length-append}
 use Rattle.std.specs.Prelude.{codes, decimal}
 use Rattle.std.specs.List.{list_all}
 use Rattle.std.proofs.lemmas.Bool.{leb-true}
@@ -18,11 +18,11 @@ use Rattle.e_literal.specs.WellFormed.{same_kind, is_good_coefficient, is_good_a
 use Rattle.e_deriv.specs.declared.names.Names.{Names}
 use Rattle.e_deriv.specs.Naming.{names_of_sort}
 use Rattle.e_book.specs.Limits.{monomials, count_monomials}
-use Rattle.e_book.specs.Canonical.{term_words, coefficient_words, mono_words, more_monos, sum_words, sums_words, atom_words, not_words, signed_words, lit_words, more_words, lits_words, name_at, name_of_object, raw_term, raw_mono, raw_sum, raw_atom, raw_signed, raw_of}
+use Rattle.e_book.specs.Canonical.{term_words, coefficient_words, mono_words, more_monos, sum_words, sums_words, atom_words, lit_words, more_words, lits_words, name_at, name_of_object, raw_term, raw_mono, raw_sum, raw_atom, raw_signed, raw_of}
 use Rattle.e_book.specs.HasSpelling.{AreNames}
 use Rattle.e_book.proofs.Differ.{both}
 use Rattle.e_book.proofs.Lookups.{InOrder}
-use Rattle.e_book.proofs.GoodSums.{is_good_mono, AreGood, GoodSums, good_sums}
+use Rattle.e_book.proofs.GoodSums.{is_good_mono, AreGood, good_sums}
 use Rattle.e_book.proofs.ShortLits.{count_first}
 use Rattle.e_roundtrip.proofs.Rooms.{is_short, short_name, short_number, Room, room_none, room_more, room_word, room_append}
 

@@ -1,5 +1,5 @@
 -- The lines of a derivation are short.
-use Rattle.std.proofs.Common.{◌≡◌, ℕ, zero, suc, ◌+◌, ◌≤◌, Bool, true, leb, ◌&&◌, List, [], ◌∷◌, ◌++◌, length, map, Option, Some, None, is_some, refl, sym, ap, ◌∙◌, arith}
+use Rattle.std.proofs.Common.{◌≡◌, ℕ, zero, suc, ◌+◌, ◌≤◌, true, leb, ◌&&◌, List, [], ◌∷◌, ◌++◌, length, map, Option, Some, None, is_some, refl, ap, arith}
 use Rattle.std.specs.List.{list_all, AllByRecursion}
 use Rattle.std.proofs.lemmas.Bool.{leb-true}
 use Rattle.std.proofs.lemmas.List.{length-map}
@@ -7,11 +7,10 @@ use Rattle.e_text.specs.Lines.{AreShort}
 use Rattle.e_text.specs.Names.{is_title}
 use Rattle.e_literal.specs.declared.object.Sort.{Sort}
 use Rattle.e_literal.specs.declared.object.Obj.{Obj}
-use Rattle.e_literal.specs.declared.object.Scope.{Scope}
 use Rattle.e_literal.specs.declared.literal.Lit.{Lit}
 use Rattle.e_literal.specs.Literal.{negation, is_in_scope, all_in_scope}
 use Rattle.e_literal.specs.WellFormed.{is_well_formed}
-use Rattle.e_literal.specs.Scopes.{grown, are_of_sorts}
+use Rattle.e_literal.specs.Scopes.{grown}
 use Rattle.e_literal.specs.Facts.{joined, joined_all}
 use Rattle.e_literal.specs.Rename.{same_obj}
 use Rattle.e_literal.specs.Use.{Stated, are_arguments, gives_of_use, needs_of_use}
@@ -40,7 +39,7 @@ use Rattle.e_book.specs.Limits.{most_facts}
 use Rattle.e_book.specs.Headed.{Headed, stated_by, theorem_of, title_at}
 use Rattle.e_book.specs.Scope.{scope_of_names}
 use Rattle.e_book.specs.Fits.{few_facts, is_diagram_lit, has_good_literals, NewNamesFit}
-use Rattle.e_book.specs.Canonical.{line_of, by_form, hence_form, let_form, apply_form, claim_form, superpose_form, qed_form, contradiction_form, cases_form, else_form}
+use Rattle.e_book.specs.Canonical.{line_of, else_form}
 use Rattle.e_book.specs.HasSpelling.{is_plain, is_named_by_title, names_theorems}
 use Rattle.e_book.proofs.Differ.{both}
 use Rattle.e_book.proofs.LitLookups.{diagram_is_good}
@@ -49,10 +48,10 @@ use Rattle.e_book.proofs.LinesRead.{Inside, behind, deep, copied, resume, second
 use Rattle.e_spell.specs.Certificates.{certs_lines}
 use Rattle.e_spell.specs.Spelling.{script_lines}
 use Rattle.e_reread.proofs.CertsGood.{good_certs, good_against}
-use Rattle.e_reread.proofs.Readies.{list_names, inferred, gifts, constructed, apply_parts, claim_parts, copy_parts, opens, cases_parts}
+use Rattle.e_reread.proofs.Readies.{list_names, inferred, constructed, apply_parts, claim_parts, copy_parts, opens, cases_parts}
 use Rattle.e_reread.proofs.Standing.{Stood, first_of, one_certified}
 use Rattle.e_reread.proofs.ScriptAlong.{cite_next, hence_next, make_next, apply_next, claim_inside, claim_next, copy_certified, copy_inside, copy_next, cases_one, cases_two, no_hence, no_contradiction}
-use Rattle.e_roundtrip.proofs.Rooms.{IsShortLine, short_append}
+use Rattle.e_roundtrip.proofs.Rooms.{short_append}
 use Rattle.e_roundtrip.proofs.RuleRooms.{few_cited}
 use Rattle.e_roundtrip.proofs.CertRooms.{short_certs, short_against}
 use Rattle.e_roundtrip.proofs.FormRooms.{short_by, short_hence, avoided_give, short_let, short_apply, short_claim, short_superpose, short_qed, short_contradiction, short_cases, short_else}
@@ -149,9 +148,10 @@ apply_short known d i theorem args names certs rest given goal k s more =
     let few = few_at known theorem k in
     let title = (both (is_title (title_at known theorem)) _ (both (is_named_by_title known theorem) (names_theorems known (erased rest)) r.theorems).0).0 in
     let wanted = needs_of_use t (written_args args) sc in
-    let own = short_certs ns wanted certs r.order (good_certs ns given wanted certs one.certs (apply_written theorem args names certs rest s.written).0) in
-    (short_apply known ns theorem args names r.order title p.named (omega (arith, as_many args (written_args args) fit.0, count, few.declared)) (omega (arith, r.new_names.1, few.made)),
-    short_append (certs_lines ns certs) (script_lines known (named ns t.made names) rest) own more)
+    let own = short_certs ns wanted certs r.order (good_certs ns given wanted certs one.certs (apply_written theorem args names certs rest s.written).0) in (
+      short_apply known ns theorem args names r.order title p.named (omega (arith, as_many args (written_args args) fit.0, count, few.declared)) (omega (arith, r.new_names.1, few.made)),
+      short_append (certs_lines ns certs) (script_lines known (named ns t.made names) rest) own more,
+    )
 
 claim_short : (known : List Headed) (d : Draft) (i : Inside) (shown : List Lit) (inner rest : Script) (given : List Lit) (goal : Goal) → Stood known d i (Claim shown inner rest) given goal
     → AreShortLines known i inner → AreShortLines known i rest → AreShortLines known i (Claim shown inner rest)
@@ -171,9 +171,10 @@ copy_short known d i form names shown certs inner rest given goal s inside more 
     let c = (copy_certified known d i form names shown certs inner rest given goal s).2 in
     let own = short_certs ns wanted certs s.ready.order (good_certs ns given wanted certs c (superposed_written form names shown certs inner rest s.written).1) in
     let first = script_lines known (named ns superposing.made names) inner in
-    let last = script_lines known ns rest in
-    (short_superpose ns form names shown s.ready.order p.good.named p.good.plain.good (omega (arith, p.facts)) (omega (arith, p.terms)),
-    short_append (certs_lines ns certs) (first ++ last) own (short_append first last inside more))
+    let last = script_lines known ns rest in (
+      short_superpose ns form names shown s.ready.order p.good.named p.good.plain.good (omega (arith, p.facts)) (omega (arith, p.terms)),
+      short_append (certs_lines ns certs) (first ++ last) own (short_append first last inside more),
+    )
 
 qed_short : (known : List Headed) (d : Draft) (i : Inside) (os : List Obj) (certs : List Cert) (given : List Lit) (goal : Goal) → Stood known d i (Qed os certs) given goal → length goal.made ≤ 80 → AreShortLines known i (Qed os certs)
 unfolding script_lines lines

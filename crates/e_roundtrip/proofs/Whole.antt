@@ -1,5 +1,5 @@
 -- What is written of certified derivations is judged verified.
-use Rattle.std.proofs.Common.{◌≡◌, ℕ, ◌+◌, ◌-◌, ◌≤◌, ◌^◌, true, List, [], ◌∷◌, ◌++◌, length, Ok, refl, sym, ap, subst, ◌∙◌, arith, append_assoc, length-append}
+use Rattle.std.proofs.Common.{◌≡◌, ℕ, ◌+◌, ◌-◌, ◌≤◌, ◌^◌, List, [], ◌∷◌, ◌++◌, length, refl, sym, ap, subst, ◌∙◌, arith, append_assoc, length-append}
 use Rattle.std.specs.Prelude.{codes, decimal}
 use Rattle.std.proofs.lemmas.List.{append-nil}
 use Rattle.e_text.specs.Lines.{Bounds, Spot, AreShort, lf_text, numbered}
@@ -13,9 +13,10 @@ use Rattle.e_read.specs.Text.{last_line_of}
 use Rattle.e_spell.specs.Spelling.{spelled_lines}
 use Rattle.e_judgement.specs.declared.judgement.Judgement.TheVariants.{Verified}
 use Rattle.e_judgement.specs.Judged.{with_theorem, JudgesLines, JudgesText}
-use Rattle.e_roundtrip.specs.Written.{AllCanBeSpelled, lines_of_blocks, blocks_of, written, accepted_line}
+use Rattle.e_roundtrip.specs.Written.{AllCanBeSpelled, blocks_of, written, accepted_line}
 use Rattle.e_roundtrip.specs.Laws.{WrittenIsVerified}
 use Rattle.e_roundtrip.proofs.Rooms.{IsShortLine, short_number, short_append, room_none, room_word, room_line}
+use Rattle.e_roundtrip.proofs.BlockRooms.{lines_of_blocks, short_blocks}
 use Rattle.e_roundtrip.proofs.Assembly.{judged}
 
 -- ---- the bytes as lines
@@ -62,14 +63,14 @@ few_theorems known (p ∷ ps) h le =
 short_last : (n : ℕ) → n ≤ most_theorems → IsShortLine (last_line_of n)
 short_last n le = room_line 13 _ (omega arith) (room_word 8 4 (codes "accepted") _ refl (room_word 3 0 (decimal n) [] (short_number 3 n (omega arith) (omega (arith, le)) (omega (arith, le))) room_none))
 
-all_short : (ps : List (Entry × Script)) → AllCanBeSpelled [] ps → AreShort 262144 (lines_of_blocks [] ps) → AreShort 262144 (all_lines ps)
-all_short ps h short =
-    ((refl, omega arith), short_append (lines_of_blocks [] ps) (last_line_of (length ps) ∷ []) short (short_last (length ps) (omega (arith, few_theorems [] ps h (omega arith))), tt))
+all_short : (ps : List (Entry × Script)) → AllCanBeSpelled [] ps → AreShort 262144 (all_lines ps)
+all_short ps h =
+    ((refl, omega arith), short_append (lines_of_blocks [] ps) (last_line_of (length ps) ∷ []) (short_blocks [] ps tt h) (short_last (length ps) (omega (arith, few_theorems [] ps h (omega arith))), tt))
 
 pub written_is_verified : WrittenIsVerified
-written_is_verified ps h short few =
+written_is_verified ps h few =
     let w : Bounds = record { longest = 262144; most = 2 ^ 64 - 1 } in
     let at : Spot = record { line = 1; before = 0 } in
     let e = written_is ps in
     subst (λ (t : List ℕ). JudgesText t (Verified (length ps))) (sym e)
-    (subst (λ ls. JudgesLines ls (Verified (length ps))) (sym (lines_of-lf_text w at (all_lines ps) (all_short ps h short) (omega (arith, few, ap length e)))) (judged_lines ps h))
+    (subst (λ ls. JudgesLines ls (Verified (length ps))) (sym (lines_of-lf_text w at (all_lines ps) (all_short ps h) (omega (arith, few, ap length e)))) (judged_lines ps h))

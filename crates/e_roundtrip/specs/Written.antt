@@ -3,7 +3,7 @@ use Rattle.std.specs.Prelude.{ℕ, List, [], ◌∷◌, ◌++◌, length, codes,
 use Rattle.e_deriv.specs.Script.{Script}
 use Rattle.e_book.specs.Headed.{Headed}
 use Rattle.e_book.specs.Entry.{Entry}
-use Rattle.e_spell.specs.Spelling.{spelled_lines, spelled}
+use Rattle.e_spell.specs.Spelling.{spelled}
 use Rattle.e_reread.specs.Laws.{CanBeSpelled}
 use Rattle.e_judgement.specs.Judged.{with_theorem}
 
@@ -16,11 +16,6 @@ AllCanBeSpelled known (p ∷ ps) = CanBeSpelled known p.0 p.1 × AllCanBeSpelled
 abbrev pub blocks_of : List Headed → List (Entry × Script) → List ℕ
 blocks_of known [] = []
 blocks_of known (p ∷ ps) = spelled known p.0 p.1 ++ blocks_of (with_theorem known p.0) ps
-
--- the lines of these blocks
-abbrev pub lines_of_blocks : List Headed → List (Entry × Script) → List (List ℕ)
-lines_of_blocks known [] = []
-lines_of_blocks known (p ∷ ps) = spelled_lines known p.0 p.1 ++ lines_of_blocks (with_theorem known p.0) ps
 
 -- the line that comes before the blocks
 abbrev pub head_line : List ℕ
