@@ -20,6 +20,7 @@ use Rattle.e_roundtrip.proofs.BlockRooms.{lines_of_blocks}
 abbrev Shown : ℕ → List (List ℕ) → List (List ℕ) → Type 0
 Shown k xs ys = (m : ℕ) × ShowsEnded (numbered k (xs ++ ys)) xs (numbered m ys)
 
+-- each list of lines is such a front
 shown_front : (k : ℕ) (xs ys : List (List ℕ)) → Shown k xs ys
 shown_front k [] ys = (k, refl)
 shown_front k (x ∷ xs) ys = let more = shown_front (k + 1) xs ys in (more.0, (refl, refl, more.1))
@@ -35,10 +36,12 @@ abbrev pub known_behind : List Headed → List (Entry × Script) → List Headed
 known_behind known [] = known
 known_behind known (p ∷ ps) = known_behind (with_theorem known p.0) ps
 
+-- one more is known for each theorem
 pub length-known_behind : (known : List Headed) (ps : List (Entry × Script)) → length (known_behind known ps) ≡ length known + length ps
 length-known_behind known [] = omega arith
 length-known_behind known (p ∷ ps) = omega (arith, length-known_behind (with_theorem known p.0) ps, length-append known (headed p.0.title p.0.statement ∷ []))
 
+-- the lines of the blocks are read as the theorems, whatever stands behind them
 abbrev Passed : ℕ → List Headed → ℕ → List (Entry × Script) → List (List ℕ) → Type 0
 Passed last known k ps more =
     (m : ℕ) × Passes last known (numbered k (lines_of_blocks known ps ++ more)) (map entry_with ps) (known_behind known ps) (numbered m more)
@@ -60,6 +63,7 @@ passed last known k (p ∷ ps) more h =
 
 -- ---- the last line
 
+-- the last line comes where as many theorems are known as it says
 ends : (last : ℕ) (known : List Headed) (k : ℕ) → EndsThere last known (numbered k (last_line_of (length known) ∷ [])) (Verified (length known))
 ends last known k = ([], rw (same_bytes (last_line_of (length known))) refl, refl)
 

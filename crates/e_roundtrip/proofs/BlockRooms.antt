@@ -31,6 +31,7 @@ short_block known t d k c =
     short_append (map line_of (head_forms t)) (script ++ last) (short_head known (record t { script = erased d }) h) (short_append script last
     (short_script known (started t) (begins t) d (facts_of_statement st) (goal_of_statement st) k (omega (arith, few, length_next (scope_of st) st.made)) (stood known t d c o)) (short_end, tt))
 
+-- one more statement with few objects
 one_more : (known : List Headed) (t : Entry) → AllFew known → IsFew t.statement → AllFew (with_theorem known t)
 one_more [] t k few = (few, tt)
 one_more (h ∷ known) t k few = (k.0, one_more known t k.1 few)
@@ -40,6 +41,7 @@ abbrev pub lines_of_blocks : List Headed → List (Entry × Script) → List (Li
 lines_of_blocks known [] = []
 lines_of_blocks known (p ∷ ps) = spelled_lines known p.0 p.1 ++ lines_of_blocks (with_theorem known p.0) ps
 
+-- the lines of all blocks
 pub short_blocks : (known : List Headed) (ps : List (Entry × Script)) → AllFew known → AllCanBeSpelled known ps → AreShort 262144 (lines_of_blocks known ps)
 short_blocks known [] k h = tt
 short_blocks known (p ∷ ps) k h =

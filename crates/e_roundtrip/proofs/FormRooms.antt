@@ -34,15 +34,19 @@ use Rattle.e_roundtrip.proofs.RuleRooms.{short_rule}
 
 -- ---- lines of one literal
 
+-- a literal behind a word
 word_lit : (word : List ℕ) (ns : Names) (l : Lit) → is_short 16 word ≡ true → InOrder ns → is_well_formed l ≡ true → Room 2194 (word ∷ lit_words (raw_of ns l))
 word_lit word ns l h o g = room_word 16 2177 word (lit_words (raw_of ns l)) h (room_one ns l o g)
 
+-- an inference
 pub short_hence : (ns : Names) (l : Lit) → InOrder ns → is_well_formed l ≡ true → IsShortLine (line_of (hence_form ns l))
 short_hence ns l o g = room_line 2194 _ (omega arith) (word_lit (codes "hence") ns l refl o g)
 
+-- a split
 pub short_cases : (ns : Names) (l : Lit) → InOrder ns → is_well_formed l ≡ true → IsShortLine (line_of (cases_form ns l))
 short_cases ns l o g = room_line 2194 _ (omega arith) (word_lit (codes "cases") ns l refl o g)
 
+-- a citation
 pub short_by : (ns : Names) (b : By) → InOrder ns → is_well_formed b.lit ≡ true → length b.args ≤ 16 → IsShortLine (line_of (by_form ns b))
 short_by ns b o g few =
     let n = 17 * length b.args in
@@ -54,6 +58,7 @@ short_by ns b o g few =
 
 -- ---- lines of pieces
 
+-- a piece whose word is short
 abbrev is_short_piece : Piece → Bool
 is_short_piece New = true
 is_short_piece Argument = true
@@ -63,24 +68,30 @@ is_short_piece (Word w) = is_short 16 w
 abbrev pub AllWords : List (List ℕ) → Type 0
 AllWords ws = AllByRecursion (λ w. is_short 16 w ≡ true) ws
 
+-- names are short words
 words_of_names : (ns : List (List ℕ)) → AreNames ns → AllWords ns
 words_of_names [] h = tt
 words_of_names (n ∷ ns) h = (short_name n h.0, words_of_names ns h.1)
 
+-- so are the names of objects
 words_of_objects : (ns : Names) (os : List Obj) → InOrder ns → AllWords (map (name_of_object ns) os)
 words_of_objects ns [] h = tt
 words_of_objects ns (o ∷ os) h = (short_object ns o h, words_of_objects ns os h)
 
+-- short words, each with its space
 pub room_words : (ws : List (List ℕ)) → AllWords ws → Room (17 * length ws) ws
 room_words [] h = room_none
 room_words (w ∷ ws) h = room_more (16 + 1 + 17 * length ws) (17 * length (w ∷ ws)) (w ∷ ws) (omega arith) (room_word 16 (17 * length ws) w ws h.0 (room_words ws h.1))
 
+-- one word for a piece
 piece_word : (p : Piece) (ps : List Piece) (w : List ℕ) (ws : List (List ℕ)) → is_short 16 w ≡ true → Room (17 * length ps) ws → Room (17 * length (p ∷ ps)) (w ∷ ws)
 piece_word p ps w ws h r = room_more (16 + 1 + 17 * length ps) (17 * length (p ∷ ps)) (w ∷ ws) (omega arith) (room_word 16 (17 * length ps) w ws h r)
 
+-- no word for a piece
 no_word : (p : Piece) (ps : List Piece) (ws : List (List ℕ)) → Room (17 * length ps) ws → Room (17 * length (p ∷ ps)) ws
 no_word p ps ws r = room_more (17 * length ps) (17 * length (p ∷ ps)) ws (omega arith) r
 
+-- at most one word for each piece
 room_filled : (ps : List Piece) (new args : List (List ℕ)) → list_all is_short_piece ps ≡ true → AllWords new → AllWords args → Room (17 * length ps) (filled ps new args)
 room_filled [] new args h n a = room_none
 room_filled (Word w ∷ ps) new args h n a =
@@ -93,9 +104,11 @@ room_filled (Argument ∷ ps) new [] h n a = no_word Argument ps (filled ps new 
 
 -- ---- constructions
 
+-- at most 16 pieces with short words
 abbrev are_short_pieces : List Piece → Bool
 are_short_pieces ps = list_all is_short_piece ps && leb (length ps) 16
 
+-- the pieces of each construction are short
 short_pieces : (s : Shape) → are_short_pieces (pieces s) ≡ true
 unfolding pieces
 short_pieces Free = refl
@@ -143,6 +156,7 @@ makes CirclesBoth = refl
 makes CirclesSide = refl
 makes CirclesOpposite = refl
 
+-- one literal for each object that is avoided
 one_each : (s : Scope) (made avoid : List Obj) → 1 ≤ length made → length (gives_of_avoided (next_objects s (sorts_of made)) avoid) ≡ length avoid
 one_each s [] avoid le = absurd (omega (arith, le))
 one_each s (o ∷ os) avoid le = length-map avoid _
@@ -155,10 +169,12 @@ avoided_give form s =
     let last = gives_of_avoided (made_by_row r s) form.avoid in
     omega (arith, length-append first last, one_each s r.made form.avoid (leb-true 1 (length r.made) (makes form.shape)))
 
+-- the avoided objects behind their word
 room_avoided : (ns : List (List ℕ)) → AllWords ns → Room (6 + 17 * length ns) (avoid_words ns)
 room_avoided [] h = room_more 0 6 [] (omega arith) room_none
 room_avoided (n ∷ ns) h = room_word 5 (17 * length (n ∷ ns)) (codes "avoid") (n ∷ ns) refl (room_words (n ∷ ns) h)
 
+-- a construction
 pub short_let : (ns : Names) (form : Construction) (names : List (List ℕ)) → InOrder ns → AreNames names → length form.avoid ≤ most_facts → IsShortLine (line_of (let_form ns form names))
 short_let ns form names o h few =
     let avoid = map (name_of_object ns) form.avoid in
@@ -173,15 +189,18 @@ short_let ns form names o h few =
 
 -- ---- uses of earlier theorems
 
+-- arguments and blanks
 words_of_arguments : (ns : Names) (args : List (Option Obj)) → InOrder ns → AllWords (map argument_word (map (argument_name ns) args))
 words_of_arguments ns [] o = tt
 words_of_arguments ns (None ∷ args) o = (refl, words_of_arguments ns args o)
 words_of_arguments ns (Some x ∷ args) o = (short_object ns x o, words_of_arguments ns args o)
 
+-- the names of made objects behind their word
 room_made : (ns : List (List ℕ)) → AllWords ns → Room (3 + 17 * length ns) (made_words ns)
 room_made [] h = room_more 0 3 [] (omega arith) room_none
 room_made (n ∷ ns) h = room_word 2 (17 * length (n ∷ ns)) (codes "as") (n ∷ ns) refl (room_words (n ∷ ns) h)
 
+-- the use of an earlier theorem
 pub short_apply : (known : List Headed) (ns : Names) (theorem : ℕ) (args : List (Option Obj)) (names : List (List ℕ)) → InOrder ns → is_title (title_at known theorem) ≡ true → AreNames names → length args ≤ 80 → length names ≤ 80
     → IsShortLine (line_of (apply_form known ns theorem args names))
 short_apply known ns theorem args names o t h few less =
@@ -194,11 +213,13 @@ short_apply known ns theorem args names o t h few less =
 
 -- ---- lists of literals
 
+-- a claim
 pub short_claim : (ns : Names) (ls : List Lit) → InOrder ns → list_all is_well_formed ls ≡ true → length ls ≤ most_facts → count_monomials ls ≤ most_terms → IsShortLine (line_of (claim_form ns ls))
 short_claim ns ls o g few less =
     let n = 67 * length ls + 66 * count_monomials ls in
     room_line (5 + 1 + n) _ (omega (arith, few, less)) (room_word 5 n (codes "claim") (lits_words (map (raw_of ns) ls)) refl (room_lits ns ls o g))
 
+-- the points and lines of a superposition
 words_of_placed : (ns : Names) (form : Superpose) → InOrder ns → AllWords (placed_names ns form)
 words_of_placed ns form o = (point _, (point _, (point _, (line _, (point _, (point _, (point _, (line _, tt))))))))
   where
@@ -208,6 +229,7 @@ words_of_placed ns form o = (point _, (point _, (point _, (line _, (point _, (po
     line : (i : ℕ) → is_short 16 (name_at ns.lines i) ≡ true
     line i = short_at ns.lines i o.line_names
 
+-- a superposition
 pub short_superpose : (ns : Names) (form : Superpose) (names : List (List ℕ)) (ls : List Lit) → InOrder ns → AreNames names → list_all is_well_formed ls ≡ true → length ls ≤ most_facts → count_monomials ls ≤ most_terms
     → IsShortLine (line_of (superpose_form ns form names ls))
 short_superpose ns form names ls o h g few less =
@@ -219,11 +241,13 @@ short_superpose ns form names ls o h g few less =
 
 -- ---- close lines
 
+-- the close line that shows the goal
 pub short_qed : (ns : Names) (os : List Obj) → InOrder ns → length os ≤ 80 → IsShortLine (line_of (qed_form ns os))
 short_qed ns os o few =
     let n = 17 * length os in
     room_line (3 + 1 + n) _ (omega (arith, few)) (room_word 3 n (codes "qed") (map (name_of_object ns) os) refl (room_objects ns os o))
 
+-- a line of one word
 one_word : (w : List ℕ) → is_short 16 w ≡ true → IsShortLine (joined (w ∷ []))
 one_word w h = room_line 17 (w ∷ []) (omega arith) (room_word 16 0 w [] h room_none)
 

@@ -28,11 +28,13 @@ use Rattle.e_roundtrip.proofs.Rooms.{is_short, short_name, short_number, Room, r
 
 -- ---- names of objects
 
+-- the name at a place, or no word past the last
 pub short_at : (names : List (List ℕ)) (i : ℕ) → AreNames names → is_short 16 (name_at names i) ≡ true
 short_at [] i h = refl
 short_at (n ∷ names) zero h = short_name n h.0
 short_at (n ∷ names) (suc i) h = short_at names i h.1
 
+-- the name of an object
 pub short_object : (ns : Names) (o : Obj) → InOrder ns → is_short 16 (name_of_object ns o) ≡ true
 short_object ns o h = by_sort o.sort
   where
@@ -41,6 +43,7 @@ short_object ns o h = by_sort o.sort
     by_sort sorts.Line = short_at ns.lines o.num h.line_names
     by_sort sorts.Circle = short_at ns.circles o.num h.circle_names
 
+-- the names of objects
 pub room_objects : (ns : Names) (os : List Obj) → InOrder ns → Room (17 * length os) (map (name_of_object ns) os)
 room_objects ns [] h = room_none
 room_objects ns (o ∷ os) h =
@@ -49,6 +52,7 @@ room_objects ns (o ∷ os) h =
 
 -- ---- words by their number
 
+-- one, two or three words of at most 16 bytes
 one : (w : List ℕ) → is_short 16 w ≡ true → Room 17 (w ∷ [])
 one w h = room_word 16 0 w [] h room_none
 
@@ -60,6 +64,7 @@ three u v w f g h = room_word 16 34 u (v ∷ w ∷ []) f (two v w g h)
 
 -- ---- sums
 
+-- a term
 pub room_term : (ns : Names) (t : Term) → InOrder ns → Room 56 (term_words (raw_term ns t))
 room_term ns (terms.Seg a b) h =
     let p = short_at ns.points in
@@ -72,6 +77,7 @@ room_term ns (terms.Area a b c) h =
     room_word 4 51 (codes "area") _ refl (three _ _ _ (p a h.point_names) (p b h.point_names) (p c h.point_names))
 room_term ns terms.Right h = room_more 6 56 _ (omega arith) (room_word 5 0 (codes "right") [] refl room_none)
 
+-- a coefficient, at most 1,000,000
 coefficient_by : (b : Bool) (n : ℕ) → is_good_coefficient n ≡ true → Room 8 (cond b [] (decimal n ∷ []))
 coefficient_by true n h = room_more 0 8 [] (omega arith) room_none
 coefficient_by false n h =
@@ -81,9 +87,11 @@ coefficient_by false n h =
 good_coefficient : (k : Magnitude) (m : Mono) → is_good_mono k m ≡ true → is_good_coefficient m.coeff ≡ true
 good_coefficient k m g = (both (same_kind (kind_of_term m.term) k) (is_good_coefficient m.coeff) g).1
 
+-- a monomial
 room_mono : (ns : Names) (k : Magnitude) (m : Mono) → InOrder ns → is_good_mono k m ≡ true → Room 64 (mono_words (raw_mono ns m))
 room_mono ns k m h g = room_append 8 56 (coefficient_words m.coeff) (term_words (raw_term ns m.term)) (coefficient_by (eqb m.coeff 1) m.coeff (good_coefficient k m g)) (room_term ns m.term h)
 
+-- monomials, each behind a plus
 room_monos : (ns : Names) (k : Magnitude) (ms : List Mono) → InOrder ns → AreGood k ms → Room (66 * length ms) (more_monos (raw_sum ns ms))
 room_monos ns k [] h g = room_none
 room_monos ns k (m ∷ ms) h g =
@@ -92,6 +100,7 @@ room_monos ns k (m ∷ ms) h g =
     room_more (1 + 1 + (64 + n)) (66 * length (m ∷ ms)) (more_monos (raw_sum ns (m ∷ ms))) (omega arith)
     (room_word 1 (64 + n) (codes "+") _ refl (room_append 64 n (mono_words (raw_mono ns m)) (more_monos (raw_sum ns ms)) (room_mono ns k m h p.0) (room_monos ns k ms h p.1)))
 
+-- a sum
 room_sum : (ns : Names) (k : Magnitude) (ms : List Mono) → InOrder ns → AreGood k ms → Room (2 + 66 * length ms) (sum_words (raw_sum ns ms))
 room_sum ns k [] h g = room_word 1 0 (codes "0") [] refl room_none
 room_sum ns k (m ∷ ms) h g =
@@ -100,6 +109,7 @@ room_sum ns k (m ∷ ms) h g =
     room_more (64 + n) (2 + 66 * length (m ∷ ms)) (sum_words (raw_sum ns (m ∷ ms))) (omega arith)
     (room_append 64 n (mono_words (raw_mono ns m)) (more_monos (raw_sum ns ms)) (room_mono ns k m h p.0) (room_monos ns k ms h p.1))
 
+-- two sums with a sign between them
 room_sums : (ns : Names) (k : Magnitude) (x y : List Mono) (sign : List ℕ) → InOrder ns → is_short 2 sign ≡ true → AreGood k x → AreGood k y → Room (7 + 66 * (length x + length y)) (sums_words (raw_sum ns x) sign (raw_sum ns y))
 room_sums ns k x y sign h s g f =
     let n = 66 * length y in
@@ -108,9 +118,11 @@ room_sums ns k x y sign h s g f =
 
 -- ---- literals
 
+-- two names with a sign between them
 short_sign : (v sign w : List ℕ) → is_short 16 v ≡ true → is_short 2 sign ≡ true → is_short 16 w ≡ true → Room 61 (v ∷ sign ∷ w ∷ [])
 short_sign v sign w f g h = room_more 37 61 _ (omega arith) (room_word 16 20 v (sign ∷ w ∷ []) f (room_word 2 17 sign (w ∷ []) g (one w h)))
 
+-- two or three names behind a word
 behind_two : (word v w : List ℕ) → is_short 9 word ≡ true → is_short 16 v ≡ true → is_short 16 w ≡ true → Room 61 (word ∷ v ∷ w ∷ [])
 behind_two word v w f g h = room_more 44 61 _ (omega arith) (room_word 9 34 word (v ∷ w ∷ []) f (two v w g h))
 
@@ -123,11 +135,13 @@ compared ns x y sign h s good =
     let g = good_sums x y good in
     room_more (7 + 66 * (length x + length y)) (61 + 66 * length (x ++ y)) _ (omega (arith, length-append x y)) (room_sums ns (kind_of_sums x y) x y sign h s g.left g.right)
 
+-- the same with the sums turned
 turned : (ns : Names) (x y : List Mono) (sign : List ℕ) → InOrder ns → is_short 2 sign ≡ true → is_good_atom (atoms.MagEq x y) ≡ true → Room (61 + 66 * length (x ++ y)) (sums_words (raw_sum ns y) sign (raw_sum ns x))
 turned ns x y sign h s good =
     let g = good_sums x y good in
     room_more (7 + 66 * (length y + length x)) (61 + 66 * length (x ++ y)) _ (omega (arith, length-append x y)) (room_sums ns (kind_of_sums x y) y x sign h s g.right g.left)
 
+-- an atom
 room_atom : (ns : Names) (a : Atom) → InOrder ns → is_good_atom a ≡ true → Room (61 + 66 * monomials a) (atom_words (raw_atom ns a))
 room_atom ns (atoms.On a l) h g = behind_two (codes "on") _ _ refl (short_at ns.points a h.point_names) (short_at ns.lines l h.line_names)
 room_atom ns (atoms.OnC a c) h g = behind_two (codes "on") _ _ refl (short_at ns.points a h.point_names) (short_at ns.circles c h.circle_names)
@@ -146,12 +160,14 @@ room_atom ns (atoms.EqC c d) h g = short_sign _ (codes "=") _ (short_at ns.circl
 room_atom ns (atoms.MagEq x y) h g = compared ns x y (codes "=") h refl g
 room_atom ns (atoms.MagLt x y) h g = compared ns x y (codes "<") h refl g
 
+-- behind the word not, or without it
 with_not : (n : ℕ) (ws : List (List ℕ)) → Room (61 + 66 * n) ws → Room (65 + 66 * n) (codes "not" ∷ ws)
 with_not n ws r = room_more (3 + 1 + (61 + 66 * n)) (65 + 66 * n) _ (omega arith) (room_word 3 (61 + 66 * n) (codes "not") ws refl r)
 
 without_not : (n : ℕ) (ws : List (List ℕ)) → Room (61 + 66 * n) ws → Room (65 + 66 * n) ws
 without_not n ws r = room_more (61 + 66 * n) (65 + 66 * n) ws (omega arith) r
 
+-- an atom or its negation
 room_signed : (ns : Names) (neg : Bool) (a : Atom) → InOrder ns → is_good_atom a ≡ true → Room (65 + 66 * monomials a) (lit_words (raw_signed ns neg a))
 room_signed ns false a h g = without_not (monomials a) (atom_words (raw_atom ns a)) (room_atom ns a h g)
 room_signed ns true (atoms.EqP a b) h g = without_not 0 _ (short_sign _ (codes "!=") _ (short_at ns.points a h.point_names) refl (short_at ns.points b h.point_names))
@@ -179,11 +195,13 @@ few_monomials (atoms.MagEq x y) g = omega (arith, (good_sums x y g).short, lengt
 few_monomials (atoms.MagLt x y) g = omega (arith, (good_sums x y g).short, length-append x y)
 few_monomials a g = omega arith
 
+-- a well-formed literal
 pub room_one : (ns : Names) (l : Lit) → InOrder ns → is_well_formed l ≡ true → Room 2177 (lit_words (raw_of ns l))
 room_one ns l h g = room_more (65 + 66 * monomials l.atom) 2177 _ (omega (arith, few_monomials l.atom g)) (room_lit ns l h g)
 
 -- ---- lists of literals
 
+-- literals, each behind a semicolon
 more_room : (ns : Names) (ls : List Lit) → InOrder ns → list_all is_well_formed ls ≡ true → Room (67 * length ls + 66 * count_monomials ls) (more_words (map (raw_of ns) ls))
 more_room ns [] h g = room_none
 more_room ns (l ∷ ls) h g =
@@ -193,6 +211,7 @@ more_room ns (l ∷ ls) h g =
     room_more (1 + 1 + (m + n)) (67 * length (l ∷ ls) + 66 * count_monomials (l ∷ ls)) _ (omega (arith, count_first l ls))
     (room_word 1 (m + n) (codes ";") _ refl (room_append m n (lit_words (raw_of ns l)) (more_words (map (raw_of ns) ls)) (room_lit ns l h p.0) (more_room ns ls h p.1)))
 
+-- literals with a semicolon between two
 pub room_lits : (ns : Names) (ls : List Lit) → InOrder ns → list_all is_well_formed ls ≡ true → Room (67 * length ls + 66 * count_monomials ls) (lits_words (map (raw_of ns) ls))
 room_lits ns [] h g = room_none
 room_lits ns (l ∷ ls) h g =

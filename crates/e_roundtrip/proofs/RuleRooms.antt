@@ -26,14 +26,17 @@ short_by : (n : ℕ) (o : Option Row) → slice_get table n ≡ o → is_short 2
 short_by n None at = ap (λ (o : Option Row). is_short 24 (option_map_or (λ x. x) (option_map (λ y. y.name) o) [])) at
 short_by n (Some r) at = ap (is_short 24) (rule_name_is n r at) ∙ short_title r.name (title_again n r at)
 
+-- the name of a rule, or no word past the last
 pub short_rule : (n : ℕ) → is_short 24 (rule_name n) ≡ true
 short_rule n = short_by n (slice_get table n) refl
 
 -- ---- variables
 
+-- at most 16 variables
 abbrev has_few : Row → Bool
 has_few r = leb (r.points + r.lines + r.circles) 16
 
+-- each row of the table has few
 all_few : list_all has_few table ≡ true
 unfolding table incidence sides circles equality lengths angles
 all_few = refl
@@ -63,5 +66,6 @@ some_of : {A : Type 0} (o : Option A) → is_some o ≡ true → (x : A) × (o �
 some_of None h = absurd cc
 some_of (Some x) h = (x, refl)
 
+-- so has a rule that is cited
 pub few_cited : (rule : ℕ) (args : List Obj) → is_some (Inst rule args) ≡ true → length args ≤ 16
 few_cited rule args h = let i = some_of (Inst rule args) h in few_arguments rule args i.0 i.1

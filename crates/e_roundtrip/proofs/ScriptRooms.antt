@@ -68,6 +68,7 @@ record FewAt (t : Stated) : Type 0 where
   declared : length t.declared ≤ 80
   made : length t.made ≤ 80
 
+-- each theorem that is known, or is past the last, has few objects
 few_at : (known : List Headed) (k : ℕ) → AllFew known → FewAt (theorem_of known k)
 few_at [] k h = record { declared = omega arith; made = omega arith }
 few_at (x ∷ known) zero h = record { declared = omega (arith, h.0); made = omega (arith, h.0) }
@@ -88,6 +89,7 @@ as_many (Some x ∷ xs) [] h = absurd cc
 as_many (None ∷ xs) (o ∷ os) h = ap suc (as_many xs os h)
 as_many (Some x ∷ xs) (o ∷ os) h = ap suc (as_many xs os (both (same_obj x o) (fills xs os) h).1)
 
+-- a citation
 cite_short : (known : List Headed) (d : Draft) (i : Inside) (b : By) (rest : Script) (given : List Lit) (goal : Goal) → Stood known d i (Cite b rest) given goal → AreShortLines known i rest → AreShortLines known i (Cite b rest)
 unfolding erased script_lines lines has_good_literals
 cite_short known d i b rest given goal s more =
@@ -101,6 +103,7 @@ cite_short known d i b rest given goal s more =
     let good = (both (is_diagram_lit b.lit) (has_good_literals (erased rest)) s.ready.good).0 in
     (short_by i.in_scope b s.ready.order (diagram_is_good b.lit good) (few_cited b.rule b.args r.1), more)
 
+-- an inference with its certificate
 hence_short : (known : List Headed) (d : Draft) (i : Inside) (l : Lit) (c : Cert) (rest : Script) (given : List Lit) (goal : Goal) → Stood known d i (Hence l (Some c) rest) given goal → AreShortLines known i rest → AreShortLines known i (Hence l (Some c) rest)
 unfolding erased script_lines lines has_good_literals
 hence_short known d i l c rest given goal s more =
@@ -114,6 +117,7 @@ hence_short known d i l c rest given goal s more =
     let certs = short_certs ns (l ∷ []) (c ∷ []) s.ready.order (good_certs ns given (l ∷ []) (c ∷ []) one.certs written) in
     (short_hence ns l s.ready.order good, short_append (certs_lines ns (c ∷ [])) (script_lines known ns rest) certs more)
 
+-- a construction: what it avoids is bounded by the facts that it gives
 make_short : (known : List Headed) (d : Draft) (i : Inside) (form : Construction) (names : List (List ℕ)) (certs : List Cert) (rest : Script) (given : List Lit) (goal : Goal) → Stood known d i (Make form names certs rest) given goal
     → AreShortLines known (constructed i form names) rest → AreShortLines known i (Make form names certs rest)
 unfolding erased script_lines lines is_plain few_facts
@@ -130,6 +134,7 @@ make_short known d i form names certs rest given goal s more =
     let own = short_certs ns (needs form) certs r.order (good_certs ns given (needs form) certs one.certs (make_written form names certs rest s.written).0) in
     (short_let ns form names r.order words (omega (arith, most, avoided_give form sc)), short_append (certs_lines ns certs) (script_lines known (named ns (made form) names) rest) own more)
 
+-- the use of an earlier theorem
 apply_short : (known : List Headed) (d : Draft) (i : Inside) (theorem : ℕ) (args : List (Option Obj)) (names : List (List ℕ)) (certs : List Cert) (rest : Script) (given : List Lit) (goal : Goal) → AllFew known
     → Stood known d i (Apply theorem args names certs rest) given goal → AreShortLines known (applied_behind i (theorem_of known theorem) theorem args names) rest → AreShortLines known i (Apply theorem args names certs rest)
 unfolding erased script_lines lines NewNamesFit names_theorems
@@ -153,6 +158,7 @@ apply_short known d i theorem args names certs rest given goal k s more =
       short_append (certs_lines ns certs) (script_lines known (named ns t.made names) rest) own more,
     )
 
+-- a claim
 claim_short : (known : List Headed) (d : Draft) (i : Inside) (shown : List Lit) (inner rest : Script) (given : List Lit) (goal : Goal) → Stood known d i (Claim shown inner rest) given goal
     → AreShortLines known i inner → AreShortLines known i rest → AreShortLines known i (Claim shown inner rest)
 unfolding erased script_lines
@@ -161,6 +167,7 @@ claim_short known d i shown inner rest given goal s inside more =
     let p = claim_parts known d i shown (erased inner) (erased rest) given goal s.ready in
     (short_claim ns shown s.ready.order p.plain.good (omega (arith, p.facts)) (omega (arith, p.terms)), short_append (script_lines known ns inner) (script_lines known ns rest) inside more)
 
+-- a superposition
 copy_short : (known : List Headed) (d : Draft) (i : Inside) (form : Superpose) (names : List (List ℕ)) (shown : List Lit) (certs : List Cert) (inner rest : Script) (given : List Lit) (goal : Goal)
     → Stood known d i (Superposed form names shown certs inner rest) given goal → AreShortLines known (copied i form names shown) inner → AreShortLines known i rest → AreShortLines known i (Superposed form names shown certs inner rest)
 unfolding erased script_lines
@@ -176,6 +183,7 @@ copy_short known d i form names shown certs inner rest given goal s inside more 
       short_append (certs_lines ns certs) (first ++ last) own (short_append first last inside more),
     )
 
+-- the close line that shows the goal
 qed_short : (known : List Headed) (d : Draft) (i : Inside) (os : List Obj) (certs : List Cert) (given : List Lit) (goal : Goal) → Stood known d i (Qed os certs) given goal → length goal.made ≤ 80 → AreShortLines known i (Qed os certs)
 unfolding script_lines lines
 qed_short known d i os certs given goal s few =
@@ -190,6 +198,7 @@ qed_short known d i os certs given goal s few =
     let wanted = goal_with goal os in
     (short_qed ns os r.order (omega (arith, few, count, length-map goal.made (λ o. o.sort))), short_certs ns wanted certs r.order (good_certs ns given wanted certs one.certs (qed_written os certs s.written)))
 
+-- a contradiction
 contradiction_short : (known : List Headed) (d : Draft) (i : Inside) (a : Against) (given : List Lit) (goal : Goal) → Stood known d i (Contradiction (Some a)) given goal → AreShortLines known i (Contradiction (Some a))
 unfolding script_lines lines
 contradiction_short known d i a given goal s =
@@ -199,6 +208,7 @@ contradiction_short known d i a given goal s =
     let one = one_certified before here (first_of (is_certified before) here [] s.certified).0 in
     (short_contradiction, short_against ns a s.ready.order (good_against ns given a one.beside (contradiction_written (Some a) s.written)))
 
+-- a split
 cases_short : (known : List Headed) (d : Draft) (i : Inside) (l : Lit) (one two : Script) (given : List Lit) (goal : Goal) → Stood known d i (Cases l one two) given goal → AreShortLines known i one → AreShortLines known i two
     → AreShortLines known i (Cases l one two)
 unfolding erased script_lines
@@ -209,6 +219,7 @@ cases_short known d i l one two given goal s first second =
 
 -- ---- all lines
 
+-- each line of a script that stands there, and of its certificates
 pub short_script : (known : List Headed) (d : Draft) (i : Inside) (script : Script) (given : List Lit) (goal : Goal) → AllFew known → length goal.made ≤ 80 → Stood known d i script given goal → AreShortLines known i script
 short_script known d i (Cite b rest) given goal k m s =
     cite_short known d i b rest given goal s (short_script known d (behind i (Cited b) 1) rest (joined given b.lit) goal k m (cite_next known d i b rest given goal s))
