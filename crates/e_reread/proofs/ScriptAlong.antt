@@ -68,7 +68,7 @@ use Rattle.e_reread.proofs.Standing.{Stood, first_of, both_of, one_certified, Sp
 
 -- ---- citations
 
-cite_next : (known : List Headed) (d : Draft) (i : Inside) (b : By) (rest : Script) (given : List Lit) (goal : Goal) → Stood known d i (Cite b rest) given goal → Stood known d (behind i (Cited b) 1) rest (joined given b.lit) goal
+pub cite_next : (known : List Headed) (d : Draft) (i : Inside) (b : By) (rest : Script) (given : List Lit) (goal : Goal) → Stood known d i (Cite b rest) given goal → Stood known d (behind i (Cited b) 1) rest (joined given b.lit) goal
 unfolding erased lines
 cite_next known d i b rest given goal s =
     let before = stated_by known in
@@ -105,7 +105,7 @@ cite_along known d i b rest given goal s t =
 
 -- ---- inferences
 
-hence_next : (known : List Headed) (d : Draft) (i : Inside) (l : Lit) (c : Cert) (rest : Script) (given : List Lit) (goal : Goal) → Stood known d i (Hence l (Some c) rest) given goal → Stood known d (inferred i l) rest (joined given l) goal
+pub hence_next : (known : List Headed) (d : Draft) (i : Inside) (l : Lit) (c : Cert) (rest : Script) (given : List Lit) (goal : Goal) → Stood known d i (Hence l (Some c) rest) given goal → Stood known d (inferred i l) rest (joined given l) goal
 unfolding erased lines
 hence_next known d i l c rest given goal s =
     let before = stated_by known in
@@ -149,7 +149,7 @@ hence_along known d i l c rest given goal s t =
 
 -- ---- constructions
 
-make_next : (known : List Headed) (d : Draft) (i : Inside) (form : Construction) (names : List (List ℕ)) (certs : List Cert) (rest : Script) (given : List Lit) (goal : Goal) → Stood known d i (Make form names certs rest) given goal
+pub make_next : (known : List Headed) (d : Draft) (i : Inside) (form : Construction) (names : List (List ℕ)) (certs : List Cert) (rest : Script) (given : List Lit) (goal : Goal) → Stood known d i (Make form names certs rest) given goal
     → Stood known d (constructed i form names) rest (joined_all given (gives form (scope_of_names i.in_scope))) goal
 unfolding erased lines NewNamesFit
 make_next known d i form names certs rest given goal s =
@@ -195,7 +195,7 @@ make_along known d i form names certs rest given goal s t =
 
 -- ---- uses of earlier theorems
 
-apply_next : (known : List Headed) (d : Draft) (i : Inside) (theorem : ℕ) (args : List (Option Obj)) (names : List (List ℕ)) (certs : List Cert) (rest : Script) (given : List Lit) (goal : Goal)
+pub apply_next : (known : List Headed) (d : Draft) (i : Inside) (theorem : ℕ) (args : List (Option Obj)) (names : List (List ℕ)) (certs : List Cert) (rest : Script) (given : List Lit) (goal : Goal)
     → Stood known d i (Apply theorem args names certs rest) given goal
     → Stood known d (applied_behind i (theorem_of known theorem) theorem args names) rest (joined_all given (gives_of_use (theorem_of known theorem) (written_args args) (scope_of_names i.in_scope))) goal
 unfolding erased lines NewNamesFit
@@ -256,7 +256,7 @@ claim_certified known d i shown inner rest given goal s =
     let after = lines before rest rest sc (joined_all given shown) goal in
     both_of (is_certified before) inside after (first_of (is_certified before) (line (Claim shown inner rest) (Claim shown inner rest) sc given goal) (inside ++ after) s.certified).1
 
-claim_inside : (known : List Headed) (d : Draft) (i : Inside) (shown : List Lit) (inner rest : Script) (given : List Lit) (goal : Goal) → Stood known d i (Claim shown inner rest) given goal
+pub claim_inside : (known : List Headed) (d : Draft) (i : Inside) (shown : List Lit) (inner rest : Script) (given : List Lit) (goal : Goal) → Stood known d i (Claim shown inner rest) given goal
     → Stood known d (deep i (opened.Claim shown) 0) inner given (goal_of shown)
 unfolding erased
 claim_inside known d i shown inner rest given goal s = record {
@@ -266,7 +266,7 @@ claim_inside known d i shown inner rest given goal s = record {
   written = (claim_written shown inner rest s.written).1;
 }
 
-claim_next : (known : List Headed) (d : Draft) (i : Inside) (n : ℕ) (shown : List Lit) (inner rest : Script) (given : List Lit) (goal : Goal) → n ≡ i.lines + 1 + size (erased inner) → Stood known d i (Claim shown inner rest) given goal
+pub claim_next : (known : List Headed) (d : Draft) (i : Inside) (n : ℕ) (shown : List Lit) (inner rest : Script) (given : List Lit) (goal : Goal) → n ≡ i.lines + 1 + size (erased inner) → Stood known d i (Claim shown inner rest) given goal
     → Stood known d (resume i n (Claimed shown (erased inner)) shown) rest (joined_all given shown) goal
 unfolding erased
 claim_next known d i n shown inner rest given goal count s = record {
@@ -304,7 +304,7 @@ claim_along known d i shown inner rest given goal s t u =
 
 -- ---- superpositions
 
-copy_certified : (known : List Headed) (d : Draft) (i : Inside) (form : Superpose) (names : List (List ℕ)) (shown : List Lit) (certs : List Cert) (inner rest : Script) (given : List Lit) (goal : Goal)
+pub copy_certified : (known : List Headed) (d : Draft) (i : Inside) (form : Superpose) (names : List (List ℕ)) (shown : List Lit) (certs : List Cert) (inner rest : Script) (given : List Lit) (goal : Goal)
     → Stood known d i (Superposed form names shown certs inner rest) given goal
     → (list_all (is_certified (stated_by known)) (lines (stated_by known) inner inner (grown (scope_of_names i.in_scope) superposing.made) (joined_all given (superposing.gives form (scope_of_names i.in_scope))) (goal_of shown)) ≡ true)
     × (list_all (is_certified (stated_by known)) (lines (stated_by known) rest rest (scope_of_names i.in_scope) (joined_all given shown) goal) ≡ true)
@@ -320,7 +320,7 @@ copy_certified known d i form names shown certs inner rest given goal s =
     let b = both_of (is_certified before) inside after a.1 in
     (b.0, b.1, (one_certified before here a.0).certs)
 
-copy_inside : (known : List Headed) (d : Draft) (i : Inside) (form : Superpose) (names : List (List ℕ)) (shown : List Lit) (certs : List Cert) (inner rest : Script) (given : List Lit) (goal : Goal)
+pub copy_inside : (known : List Headed) (d : Draft) (i : Inside) (form : Superpose) (names : List (List ℕ)) (shown : List Lit) (certs : List Cert) (inner rest : Script) (given : List Lit) (goal : Goal)
     → Stood known d i (Superposed form names shown certs inner rest) given goal
     → Stood known d (copied i form names shown) inner (joined_all given (superposing.gives form (scope_of_names i.in_scope))) (goal_of shown)
 unfolding erased NewNamesFit
@@ -335,7 +335,7 @@ copy_inside known d i form names shown certs inner rest given goal s =
       written = (superposed_written form names shown certs inner rest s.written).2;
     }
 
-copy_next : (known : List Headed) (d : Draft) (i : Inside) (n : ℕ) (form : Superpose) (names : List (List ℕ)) (shown : List Lit) (certs : List Cert) (inner rest : Script) (given : List Lit) (goal : Goal) → n ≡ i.lines + 1 + size (erased inner)
+pub copy_next : (known : List Headed) (d : Draft) (i : Inside) (n : ℕ) (form : Superpose) (names : List (List ℕ)) (shown : List Lit) (certs : List Cert) (inner rest : Script) (given : List Lit) (goal : Goal) → n ≡ i.lines + 1 + size (erased inner)
     → Stood known d i (Superposed form names shown certs inner rest) given goal → Stood known d (resume i n (Copied form names shown [] (erased inner)) shown) rest (joined_all given shown) goal
 unfolding erased
 copy_next known d i n form names shown certs inner rest given goal count s = record {
@@ -387,7 +387,7 @@ cases_certified known d i l one two given goal s =
     let in_two = lines before two two sc (joined given (negation l)) goal in
     both_of (is_certified before) in_one in_two (first_of (is_certified before) (line (Cases l one two) (Cases l one two) sc given goal) (in_one ++ in_two) s.certified).1
 
-cases_one : (known : List Headed) (d : Draft) (i : Inside) (l : Lit) (one two : Script) (given : List Lit) (goal : Goal) → Stood known d i (Cases l one two) given goal → Stood known d (opens i l) one (joined given l) goal
+pub cases_one : (known : List Headed) (d : Draft) (i : Inside) (l : Lit) (one two : Script) (given : List Lit) (goal : Goal) → Stood known d i (Cases l one two) given goal → Stood known d (opens i l) one (joined given l) goal
 unfolding erased
 cases_one known d i l one two given goal s = record {
   ready = cases_first known d i l (erased one) (erased two) given goal s.ready;
@@ -396,7 +396,7 @@ cases_one known d i l one two given goal s = record {
   written = (cases_written l one two s.written).0;
 }
 
-cases_two : (known : List Headed) (d : Draft) (i : Inside) (n : ℕ) (l : Lit) (one two : Script) (given : List Lit) (goal : Goal) → n ≡ i.lines + 1 + size (erased one) → Stood known d i (Cases l one two) given goal
+pub cases_two : (known : List Headed) (d : Draft) (i : Inside) (n : ℕ) (l : Lit) (one two : Script) (given : List Lit) (goal : Goal) → n ≡ i.lines + 1 + size (erased one) → Stood known d i (Cases l one two) given goal
     → Stood known d (second i n l (erased one)) two (joined given (negation l)) goal
 unfolding erased
 cases_two known d i n l one two given goal count s = record {
@@ -497,7 +497,7 @@ contradiction_along known d i a given goal s =
 -- ---- all lines
 
 -- a line that lacks its certificate is not certified
-no_hence : (known : List Headed) (d : Draft) (i : Inside) (l : Lit) (rest : Script) (given : List Lit) (goal : Goal) → Stood known d i (Hence l None rest) given goal → ⊥
+pub no_hence : (known : List Headed) (d : Draft) (i : Inside) (l : Lit) (rest : Script) (given : List Lit) (goal : Goal) → Stood known d i (Hence l None rest) given goal → ⊥
 unfolding lines
 no_hence known d i l rest given goal s =
     let before = stated_by known in
@@ -506,7 +506,7 @@ no_hence known d i l rest given goal s =
     let c = (one_certified before here (first_of (is_certified before) here (lines before rest rest sc (joined given l) goal) s.certified).0).certs in
     absurd cc
 
-no_contradiction : (known : List Headed) (d : Draft) (i : Inside) (given : List Lit) (goal : Goal) → Stood known d i (Contradiction None) given goal → ⊥
+pub no_contradiction : (known : List Headed) (d : Draft) (i : Inside) (given : List Lit) (goal : Goal) → Stood known d i (Contradiction None) given goal → ⊥
 unfolding lines
 no_contradiction known d i given goal s =
     let before = stated_by known in

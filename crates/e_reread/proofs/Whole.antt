@@ -68,10 +68,10 @@ given_forms_of s ns (l ∷ ls) h =
     rw (lit_of_first s ns l p.0, given_forms_of s ns ls p.1) refl
 
 -- the draft behind the word proof
-abbrev started : Entry → Draft
+abbrev pub started : Entry → Draft
 started t = showing t.title t.names t.statement.declared t.statement.given t.statement.made t.statement.shown
 
-abbrev begins : Entry → Inside
+abbrev pub begins : Entry → Inside
 begins t = record { outers = []; in_scope = names_of_proof t; steps = []; lines = 0; facts = length t.statement.given; terms = count_monomials t.statement.given }
 
 run_proof : (known : List Headed) (t : Entry) → Runs known (Some (started t)) (forms.Proof ∷ []) (Some (proving (started t) (begins t)))
@@ -119,7 +119,7 @@ run_statement known t h o =
 abbrev plain_entry : Entry → Script → Entry
 plain_entry t d = record t { script = erased d }
 
-stood : (known : List Headed) (t : Entry) (d : Script) → CanBeSpelled known t d → InOrder t.names → Stood known (started t) (begins t) d (facts_of_statement (stated t.statement)) (goal_of_statement (stated t.statement))
+pub stood : (known : List Headed) (t : Entry) (d : Script) → CanBeSpelled known t d → InOrder t.names → Stood known (started t) (begins t) d (facts_of_statement (stated t.statement)) (goal_of_statement (stated t.statement))
 stood known t d c o =
     let h = c.plain in
     let s : Scope = scope_of (stated t.statement) in
