@@ -50,7 +50,11 @@ ends_or true x y z e = inl (refl, e)
 ends_or false x y z e = inr (refl, e)
 
 no_last : (lines rest : List (Result Seen LineFault)) (t : Entry) → let end : Result Answer ℕ = Ok (Last, lines) in end ≡ derives t rest → ⊥
-no_last lines rest t e = absurd cc
+no_last lines rest t e = subst IsLast e tt where
+  IsLast : Result Answer ℕ → Type 0
+  IsLast (Ok (Last, ls)) = Unit {0}
+  IsLast (Ok (Derived u, ls)) = ⊥
+  IsLast (Err n) = ⊥
 
 pub garbled_ok : {A : Type 0} (n : ℕ) (r : Result A Kind) (x : A) → garbled_at n r ≡ Ok x → r ≡ Ok x
 garbled_ok n (Ok y) x e = cc
@@ -73,7 +77,11 @@ goes_on (Some x) lines rest more u e = inl (x, refl, e)
 
 unfinished : (draft : Option Draft) (kept : List Kept) (x : Entry) → is_finished draft ≡ false → finished draft kept ≡ Some x → ⊥
 unfinished None kept x h e = absurd cc
-unfinished (Some d) kept x h e = absurd (rw h at e)
+unfinished (Some d) kept x h e = by_test (is_done d) (derived d kept) h e
+  where
+    by_test : (b : Bool) (y : Entry) → b ≡ false → cond b (Some y) None ≡ Some x → ⊥
+    by_test true y h e = absurd cc
+    by_test false y h e = absurd cc
 
 still : (draft : Option Draft) (kept : List Kept) → finished draft kept ≡ None → is_finished draft ≡ false
 still None kept e = refl

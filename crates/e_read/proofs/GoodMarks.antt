@@ -50,7 +50,7 @@ use Rattle.e_read.specs.declared.kept.Kept.{Kept}
 use Rattle.e_read.specs.declared.kept.Kept.TheVariants as kept
 use Rattle.e_read.specs.Marks.{multiplier_of, bare_row, row_named, row_of, may_differ, bare, differs_of, transfer_of, row_mark_of, mark_named, mark_of, mark_line}
 use Rattle.e_read.specs.Strict.{is_strict_mark, strict_mark}
-use Rattle.e_read.specs.Owed.{most_rows, fact_in, row_in, with_row, row_put, sum_begun, differs_put, sums_ended, has_more, certificate, transfer_put, part_put, metric_put, takes_metric, clash_put, transfer_rule, count_others, transfer_in, transfer_begun, ended, sums_behind, due_behind, marked, kept_of, settled}
+use Rattle.e_read.specs.Owed.{most_rows, fact_in, row_in, with_row, row_put, sum_begun, differs_put, sums_ended, has_more, certificate, transfer_put, part_put, metric_put, takes_metric, clash_put, transfer_rule, count_others, transfer_at, transfer_in, transfer_begun, ended, sums_behind, due_behind, marked, kept_of, settled}
 use Rattle.e_read.proofs.TakenLines.{passed}
 use Rattle.e_verify.specs.Written.{is_good_name, is_good_sum, is_good_sums, is_good_part, is_good_cert, is_good_against}
 use Rattle.e_read.proofs.GoodCerts.{AreGood}
@@ -301,10 +301,10 @@ clash_put_good d l new e = absurd cc
 
 -- a transfer that is begun has no part yet
 no_parts : (ns : Names) (l : Lit) (title : List ℕ) (raws : List (List ℕ)) (t : OpenTransfer) → transfer_in ns l title raws ≡ Ok t → are_good_parts t.parts ≡ true
-unfolding transfer_in
+unfolding transfer_in transfer_at
 no_parts ns l title raws t e =
     let then : ℕ → List Obj → List Lit → OpenTransfer = λ r args lits. record { rule = r; args = args; parts = []; owed = count_others l lits } in
-    let last : ℕ → List Obj → Result OpenTransfer Kind = λ r args. or_malformed (Inst r args) >>= λ lits. read_ok (then r args lits) in
+    let last : ℕ → List Obj → Result OpenTransfer Kind = λ r args. transfer_at l r args in
     let third : ℕ → Sig → Result OpenTransfer Kind = λ r s. args_in ns s raws >>= λ args. last r args in
     let second : ℕ → Sig → Result OpenTransfer Kind = λ r s. right_count (length raws == s.points + s.lines + s.circles) >>= λ right. third r s in
     let r = bind_ok (transfer_rule (place_of title)) (λ r. variables_of (sig_of r) >>= λ s. second r s) t e in

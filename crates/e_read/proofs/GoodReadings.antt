@@ -27,7 +27,7 @@ use Rattle.e_read.specs.declared.kept.Kept.{Kept}
 use Rattle.e_read.specs.declared.reading.Reading.{Reading}
 use Rattle.e_read.specs.Strict.{is_apart}
 use Rattle.e_read.specs.Needs.{one_each, needs_of_use, needs_at_qed, due_of}
-use Rattle.e_read.specs.Text.{owes_nothing, at_start, gone_on, taken, Piece, Derived, Last, derived, garbled_at, finished, or_on, is_end, piece_from}
+use Rattle.e_read.specs.Text.{owes_nothing, at_start, owed_by, gone_on, taken, Piece, Derived, Last, derived, garbled_at, finished, or_on, is_end, piece_from}
 use Rattle.e_read.proofs.Bridge.{Answer, derives, garbled_ok}
 use Rattle.e_read.proofs.TakenLines.{passed, Stepped, line_taken}
 use Rattle.e_read.proofs.GoodCerts.{has_good_certs, is_good_kept, AreGood, filled_good}
@@ -51,16 +51,22 @@ due_good known d f new e = subst GoodDue (ok_is due.Nothing new e) refl
 nothing_good : GoodOwed owes_nothing
 nothing_good = record { certs = refl; rows_of_sums = refl }
 
+owed_good : (known : List Headed) (d : Draft) (f : Form) (o : Owed) → owed_by known d f ≡ Ok o → GoodOwed o
+unfolding owed_by
+owed_good known d f o e =
+    let owing : Due → Owed = λ new. record { names = d.in_scope; due = new; sums = None } in
+    let n = bind_ok (due_of known d f) (λ new. read_ok (owing new)) o e in
+    subst GoodOwed (ok_is (owing n.0) o n.2) (record { certs = due_good known d f n.0 n.1; rows_of_sums = refl })
+
 gone_good : (known : List Headed) (draft : Option Draft) (f : Form) (d : Draft) (o : Owed) → gone_on known draft f ≡ Ok (d, o) → GoodOwed o
 gone_good known None f d o e =
     let x = bind_ok (begin known f) (λ x. read_ok (x, owes_nothing)) (d, o) e in
     subst GoodOwed (ap (λ (p : Draft × Owed). p.1) (ok_is (x.0, owes_nothing) (d, o) x.2)) nothing_good
 gone_good known (Some a) f d o e =
-    let end : Due → Draft → Draft × Owed = λ new x. (x, record { names = a.in_scope; due = new; sums = None }) in
-    let p = passed (is_apart a f) (due_of known a f >>= λ new. step known a f >>= λ x. Ok (end new x)) (d, o) e in
-    let n = bind_ok (due_of known a f) (λ new. step known a f >>= λ x. Ok (end new x)) (d, o) p.1 in
-    let x = bind_ok (step known a f) (λ x. Ok (end n.0 x)) (d, o) n.2 in
-    subst GoodOwed (ap (λ (q : Draft × Owed). q.1) (ok_is (end n.0 x.0) (d, o) x.2)) (record { certs = due_good known a f n.0 n.1; rows_of_sums = refl })
+    let p = passed (is_apart a f) (owed_by known a f >>= λ w. step known a f >>= λ x. Ok (x, w)) (d, o) e in
+    let n = bind_ok (owed_by known a f) (λ w. step known a f >>= λ x. Ok (x, w)) (d, o) p.1 in
+    let x = bind_ok (step known a f) (λ x. Ok (x, n.0)) (d, o) n.2 in
+    subst GoodOwed (ap (λ (q : Draft × Owed). q.1) (ok_is (x.0, n.0) (d, o) x.2)) (owed_good known a f n.0 n.1)
 
 -- ---- the lines of a block
 

@@ -26,10 +26,10 @@ use Rattle.e_read.specs.declared.owed.Owed.{Owed}
 use Rattle.e_read.specs.declared.kept.Kept.{Kept}
 use Rattle.e_read.specs.declared.reading.Reading.{Reading}
 use Rattle.e_read.specs.Marks.{mark_line}
-use Rattle.e_read.specs.Strict.{is_strict, strict_form, is_apart}
+use Rattle.e_read.specs.Strict.{is_strict, strict_of, strict_form, is_apart}
 use Rattle.e_read.specs.Owed.{marked, settled}
 use Rattle.e_read.specs.Needs.{due_of}
-use Rattle.e_read.specs.Text.{stepped, worded}
+use Rattle.e_read.specs.Text.{with_mark, owed_by, with_form, stepped, worded}
 use Rattle.e_reread.proofs.MarksAgain.{MarkNamed, mark_tokens_again, strict_mark_again}
 use Rattle.e_reread.proofs.Feeding.{OneMark, Fed, owing}
 use Rattle.e_reread.proofs.CertsPut.{Keeps}
@@ -71,7 +71,7 @@ line_again forms.Else g = refl
 line_again forms.End g = refl
 
 pub strict_form_again : (f : Form) → GoodForm f → is_strict (as_read f) ≡ true → strict_form (line_of f) ≡ Ok (as_read f)
-unfolding strict_form
+unfolding strict_of
 strict_form_again f g s =
     let same : bytes_eq (line_of f) (line_of (as_read f)) ≡ true = ap (bytes_eq (line_of f)) (line_again f g) ∙ same_bytes (line_of f) in
     rw (words_again f g, form_again f g, s, same) refl
@@ -146,6 +146,7 @@ along_append known d e f xs ys js ls p q = λ r ks s.
 -- ---- lines of certificates
 
 mark_leads : (known : List Headed) (r : Reading) (m : Mark) (o : Owed) → MarkNamed m → marked r.owed m ≡ Ok o → worded known r (mark_line m) (tokens_of (mark_line m)) ≡ Ok (record r { owed = o })
+unfolding with_mark
 mark_leads known r m o h e =
     ap (λ (ws : List (List ℕ)). worded known r (mark_line m) ws) (mark_tokens_again m h) ∙ rw (strict_mark_again m h, e) refl
 
@@ -165,6 +166,7 @@ marks_taken known r d (words ∷ lines) last here going fed = (
 
 pub form_leads : (known : List Headed) (r : Reading) (d e : Draft) (ks : List Kept) (f : Form) (owed : Due) → Stands r d ks → GoodForm f → is_strict (as_read f) ≡ true → is_apart d (as_read f) ≡ true → due_of known d (as_read f) ≡ Ok owed
     → step known d (as_read f) ≡ Ok e → worded known r (line_of f) (tokens_of (line_of f)) ≡ Ok (record { draft = Some e; owed = owing d.in_scope owed None; kept = ks })
+unfolding with_form owed_by
 form_leads known r d e ks f owed s good strict apart due steps =
     ap (worded known r (line_of f)) (words_again f good) ∙ no_bar known r (line_of f) f
     ∙ rw (strict_form_again f good strict, s.settles, s.draft, apart, due, steps) (ap (λ (x : List Kept). Ok (record { draft = Some e; owed = owing d.in_scope owed None; kept = x })) s.kept)

@@ -49,7 +49,7 @@ use Rattle.e_read.specs.declared.reading.Reading.{Reading}
 use Rattle.e_read.specs.Filled.{filled}
 use Rattle.e_read.specs.Owed.{settled}
 use Rattle.e_read.specs.Needs.{due_of}
-use Rattle.e_read.specs.Text.{Piece, Derived, owes_nothing, at_start, worded, taken, derived, finished, is_end, piece_from}
+use Rattle.e_read.specs.Text.{with_form, Piece, Derived, owes_nothing, at_start, worded, taken, derived, finished, is_end, piece_from}
 use Rattle.e_spell.specs.Spelling.{script_lines}
 use Rattle.e_reread.specs.Laws.{ShowsEnded, CanBeSpelled, SpelledIsRead}
 use Rattle.e_reread.proofs.FilledBack.{kepts, filled_back}
@@ -222,7 +222,7 @@ unfolding settled
 title_stands t = record { draft = refl; read = None; settles = refl; kept = refl }
 
 title_leads : (known : List Headed) (t : Entry) (d : Script) → HasSpelling known (plain_entry t d) → worded known at_start (line_of (forms.Theorem t.title)) (tokens_of (line_of (forms.Theorem t.title))) ≡ Ok (titled t)
-unfolding settled
+unfolding settled with_form
 title_leads known t d h =
     let f = forms.Theorem t.title in
     let r = run_title known t.title h.title h.fits.new h.few_theorems in

@@ -46,7 +46,7 @@ use Rattle.e_read.specs.declared.kept.Kept.{Kept}
 use Rattle.e_read.specs.declared.kept.Kept.TheVariants as kept
 use Rattle.e_read.specs.Marks.{mark_words, mark_line}
 use Rattle.e_read.specs.Marks as reading
-use Rattle.e_read.specs.Owed.{most_rows, fact_in, row_in, with_row, row_put, sum_begun, differs_put, sums_ended, has_more, certificate, transfer_put, part_put, metric_put, takes_metric, clash_put, transfer_rule, count_others, transfer_in, transfer_begun, ended, sums_behind, due_behind, marked, kept_of, settled}
+use Rattle.e_read.specs.Owed.{most_rows, fact_in, row_in, with_row, row_put, sum_begun, differs_put, sums_ended, has_more, certificate, transfer_put, part_put, metric_put, takes_metric, clash_put, transfer_rule, count_others, transfer_at, transfer_in, transfer_begun, ended, sums_behind, due_behind, marked, kept_of, settled}
 use Rattle.e_spell.specs.Certificates.{row_words, row_line, sum_lines, metric_lines, part_lines, transfer_lines, cert_lines, certs_lines, against_lines, contradiction_lines}
 use Rattle.e_respell.proofs.NamesSpelled.{keeps_all}
 use Rattle.e_respell.proofs.LitsSpelled.{term_named, lit_named}
@@ -278,12 +278,12 @@ record Begun (ns : Names) (title : List ℕ) (raws : List (List ℕ)) (t : OpenT
   parts : t.parts ≡ []
 
 transfer_in_spelled : (ns : Names) (wanted : Lit) (title : List ℕ) (raws : List (List ℕ)) (t : OpenTransfer) → transfer_in ns wanted title raws ≡ Ok t → Begun ns title raws t
-unfolding transfer_in
+unfolding transfer_in transfer_at
 transfer_in_spelled ns wanted title raws t e =
-    let r = bind_ok (transfer_rule (place_of title)) (λ r. variables_of (sig_of r) >>= λ s. right_count (eqb (length raws) (s.points + s.lines + s.circles)) >>= λ right. args_in ns s raws >>= λ args. or_malformed (Inst r args) >>= λ lits. read_ok (transfer r args [] (count_others wanted lits))) t e in
-    let s = bind_ok (variables_of (sig_of r.0)) (λ s. right_count (eqb (length raws) (s.points + s.lines + s.circles)) >>= λ right. args_in ns s raws >>= λ args. or_malformed (Inst r.0 args) >>= λ lits. read_ok (transfer r.0 args [] (count_others wanted lits))) t r.2 in
-    let n = bind_ok (right_count (eqb (length raws) (s.0.points + s.0.lines + s.0.circles))) (λ right. args_in ns s.0 raws >>= λ args. or_malformed (Inst r.0 args) >>= λ lits. read_ok (transfer r.0 args [] (count_others wanted lits))) t s.2 in
-    let a = bind_ok (args_in ns s.0 raws) (λ args. or_malformed (Inst r.0 args) >>= λ lits. read_ok (transfer r.0 args [] (count_others wanted lits))) t n.2 in
+    let r = bind_ok (transfer_rule (place_of title)) (λ r. variables_of (sig_of r) >>= λ s. right_count (eqb (length raws) (s.points + s.lines + s.circles)) >>= λ right. args_in ns s raws >>= λ args. transfer_at wanted r args) t e in
+    let s = bind_ok (variables_of (sig_of r.0)) (λ s. right_count (eqb (length raws) (s.points + s.lines + s.circles)) >>= λ right. args_in ns s raws >>= λ args. transfer_at wanted r.0 args) t r.2 in
+    let n = bind_ok (right_count (eqb (length raws) (s.0.points + s.0.lines + s.0.circles))) (λ right. args_in ns s.0 raws >>= λ args. transfer_at wanted r.0 args) t s.2 in
+    let a = bind_ok (args_in ns s.0 raws) (λ args. transfer_at wanted r.0 args) t n.2 in
     let l = bind_ok (or_malformed (Inst r.0 a.0)) (λ lits. read_ok (transfer r.0 a.0 [] (count_others wanted lits))) t a.2 in
     subst (λ (x : OpenTransfer). Begun ns title raws x) (ok_is (transfer r.0 a.0 [] (count_others wanted l.0)) t l.2)
     (record { rule = rule_named title r.0 (transfer_rule_is (place_of title) r.0 r.1); args = args_named ns ns s.0 raws a.0 (keeps_all ns) a.1; parts = refl })

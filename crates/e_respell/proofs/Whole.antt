@@ -32,7 +32,7 @@ use Rattle.e_read.specs.Marks.{mark_line}
 use Rattle.e_read.specs.Strict.{is_strict, is_apart}
 use Rattle.e_read.specs.Needs.{due_of}
 use Rattle.e_read.specs.Filled.{filled}
-use Rattle.e_read.specs.Text.{Piece, Derived, Last, owes_nothing, at_start, gone_on, worded, is_lf_end, taken, derived, garbled_at, is_finished, finished, or_on, is_end, piece_from}
+use Rattle.e_read.specs.Text.{Piece, Derived, Last, owes_nothing, at_start, owed_by, gone_on, worded, is_lf_end, taken, derived, garbled_at, is_finished, finished, or_on, is_end, piece_from}
 use Rattle.e_read.proofs.TakenLines.{Certified, Stepped, passed, line_taken, form_read}
 use Rattle.e_read.proofs.Bridge.{Answer, derives, garbled_ok}
 use Rattle.e_spell.specs.Spelling.{script_lines, spelled_lines}
@@ -130,6 +130,13 @@ first_said known e f ks done k n b =
     by_kept None a = puts_begun known e f b
     by_kept (Some j) a = absurd a
 
+-- what a line owes, with the names before it
+owed_is : (known : List Headed) (d : Draft) (f : Form) (o : Owed) → owed_by known d f ≡ Ok o → (new : Due) × (due_of known d f ≡ Ok new) × (owed d.in_scope new ≡ o)
+unfolding owed_by
+owed_is known d f o e =
+    let n = bind_ok (due_of known d f) (λ new. read_ok (owed d.in_scope new)) o e in
+    (n.0, n.1, ok_is (owed d.in_scope n.0) o n.2)
+
 gone_said : (known : List Headed) (draft : Option Draft) (e : Draft) (f : Form) (o : Owed) (ks : List Kept) (done : List (List ℕ)) → StateSaid known draft ks done → Read f → is_strict f ≡ true → gone_on known draft f ≡ Ok (e, o)
     → StepSaid known e o ks (done ++ line_of f ∷ [])
 gone_said known None e f o ks done s r st g =
@@ -137,12 +144,12 @@ gone_said known None e f o ks done s r st g =
     let is = ok_is (with_owed b.0 owes_nothing) (e, o) b.2 in
     subst (λ (p : Draft × Owed). StepSaid known p.0 p.1 ks (done ++ line_of f ∷ [])) is (first_said known b.0 f ks done s.0 s.1 b.1)
 gone_said known (Some d) e f o ks done s r st g =
-    let end : Due → Draft → Draft × Owed = λ new x. with_owed x (owed d.in_scope new) in
-    let p = passed (is_apart d f) (due_of known d f >>= λ new. step known d f >>= λ x. read_ok (end new x)) (e, o) g in
-    let n = bind_ok (due_of known d f) (λ new. step known d f >>= λ x. read_ok (end new x)) (e, o) p.1 in
-    let x = bind_ok (step known d f) (λ x. read_ok (end n.0 x)) (e, o) n.2 in
+    let p = passed (is_apart d f) (owed_by known d f >>= λ w. step known d f >>= λ x. read_ok (with_owed x w)) (e, o) g in
+    let w = bind_ok (owed_by known d f) (λ w. step known d f >>= λ x. read_ok (with_owed x w)) (e, o) p.1 in
+    let x = bind_ok (step known d f) (λ x. read_ok (with_owed x w.0)) (e, o) w.2 in
+    let n = owed_is known d f w.0 w.1 in
     let at = due_at_start known d f n.0 d.in_scope n.1 in
-    subst (λ (q : Draft × Owed). StepSaid known q.0 q.1 ks (done ++ line_of f ∷ [])) (ok_is (end n.0 x.0) (e, o) x.2)
+    subst (λ (q : Draft × Owed). StepSaid known q.0 q.1 ks (done ++ line_of f ∷ [])) (ap (λ (v : Owed). with_owed x.0 v) n.2 ∙ ok_is (with_owed x.0 w.0) (e, o) x.2)
     (step_said known d x.0 f n.0 ks done (step_left known d x.0 f n.0 ks done s r st p.0 n.1 x.1) at.none at.fits)
 
 stepped_said : (known : List Headed) (r next : Reading) (line : List ℕ) (done : List (List ℕ)) → SaidSoFar known r.draft r.owed r.kept done → (s : Stepped known r next line) → StepSaid known s.draft s.owed (r.kept ++ option_to_list s.read) (done ++ line ∷ [])
