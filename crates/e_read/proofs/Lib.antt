@@ -6,3 +6,5 @@ pub mod Erased
 pub mod Consequences
 pub mod Rooms
 pub mod GoalSorts
+pub mod MadeNames
+pub mod Ends

@@ -18,6 +18,3 @@ mod words;
 
 pub use laws::derivations_are_of_books;
 pub use reader::{Piece, TextFault, read};
-
-#[cfg(test)]
-mod tests;
