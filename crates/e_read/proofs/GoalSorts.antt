@@ -13,7 +13,7 @@ use Rattle.e_deriv.specs.declared.names.Names.{Names}
 use Rattle.e_book.specs.declared.blocks.Outer.{Outer}
 use Rattle.e_book.specs.declared.blocks.Opened.{Opened}
 use Rattle.e_book.specs.declared.blocks.Opened.TheVariants as opened
-use Rattle.e_book.specs.Blocks.{is_claim, has_claim}
+use Rattle.e_book.specs.Blocks.{is_claim, has_claim, made_in}
 use Rattle.e_book.specs.Scope.{scope_of_names, qed_in}
 use Rattle.e_book.proofs.Building.{qed_fits}
 use Rattle.e_book.proofs.Differ.{both}
@@ -47,7 +47,7 @@ claims None = false
 claims (Some shown) = true
 
 -- the open block has a goal of its own where it is in a claim or a superposition
-pub claims_is : (outers : List Outer) → has_claim outers ≡ claims (claimed outers)
+claims_is : (outers : List Outer) → has_claim outers ≡ claims (claimed outers)
 claims_is [] = refl
 claims_is (o ∷ os) = inside o.opened (has_claim os) (claimed os) (claims_is os)
   where
@@ -56,6 +56,14 @@ claims_is (o ∷ os) = inside o.opened (has_claim os) (claimed os) (claims_is os
     inside (opened.Superpose form names shown) b around e = refl
     inside (opened.First lit) b around e = e
     inside (opened.Second lit first) b around e = e
+
+-- so nothing is made in a claim or a superposition
+pub none_made : (outers : List Outer) (made : List Sort) (shown : List Lit) → claimed outers ≡ Some shown → made_in outers made ≡ []
+none_made outers made shown e = let h : has_claim outers ≡ true = claims_is outers ∙ ap claims e in rw h refl
+
+-- and else what the theorem makes
+pub all_made : (outers : List Outer) (made : List Sort) → claimed outers ≡ None → made_in outers made ≡ made
+all_made outers made e = let h : has_claim outers ≡ false = claims_is outers ∙ ap claims e in rw h refl
 
 -- the blocks from the last one on
 pub reversed : (xs : List Outer) (d : Outer) → 0 < length xs → reverse xs ≡ get_or xs (length xs - 1) d ∷ reverse (take (length xs - 1) xs)

@@ -9,3 +9,5 @@ pub mod GoalSorts
 pub mod GoodCerts
 mod GoodMarks
 pub mod GoodReadings
+pub mod MadeNames
+pub mod Ends

@@ -1,16 +1,26 @@
 -- Names and statements are few.
-use Rattle.std.proofs.Common.{◌≡◌, ℕ, zero, suc, ◌+◌, ◌≤◌, true, List, [], ◌∷◌, length, arith}
+use Rattle.std.proofs.Common.{◌≡◌, ℕ, zero, suc, ◌+◌, ◌≤◌, ◌<◌, ◌^◌, true, List, [], ◌∷◌, length, arith}
 use Rattle.std.specs.Prelude.{nat_le, ◌&&◌}
 use Rattle.std.specs.List.{list_all}
 use Rattle.std.proofs.lemmas.Bool.{leb-true}
 use Rattle.e_literal.specs.declared.object.Scope.{Scope}
 use Rattle.e_literal.specs.Scopes.{nothing, grown}
 use Rattle.e_literal.specs.Use.{Stated, scope_of, is_statement}
-use Rattle.e_literal.proofs.Growing.{total_grown}
+use Rattle.e_literal.proofs.Growing.{total, total_grown}
 use Rattle.e_deriv.specs.Lines.{theorem_at}
 use Rattle.e_deriv.specs.Fitting.{all_objects, is_small, is_small_statement}
+use Rattle.e_book.specs.declared.draft.Draft.{Draft}
 use Rattle.e_book.proofs.Differ.{both}
-use Rattle.e_read.specs.Text.{at_start, FitsReading}
+use Rattle.e_read.specs.Text.{at_start, FitsDraft, FitsReading}
+
+-- the objects that are declared and made have numbers
+pub made_fits : (d : Draft) → FitsDraft d → let s = grown nothing d.declared in
+    (s.points + length d.made < 2 ^ 16) × (s.lines + length d.made < 2 ^ 16) × (s.circles + length d.made < 2 ^ 16)
+made_fits d f =
+    let t = total_grown nothing d.declared in
+    let n = f.scope.names in
+    let few : total (grown nothing d.declared) + length d.made < 2 ^ 16 = omega (arith, t, f.scope.declared, f.made, n.points, n.lines, n.circles) in
+    (omega (arith, few), omega (arith, few), omega (arith, few))
 
 -- no line has come yet
 pub start_fits : FitsReading at_start

@@ -22,11 +22,11 @@ use Rattle.e_read.specs.declared.owed.Due.{Due}
 use Rattle.e_read.specs.declared.owed.Owed.{Owed}
 use Rattle.e_read.specs.declared.kept.Kept.{Kept}
 use Rattle.e_read.specs.declared.reading.Reading.{Reading}
-use Rattle.e_read.specs.Strict.{is_strict, strict_form, strict_mark, is_apart}
+use Rattle.e_read.specs.Strict.{is_strict, strict_of, strict_form, strict_mark, is_apart}
 use Rattle.e_read.specs.Owed.{marked, settled}
 use Rattle.e_read.specs.Needs.{due_of}
 use Rattle.e_read.specs.Laws.{begins_with_bar}
-use Rattle.e_read.specs.Text.{owes_nothing, certified, gone_on, all_settled, stepped, is_bar, worded, is_lf_end, taken}
+use Rattle.e_read.specs.Text.{owes_nothing, with_mark, certified, owed_by, gone_on, all_settled, with_form, stepped, is_bar, worded, is_lf_end, spelled, taken}
 
 -- a test that was passed
 pub passed : {A : Type 0} (b : Bool) (x : Result A Kind) (y : A) → cond b x (Err Malformed) ≡ Ok y → (b ≡ true) × (x ≡ Ok y)
@@ -62,6 +62,7 @@ pub record Stepped (known : List Headed) (r next : Reading) (line : List ℕ) : 
   pub next_is : next ≡ record { draft = Some draft; owed = owed; kept = r.kept ++ option_to_list read }
 
 certified_line : (r next : Reading) (line : List ℕ) (words : List (List ℕ)) → certified r line words ≡ Ok next → Certified r next line words
+unfolding with_mark certified
 certified_line r next line words e =
     let m = bind_ok (strict_mark line words) (λ m. marked r.owed m >>= λ o. Ok (record r { owed = o })) next e in
     let o = bind_ok (marked r.owed m.0) (λ o. Ok (record r { owed = o })) next m.2 in
@@ -75,6 +76,7 @@ certified_line r next line words e =
     }
 
 stepped_line : (known : List Headed) (r next : Reading) (line : List ℕ) → stepped known r line ≡ Ok next → Stepped known r next line
+unfolding with_form stepped
 stepped_line known r next line e =
     let with_kept : Option Kept → Reading = λ k. record { draft = r.draft; owed = owes_nothing; kept = r.kept ++ option_to_list k } in
     let end : Reading → Draft × Owed → Reading = λ s x. record { draft = Some x.0; owed = x.1; kept = s.kept } in
@@ -97,11 +99,12 @@ stepped_line known r next line e =
 -- what a line is that is taken
 pub line_taken : (known : List Headed) (r next : Reading) (l : Seen) → taken known r l ≡ Ok next
     → ((ws : List (List ℕ)) × (begins_with_bar (tokens_of l.bytes) ≡ true) × Certified r next l.bytes ws) ⊎ ((begins_with_bar (tokens_of l.bytes) ≡ false) × Stepped known r next l.bytes)
-unfolding taken
+unfolding taken spelled worded
 line_taken known r next l e = by_words (tokens_of l.bytes) refl (passed (is_lf_end l.end) (worded known r l.bytes (tokens_of l.bytes)) next e).1
   where
     by_words : (words : List (List ℕ)) → tokens_of l.bytes ≡ words → worded known r l.bytes words ≡ Ok next
         → ((ws : List (List ℕ)) × (begins_with_bar (tokens_of l.bytes) ≡ true) × Certified r next l.bytes ws) ⊎ ((begins_with_bar (tokens_of l.bytes) ≡ false) × Stepped known r next l.bytes)
+    unfolding worded
     by_words [] same h = absurd cc
     by_words (w ∷ ws) same h =
         elim (either (is_bar w) (certified r l.bytes ws) (stepped known r l.bytes) (Ok next) h) [
@@ -111,7 +114,7 @@ line_taken known r next l e = by_words (tokens_of l.bytes) refl (passed (is_lf_e
 
 -- the form of a line in the one spelling is that of its words
 pub form_read : (line : List ℕ) (f : Form) → strict_form line ≡ Ok f → (form_of (tokens_of line) ≡ Ok f) × ((is_strict f && bytes_eq line (line_of f)) ≡ true)
-unfolding strict_form
+unfolding strict_of
 form_read line f e =
     let g = bind_ok (form_of (tokens_of line)) (λ f. cond (is_strict f && bytes_eq line (line_of f)) (Ok f) (Err Malformed)) f e in
     let p = passed (is_strict g.0 && bytes_eq line (line_of g.0)) (Ok g.0) f g.2 in
@@ -144,9 +147,8 @@ book_line known None f d o words h e =
     let same : x.0 ≡ d = ap (λ (p : Draft × Owed). p.0) (ok_is (x.0, owes_nothing) (d, o) x.2) in
     rw h (x.1 ∙ ap (λ (y : Draft). Ok y) same)
 book_line known (Some a) f d o words h e =
-    let end : Due → Draft → Draft × Owed = λ new x. (x, record { names = a.in_scope; due = new; sums = None }) in
-    let p = passed (is_apart a f) (due_of known a f >>= λ new. step known a f >>= λ x. Ok (end new x)) (d, o) e in
-    let n = bind_ok (due_of known a f) (λ new. step known a f >>= λ x. Ok (end new x)) (d, o) p.1 in
-    let x = bind_ok (step known a f) (λ x. Ok (end n.0 x)) (d, o) n.2 in
-    let same : x.0 ≡ d = ap (λ (q : Draft × Owed). q.0) (ok_is (end n.0 x.0) (d, o) x.2) in
+    let p = passed (is_apart a f) (owed_by known a f >>= λ new. step known a f >>= λ x. Ok (x, new)) (d, o) e in
+    let n = bind_ok (owed_by known a f) (λ new. step known a f >>= λ x. Ok (x, new)) (d, o) p.1 in
+    let x = bind_ok (step known a f) (λ x. Ok (x, n.0)) (d, o) n.2 in
+    let same : x.0 ≡ d = ap (λ (q : Draft × Owed). q.0) (ok_is (x.0, n.0) (d, o) x.2) in
     rw h (x.1 ∙ ap (λ (y : Draft). Ok y) same)

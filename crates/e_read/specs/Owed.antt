@@ -134,15 +134,18 @@ transfer_rule (Some r) = if is_transfer r then Ok r else Err Malformed
 abbrev pub count_others : Lit → List Lit → ℕ
 count_others wanted lits = length (others lits wanted)
 
--- a rule with an object for each of its variables. It owes a part for each place of its instance that has not the wanted literal
+-- a transfer of which no part has come. It owes a part for each place of its instance that has not the wanted literal
+unfoldable pub transfer_at : Lit → ℕ → List Obj → Result OpenTransfer Kind
+transfer_at wanted r args = or_malformed (Inst r args) >>= λ lits. Ok (record { rule = r; args = args; parts = []; owed = count_others wanted lits })
+
+-- a rule with an object for each of its variables
 unfoldable pub transfer_in : Names → Lit → List ℕ → List (List ℕ) → Result OpenTransfer Kind
 transfer_in ns wanted title raws = do
   r ← transfer_rule (place_of title)
   s ← variables_of (sig_of r)
   right ← right_count (length raws == s.points + s.lines + s.circles)
   args ← args_in ns s raws
-  lits ← or_malformed (Inst r args)
-  Ok (record { rule = r; args = args; parts = []; owed = count_others wanted lits })
+  transfer_at wanted r args
 
 -- a transfer is begun for the next literal, and is no part of another one
 abbrev pub transfer_begun : Names → Due → List ℕ → List (List ℕ) → Result Due Kind

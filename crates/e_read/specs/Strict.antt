@@ -44,9 +44,13 @@ is_strict (forms.Superpose s) = are_direct s.shown
 is_strict (forms.Cases l) = is_direct l
 is_strict form = true
 
--- the form of a line that is spelled as this form is
-unfoldable pub strict_form : List ℕ → Result Form Kind
-strict_form line = form_of (tokens_of line) >>= λ f. if is_strict f && bytes_eq line (line_of f) then Ok f else Err Malformed
+-- the form of a line of these words that is spelled as this form is
+unfoldable pub strict_of : List ℕ → List (List ℕ) → Result Form Kind
+strict_of line words = form_of words >>= λ f. if is_strict f && bytes_eq line (line_of f) then Ok f else Err Malformed
+
+-- the words are those of the line
+abbrev pub strict_form : List ℕ → Result Form Kind
+strict_form line = strict_of line (tokens_of line)
 
 abbrev pub is_strict_row : RawRow → Bool
 is_strict_row (rows.Fact l) = is_direct l

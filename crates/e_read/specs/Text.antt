@@ -1,5 +1,5 @@
 -- A block of a derivation text, line by line.
-use Rattle.std.specs.Prelude.{◌≡◌, IfSome, ℕ, ◌+◌, Bool, true, false, ◌∷◌, ◌++◌, List, [], length, decimal, codes, Option, Some, None, Result, Ok, Err, if◌then◌else◌}
+use Rattle.std.specs.Prelude.{◌≡◌, IfSome, ℕ, ◌+◌, ◌≤◌, Bool, true, false, ◌∷◌, ◌++◌, List, [], length, decimal, codes, Option, Some, None, Result, Ok, Err, if◌then◌else◌}
 use Rattle.std.specs.Option.{option_to_list}
 use Rattle.std.specs.Str.{bytes_eq}
 use Rattle.e_text.specs.Tokens.{tokens_of, joined}
@@ -18,8 +18,9 @@ use Rattle.e_book.specs.Reading.{◌>>=◌}
 use Rattle.e_book.specs.Headed.{Headed}
 use Rattle.e_book.specs.Entry.{Entry, entry_of, entry_of_draft}
 use Rattle.e_book.specs.Scope.{FewNames}
-use Rattle.e_book.specs.Steps.{begin, step, no_names, FitsScope}
+use Rattle.e_book.specs.Steps.{begin, step, no_names, count_names, FitsScope}
 use Rattle.e_book.specs.Book.{is_done}
+use Rattle.e_read.specs.declared.mark.Mark.{Mark}
 use Rattle.e_read.specs.declared.owed.Due.{Due}
 use Rattle.e_read.specs.declared.owed.Due.TheVariants as due
 use Rattle.e_read.specs.declared.owed.Owed.{Owed}
@@ -43,30 +44,40 @@ owes_nothing = record { names = no_names; due = due.Nothing; sums = None }
 abbrev pub at_start : Reading
 at_start = record { draft = None; owed = owes_nothing; kept = [] }
 
--- the line behind a line of a certificate owes the rest
-abbrev pub certified : Reading → List ℕ → List (List ℕ) → Result Reading Kind
-certified r line words = strict_mark line words >>= λ m. marked r.owed m >>= λ o. Ok (record r { owed = o })
+-- the certificates are owed that are left behind a line of one
+unfoldable pub with_mark : Reading → Mark → Result Reading Kind
+with_mark r m = marked r.owed m >>= λ o. Ok (record r { owed = o })
+
+-- a line of a certificate
+unfoldable pub certified : Reading → List ℕ → List (List ℕ) → Result Reading Kind
+certified r line words = strict_mark line words >>= λ m. with_mark r m
+
+-- what a line owes, with the names in scope before it
+unfoldable pub owed_by : List Headed → Draft → Form → Result Owed Kind
+owed_by known d f = due_of known d f >>= λ new. Ok (record { names = d.in_scope; due = new; sums = None })
 
 -- a line begins a theorem, or goes on with it, and owes certificates of its own
 abbrev pub gone_on : List Headed → Option Draft → Form → Result (Draft × Owed) Kind
 gone_on known None f = begin known f >>= λ e. Ok (e, owes_nothing)
 gone_on known (Some d) f =
-    if is_apart d f then (due_of known d f >>= λ new. step known d f >>= λ e. Ok (e, record { names = d.in_scope; due = new; sums = None })) else Err Malformed
+    if is_apart d f then (owed_by known d f >>= λ o. step known d f >>= λ e. Ok (e, o)) else Err Malformed
 
 -- nothing is owed any more, and what was read is kept
 abbrev pub all_settled : Reading → Result Reading Kind
 all_settled r = settled r.owed >>= λ k. Ok (record { draft = r.draft; owed = owes_nothing; kept = r.kept ++ option_to_list k })
 
 -- any other line comes where nothing is owed any more
-abbrev pub stepped : List Headed → Reading → List ℕ → Result Reading Kind
-stepped known r line =
-    strict_form line >>= λ f. all_settled r >>= λ s. gone_on known s.draft f >>= λ e. Ok (record { draft = Some e.0; owed = e.1; kept = s.kept })
+unfoldable pub with_form : List Headed → Reading → Form → Result Reading Kind
+with_form known r f = all_settled r >>= λ s. gone_on known s.draft f >>= λ e. Ok (record { draft = Some e.0; owed = e.1; kept = s.kept })
+
+unfoldable pub stepped : List Headed → Reading → List ℕ → Result Reading Kind
+stepped known r line = strict_form line >>= λ f. with_form known r f
 
 abbrev pub is_bar : List ℕ → Bool
 is_bar word = bytes_eq word (codes "|")
 
 -- a line by its words: the sign `|` stands before each line of a certificate
-abbrev pub worded : List Headed → Reading → List ℕ → List (List ℕ) → Result Reading Kind
+unfoldable pub worded : List Headed → Reading → List ℕ → List (List ℕ) → Result Reading Kind
 worded known r line [] = Err Malformed
 worded known r line (w ∷ ws) = if is_bar w then certified r line ws else stepped known r line
 
@@ -74,9 +85,13 @@ abbrev pub is_lf_end : LineEnd → Bool
 is_lf_end ends.Lf = true
 is_lf_end end = false
 
+-- a line by its bytes
+unfoldable pub spelled : List Headed → Reading → List ℕ → Result Reading Kind
+spelled known r line = worded known r line (tokens_of line)
+
 -- each line ends with a line feed
 unfoldable pub taken : List Headed → Reading → Seen → Result Reading Kind
-taken known r l = if is_lf_end l.end then worded known r l.bytes (tokens_of l.bytes) else Err Malformed
+taken known r l = if is_lf_end l.end then spelled known r l.bytes else Err Malformed
 
 -- ---- blocks
 
@@ -145,10 +160,15 @@ OfTheorem holds (read.Last n) = Unit {0}
 
 -- ---- what is known of a block while its lines come: its names and counts are within the limits
 
+pub record FitsDraft (d : Draft) : Type 0 where
+  pub scope : FitsScope d
+  -- no more objects are made than have names
+  pub made : length d.made ≤ count_names d.names
+
 pub record FitsReading (r : Reading) : Type 0 where
-  pub draft : IfSome r.draft FitsScope
+  pub draft : IfSome r.draft FitsDraft
   pub names : FewNames r.owed.names
 
 pub record FitsBegun (d : Draft) (o : Owed) : Type 0 where
-  pub draft : FitsScope d
+  pub draft : FitsDraft d
   pub names : FewNames o.names

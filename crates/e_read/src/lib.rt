@@ -22,6 +22,3 @@ pub use mark::{Mark, RawRow};
 pub use owed::{Due, OpenSums, OpenTransfer, Owed};
 pub use reader::{Piece, TextFault, read};
 pub use reading::Reading;
-
-#[cfg(test)]
-mod tests;

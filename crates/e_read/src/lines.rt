@@ -24,7 +24,6 @@ fn sort_word(sort: Sort) -> &'static [u8]
 }
 
 /// A citation behind its first word.
-#[tactic(auto, using(crate::proofs::Spaced::spaced_append))]
 fn put_by(out: &mut Vec<u8>, rule: Title, names: &[Name], lit: &RawLit) -> Result<(), AllocError>
     ensures { OnOk result (out.new.items ≡ out.old.items ++ spaced (rule ∷ (names.now ++ codes ":" ∷ lit_words lit.now))) }
 {
@@ -96,7 +95,6 @@ fn put_avoided(out: &mut Vec<u8>, avoid: &[Name]) -> Result<(), AllocError>
 }
 
 /// A construction behind its first word.
-#[tactic(auto, using(crate::proofs::Spaced::spaced_append))]
 fn put_construction(
     out: &mut Vec<u8>,
     shapes: &[Shape],
@@ -154,7 +152,6 @@ fn put_made(out: &mut Vec<u8>, new: &[Name]) -> Result<(), AllocError>
 }
 
 /// The use of an earlier theorem behind its first word.
-#[tactic(auto, using(crate::proofs::Spaced::spaced_append))]
 fn put_use(
     out: &mut Vec<u8>,
     title: Title,

@@ -5,6 +5,7 @@ ghost use Rattle.e_book.specs.Canonical.{term_words, coefficient_words, mono_wor
 
 use crate::words::{put, put_four, put_number, put_three};
 use e_book::{RawAtom, RawLit, RawMono, RawTerm};
+use e_text::Name;
 use std::alloc::AllocError;
 
 pub(crate) fn put_term(out: &mut Vec<u8>, term: &RawTerm) -> Result<(), AllocError>
@@ -71,7 +72,6 @@ fn put_side(out: &mut Vec<u8>, sign: &[u8], sum: &[RawMono]) -> Result<(), Alloc
 }
 
 /// Two sums with a sign between them.
-#[tactic(auto, using(crate::proofs::Spaced::spaced_append))]
 fn put_sums(
     out: &mut Vec<u8>,
     left: &[RawMono],
@@ -85,6 +85,19 @@ fn put_sums(
     Ok(())
 }
 
+/// A word and three names.
+fn put_of_three(
+    out: &mut Vec<u8>,
+    word: &[u8],
+    x: Name,
+    y: Name,
+    z: Name,
+) -> Result<(), AllocError>
+    ensures { OnOk result (out.new.items ≡ out.old.items ++ spaced (word.now ∷ x ∷ y ∷ z ∷ [])) }
+{
+    put_four(out, word, x.bytes(), y.bytes(), z.bytes())
+}
+
 fn put_atom(out: &mut Vec<u8>, atom: &RawAtom) -> Result<(), AllocError>
     ensures { OnOk result (out.new.items ≡ out.old.items ++ spaced (atom_words atom.now)) }
 {
@@ -92,12 +105,8 @@ fn put_atom(out: &mut Vec<u8>, atom: &RawAtom) -> Result<(), AllocError>
         RawAtom::On(x, y) => put_three(out, b"on", x.bytes(), y.bytes()),
         RawAtom::Inside(x, y) => put_three(out, b"inside", x.bytes(), y.bytes()),
         RawAtom::Center(x, y) => put_three(out, b"center", x.bytes(), y.bytes()),
-        RawAtom::Between(x, y, z) => {
-            put_four(out, b"between", x.bytes(), y.bytes(), z.bytes())
-        }
-        RawAtom::Same(x, y, z) => {
-            put_four(out, b"same-side", x.bytes(), y.bytes(), z.bytes())
-        }
+        RawAtom::Between(x, y, z) => put_of_three(out, b"between", *x, *y, *z),
+        RawAtom::Same(x, y, z) => put_of_three(out, b"same-side", *x, *y, *z),
         RawAtom::Meets(x, y) => put_three(out, b"meets", x.bytes(), y.bytes()),
         RawAtom::Equal(x, y) => put_three(out, x.bytes(), b"=", y.bytes()),
         RawAtom::SumsEqual(x, y) => put_sums(out, x.items(), b"=", y.items()),
@@ -131,7 +140,6 @@ pub(crate) fn put_literal(out: &mut Vec<u8>, lit: &RawLit) -> Result<(), AllocEr
 }
 
 /// More literals, each behind a semicolon.
-#[tactic(auto, using(crate::proofs::Spaced::spaced_append))]
 fn put_more_literals(out: &mut Vec<u8>, lits: &[RawLit]) -> Result<(), AllocError>
     ensures { OnOk result (out.new.items ≡ out.old.items ++ spaced (more_words lits.now)) }
 {
@@ -143,7 +151,6 @@ fn put_more_literals(out: &mut Vec<u8>, lits: &[RawLit]) -> Result<(), AllocErro
 }
 
 /// Literals with a semicolon between two.
-#[tactic(auto, using(crate::proofs::Spaced::spaced_append))]
 pub(crate) fn put_literals(out: &mut Vec<u8>, lits: &[RawLit]) -> Result<(), AllocError>
     ensures { OnOk result (out.new.items ≡ out.old.items ++ spaced (lits_words lits.now)) }
 {
@@ -151,7 +158,8 @@ pub(crate) fn put_literals(out: &mut Vec<u8>, lits: &[RawLit]) -> Result<(), All
         [] => Ok(()),
         [first, rest @ ..] => {
             put_literal(out, first)?;
-            put_more_literals(out, rest)
+            put_more_literals(out, rest)?;
+            Ok(())
         }
     }
 }

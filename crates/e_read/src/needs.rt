@@ -7,12 +7,15 @@ ghost use Rattle.e_literal.specs.Rename.{image_in, paired};
 ghost use Rattle.e_theorem.specs.Statements.{stated};
 ghost use Rattle.e_deriv.specs.Fitting.{is_small_statement};
 ghost use Rattle.e_deriv.specs.Goal;
+ghost use Rattle.e_deriv.specs.Goal.{goal_of_statement};
+ghost use Rattle.e_book.specs.Entry.{statement_of_draft};
 ghost use Rattle.e_book.specs.Limits.{most_theorems};
 ghost use Rattle.e_book.specs.Headed.{stated_by};
 ghost use Rattle.e_book.specs.Reading.{Gives, each, or_malformed};
 ghost use Rattle.e_book.specs.Blocks.{made_in};
 ghost use Rattle.e_book.specs.Steps.{FitsScope};
 ghost use Rattle.e_read.specs.Needs;
+ghost use Rattle.e_read.specs.Text.{FitsDraft};
 ghost use Rattle.e_read.specs.Needs.{open_goal, one_each, needs_in, due_of};
 
 use crate::kept::Certs;
@@ -73,6 +76,7 @@ fn needs_in(
 }
 
 /// What an application owes.
+#[tactic(auto, unfolding(crate::specs::Needs::needs_of_use))]
 fn needs_of_use(
     alloc: Global,
     known: &Known,
@@ -103,6 +107,18 @@ fn claimed(outers: &[Outer]) -> Option<&[Lit]>
     }
 }
 
+/// The literals under a renaming.
+fn all_renamed(alloc: Global, lits: &[Lit], images: &Map) -> Result<Items<Lit>, AllocError>
+    ensures { IfOk result (λ ls. ls ≡ map (Rename.renamed (image_in images.now)) lits.now) }
+{
+    let mut with = Items::empty(alloc);
+    for lit in lits {
+        let lit = renamed(alloc, lit, images)?;
+        with.push(lit)?;
+    }
+    Ok(with)
+}
+
 /// The literals with objects for the made ones in them.
 fn with_objects(
     alloc: Global,
@@ -114,12 +130,7 @@ fn with_objects(
     ensures { IfOk result (λ ls. ls ≡ map (Rename.renamed (image_in (paired made.now objects.now))) shown.now) }
 {
     let images = Map::paired(alloc, made, objects)?;
-    let mut with = Items::empty(alloc);
-    for lit in shown {
-        let lit = renamed(alloc, lit, &images)?;
-        with.push(lit)?;
-    }
-    Ok(with)
+    all_renamed(alloc, shown, &images)
 }
 
 const NOTHING: Scope = Scope {
@@ -128,19 +139,28 @@ const NOTHING: Scope = Scope {
     circles: 0,
 };
 
+/// The literals of the goal of the whole proof with these objects for its made ones.
+#[tactic(auto, using(crate::proofs::Rooms::made_fits, e_book::proofs::Building::sorts_again))]
+fn whole_goal_with(alloc: Global, draft: &Draft, objects: &[Obj]) -> Result<Items<Lit>, AllocError>
+    requires draft { FitsDraft draft.now }
+    requires sorts { map (λ o. o.sort) objects.now ≡ draft.now.made }
+    ensures { IfOk result (λ ls. ls ≡ Goal.goal_with (goal_of_statement (stated (statement_of_draft draft.now))) objects.now) }
+{
+    let declared = grown(NOTHING, draft.declared.items());
+    let made = next_objects(alloc, declared, draft.made.items())?;
+    with_objects(alloc, &made, draft.shown.items(), objects)
+}
+
 /// The literals of the goal of the open block with these objects for its made ones.
+#[tactic(auto, using(crate::proofs::GoalSorts::none_made, crate::proofs::GoalSorts::all_made))]
 fn goal_with(alloc: Global, draft: &Draft, objects: &[Obj]) -> Result<Items<Lit>, AllocError>
-    requires draft { FitsScope draft.now }
+    requires draft { FitsDraft draft.now }
     requires sorts { map (λ o. o.sort) objects.now ≡ made_in draft.now.outers draft.now.made }
     ensures { IfOk result (λ ls. ls ≡ Goal.goal_with (open_goal draft.now) objects.now) }
 {
     match claimed(draft.outers.items()) {
         Some(shown) => with_objects(alloc, &[], shown, objects),
-        None => {
-            let declared = grown(NOTHING, draft.declared.items());
-            let made = next_objects(alloc, declared, draft.made.items())?;
-            with_objects(alloc, &made, draft.shown.items(), objects)
-        }
+        None => whole_goal_with(alloc, draft, objects),
     }
 }
 
@@ -155,8 +175,9 @@ fn goal_made(draft: &Draft) -> &[Sort]
 }
 
 /// What a close by `qed` owes.
+#[tactic(auto, unfolding(crate::specs::Needs::needs_at_qed))]
 fn needs_at_qed(alloc: Global, draft: &Draft, names: &[Name]) -> Result<Items<Lit>, Trouble>
-    requires { FitsScope draft.now }
+    requires { FitsDraft draft.now }
     ensures { Gives (λ l. l) result (Needs.needs_at_qed draft.now names.now) }
 {
     let objects = qed_in(alloc, &draft.in_scope, goal_made(draft), names)?;
@@ -172,7 +193,7 @@ pub(crate) fn due_of(
     draft: &Draft,
     form: &Form,
 ) -> Result<Due, Trouble>
-    requires draft { FitsScope draft.now }
+    requires draft { FitsDraft draft.now }
     requires few { length known.now ≤ most_theorems }
     requires known { IsTrue (list_all is_small_statement (stated_by known.now)) }
     ensures { Gives (λ d. d) result (due_of known.now draft.now form.now) }

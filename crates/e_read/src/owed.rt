@@ -4,7 +4,7 @@ ghost use Rattle.e_clause.specs.Instance.{place_of};
 ghost use Rattle.e_clause.specs.declared.cert.Part.TheVariants as parts;
 ghost use Rattle.e_book.specs.Reading.{Gives};
 ghost use Rattle.e_book.specs.Scope.{FewNames};
-ghost use Rattle.e_read.specs.Owed.{fact_in, row_in, with_row, row_put, sum_begun, differs_put, sums_ended, has_more, transfer_put, part_put, metric_put, takes_metric, clash_put, transfer_rule, count_others, transfer_in, transfer_begun, ended, marked, kept_of, settled};
+ghost use Rattle.e_read.specs.Owed.{fact_in, row_in, with_row, row_put, sum_begun, differs_put, sums_ended, has_more, transfer_put, part_put, metric_put, takes_metric, clash_put, transfer_rule, count_others, transfer_at, transfer_in, transfer_begun, ended, marked, kept_of, settled};
 
 use crate::kept::{Certs, Kept, Rows};
 use crate::mark::{Mark, RawRow};
@@ -123,14 +123,25 @@ fn row_put(sums: Option<OpenSums>, multiplier: i128, row: RowName) -> Result<Ope
     ensures { Gives (λ s. s) result (row_put sums multiplier row) }
 {
     match sums {
-        Some(OpenSums::One(sum)) => Ok(OpenSums::One(with_row(sum, multiplier, row)?)),
-        Some(OpenSums::Above(differs, sum)) => {
+        Some(sums) => row_behind(sums, multiplier, row),
+        None => Err(malformed()),
+    }
+}
+
+/// A row comes behind what has come of the sums.
+fn row_behind(sums: OpenSums, multiplier: i128, row: RowName) -> Result<OpenSums, Trouble>
+    ensures { Gives (λ s. s) result (row_put (Some sums) multiplier row) }
+{
+    match sums {
+        OpenSums::One(sum) => Ok(OpenSums::One(with_row(sum, multiplier, row)?)),
+        OpenSums::Above(differs, sum) => {
             Ok(OpenSums::Above(differs, with_row(sum, multiplier, row)?))
         }
-        Some(OpenSums::Below(differs, above, sum)) => {
+        OpenSums::Below(differs, above, sum) => {
             Ok(OpenSums::Below(differs, above, with_row(sum, multiplier, row)?))
         }
-        _ => Err(malformed()),
+        OpenSums::Begun => Err(malformed()),
+        OpenSums::Differs(_) => Err(malformed()),
     }
 }
 
@@ -139,15 +150,26 @@ fn sum_begun(alloc: Global, sums: Option<OpenSums>) -> Result<OpenSums, Trouble>
     ensures { Gives (λ s. s) result (sum_begun sums) }
 {
     match sums {
-        Some(OpenSums::Begun) => Ok(OpenSums::One(Rows::new(alloc))),
-        Some(OpenSums::Differs(differs)) => Ok(OpenSums::Above(differs, Rows::new(alloc))),
-        Some(OpenSums::Above(differs, sum)) => {
+        Some(sums) => sum_behind(alloc, sums),
+        None => Err(malformed()),
+    }
+}
+
+/// A sum is begun behind what has come of the sums.
+fn sum_behind(alloc: Global, sums: OpenSums) -> Result<OpenSums, Trouble>
+    ensures { Gives (λ s. s) result (sum_begun (Some sums)) }
+{
+    match sums {
+        OpenSums::Begun => Ok(OpenSums::One(Rows::new(alloc))),
+        OpenSums::Differs(differs) => Ok(OpenSums::Above(differs, Rows::new(alloc))),
+        OpenSums::Above(differs, sum) => {
             if sum.len() == 0 {
                 return Err(malformed());
             }
             Ok(OpenSums::Below(differs, sum, Rows::new(alloc)))
         }
-        _ => Err(malformed()),
+        OpenSums::One(_) => Err(malformed()),
+        OpenSums::Below(_, _, _) => Err(malformed()),
     }
 }
 
@@ -304,7 +326,35 @@ fn transfer_rule(name: Title) -> Result<Rule, Trouble>
 fn count_others(wanted: &Lit, lits: &[Lit]) -> usize
     ensures { result ≡ count_others wanted.now lits.now }
 {
-    lits.iter().filter(|lit| !same(lit, wanted)).count()
+    let mut count = 0;
+    for lit in lits {
+        if !same(lit, wanted) {
+            count += 1;
+        }
+    }
+    count
+}
+
+/// A transfer of which no part has come.
+#[tactic(auto, unfolding(crate::specs::Owed::transfer_at))]
+fn transfer_at(
+    alloc: Global,
+    wanted: &Lit,
+    rule: Rule,
+    args: Items<Obj>,
+) -> Result<OpenTransfer, Trouble>
+    ensures { Gives (λ t. t) result (transfer_at wanted.now rule args) }
+{
+    match instance(alloc, rule, args.items()) {
+        Ok(lits) => Ok(OpenTransfer {
+            rule,
+            args,
+            parts: Items::empty(alloc),
+            owed: count_others(wanted, &lits),
+        }),
+        Err(InstanceFault::BadArgs) => Err(malformed()),
+        Err(InstanceFault::NoMemory) => Err(Trouble::NoMemory),
+    }
 }
 
 /// A rule with an object for each of its variables.
@@ -326,16 +376,7 @@ fn transfer_in(
         return Err(malformed());
     }
     let args = args_in(alloc, names, sig, raws)?;
-    match instance(alloc, rule, args.items()) {
-        Ok(lits) => Ok(OpenTransfer {
-            rule,
-            args,
-            parts: Items::empty(alloc),
-            owed: count_others(wanted, &lits),
-        }),
-        Err(InstanceFault::BadArgs) => Err(malformed()),
-        Err(InstanceFault::NoMemory) => Err(Trouble::NoMemory),
-    }
+    transfer_at(alloc, wanted, rule, args)
 }
 
 /// A transfer is begun for the next literal.

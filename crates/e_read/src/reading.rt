@@ -9,14 +9,15 @@ ghost use Rattle.e_book.specs.Headed.{stated_by};
 ghost use Rattle.e_book.specs.Entry.{entry_of};
 ghost use Rattle.e_book.specs.Reading.{texts, Gives};
 ghost use Rattle.e_book.specs.Scope.{FewNames};
-ghost use Rattle.e_book.specs.Steps.{FitsScope, no_names};
-ghost use Rattle.e_read.specs.Text.{owes_nothing, at_start, certified, gone_on, all_settled, stepped, is_bar, worded, is_lf_end, taken, derived, is_finished, finished, is_end, is_last_line, last_line_of, FitsReading, FitsBegun};
+ghost use Rattle.e_book.specs.Steps.{no_names};
+ghost use Rattle.e_read.specs.Text.{owes_nothing, at_start, with_mark, certified, owed_by, gone_on, all_settled, with_form, stepped, is_bar, worded, is_lf_end, spelled, taken, derived, is_finished, finished, is_end, is_last_line, last_line_of, FitsDraft, FitsReading, FitsBegun};
 
 use crate::filling::fill;
 use crate::kept::KeptLines;
+use crate::mark::Mark;
 use crate::needs::due_of;
 use crate::owed::{Due, Owed};
-use crate::strict::{is_apart, strict_form, strict_mark};
+use crate::strict::{is_apart, strict_mark, strict_of};
 use crate::words::put_number;
 use e_book::{Draft, Form, Kind, Known, Place, Theorem, Trouble, collected};
 use e_deriv::Names;
@@ -56,13 +57,14 @@ fn owes_nothing(alloc: Global) -> Owed
 }
 
 /// A line begins a theorem, or goes on with it, and owes certificates of its own.
+#[tactic(auto, using(crate::proofs::MadeNames::few_begun))]
 fn gone_on(
     alloc: Global,
     known: &Known,
     draft: Option<Draft>,
     form: &Form,
 ) -> Result<Begun, Trouble>
-    requires draft { IfSome draft FitsScope }
+    requires draft { IfSome draft FitsDraft }
     requires few { length known.now ≤ most_theorems }
     requires known { IsTrue (list_all is_small_statement (stated_by known.now)) }
     ensures value { Gives (λ b. (b.draft, b.owed)) result (gone_on known.now draft form.now) }
@@ -80,9 +82,28 @@ fn gone_on(
     }
 }
 
+/// What a line owes, with the names in scope before it.
+#[tactic(auto, unfolding(crate::specs::Text::owed_by))]
+fn owed_by(alloc: Global, known: &Known, draft: &Draft, form: &Form) -> Result<Owed, Trouble>
+    requires draft { FitsDraft draft.now }
+    requires few { length known.now ≤ most_theorems }
+    requires known { IsTrue (list_all is_small_statement (stated_by known.now)) }
+    ensures value { Gives (λ o. o) result (owed_by known.now draft.now form.now) }
+    ensures fits { IfOk result (λ o. FewNames o.names) }
+{
+    let names = draft.in_scope.copy(alloc)?;
+    let due = due_of(alloc, known, draft, form)?;
+    Ok(Owed {
+        names,
+        due,
+        sums: None,
+    })
+}
+
 /// A line goes on with a theorem.
+#[tactic(auto, using(crate::proofs::MadeNames::few_behind))]
 fn next_line(alloc: Global, known: &Known, draft: Draft, form: &Form) -> Result<Begun, Trouble>
-    requires draft { FitsScope draft }
+    requires draft { FitsDraft draft }
     requires few { length known.now ≤ most_theorems }
     requires known { IsTrue (list_all is_small_statement (stated_by known.now)) }
     ensures value { Gives (λ b. (b.draft, b.owed)) result (gone_on known.now (Some draft) form.now) }
@@ -91,14 +112,8 @@ fn next_line(alloc: Global, known: &Known, draft: Draft, form: &Form) -> Result<
     if !is_apart(&draft, form) {
         return Err(Trouble::Fault(Kind::Malformed));
     }
-    let due = due_of(alloc, known, &draft, form)?;
-    let names = draft.in_scope.copy(alloc)?;
+    let owed = owed_by(alloc, known, &draft, form)?;
     let draft = draft.taking(alloc, known, form)?;
-    let owed = Owed {
-        names,
-        due,
-        sums: None,
-    };
     Ok(Begun { draft, owed })
 }
 
@@ -116,6 +131,7 @@ impl Reading {
     }
 
     /// A line of a certificate.
+    #[tactic(auto, unfolding(crate::specs::Text::certified))]
     fn certified(self, alloc: Global, line: &[u8], words: &[&[u8]]) -> Result<Reading, Trouble>
         requires { FewNames self.owed.names }
         ensures value { Gives (λ r. r) result (certified self line.now (texts words.now)) }
@@ -123,12 +139,24 @@ impl Reading {
         ensures names { IfOk result (λ r. r.owed.names ≡ self.owed.names) }
     {
         let mark = strict_mark(alloc, line, words)?;
+        self.with_mark(alloc, &mark)
+    }
+
+    /// What is owed behind a line of a certificate.
+    #[tactic(auto, unfolding(crate::specs::Text::with_mark))]
+    fn with_mark(self, alloc: Global, mark: &Mark) -> Result<Reading, Trouble>
+        requires { FewNames self.owed.names }
+        ensures value { Gives (λ r. r) result (with_mark self mark.now) }
+        ensures draft { IfOk result (λ r. r.draft ≡ self.draft) }
+        ensures names { IfOk result (λ r. r.owed.names ≡ self.owed.names) }
+    {
         let Reading { draft, owed, kept } = self;
-        let owed = owed.marked(alloc, &mark)?;
+        let owed = owed.marked(alloc, mark)?;
         Ok(Reading { draft, owed, kept })
     }
 
     /// Any other line: nothing is owed any more.
+    #[tactic(auto, unfolding(crate::specs::Text::stepped))]
     fn stepped(
         self,
         alloc: Global,
@@ -143,9 +171,21 @@ impl Reading {
         ensures value { Gives (λ r. r) result (stepped known.now self line.now) }
         ensures fits { IfOk result FitsReading }
     {
-        let form = strict_form(alloc, line, words)?;
-        let Reading { draft, owed, kept } = self.settled(alloc)?;
-        let Begun { draft, owed } = gone_on(alloc, known, draft, &form)?;
+        let form = strict_of(alloc, line, words)?;
+        self.with_form(alloc, known, &form)
+    }
+
+    /// Nothing is owed any more, and the theorem goes on with this form.
+    #[tactic(auto, unfolding(crate::specs::Text::with_form))]
+    fn with_form(self, alloc: Global, known: &Known, form: &Form) -> Result<Reading, Trouble>
+        requires reading { FitsReading self }
+        requires few { length known.now ≤ most_theorems }
+        requires known { IsTrue (list_all is_small_statement (stated_by known.now)) }
+        ensures value { Gives (λ r. r) result (with_form known.now self form.now) }
+        ensures fits { IfOk result FitsReading }
+    {
+        let Reading { draft, kept, .. } = self.settled(alloc)?;
+        let Begun { draft, owed } = gone_on(alloc, known, draft, form)?;
         Ok(Reading {
             draft: Some(draft),
             owed,
@@ -171,6 +211,7 @@ impl Reading {
     }
 
     /// A line by its words.
+    #[tactic(auto, unfolding(crate::specs::Text::worded))]
     fn worded(
         self,
         alloc: Global,
@@ -196,6 +237,19 @@ impl Reading {
         }
     }
 
+    /// A line by its bytes.
+    #[tactic(auto, unfolding(crate::specs::Text::spelled))]
+    fn spelled(self, alloc: Global, known: &Known, line: &[u8]) -> Result<Reading, Trouble>
+        requires reading { FitsReading self }
+        requires few { length known.now ≤ most_theorems }
+        requires known { IsTrue (list_all is_small_statement (stated_by known.now)) }
+        ensures value { Gives (λ r. r) result (spelled known.now self line.now) }
+        ensures fits { IfOk result FitsReading }
+    {
+        let words = collected(alloc, line)?;
+        self.worded(alloc, known, line, &words)
+    }
+
     /// The next line, which ends with a line feed.
     #[tactic(auto, unfolding(crate::specs::Text::taken))]
     pub(crate) fn taking(
@@ -210,11 +264,10 @@ impl Reading {
         ensures value { Gives (λ r. r) result (taken known.now self (seen line.entry)) }
         ensures fits { IfOk result FitsReading }
     {
-        if !matches!(line.end, LineEnd::Lf) {
-            return Err(Trouble::Fault(Kind::Malformed));
+        match line.end {
+            LineEnd::Lf => self.spelled(alloc, known, line.bytes),
+            _ => Err(Trouble::Fault(Kind::Malformed)),
         }
-        let words = collected(alloc, line.bytes)?;
-        self.worded(alloc, known, line.bytes, &words)
     }
 
     /// Whether the line is the last one of a text, at the place of a theorem's first line.

@@ -1,10 +1,9 @@
 //! Lines in the one spelling of a derivation.
 ghost use Rattle.std.specs.Prelude.{◌≡◌, is_some};
 ghost use Rattle.std.specs.List.{list_all};
-ghost use Rattle.e_text.specs.Tokens.{tokens_of};
 ghost use Rattle.e_literal.specs.Scopes.{same_sort};
 ghost use Rattle.e_book.specs.Reading.{texts, Gives};
-ghost use Rattle.e_read.specs.Strict.{is_less, is_direct, are_direct, is_strict, strict_form, is_strict_row, is_strict_mark, strict_mark, ends_with, is_apart};
+ghost use Rattle.e_read.specs.Strict.{is_less, is_direct, are_direct, is_strict, strict_of, is_strict_row, is_strict_mark, strict_mark, ends_with, is_apart};
 
 use crate::lines::put_form;
 use crate::mark::{Mark, RawRow, mark_of};
@@ -55,11 +54,10 @@ fn is_strict(form: &Form) -> bool
     }
 }
 
-/// The form of a line that is spelled as this form is. The words are those of the line.
-#[tactic(auto, unfolding(crate::specs::Strict::strict_form))]
-pub(crate) fn strict_form(alloc: Global, line: &[u8], words: &[&[u8]]) -> Result<Form, Trouble>
-    requires { texts words.now ≡ tokens_of line.now }
-    ensures { Gives (λ f. f) result (strict_form line.now) }
+/// The form of a line of these words that is spelled as this form is.
+#[tactic(auto, unfolding(crate::specs::Strict::strict_of))]
+pub(crate) fn strict_of(alloc: Global, line: &[u8], words: &[&[u8]]) -> Result<Form, Trouble>
+    ensures { Gives (λ f. f) result (strict_of line.now (texts words.now)) }
 {
     let form = form_of(alloc, words)?;
     let mut again = Vec::new(alloc);
@@ -117,6 +115,7 @@ fn is_sort(a: Sort, b: Sort) -> bool
 }
 
 /// Whether the last of these objects has this sort.
+#[tactic(auto, using(crate::proofs::Ends::ends_behind))]
 fn ends_with(sorts: &[Sort], sort: Sort) -> bool
     ensures { result ≡ ends_with sorts.now sort }
 {

@@ -1,0 +1,10 @@
+-- The last of some objects.
+use Rattle.std.proofs.Common.{◌≡◌, ◌≤◌, List, [], ◌∷◌, length, drop, refl, arith}
+use Rattle.e_literal.specs.declared.object.Sort.{Sort}
+use Rattle.e_read.specs.Strict.{ends_with}
+
+-- it is the last of those behind the first, where there are some
+pub ends_behind : (xs : List Sort) (sort : Sort) → 2 ≤ length xs → ends_with xs sort ≡ ends_with (drop 1 xs) sort
+ends_behind [] sort h = absurd (omega (arith, h))
+ends_behind (x ∷ []) sort h = absurd (omega (arith, h))
+ends_behind (x ∷ y ∷ xs) sort h = refl

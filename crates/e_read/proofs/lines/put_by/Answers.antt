@@ -1,0 +1,14 @@
+use Rattle.std.proofs.Common.{ℕ, List, [], ◌∷◌, ◌++◌, ap, ◌∙◌}
+use Rattle.e_book.specs.Canonical.{lit_words}
+use Rattle.e_read.proofs.Spaced.{after, word_after}
+use Rattle.e_read.proofs.lines.put_by.Goals as goal
+
+pub returns : goal.returns
+returns c =
+    let a = c.args.out.now.items in
+    let b = c.put.new.out.items in
+    let n = c.put_names.new.out.items in
+    let end = c.put_literal.new.out.items in
+    let said = lit_words c.args.lit.now in
+    word_after a b end c.args.rule (c.args.names.now ++ (58 ∷ []) ∷ said) (c.in_ok-put.ensures ∙ ap (λ (w : List ℕ). a ++ 32 ∷ w) c.bytes.ensures.bytes)
+    (after b n end c.args.names.now ((58 ∷ []) ∷ said) c.in_ok-put_names.ensures (word_after n c.put-2.new.out.items end (58 ∷ []) said c.in_ok-put-2.ensures c.in_ok-put_literal.ensures))

@@ -1,0 +1,15 @@
+use Rattle.std.proofs.Common.{◌≡◌, IfOk, List, Option, Some, sym, subst, ap, ◌∙◌}
+use Rattle.std.specs.Prelude.{reverse}
+use Rattle.e_literal.specs.declared.literal.Lit.{Lit}
+use Rattle.e_theorem.specs.Statements.{stated}
+use Rattle.e_deriv.specs.Goal.{goal_of_statement, goal_with}
+use Rattle.e_book.specs.declared.blocks.Outer.{Outer}
+use Rattle.e_book.specs.Entry.{statement_of_draft}
+use Rattle.e_read.specs.Needs.{claimed, goal_or}
+use Rattle.e_read.proofs.needs.goal_with.Goals as goal
+
+pub returns-in-Some : goal.returns-in-Some
+returns-in-Some c =
+    let d = c.args.draft.now in
+    let e : claimed d.outers ≡ Some c.in-Some.shown.now = cc in
+    subst (λ (o : Option (List Lit)). IfOk c.with_objects.result (λ ls. ls ≡ goal_with (goal_or o (goal_of_statement (stated (statement_of_draft d)))) c.args.objects.now)) (sym e) c.with_objects.ensures
