@@ -14,3 +14,4 @@ pub mod HeadAlong
 pub mod Whole
 pub mod Filled
 pub mod FilledForms
+pub mod FilledSpelling
