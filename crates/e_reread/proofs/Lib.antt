@@ -12,3 +12,6 @@ pub mod Standing
 pub mod ScriptAlong
 pub mod HeadAlong
 pub mod Whole
+pub mod Filled
+pub mod FilledForms
+pub mod FilledSpelling

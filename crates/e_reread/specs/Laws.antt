@@ -5,6 +5,7 @@ use Rattle.e_text.specs.declared.line.LineEnd.TheVariants.{Lf}
 use Rattle.e_text.specs.declared.line.LineFault.{LineFault}
 use Rattle.e_theorem.specs.Statements.{stated}
 use Rattle.e_deriv.specs.Script.{Script, erased}
+use Rattle.e_deriv.specs.Parts.{filled_by}
 use Rattle.e_deriv.specs.Certified.{Certified}
 use Rattle.e_verify.specs.Written.{is_written_well}
 use Rattle.e_book.specs.Headed.{Headed, stated_by}
@@ -34,3 +35,10 @@ abbrev pub SpelledIsRead : Type 0
 SpelledIsRead =
     (known : List Headed) (last : ℕ) (t : Entry) (d : Script) (lines rest : List (Result Seen LineFault)) → CanBeSpelled known t d
     → ShowsEnded lines (spelled_lines known t d) rest → piece_from known last at_start lines ≡ Ok (Derived (record t { script = d }), rest)
+
+-- a theorem that can be spelled still can when its blanks are filled: when its script is that of a certified derivation without the
+-- certificates, which differs from its own only in the arguments at the lines that use earlier theorems
+abbrev pub FilledHasSpelling : Type 0
+FilledHasSpelling =
+    (known : List Headed) (t : Entry) (d : Script) → HasSpelling known t → erased d ≡ filled_by (erased t.script) d
+    → Certified (stated_by known) (stated t.statement) d → HasSpelling known (record t { script = erased d })

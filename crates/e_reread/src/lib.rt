@@ -3,4 +3,4 @@
 
 mod laws;
 
-pub use laws::spelled_is_read;
+pub use laws::{filled_has_spelling, spelled_is_read};
