@@ -8,3 +8,4 @@ pub mod Rooms
 pub mod GoalSorts
 pub mod MadeNames
 pub mod Ends
+pub mod Pieces
