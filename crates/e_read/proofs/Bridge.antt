@@ -104,6 +104,7 @@ line_read : (known : List Headed) (last : ℕ) (draft : Option Draft) (l : Seen)
 line_read known last draft l d after s e = rw (s, e) refl
 
 pub plainly : (known : List Headed) (last : ℕ) (r : Reading) (lines rest : List (Result Seen LineFault)) (t : Entry) → is_finished r.draft ≡ false → piece_from known last r lines ≡ derives t rest → Plainly known last r.draft t lines rest
+unfolding piece_from
 plainly known last r [] rest t unended e = absurd cc
 plainly known last r (Err f ∷ lines) rest t unended e = absurd cc
 plainly known last r (Ok l ∷ lines) rest t unended e =

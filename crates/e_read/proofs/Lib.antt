@@ -11,3 +11,4 @@ mod GoodMarks
 pub mod GoodReadings
 pub mod MadeNames
 pub mod Ends
+pub mod Pieces

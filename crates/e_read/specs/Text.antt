@@ -135,12 +135,18 @@ is_end known (Some d) l = false
 
 -- the rest of what stands ahead and the lines behind it, or the first line that has no form at its place; last is the number behind
 -- the last line
-abbrev pub piece_from : List Headed → ℕ → Reading → List (Result Seen LineFault) → Result (Piece × List (Result Seen LineFault)) ℕ
+unfoldable pub piece_from : List Headed → ℕ → Reading → List (Result Seen LineFault) → Result (Piece × List (Result Seen LineFault)) ℕ
 piece_from known last r [] = Err last
 piece_from known last r (Err f ∷ lines) = Err (fault_line f)
 piece_from known last r (Ok line ∷ lines) =
     if is_end known r.draft line then Ok (Last, lines) else
     (garbled_at line.number (taken known r line) >>= λ next. or_on (finished next.draft next.kept) lines (piece_from known last next lines))
+
+-- what a line made of a block, unless memory ran out
+abbrev pub LineReads : Result Reading TextFault → Result Reading ℕ → Type 0
+LineReads (Ok r) read = read ≡ Ok r
+LineReads (Err (faults.Garbled line)) read = read ≡ Err line
+LineReads (Err faults.NoMemory) read = Unit {0}
 
 -- what was answered is what stands ahead, unless memory ran out
 abbrev pub TextReads : List Headed → Result PieceRead TextFault → Ahead → Result (Piece × List (Result Seen LineFault)) ℕ → Type 0

@@ -1,7 +1,7 @@
 //! Derivation texts, block by block.
 ghost use Rattle.std.specs.Prelude.{◌≡◌, ◌≤◌, ◌<◌, length, IfOk, OnOk, IsTrue};
 ghost use Rattle.std.specs.List.{list_all};
-ghost use Rattle.e_text.specs.Lines.{fault_line};
+ghost use Rattle.e_text.specs.Lines.{fault_line, seen};
 ghost use Rattle.e_theorem.specs.Statements.{stated};
 ghost use Rattle.e_deriv.specs.Fitting.{is_small_statement};
 ghost use Rattle.e_book.specs.Limits.{most_theorems};
@@ -9,11 +9,11 @@ ghost use Rattle.e_book.specs.Headed.{stated_by};
 ghost use Rattle.e_book.specs.Book.{last_line};
 ghost use Rattle.e_book.specs.Entry.{entry_of};
 ghost use Rattle.e_book.specs.HasSpelling.{HasSpelling};
-ghost use Rattle.e_read.specs.Text.{at_start, piece_from, bare, OfTheorem, TextReads};
+ghost use Rattle.e_read.specs.Text.{at_start, garbled_at, taken, LineReads, FitsReading, piece_from, bare, OfTheorem, TextReads};
 
 use crate::reading::Reading;
 use e_book::{Known, Theorem, Trouble};
-use e_text::{LineFault, Lines};
+use e_text::{Line, LineFault, Lines};
 use std::alloc::{AllocError, Global};
 use thiserror::Error;
 
@@ -60,6 +60,26 @@ fn faulty_line(fault: LineFault) -> u64
     }
 }
 
+/// The block behind one more line.
+fn next_line(
+    alloc: Global,
+    known: &Known,
+    reading: Reading,
+    line: Line<'_>,
+) -> Result<Reading, TextFault>
+    requires reading { FitsReading reading }
+    requires few { length known.now ≤ most_theorems }
+    requires known { IsTrue (list_all is_small_statement (stated_by known.now)) }
+    ensures value { LineReads result (garbled_at line.entry.number (taken known.now reading (seen line.entry))) }
+    ensures fits { IfOk result FitsReading }
+{
+    match reading.taking(alloc, known, line) {
+        Ok(next) => Ok(next),
+        Err(Trouble::NoMemory) => Err(TextFault::NoMemory),
+        Err(Trouble::Fault(_)) => Err(TextFault::Garbled { line: line.number }),
+    }
+}
+
 /// Reads line by line, up to the end of a theorem or the last line.
 fn read_piece(alloc: Global, lines: &mut Lines, known: &Known) -> Result<Piece, TextFault>
     requires few { length known.now ≤ most_theorems }
@@ -83,12 +103,7 @@ fn read_piece(alloc: Global, lines: &mut Lines, known: &Known) -> Result<Piece, 
                 theorems: known.len() as u32,
             });
         }
-        let number = line.number;
-        let next = match reading.taking(alloc, known, line) {
-            Ok(next) => next,
-            Err(Trouble::NoMemory) => return Err(TextFault::NoMemory),
-            Err(Trouble::Fault(_)) => return Err(TextFault::Garbled { line: number }),
-        };
+        let next = next_line(alloc, known, reading, line)?;
         if next.is_finished() {
             let theorem = next.into_theorem(alloc)?;
             return Ok(Piece::Theorem(theorem));
