@@ -1,5 +1,5 @@
 -- What is known of a theorem that is read from a derivation text.
-use Rattle.std.proofs.Common.{◌≡◌, ℕ, true, List, ◌++◌, Option, Some, None, Ok, Err, Result, refl, sym, ap, subst, ◌∙◌}
+use Rattle.std.proofs.Common.{◌≡◌, ℕ, true, List, ◌++◌, None, Ok, Err, Result, refl, sym, ap, subst, ◌∙◌}
 use Rattle.std.specs.Prelude.{IfOk, IsTrue, filter}
 use Rattle.e_text.specs.Lines.{Seen, Ahead}
 use Rattle.e_text.specs.declared.line.LineFault.{LineFault}
@@ -18,7 +18,7 @@ use Rattle.e_read.specs.declared.reader.TextFault.{TextFault}
 use Rattle.e_read.specs.Filled.{filled}
 use Rattle.e_read.specs.Laws.{is_of_theorem, ReadsAsBook}
 use Rattle.e_read.specs.Text.{at_start, piece_from, bare, OfTheorem, TextReads}
-use Rattle.e_read.proofs.Bridge.{derives, with_certs, Plainly, plainly}
+use Rattle.e_read.proofs.Bridge.{derives, Plainly, plainly}
 use Rattle.e_read.proofs.Erased.{erased_filled, erased_plain}
 
 -- the theorem without its certificates, as the other lines are read

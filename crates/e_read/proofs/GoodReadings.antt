@@ -130,6 +130,7 @@ goes_on None lines rest more u e = inr e
 goes_on (Some x) lines rest more u e = inl (ap (λ (y : Entry). Some y) (same_theorem x u lines rest e))
 
 certs_read : (known : List Headed) (last : ℕ) (r : Reading) (lines rest : List (Result Seen LineFault)) (t : Entry) → GoodReading r → piece_from known last r lines ≡ derives t rest → has_good_certs t.script ≡ true
+unfolding piece_from
 certs_read known last r [] rest t h e = absurd cc
 certs_read known last r (Err f ∷ lines) rest t h e = absurd cc
 certs_read known last r (Ok l ∷ lines) rest t h e =

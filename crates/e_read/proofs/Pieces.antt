@@ -1,11 +1,15 @@
 -- What stands ahead, line by line.
-use Rattle.std.proofs.Common.{◌≡◌, ℕ, false, true, List, [], ◌∷◌, Option, Some, None, Result, Ok, Err, refl, sym, ap, ◌∙◌}
+use Rattle.std.proofs.Common.{◌≡◌, ℕ, false, true, List, [], ◌∷◌, Some, None, Result, Ok, Err, refl, sym, ap, ◌∙◌}
 use Rattle.e_text.specs.Lines.{Seen, fault_line}
 use Rattle.e_text.specs.declared.line.LineFault.{LineFault}
 use Rattle.e_book.specs.Headed.{Headed}
-use Rattle.e_book.specs.Entry.{Entry}
+use Rattle.e_book.specs.Entry.{Entry, entry_of}
 use Rattle.e_read.specs.declared.reading.Reading.{Reading}
-use Rattle.e_read.specs.Text.{Piece, Derived, Last, taken, garbled_at, finished, or_on, is_end, piece_from}
+use Rattle.e_read.specs.declared.reader.Turn.{Turn}
+use Rattle.e_read.specs.declared.reader.Turn.TheVariants as turns
+use Rattle.e_read.specs.declared.reader.TextFault.{TextFault}
+use Rattle.e_read.specs.declared.reader.TextFault.TheVariants as faults
+use Rattle.e_read.specs.Text.{Derived, Last, taken, garbled_at, finished, is_end, piece_from, LineReads, EndIs, TurnIs}
 
 -- behind the last line of the text
 pub piece_none : (known : List Headed) (last : ℕ) (r : Reading) → piece_from known last r [] ≡ Err last
@@ -39,3 +43,18 @@ pub piece_next : (known : List Headed) (last : ℕ) (r next : Reading) (line : S
     → finished next.draft next.kept ≡ None → piece_from known last r (Ok line ∷ lines) ≡ piece_from known last next lines
 unfolding piece_from
 piece_next known last r next line lines e h f = rw (e, h, f) refl
+
+-- ---- a line before any others
+
+pub last_turn : (known : List Headed) (r : Reading) (line : Seen) → is_end known r.draft line ≡ true → TurnIs known r line (Ok turns.Last)
+last_turn known r line e = λ last rest. piece_last known last r line rest e
+
+pub err_turn : (known : List Headed) (r : Reading) (line : Seen) (e : TextFault) → is_end known r.draft line ≡ false → LineReads (Err e) (garbled_at line.number (taken known r line)) → TurnIs known r line (Err e)
+err_turn known r line (faults.Garbled n) b h = λ last rest. piece_garbled known last r line rest n b h
+err_turn known r line faults.NoMemory b h = tt
+
+pub ok_turn : (known : List Headed) (r next : Reading) (line : Seen) (turn : Turn) → is_end known r.draft line ≡ false → garbled_at line.number (taken known r line) ≡ Ok next → EndIs (finished next.draft next.kept) next turn
+    → TurnIs known r line (Ok turn)
+ok_turn known r next line turns.Last b h e = absurd e
+ok_turn known r next line (turns.Theorem t) b h e = λ last rest. piece_ended known last r next line rest (entry_of t) b h e
+ok_turn known r next line (turns.More more) b h e = λ last rest. piece_next known last r next line rest b h e.0 ∙ ap (λ (x : Reading). piece_from known last x rest) (sym e.1)

@@ -1,6 +1,6 @@
 -- What a line does that is taken: it is one of a certificate, or it is read as a line of a book.
 use Rattle.std.proofs.Common.{◌≡◌, ℕ, Bool, true, false, cond, inl, inr, List, [], ◌∷◌, ◌++◌, Option, Some, None, Result, Ok, Err, refl, sym, ap, subst, ◌∙◌}
-use Rattle.std.specs.Prelude.{◌⊎◌, codes, ◌&&◌}
+use Rattle.std.specs.Prelude.{◌⊎◌, ◌&&◌}
 use Rattle.std.specs.Str.{bytes_eq}
 use Rattle.std.specs.Option.{option_to_list}
 use Rattle.std.proofs.lemmas.Bool.{eqb-true}
@@ -18,13 +18,11 @@ use Rattle.e_book.specs.Book.{starts_with_hash, is_skipped, line_step}
 use Rattle.e_book.specs.Canonical.{line_of}
 use Rattle.e_book.proofs.InScope.{bind_ok, ok_is}
 use Rattle.e_read.specs.declared.mark.Mark.{Mark}
-use Rattle.e_read.specs.declared.owed.Due.{Due}
 use Rattle.e_read.specs.declared.owed.Owed.{Owed}
 use Rattle.e_read.specs.declared.kept.Kept.{Kept}
 use Rattle.e_read.specs.declared.reading.Reading.{Reading}
 use Rattle.e_read.specs.Strict.{is_strict, strict_of, strict_form, strict_mark, is_apart}
 use Rattle.e_read.specs.Owed.{marked, settled}
-use Rattle.e_read.specs.Needs.{due_of}
 use Rattle.e_read.specs.Laws.{begins_with_bar}
 use Rattle.e_read.specs.Text.{owes_nothing, with_mark, certified, owed_by, gone_on, all_settled, with_form, stepped, is_bar, worded, is_lf_end, spelled, taken}
 
@@ -104,7 +102,6 @@ line_taken known r next l e = by_words (tokens_of l.bytes) refl (passed (is_lf_e
   where
     by_words : (words : List (List ℕ)) → tokens_of l.bytes ≡ words → worded known r l.bytes words ≡ Ok next
         → ((ws : List (List ℕ)) × (begins_with_bar (tokens_of l.bytes) ≡ true) × Certified r next l.bytes ws) ⊎ ((begins_with_bar (tokens_of l.bytes) ≡ false) × Stepped known r next l.bytes)
-    unfolding worded
     by_words [] same h = absurd cc
     by_words (w ∷ ws) same h =
         elim (either (is_bar w) (certified r l.bytes ws) (stepped known r l.bytes) (Ok next) h) [

@@ -10,12 +10,9 @@ use Rattle.e_clause.specs.declared.cert.Sums.TheVariants.{One, Two}
 use Rattle.e_clause.specs.declared.cert.MetricCert.{MetricCert}
 use Rattle.e_clause.specs.declared.cert.Part.{Part}
 use Rattle.e_clause.specs.declared.cert.Part.TheVariants as parts
-use Rattle.e_clause.specs.declared.cert.TransferCert.{TransferCert}
 use Rattle.e_clause.specs.declared.cert.Cert.{Cert}
 use Rattle.e_clause.specs.declared.cert.Cert.TheVariants.{Plain, Transfer}
-use Rattle.e_clause.specs.declared.cert.Against.{Against}
 use Rattle.e_clause.specs.declared.cert.Against.TheVariants as against
-use Rattle.e_clause.specs.declared.rule.Sig.{Sig}
 use Rattle.e_clause.specs.Instance.{Inst, place_of}
 use Rattle.e_clause.specs.Sigs.{sig_of}
 use Rattle.e_clause.specs.RuleKinds.{is_transfer}

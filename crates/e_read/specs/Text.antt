@@ -1,13 +1,13 @@
 -- A block of a derivation text, line by line.
-use Rattle.std.specs.Prelude.{◌≡◌, IfSome, ℕ, ◌+◌, ◌≤◌, Bool, true, false, ◌∷◌, ◌++◌, List, [], length, decimal, codes, Option, Some, None, Result, Ok, Err, if◌then◌else◌}
+use Rattle.std.specs.Prelude.{◌≡◌, IfSome, ℕ, ◌≤◌, Bool, true, false, ◌∷◌, ◌++◌, List, [], length, decimal, codes, Option, Some, None, Result, Ok, Err, if◌then◌else◌}
 use Rattle.std.specs.Option.{option_to_list}
 use Rattle.std.specs.Str.{bytes_eq}
 use Rattle.e_text.specs.Tokens.{tokens_of, joined}
-use Rattle.e_text.specs.Lines.{Seen, Ahead, fault_line}
+use Rattle.e_text.specs.Lines.{Seen, Ahead, seen, fault_line}
+use Rattle.e_text.specs.declared.line.Line.{Line}
 use Rattle.e_text.specs.declared.line.LineEnd.{LineEnd}
 use Rattle.e_text.specs.declared.line.LineEnd.TheVariants as ends
 use Rattle.e_text.specs.declared.line.LineFault.{LineFault}
-use Rattle.e_deriv.specs.declared.names.Names.{Names}
 use Rattle.e_deriv.specs.Script.{erased}
 use Rattle.e_book.specs.declared.fault.Kind.{Kind}
 use Rattle.e_book.specs.declared.fault.Kind.TheVariants.{Malformed}
@@ -19,15 +19,16 @@ use Rattle.e_book.specs.Headed.{Headed}
 use Rattle.e_book.specs.Entry.{Entry, entry_of, entry_of_draft}
 use Rattle.e_book.specs.Scope.{FewNames}
 use Rattle.e_book.specs.Steps.{begin, step, no_names, count_names, FitsScope}
-use Rattle.e_book.specs.Book.{is_done}
+use Rattle.e_book.specs.Book.{is_done, last_line}
 use Rattle.e_read.specs.declared.mark.Mark.{Mark}
-use Rattle.e_read.specs.declared.owed.Due.{Due}
 use Rattle.e_read.specs.declared.owed.Due.TheVariants as due
 use Rattle.e_read.specs.declared.owed.Owed.{Owed}
 use Rattle.e_read.specs.declared.kept.Kept.{Kept}
 use Rattle.e_read.specs.declared.reading.Reading.{Reading}
 use Rattle.e_read.specs.declared.reader.Piece.{Piece as PieceRead}
 use Rattle.e_read.specs.declared.reader.Piece.TheVariants as read
+use Rattle.e_read.specs.declared.reader.Turn.{Turn}
+use Rattle.e_read.specs.declared.reader.Turn.TheVariants as turns
 use Rattle.e_read.specs.declared.reader.TextFault.{TextFault}
 use Rattle.e_read.specs.declared.reader.TextFault.TheVariants as faults
 use Rattle.e_read.specs.Strict.{strict_form, strict_mark, is_apart}
@@ -147,6 +148,34 @@ abbrev pub LineReads : Result Reading TextFault → Result Reading ℕ → Type 
 LineReads (Ok r) read = read ≡ Ok r
 LineReads (Err (faults.Garbled line)) read = read ≡ Err line
 LineReads (Err faults.NoMemory) read = Unit {0}
+
+-- the next line, or what stands ahead is garbled whatever of a block has come
+abbrev pub LineIs : Result Line TextFault → Ahead → Ahead → Type 0
+LineIs (Ok line) old new = old.lines ≡ Ok (seen line) ∷ new.lines
+LineIs (Err (faults.Garbled n)) old new = (known : List Headed) (r : Reading) → piece_from known (last_line old) r old.lines ≡ Err n
+LineIs (Err faults.NoMemory) old new = ⊥
+
+-- the theorem, or more lines have to come
+abbrev pub EndIs : Option Entry → Reading → Turn → Type 0
+EndIs end r turns.Last = ⊥
+EndIs end r (turns.Theorem t) = end ≡ Some (entry_of t)
+EndIs end r (turns.More next) = (end ≡ None) × (next ≡ r)
+
+-- what stands ahead, where this line stands before any others, unless memory ran out
+abbrev pub TurnIs : List Headed → Reading → Seen → Result Turn TextFault → Type 0
+TurnIs known r line (Ok turns.Last) = (last : ℕ) (rest : List (Result Seen LineFault)) → piece_from known last r (Ok line ∷ rest) ≡ Ok (Last, rest)
+TurnIs known r line (Ok (turns.Theorem t)) =
+    (last : ℕ) (rest : List (Result Seen LineFault)) → piece_from known last r (Ok line ∷ rest) ≡ Ok (Derived (entry_of t), rest)
+TurnIs known r line (Ok (turns.More next)) =
+    (last : ℕ) (rest : List (Result Seen LineFault)) → piece_from known last r (Ok line ∷ rest) ≡ piece_from known last next rest
+TurnIs known r line (Err (faults.Garbled n)) = (last : ℕ) (rest : List (Result Seen LineFault)) → piece_from known last r (Ok line ∷ rest) ≡ Err n
+TurnIs known r line (Err faults.NoMemory) = Unit {0}
+
+-- what holds of a block of which more has to come
+abbrev pub OfMore : (Reading → Type 0) → Turn → Type 0
+OfMore holds turns.Last = Unit {0}
+OfMore holds (turns.Theorem t) = Unit {0}
+OfMore holds (turns.More next) = holds next
 
 -- what was answered is what stands ahead, unless memory ran out
 abbrev pub TextReads : List Headed → Result PieceRead TextFault → Ahead → Result (Piece × List (Result Seen LineFault)) ℕ → Type 0

@@ -86,13 +86,7 @@ fn put_sums(
 }
 
 /// A word and three names.
-fn put_of_three(
-    out: &mut Vec<u8>,
-    word: &[u8],
-    x: Name,
-    y: Name,
-    z: Name,
-) -> Result<(), AllocError>
+fn put_of_three(out: &mut Vec<u8>, word: &[u8], x: Name, y: Name, z: Name) -> Result<(), AllocError>
     ensures { OnOk result (out.new.items ≡ out.old.items ++ spaced (word.now ∷ x ∷ y ∷ z ∷ [])) }
 {
     put_four(out, word, x.bytes(), y.bytes(), z.bytes())

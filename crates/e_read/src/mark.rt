@@ -3,9 +3,7 @@ ghost use Rattle.std.specs.Prelude.{◌≡◌};
 ghost use Rattle.e_book.specs.Reading.{texts, Gives};
 ghost use Rattle.e_read.specs.Marks.{size_of, multiplier_of, bare_row, row_named, row_of, may_differ, bare, differs_of, transfer_of, row_mark_of, mark_named, mark_of};
 
-use e_book::{
-    Kind, RawLit, RawTerm, Trouble, Words, diagram_lit_of, lit_of, names_of, term_of,
-};
+use e_book::{Kind, RawLit, RawTerm, Trouble, Words, diagram_lit_of, lit_of, names_of, term_of};
 use e_literal::Items;
 use e_text::{Name, Title, is, number};
 use std::alloc::Global;

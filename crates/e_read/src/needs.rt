@@ -90,7 +90,12 @@ fn needs_of_use(
 {
     let used = apply_in(alloc, known, &draft.in_scope, raw)?;
     let statement = known.statement(used.theorem as usize);
-    needs_in(alloc, scope_of_names(&draft.in_scope), statement, used.args.items())
+    needs_in(
+        alloc,
+        scope_of_names(&draft.in_scope),
+        statement,
+        used.args.items(),
+    )
 }
 
 /// What the innermost claim or superposition of these blocks shows, if there is one.

@@ -209,11 +209,7 @@ fn sums_ended(sums: OpenSums) -> Result<Sums, Trouble>
 }
 
 /// The transfer is a certificate once it has all its parts.
-fn transfer_put(
-    wanted: Items<Lit>,
-    certs: Certs,
-    transfer: OpenTransfer,
-) -> Result<Due, Trouble>
+fn transfer_put(wanted: Items<Lit>, certs: Certs, transfer: OpenTransfer) -> Result<Due, Trouble>
     ensures { Gives (λ d. d) result (transfer_put wanted certs transfer) }
 {
     let mut certs = certs;
@@ -225,7 +221,10 @@ fn transfer_put(
         });
     }
     let OpenTransfer {
-        rule, args, parts, ..
+        rule,
+        args,
+        parts,
+        ..
     } = transfer;
     certs.push(Cert::Transfer(TransferCert { rule, args, parts }))?;
     Ok(Due::Literals {
@@ -291,7 +290,8 @@ fn takes_metric(due: &Due) -> bool
     match due {
         Due::Nothing => false,
         Due::Literals {
-            transfer: Some(_), ..
+            transfer: Some(_),
+            ..
         } => true,
         Due::Literals { wanted, certs, .. } => certs.len() < wanted.len(),
         Due::Contradiction { against } => against.is_none(),
@@ -508,7 +508,8 @@ fn kept_of(due: Due) -> Result<Option<Kept>, Trouble>
             Ok(Some(Kept::Certs(certs)))
         }
         Due::Literals {
-            transfer: Some(_), ..
+            transfer: Some(_),
+            ..
         } => Err(malformed()),
         Due::Contradiction { against: None } => Err(malformed()),
         Due::Contradiction {

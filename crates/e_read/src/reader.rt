@@ -9,7 +9,7 @@ ghost use Rattle.e_book.specs.Headed.{stated_by};
 ghost use Rattle.e_book.specs.Book.{last_line};
 ghost use Rattle.e_book.specs.Entry.{entry_of};
 ghost use Rattle.e_book.specs.HasSpelling.{HasSpelling};
-ghost use Rattle.e_read.specs.Text.{at_start, garbled_at, taken, LineReads, FitsReading, piece_from, bare, OfTheorem, TextReads};
+ghost use Rattle.e_read.specs.Text.{at_start, garbled_at, taken, finished, LineIs, LineReads, EndIs, TurnIs, OfMore, FitsReading, piece_from, bare, OfTheorem, TextReads};
 
 use crate::reading::Reading;
 use e_book::{Known, Theorem, Trouble};
@@ -23,9 +23,7 @@ pub enum Piece {
     /// A theorem with its derivation.
     Theorem(Theorem),
     /// The last line, which says how many theorems there are.
-    Last {
-        theorems: u32,
-    },
+    Last { theorems: u32 },
 }
 
 /// Why a derivation text is refused.
@@ -60,6 +58,31 @@ fn faulty_line(fault: LineFault) -> u64
     }
 }
 
+/// What a line makes of a block.
+enum Turn {
+    /// It is the last line of the text.
+    Last,
+    /// The theorem has ended.
+    Theorem(Theorem),
+    /// More lines have to come.
+    More(Reading),
+}
+
+/// The next line.
+fn seen_line<'a>(lines: &mut Lines<'a>) -> Result<Line<'a>, TextFault>
+    ensures line { LineIs result lines.old lines.new }
+    ensures last { OnOk result (last_line lines.new ≡ last_line lines.old) }
+    ensures shorter { OnOk result (length lines.new.lines < length lines.old.lines) }
+{
+    match lines.next() {
+        Some(Ok(line)) => Ok(line),
+        Some(Err(fault)) => Err(TextFault::Garbled {
+            line: faulty_line(fault),
+        }),
+        None => Err(TextFault::Garbled { line: lines.line() }),
+    }
+}
+
 /// The block behind one more line.
 fn next_line(
     alloc: Global,
@@ -80,6 +103,39 @@ fn next_line(
     }
 }
 
+/// A block behind its last line is a theorem, and else more lines have to come.
+fn ended(alloc: Global, reading: Reading) -> Result<Turn, AllocError>
+    requires { FitsReading reading }
+    ensures turn { IfOk result (EndIs (finished reading.draft reading.kept) reading) }
+    ensures fits { IfOk result (OfMore FitsReading) }
+{
+    if !reading.is_finished() {
+        return Ok(Turn::More(reading));
+    }
+    let theorem = reading.into_theorem(alloc)?;
+    Ok(Turn::Theorem(theorem))
+}
+
+/// What a line makes of a block.
+fn turned(alloc: Global, known: &Known, reading: Reading, line: Line<'_>) -> Result<Turn, TextFault>
+    requires reading { FitsReading reading }
+    requires few { length known.now ≤ most_theorems }
+    requires known { IsTrue (list_all is_small_statement (stated_by known.now)) }
+    ensures turn { TurnIs known.now reading (seen line.entry) result }
+    ensures fits { IfOk result (OfMore FitsReading) }
+{
+    if reading.is_end(alloc, known, line)? {
+        return Ok(Turn::Last);
+    }
+    match next_line(alloc, known, reading, line) {
+        Ok(next) => {
+            let turn = ended(alloc, next)?;
+            Ok(turn)
+        }
+        Err(fault) => Err(fault),
+    }
+}
+
 /// Reads line by line, up to the end of a theorem or the last line.
 fn read_piece(alloc: Global, lines: &mut Lines, known: &Known) -> Result<Piece, TextFault>
     requires few { length known.now ≤ most_theorems }
@@ -89,28 +145,18 @@ fn read_piece(alloc: Global, lines: &mut Lines, known: &Known) -> Result<Piece, 
     ensures shorter { OnOk result (length lines.new.lines < length lines.old.lines) }
 {
     let mut reading = Reading::new(alloc);
-    while let Some(line) = lines.next() {
-        let line = match line {
-            Ok(line) => line,
-            Err(fault) => {
-                return Err(TextFault::Garbled {
-                    line: faulty_line(fault),
+    loop {
+        let line = seen_line(lines)?;
+        match turned(alloc, known, reading, line)? {
+            Turn::Last => {
+                return Ok(Piece::Last {
+                    theorems: known.len() as u32,
                 });
             }
-        };
-        if reading.is_end(alloc, known, line)? {
-            return Ok(Piece::Last {
-                theorems: known.len() as u32,
-            });
+            Turn::Theorem(theorem) => return Ok(Piece::Theorem(theorem)),
+            Turn::More(next) => reading = next,
         }
-        let next = next_line(alloc, known, reading, line)?;
-        if next.is_finished() {
-            let theorem = next.into_theorem(alloc)?;
-            return Ok(Piece::Theorem(theorem));
-        }
-        reading = next;
     }
-    Err(TextFault::Garbled { line: lines.line() })
 }
 
 /// The next theorem with its derivation, or the last line.

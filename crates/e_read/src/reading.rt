@@ -271,7 +271,12 @@ impl Reading {
     }
 
     /// Whether the line is the last one of a text, at the place of a theorem's first line.
-    pub(crate) fn is_end(&self, alloc: Global, known: &Known, line: Line<'_>) -> Result<bool, AllocError>
+    pub(crate) fn is_end(
+        &self,
+        alloc: Global,
+        known: &Known,
+        line: Line<'_>,
+    ) -> Result<bool, AllocError>
         ensures { IfOk result (λ b. b ≡ is_end known.now self.now.draft (seen line.entry)) }
     {
         match &self.draft {
@@ -323,11 +328,7 @@ fn is_last_line(alloc: Global, known: &Known, line: Line<'_>) -> Result<bool, Al
 }
 
 /// A theorem with its certificates at their lines.
-fn derived(
-    alloc: Global,
-    draft: Draft,
-    kept: KeptLines,
-) -> Result<Theorem, AllocError>
+fn derived(alloc: Global, draft: Draft, kept: KeptLines) -> Result<Theorem, AllocError>
     ensures { IfOk result (λ t. entry_of t ≡ derived draft kept) }
 {
     let Theorem {
