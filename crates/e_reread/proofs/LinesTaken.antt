@@ -29,7 +29,7 @@ use Rattle.e_read.specs.Marks.{mark_line}
 use Rattle.e_read.specs.Strict.{is_strict, strict_of, strict_form, is_apart}
 use Rattle.e_read.specs.Owed.{marked, settled}
 use Rattle.e_read.specs.Needs.{due_of}
-use Rattle.e_read.specs.Text.{with_mark, owed_by, with_form, stepped, worded}
+use Rattle.e_read.specs.Text.{certified, with_mark, owed_by, with_form, stepped, worded}
 use Rattle.e_reread.proofs.MarksAgain.{MarkNamed, mark_tokens_again, strict_mark_again}
 use Rattle.e_reread.proofs.Feeding.{OneMark, Fed, owing}
 use Rattle.e_reread.proofs.CertsPut.{Keeps}
@@ -78,6 +78,7 @@ strict_form_again f g s =
 
 -- no such line begins with the sign of certificates
 pub no_bar : (known : List Headed) (r : Reading) (line : List ℕ) (f : Form) → worded known r line (form_words f) ≡ stepped known r line
+unfolding worded
 no_bar known r line (forms.Theorem t) = refl
 no_bar known r line (forms.Declare sorts.Point ns) = refl
 no_bar known r line (forms.Declare sorts.Line ns) = refl
@@ -146,7 +147,7 @@ along_append known d e f xs ys js ls p q = λ r ks s.
 -- ---- lines of certificates
 
 mark_leads : (known : List Headed) (r : Reading) (m : Mark) (o : Owed) → MarkNamed m → marked r.owed m ≡ Ok o → worded known r (mark_line m) (tokens_of (mark_line m)) ≡ Ok (record r { owed = o })
-unfolding with_mark
+unfolding with_mark certified worded
 mark_leads known r m o h e =
     ap (λ (ws : List (List ℕ)). worded known r (mark_line m) ws) (mark_tokens_again m h) ∙ rw (strict_mark_again m h, e) refl
 
@@ -166,7 +167,7 @@ marks_taken known r d (words ∷ lines) last here going fed = (
 
 pub form_leads : (known : List Headed) (r : Reading) (d e : Draft) (ks : List Kept) (f : Form) (owed : Due) → Stands r d ks → GoodForm f → is_strict (as_read f) ≡ true → is_apart d (as_read f) ≡ true → due_of known d (as_read f) ≡ Ok owed
     → step known d (as_read f) ≡ Ok e → worded known r (line_of f) (tokens_of (line_of f)) ≡ Ok (record { draft = Some e; owed = owing d.in_scope owed None; kept = ks })
-unfolding with_form owed_by
+unfolding with_form owed_by stepped
 form_leads known r d e ks f owed s good strict apart due steps =
     ap (worded known r (line_of f)) (words_again f good) ∙ no_bar known r (line_of f) f
     ∙ rw (strict_form_again f good strict, s.settles, s.draft, apart, due, steps) (ap (λ (x : List Kept). Ok (record { draft = Some e; owed = owing d.in_scope owed None; kept = x })) s.kept)

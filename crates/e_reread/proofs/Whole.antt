@@ -49,7 +49,7 @@ use Rattle.e_read.specs.declared.reading.Reading.{Reading}
 use Rattle.e_read.specs.Filled.{filled}
 use Rattle.e_read.specs.Owed.{settled}
 use Rattle.e_read.specs.Needs.{due_of}
-use Rattle.e_read.specs.Text.{with_form, Piece, Derived, owes_nothing, at_start, worded, taken, derived, finished, is_end, piece_from}
+use Rattle.e_read.specs.Text.{stepped as line_stepped, spelled, with_form, Piece, Derived, owes_nothing, at_start, worded, taken, derived, finished, is_end, piece_from}
 use Rattle.e_spell.specs.Spelling.{script_lines}
 use Rattle.e_reread.specs.Laws.{ShowsEnded, CanBeSpelled, SpelledIsRead}
 use Rattle.e_reread.proofs.FilledBack.{kepts, filled_back}
@@ -186,7 +186,7 @@ record Left (known : List Headed) (number : ℕ) (r next : Reading) (all : List 
   same : piece_from known number r all ≡ piece_from known number next ahead
 
 taken_is : (known : List Headed) (r next : Reading) (l : Seen) (text : List ℕ) → l.bytes ≡ text → l.end ≡ Lf → worded known r text (tokens_of text) ≡ Ok next → taken known r l ≡ Ok next
-unfolding taken
+unfolding taken spelled
 taken_is known r next l text b e leads =
     let w : worded known r l.bytes (tokens_of l.bytes) ≡ Ok next = ap (λ (x : List ℕ). worded known r x (tokens_of x)) b ∙ leads in
     rw (e, w) refl
@@ -196,6 +196,7 @@ unfinished draft d kept e going = ap (λ (x : Option Draft). finished x kept) e 
 
 one_read : (known : List Headed) (number : ℕ) (r next : Reading) (l : Seen) (after : List (Result Seen LineFault)) (text : List ℕ) → is_end known r.draft l ≡ false → l.bytes ≡ text → l.end ≡ Lf → worded known r text (tokens_of text) ≡ Ok next
     → finished next.draft next.kept ≡ None → piece_from known number r (Ok l ∷ after) ≡ piece_from known number next after
+unfolding piece_from
 one_read known number r next l after text here b e leads more = rw (here, taken_is known r next l text b e leads, more) refl
 
 all_read : (known : List Headed) (number : ℕ) (r next : Reading) (texts more : List (List ℕ)) (all rest : List (Result Seen LineFault)) → AllTaken known r texts next → ShowsEnded all (texts ++ more) rest → Left known number r next all more rest
@@ -222,7 +223,7 @@ unfolding settled
 title_stands t = record { draft = refl; read = None; settles = refl; kept = refl }
 
 title_leads : (known : List Headed) (t : Entry) (d : Script) → HasSpelling known (plain_entry t d) → worded known at_start (line_of (forms.Theorem t.title)) (tokens_of (line_of (forms.Theorem t.title))) ≡ Ok (titled t)
-unfolding settled with_form
+unfolding settled with_form line_stepped
 title_leads known t d h =
     let f = forms.Theorem t.title in
     let r = run_title known t.title h.title h.fits.new h.few_theorems in
@@ -260,6 +261,7 @@ end_leads known t d last r s =
 
 end_read : (known : List Headed) (number : ℕ) (t : Entry) (d : Script) (last : Inside) (r : Reading) (all rest : List (Result Seen LineFault)) → HasSpelling known (plain_entry t d) → Stands r (shut_draft t d last) (kepts d)
     → ShowsEnded all (line_of forms.End ∷ []) rest → piece_from known number r all ≡ Ok (Derived (record t { script = d }), rest)
+unfolding piece_from
 end_read known number t d last r [] rest h s sh = absurd sh
 end_read known number t d last r (Err f ∷ all) rest h s sh = absurd sh
 end_read known number t d last r (Ok l ∷ all) rest h s sh =
@@ -273,6 +275,7 @@ end_read known number t d last r (Ok l ∷ all) rest h s sh =
 
 whole_read : (known : List Headed) (number : ℕ) (t : Entry) (d : Script) (all rest : List (Result Seen LineFault)) → CanBeSpelled known t d → ShowsEnded all (line_of (forms.Theorem t.title) ∷ (middle known t d ++ line_of forms.End ∷ [])) rest
     → piece_from known number at_start all ≡ Ok (Derived (record t { script = d }), rest)
+unfolding piece_from
 whole_read known number t d [] rest c sh = absurd sh
 whole_read known number t d (Err f ∷ all) rest c sh = absurd sh
 whole_read known number t d (Ok l ∷ all) rest c sh =

@@ -32,7 +32,7 @@ use Rattle.e_read.specs.Marks.{mark_line}
 use Rattle.e_read.specs.Strict.{is_strict, is_apart}
 use Rattle.e_read.specs.Needs.{due_of}
 use Rattle.e_read.specs.Filled.{filled}
-use Rattle.e_read.specs.Text.{Piece, Derived, Last, owes_nothing, at_start, owed_by, gone_on, worded, is_lf_end, taken, derived, garbled_at, is_finished, finished, or_on, is_end, piece_from}
+use Rattle.e_read.specs.Text.{spelled, Piece, Derived, Last, owes_nothing, at_start, owed_by, gone_on, worded, is_lf_end, taken, derived, garbled_at, is_finished, finished, or_on, is_end, piece_from}
 use Rattle.e_read.proofs.TakenLines.{Certified, Stepped, passed, line_taken, form_read}
 use Rattle.e_read.proofs.Bridge.{Answer, derives, garbled_ok}
 use Rattle.e_spell.specs.Spelling.{script_lines, spelled_lines}
@@ -243,7 +243,7 @@ record Rest (known : List Headed) (done : List (List ℕ)) (t : Entry) (lines re
 
 -- a line that is taken ends with a line feed
 ends_with_lf : (known : List Headed) (r next : Reading) (l : Seen) → taken known r l ≡ Ok next → l.end ≡ ends.Lf
-unfolding taken
+unfolding taken spelled
 ends_with_lf known r next l e = is_lf l.end (passed (is_lf_end l.end) (worded known r l.bytes (tokens_of l.bytes)) next e).0
   where
     is_lf : (x : LineEnd) → is_lf_end x ≡ true → x ≡ ends.Lf
@@ -285,6 +285,7 @@ step_rest known last next d o lines rest t done draft_is s goes more =
 
 whole : (known : List Headed) (last : ℕ) (r : Reading) (lines rest : List (Result Seen LineFault)) (t : Entry) (done : List (List ℕ)) → SaidSoFar known r.draft r.owed r.kept done → is_finished r.draft ≡ false
     → piece_from known last r lines ≡ derives t rest → Rest known done t lines rest
+unfolding piece_from
 whole known last r [] rest t done s unended e = absurd cc
 whole known last r (Err f ∷ lines) rest t done s unended e = absurd cc
 whole known last r (Ok l ∷ lines) rest t done s unended e =
