@@ -5,7 +5,7 @@ use Rattle.e_deriv.specs.Script.{Script}
 use Rattle.e_book.specs.Headed.{Headed, headed}
 use Rattle.e_book.specs.Entry.{Entry}
 use Rattle.e_book.proofs.Differ.{same_bytes}
-use Rattle.e_read.specs.Text.{last_line_of}
+use Rattle.e_read.specs.Text.{piece_from, last_line_of}
 use Rattle.e_spell.specs.Spelling.{spelled_lines}
 use Rattle.e_reread.specs.Laws.{ShowsEnded}
 use Rattle.e_reread.proofs.Whole.{spelled_is_read}
@@ -65,6 +65,7 @@ passed last known k (p ∷ ps) more h =
 
 -- the last line comes where as many theorems are known as it says
 ends : (last : ℕ) (known : List Headed) (k : ℕ) → EndsThere last known (numbered k (last_line_of (length known) ∷ [])) (Verified (length known))
+unfolding piece_from
 ends last known k = ([], rw (same_bytes (last_line_of (length known))) refl, refl)
 
 -- ---- the whole
