@@ -3,7 +3,6 @@ use Rattle.std.proofs.Common.{◌≡◌, ℕ, zero, suc, ◌+◌, List, [], ◌�
 use Rattle.std.specs.Prelude.{slice_get}
 use Rattle.std.specs.List.{list_any}
 use Rattle.std.proofs.lemmas.List.Folds.{list_any-append}
-use Rattle.e_literal.specs.declared.object.Scope.{Scope}
 use Rattle.e_literal.specs.declared.literal.Lit.{Lit}
 use Rattle.e_literal.specs.Literal.{negation, all_in_scope}
 use Rattle.e_literal.specs.Same.{same_lit}
@@ -12,7 +11,6 @@ use Rattle.e_literal.proofs.Terms.{both, or_left, or_right}
 use Rattle.e_literal.proofs.Agreeing.{same_lit_self}
 use Rattle.e_clause.specs.declared.cert.Against.TheVariants.{Clash, Metric as MetricAgainst}
 use Rattle.e_clause.specs.declared.cert.MetricCert.{MetricCert}
-use Rattle.e_clause.specs.Certify.{certifies_against}
 use Rattle.e_clause.specs.Clash.{clash, clashes_at}
 use Rattle.e_clause.specs.Judged.{are_good_facts}
 use Rattle.e_clause.specs.MetricCertificate.{sums_in, metric_contradicts}
@@ -20,7 +18,9 @@ use Rattle.e_clause.specs.Wide.{IsTooWideContradiction}
 use Rattle.e_metric.proofs.FirstTerms.{take_one}
 use Rattle.e_metric.proofs.Growing.{all_at}
 use Rattle.e_metric.specs.Told.{IsCertified, IsTooWide}
+use Rattle.e_licence.specs.Contexts.{Basis}
 use Rattle.e_licence.specs.Clashes.{IsClashing}
+use Rattle.e_licence.specs.Licences.{IsCertifiedAgainst}
 use Rattle.e_licence.proofs.Judging.{in_scope}
 
 any_at : (p : Lit → Bool) (ls : List Lit) (i : ℕ) (l : Lit) → slice_get ls i ≡ Some l → p l ≡ true → list_any p ls ≡ true
@@ -57,12 +57,17 @@ none_clashes facts i l h k e =
 
 -- ---- the facts contradict each other, or it cannot be told
 
-pub by_clash : (s : Scope) (facts : List Lit) (l : Lit) → are_good_facts s facts ≡ true → IsClashing facts l → certifies_against s facts (Clash l) ≡ true
-by_clash s facts l g h =
-    both (all_in_scope s l) (clashes_at facts l) (all_at (all_in_scope s) facts h.place l (in_scope s facts g) h.is_there) h.clashes
+pub by_clash : (b : Basis) (l : Lit) → are_good_facts b.scope b.facts ≡ true → IsClashing b.facts l → IsCertifiedAgainst b (Clash l)
+by_clash b l g h = record {
+  certifies = both (all_in_scope b.scope l) (clashes_at b.facts l) (all_at (all_in_scope b.scope) b.facts h.place l (in_scope b.scope b.facts g) h.is_there) h.clashes;
+  written = refl;
+}
 
-pub by_sums : (s : Scope) (facts : List Lit) (m : MetricCert) → are_good_facts s facts ≡ true → IsCertified facts None m → certifies_against s facts (MetricAgainst m) ≡ true
-by_sums s facts m g h = both (sums_in s m.sums) (metric_contradicts facts m) (h.scoped s (in_scope s facts g) refl) h.refutes
+pub by_sums : (b : Basis) (m : MetricCert) → are_good_facts b.scope b.facts ≡ true → IsCertified b.facts None m → IsCertifiedAgainst b (MetricAgainst m)
+by_sums b m g h = record {
+  certifies = both (sums_in b.scope m.sums) (metric_contradicts b.facts m) (h.scoped b.scope (in_scope b.scope b.facts g) refl) h.refutes;
+  written = h.written;
+}
 
 pub too_wide : (facts : List Lit) (w : ℕ) → clash facts ≡ false → IsTooWide facts None w → IsTooWideContradiction facts w
 too_wide facts w n h = record { no_clash = λ e. true≢false (sym e ∙ n); rows = h.rows; is_system = h.is_one; has_width = h.has_width }

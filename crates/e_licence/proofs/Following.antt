@@ -32,6 +32,7 @@ by_sums s facts l m g k n e h = record {
       (h.scoped s (in_scope s facts g) (and_left (all_in_scope s l) (is_well_formed l) k))
       (both (is_metric l) (sums_refute facts (Some l) m.sums) e h.refutes);
   as_fact = λ f. absurd (true≢false (sym f ∙ n));
+  written = h.written;
 }
 
 -- ---- what facts alone give by a transfer is a transfer consequence

@@ -4,6 +4,7 @@ use Rattle.e_literal.specs.declared.object.Term.{Term}
 use Rattle.e_literal.specs.declared.literal.Lit.{Lit}
 use Rattle.e_literal.specs.Facts.{has, is_metric}
 use Rattle.e_clause.specs.declared.cert.Part.TheVariants.{Fact}
+use Rattle.e_clause.specs.declared.cert.Against.{Against}
 use Rattle.e_clause.specs.declared.cert.Cert.{Cert}
 use Rattle.e_clause.specs.declared.cert.Cert.TheVariants.{Plain}
 use Rattle.e_clause.specs.Allowed.{Allowed}
@@ -11,6 +12,7 @@ use Rattle.e_clause.specs.Certify.{certifies, certifies_against}
 use Rattle.e_clause.specs.Consequence.{Contradictory}
 use Rattle.e_clause.specs.Counterexample.{ListsCounterexample}
 use Rattle.e_clause.specs.Wide.{IsTooWideLit, IsTooWideContradiction}
+use Rattle.e_metric.specs.Written.{is_good_cert, is_good_against}
 use Rattle.e_licence.specs.Contexts.{Basis}
 use Rattle.e_licence.specs.declared.licensing.Licensed.{Licensed}
 use Rattle.e_licence.specs.declared.licensing.Licensed.TheVariants as licensed
@@ -19,10 +21,12 @@ use Rattle.e_licence.specs.declared.contradiction.Refuted.TheVariants as refuted
 
 -- ---- a literal
 
--- the certificate certifies the literal; one that is among the facts is certified as a fact, with no sums and no rule
+-- the certificate certifies the literal, and names literals that are well formed; one that is among the facts is certified as a
+-- fact, with no sums and no rule
 pub record IsCertifiedBy (b : Basis) (l : Lit) (c : Cert) : Type 0 where
   pub certifies : IsTrue (certifies b.scope b.facts l c)
   pub as_fact : IsTrue (has b.facts l) → c ≡ Plain Fact
+  pub written : IsTrue (is_good_cert c)
 
 -- values exactly where the literal is metric; with them the facts are true and the literal is false
 abbrev pub IsShownBy : List Lit → Lit → Option (List (Term × ℕ)) → Type 0
@@ -42,6 +46,11 @@ IsLicence b l (licensed.TooWide w) = IsTooWideLit b.scope b.facts l w
 
 -- ---- a contradiction
 
+-- the certificate shows that the facts contradict each other, and names literals that are well formed
+pub record IsCertifiedAgainst (b : Basis) (against : Against) : Type 0 where
+  pub certifies : IsTrue (certifies_against b.scope b.facts against)
+  pub written : IsTrue (is_good_against against)
+
 -- the facts do not contradict each other, and with these values the metric ones are true
 pub record IsConsistentBy (facts : List Lit) (values : List (Term × ℕ)) : Type 0 where
   pub not_contradictory : ¬ Contradictory facts
@@ -49,6 +58,6 @@ pub record IsConsistentBy (facts : List Lit) (values : List (Term × ℕ)) : Typ
 
 -- a certificate; or the facts do not contradict each other; or the contradiction is wide, with the width of a system
 abbrev pub IsRefuted : Basis → Refuted → Type 0
-IsRefuted b (refuted.Yes against) = IsTrue (certifies_against b.scope b.facts against)
+IsRefuted b (refuted.Yes against) = IsCertifiedAgainst b against
 IsRefuted b (refuted.No values) = IsConsistentBy b.facts values
 IsRefuted b (refuted.TooWide w) = IsTooWideContradiction b.facts w

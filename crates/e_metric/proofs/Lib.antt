@@ -9,7 +9,9 @@ pub mod Weighing
 pub mod Order
 pub mod StepTerms
 pub mod Bounds
+pub mod Names
 pub mod Scoped
+pub mod Written
 pub mod Further
 pub mod Telling
 pub mod Wider

@@ -1,10 +1,7 @@
 -- A certificate names no object but those of the facts and of the wanted literal.
-use Rattle.std.proofs.Common.{◌≡◌, ℕ, zero, suc, List, [], ◌∷◌, ◌++◌, map, get_or, refl, sym, ap, ◌∙◌, cond, Bool, true, false, ◌&&◌, ◌||◌, true≢false, ◌⊎◌, inl, inr, Option, Some, None, append_assoc}
-use Rattle.std.specs.Prelude.{set, int_lt, neg_ℤ}
+use Rattle.std.proofs.Common.{◌≡◌, List, [], ◌∷◌, ◌++◌, map, refl, sym, ap, ◌∙◌, cond, Bool, true, false, ◌||◌, true≢false, ◌⊎◌, inl, inr, Option, Some, None, append_assoc}
 use Rattle.std.specs.List.{list_all}
-use Rattle.std.specs.Ordering.{int_eq}
 use Rattle.std.proofs.lemmas.List.Folds.{list_all-append}
-use lib.IntN.{ℤ, pos}
 use Rattle.e_literal.specs.declared.object.Kind.{Kind}
 use Rattle.e_literal.specs.declared.object.Kind.TheVariants.{Segment, Angle, Area as AreaKind}
 use Rattle.e_literal.specs.declared.object.Mono.{Mono}
@@ -15,28 +12,28 @@ use Rattle.e_literal.specs.declared.literal.Lit.{Lit}
 use Rattle.e_literal.specs.declared.literal.Atom.{Atom}
 use Rattle.e_literal.specs.declared.literal.Atom.TheVariants.{MagEq, MagLt}
 use Rattle.e_literal.specs.Literal.{kind_of_atom, is_in_scope, all_in_scope, objects_of_term, objects_of_sum, objects_of_atom}
-use Rattle.e_literal.specs.Same.{canonical, term_eq}
+use Rattle.e_literal.specs.Same.{term_eq}
 use Rattle.e_literal.specs.Width.{is_among}
 use Rattle.e_literal.specs.Facts.{are_apart}
 use Rattle.e_literal.specs.Rows.{first_terms}
-use Rattle.e_literal.specs.Absurd.{total}
 use Rattle.e_literal.proofs.Terms.{and_left, and_right, both, or_either, term_eq_is, among_first, among_rest}
 use Rattle.e_literal.proofs.Valued.{IsMagEq, IsMagLt, IsDiagram, split}
 use Rattle.e_clause.specs.declared.cert.RowName.{RowName}
-use Rattle.e_clause.specs.declared.cert.RowName.TheVariants.{Fact, Goal, Pos, Least, Above, Below}
+use Rattle.e_clause.specs.declared.cert.RowName.TheVariants.{Fact, Goal, Pos}
+use Rattle.e_clause.specs.declared.cert.Sums.{Sums}
+use Rattle.e_clause.specs.declared.cert.Sums.TheVariants.{One as OneSum, Two as TwoSums}
 use Rattle.e_clause.specs.Assignment.{terms_of_atom, terms_of_lits, terms_of_wanted, terms_of_step}
 use Rattle.e_clause.specs.System.{NamedRow, named, against_goal, rows_of_term, rows_of_kind, pos_row, system}
-use Rattle.e_clause.specs.MetricCertificate.{row_name_in, sum_in, sums_in}
+use Rattle.e_clause.specs.MetricCertificate.{row_name_in, sums_in}
 use Rattle.e_clause.proofs.Named.{Each, EachLit, each_literal, each_system}
 use Rattle.e_clause.proofs.Solved.{terms_of_system, system_among, first_among}
 use Rattle.e_fraction.specs.declared.row.Row.{Row as GivenRow}
-use Rattle.e_fraction.specs.Views.{weighed}
 use Rattle.e_simplex.specs.declared.decision.Absurdity.{Absurdity}
-use Rattle.e_simplex.specs.declared.decision.Absurdity.TheVariants.{One, Two}
 use Rattle.e_metric.specs.Listed.{listed, terms_of_kind}
-use Rattle.e_metric.specs.Certificate.{kept, leasts, turned, sum_of, sums_of}
+use Rattle.e_metric.specs.Certificate.{sums_of}
 use Rattle.e_metric.specs.Told.{wanted_in}
 use Rattle.e_metric.proofs.FirstTerms.{with_right}
+use Rattle.e_metric.proofs.Names.{each_of, each_name, sums_have}
 use Rattle.e_metric.proofs.Reordered.{AreReordered}
 
 among_either : (xs ys : List Term) (t : Term) → is_among (xs ++ ys) t ≡ true → (is_among xs t ≡ true) ⊎ (is_among ys t ≡ true)
@@ -136,56 +133,11 @@ module _ (s : Scope) where
         (λ t a. term_named t (system_among which facts wanted t a))
         (kind_named which)
 
-    each_name : (ns : List NamedRow) → Each InScope ns → list_all (row_name_in s) (map (λ (n : NamedRow). n.name) ns) ≡ true
-    each_name [] h = refl
-    each_name (n ∷ ns) h = both (row_name_in s n.name) (list_all (row_name_in s) (map (λ (m : NamedRow). m.name) ns)) h.0 (each_name ns h.1)
-
     -- ---- the sums
 
-    kept_in : (ns : List RowName) (ms : List ℤ) → list_all (row_name_in s) ns ≡ true → list_all (λ (x : ℤ × RowName). row_name_in s x.1) (kept ns ms) ≡ true
-    kept_in [] ms h = refl
-    kept_in (n ∷ ns) [] h = refl
-    kept_in (n ∷ ns) (m ∷ ms) h = by (int_eq m (pos 0)) (kept_in ns ms (and_right (row_name_in s n) (list_all (row_name_in s) ns) h))
-      where
-        by : (b : Bool) → list_all (λ (x : ℤ × RowName). row_name_in s x.1) (kept ns ms) ≡ true → list_all (λ (x : ℤ × RowName). row_name_in s x.1) (cond b (kept ns ms) ((m, n) ∷ kept ns ms)) ≡ true
-        by true ih = ih
-        by false ih = both (row_name_in s n) (list_all (λ (x : ℤ × RowName). row_name_in s x.1) (kept ns ms)) (and_left (row_name_in s n) (list_all (row_name_in s) ns) h) ih
-
-    leasts_in : (left : Term → ℤ) (ts : List Term) → list_all term_in ts ≡ true → list_all (λ (x : ℤ × RowName). row_name_in s x.1) (leasts left ts) ≡ true
-    leasts_in left [] h = refl
-    leasts_in left (t ∷ ts) h = by (int_lt (left (canonical t)) (pos 0)) (leasts_in left ts (and_right (term_in t) (list_all term_in ts) h))
-      where
-        by : (b : Bool) → list_all (λ (x : ℤ × RowName). row_name_in s x.1) (leasts left ts) ≡ true
-            → list_all (λ (x : ℤ × RowName). row_name_in s x.1) (cond b ((neg_ℤ (left (canonical t)), Least t) ∷ leasts left ts) (leasts left ts)) ≡ true
-        by true ih = both (term_in t) (list_all (λ (x : ℤ × RowName). row_name_in s x.1) (leasts left ts)) (and_left (term_in t) (list_all term_in ts) h) ih
-        by false ih = ih
-
-    sum_scoped : (ns : List RowName) (gs : List GivenRow) (ms ws : List ℤ) (ts : List Term) → list_all (row_name_in s) ns ≡ true → list_all term_in ts ≡ true → sum_in s (sum_of ns gs ms ws ts) ≡ true
-    sum_scoped ns gs ms ws ts h k =
-        list_all-append (λ (x : ℤ × RowName). row_name_in s x.1) (kept ns ms) (leasts (total (weighed gs ws)) ts)
-        ∙ both (list_all (λ (x : ℤ × RowName). row_name_in s x.1) (kept ns ms)) (list_all (λ (x : ℤ × RowName). row_name_in s x.1) (leasts (total (weighed gs ws)) ts)) (kept_in ns ms h) (leasts_in (total (weighed gs ws)) ts k)
-
-    set_in : (ns : List RowName) (k : ℕ) (n : RowName) → row_name_in s n ≡ true → list_all (row_name_in s) ns ≡ true → list_all (row_name_in s) (set ns k n) ≡ true
-    set_in [] zero n e h = refl
-    set_in [] (suc k) n e h = refl
-    set_in (m ∷ ms) zero n e h = both (row_name_in s n) (list_all (row_name_in s) ms) e (and_right (row_name_in s m) (list_all (row_name_in s) ms) h)
-    set_in (m ∷ ms) (suc k) n e h = both (row_name_in s m) (list_all (row_name_in s) (set ms k n)) (and_left (row_name_in s m) (list_all (row_name_in s) ms) h) (set_in ms k n e (and_right (row_name_in s m) (list_all (row_name_in s) ms) h))
-
-    get_in : (ns : List RowName) (k : ℕ) → list_all (row_name_in s) ns ≡ true → row_name_in s (get_or ns k Goal) ≡ true
-    get_in [] zero h = refl
-    get_in [] (suc k) h = refl
-    get_in (m ∷ ms) zero h = and_left (row_name_in s m) (list_all (row_name_in s) ms) h
-    get_in (m ∷ ms) (suc k) h = get_in ms k (and_right (row_name_in s m) (list_all (row_name_in s) ms) h)
-
-    sums_scoped : (ns : List RowName) (gs : List GivenRow) (ts : List Term) (a : Absurdity) → list_all (row_name_in s) ns ≡ true → list_all term_in ts ≡ true → sums_in s (sums_of ns gs ts a) ≡ true
-    sums_scoped ns gs ts (One ms) h k = sum_scoped ns gs ms.items ms.items ts h k
-    sums_scoped ns gs ts (Two row above below) h k =
-        both (row_name_in s (get_or ns row Goal))
-        (sum_in s (sum_of (set ns row Above) gs above.items above.items ts) && sum_in s (sum_of (set ns row Below) gs below.items (turned below.items row) ts))
-        (get_in ns row h)
-        (both (sum_in s (sum_of (set ns row Above) gs above.items above.items ts)) (sum_in s (sum_of (set ns row Below) gs below.items (turned below.items row) ts))
-        (sum_scoped (set ns row Above) gs above.items above.items ts (set_in ns row Above refl h) k)
-        (sum_scoped (set ns row Below) gs below.items (turned below.items row) ts (set_in ns row Below refl h) k))
+    sums_scoped : (x : Sums) → sums_in s x ≡ each_of (row_name_in s) x
+    sums_scoped (OneSum sum) = refl
+    sums_scoped (TwoSums differs above below) = refl
 
     all_terms : (ts : List Term) → ((t : Term) → is_among ts t ≡ true → term_in t ≡ true) → list_all term_in ts ≡ true
     all_terms [] h = refl
@@ -196,8 +148,9 @@ module _ (s : Scope) where
         → sums_in s (sums_of names gs (listed (terms_of_kind which facts wanted) (Right ∷ [])) a) ≡ true
     in_scope which ns order names gs a e =
         (let written = terms_of_system which facts wanted in
-        sums_scoped names gs (listed (terms_of_kind which facts wanted) (Right ∷ [])) a
-        (ap (list_all (row_name_in s)) e ∙ each_name ns (order.each InScope (names_each which)))
+        sums_scoped (sums_of names gs (listed (terms_of_kind which facts wanted) (Right ∷ [])) a)
+        ∙ sums_have (row_name_in s) names gs (listed (terms_of_kind which facts wanted) (Right ∷ [])) a (record { goal = refl; above = refl; below = refl })
+        (ap (list_all (row_name_in s)) e ∙ each_name (row_name_in s) ns (order.each InScope (names_each which)))
         (ap (list_all term_in) (with_right written)
         ∙ all_terms (first_terms [] (written ++ Right ∷ [])) (λ t k. elim (among_either written (Right ∷ []) t (first_among [] (written ++ Right ∷ []) t k)) [
           | inl m ↦ step_term t (system_among which facts wanted t m)

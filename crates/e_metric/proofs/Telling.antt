@@ -32,11 +32,13 @@ use Rattle.e_metric.specs.Agree.{AreRows, AllLimited}
 use Rattle.e_metric.specs.Listed.{listed, terms_of_kind}
 use Rattle.e_metric.specs.Certificate.{sums_of}
 use Rattle.e_metric.specs.Told.{IsCertified, IsTooWide}
+use Rattle.e_metric.specs.Written.{is_good_sums}
 use Rattle.e_metric.proofs.Alike.{satisfy_alike, wide_alike, width_alike}
 use Rattle.e_metric.proofs.Bounds.{system_length}
 use Rattle.e_metric.proofs.Certifying.{names_are, rows_alike, length_rows, length_map, certified}
 use Rattle.e_metric.proofs.Reordered.{AreReordered}
 use Rattle.e_metric.proofs.Scoped.{in_scope}
+use Rattle.e_metric.proofs.Written.{written_well}
 
 abbrev row_of : NamedRow → Row
 row_of n = n.row
@@ -118,6 +120,7 @@ module _ (which : Kind) (facts : List Lit) (wanted : Option Lit) where
         record {
           refutes = ap (sums_refute facts wanted) sums_are ∙ certified which facts wanted ns order ps are together a (subst (λ rs. IsAbsurdity (all_seen rs) a) rows_are h);
           scoped = λ s k g. ap (sums_in s) sums_are ∙ in_scope s facts wanted k g which ns order (names_given ps) (rows_given ps) a (names_are ns ps are);
+          written = ap is_good_sums sums_are ∙ written_well which facts wanted ns order (names_given ps) (rows_given ps) (listed (terms_of_kind which facts wanted) (Right ∷ [])) a (names_are ns ps are) good;
         })
 
   -- the width of the rows in their order

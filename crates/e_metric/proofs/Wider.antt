@@ -129,4 +129,4 @@ module _ (facts : List Lit) (wanted : Option Lit) where
           (sum_wider None (Some (below_row r)) second (and_right (refutes above_alone first) (refutes below_alone second) k)))
 
   pub certified_wider : (m : MetricCert) → IsCertified facts None m → IsCertified facts wanted m
-  certified_wider m h = record { refutes = sums_wider m.sums h.refutes; scoped = λ s k g. h.scoped s k refl }
+  certified_wider m h = record { refutes = sums_wider m.sums h.refutes; scoped = λ s k g. h.scoped s k refl; written = h.written }

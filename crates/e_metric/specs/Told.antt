@@ -13,6 +13,7 @@ use Rattle.e_clause.specs.MetricCertificate.{sums_refute, sums_in}
 use Rattle.e_clause.specs.Wide.{HasWidth}
 use Rattle.e_clause.specs.Counterexample.{ListsCounterexample}
 use Rattle.e_simplex.specs.Answer.{assigned}
+use Rattle.e_metric.specs.Written.{is_good_sums}
 use Rattle.e_metric.specs.declared.consequence.Metric.{Metric}
 use Rattle.e_metric.specs.declared.consequence.Metric.TheVariants.{Yes, No, TooWide}
 
@@ -21,10 +22,11 @@ abbrev pub wanted_in : Scope → Option Lit → Bool
 wanted_in s (Some l) = all_in_scope s l
 wanted_in s None = true
 
--- the sums refute, and they name no object but those of the facts and of the wanted literal
+-- the sums refute; they name no object but those of the facts and of the wanted literal, and no literal that is not well formed
 pub record IsCertified (facts : List Lit) (wanted : Option Lit) (m : MetricCert) : Type 0 where
   pub refutes : IsTrue (sums_refute facts wanted m.sums)
   pub scoped : (s : Scope) → IsTrue (list_all (all_in_scope s) facts) → IsTrue (wanted_in s wanted) → IsTrue (sums_in s m.sums)
+  pub written : IsTrue (is_good_sums m.sums)
 
 -- w is the width of one of the metric systems, which is wide
 pub record IsTooWide (facts : List Lit) (wanted : Option Lit) (w : ℕ) : Type 0 where

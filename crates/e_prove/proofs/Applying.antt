@@ -1,6 +1,7 @@
 -- What an application is judged as.
 use Rattle.std.proofs.Common.{◌≡◌, ℕ, ◌+◌, ◌<◌, ◌≤◌, ◌^◌, List, [], ◌∷◌, length, refl, sym, ap, ap₂, ◌∙◌, subst, Bool, true, false, ◌&&◌, true≢false, ltb, Option, Some, None, arith}
 use Rattle.std.specs.Prelude.{IsTrue, IsFalse, IfOk, MatchBool, MatchOption, Result, Ok, Err, nat_le, unwrap_or}
+use Rattle.std.specs.List.{list_all}
 use Rattle.std.proofs.lemmas.Bool.Decides.{nat_tests}
 use Rattle.e_literal.specs.declared.object.Sort.{Sort}
 use Rattle.e_literal.specs.declared.object.Obj.{Obj}
@@ -26,6 +27,7 @@ use Rattle.e_deriv.specs.Naming.{names_lines}
 use Rattle.e_deriv.specs.Fitting.{all_objects, is_small, is_small_statement}
 use Rattle.e_deriv.proofs.Choices.{same_obj_self, written_again, no_blank_again, fills_again, least_of_good}
 use Rattle.e_deriv.proofs.Stops.{none_not_allowed}
+use Rattle.e_metric.specs.Written.{is_good_cert}
 use Rattle.e_licence.specs.Contexts.{Basis}
 use Rattle.e_prove.specs.declared.application.Use.{Use}
 use Rattle.e_prove.specs.declared.halt.Halt.{Halt}
@@ -35,6 +37,7 @@ use Rattle.e_prove.specs.Contexts.{after_apply}
 use Rattle.e_prove.specs.Halts.{HaltsIn, HaltsFilling, HaltsApplying, as_match}
 use Rattle.e_prove.specs.Judging.{IsJudged, StepHalts}
 use Rattle.e_prove.specs.Applying.{CanApply, IsUse}
+use Rattle.e_prove.specs.Written.{has_good_certs}
 use Rattle.e_prove.proofs.Licensing.{and_both, and_left, and_right}
 use Rattle.e_prove.proofs.Keeping.{stay_all}
 
@@ -106,8 +109,8 @@ choice_fits t s pattern args h = and_right (fills pattern args) (are_arguments t
 
 -- what is used at the written arguments is used as the least good choice
 pub use_written : (t : Stated) (pattern : List (Option Obj)) (x : Basis) (u : Use) (args : List Obj) → has_no_blank pattern ≡ true → is_pattern t x.scope pattern ≡ true → args ≡ written pattern → u.args ≡ args →
-    certify_all x.scope x.facts (needs_of_use t args x.scope) u.certs.items ≡ true → u.gives ≡ gives_of_use t args x.scope → IsUse t pattern x u
-use_written t pattern x u args n h is same c g =
+    certify_all x.scope x.facts (needs_of_use t args x.scope) u.certs.items ≡ true → list_all is_good_cert u.certs.items ≡ true → u.gives ≡ gives_of_use t args x.scope → IsUse t pattern x u
+use_written t pattern x u args n h is same c good g =
     let here : u.args ≡ written pattern = same ∙ is in
     let certs : certify_all x.scope x.facts (needs_of_use t u.args x.scope) u.certs.items ≡ true = subst (λ os. certify_all x.scope x.facts (needs_of_use t os x.scope) u.certs.items ≡ true) (sym same) c in
     record {
@@ -117,32 +120,35 @@ use_written t pattern x u args n h is same c g =
             allowed = all_allowed_of_certified x.scope x.facts (needs_of_use t u.args x.scope) u.certs.items certs;
           });
       certified = certs;
+      written = good;
       gives = g ∙ ap (λ os. gives_of_use t os x.scope) (sym same);
     }
 
 -- and so are the least good ones
 pub use_least : (t : Stated) (pattern : List (Option Obj)) (x : Basis) (u : Use) (args : List Obj) → IsLeast t x.scope x.facts pattern args → u.args ≡ args →
-    certify_all x.scope x.facts (needs_of_use t args x.scope) u.certs.items ≡ true → u.gives ≡ gives_of_use t args x.scope → IsUse t pattern x u
-use_least t pattern x u args least same c g =
+    certify_all x.scope x.facts (needs_of_use t args x.scope) u.certs.items ≡ true → list_all is_good_cert u.certs.items ≡ true → u.gives ≡ gives_of_use t args x.scope → IsUse t pattern x u
+use_least t pattern x u args least same c good g =
     record {
       least = subst (IsLeast t x.scope x.facts pattern) (sym same) least;
       certified = subst (λ os. certify_all x.scope x.facts (needs_of_use t os x.scope) u.certs.items ≡ true) (sym same) c;
+      written = good;
       gives = g ∙ ap (λ os. gives_of_use t os x.scope) (sym same);
     }
 
 -- ---- a step
 
--- the entries are the least good choice, none of them a blank
+-- the entries are the least good choice, none of them a blank; the certificates name literals that are well formed
 record Filled (t : Stated) (pattern entries : List (Option Obj)) (x : Basis) (certs : List Cert) : Type 0 where
   least : IsLeast t x.scope x.facts pattern (written entries)
   certified : certify_all x.scope x.facts (needs_of_use t (written entries) x.scope) certs ≡ true
+  good_certs : list_all is_good_cert certs ≡ true
   no_blank : has_no_blank entries ≡ true
   fill : fills entries (written entries) ≡ true
   again : filled_in (written entries) ≡ entries
 
 judged_by_choice : (before : List Stated) (theorem : ℕ) (pattern entries : List (Option Obj)) (names : List (List ℕ)) (old certs : List Cert) (x : Standing) → Filled (theorem_at before theorem) pattern entries x.context certs →
     IsJudged before (ApplyStep theorem pattern names old) x (ApplyStep theorem entries names certs) (after_apply (theorem_at before theorem) (written entries) names x)
-unfolding lines erased filled_by names_lines step_script
+unfolding lines erased filled_by names_lines step_script has_good_certs
 judged_by_choice before theorem pattern entries names old certs x h =
     let t = theorem_at before theorem in
     let s = x.context.scope in
@@ -161,6 +167,7 @@ judged_by_choice before theorem pattern entries names old certs x h =
           (and_both (fills entries args) (are_arguments t s args) h.fill (choice_fits t s pattern args h.least.good.is_choice)))
           (and_both _ _ h.certified h.no_blank);
       erased = λ rest more e. ap₂ (λ es w. Apply theorem es names [] w) (sym h.again) e;
+      written = λ more k. and_both _ _ h.good_certs k;
       next = λ rest more goal. refl;
       derived_next = λ more goal. refl;
       named = λ rest. refl;
@@ -173,6 +180,7 @@ filled_of_use t pattern x u h =
     record {
       least = subst (IsLeast t x.scope x.facts pattern) (sym same) h.least;
       certified = subst (λ os. certify_all x.scope x.facts (needs_of_use t os x.scope) u.certs.items ≡ true) (sym same) h.certified;
+      good_certs = h.written;
       no_blank = no_blank_again u.args;
       fill = subst (λ os. fills (filled_in u.args) os ≡ true) (sym same) (fills_again u.args);
       again = ap filled_in same;
@@ -255,9 +263,10 @@ match_halts_so t x pattern args h k least halts is = subst (HaltsFilling t x pat
 -- ---- what the code says
 
 pub used_is_written : (t : Stated) (pattern : List (Option Obj)) (x : Basis) (args : List Obj) (r : Result Use Halt) → has_no_blank pattern ≡ true → is_pattern t x.scope pattern ≡ true → args ≡ written pattern →
-    IfOk r (λ u. u.args ≡ args) → IfOk r (λ u. certify_all x.scope x.facts (needs_of_use t args x.scope) u.certs.items ≡ true) → IfOk r (λ u. u.gives ≡ gives_of_use t args x.scope) → IfOk r (IsUse t pattern x)
-used_is_written t pattern x args (Err h) n f is a b c = tt
-used_is_written t pattern x args (Ok u) n f is a b c = use_written t pattern x u args n f is a b c
+    IfOk r (λ u. u.args ≡ args) → IfOk r (λ u. certify_all x.scope x.facts (needs_of_use t args x.scope) u.certs.items ≡ true) → IfOk r (λ u. list_all is_good_cert u.certs.items ≡ true) →
+    IfOk r (λ u. u.gives ≡ gives_of_use t args x.scope) → IfOk r (IsUse t pattern x)
+used_is_written t pattern x args (Err h) n f is a b g c = tt
+used_is_written t pattern x args (Ok u) n f is a b g c = use_written t pattern x u args n f is a b g c
 
 -- each statement that can be applied has few objects, and so has the scope
 pub record RoomFor (t : Stated) (s : Scope) : Type 0 where

@@ -1,6 +1,7 @@
 -- What a qed is judged as.
 use Rattle.std.proofs.Common.{◌≡◌, ℕ, Option, Some, List, [], ◌∷◌, refl, sym, ap, ◌∙◌, subst, true, true≢false, ◌&&◌}
 use Rattle.std.specs.Prelude.{IsTrue, map}
+use Rattle.std.specs.List.{list_all}
 use Rattle.e_literal.specs.declared.object.Sort.{Sort}
 use Rattle.e_literal.specs.declared.object.Sort.TheVariants.{Point, Line, Circle}
 use Rattle.e_literal.specs.declared.object.Obj.{Obj}
@@ -11,12 +12,13 @@ use Rattle.e_literal.specs.Scopes.{same_sort, are_of_sorts}
 use Rattle.e_literal.specs.Use.{Stated}
 use Rattle.e_clause.specs.declared.cert.Cert.{Cert}
 use Rattle.e_clause.specs.declared.cert.Against.{Against}
-use Rattle.e_clause.specs.Certify.{certify_all, certifies_against}
+use Rattle.e_clause.specs.Certify.{certify_all}
 use Rattle.e_clause.specs.Judged.{are_good}
 use Rattle.e_clause.proofs.Sound.{all_allowed_of_certified, contradictory_of_certified}
 use Rattle.e_clause.specs.Wide.{IsTooWideContradiction}
 use Rattle.e_literal.specs.declared.object.Term.{Term}
-use Rattle.e_licence.specs.Licences.{IsConsistentBy}
+use Rattle.e_metric.specs.Written.{is_good_cert}
+use Rattle.e_licence.specs.Licences.{IsCertifiedAgainst, IsConsistentBy}
 use Rattle.e_deriv.specs.declared.block.Close.TheVariants.{Qed as QedClose, Contradiction as ContradictionClose}
 use Rattle.e_deriv.specs.declared.stop.Wanted.TheVariants.{Literal, Match, Contradiction as AContradiction}
 use Rattle.e_deriv.specs.Script.{Qed, close_script, erased}
@@ -30,6 +32,7 @@ use Rattle.e_prove.specs.declared.halt.Halt.{Halt}
 use Rattle.e_prove.specs.declared.halt.Halt.TheVariants as halt
 use Rattle.e_prove.specs.Halts.{HaltsIn}
 use Rattle.e_prove.specs.Judging.{IsClosed, CloseHalts}
+use Rattle.e_prove.specs.Written.{has_good_certs}
 use Rattle.e_prove.proofs.Licensing.{and_both, and_left, and_right}
 
 same_sorts : (a b : Sort) → same_sort a b ≡ true → a ≡ b
@@ -71,21 +74,22 @@ unfolding close_script
 qed_fits before objects certs x goal r = qed_lines before objects certs x goal r
 
 closed_by : (before : List Stated) (objects : List Obj) (written certs : List Cert) (x : Basis) (goal : Goal) → are_for goal x.scope objects ≡ true →
-    IsTrue (certify_all x.scope x.facts (goal_with goal objects) certs) → IsClosed before (QedClose objects written) x goal (QedClose objects certs)
-unfolding lines erased filled_by close_script
-closed_by before objects written certs x goal form h =
+    IsTrue (certify_all x.scope x.facts (goal_with goal objects) certs) → IsTrue (list_all is_good_cert certs) → IsClosed before (QedClose objects written) x goal (QedClose objects certs)
+unfolding lines erased filled_by close_script has_good_certs
+closed_by before objects written certs x goal form h g =
     record {
       licensed = (record { fits = form; allowed = all_allowed_of_certified x.scope x.facts (goal_with goal objects) certs h; beside = tt }, tt);
       certified = and_both _ _ (and_both _ _ form (and_both _ _ h refl)) refl;
       erased = refl;
+      written = g;
     }
 
 -- a qed of which each literal has its certificate
 pub closed_qed : (before : List Stated) (objects kept : List Obj) (written certs given : List Cert) (wanted : List Lit) (x : Basis) (goal : Goal) →
     kept ≡ objects → given ≡ certs → wanted ≡ goal_with goal objects → are_for goal x.scope objects ≡ true → IsTrue (certify_all x.scope x.facts wanted certs) →
-    IsClosed before (QedClose objects written) x goal (QedClose kept given)
-closed_qed before objects kept written certs given wanted x goal same these all form h =
-    rw (same, these) (closed_by before objects written certs x goal form (subst (λ ls. certify_all x.scope x.facts ls certs ≡ true) all h))
+    IsTrue (list_all is_good_cert certs) → IsClosed before (QedClose objects written) x goal (QedClose kept given)
+closed_qed before objects kept written certs given wanted x goal same these all form h g =
+    rw (same, these) (closed_by before objects written certs x goal form (subst (λ ls. certify_all x.scope x.facts ls certs ≡ true) all h) g)
 
 -- what halts at the literals of the goal
 qed_halts_at : (before : List Stated) (objects : List Obj) (written : List Cert) (x : Basis) (goal : Goal) (h : Halt) → HaltsIn x (goal_with goal objects) h →
@@ -104,17 +108,18 @@ pub qed_halts : (before : List Stated) (objects : List Obj) (written : List Cert
 qed_halts before objects written wanted x goal h all k = qed_halts_at before objects written x goal h (subst (λ ls. HaltsIn x ls h) all k)
 
 -- a contradiction with its certificate
-closed_by_against : (before : List Stated) (written : Option Against) (a : Against) (x : Basis) (goal : Goal) → IsTrue (certifies_against x.scope x.facts a) →
+closed_by_against : (before : List Stated) (written : Option Against) (a : Against) (x : Basis) (goal : Goal) → IsCertifiedAgainst x a →
     IsClosed before (ContradictionClose written) x goal (ContradictionClose (Some a))
-unfolding lines erased filled_by close_script
+unfolding lines erased filled_by close_script has_good_certs
 closed_by_against before written a x goal h =
     record {
-      licensed = (record { fits = refl; allowed = tt; beside = contradictory_of_certified x.scope x.facts a h }, tt);
-      certified = and_both _ _ h refl;
+      licensed = (record { fits = refl; allowed = tt; beside = contradictory_of_certified x.scope x.facts a h.certifies }, tt);
+      certified = and_both _ _ h.certifies refl;
       erased = refl;
+      written = h.written;
     }
 
-pub closed_contradiction : (before : List Stated) (written given : Option Against) (a : Against) (x : Basis) (goal : Goal) → given ≡ Some a → IsTrue (certifies_against x.scope x.facts a) →
+pub closed_contradiction : (before : List Stated) (written given : Option Against) (a : Against) (x : Basis) (goal : Goal) → given ≡ Some a → IsCertifiedAgainst x a →
     IsClosed before (ContradictionClose written) x goal (ContradictionClose given)
 closed_contradiction before written given a x goal same h = rw same (closed_by_against before written a x goal h)
 

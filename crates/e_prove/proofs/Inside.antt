@@ -11,6 +11,7 @@ use Rattle.e_clause.specs.declared.cert.Cert.{Cert}
 use Rattle.e_clause.specs.Certify.{certify_all}
 use Rattle.e_clause.specs.Judged.{are_good}
 use Rattle.e_clause.proofs.Sound.{all_allowed_of_certified}
+use Rattle.e_metric.specs.Written.{is_good_cert}
 use Rattle.e_construct.specs.declared.superpose.Superpose.{Superpose}
 use Rattle.e_construct.specs.Superposing as superposing
 use Rattle.e_deriv.specs.declared.stop.Stop.{Stop}
@@ -33,6 +34,7 @@ use Rattle.e_prove.specs.Contexts.{after_literal, after_superposed, after_block}
 use Rattle.e_prove.specs.Halts.{HaltsAt, HaltsIn}
 use Rattle.e_prove.specs.Judging.{line_at, has_form}
 use Rattle.e_prove.specs.Passing.{IsReadyFor, IsDerived, StopIn, StopsWithin, IsPassed}
+use Rattle.e_prove.specs.Written.{has_good_certs}
 use Rattle.e_prove.proofs.Licensing.{and_both, and_left, and_right}
 use Rattle.e_prove.proofs.Halting.{stop_behind, stop_left, stop_right, names_length, all_left, all_right, all_both, lits_first, lits_second}
 use Rattle.e_prove.proofs.Keeping.{stay_all}
@@ -86,7 +88,7 @@ claim_rest before shown inner derived rest x goal d r =
 
 claim_derives : (before : List Stated) (shown : List Lit) (inner derived rest more : Script) (x : Standing) (goal : Goal) → are_over x.context.scope shown ≡ true → IsDerived before inner x (goal_of shown) derived →
     IsDerived before rest (after_block shown x) goal more → IsDerived before (Claim shown inner rest) x goal (Claim shown derived more)
-unfolding lines erased filled_by
+unfolding lines erased filled_by has_good_certs
 claim_derives before shown inner derived rest more x goal over d m =
     let s = x.context.scope in
     let facts = x.context.facts in
@@ -99,6 +101,7 @@ claim_derives before shown inner derived rest more x goal over d m =
           and_both _ _ (and_both _ _ over refl)
           (all_both (is_certified before) (lines before derived derived s facts (goal_of shown)) (lines before more more s (joined_all facts shown) goal) d.certified m.certified);
       erased = ap₂ (Claim shown) d.erased m.erased;
+      written = and_both _ _ d.written m.written;
     }
 
 -- a stop in its block
@@ -223,20 +226,20 @@ superposed_rest before form names shown certs inner derived rest x goal d r =
       statements = r.statements;
     }
 
--- it is certified where its needs are
+-- it is certified where its needs are, by certificates that name literals that are well formed
 abbrev pub Certifies : Superpose → Standing → List Cert → Type 0
-Certifies form x certs = IsTrue (certify_all x.context.scope x.context.facts (superposing.needs form) certs)
+Certifies form x certs = IsTrue (certify_all x.context.scope x.context.facts (superposing.needs form) certs) × IsTrue (list_all is_good_cert certs)
 
 superposed_licensed : (before : List Stated) (form : Superpose) (names : List (List ℕ)) (shown : List Lit) (written certs : List Cert) (inner rest f : Script) (x : Standing) (goal : Goal) →
     superposing.fits form x.context.scope ≡ true → are_over x.context.scope shown ≡ true → Certifies form x certs →
     Licensed before (line_at (Superposed form names shown written inner rest) f x.context goal)
 superposed_licensed before form names shown written certs inner rest f x goal fit over c =
-    record { fits = and_both _ _ fit over; allowed = all_allowed_of_certified x.context.scope x.context.facts (superposing.needs form) certs c; beside = tt }
+    record { fits = and_both _ _ fit over; allowed = all_allowed_of_certified x.context.scope x.context.facts (superposing.needs form) certs c.0; beside = tt }
 
 superposed_derives : (before : List Stated) (form : Superpose) (names : List (List ℕ)) (shown : List Lit) (written certs : List Cert) (inner derived rest more : Script) (x : Standing) (goal : Goal) →
     superposing.fits form x.context.scope ≡ true → are_over x.context.scope shown ≡ true → Certifies form x certs → IsDerived before inner (after_superposed form names x) (goal_of shown) derived →
     IsDerived before rest (after_block shown x) goal more → IsDerived before (Superposed form names shown written inner rest) x goal (Superposed form names shown certs derived more)
-unfolding lines erased filled_by
+unfolding lines erased filled_by has_good_certs
 superposed_derives before form names shown written certs inner derived rest more x goal fit over c d m =
     let s = x.context.scope in
     let facts = x.context.facts in
@@ -248,9 +251,10 @@ superposed_derives before form names shown written certs inner derived rest more
         both_licensed before (lines before inner derived t given (goal_of shown)) (lines before rest more s (joined_all facts shown) goal) d.licensed m.licensed,
       );
       certified =
-          and_both _ _ (and_both _ _ (and_both _ _ fit over) (and_both _ _ c refl))
+          and_both _ _ (and_both _ _ (and_both _ _ fit over) (and_both _ _ c.0 refl))
           (all_both (is_certified before) (lines before derived derived t given (goal_of shown)) (lines before more more s (joined_all facts shown) goal) d.certified m.certified);
       erased = ap₂ (Superposed form names shown []) d.erased m.erased;
+      written = and_both _ _ c.1 (and_both _ _ d.written m.written);
     }
 
 -- a stop in its block
@@ -371,7 +375,7 @@ split_other before lit first second derived x goal d r =
 
 pub split_derives : (before : List Stated) (lit : Lit) (first second one other : Script) (x : Standing) (goal : Goal) → all_in_scope x.context.scope lit ≡ true → IsDerived before first (after_literal lit x) goal one →
     IsDerived before second (after_literal (negation lit) x) goal other → IsDerived before (Cases lit first second) x goal (Cases lit one other)
-unfolding lines erased filled_by
+unfolding lines erased filled_by has_good_certs
 split_derives before lit first second one other x goal over d e =
     let s = x.context.scope in
     let facts = x.context.facts in
@@ -384,6 +388,7 @@ split_derives before lit first second one other x goal over d e =
           and_both _ _ (and_both _ _ over refl)
           (all_both (is_certified before) (lines before one one s (joined facts lit) goal) (lines before other other s (joined facts (negation lit)) goal) d.certified e.certified);
       erased = ap₂ (Cases lit) d.erased e.erased;
+      written = and_both _ _ d.written e.written;
     }
 
 -- a stop in the first block

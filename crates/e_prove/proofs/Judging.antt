@@ -1,6 +1,7 @@
 -- What a step is judged as.
 use Rattle.std.proofs.Common.{◌≡◌, ℕ, List, [], ◌∷◌, refl, ap, subst, true, false, Option, Some, None}
 use Rattle.std.specs.Prelude.{IsTrue}
+use Rattle.std.specs.List.{list_all}
 use Rattle.e_literal.specs.declared.object.Term.{Term}
 use Rattle.e_literal.specs.declared.literal.Lit.{Lit}
 use Rattle.e_literal.specs.Use.{Stated}
@@ -18,24 +19,27 @@ use Rattle.e_deriv.specs.Parts.{filled_by}
 use Rattle.e_deriv.specs.Lines.{lines}
 use Rattle.e_deriv.specs.Steps.{is_cited}
 use Rattle.e_deriv.specs.Naming.{names_lines}
+use Rattle.e_metric.specs.Written.{is_good_cert}
 use Rattle.e_prove.specs.declared.halt.Halt.{Halt}
 use Rattle.e_prove.specs.declared.halt.Halt.TheVariants as halt
 use Rattle.e_prove.specs.declared.standing.Standing.{Standing}
 use Rattle.e_prove.specs.Contexts.{after_literal, after_make}
 use Rattle.e_prove.specs.Halts.{HaltsIn}
 use Rattle.e_prove.specs.Judging.{IsJudged, StepHalts}
+use Rattle.e_prove.specs.Written.{has_good_certs}
 use Rattle.e_prove.proofs.Licensing.{and_both}
 use Rattle.e_prove.proofs.Keeping.{stay_joined, stay_all}
 
 -- ---- a citation
 
 judged_by : (before : List Stated) (by : By) (x : Standing) → is_cited x.context.facts by ≡ true → IsJudged before (CiteStep by) x (CiteStep by) (after_literal by.lit x)
-unfolding lines erased filled_by names_lines step_script
+unfolding lines erased filled_by names_lines step_script has_good_certs
 judged_by before by x h =
     record {
       licensed = λ rest more goal form. record { fits = form; allowed = tt; beside = h };
       certified = λ rest more goal form. and_both _ _ form h;
       erased = λ rest more e. ap (Cite by) e;
+      written = λ more k. k;
       next = λ rest more goal. refl;
       derived_next = λ more goal. refl;
       named = λ rest. refl;
@@ -54,14 +58,15 @@ cite_halts before by x w values h e none rest filled goal = rw (e, none) ((h, re
 
 -- ---- a hence
 
-judged_by_cert : (before : List Stated) (lit : Lit) (written : Option Cert) (cert : Cert) (x : Standing) → IsTrue (certifies x.context.scope x.context.facts lit cert) →
+judged_by_cert : (before : List Stated) (lit : Lit) (written : Option Cert) (cert : Cert) (x : Standing) → IsTrue (certifies x.context.scope x.context.facts lit cert) → IsTrue (is_good_cert cert) →
     IsJudged before (HenceStep lit written) x (HenceStep lit (Some cert)) (after_literal lit x)
-unfolding lines erased filled_by names_lines step_script
-judged_by_cert before lit written cert x h =
+unfolding lines erased filled_by names_lines step_script has_good_certs
+judged_by_cert before lit written cert x h g =
     record {
       licensed = λ rest more goal form. record { fits = form; allowed = (allowed_of_certified x.context.scope x.context.facts lit cert h, tt); beside = tt };
       certified = λ rest more goal form. and_both _ _ form (and_both _ _ (and_both _ _ h refl) refl);
       erased = λ rest more e. ap (Hence lit None) e;
+      written = λ more k. and_both _ _ g k;
       next = λ rest more goal. refl;
       derived_next = λ more goal. refl;
       named = λ rest. refl;
@@ -69,9 +74,9 @@ judged_by_cert before lit written cert x h =
     }
 
 pub judged_hence : (before : List Stated) (lit derived : Lit) (written : Option Cert) (cert : Cert) (x after : Standing) → derived ≡ lit →
-    IsTrue (certifies x.context.scope x.context.facts lit cert) → after ≡ after_literal lit x →
+    IsTrue (certifies x.context.scope x.context.facts lit cert) → IsTrue (is_good_cert cert) → after ≡ after_literal lit x →
     IsJudged before (HenceStep lit written) x (HenceStep derived (Some cert)) after
-judged_hence before lit derived written cert x after same h gives = rw (same, gives) (judged_by_cert before lit written cert x h)
+judged_hence before lit derived written cert x after same h g gives = rw (same, gives) (judged_by_cert before lit written cert x h g)
 
 -- what halts at its literal
 pub hence_halts : (before : List Stated) (lit : Lit) (written : Option Cert) (x : Standing) (h : Halt) → HaltsIn x.context (lit ∷ []) h → StepHalts before (HenceStep lit written) x h
@@ -87,13 +92,14 @@ hence_halts before lit written x halt.NoMemory k rest filled goal = tt
 -- ---- a construction
 
 judged_by_certs : (before : List Stated) (form : Construction) (names : List (List ℕ)) (written certs : List Cert) (x : Standing) → IsTrue (certify_all x.context.scope x.context.facts (needs form) certs) →
-    IsJudged before (MakeStep form names written) x (MakeStep form names certs) (after_make form names x)
-unfolding lines erased filled_by names_lines step_script
-judged_by_certs before form names written certs x h =
+    IsTrue (list_all is_good_cert certs) → IsJudged before (MakeStep form names written) x (MakeStep form names certs) (after_make form names x)
+unfolding lines erased filled_by names_lines step_script has_good_certs
+judged_by_certs before form names written certs x h g =
     record {
       licensed = λ rest more goal fit. record { fits = fit; allowed = all_allowed_of_certified x.context.scope x.context.facts (needs form) certs h; beside = tt };
       certified = λ rest more goal fit. and_both _ _ fit (and_both _ _ h refl);
       erased = λ rest more e. ap (Make form names []) e;
+      written = λ more k. and_both _ _ g k;
       next = λ rest more goal. refl;
       derived_next = λ more goal. refl;
       named = λ rest. refl;
@@ -101,10 +107,10 @@ judged_by_certs before form names written certs x h =
     }
 
 pub judged_make : (before : List Stated) (form derived : Construction) (names kept : List (List ℕ)) (written certs given : List Cert) (needed : List Lit) (x after : Standing) →
-    derived ≡ form → kept ≡ names → given ≡ certs → needed ≡ needs form → IsTrue (certify_all x.context.scope x.context.facts needed certs) → after ≡ after_make form names x →
+    derived ≡ form → kept ≡ names → given ≡ certs → needed ≡ needs form → IsTrue (certify_all x.context.scope x.context.facts needed certs) → IsTrue (list_all is_good_cert certs) → after ≡ after_make form names x →
     IsJudged before (MakeStep form names written) x (MakeStep derived kept given) after
-judged_make before form derived names kept written certs given needed x after same these those all h gives =
-    rw (same, these, those, gives) (judged_by_certs before form names written certs x (subst (λ ls. certify_all x.context.scope x.context.facts ls certs ≡ true) all h))
+judged_make before form derived names kept written certs given needed x after same these those all h g gives =
+    rw (same, these, those, gives) (judged_by_certs before form names written certs x (subst (λ ls. certify_all x.context.scope x.context.facts ls certs ≡ true) all h) g)
 
 -- what halts at its needs
 make_halts_at : (before : List Stated) (form : Construction) (names : List (List ℕ)) (written : List Cert) (x : Standing) (h : Halt) → HaltsIn x.context (needs form) h →

@@ -107,6 +107,7 @@ passed_of_judged before step derived x after n one j =
             licensed = subst (AllLicensed before) (sym (j.next rest more goal)) (j.licensed rest more goal form, d.licensed);
             certified = more_certified before (line_at f f x.context goal) (lines_at before more more after.context goal) (lines_at before f f x.context goal) (j.derived_next more goal) (j.certified rest more goal form) d.certified;
             erased = j.erased rest more d.erased;
+            written = j.written more d.written;
           };
       stops = λ rest goal s r h.
           let e = step_script step rest in
@@ -211,7 +212,7 @@ pub told_closed : (before : List Stated) (close : Close) (x : Standing) (goal : 
 told_closed before close x goal judged (Err s) j e = tt
 told_closed before close x goal judged (Ok p) j e =
     let c = subst (λ q. IfOk q (λ d. IsClosed before close x.context goal d)) e j in
-    record { licensed = c.licensed; certified = c.certified; erased = c.erased }
+    record { licensed = c.licensed; certified = c.certified; erased = c.erased; written = c.written }
 
 pub told_close_stops : (before : List Stated) (close : Close) (x : Standing) (goal : Goal) (n : ℕ) (judged : Result Close Halt) (r : Result ProvedClose Stop) → IfErr judged (CloseHalts before close x.context goal) →
     IfErr r (ToldOf judged n x.names) → IfErr r (StopsWithin before (close_script close) x goal n)

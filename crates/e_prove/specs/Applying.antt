@@ -1,5 +1,6 @@
 -- What it is to judge an application of a statement.
 use Rattle.std.specs.Prelude.{◌≡◌, List, Option, IsTrue}
+use Rattle.std.specs.List.{list_all}
 use Rattle.e_literal.specs.declared.object.Obj.{Obj}
 use Rattle.e_literal.specs.Facts.{joined_all}
 use Rattle.e_literal.specs.Scopes.{grown}
@@ -9,6 +10,7 @@ use Rattle.e_clause.specs.Judged.{are_good, are_good_facts}
 use Rattle.e_theorem.specs.Choice.{is_choice, IsLeast}
 use Rattle.e_theorem.specs.Pattern.{is_pattern}
 use Rattle.e_deriv.specs.Fitting.{is_small, is_small_statement}
+use Rattle.e_metric.specs.Written.{is_good_cert}
 use Rattle.e_licence.specs.Contexts.{Basis}
 use Rattle.e_prove.specs.declared.application.Use.{Use}
 
@@ -25,8 +27,10 @@ pub record CanApply (t : Stated) (pattern : List (Option Obj)) (x : Basis) : Typ
   pub scope : IsTrue (is_small x.scope)
   pub lits : (args : List Obj) → IsTrue (is_choice t x.scope pattern args) → LitsFitAt t args x
 
--- the arguments are the least good choice, each given literal has its certificate there, and these are the shown ones
+-- the arguments are the least good choice, each given literal has its certificate there, which names literals that are well
+-- formed, and these are the shown ones
 pub record IsUse (t : Stated) (pattern : List (Option Obj)) (x : Basis) (u : Use) : Type 0 where
   pub least : IsLeast t x.scope x.facts pattern u.args
   pub certified : IsTrue (certify_all x.scope x.facts (needs_of_use t u.args x.scope) u.certs.items)
+  pub written : IsTrue (list_all is_good_cert u.certs.items)
   pub gives : u.gives ≡ gives_of_use t u.args x.scope

@@ -14,6 +14,7 @@ use Rattle.e_deriv.specs.Certified.{is_certified}
 use Rattle.e_deriv.specs.Fitting.{form_fits}
 use Rattle.e_licence.specs.Contexts.{Basis}
 use Rattle.e_prove.specs.declared.standing.Standing.{Standing}
+use Rattle.e_prove.specs.Written.{has_good_certs}
 use Rattle.e_prove.specs.declared.halt.Halt.{Halt}
 use Rattle.e_prove.specs.Halts.{HaltsAt}
 
@@ -30,7 +31,8 @@ abbrev pub has_form : List Stated → Line → Bool
 has_form before y = form_fits before y y.here
 
 -- where the step has its form it is licensed, with its blanks filled as in the derived one, and the derived one is certified;
--- without certificates the derived one is the step with its blanks filled; this holds after
+-- without certificates the derived one is the step with its blanks filled; its certificates name literals that are well formed;
+-- this holds after
 pub record IsJudged (before : List Stated) (step : Step) (x : Standing) (derived : Step) (after : Standing) : Type 0 where
   pub licensed : (rest more : Script) (goal : Goal) →
       IsTrue (has_form before (line_at (step_script step rest) (step_script derived more) x.context goal)) →
@@ -40,6 +42,7 @@ pub record IsJudged (before : List Stated) (step : Step) (x : Standing) (derived
       IsTrue (is_certified before (line_at (step_script derived more) (step_script derived more) x.context goal))
   pub erased : (rest more : Script) → erased more ≡ filled_by (erased rest) more →
       erased (step_script derived more) ≡ filled_by (erased (step_script step rest)) (step_script derived more)
+  pub written : (more : Script) → IsTrue (has_good_certs more) → IsTrue (has_good_certs (step_script derived more))
   pub next : (rest more : Script) (goal : Goal) →
       lines_at before (step_script step rest) (step_script derived more) x.context goal
       ≡ line_at (step_script step rest) (step_script derived more) x.context goal ∷ lines_at before rest more after.context goal
@@ -53,11 +56,13 @@ pub record IsJudged (before : List Stated) (step : Step) (x : Standing) (derived
 abbrev pub StepHalts : List Stated → Step → Standing → Halt → Type 0
 StepHalts before step x h = (rest filled : Script) (goal : Goal) → HaltsAt before (line_at (step_script step rest) filled x.context goal) h
 
--- where this holds the close is licensed, and the derived one certified; both are one without certificates
+-- where this holds the close is licensed, and the derived one certified, by certificates that name literals that are well formed;
+-- both are one without certificates
 pub record IsClosed (before : List Stated) (close : Close) (x : Basis) (goal : Goal) (derived : Close) : Type 0 where
   pub licensed : AllLicensed before (lines_at before (close_script close) (close_script derived) x goal)
   pub certified : IsTrue (list_all (is_certified before) (lines_at before (close_script derived) (close_script derived) x goal))
   pub erased : erased (close_script derived) ≡ filled_by (erased (close_script close)) (close_script derived)
+  pub written : IsTrue (has_good_certs (close_script derived))
 
 -- where this holds the judging halts so at the close
 abbrev pub CloseHalts : List Stated → Close → Basis → Goal → Halt → Type 0

@@ -1,3 +1,4 @@
+pub mod Written
 pub mod Halts
 pub mod Contexts
 pub mod Judging

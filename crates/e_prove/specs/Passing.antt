@@ -17,6 +17,7 @@ use Rattle.e_deriv.specs.Fitting.{LitsFit, is_small, is_small_statement}
 use Rattle.e_prove.specs.declared.halt.Halt.{Halt}
 use Rattle.e_prove.specs.declared.halt.Halt.TheVariants.{Lacks, TooWide}
 use Rattle.e_prove.specs.declared.standing.Standing.{Standing}
+use Rattle.e_prove.specs.Written.{has_good_certs}
 use Rattle.e_prove.specs.Halts.{HaltsAt}
 use Rattle.e_prove.specs.Judging.{lines_at, has_form}
 
@@ -36,11 +37,12 @@ pub record IsReadyStep (before : List Stated) (step : Step) (x : Standing) (firs
   pub few : first + size (step_script step rest) < 2 ^ 32
 
 -- the script is licensed, with its blanks filled as in the derived one, and the derived one is certified; without certificates
--- that is the script with its blanks filled
+-- that is the script with its blanks filled; its certificates name literals that are well formed
 pub record IsDerived (before : List Stated) (script : Script) (x : Standing) (goal : Goal) (derived : Script) : Type 0 where
   pub licensed : AllLicensed before (lines_at before script derived x.context goal)
   pub certified : IsTrue (list_all (is_certified before) (lines_at before derived derived x.context goal))
   pub erased : erased derived ≡ filled_by (erased script) derived
+  pub written : IsTrue (has_good_certs derived)
 
 -- the facts from before are the first ones still
 abbrev pub KeepsFacts : Standing → Standing → Type 0

@@ -1,5 +1,6 @@
 //! Judging an application of an earlier theorem.
 ghost use Rattle.std.specs.Prelude.{◌≡◌, List, IfOk, IfErr, IsTrue, IsFalse, MatchOption, Some, map};
+ghost use Rattle.std.specs.List.{list_all};
 ghost use Rattle.e_literal.specs.Use.{Stated, are_arguments, needs_of_use, gives_of_use};
 ghost use Rattle.e_clause.specs.declared.cert.Cert.{Cert as Certificate};
 ghost use Rattle.e_clause.specs.Certify.{certify_all};
@@ -10,6 +11,7 @@ ghost use Rattle.e_deriv.specs.Fitting.{is_small, is_small_statement};
 ghost use Rattle.e_deriv.specs.Lines.{theorem_at};
 ghost use Rattle.e_deriv.specs.Parts;
 ghost use Rattle.e_deriv.specs.Parts.{has_no_blank};
+ghost use Rattle.e_metric.specs.Written.{is_good_cert};
 ghost use Rattle.e_prove.specs.Applying.{CanApply, IsUse};
 ghost use Rattle.e_prove.specs.Halts.{HaltsIn, HaltsFilling, HaltsApplying, UnlessNoMemory};
 ghost use Rattle.e_prove.specs.Halts;
@@ -139,6 +141,7 @@ fn used_at(
     requires needs { IsTrue (are_good context.now.scope (needs_of_use (stated statement.now) args context.now.scope)) }
     ensures args { IfOk result (λ u. u.args ≡ args) }
     ensures certified { IfOk result (λ u. IsTrue (certify_all context.now.scope context.now.facts (needs_of_use (stated statement.now) args context.now.scope) u.certs.items)) }
+    ensures written { IfOk result (λ u. IsTrue (list_all is_good_cert u.certs.items)) }
     ensures gives { IfOk result (λ u. u.gives ≡ gives_of_use (stated statement.now) args context.now.scope) }
     ensures err { IfErr result (HaltsIn context.now (needs_of_use (stated statement.now) args context.now.scope)) }
 {

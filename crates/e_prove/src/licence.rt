@@ -1,10 +1,12 @@
 //! Whether a literal is allowed by the facts, and a citation good.
 ghost use Rattle.std.specs.Prelude.{◌≡◌, [], ◌∷◌, IsTrue, IfOk, IfErr, map};
+ghost use Rattle.std.specs.List.{list_all};
 ghost use Rattle.e_literal.specs.Facts.{has, has_all, others};
 ghost use Rattle.e_literal.specs.Literal.{negation};
 ghost use Rattle.e_clause.specs.Certify.{certifies, certify_all};
 ghost use Rattle.e_clause.specs.Judged.{is_good, are_good};
 ghost use Rattle.e_deriv.specs.Steps.{instance_gives};
+ghost use Rattle.e_metric.specs.Written.{is_good_cert};
 ghost use Rattle.e_licence.specs.Licences.{IsLicence};
 ghost use Rattle.e_prove.specs.Halts.{HaltsIn};
 
@@ -16,10 +18,11 @@ use e_licence::{Context, Judge, Licensed, licence};
 use e_literal::{Lit, copy, negate, same};
 use std::alloc::{AllocError, Global};
 
-/// A certificate of the literal, where it is allowed.
+/// A certificate of the literal, where it is allowed. The literals that it names are well formed.
 pub fn licensed(alloc: Global, context: &Context, lit: &Lit) -> Result<Cert, Halt>
     requires { IsTrue (is_good context.now.scope lit.now) }
     ensures ok { IfOk result (λ c. IsTrue (certifies context.now.scope context.now.facts lit.now c)) }
+    ensures written { IfOk result (λ c. IsTrue (is_good_cert c)) }
     ensures err { IfErr result (HaltsIn context.now (lit.now ∷ [])) }
 {
     let answer = licence(alloc, context, lit)?;
@@ -31,6 +34,7 @@ pub fn licensed(alloc: Global, context: &Context, lit: &Lit) -> Result<Cert, Hal
 pub fn licences(alloc: Global, context: &Context, lits: &[Lit]) -> Result<Vec<Cert>, Halt>
     requires { IsTrue (are_good context.now.scope lits.now) }
     ensures ok { IfOk result (λ cs. IsTrue (certify_all context.now.scope context.now.facts lits.now cs.items)) }
+    ensures written { IfOk result (λ cs. IsTrue (list_all is_good_cert cs.items)) }
     ensures err { IfErr result (HaltsIn context.now lits.now) }
 {
     let mut judge = Judge::new(context);
@@ -47,6 +51,7 @@ fn judged(
     requires good { IsTrue (are_good context.now.scope lits.now) }
     requires judge { judge.old ≡ context.now }
     ensures ok { IfOk result (λ cs. IsTrue (certify_all context.now.scope context.now.facts lits.now cs.items)) }
+    ensures written { IfOk result (λ cs. IsTrue (list_all is_good_cert cs.items)) }
     ensures err { IfErr result (HaltsIn context.now lits.now) }
 {
     let mut certs = Vec::new(alloc);
@@ -61,6 +66,7 @@ fn judged(
 fn told(alloc: Global, context: &Context, lit: &Lit, answer: Licensed) -> Result<Cert, Halt>
     requires { IsLicence context.now lit.now answer }
     ensures ok { IfOk result (λ c. IsTrue (certifies context.now.scope context.now.facts lit.now c)) }
+    ensures written { IfOk result (λ c. IsTrue (is_good_cert c)) }
     ensures err { IfErr result (HaltsIn context.now (lit.now ∷ [])) }
 {
     match answer {

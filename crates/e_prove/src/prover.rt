@@ -1,5 +1,5 @@
 //! The derivation of a theorem.
-ghost use Rattle.std.specs.Prelude.{◌≡◌, IfOk, IfErr};
+ghost use Rattle.std.specs.Prelude.{◌≡◌, IfOk, IfErr, IsTrue};
 ghost use Rattle.e_theorem.specs.Statements.{stated, all_stated};
 ghost use Rattle.e_deriv.specs.Script.{script_of, erased};
 ghost use Rattle.e_deriv.specs.Parts.{filled_by};
@@ -7,7 +7,9 @@ ghost use Rattle.e_deriv.specs.Lines.{proof_lines};
 ghost use Rattle.e_deriv.specs.Licensed.{AllLicensed};
 ghost use Rattle.e_deriv.specs.Fitting.{IsFitting};
 ghost use Rattle.e_deriv.specs.Certified.{Certified};
+ghost use Rattle.e_book.specs.Fits.{has_good_literals};
 ghost use Rattle.e_prove.specs.Stops.{StopIs, HasNames};
+ghost use Rattle.e_prove.specs.Written.{is_written_well, has_good_certs};
 
 use crate::block::prove_block;
 use crate::close::Goal;
@@ -20,7 +22,8 @@ use std::alloc::Global;
 
 /// The derivation of a theorem by its own script, from the statements before it: each line judged in order,
 /// with a certificate for each literal that it needs. Without its certificates it is the script, with the blanks of each
-/// application filled by the least good choice.
+/// application filled by the least good choice. Where the literals of the script are well formed, each literal that the
+/// derivation names is.
 ///
 /// `Unlicensed` comes only at the first line that is not licensed, with what it lacks, the values that show it where that
 /// is a metric literal or a contradiction, and the names in scope before it. `TooWide` comes only where each line before
@@ -31,6 +34,7 @@ pub fn prove(alloc: Global, before: &[Statement], theorem: &Theorem) -> Result<B
     ensures certified { IfOk result (λ d. Certified (all_stated before.now) (stated theorem.now.statement) (script_of d)) }
     ensures script { IfOk result (λ d. erased (script_of d) ≡ filled_by (erased (script_of theorem.now.block)) (script_of d)) }
     ensures least { IfOk result (λ d. AllLicensed (all_stated before.now) (proof_lines (all_stated before.now) (stated theorem.now.statement) (script_of theorem.now.block) (script_of d))) }
+    ensures written { IfOk result (λ d. IsTrue (has_good_literals (script_of theorem.now.block)) → IsTrue (is_written_well (script_of d))) }
     ensures stop { IfErr result (StopIs (all_stated before.now) (stated theorem.now.statement) (script_of theorem.now.block)) }
     ensures names { IfErr result (HasNames (all_stated before.now) (stated theorem.now.statement) theorem.now.names (script_of theorem.now.block)) }
 {
@@ -55,6 +59,7 @@ pub(crate) fn prove_parts(
     ensures certified { IfOk result (λ d. Certified (all_stated before.now) (stated statement.now) (script_of d)) }
     ensures script { IfOk result (λ d. erased (script_of d) ≡ filled_by (erased (script_of block.now)) (script_of d)) }
     ensures least { IfOk result (λ d. AllLicensed (all_stated before.now) (proof_lines (all_stated before.now) (stated statement.now) (script_of block.now) (script_of d))) }
+    ensures certs { IfOk result (λ d. IsTrue (has_good_certs (script_of d))) }
     ensures stop { IfErr result (StopIs (all_stated before.now) (stated statement.now) (script_of block.now)) }
     ensures names { IfErr result (HasNames (all_stated before.now) (stated statement.now) names.now (script_of block.now)) }
 {

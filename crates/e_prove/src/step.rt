@@ -1,5 +1,6 @@
 //! Judging a step without what may be inside it.
 ghost use Rattle.std.specs.Prelude.{◌≡◌, IfOk, IfErr, OnOk, IsTrue, List, Option};
+ghost use Rattle.std.specs.List.{list_all};
 ghost use Rattle.e_literal.specs.Use.{Stated};
 ghost use Rattle.e_literal.specs.Facts.{joined};
 ghost use Rattle.e_clause.specs.declared.cert.Cert.{Cert as Certificate};
@@ -8,6 +9,7 @@ ghost use Rattle.e_construct.specs.Construct;
 ghost use Rattle.e_deriv.specs.declared.block.Step.TheVariants.{Cite, Hence, Make};
 ghost use Rattle.e_construct.specs.Superposing;
 ghost use Rattle.e_clause.specs.Certify.{certify_all};
+ghost use Rattle.e_metric.specs.Written.{is_good_cert};
 ghost use Rattle.e_prove.specs.Contexts.{HasRoom, after_make, after_superposed};
 ghost use Rattle.e_prove.specs.Halts.{HaltsIn, UnlessNoMemory};
 ghost use Rattle.e_prove.specs.Judging.{IsJudged, StepHalts};
@@ -99,6 +101,7 @@ pub fn superpose(
     requires needs { IsTrue (are_good standing.old.context.scope (Superposing.needs form.now)) }
     requires after { let after = after_superposed form.now names.now standing.old in IsTrue (are_good_facts after.context.scope after.context.facts) }
     ensures certs { IfOk result (λ cs. IsTrue (certify_all standing.old.context.scope standing.old.context.facts (Superposing.needs form.now) cs.items)) }
+    ensures written { IfOk result (λ cs. IsTrue (list_all is_good_cert cs.items)) }
     ensures after { OnOk result (standing.new ≡ after_superposed form.now names.now standing.old) }
     ensures err { IfErr result (HaltsIn standing.old.context (Superposing.needs form.now)) }
     ensures kept { IfErr result (UnlessNoMemory (standing.new ≡ standing.old)) }

@@ -26,6 +26,7 @@ use Rattle.e_clause.specs.TransferCertificate.{parts_certify, instance_certifies
 use Rattle.e_clause.specs.Wide.{IsMetricSystem, IsTransferSystem, HasWidth}
 use Rattle.e_clause.proofs.Refuted.{some_is, none_is}
 use Rattle.e_metric.specs.Told.{IsTooWide, IsTold, IsCertified}
+use Rattle.e_metric.specs.Written.{is_good_part}
 use Rattle.e_metric.specs.declared.consequence.Metric.{Metric}
 use Rattle.e_metric.specs.declared.consequence.Metric.TheVariants as metric
 use Rattle.e_clause.specs.declared.cert.MetricCert.{MetricCert}
@@ -160,8 +161,8 @@ wide_transfer scope facts lits goal rule w args transfer over instance one stand
 -- ---- good parts
 
 parts_good : (scope : Scope) (facts ls : List Lit) (ps : List Part) → AreGoodParts scope facts (map negation ls) ps
-    → (parts_certify facts ls ps ≡ true) × (list_all (part_in scope) ps ≡ true)
-parts_good scope facts [] [] good = (refl, refl)
+    → (parts_certify facts ls ps ≡ true) × (list_all (part_in scope) ps ≡ true) × (list_all is_good_part ps ≡ true)
+parts_good scope facts [] [] good = (refl, refl, refl)
 parts_good scope facts [] (p ∷ ps) good = absurd good
 parts_good scope facts (l ∷ ls) [] good = absurd good
 parts_good scope facts (l ∷ ls) (p ∷ ps) good =
@@ -169,6 +170,7 @@ parts_good scope facts (l ∷ ls) (p ∷ ps) good =
     let rest = parts_good scope facts ls ps good.1 in (
       both (part_certifies facts (negation l) p) (parts_certify facts ls ps) here.certifies rest.0,
       both (part_in scope p) (list_all (part_in scope) ps) here.over rest.1,
+      both (is_good_part p) (list_all is_good_part ps) here.written rest.2,
     )
 
 pub good_cert : (scope : Scope) (facts lits : List Lit) (goal : Lit) (cert : TransferCert) → is_transfer cert.rule ≡ true → list_all (is_in_scope scope) cert.args ≡ true
@@ -180,6 +182,7 @@ good_cert scope facts lits goal cert transfer over instance one good =
       certifies = both (is_transfer cert.rule) (option_map_or (instance_certifies facts goal cert.parts) (Inst cert.rule cert.args) false) transfer
           (ap (λ o. option_map_or (instance_certifies facts goal cert.parts) o false) instance
           ∙ both (has lits goal) (parts_certify facts (others lits goal) cert.parts) one parts.0);
+      written = parts.2;
     }
 
 -- ---- refusals of one instance

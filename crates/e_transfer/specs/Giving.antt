@@ -21,6 +21,7 @@ use Rattle.e_clause.specs.Wide.{IsTransferSystem, HasWidth}
 use Rattle.e_clause.specs.PartCertificate.{part_certifies, part_in}
 use Rattle.e_clause.specs.TransferCertificate.{transfer_certifies, transfer_in}
 use Rattle.e_metric.specs.Told.{IsTooWide}
+use Rattle.e_metric.specs.Written.{is_good_part}
 use Rattle.e_transfer.specs.declared.bind.Bind.{Bind}
 use Rattle.e_transfer.specs.declared.sought.Means.{Means}
 use Rattle.e_transfer.specs.declared.sought.Means.TheVariants as means
@@ -80,9 +81,11 @@ pub record IsWideNeed (facts ls : List Lit) (w : ℕ) : Type 0 where
   pub is_metric : IsTrue (is_metric need)
   pub too_wide : IsTooWide facts (Some need) w
 
+-- the part certifies the literal, names objects in scope, and literals that are well formed
 pub record IsGoodPart (scope : Scope) (facts : List Lit) (l : Lit) (p : Part) : Type 0 where
   pub certifies : IsTrue (part_certifies facts l p)
   pub over : IsTrue (part_in scope p)
+  pub written : IsTrue (is_good_part p)
 
 abbrev pub PartIs : Means → Scope → List Lit → Lit → Verdict Part → Type 0
 PartIs m scope facts l (verdict.Keep p) = IsGoodPart scope facts l p
@@ -110,10 +113,11 @@ diagrams_stand facts ls = list_all (λ l. is_metric l || has facts l) ls
 
 -- ---- whether instances give the goal
 
--- the certificate is good for the goal
+-- the certificate is good for the goal, and its parts name literals that are well formed
 pub record IsGood (scope : Scope) (facts : List Lit) (goal : Lit) (cert : TransferCert) : Type 0 where
   pub over : IsTrue (transfer_in scope cert)
   pub certifies : IsTrue (transfer_certifies facts goal cert)
+  pub written : IsTrue (list_all is_good_part cert.parts)
 
 -- a metric system of a literal that an instance needs is wide, and this is its width
 pub record IsWideTransfer (scope : Scope) (facts : List Lit) (goal : Lit) (w : ℕ) : Type 0 where

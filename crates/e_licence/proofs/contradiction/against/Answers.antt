@@ -11,7 +11,7 @@ use Rattle.e_licence.proofs.contradiction.against.Goals as goal
 pub returns-in-Some : goal.returns-in-Some
 returns-in-Some c =
     let found : IsClashOf c.facts-facts.result.now c.in_ok-lit.field-0 = c.in_ok-lit.ensures in
-    by_clash c.args.context.now.scope c.args.context.now.facts c.in-Some.lit c.good.ensures
+    by_clash c.args.context.now c.in-Some.lit c.good.ensures
     (subst (λ facts. IsClashing facts c.in-Some.lit) c.facts-facts.ensures (subst (IsClashOf c.facts-facts.result.now) c.in-Some.is found))
 
 pub absurd-requires-clause-facts : goal.absurd-requires-clause-facts
@@ -21,7 +21,7 @@ absurd-requires-clause-facts c =
 pub returns-in-Yes : goal.returns-in-Yes
 returns-in-Yes c =
     let told : IsTold c.facts-facts.result.now None c.in_ok-cert.field-0 = c.in_ok-cert.ensures.told in
-    by_sums c.args.context.now.scope c.args.context.now.facts c.in-Yes.cert c.good.ensures
+    by_sums c.args.context.now c.in-Yes.cert c.good.ensures
     (subst (λ facts. IsCertified facts None c.in-Yes.cert) c.facts-facts.ensures (subst (IsTold c.facts-facts.result.now None) c.in-Yes.is told))
 
 pub returns-in-TooWide : goal.returns-in-TooWide

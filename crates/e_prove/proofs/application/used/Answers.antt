@@ -17,7 +17,7 @@ used_at-requires-clause-needs c =
 pub returns-in-Some-clause-ok : goal.returns-in-Some-clause-ok
 returns-in-Some-clause-ok c =
     let w = written_is c.args.pattern.now c.in_ok-args.field-0 c.in-Some.args c.in_ok-args.ensures c.in-Some.is in
-    used_is_written (stated c.args.statement.now) c.args.pattern.now c.args.context.now c.in-Some.args c.used_at.result w.no_blank c.requires.fits w.is c.used_at.ensures.args c.used_at.ensures.certified c.used_at.ensures.gives
+    used_is_written (stated c.args.statement.now) c.args.pattern.now c.args.context.now c.in-Some.args c.used_at.result w.no_blank c.requires.fits w.is c.used_at.ensures.args c.used_at.ensures.certified c.used_at.ensures.written c.used_at.ensures.gives
 
 pub returns-in-Some-clause-err : goal.returns-in-Some-clause-err
 returns-in-Some-clause-err c =

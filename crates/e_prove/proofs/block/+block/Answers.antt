@@ -544,7 +544,7 @@ prove_step-returns-in-Ok-prove_block-clause-ok t c =
     let begun = c.in-Ok-superpose.ensures.after ∙ ap (λ ns. after_superposed y.form ns x) c.items-in-Superposed.ensures in
     let same = ap (λ b. size (script_of b)) c.deref-in-Superposed.ensures in
     superposed_passed (all_stated c.args.before.now) c.args.step.now y.form y.names c.items-in-Ok-prove_block.result.now y.shown c.items-in-Ok-prove_block-2.result.now y.certs c.in-Ok-superpose.certs.items y.inner x c.prove_block-in-Superposed.new.standing c.superposed.new.standing c.args.number c.in_ok-outer-in-Superposed.outer c.in-Ok-prove_block.proved
-    c.superposed.result y.is c.items-in-Ok-prove_block.ensures c.items-in-Ok-prove_block-2.ensures (superposed_parts (all_stated c.args.before.now) y.form y.names y.shown y.certs y.inner x c.args.number (subst (λ s. IsReadyStep (all_stated c.args.before.now) s x c.args.number) y.is c.requires)) c.in-Ok-superpose.ensures.certs
+    c.superposed.result y.is c.items-in-Ok-prove_block.ensures c.items-in-Ok-prove_block-2.ensures (superposed_parts (all_stated c.args.before.now) y.form y.names y.shown y.certs y.inner x c.args.number (subst (λ s. IsReadyStep (all_stated c.args.before.now) s x c.args.number) y.is c.requires)) (c.in-Ok-superpose.ensures.certs, c.in-Ok-superpose.ensures.written)
     (subst (λ z. IsDerived (all_stated c.args.before.now) (script_of y.inner.value) z (goal_of y.shown) (script_of c.in-Ok-prove_block.proved.block)) begun
     (subst (λ ls. IsDerived (all_stated c.args.before.now) (script_of y.inner.value) c.superpose.new.standing (goal_of ls) (script_of c.in-Ok-prove_block.proved.block)) c.items-in-Superposed-2.ensures
     (subst (λ b. IsDerived (all_stated c.args.before.now) (script_of b) c.superpose.new.standing (goal_of c.items-in-Superposed-2.result.now) (script_of c.in-Ok-prove_block.proved.block)) c.deref-in-Superposed.ensures c.in-Ok-prove_block.ensures.derived)))
@@ -557,7 +557,7 @@ prove_step-returns-in-Err-prove_block-clause-err t c =
     let y = c.in-Superposed in
     let begun = c.in-Ok-superpose.ensures.after ∙ ap (λ ns. after_superposed y.form ns x) c.items-in-Superposed.ensures in
     superposed_stopped (all_stated c.args.before.now) c.args.step.now y.form y.names y.shown y.certs c.in-Ok-superpose.certs.items y.inner x c.args.number c.in-Err-prove_block.stop y.is
-    (superposed_parts (all_stated c.args.before.now) y.form y.names y.shown y.certs y.inner x c.args.number (subst (λ s. IsReadyStep (all_stated c.args.before.now) s x c.args.number) y.is c.requires)) c.in-Ok-superpose.ensures.certs
+    (superposed_parts (all_stated c.args.before.now) y.form y.names y.shown y.certs y.inner x c.args.number (subst (λ s. IsReadyStep (all_stated c.args.before.now) s x c.args.number) y.is c.requires)) (c.in-Ok-superpose.ensures.certs, c.in-Ok-superpose.ensures.written)
     (subst (λ z. StopsWithin (all_stated c.args.before.now) (script_of y.inner.value) z (goal_of y.shown) (c.args.number + 1) c.in-Err-prove_block.stop) begun
     (subst (λ ls. StopsWithin (all_stated c.args.before.now) (script_of y.inner.value) c.superpose.new.standing (goal_of ls) (c.args.number + 1) c.in-Err-prove_block.stop) c.items-in-Superposed-2.ensures
     (subst (λ b. StopsWithin (all_stated c.args.before.now) (script_of b) c.superpose.new.standing (goal_of c.items-in-Superposed-2.result.now) (c.args.number + 1) c.in-Err-prove_block.stop) c.deref-in-Superposed.ensures c.in-Err-prove_block.ensures.err)))

@@ -16,6 +16,7 @@ returns-in-Yes c =
     record {
       certifies = both (is_metric need) (sums_refute s.facts.now (Some need) c.in-Yes.cert.sums) (ap is_some (sym c.kind.ensures) ∙ c.if-is_none.ensures) yes.refutes;
       over = yes.scoped s.scope (facts_over s.scope s.facts.now (and_left (are_good s.scope s.facts.now) (are_few s.facts.now) s.good)) c.requires.in_scope;
+      written = yes.written;
     }
 
 pub returns-then-is_refuted : goal.returns-then-is_refuted
