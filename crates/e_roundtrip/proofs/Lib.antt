@@ -7,4 +7,4 @@ mod HeadRooms
 mod ScriptRooms
 mod BlockRooms
 mod Assembly
-mod Whole
+pub mod Whole

@@ -109,7 +109,7 @@ is_answer_wide lines (ends.Faulty f) title step wanted width h = h
 -- by what the answer is
 pub answered : (text : List ℕ) (end : End) (old new : Option (List ℕ)) (answer : Status) → EndsBook text end → Checks (lines_of_book text) old new answer → IsAnswer (lines_of_book text) end answer
 answered text end old new (status.Accepted n) h w =
-    let o = w.outputs in
+    let o = w.outputs.0 in
     answered_so text end (status.Accepted n) (theorems_of o.derived) o.known o.rest (ends.Accepted n) h o.begins o.holds refl
 answered text end old new (status.Unlicensed title step wanted values) h w =
     let o = w.outputs.1 in

@@ -17,6 +17,7 @@ use Rattle.e_run.specs.LastLines.{head_line, no_memory_line, read_fault_line}
 use Rattle.e_run.specs.Answers.{Derived, AllDerived, theorems_of, blocks_of, written_with, Ended, EndsSo, Refuses, Widens, CutOff, Outputs, WroteAll, WroteFront, Checks, ChecksBook}
 use Rattle.e_run.specs.Input.{IsTextOf}
 use Rattle.e_run.specs.Endings.{EndsWith, BreaksOff, BreaksInside, EndingIs, Closes, last_lines, answer_of}
+use Rattle.e_run.proofs.VerifiedText.{verified_text}
 use Rattle.e_run.proofs.History.{grew_more, grew_none, begins, breaks_off}
 
 -- whatever an answer is, where its bytes were written it is right
@@ -72,7 +73,7 @@ pub closed_ending : (lines : Rest) (old s0 s1 s2 : Option (List ℕ)) (ending : 
     → Grew old s0 head_line → EndingIs lines s0 s1 ending → Closes s1 s2 (last_lines ending) (answer_of ending) result → Checks lines old s2 result
 closed_ending lines old s0 s1 s2 (All n s) result h e c =
     closed lines old s0 s1 s2 e.0.derived (last_lines (All n s)) (answer_of (All n s)) result
-    (ended lines s0 s1 (EndsSo lines (ends.Accepted n)) (last_lines (All n s)) e.0) h e.0.grew c
+    (ended lines s0 s1 (EndsSo lines (ends.Accepted n)) (last_lines (All n s)) e.0, verified_text lines n e.0.derived e.0.known e.0.rest e.0.sound e.0.begins e.0.holds) h e.0.grew c
 closed_ending lines old s0 s1 s2 (Stopped title (stops.Unlicensed step wanted values names)) result h e c =
     let ending = Stopped title (stops.Unlicensed step wanted values names) in
     closed lines old s0 s1 s2 e.derived (last_lines ending) (answer_of ending) result

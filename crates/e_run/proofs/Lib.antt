@@ -1,5 +1,7 @@
 mod Told
 mod History
+mod VerifiedText
+mod SameWritten
 mod Closing
 mod OneOutcome
 mod Answering

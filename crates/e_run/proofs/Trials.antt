@@ -1,15 +1,13 @@
 -- What is told of a generated book.
-use Rattle.std.proofs.Common.{◌≡◌, ◌⊎◌, inl, inr, ℕ, Bool, true, false, cond, List, [], ◌++◌, Option, Some, None, refl, sym, ap, subst, ◌∙◌, arith}
-use Rattle.std.specs.Prelude.{◌==◌}
-use Rattle.std.proofs.lemmas.Bool.{eqb-true}
+use Rattle.std.proofs.Common.{◌≡◌, ◌⊎◌, inl, inr, ℕ, ◌≤◌, ◌^◌, length, List, [], ◌++◌, Option, Some, None, refl, sym, ap, subst, ◌∙◌, arith}
 use Rattle.e_io.specs.Bytes.{Grew, GrewByFront}
 use Rattle.e_text.proofs.WholeLines.{lines_of-take}
 use Rattle.e_deriv.specs.declared.stop.Stop.TheVariants as stops
 use Rattle.e_book.specs.Headed.{Headed}
 use Rattle.e_book.specs.Entry.{Entry}
 use Rattle.e_generate.specs.Generated.{generated_text}
-use Rattle.e_judgement.specs.declared.judgement.Judgement.{Judgement}
 use Rattle.e_judgement.specs.declared.judgement.Judgement.TheVariants as judged
+use Rattle.e_judgement.specs.Judged.{JudgesText}
 use Rattle.e_run.specs.declared.status.Status.{Status}
 use Rattle.e_run.specs.declared.status.Status.TheVariants as status
 use Rattle.e_run.specs.declared.command.Command.{Command}
@@ -17,14 +15,15 @@ use Rattle.e_run.specs.declared.command.Command.TheVariants as commands
 use Rattle.e_run.specs.declared.blocks.Ending.{Ending}
 use Rattle.e_run.specs.declared.blocks.Ending.TheVariants.{All, Stopped, Faulty}
 use Rattle.e_run.specs.Input.{IsTextOf}
-use Rattle.e_run.specs.LastLines.{head_line, accepted_line, tried_line, verified_line}
+use Rattle.e_run.specs.LastLines.{head_line, accepted_line, tried_line}
 use Rattle.e_run.specs.Outcome.{Rest, End, EndsBook, Begins, lines_of_book}
 use Rattle.e_run.specs.Outcome as ends
 use Rattle.e_run.specs.Answers.{Derived, EndsSo, IsAnswer, IsReadFault, IsWriteFault, theorems_of, blocks_of, written_with}
 use Rattle.e_run.specs.Endings.{Closes, EndsWith, EndingIs, answer_of, last_lines}
-use Rattle.e_run.specs.Trying.{IsAccepted, IsStopped, IsJudged, IsJudgedSo, JudgedAs, Told, TriesLines, Tries, AnswersAccepted, IsTrialAnswer, AnswersTrial, trial_answer, trial_line}
+use Rattle.e_run.specs.Trying.{IsAccepted, IsStopped, IsTried, Told, TriesLines, Tries, IsTrialAnswer, AnswersTrial}
 use Rattle.e_run.proofs.Answering.{answered_so, stops_so, widens_so, is_answer_wide}
 use Rattle.e_run.proofs.Closing.{grew_all}
+use Rattle.e_run.proofs.VerifiedText.{verified_text}
 use Rattle.e_run.proofs.OneOutcome.{outcome_is_one}
 
 -- ---- the line of an answer
@@ -51,12 +50,9 @@ no_fault_told lines line (status.TooWide title step wanted width) t (inl h) = h
 no_fault_told lines line (status.TooWide title step wanted width) t (inr h) = h
 no_fault_told lines line (status.Fault f) t (inl h) = h
 no_fault_told lines line (status.Fault f) t (inr h) = h
-no_fault_told lines line (status.Verified n) t (inl h) = h
-no_fault_told lines line (status.Verified n) t (inr h) = h
-no_fault_told lines line (status.Bad title step) t (inl h) = h
-no_fault_told lines line (status.Bad title step) t (inr h) = h
-no_fault_told lines line (status.Garbled at) t (inl h) = h
-no_fault_told lines line (status.Garbled at) t (inr h) = h
+no_fault_told lines line (status.Verified n) t h = t
+no_fault_told lines line (status.Bad title step) t h = t
+no_fault_told lines line (status.Garbled at) t h = t
 no_fault_told lines line status.NoMemory t (inl h) = h
 no_fault_told lines line status.NoMemory t (inr h) = h
 
@@ -72,35 +68,39 @@ write_fault_answers lines (ends.Faulty f) = tt
 
 -- ---- the answer to an accepted book
 
-by_number : (lines : Rest) (n s m : ℕ) (b : Bool) (answer : Status) (line : List ℕ) → (b ≡ true → m ≡ n) → IsJudged lines n s (judged.Verified m)
-    → answer ≡ cond b (status.Tried n s) (status.Verified m) → line ≡ cond b (tried_line n s) (verified_line m) → Told lines answer line
-by_number lines n s m true answer line same h a l =
-    subst (λ (x : Status). Told lines x line) (sym a) (subst (λ (k : ℕ). IsJudged lines n s (judged.Verified k)) (same refl) h, l)
-by_number lines n s m false answer line same h a l =
-    subst (λ (x : Status). Told lines x line) (sym a) (record { theorems = n; steps = s; judged_so = h }, l)
-
-judged_told : (lines : Rest) (n s : ℕ) (j : Judgement) (answer : Status) (line : List ℕ) → IsJudged lines n s j → answer ≡ trial_answer n s j → line ≡ trial_line n s j → Told lines answer line
-judged_told lines n s (judged.Verified m) answer line h a l = by_number lines n s m (m == n) answer line (eqb-true m n) h a l
-judged_told lines n s (judged.Bad title step) answer line h a l =
-    subst (λ (x : Status). Told lines x line) (sym a) (record { theorems = n; steps = s; judged_so = h }, l)
-judged_told lines n s (judged.Garbled at) answer line h a l =
-    subst (λ (x : Status). Told lines x line) (sym a) (record { theorems = n; steps = s; judged_so = h }, l)
-
 inside : (a b : List ℕ) → let x : Option (List ℕ) = Some a in x ≡ Some b → a ≡ b
 inside a b e = cc
 
--- the head line, the blocks and the line of an accepted book were written, and that is judged so
-pub accepted_told : (lines : Rest) (b c d : Option (List ℕ)) (n s : ℕ) (out last line : List ℕ) (answer : Status)
-    → Grew (Some []) b head_line → EndingIs lines b c (All n s) → Grew c d last → last ≡ accepted_line n → d ≡ Some out → JudgedAs out n s answer line → Told lines answer line
-accepted_told lines b c d n s out last line answer h e g is whole j =
+-- the head line, the blocks and the line of an accepted book were written: then what was written is that of an accepted book, and is judged
+-- verified
+pub accepted_tried : (lines : Rest) (b c d : Option (List ℕ)) (n s : ℕ) (out last : List ℕ) → Grew (Some []) b head_line → EndingIs lines b c (All n s) → Grew c d last → last ≡ accepted_line n → d ≡ Some out
+    → length out ≤ 2 ^ 60 → IsTried lines n s
+accepted_tried lines b c d n s out last h e g is whole few =
     let all : Grew (Some []) d (written_with e.0.derived (accepted_line n)) =
-    grew_all (Some []) b c d e.0.derived (accepted_line n) h e.0.grew (subst (Grew c d) is g) in
+        grew_all (Some []) b c d e.0.derived (accepted_line n) h e.0.grew (subst (Grew c d) is g) in
     let bytes : out ≡ written_with e.0.derived (accepted_line n) = inside _ _ (sym whole ∙ all) in
-    let is_accepted : IsAccepted lines n s out = record {
-      ended = record { derived = e.0.derived; sound = e.0.sound; known = e.0.known; rest = e.0.rest; begins = e.0.begins; holds = e.0.holds; bytes = bytes };
-      steps_are = e.1;
-    } in
-    judged_told lines n s j.0 answer line (record { out = out; accepted = is_accepted; judges = j.1 }) j.2 j.3
+    record {
+      out = out;
+      accepted = record {
+        ended = record { derived = e.0.derived; sound = e.0.sound; known = e.0.known; rest = e.0.rest; begins = e.0.begins; holds = e.0.holds; bytes = bytes };
+        steps_are = e.1;
+      };
+      verified = subst (λ (x : List ℕ). JudgesText x (judged.Verified n)) (sym bytes)
+          (verified_text lines n e.0.derived e.0.known e.0.rest e.0.sound e.0.begins e.0.holds (subst (λ (x : List ℕ). length x ≤ 2 ^ 60) bytes few));
+    }
+
+-- what was written of an accepted book is judged verified
+pub accepted_verified : (lines : Rest) (b c d : Option (List ℕ)) (n s : ℕ) (out last : List ℕ) → Grew (Some []) b head_line → EndingIs lines b c (All n s) → Grew c d last → last ≡ accepted_line n → d ≡ Some out
+    → length out ≤ 2 ^ 60 → JudgesText out (judged.Verified n)
+accepted_verified lines b c d n s out last h e g is whole few =
+    let all : Grew (Some []) d (written_with e.0.derived (accepted_line n)) =
+        grew_all (Some []) b c d e.0.derived (accepted_line n) h e.0.grew (subst (Grew c d) is g) in
+    let bytes : out ≡ written_with e.0.derived (accepted_line n) = inside _ _ (sym whole ∙ all) in
+    subst (λ (x : List ℕ). JudgesText x (judged.Verified n)) (sym bytes)
+    (verified_text lines n e.0.derived e.0.known e.0.rest e.0.sound e.0.begins e.0.holds (subst (λ (x : List ℕ). length x ≤ 2 ^ 60) bytes few))
+
+pub tried_told : (lines : Rest) (n s : ℕ) (answer : Status) (line : List ℕ) → IsTried lines n s → answer ≡ status.Tried n s → line ≡ tried_line n s → Told lines answer line
+tried_told lines n s answer line h a l = subst (λ (x : Status). Told lines x line) (sym a) (h, l)
 
 -- ---- the answer to any other book
 
@@ -138,40 +138,63 @@ book_lines read book e = ap lines_of_book e ∙ lines_of-take (record { longest 
 
 -- ---- a book with an outcome is answered so
 
--- where an accepted book is judged, its outcome is that
-accepted_end : (text : List ℕ) (n s : ℕ) (j : Judgement) (end : End) → IsJudged (lines_of_book text) n s j → EndsBook text end → end ≡ ends.Accepted n
-accepted_end text n s j end h k =
-    let e = h.accepted.ended in
-    sym (outcome_is_one (lines_of_book text) (theorems_of e.derived) k.theorems (ends.Accepted n) end (record { known = e.known; rest = e.rest; begins = e.begins; ends = e.holds }) k.outcome)
+-- the answers to a book that is not accepted, and those of the sink and of memory
+abbrev IsOtherAnswer : Status → Type 0
+IsOtherAnswer (status.Unlicensed title step wanted values) = Unit {0}
+IsOtherAnswer (status.TooWide title step wanted width) = Unit {0}
+IsOtherAnswer (status.Fault f) = Unit {0}
+IsOtherAnswer status.NoMemory = Unit {0}
+IsOtherAnswer status.WriteFault = Unit {0}
+IsOtherAnswer _ = ⊥
 
-judged_so : (text : List ℕ) (j : Judgement) (answer : Status) (end : End) → (h : IsJudgedSo (lines_of_book text) j) → AnswersAccepted (lines_of_book text) h.theorems answer → EndsBook text end
-    → IsTrialAnswer (lines_of_book text) end answer
-judged_so text j answer end h a k = inl (h.theorems, accepted_end text h.theorems h.steps j end h.judged_so k, a)
+-- where a book was tried, its outcome is that it is accepted
+tried_answers : (text : List ℕ) (n s : ℕ) (end : End) → IsTried (lines_of_book text) n s → EndsBook text end → IsTrialAnswer (lines_of_book text) end (status.Tried n s)
+tried_answers text n s end h k =
+    let e = h.accepted.ended in
+    let is : ends.Accepted n ≡ end =
+        outcome_is_one (lines_of_book text) (theorems_of e.derived) k.theorems (ends.Accepted n) end (record { known = e.known; rest = e.rest; begins = e.begins; ends = e.holds }) k.outcome in
+    subst (λ (x : End). IsTrialAnswer (lines_of_book text) x (status.Tried n s)) is refl
+
+-- an answer that `check` gives to a book that it does not accept
+other_answers : (lines : Rest) (end : End) (answer : Status) → IsOtherAnswer answer → IsAnswer lines end answer → IsTrialAnswer lines end answer
+other_answers lines (ends.Accepted n) (status.Unlicensed title step wanted values) o h = h
+other_answers lines (ends.Unlicensed a b c d) (status.Unlicensed title step wanted values) o h = h
+other_answers lines (ends.Faulty f) (status.Unlicensed title step wanted values) o h = h
+other_answers lines (ends.Accepted n) (status.TooWide title step wanted width) o h = h
+other_answers lines (ends.Unlicensed a b c d) (status.TooWide title step wanted width) o h = h
+other_answers lines (ends.Faulty f) (status.TooWide title step wanted width) o h = h
+other_answers lines (ends.Accepted n) (status.Fault g) o h = h
+other_answers lines (ends.Unlicensed a b c d) (status.Fault g) o h = h
+other_answers lines (ends.Faulty f) (status.Fault g) o h = h
+other_answers lines (ends.Accepted n) status.NoMemory o h = h
+other_answers lines (ends.Unlicensed a b c d) status.NoMemory o h = h
+other_answers lines (ends.Faulty f) status.NoMemory o h = h
+other_answers lines (ends.Accepted n) status.WriteFault o h = h
+other_answers lines (ends.Unlicensed a b c d) status.WriteFault o h = h
+other_answers lines (ends.Faulty f) status.WriteFault o h = h
+other_answers lines end answer o h = absurd o
 
 told_answer : (text line : List ℕ) (answer : Status) (end : End) → Told (lines_of_book text) answer line → EndsBook text end → IsTrialAnswer (lines_of_book text) end answer
-told_answer text line (status.Tried n s) end t k = inl (n, accepted_end text n s (judged.Verified n) end t.0 k, refl)
-told_answer text line (status.Verified m) end t k = judged_so text (judged.Verified m) (status.Verified m) end t.0 t.0 k
-told_answer text line (status.Bad title step) end t k = judged_so text (judged.Bad title step) (status.Bad title step) end t.0 t.0 k
-told_answer text line (status.Garbled at) end t k = judged_so text (judged.Garbled at) (status.Garbled at) end t.0 t.0 k
+told_answer text line (status.Tried n s) end t k = tried_answers text n s end t.0 k
 told_answer text line (status.Unlicensed title step wanted values) end t k =
     let o = t.1 in
-    inr (
-      tt,
-      answered_so text end (status.Unlicensed title step wanted values) (theorems_of o.derived) o.known o.rest (ends.Unlicensed title step wanted t.0) k o.begins
-          (stops_so (lines_of_book text) o.known o.rest title step wanted values t.0 o.holds) (refl, refl, refl),
-    )
+    other_answers (lines_of_book text) end (status.Unlicensed title step wanted values) tt
+    (answered_so text end (status.Unlicensed title step wanted values) (theorems_of o.derived) o.known o.rest (ends.Unlicensed title step wanted t.0) k o.begins
+        (stops_so (lines_of_book text) o.known o.rest title step wanted values t.0 o.holds) (refl, refl, refl))
 told_answer text line (status.TooWide title step wanted width) end t k =
     let o = t.1 in
-    inr (
-      tt,
-      is_answer_wide (lines_of_book text) end title step wanted width
-          (widens_so (lines_of_book text) (theorems_of o.derived) o.known o.rest title step wanted width t.0 o.begins o.holds),
-    )
+    other_answers (lines_of_book text) end (status.TooWide title step wanted width) tt
+    (is_answer_wide (lines_of_book text) end title step wanted width
+        (widens_so (lines_of_book text) (theorems_of o.derived) o.known o.rest title step wanted width t.0 o.begins o.holds))
 told_answer text line (status.Fault f) end t k =
     let o = t.0 in
-    inr (tt, answered_so text end (status.Fault f) (theorems_of o.derived) o.known o.rest (ends.Faulty f) k o.begins o.holds refl)
-told_answer text line status.NoMemory end t k = inr (tt, no_memory_answers (lines_of_book text) end)
+    other_answers (lines_of_book text) end (status.Fault f) tt
+    (answered_so text end (status.Fault f) (theorems_of o.derived) o.known o.rest (ends.Faulty f) k o.begins o.holds refl)
+told_answer text line status.NoMemory end t k = other_answers (lines_of_book text) end status.NoMemory tt (no_memory_answers (lines_of_book text) end)
 told_answer text line (status.Accepted n) end t k = absurd t
+told_answer text line (status.Verified n) end t k = absurd t
+told_answer text line (status.Bad title step) end t k = absurd t
+told_answer text line (status.Garbled at) end t k = absurd t
 told_answer text line (status.Made n) end t k = absurd t
 told_answer text line status.ReadFault end t k = absurd t
 told_answer text line status.WriteFault end t k = absurd t
@@ -182,7 +205,8 @@ told_answer text line status.TextLimit end t k = absurd t
 pub answers_trial : (n : ℕ) (old new : Option (List ℕ)) (answer : Status) → Tries n old new answer → AnswersTrial n answer
 answers_trial n old new answer (inl w) end k = told_answer (generated_text n) w.last answer end w.told k
 answers_trial n old new answer (inr w) end k =
-    subst (λ (x : Status). IsTrialAnswer (lines_of_book (generated_text n)) end x) (sym w.0) (inr (tt, write_fault_answers (lines_of_book (generated_text n)) end))
+    subst (λ (x : Status). IsTrialAnswer (lines_of_book (generated_text n)) end x) (sym w.0)
+    (other_answers (lines_of_book (generated_text n)) end status.WriteFault tt (write_fault_answers (lines_of_book (generated_text n)) end))
 
 -- ---- the number of a command
 

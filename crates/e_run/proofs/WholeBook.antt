@@ -135,7 +135,7 @@ accepted_is_short text ts n h =
 -- the same, by the answer
 pub read_is_short : (old new : Option (List ℕ)) (text : List ℕ) (answer : Status) → IsAccepted answer → Checks (lines_of_book text) old new answer → length text ≤ 4194304
 read_is_short old new text (status.Accepted n) a h =
-    let o = h.outputs in
+    let o = h.outputs.0 in
     accepted_is_short text (theorems_of o.derived) n (record { known = o.known; rest = o.rest; begins = o.begins; ends = o.holds })
 read_is_short old new text (status.Unlicensed title step wanted values) a h = absurd a
 read_is_short old new text (status.TooWide title step wanted width) a h = absurd a

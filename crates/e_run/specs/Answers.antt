@@ -1,5 +1,5 @@
 -- What a run answers to a text, and what it writes.
-use Rattle.std.specs.Prelude.{◌≡◌, ℕ, ◌+◌, ◌<◌, List, [], ◌∷◌, ◌++◌, map, take, length, codes, Option, Some, None}
+use Rattle.std.specs.Prelude.{◌≡◌, ℕ, ◌+◌, ◌<◌, List, [], ◌∷◌, ◌++◌, map, take, length, codes, Option, Some, None, ◌≤◌, ◌^◌, IsTrue}
 use Rattle.e_io.specs.Bytes.{Grew, GrewByFront}
 use Rattle.e_literal.specs.declared.object.Term.{Term}
 use Rattle.e_theorem.specs.Statements.{stated}
@@ -10,9 +10,12 @@ use Rattle.e_deriv.specs.Parts.{filled_by}
 use Rattle.e_deriv.specs.Lines.{proof_lines}
 use Rattle.e_deriv.specs.Licensed.{AllLicensed}
 use Rattle.e_deriv.specs.Certified.{Certified}
+use Rattle.e_verify.specs.Written.{is_written_well}
 use Rattle.e_book.specs.Headed.{Headed, stated_by}
 use Rattle.e_book.specs.Entry.{Entry}
 use Rattle.e_spell.specs.Spelling.{spelled, unlicensed_text, too_wide_text}
+use Rattle.e_judgement.specs.declared.judgement.Judgement.TheVariants as judged
+use Rattle.e_judgement.specs.Judged.{JudgesText}
 use Rattle.e_run.specs.declared.status.Status.{Status}
 use Rattle.e_run.specs.declared.status.Status.TheVariants as status
 use Rattle.e_run.specs.Outcome.{Rest, End, Ends, NextIs, with_theorem, Begins, IsFront, EndsBook, RefusedAt, TooWideAt, HasWide, number_behind, lines_of_book}
@@ -25,11 +28,13 @@ pub record Derived : Type 0 where
   pub derivation : Script
 
 -- With this known, the derivation is certified. Without its certificates it is the theorem's own script, with its blanks filled, and
--- so filled each line of the script is licensed: the arguments of each application are the least good choice.
+-- so filled each line of the script is licensed: the arguments of each application are the least good choice. The literals that its
+-- certificates name are well formed.
 pub record IsDerived (known : List Headed) (d : Derived) : Type 0 where
   pub certified : Certified (stated_by known) (stated d.theorem.statement) d.derivation
   pub own : erased d.derivation ≡ filled_by (erased d.theorem.script) d.derivation
   pub least : AllLicensed (stated_by known) (proof_lines (stated_by known) (stated d.theorem.statement) d.theorem.script d.derivation)
+  pub written : IsTrue (is_written_well d.derivation)
 
 -- each by those before it
 abbrev pub AllDerived : List Headed → List Derived → Type 0
@@ -94,9 +99,13 @@ pub record CutOff (lines : Rest) (last out : List ℕ) : Type 0 where
   pub front : IsFront lines (theorems_of derived)
   pub bytes : out ≡ written_with derived last
 
+-- where it is no longer than a derivation text may be, it is one, with so many theorems, and each certificate certifies at its own line
+abbrev pub IsVerifiedText : ℕ → List ℕ → Type 0
+IsVerifiedText n out = length out ≤ 2 ^ 60 → JudgesText out (judged.Verified n)
+
 -- what is written in all under an answer to a book of these lines
 abbrev pub Outputs : Rest → Status → List ℕ → Type 0
-Outputs lines (status.Accepted n) out = Ended lines (EndsSo lines (ends.Accepted n)) (accepted_line n) out
+Outputs lines (status.Accepted n) out = Ended lines (EndsSo lines (ends.Accepted n)) (accepted_line n) out × IsVerifiedText n out
 Outputs lines (status.Unlicensed title step wanted values) out =
     (names : Names) × Ended lines (Refuses lines title step wanted values names) (unlicensed_text title step wanted values names) out
 Outputs lines (status.TooWide title step wanted width) out =

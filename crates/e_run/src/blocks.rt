@@ -1,11 +1,12 @@
 //! The blocks of a book: each theorem read, judged and written.
-ghost use Rattle.std.specs.Prelude.{◌≡◌, ◌≤◌, ◌<◌, ◌+◌, ◌^◌, ◌++◌, ◌∷◌, [], false, length, IfOk, OnOk, IfErr, IsErrOf};
+ghost use Rattle.std.specs.Prelude.{◌≡◌, ◌≤◌, ◌<◌, ◌+◌, ◌^◌, ◌++◌, ◌∷◌, [], false, length, IfOk, OnOk, IfErr, IsErrOf, IsTrue};
 ghost use Rattle.e_io.specs.Bytes.{Rose};
 ghost use Rattle.e_theorem.specs.Statements.{stated};
 ghost use Rattle.e_deriv.specs.Script.{script_of};
 ghost use Rattle.e_deriv.specs.Fitting.{IsFitting};
 ghost use Rattle.e_book.specs.Headed.{headed, is_known, stated_by};
 ghost use Rattle.e_book.specs.Entry.{entry_of};
+ghost use Rattle.e_book.specs.Fits.{has_good_literals};
 ghost use Rattle.e_prove.specs.Stops.{StopIs, HasNames};
 ghost use Rattle.e_run.specs.Answers.{HasBlock};
 ghost use Rattle.e_run.specs.Endings.{BlocksAre, stop_ending};
@@ -38,7 +39,8 @@ pub enum Broken {
 
 /// The block of a theorem with its derivation from those that are known.
 fn block(alloc: Global, known: &Known, theorem: &Theorem) -> Result<Vec<u8>, Stop>
-    requires { IsFitting (stated_by known.now) (stated theorem.now.statement) (script_of theorem.now.block) }
+    requires fitting { IsFitting (stated_by known.now) (stated theorem.now.statement) (script_of theorem.now.block) }
+    requires good { IsTrue (has_good_literals (script_of theorem.now.block)) }
     ensures block { IfOk result (λ v. HasBlock known.now (entry_of theorem.now) v.items) }
     ensures stop { IfErr result (StopIs (stated_by known.now) (stated theorem.now.statement) (script_of theorem.now.block)) }
     ensures names { IfErr result (HasNames (stated_by known.now) (stated theorem.now.statement) theorem.now.names (script_of theorem.now.block)) }

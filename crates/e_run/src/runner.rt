@@ -25,7 +25,7 @@ use std::alloc::Global;
 /// writes one line. With `make N` it writes the generated book of N theorems, and with `trial N` it checks that book, verifies its
 /// derivations, and writes one line; `N` is a numeral from 1 to 500. With any other words it writes the usage line. The answers are those of `Status`:
 /// `Accepted` only where each theorem of the book has a derivation, every certificate of which is right at its own line, and
-/// then the bytes written spell them;
+/// then the bytes written spell them, and `verify` judges them verified;
 /// `Unlicensed` only where all lines before the named one are licensed, and the named literal is not allowed there, or the
 /// facts there do not contradict each other where a contradiction is wanted; the values, which stand in the last lines for a
 /// metric literal and for a contradiction and for nothing else, make the facts true and the literal false;
@@ -34,7 +34,7 @@ use std::alloc::Global;
 /// `Fault` only where that is the first fault of the book;
 /// `Verified`, `Bad` and `Garbled` only where that is the judgement of the derivation text, found without any search;
 /// `Made` only with that book, and `Tried` only where it is accepted with so many theorems and steps, and what `check` writes of it
-/// is judged verified; where it is judged otherwise `trial` answers as `verify` does;
+/// is judged verified;
 /// `TextLimit` only where the source has more than 2^60 bytes;
 /// `ReadFault` and `WriteFault` only where the count of faults of the source, or of the sink, rose in this call or stands at
 /// its last value.

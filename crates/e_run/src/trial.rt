@@ -4,7 +4,11 @@ ghost use Rattle.e_io.specs.Bytes.{Rose};
 ghost use Rattle.e_generate.specs.Generated.{generated_text};
 ghost use Rattle.e_run.specs.Outcome.{lines_of_book};
 ghost use Rattle.e_run.specs.Answers.{IsReadFault, IsWriteFault};
-ghost use Rattle.e_run.specs.Trying.{IsAccepted, JudgedAs, Told, Tries};
+ghost use Rattle.e_run.specs.LastLines.{tried_line};
+ghost use Rattle.e_run.specs.Trying.{Told, Tries};
+ghost use Rattle.e_run.specs.declared.status.Status.{Status};
+ghost use Rattle.e_judgement.specs.Judged.{JudgesText};
+ghost use Rattle.e_judgement.specs.declared.judgement.Judgement.{Judgement};
 
 use crate::blocks::{Ending, blocks};
 use crate::checker::{answer_of, close, last_lines};
@@ -12,7 +16,6 @@ use crate::input::{LONGEST_LINE, MOST_BYTES, read_text};
 use crate::output::{accepted, tried};
 use crate::status::Status;
 use crate::store::Store;
-use crate::verifier;
 use e_generate::generated;
 use e_io::{Sink, SureSource, write_all};
 use e_judgement::{Judgement, judge};
@@ -25,21 +28,19 @@ struct Answer {
     line: Vec<u8>,
 }
 
-/// The answer to an accepted book, by the judgement of what is written then.
-fn judged(alloc: Global, text: &[u8], theorems: u32, steps: u32) -> Result<Answer, AllocError>
-    requires { length text.now ≤ 2 ^ 60 }
-    ensures { IfOk result (λ a. JudgedAs text.now theorems steps a.status a.line.items) }
+/// The answer to an accepted book, once what is written then is judged, which it is as verified.
+fn verified(alloc: Global, text: &[u8], theorems: u32, steps: u32) -> Result<Answer, AllocError>
+    requires few { length text.now ≤ 2 ^ 60 }
+    requires verified { JudgesText text.now (Judgement.Verified theorems) }
+    ensures { IfOk result (λ a. (a.status ≡ Status.Tried theorems steps) × (a.line.items ≡ tried_line theorems steps)) }
 {
-    match judge(alloc, text)? {
-        Judgement::Verified { theorems: count } if count == theorems => Ok(Answer {
-            status: Status::Tried { theorems, steps },
-            line: tried(alloc, theorems, steps)?,
-        }),
-        judgement => Ok(Answer {
-            line: verifier::line_of(alloc, &judgement)?,
-            status: verifier::answer_of(judgement),
-        }),
-    }
+    let Judgement::Verified { theorems } = judge(alloc, text)? else {
+        unreachable!();
+    };
+    Ok(Answer {
+        status: Status::Tried { theorems, steps },
+        line: tried(alloc, theorems, steps)?,
+    })
 }
 
 /// The answer to a book in memory, with its line.
@@ -66,7 +67,7 @@ fn answer_to(alloc: Global, lines: &mut Lines) -> Result<Answer, AllocError>
     let Ok(()) = write_all(&mut store, &line) else {
         return Err(AllocError);
     };
-    judged(alloc, &store.into_bytes(), theorems, steps)
+    verified(alloc, &store.into_bytes(), theorems, steps)
 }
 
 /// The answer to the generated book of so many theorems, with its line.

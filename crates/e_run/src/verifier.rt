@@ -15,7 +15,7 @@ use e_judgement::{Judgement, judge};
 use std::alloc::{AllocError, Global};
 
 /// The answer of a judgement.
-pub fn answer_of(judgement: Judgement) -> Status
+fn answer_of(judgement: Judgement) -> Status
     ensures { result ≡ Rattle.e_run.specs.Verifying.answer_of judgement }
 {
     match judgement {
@@ -26,7 +26,7 @@ pub fn answer_of(judgement: Judgement) -> Status
 }
 
 /// The line of a judgement.
-pub fn line_of(alloc: Global, judgement: &Judgement) -> Result<Vec<u8>, AllocError>
+fn line_of(alloc: Global, judgement: &Judgement) -> Result<Vec<u8>, AllocError>
     ensures { IfOk result (λ v. v.items ≡ Rattle.e_run.specs.Verifying.line_of judgement.now) }
 {
     match judgement {
