@@ -1,5 +1,5 @@
 -- A book that has an outcome is answered so.
-use Rattle.std.proofs.Common.{◌≡◌, inl, inr, ℕ, List, [], Option, Some, None, refl, sym, ap, subst, ◌∙◌}
+use Rattle.std.proofs.Common.{◌≡◌, inl, inr, ℕ, List, Option, refl, sym, subst}
 use Rattle.e_run.specs.declared.status.Status.{Status}
 use Rattle.e_run.specs.declared.status.Status.TheVariants as status
 use Rattle.std.specs.Prelude.{Contains, Bool, true, false, MatchBool}

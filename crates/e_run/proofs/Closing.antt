@@ -1,9 +1,8 @@
 -- The last lines behind the blocks.
-use Rattle.std.proofs.Common.{◌≡◌, ◌⊎◌, inl, inr, ℕ, ◌+◌, ◌<◌, ◌≤◌, List, [], ◌∷◌, ◌++◌, length, map, Option, Some, None, Result, Ok, Err, refl, sym, ap, subst, ◌∙◌, arith, append_assoc, length-append, take}
-use Rattle.std.proofs.lemmas.List.{append-nil, take-append-le}
+use Rattle.std.proofs.Common.{◌≡◌, inl, inr, ℕ, ◌+◌, List, [], ◌++◌, length, Option, Some, None, refl, sym, ap, subst, ◌∙◌, arith, take}
+use Rattle.std.proofs.lemmas.List.{take-append-le}
 use Rattle.std.proofs.Math.Seq.{take-append-add}
 use Rattle.e_io.specs.Bytes.{Grew, GrewByFront}
-use Rattle.e_deriv.specs.declared.stop.Stop.{Stop}
 use Rattle.e_deriv.specs.declared.stop.Stop.TheVariants as stops
 use Rattle.e_run.specs.declared.status.Status.{Status}
 use Rattle.e_run.specs.declared.status.Status.TheVariants as status
@@ -14,7 +13,7 @@ use Rattle.e_book.specs.Headed.{Headed}
 use Rattle.e_run.specs.Outcome.{Rest, lines_of_book}
 use Rattle.e_run.specs.Outcome as ends
 use Rattle.e_run.specs.LastLines.{head_line, no_memory_line, read_fault_line}
-use Rattle.e_run.specs.Answers.{Derived, AllDerived, theorems_of, blocks_of, written_with, Ended, EndsSo, Refuses, Widens, CutOff, Outputs, WroteAll, WroteFront, Checks, ChecksBook}
+use Rattle.e_run.specs.Answers.{Derived, blocks_of, written_with, Ended, EndsSo, Refuses, Widens, Outputs, WroteAll, WroteFront, Checks, ChecksBook}
 use Rattle.e_run.specs.Input.{IsTextOf}
 use Rattle.e_run.specs.Endings.{EndsWith, BreaksOff, BreaksInside, EndingIs, Closes, last_lines, answer_of}
 use Rattle.e_run.proofs.VerifiedText.{verified_text}

@@ -15,7 +15,6 @@ use Rattle.e_clause.specs.declared.cert.Against.{Against}
 use Rattle.e_clause.specs.declared.cert.Against.TheVariants as against
 use Rattle.e_deriv.specs.Script.{Script, Cite, Hence, Make, Apply, Claim, Superposed, Qed, Contradiction, Cases}
 use Rattle.e_metric.specs.Written as found
-use Rattle.e_prove.specs.Written as derived
 use Rattle.e_prove.specs.Written.{is_written_well as is_derived_well}
 use Rattle.e_verify.specs.Written as asked
 use Rattle.e_verify.specs.Written.{is_written_well}

@@ -1,10 +1,9 @@
 -- What is told of a generated book.
-use Rattle.std.proofs.Common.{◌≡◌, ◌⊎◌, inl, inr, ℕ, ◌≤◌, ◌^◌, length, List, [], ◌++◌, Option, Some, None, refl, sym, ap, subst, ◌∙◌, arith}
+use Rattle.std.proofs.Common.{◌≡◌, ◌⊎◌, inl, inr, ℕ, ◌≤◌, ◌^◌, length, List, [], Option, Some, refl, sym, ap, subst, ◌∙◌, arith}
 use Rattle.e_io.specs.Bytes.{Grew, GrewByFront}
 use Rattle.e_text.proofs.WholeLines.{lines_of-take}
 use Rattle.e_deriv.specs.declared.stop.Stop.TheVariants as stops
 use Rattle.e_book.specs.Headed.{Headed}
-use Rattle.e_book.specs.Entry.{Entry}
 use Rattle.e_generate.specs.Generated.{generated_text}
 use Rattle.e_judgement.specs.declared.judgement.Judgement.TheVariants as judged
 use Rattle.e_judgement.specs.Judged.{JudgesText}
@@ -18,9 +17,9 @@ use Rattle.e_run.specs.Input.{IsTextOf}
 use Rattle.e_run.specs.LastLines.{head_line, accepted_line, tried_line}
 use Rattle.e_run.specs.Outcome.{Rest, End, EndsBook, Begins, lines_of_book}
 use Rattle.e_run.specs.Outcome as ends
-use Rattle.e_run.specs.Answers.{Derived, EndsSo, IsAnswer, IsReadFault, IsWriteFault, theorems_of, blocks_of, written_with}
+use Rattle.e_run.specs.Answers.{IsAnswer, IsReadFault, IsWriteFault, theorems_of, written_with}
 use Rattle.e_run.specs.Endings.{Closes, EndsWith, EndingIs, answer_of, last_lines}
-use Rattle.e_run.specs.Trying.{IsAccepted, IsStopped, IsTried, Told, TriesLines, Tries, IsTrialAnswer, AnswersTrial}
+use Rattle.e_run.specs.Trying.{IsStopped, IsTried, Told, TriesLines, Tries, IsTrialAnswer, AnswersTrial}
 use Rattle.e_run.proofs.Answering.{answered_so, stops_so, widens_so, is_answer_wide}
 use Rattle.e_run.proofs.Closing.{grew_all}
 use Rattle.e_run.proofs.VerifiedText.{verified_text}
@@ -77,7 +76,7 @@ pub accepted_tried : (lines : Rest) (b c d : Option (List ℕ)) (n s : ℕ) (out
     → length out ≤ 2 ^ 60 → IsTried lines n s
 accepted_tried lines b c d n s out last h e g is whole few =
     let all : Grew (Some []) d (written_with e.0.derived (accepted_line n)) =
-        grew_all (Some []) b c d e.0.derived (accepted_line n) h e.0.grew (subst (Grew c d) is g) in
+    grew_all (Some []) b c d e.0.derived (accepted_line n) h e.0.grew (subst (Grew c d) is g) in
     let bytes : out ≡ written_with e.0.derived (accepted_line n) = inside _ _ (sym whole ∙ all) in
     record {
       out = out;
@@ -94,7 +93,7 @@ pub accepted_verified : (lines : Rest) (b c d : Option (List ℕ)) (n s : ℕ) (
     → length out ≤ 2 ^ 60 → JudgesText out (judged.Verified n)
 accepted_verified lines b c d n s out last h e g is whole few =
     let all : Grew (Some []) d (written_with e.0.derived (accepted_line n)) =
-        grew_all (Some []) b c d e.0.derived (accepted_line n) h e.0.grew (subst (Grew c d) is g) in
+    grew_all (Some []) b c d e.0.derived (accepted_line n) h e.0.grew (subst (Grew c d) is g) in
     let bytes : out ≡ written_with e.0.derived (accepted_line n) = inside _ _ (sym whole ∙ all) in
     subst (λ (x : List ℕ). JudgesText x (judged.Verified n)) (sym bytes)
     (verified_text lines n e.0.derived e.0.known e.0.rest e.0.sound e.0.begins e.0.holds (subst (λ (x : List ℕ). length x ≤ 2 ^ 60) bytes few))
@@ -152,7 +151,7 @@ tried_answers : (text : List ℕ) (n s : ℕ) (end : End) → IsTried (lines_of_
 tried_answers text n s end h k =
     let e = h.accepted.ended in
     let is : ends.Accepted n ≡ end =
-        outcome_is_one (lines_of_book text) (theorems_of e.derived) k.theorems (ends.Accepted n) end (record { known = e.known; rest = e.rest; begins = e.begins; ends = e.holds }) k.outcome in
+    outcome_is_one (lines_of_book text) (theorems_of e.derived) k.theorems (ends.Accepted n) end (record { known = e.known; rest = e.rest; begins = e.begins; ends = e.holds }) k.outcome in
     subst (λ (x : End). IsTrialAnswer (lines_of_book text) x (status.Tried n s)) is refl
 
 -- an answer that `check` gives to a book that it does not accept
@@ -180,12 +179,12 @@ told_answer text line (status.Unlicensed title step wanted values) end t k =
     let o = t.1 in
     other_answers (lines_of_book text) end (status.Unlicensed title step wanted values) tt
     (answered_so text end (status.Unlicensed title step wanted values) (theorems_of o.derived) o.known o.rest (ends.Unlicensed title step wanted t.0) k o.begins
-        (stops_so (lines_of_book text) o.known o.rest title step wanted values t.0 o.holds) (refl, refl, refl))
+    (stops_so (lines_of_book text) o.known o.rest title step wanted values t.0 o.holds) (refl, refl, refl))
 told_answer text line (status.TooWide title step wanted width) end t k =
     let o = t.1 in
     other_answers (lines_of_book text) end (status.TooWide title step wanted width) tt
     (is_answer_wide (lines_of_book text) end title step wanted width
-        (widens_so (lines_of_book text) (theorems_of o.derived) o.known o.rest title step wanted width t.0 o.begins o.holds))
+    (widens_so (lines_of_book text) (theorems_of o.derived) o.known o.rest title step wanted width t.0 o.begins o.holds))
 told_answer text line (status.Fault f) end t k =
     let o = t.0 in
     other_answers (lines_of_book text) end (status.Fault f) tt

@@ -1,5 +1,5 @@
 -- What is written of an accepted book is judged verified.
-use Rattle.std.proofs.Common.{◌≡◌, ℕ, zero, suc, ◌+◌, ◌≤◌, ◌^◌, List, [], ◌∷◌, ◌++◌, length, map, Option, None, Some, Ok, refl, sym, ap, subst, ◌∙◌, arith, length-append}
+use Rattle.std.proofs.Common.{◌≡◌, ℕ, suc, ◌+◌, ◌≤◌, ◌^◌, List, [], ◌∷◌, ◌++◌, length, map, None, Some, Ok, refl, sym, ap, subst, ◌∙◌, arith, length-append}
 use Rattle.e_deriv.specs.Script.{Script}
 use Rattle.e_book.specs.Headed.{Headed, headed}
 use Rattle.e_book.specs.Entry.{Entry}
@@ -53,8 +53,8 @@ pub verified_text : (lines : Rest) (n : ℕ) (ds : List Derived) (known : List H
 verified_text lines n ds known rest sound begins holds = λ few.
     let count : length (pairs ds) ≡ n = omega (arith, pairs_length ds, known_grows (number_behind lines) [] lines (theorems_of ds) known rest begins, holds.1) in
     let same : texts.written (pairs ds) ≡ written_with ds (accepted_line n) =
-        ap (λ (b : List ℕ). texts.head_line ++ (b ++ texts.accepted_line (length (pairs ds)))) (blocks_same [] ds)
-        ∙ ap (λ (k : ℕ). texts.head_line ++ (blocks_of [] ds ++ texts.accepted_line k)) count in
+    ap (λ (b : List ℕ). texts.head_line ++ (b ++ texts.accepted_line (length (pairs ds)))) (blocks_same [] ds)
+    ∙ ap (λ (k : ℕ). texts.head_line ++ (blocks_of [] ds ++ texts.accepted_line k)) count in
     subst (λ (k : ℕ). JudgesText (written_with ds (accepted_line n)) (Verified k)) count
     (subst (λ (out : List ℕ). JudgesText out (Verified (length (pairs ds)))) same
-        (written_is_verified (pairs ds) (all_spelled (number_behind lines) [] lines ds known rest begins sound) (subst (λ (out : List ℕ). length out ≤ 2 ^ 60) (sym same) few)))
+    (written_is_verified (pairs ds) (all_spelled (number_behind lines) [] lines ds known rest begins sound) (subst (λ (out : List ℕ). length out ≤ 2 ^ 60) (sym same) few)))

@@ -1,23 +1,21 @@
 -- A book that is accepted has no line with a fault, and so no byte past its limit.
-use Rattle.std.proofs.Common.{◌≡◌, ℕ, zero, suc, ◌+◌, ◌-◌, ◌<◌, ◌≤◌, Bool, true, false, cond, ltb, List, [], ◌∷◌, ◌++◌, length, take, drop, inl, inr, Option, Some, None, Result, Ok, Err, refl, sym, ap, subst, ◌∙◌, arith, length-drop, length-take-le}
-use Rattle.std.specs.List.{position_or_len, list_all}
+use Rattle.std.proofs.Common.{◌≡◌, ℕ, zero, suc, ◌+◌, ◌<◌, ◌≤◌, Bool, true, false, cond, ltb, List, [], ◌∷◌, length, take, drop, inl, inr, Option, Some, None, Result, Ok, Err, refl, sym, ap, subst, arith, length-drop, length-take-le}
+use Rattle.std.specs.List.{position_or_len}
 use Rattle.std.proofs.lemmas.Bool.{lt-ltb, cases_lt}
 use Rattle.e_text.specs.declared.line.LineEnd.{LineEnd}
 use Rattle.e_text.specs.declared.line.LineEnd.TheVariants.{TextEnd}
 use Rattle.e_text.specs.declared.line.LineFault.{LineFault}
-use Rattle.e_text.specs.declared.line.LineFault.TheVariants.{Bytes}
 use Rattle.e_text.specs.Tokens.{tokens_of}
 use Rattle.e_text.specs.Lines.{is_lf, Bounds, Spot, Seen, AreGood, checked, closed, ended, lines_of}
 use Rattle.e_text.proofs.FirstLine.{then_lines}
 use Rattle.e_text.proofs.WholeLines.{lines_of-closed, lines_of-open, spot_behind}
-use Rattle.e_book.specs.declared.fault.Kind.{Kind}
 use Rattle.e_book.specs.declared.fault.BookFault.{BookFault}
 use Rattle.e_book.specs.declared.draft.Draft.{Draft}
 use Rattle.e_book.specs.Reading.{◌>>=◌}
 use Rattle.e_book.specs.Headed.{Headed}
 use Rattle.e_book.specs.Entry.{Entry, entry_of_draft}
 use Rattle.e_book.specs.Book.{read_from, at_end, is_skipped, is_done, line_step, put_at}
-use Rattle.e_run.specs.Outcome.{Rest, with_theorem, Takes, Ends, Accepted, IsOutcome, lines_of_book}
+use Rattle.e_run.specs.Outcome.{Rest, with_theorem, Takes, Accepted, IsOutcome, lines_of_book}
 use Rattle.e_run.specs.declared.status.Status.{Status}
 use Rattle.e_run.specs.declared.status.Status.TheVariants as status
 use Rattle.e_run.specs.Answers.{Checks, IsAccepted, theorems_of}

@@ -1,5 +1,5 @@
 -- What a run answers to a text, and what it writes.
-use Rattle.std.specs.Prelude.{◌≡◌, ℕ, ◌+◌, ◌<◌, List, [], ◌∷◌, ◌++◌, map, take, length, codes, Option, Some, None, ◌≤◌, ◌^◌, IsTrue}
+use Rattle.std.specs.Prelude.{◌≡◌, ℕ, ◌+◌, List, [], ◌∷◌, ◌++◌, map, take, length, Option, Some, None, ◌≤◌, ◌^◌, IsTrue}
 use Rattle.e_io.specs.Bytes.{Grew, GrewByFront}
 use Rattle.e_literal.specs.declared.object.Term.{Term}
 use Rattle.e_theorem.specs.Statements.{stated}

@@ -1,5 +1,5 @@
 -- What was read of a source.
-use Rattle.std.specs.Prelude.{◌≡◌, ℕ, ◌+◌, ◌<◌, List, [], take, length, Option, Some, None}
+use Rattle.std.specs.Prelude.{◌≡◌, ℕ, List, [], take, Option, Some, None}
 
 -- where a source tells its bytes, these are the first of them, at most so many
 abbrev pub IsTextOf : ℕ → Option (List ℕ) → List ℕ → Type 0

@@ -1,5 +1,5 @@
 -- The last lines of each answer.
-use Rattle.std.specs.Prelude.{ℕ, List, [], ◌∷◌, ◌++◌, codes, decimal}
+use Rattle.std.specs.Prelude.{ℕ, List, ◌++◌, codes, decimal}
 use Rattle.e_book.specs.declared.fault.BookFault.{BookFault}
 use Rattle.e_book.specs.declared.fault.BookFault.TheVariants as faults
 use Rattle.e_book.specs.declared.fault.What.{What}

@@ -1,7 +1,6 @@
 -- What the command `trial` answers: the generated book is checked, and what `check` would write of it is judged, within one call.
 use Rattle.std.specs.Prelude.{◌≡◌, ◌⊎◌, ℕ, List, [], Option}
 use Rattle.e_io.specs.Bytes.{Grew, GrewByFront}
-use Rattle.e_literal.specs.declared.object.Term.{Term}
 use Rattle.e_deriv.specs.declared.names.Names.{Names}
 use Rattle.e_book.specs.Headed.{Headed}
 use Rattle.e_spell.specs.Spelling.{unlicensed_text, too_wide_text}

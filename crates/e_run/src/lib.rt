@@ -14,6 +14,8 @@ mod store;
 mod trial;
 mod verifier;
 
-pub use laws::{books_have_one_outcome, lines_have_one_reading, refusal_is_outcome, too_wide_is_wide};
+pub use laws::{
+    books_have_one_outcome, lines_have_one_reading, refusal_is_outcome, too_wide_is_wide,
+};
 pub use runner::run;
 pub use status::{Status, exit_code};

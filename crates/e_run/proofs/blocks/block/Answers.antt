@@ -1,6 +1,5 @@
-use Rattle.std.proofs.Common.{◌≡◌, ◌∙◌, sym}
+use Rattle.std.proofs.Common.{◌∙◌, sym}
 use Rattle.e_deriv.specs.Script.{script_of}
-use Rattle.e_book.specs.Entry.{entry_of}
 use Rattle.e_run.proofs.SameWritten.{written_same}
 use Rattle.e_run.proofs.blocks.block.Goals as goal
 
@@ -8,9 +7,9 @@ pub returns-clause-block : goal.returns-clause-block
 returns-clause-block c = record {
   derivation = script_of c.in_ok-derivation.derivation;
   sound = record {
-    certified = c.in_ok-derivation.ensures.certified;
+    certified = rw c.statements.ensures at c.in_ok-derivation.ensures.certified;
     own = c.in_ok-derivation.ensures.script;
-    least = c.in_ok-derivation.ensures.least;
+    least = rw c.statements.ensures at c.in_ok-derivation.ensures.least;
     written = sym (written_same (script_of c.in_ok-derivation.derivation)) ∙ c.in_ok-derivation.ensures.written c.requires.good;
   };
   spells = c.in_ok-spell.ensures;

@@ -1,4 +1,4 @@
-use Rattle.std.proofs.Common.{None, Some, Ok, ◌≡◌, [], ◌∷◌, length, length-append, ap, sym, ◌∙◌, arith, rules, subst}
+use Rattle.std.proofs.Common.{None, Some, Ok, [], ◌∷◌, length, length-append, ap, ◌∙◌, arith}
 use Rattle.e_book.specs.Headed.{headed}
 use Rattle.e_book.specs.Entry.{entry_of}
 use Rattle.e_book.specs.Book.{last_line}

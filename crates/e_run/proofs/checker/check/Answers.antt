@@ -1,6 +1,6 @@
-use Rattle.std.proofs.Common.{◌≡◌, ◌∙◌, List, ℕ, Option, arith, length, ap, sym, subst}
+use Rattle.std.proofs.Common.{◌∙◌, arith, ap}
 use Rattle.e_text.proofs.WholeLines.{length-lines_of}
-use Rattle.e_run.specs.Outcome.{Rest, lines_of_book}
+use Rattle.e_run.specs.Outcome.{lines_of_book}
 use Rattle.e_text.specs.Lines.{Ahead}
 use Rattle.e_run.specs.declared.status.Status.TheVariants as status
 use Rattle.e_run.proofs.Closing.{any_book, closed_head, closed_read, closed_unread, read_book_lines, checks_at}

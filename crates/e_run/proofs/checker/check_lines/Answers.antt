@@ -1,4 +1,4 @@
-use Rattle.std.proofs.Common.{◌≡◌, ◌∙◌, List, ℕ, Option}
+use Rattle.std.proofs.Common.{◌∙◌}
 use Rattle.e_run.proofs.Closing.{closed_broken, closed_inside, closed_ending_as, off_of_ending}
 use Rattle.e_run.proofs.checker.check_lines.Goals as goal
 

@@ -1,4 +1,4 @@
-use Rattle.std.proofs.Common.{◌≡◌, ◌∙◌}
+use Rattle.std.proofs.Common.{◌∙◌}
 use Rattle.e_run.proofs.Making.{made_closed, unmade_closed}
 use Rattle.e_run.proofs.maker.make.Goals as goal
 

@@ -1,5 +1,4 @@
-use Rattle.std.proofs.Common.{◌≡◌, ◌∙◌, ℕ, map, sym, subst}
-use Rattle.std.specs.Prelude.{string_bytes}
+use Rattle.std.proofs.Common.{◌∙◌, ℕ, subst}
 use Rattle.e_run.specs.Trying.{Tries}
 use Rattle.e_run.proofs.Answering.{answers, answers_usage}
 use Rattle.e_run.proofs.Trials.{answers_trial, trial_number}
@@ -29,5 +28,5 @@ returns-in-Unknown-clause-usage g c =
 pub returns-in-Trial-clause-generated : goal.returns-in-Trial-clause-generated
 returns-in-Trial-clause-generated g c =
     λ n w. answers_trial n (g.K.Sink.written c.args.sink.now) (g.K.Sink.written c.trial.new.sink) c.trial.result
-        (subst (λ (m : ℕ). Tries m (g.K.Sink.written c.args.sink.now) (g.K.Sink.written c.trial.new.sink) c.trial.result)
-            (trial_number c.command_of.result c.in-Trial.theorems n c.in-Trial.is (c.command_of.ensures.value ∙ w)) c.trial.ensures.tries)
+    (subst (λ (m : ℕ). Tries m (g.K.Sink.written c.args.sink.now) (g.K.Sink.written c.trial.new.sink) c.trial.result)
+    (trial_number c.command_of.result c.in-Trial.theorems n c.in-Trial.is (c.command_of.ensures.value ∙ w)) c.trial.ensures.tries)

@@ -1,4 +1,4 @@
-use Rattle.std.proofs.Common.{◌≡◌, ◌∙◌, ℕ, List, Option, Some, arith, length, sym, ap, subst}
+use Rattle.std.proofs.Common.{◌≡◌, ◌∙◌, ℕ, List, Some, arith, ap, subst}
 use Rattle.std.specs.Prelude.{IfOk}
 use Rattle.e_text.specs.Lines.{Ahead}
 use Rattle.e_text.proofs.WholeLines.{length-lines_of}
@@ -18,5 +18,5 @@ returns c =
     let source : c.new-source.result ≡ generated_text c.args.theorems = c.new-source.ensures ∙ c.in_ok-generated.ensures in
     let text : IsTextOf 4194305 (Some (generated_text c.args.theorems)) c.in-Ok.text.items = subst (λ (b : List ℕ). IsTextOf 4194305 (Some b) c.in-Ok.text.items) source c.in-Ok.ensures.text in
     let lines : c.new-lines.result.lines ≡ lines_of_book (generated_text c.args.theorems) =
-        ap (λ (a : Ahead). a.lines) c.new-lines.ensures ∙ ap lines_of_book c.deref.ensures.value ∙ book_lines c.in-Ok.text.items (generated_text c.args.theorems) text in
+    ap (λ (a : Ahead). a.lines) c.new-lines.ensures ∙ ap lines_of_book c.deref.ensures.value ∙ book_lines c.in-Ok.text.items (generated_text c.args.theorems) text in
     subst (λ (l : Rest). IfOk c.answer_to.result (λ a. Told l a.status a.line.items)) lines c.answer_to.ensures

@@ -1,4 +1,4 @@
-use Rattle.std.proofs.Common.{◌≡◌, ◌∙◌, ℕ, List, [], Option, Some, Result, Ok, Err, sym, ap, subst, ◌≤◌, ◌^◌, length}
+use Rattle.std.proofs.Common.{◌≡◌, ◌∙◌, ℕ, List, [], Some, Result, Ok, Err, sym, ap, subst, ◌≤◌, ◌^◌, length}
 use Rattle.std.specs.Prelude.{IfOk}
 use Rattle.e_io.specs.Bytes.{Grew}
 use Rattle.e_run.specs.declared.blocks.Ending.{Ending}
@@ -35,6 +35,6 @@ returns c =
     let ending = subst (λ (e : Ending). EndingIs c.args.lines.now.lines (Some c.write_all.new.sink.0) (Some c.blocks-2.new.sink.0) e) c.in-All.is c.in-Ok-blocks.ensures.ending in
     told_if c.args.lines.now.lines c.in-All.theorems c.in-All.steps c.verified.result
     (accepted_tried c.args.lines.now.lines (Some c.write_all.new.sink.0) (Some c.blocks-2.new.sink.0) (Some c.write_all-2.new.sink.0) c.in-All.theorems c.in-All.steps c.deref-2.result.now c.deref.result.now
-        head ending c.in-Ok-write_all.ensures.ok (c.deref.ensures.value ∙ c.in_ok-line.ensures ∙ ap last_lines c.in-All.is) (ap (λ (l : List ℕ). Some l) (sym (c.deref-2.ensures.value ∙ c.into_bytes.ensures.value)))
-        (subst (λ (l : List ℕ). length l ≤ 2 ^ 60) (sym c.deref-2.ensures.value) c.into_bytes.ensures.few))
+    head ending c.in-Ok-write_all.ensures.ok (c.deref.ensures.value ∙ c.in_ok-line.ensures ∙ ap last_lines c.in-All.is) (ap (λ (l : List ℕ). Some l) (sym (c.deref-2.ensures.value ∙ c.into_bytes.ensures.value)))
+    (subst (λ (l : List ℕ). length l ≤ 2 ^ 60) (sym c.deref-2.ensures.value) c.into_bytes.ensures.few))
     c.verified.ensures
