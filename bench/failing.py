@@ -31,9 +31,9 @@ def run(words, text, room, kind=None, call=None):
 
 
 def is_front_of_blocks(out, usual):
-    """Whether these are the head line and whole blocks of the usual bytes, and then `no memory`, or that line alone."""
+    """Whether these are the head line and whole blocks of the usual bytes, and then `no memory`; or nothing, where the words found no memory."""
     if not out.endswith(b"no memory\n"):
-        return False
+        return out == b""
     front = out[: -len(b"no memory\n")]
     return usual.startswith(front) and (front in (b"", b"derivation 1\n") or front.endswith(b"\nend\n"))
 

@@ -37,7 +37,7 @@ def main(program):
     print("%-34s %9s %9s %6s %8s  %s" % ("text", "bytes", "processor", "ratio", "MB/s", "answer"))
     before, last = None, None
     with tempfile.TemporaryDirectory() as room:
-        for theorems in (16, 32, 64):
+        for theorems in (40, 80, 160):
             book = subprocess.run([sys.executable, f"{HERE}/sums.py", str(theorems)], stdout=subprocess.PIPE, check=True).stdout
             text = f"{room}/{theorems}.text"
             with open(text, "wb") as to:
