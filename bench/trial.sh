@@ -5,11 +5,7 @@ set -eu
 here="$(cd "$(dirname "$0")" && pwd)"
 program="${1:-$here/../crates/elements/out/elements}"
 echo "machine: $(sed -n 's/^model name[^:]*: //p' /proc/cpuinfo | head -1), $(nproc) processors, load $(cut -d' ' -f1 /proc/loadavg)"
+TIMEFORMAT='%3U s  %3S s in the system'
 for count in 1 6 60 125 250 500; do
-    python3 - "$program" "$count" <<'END'
-import resource, subprocess, sys
-ran = subprocess.run([sys.argv[1], "trial", sys.argv[2]], stdout=subprocess.PIPE, check=False)
-used = resource.getrusage(resource.RUSAGE_CHILDREN)
-print("%9.3f s  %s" % (used.ru_utime + used.ru_stime, ran.stdout.decode().strip()))
-END
+    time "$program" trial "$count"
 done
