@@ -10,4 +10,5 @@ pub mod Certified
 pub mod Refused
 pub mod Fitting
 pub mod Naming
+pub mod Written
 pub mod Laws

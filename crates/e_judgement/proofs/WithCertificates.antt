@@ -23,7 +23,8 @@ use Rattle.e_book.specs.Fits.{is_diagram_atom, is_diagram_lit, has_good_literals
 use Rattle.e_book.proofs.Answered.{and, appended}
 use Rattle.e_book.proofs.Differ.{both}
 use Rattle.e_read.proofs.GoodCerts.{has_good_certs}
-use Rattle.e_verify.specs.Written.{is_good_cert, is_written_well}
+use Rattle.e_clause.specs.Written.{is_good_cert}
+use Rattle.e_deriv.specs.Written.{is_written_well}
 
 pub size_erased : (s : Script) → size (erased s) ≡ size s
 unfolding size erased

@@ -12,7 +12,7 @@ use Rattle.e_clause.specs.Certify.{certifies, certifies_against}
 use Rattle.e_clause.specs.Consequence.{Contradictory}
 use Rattle.e_clause.specs.Counterexample.{ListsCounterexample}
 use Rattle.e_clause.specs.Wide.{IsTooWideLit, IsTooWideContradiction}
-use Rattle.e_metric.specs.Written.{is_good_cert, is_good_against}
+use Rattle.e_clause.specs.Written.{is_good_cert, is_good_against}
 use Rattle.e_licence.specs.Contexts.{Basis}
 use Rattle.e_licence.specs.declared.licensing.Licensed.{Licensed}
 use Rattle.e_licence.specs.declared.licensing.Licensed.TheVariants as licensed

@@ -32,7 +32,7 @@ use Rattle.e_metric.specs.Agree.{AreRows, AllLimited}
 use Rattle.e_metric.specs.Listed.{listed, terms_of_kind}
 use Rattle.e_metric.specs.Certificate.{sums_of}
 use Rattle.e_metric.specs.Told.{IsCertified, IsTooWide}
-use Rattle.e_metric.specs.Written.{is_good_sums}
+use Rattle.e_clause.specs.Written.{is_good_sums}
 use Rattle.e_metric.proofs.Alike.{satisfy_alike, wide_alike, width_alike}
 use Rattle.e_metric.proofs.Bounds.{system_length}
 use Rattle.e_metric.proofs.Certifying.{names_are, rows_alike, length_rows, length_map, certified}

@@ -18,7 +18,7 @@ use Rattle.e_clause.proofs.Named.{Each, EachLit, each_literal, each_system}
 use Rattle.e_fraction.specs.declared.row.Row.{Row as GivenRow}
 use Rattle.e_simplex.specs.declared.decision.Absurdity.{Absurdity}
 use Rattle.e_metric.specs.Certificate.{sums_of}
-use Rattle.e_metric.specs.Written.{is_good_name, is_good_sums}
+use Rattle.e_clause.specs.Written.{is_good_name, is_good_sums}
 use Rattle.e_metric.proofs.Names.{each_of, each_name, sums_have}
 use Rattle.e_metric.proofs.Reordered.{AreReordered}
 

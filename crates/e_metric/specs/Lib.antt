@@ -3,7 +3,6 @@ pub mod Agree
 pub mod Listed
 pub mod Certificate
 pub mod Assigned
-pub mod Written
 pub mod Told
 pub mod Further
 pub mod Kept

@@ -13,7 +13,7 @@ use Rattle.e_clause.specs.MetricCertificate.{sums_refute, sums_in}
 use Rattle.e_clause.specs.Wide.{HasWidth}
 use Rattle.e_clause.specs.Counterexample.{ListsCounterexample}
 use Rattle.e_simplex.specs.Answer.{assigned}
-use Rattle.e_metric.specs.Written.{is_good_sums}
+use Rattle.e_clause.specs.Written.{is_good_sums}
 use Rattle.e_metric.specs.declared.consequence.Metric.{Metric}
 use Rattle.e_metric.specs.declared.consequence.Metric.TheVariants.{Yes, No, TooWide}
 

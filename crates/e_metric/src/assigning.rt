@@ -15,9 +15,8 @@ ghost use Rattle.e_clause.specs.Counterexample.{are_in_order, ListsCounterexampl
 ghost use Rattle.e_simplex.specs.Answer;
 ghost use Rattle.e_metric.specs.Assigned.{values_of, step_value};
 
-use crate::joining::is_degenerate;
 use e_facts::Facts;
-use e_literal::compare::canonical;
+use e_literal::compare::{canonical, is_degenerate};
 use e_literal::{Atom, Lit, Mono, Term, Values};
 use std::alloc::{AllocError, Global};
 

@@ -1,25 +1,13 @@
 // The difference of two sums, in which each term stands once.
 
 ghost use Rattle.std.specs.Prelude.{◌≡◌, ◌+◌, ◌<◌, ◌≤◌, ◌^◌, length, pos, OnOk, IfOk};
-ghost use Rattle.e_literal.specs.Rows;
 ghost use Rattle.e_literal.specs.Same.{one_term, coeff_of};
 ghost use Rattle.e_metric.specs.Joined.{with_term, with_terms};
 
 use e_fraction::signed::stands_in;
-use e_literal::compare::canonical;
+use e_literal::compare::{canonical, is_degenerate};
 use e_literal::{Mono, Term};
 use std::alloc::{AllocError, Global};
-
-/// Whether the term is 0 in itself: a segment from a point to itself, or an area with a repeated point.
-pub fn is_degenerate(term: Term) -> bool
-    ensures { result ≡ Rows.is_degenerate term }
-{
-    match term {
-        Term::Seg(a, b) => a == b,
-        Term::Area(a, b, c) => a == b || b == c || a == c,
-        Term::Ang(_, _, _) | Term::Right => false,
-    }
-}
 
 /// Whether two terms are one.
 pub fn is_one_term(a: Term, b: Term) -> bool

@@ -12,13 +12,12 @@ ghost use Rattle.e_clause.specs.System.{of_kind, against_goal, rows_named, rows_
 ghost use Rattle.e_metric.specs.Further;
 ghost use Rattle.e_metric.specs.Agree.{AreRows, AllLimited, GrowBy, IsRow, IsLimited};
 
-use crate::joining::is_degenerate;
 use crate::listing::{is_of_kind, terms_of_kind};
 use crate::literals::row_of;
 use e_clause::RowName;
 use e_facts::Facts;
 use e_fraction::{Row, RowKind, Signed};
-use e_literal::compare::canonical;
+use e_literal::compare::{canonical, is_degenerate};
 use e_literal::{Atom, Kind, Lit, Term, copy};
 use std::alloc::{AllocError, Global};
 

@@ -27,7 +27,7 @@ use Rattle.e_deriv.specs.Naming.{names_lines}
 use Rattle.e_deriv.specs.Fitting.{all_objects, is_small, is_small_statement}
 use Rattle.e_deriv.proofs.Choices.{same_obj_self, written_again, no_blank_again, fills_again, least_of_good}
 use Rattle.e_deriv.proofs.Stops.{none_not_allowed}
-use Rattle.e_metric.specs.Written.{is_good_cert}
+use Rattle.e_clause.specs.Written.{is_good_cert}
 use Rattle.e_licence.specs.Contexts.{Basis}
 use Rattle.e_prove.specs.declared.application.Use.{Use}
 use Rattle.e_prove.specs.declared.halt.Halt.{Halt}

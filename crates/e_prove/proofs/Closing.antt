@@ -17,7 +17,7 @@ use Rattle.e_clause.specs.Judged.{are_good}
 use Rattle.e_clause.proofs.Sound.{all_allowed_of_certified, contradictory_of_certified}
 use Rattle.e_clause.specs.Wide.{IsTooWideContradiction}
 use Rattle.e_literal.specs.declared.object.Term.{Term}
-use Rattle.e_metric.specs.Written.{is_good_cert}
+use Rattle.e_clause.specs.Written.{is_good_cert}
 use Rattle.e_licence.specs.Licences.{IsCertifiedAgainst, IsConsistentBy}
 use Rattle.e_deriv.specs.declared.block.Close.TheVariants.{Qed as QedClose, Contradiction as ContradictionClose}
 use Rattle.e_deriv.specs.declared.stop.Wanted.TheVariants.{Literal, Match, Contradiction as AContradiction}

@@ -19,7 +19,7 @@ use Rattle.e_deriv.specs.Parts.{filled_by}
 use Rattle.e_deriv.specs.Lines.{lines}
 use Rattle.e_deriv.specs.Steps.{is_cited}
 use Rattle.e_deriv.specs.Naming.{names_lines}
-use Rattle.e_metric.specs.Written.{is_good_cert}
+use Rattle.e_clause.specs.Written.{is_good_cert}
 use Rattle.e_prove.specs.declared.halt.Halt.{Halt}
 use Rattle.e_prove.specs.declared.halt.Halt.TheVariants as halt
 use Rattle.e_prove.specs.declared.standing.Standing.{Standing}

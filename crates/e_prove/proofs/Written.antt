@@ -11,8 +11,9 @@ use Rattle.e_book.specs.Fits.{is_diagram_atom, is_diagram_lit, has_good_literals
 use Rattle.e_deriv.specs.declared.block.Block.{Block}
 use Rattle.e_deriv.specs.Script.{Script, script_of, Cite, Hence, Make, Apply, Claim, Superposed, Qed, Contradiction, Cases, erased}
 use Rattle.e_deriv.specs.Parts.{filled_by, rest_of, inner_of}
-use Rattle.e_metric.specs.Written.{is_good_cert}
-use Rattle.e_prove.specs.Written.{is_written_well, has_good_certs}
+use Rattle.e_clause.specs.Written.{is_good_cert}
+use Rattle.e_deriv.specs.Written.{is_written_well}
+use Rattle.e_prove.specs.Written.{has_good_certs}
 use Rattle.e_prove.proofs.Licensing.{and_both, and_left, and_right}
 
 -- ---- certificates and blanks are no part of the literals

@@ -10,7 +10,7 @@ use Rattle.e_clause.specs.Judged.{are_good, are_good_facts}
 use Rattle.e_theorem.specs.Choice.{is_choice, IsLeast}
 use Rattle.e_theorem.specs.Pattern.{is_pattern}
 use Rattle.e_deriv.specs.Fitting.{is_small, is_small_statement}
-use Rattle.e_metric.specs.Written.{is_good_cert}
+use Rattle.e_clause.specs.Written.{is_good_cert}
 use Rattle.e_licence.specs.Contexts.{Basis}
 use Rattle.e_prove.specs.declared.application.Use.{Use}
 

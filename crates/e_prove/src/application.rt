@@ -11,7 +11,7 @@ ghost use Rattle.e_deriv.specs.Fitting.{is_small, is_small_statement};
 ghost use Rattle.e_deriv.specs.Lines.{theorem_at};
 ghost use Rattle.e_deriv.specs.Parts;
 ghost use Rattle.e_deriv.specs.Parts.{has_no_blank};
-ghost use Rattle.e_metric.specs.Written.{is_good_cert};
+ghost use Rattle.e_clause.specs.Written.{is_good_cert};
 ghost use Rattle.e_prove.specs.Applying.{CanApply, IsUse};
 ghost use Rattle.e_prove.specs.Halts.{HaltsIn, HaltsFilling, HaltsApplying, UnlessNoMemory};
 ghost use Rattle.e_prove.specs.Halts;

@@ -6,7 +6,7 @@ ghost use Rattle.e_literal.specs.Literal.{negation};
 ghost use Rattle.e_clause.specs.Certify.{certifies, certify_all};
 ghost use Rattle.e_clause.specs.Judged.{is_good, are_good};
 ghost use Rattle.e_deriv.specs.Steps.{instance_gives};
-ghost use Rattle.e_metric.specs.Written.{is_good_cert};
+ghost use Rattle.e_clause.specs.Written.{is_good_cert};
 ghost use Rattle.e_licence.specs.Licences.{IsLicence};
 ghost use Rattle.e_prove.specs.Halts.{HaltsIn};
 

@@ -9,7 +9,7 @@ ghost use Rattle.e_construct.specs.Construct;
 ghost use Rattle.e_deriv.specs.declared.block.Step.TheVariants.{Cite, Hence, Make};
 ghost use Rattle.e_construct.specs.Superposing;
 ghost use Rattle.e_clause.specs.Certify.{certify_all};
-ghost use Rattle.e_metric.specs.Written.{is_good_cert};
+ghost use Rattle.e_clause.specs.Written.{is_good_cert};
 ghost use Rattle.e_prove.specs.Contexts.{HasRoom, after_make, after_superposed};
 ghost use Rattle.e_prove.specs.Halts.{HaltsIn, UnlessNoMemory};
 ghost use Rattle.e_prove.specs.Judging.{IsJudged, StepHalts};

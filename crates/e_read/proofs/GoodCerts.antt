@@ -9,7 +9,7 @@ use Rattle.e_book.proofs.Differ.{both}
 use Rattle.e_read.specs.declared.kept.Kept.{Kept}
 use Rattle.e_read.specs.declared.kept.Kept.TheVariants as kept
 use Rattle.e_read.specs.Filled.{first_cert, next_certs, next_against, behind_next, filled}
-use Rattle.e_verify.specs.Written.{is_good_cert, is_good_against}
+use Rattle.e_clause.specs.Written.{is_good_cert, is_good_against}
 
 -- the literals of the certificates are well formed
 unfoldable pub has_good_certs : Script → Bool

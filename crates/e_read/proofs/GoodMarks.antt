@@ -52,7 +52,7 @@ use Rattle.e_read.specs.Marks.{multiplier_of, bare_row, row_named, row_of, may_d
 use Rattle.e_read.specs.Strict.{is_strict_mark, strict_mark}
 use Rattle.e_read.specs.Owed.{most_rows, fact_in, row_in, with_row, row_put, sum_begun, differs_put, sums_ended, has_more, certificate, transfer_put, part_put, metric_put, takes_metric, clash_put, transfer_rule, count_others, transfer_at, transfer_in, transfer_begun, ended, sums_behind, due_behind, marked, kept_of, settled}
 use Rattle.e_read.proofs.TakenLines.{passed}
-use Rattle.e_verify.specs.Written.{is_good_name, is_good_sum, is_good_sums, is_good_part, is_good_cert, is_good_against}
+use Rattle.e_clause.specs.Written.{is_good_name, is_good_sum, is_good_sums, is_good_part, is_good_cert, is_good_against}
 use Rattle.e_read.proofs.GoodCerts.{AreGood}
 
 -- ---- what is said: no coefficient of a row's literal is 0

@@ -28,7 +28,7 @@ use Rattle.e_clause.specs.PartCertificate.{part_certifies, part_in}
 use Rattle.e_clause.specs.TransferCertificate.{parts_certify, instance_certifies, transfer_certifies, args_in, transfer_in}
 use Rattle.e_clause.specs.Certify.{certifies, certify_all, against_holds, certifies_against}
 use Rattle.e_deriv.specs.declared.names.Names.{Names}
-use Rattle.e_verify.specs.Written.{is_good_name, is_good_sum, is_good_sums, is_good_part, is_good_cert, is_good_against}
+use Rattle.e_clause.specs.Written.{is_good_name, is_good_sum, is_good_sums, is_good_part, is_good_cert, is_good_against}
 use Rattle.e_book.specs.Scope.{scope_of_names}
 use Rattle.e_book.specs.Fits.{is_diagram_atom}
 use Rattle.e_book.proofs.Differ.{both}

@@ -13,7 +13,7 @@ use Rattle.e_clause.specs.declared.cert.RowName.{RowName}
 use Rattle.e_clause.specs.declared.cert.RowName.TheVariants as names
 use Rattle.e_clause.specs.MetricCertificate.{row_name_in}
 use Rattle.e_deriv.specs.declared.names.Names.{Names}
-use Rattle.e_verify.specs.Written.{is_good_name}
+use Rattle.e_clause.specs.Written.{is_good_name}
 use Rattle.e_book.specs.Scope.{scope_of_names, term_in}
 use Rattle.e_book.specs.Canonical.{raw_term, raw_signed, raw_of}
 use Rattle.e_book.proofs.Differ.{both}

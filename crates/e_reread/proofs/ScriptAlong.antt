@@ -28,7 +28,7 @@ use Rattle.e_deriv.specs.Lines.{line, lines}
 use Rattle.e_deriv.specs.Parts.{written as written_args}
 use Rattle.e_deriv.specs.Steps.{is_citation}
 use Rattle.e_deriv.specs.Certified.{is_certified}
-use Rattle.e_verify.specs.Written.{is_good_cert}
+use Rattle.e_clause.specs.Written.{is_good_cert}
 use Rattle.e_verify.proofs.Passing.{cite_written, hence_written, make_written, apply_written, claim_written, superposed_written, qed_written, contradiction_written, cases_written}
 use Rattle.e_book.specs.declared.blocks.Opened.TheVariants as opened
 use Rattle.e_book.specs.declared.steps.CloseLine.TheVariants as closes

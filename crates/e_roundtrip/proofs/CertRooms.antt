@@ -20,7 +20,7 @@ use Rattle.e_clause.specs.declared.cert.Against.{Against}
 use Rattle.e_clause.specs.declared.cert.Against.TheVariants as against
 use Rattle.e_clause.specs.Sum.{is_good_multiplier}
 use Rattle.e_deriv.specs.declared.names.Names.{Names}
-use Rattle.e_verify.specs.Written.{is_good_name}
+use Rattle.e_clause.specs.Written.{is_good_name}
 use Rattle.e_book.specs.Canonical.{rule_name, name_of_object}
 use Rattle.e_book.proofs.Differ.{both}
 use Rattle.e_book.proofs.Lookups.{InOrder}

@@ -31,7 +31,7 @@ use Rattle.e_deriv.specs.Lines.{line, lines}
 use Rattle.e_deriv.specs.Naming.{named}
 use Rattle.e_deriv.specs.Parts.{written as written_args}
 use Rattle.e_deriv.specs.Certified.{is_certified}
-use Rattle.e_verify.specs.Written.{is_good_cert}
+use Rattle.e_clause.specs.Written.{is_good_cert}
 use Rattle.e_verify.proofs.Passing.{hence_written, make_written, apply_written, superposed_written, qed_written, contradiction_written}
 use Rattle.e_book.specs.declared.blocks.Opened.TheVariants as opened
 use Rattle.e_book.specs.declared.draft.Draft.{Draft}

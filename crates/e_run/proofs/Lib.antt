@@ -1,7 +1,6 @@
 mod Told
 mod History
 mod VerifiedText
-mod SameWritten
 mod Closing
 mod OneOutcome
 mod Answering

@@ -10,7 +10,7 @@ use Rattle.e_deriv.specs.Parts.{filled_by}
 use Rattle.e_deriv.specs.Lines.{proof_lines}
 use Rattle.e_deriv.specs.Licensed.{AllLicensed}
 use Rattle.e_deriv.specs.Certified.{Certified}
-use Rattle.e_verify.specs.Written.{is_written_well}
+use Rattle.e_deriv.specs.Written.{is_written_well}
 use Rattle.e_book.specs.Headed.{Headed, stated_by}
 use Rattle.e_book.specs.Entry.{Entry}
 use Rattle.e_spell.specs.Spelling.{spelled, unlicensed_text, too_wide_text}

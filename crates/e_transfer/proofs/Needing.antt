@@ -26,7 +26,7 @@ use Rattle.e_clause.specs.TransferCertificate.{parts_certify, instance_certifies
 use Rattle.e_clause.specs.Wide.{IsMetricSystem, IsTransferSystem, HasWidth}
 use Rattle.e_clause.proofs.Refuted.{some_is, none_is}
 use Rattle.e_metric.specs.Told.{IsTooWide, IsTold, IsCertified}
-use Rattle.e_metric.specs.Written.{is_good_part}
+use Rattle.e_clause.specs.Written.{is_good_part}
 use Rattle.e_metric.specs.declared.consequence.Metric.{Metric}
 use Rattle.e_metric.specs.declared.consequence.Metric.TheVariants as metric
 use Rattle.e_clause.specs.declared.cert.MetricCert.{MetricCert}

@@ -8,7 +8,7 @@ use Rattle.e_clause.specs.declared.cert.TransferCert.{TransferCert}
 use Rattle.e_clause.specs.Transfer.{TransferConsequence}
 use Rattle.e_clause.specs.TransferCertificate.{transfer_certifies, transfer_in}
 use Rattle.e_clause.specs.Wide.{TransferFromFacts, IsTransferSystem, HasWidth}
-use Rattle.e_metric.specs.Written.{is_good_part}
+use Rattle.e_clause.specs.Written.{is_good_part}
 use Rattle.e_transfer.specs.declared.finding.Found.{Found}
 use Rattle.e_transfer.specs.declared.finding.Found.TheVariants.{Yes, No, TooWide}
 use Rattle.e_transfer.specs.Giving.{NarrowTransfer}

@@ -21,7 +21,7 @@ use Rattle.e_clause.specs.Wide.{IsTransferSystem, HasWidth}
 use Rattle.e_clause.specs.PartCertificate.{part_certifies, part_in}
 use Rattle.e_clause.specs.TransferCertificate.{transfer_certifies, transfer_in}
 use Rattle.e_metric.specs.Told.{IsTooWide}
-use Rattle.e_metric.specs.Written.{is_good_part}
+use Rattle.e_clause.specs.Written.{is_good_part}
 use Rattle.e_transfer.specs.declared.bind.Bind.{Bind}
 use Rattle.e_transfer.specs.declared.sought.Means.{Means}
 use Rattle.e_transfer.specs.declared.sought.Means.TheVariants as means

@@ -2,7 +2,6 @@
 
 ghost use Rattle.std.specs.Prelude.{◌≡◌, map, IfSome, IsTrue, true, false};
 ghost use Rattle.e_literal.specs.Facts.{are_apart};
-ghost use Rattle.e_literal.specs.Rows;
 ghost use Rattle.e_literal.specs.Truth.{holds, all_hold, value_of};
 ghost use Rattle.e_clause.specs.Assignment.{terms_of_atom, terms_of_lits};
 ghost use Rattle.e_clause.specs.Metric.{MetricConsequence};
@@ -10,7 +9,7 @@ ghost use Rattle.e_transfer.specs.Models;
 ghost use Rattle.e_transfer.specs.Models.{value_by, fits_term, fits_terms, is_model};
 
 use e_facts::Facts;
-use e_literal::compare::canonical;
+use e_literal::compare::{canonical, is_degenerate};
 use e_literal::{Atom, Lit, Mono, Term};
 
 /// 1 for each term, or, where they are to be spread, mostly different numbers.
@@ -41,16 +40,6 @@ fn listed_value(spread: bool, values: &[(Term, u128)], term: Term) -> u128
                 listed_value(spread, rest, term)
             }
         }
-    }
-}
-
-fn is_degenerate(term: Term) -> bool
-    ensures { result ≡ Rows.is_degenerate term }
-{
-    match term {
-        Term::Seg(a, b) => a == b,
-        Term::Area(a, b, c) => a == b || b == c || a == c,
-        _ => false,
     }
 }
 

@@ -29,7 +29,8 @@ use Rattle.e_verify.specs.declared.reject.Reject.{Reject}
 use Rattle.e_verify.specs.declared.reject.Reject.TheVariants.{Bad, NoMemory}
 use Rattle.e_verify.specs.declared.standing.Standing.{Standing}
 use Rattle.e_verify.specs.Standing.{with_facts, after_superposed}
-use Rattle.e_verify.specs.Written.{is_good_cert, is_good_against, is_written_well}
+use Rattle.e_clause.specs.Written.{is_good_cert, is_good_against}
+use Rattle.e_deriv.specs.Written.{is_written_well}
 use Rattle.e_verify.specs.Checking.{line_at, lines_at, verdict_at, RejectIs, IsReadyFor, IsChecked, IsPassed, StepRejects}
 use Rattle.e_verify.proofs.FirstLines.{some_lines, claim_lines, superposed_lines, cases_lines}
 use Rattle.e_verify.proofs.Keeping.{stay_all}

@@ -12,7 +12,7 @@ use Rattle.e_deriv.specs.Fitting.{is_small}
 use Rattle.e_verify.specs.declared.reject.Reject.{Reject}
 use Rattle.e_verify.specs.declared.reject.Reject.TheVariants.{Bad, NoMemory}
 use Rattle.e_verify.specs.declared.standing.Standing.{Standing}
-use Rattle.e_verify.specs.Written.{is_written_well}
+use Rattle.e_deriv.specs.Written.{is_written_well}
 
 -- the script's first line, and all its lines, where this holds before it
 abbrev pub line_at : Script → Standing → Goal → Line

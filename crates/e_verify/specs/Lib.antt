@@ -1,7 +1,7 @@
 pub mod Totals
 pub mod Small
 pub mod Views
-pub mod Written
+pub mod Placed
 pub mod Standing
 pub mod Checking
 pub mod Verdicts

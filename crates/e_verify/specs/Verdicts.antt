@@ -5,7 +5,7 @@ use Rattle.e_literal.specs.Use.{Stated}
 use Rattle.e_deriv.specs.Script.{Script, size}
 use Rattle.e_deriv.specs.Certified.{derivation_lines}
 use Rattle.e_deriv.specs.Fitting.{is_small, is_small_statement}
-use Rattle.e_verify.specs.Written.{is_written_well}
+use Rattle.e_deriv.specs.Written.{is_written_well}
 
 -- the statements have at most 1,000 objects of each sort; the derivation has at most 1,024 lines, before each of them at most
 -- 1,000 objects of each sort are in scope, and its literals are well formed

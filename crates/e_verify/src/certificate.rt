@@ -5,7 +5,7 @@ ghost use Rattle.std.specs.List.{list_all};
 ghost use Rattle.e_literal.specs.WellFormed.{is_well_formed};
 ghost use Rattle.e_clause.specs.Certify;
 ghost use Rattle.e_clause.specs.PartCertificate;
-ghost use Rattle.e_verify.specs.Written.{is_good_part, is_good_cert, is_good_against};
+ghost use Rattle.e_clause.specs.Written.{is_good_part, is_good_cert, is_good_against};
 
 use crate::facts::Facts;
 use crate::metric::sums_refute;

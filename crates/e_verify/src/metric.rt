@@ -7,7 +7,7 @@ ghost use Rattle.e_clause.specs.Sum.{says_differ};
 ghost use Rattle.e_clause.specs.MetricCertificate;
 ghost use Rattle.e_verify.specs.Small.{is_small, is_short};
 ghost use Rattle.e_verify.specs.Views.{row_said, comparison_said};
-ghost use Rattle.e_verify.specs.Written.{is_good_name, is_good_sum, is_good_sums};
+ghost use Rattle.e_clause.specs.Written.{is_good_name, is_good_sum, is_good_sums};
 
 use crate::facts::Facts;
 use crate::rows::{Comparison, Place, Row, Says, fact_row, goal_row};

@@ -12,7 +12,7 @@ ghost use Rattle.e_literal.specs.Same;
 ghost use Rattle.e_verify.specs.Totals.{at};
 ghost use Rattle.e_verify.specs.Small.{are_small};
 
-use e_literal::compare::canonical;
+use e_literal::compare::{canonical, is_degenerate};
 use e_literal::{Mono, Term};
 use std::alloc::{AllocError, Global};
 use std::collections::BTreeMap;
@@ -84,14 +84,4 @@ fn are_all_zero(of: &BTreeMap<Term, i128>) -> bool
         }
     }
     true
-}
-
-fn is_degenerate(term: Term) -> bool
-    ensures { result ≡ Rows.is_degenerate term }
-{
-    match term {
-        Term::Seg(a, b) => a == b,
-        Term::Area(a, b, c) => a == b || b == c || a == c,
-        Term::Ang(_, _, _) | Term::Right => false,
-    }
 }

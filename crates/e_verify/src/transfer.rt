@@ -5,7 +5,7 @@ ghost use Rattle.std.specs.List.{list_all};
 ghost use Rattle.e_literal.specs.Literal.{negation};
 ghost use Rattle.e_literal.specs.WellFormed.{is_well_formed};
 ghost use Rattle.e_clause.specs.TransferCertificate;
-ghost use Rattle.e_verify.specs.Written.{is_good_part};
+ghost use Rattle.e_clause.specs.Written.{is_good_part};
 
 use crate::certificate::part_certifies;
 use crate::facts::Facts;

@@ -2,7 +2,7 @@ use Rattle.std.proofs.Common.{take}
 use Rattle.std.specs.Prelude.{◌≡◌, IsTrue}
 use Rattle.std.specs.List.{list_all}
 use Rattle.e_clause.specs.Certify.{certify_all}
-use Rattle.e_metric.specs.Written.{is_good_cert}
+use Rattle.e_clause.specs.Written.{is_good_cert}
 use Rattle.e_prove.proofs.licence.judged.Given as goal
 
 abbrev pub invariant-loop-lit : goal.invariant-loop-lit

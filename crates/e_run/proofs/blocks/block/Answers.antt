@@ -1,6 +1,4 @@
-use Rattle.std.proofs.Common.{◌∙◌, sym}
 use Rattle.e_deriv.specs.Script.{script_of}
-use Rattle.e_run.proofs.SameWritten.{written_same}
 use Rattle.e_run.proofs.blocks.block.Goals as goal
 
 pub returns-clause-block : goal.returns-clause-block
@@ -10,7 +8,7 @@ returns-clause-block c = record {
     certified = rw c.statements.ensures at c.in_ok-derivation.ensures.certified;
     own = c.in_ok-derivation.ensures.script;
     least = rw c.statements.ensures at c.in_ok-derivation.ensures.least;
-    written = sym (written_same (script_of c.in_ok-derivation.derivation)) ∙ c.in_ok-derivation.ensures.written c.requires.good;
+    written = c.in_ok-derivation.ensures.written c.requires.good;
   };
   spells = c.in_ok-spell.ensures;
 }
