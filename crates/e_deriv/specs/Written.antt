@@ -1,0 +1,20 @@
+-- Scripts whose literals are well formed, and whose certificates name literals that are.
+use Rattle.std.specs.Prelude.{Bool, true, ◌&&◌}
+use Rattle.std.specs.Option.{option_map_or}
+use Rattle.std.specs.List.{list_all}
+use Rattle.e_literal.specs.WellFormed.{is_well_formed}
+use Rattle.e_clause.specs.Written.{is_good_cert, is_good_against}
+use Rattle.e_deriv.specs.Script.{Script, Cite, Hence, Make, Apply, Claim, Superposed, Qed, Contradiction, Cases}
+
+-- each literal of the script, and each of a row that its certificates name, is well formed
+unfoldable pub is_written_well : Script → Bool
+is_written_well (Cite by rest) = is_well_formed by.lit && is_written_well rest
+is_written_well (Hence lit cert rest) = is_well_formed lit && (option_map_or is_good_cert cert true && is_written_well rest)
+is_written_well (Make form names certs rest) = list_all is_good_cert certs && is_written_well rest
+is_written_well (Apply theorem args names certs rest) = list_all is_good_cert certs && is_written_well rest
+is_written_well (Claim shown inner rest) = list_all is_well_formed shown && (is_written_well inner && is_written_well rest)
+is_written_well (Superposed form names shown certs inner rest) =
+    list_all is_well_formed shown && (list_all is_good_cert certs && (is_written_well inner && is_written_well rest))
+is_written_well (Qed objects certs) = list_all is_good_cert certs
+is_written_well (Contradiction against) = option_map_or is_good_against against true
+is_written_well (Cases lit first second) = is_well_formed lit && (is_written_well first && is_written_well second)
