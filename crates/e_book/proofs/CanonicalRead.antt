@@ -47,7 +47,7 @@ use Rattle.e_book.proofs.ScriptRead.{Taken, run_script}
 -- ---- the statement
 
 -- given literals are spelled with the names of the declared objects alone
-given_forms_of : (s : Scope) (ns : Names) (ls : List Lit) → list_all (all_in_scope s) ls ≡ true → map (given_form (first_names s ns)) ls ≡ map (given_form ns) ls
+pub given_forms_of : (s : Scope) (ns : Names) (ls : List Lit) → list_all (all_in_scope s) ls ≡ true → map (given_form (first_names s ns)) ls ≡ map (given_form ns) ls
 given_forms_of s ns [] h = refl
 given_forms_of s ns (l ∷ ls) h =
     let p = both (all_in_scope s l) (list_all (all_in_scope s) ls) h in
@@ -60,7 +60,7 @@ started t = showing t.title t.names t.statement.declared t.statement.given t.sta
 abbrev begins : Entry → Inside
 begins t = record { outers = []; in_scope = names_of_proof t; steps = []; lines = 0; facts = length t.statement.given; terms = count_monomials t.statement.given }
 
-run_proof : (known : List Headed) (t : Entry) → Runs known (Some (started t)) (forms.Proof ∷ []) (Some (proving (started t) (begins t)))
+pub run_proof : (known : List Headed) (t : Entry) → Runs known (Some (started t)) (forms.Proof ∷ []) (Some (proving (started t) (begins t)))
 unfolding step stepped
 run_proof known t = (proving (started t) (begins t), tt, refl, refl, refl)
 

@@ -34,7 +34,7 @@ take_map f zero xs = refl
 take_map f (suc n) [] = refl
 take_map {A} {B} f (suc n) (x ∷ xs) = ap (λ (l : List B). f x ∷ l) (take_map f n xs)
 
-drop_map : {A B : Type 0} (f : A → B) (n : ℕ) (xs : List A) → drop n (map f xs) ≡ map f (drop n xs)
+pub drop_map : {A B : Type 0} (f : A → B) (n : ℕ) (xs : List A) → drop n (map f xs) ≡ map f (drop n xs)
 drop_map f zero xs = refl
 drop_map f (suc n) [] = refl
 drop_map f (suc n) (x ∷ xs) = drop_map f n xs
@@ -76,7 +76,7 @@ row_at : (rule : ℕ) (args : List Obj) → is_some (Inst rule args) ≡ true �
 unfolding Inst
 row_at rule args h = row_of (slice_get table rule) args h
 
-abbrev sig_of_row : Row → Sig
+abbrev pub sig_of_row : Row → Sig
 sig_of_row r = record { points = r.points; lines = r.lines; circles = r.circles }
 
 args_again : (ns : Names) (r : Row) (args : List Obj) → InOrder ns → FitsRow r args → list_all (is_in_scope (scope_of_names ns)) args ≡ true → args_in ns (sig_of_row r) (map (name_of_object ns) args) ≡ Ok args

@@ -26,7 +26,8 @@ use Rattle.e_book.specs.HasSpelling.{AreNames}
 use Rattle.e_book.proofs.Differ.{apart_at, has_not_in_front, not_before}
 use Rattle.e_book.proofs.Building.{grows}
 use Rattle.e_book.proofs.Respelled.{GoodForm, as_read}
-use Rattle.e_book.proofs.Lookups.{InOrder, named_at, sorts_same}
+use Rattle.e_book.proofs.Lookups.{InOrder, named_at}
+use Rattle.e_construct.proofs.Moving.{sorts_same}
 
 -- a form at its place: the first of a theorem, or one more
 abbrev pub form_step : List Headed → Option Draft → Form → Result Draft Kind

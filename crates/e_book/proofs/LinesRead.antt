@@ -36,7 +36,8 @@ use Rattle.e_book.specs.Fits.{is_diagram_lit}
 use Rattle.e_book.specs.Canonical.{raw_of, name_of_object, by_form, hence_form, let_form, apply_form, claim_form, superpose_form, cases_form, else_form, qed_form, contradiction_form}
 use Rattle.e_book.proofs.Differ.{both}
 use Rattle.e_book.proofs.Respelled.{as_read}
-use Rattle.e_book.proofs.Lookups.{InOrder, object_again, sorts_same}
+use Rattle.e_book.proofs.Lookups.{InOrder, object_again}
+use Rattle.e_construct.proofs.Moving.{sorts_same}
 use Rattle.e_book.proofs.LitLookups.{lit_number_again}
 use Rattle.e_book.proofs.ShortLits.{few_again, all_few_again, count_again}
 use Rattle.e_book.proofs.PlainLits.{Plain, PlainLit, lits_number_again}
@@ -183,7 +184,7 @@ step_else known d i = refl
 
 -- ---- lines that close a block
 
-objects_read : (ns : Names) (sorts : List Sort) (os : List Obj) → InOrder ns → are_of_sorts (scope_of_names ns) sorts os ≡ true → objects_of_sorts ns sorts (map (name_of_object ns) os) ≡ Ok os
+pub objects_read : (ns : Names) (sorts : List Sort) (os : List Obj) → InOrder ns → are_of_sorts (scope_of_names ns) sorts os ≡ true → objects_of_sorts ns sorts (map (name_of_object ns) os) ≡ Ok os
 objects_read ns [] [] o h = refl
 objects_read ns [] (x ∷ os) o h = absurd cc
 objects_read ns (sort ∷ sorts) [] o h = absurd cc

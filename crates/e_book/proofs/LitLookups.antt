@@ -36,13 +36,13 @@ use Rattle.e_book.proofs.Lookups.{InOrder, Within, used_again, number_again, nam
 abbrev AtomWithin : Names → Atom → Type 0
 AtomWithin ns a = list_all (is_in_scope (scope_of_names ns)) (objects_of_atom a) ≡ true
 
-two : (ns : Names) (a b : Obj) → list_all (is_in_scope (scope_of_names ns)) (a ∷ b ∷ []) ≡ true → Within ns a.sort a.num × Within ns b.sort b.num
+pub two : (ns : Names) (a b : Obj) → list_all (is_in_scope (scope_of_names ns)) (a ∷ b ∷ []) ≡ true → Within ns a.sort a.num × Within ns b.sort b.num
 two ns a b h =
     let s = scope_of_names ns in
     let p = both (is_in_scope s a) (is_in_scope s b && true) h in
     (p.0, (both (is_in_scope s b) true p.1).0)
 
-three : (ns : Names) (a b c : Obj) → list_all (is_in_scope (scope_of_names ns)) (a ∷ b ∷ c ∷ []) ≡ true → Within ns a.sort a.num × Within ns b.sort b.num × Within ns c.sort c.num
+pub three : (ns : Names) (a b c : Obj) → list_all (is_in_scope (scope_of_names ns)) (a ∷ b ∷ c ∷ []) ≡ true → Within ns a.sort a.num × Within ns b.sort b.num × Within ns c.sort c.num
 three ns a b c h =
     let s = scope_of_names ns in
     let p = both (is_in_scope s a) (is_in_scope s b && (is_in_scope s c && true)) h in
@@ -51,7 +51,7 @@ three ns a b c h =
 
 -- ---- sums
 
-abbrev TermWithin : Names → Term → Type 0
+abbrev pub TermWithin : Names → Term → Type 0
 TermWithin ns t = list_all (is_in_scope (scope_of_names ns)) (objects_of_term t) ≡ true
 
 abbrev SumWithin : Names → List Mono → Type 0

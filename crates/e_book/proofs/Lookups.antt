@@ -9,6 +9,7 @@ use Rattle.e_literal.specs.declared.object.Obj.{Obj}
 use Rattle.e_literal.specs.Literal.{obj, count_of, is_in_scope}
 use Rattle.e_literal.specs.Scopes.{same_sort}
 use Rattle.e_deriv.specs.declared.names.Names.{Names}
+use Rattle.e_construct.proofs.Moving.{sorts_same}
 use Rattle.e_book.specs.declared.fault.Kind.{Kind}
 use Rattle.e_book.specs.Reading.{◌>>=◌}
 use Rattle.e_deriv.specs.Naming.{names_of_sort}
@@ -88,12 +89,6 @@ object_used ns o s h = used_again ns o.sort o.num s h
 pub object_again : (ns : Names) (o : Obj) → InOrder ns → is_in_scope (scope_of_names ns) o ≡ true → object_as ns o.sort (name_of_object ns o) ≡ Ok o
 unfolding object_as
 object_again ns o s h = rw (number_again ns o.sort o.num s h) refl
-
-pub sorts_same : (a b : Sort) → same_sort a b ≡ true → a ≡ b
-sorts_same Point Point e = refl
-sorts_same Line Line e = refl
-sorts_same Circle Circle e = refl
-sorts_same a b e = absurd cc
 
 abbrev all_of_sort : Sort → List Obj → Bool
 all_of_sort sort os = list_all (λ o. same_sort o.sort sort) os

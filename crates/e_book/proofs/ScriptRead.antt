@@ -60,11 +60,11 @@ use Rattle.e_book.proofs.LinesRead.{Inside, proving, splitting, behind, deep, wr
 no_cert : false ≡ true → ⊥
 no_cert e = absurd cc
 
-list_names : (ns : List (List ℕ)) → list_all is_name ns ≡ true → AreNames ns
+pub list_names : (ns : List (List ℕ)) → list_all is_name ns ≡ true → AreNames ns
 list_names [] h = tt
 list_names (n ∷ ns) h = let p = both (is_name n) (list_all is_name ns) h in (p.0, list_names ns p.1)
 
-both_fit : (known : List Headed) (xs ys : List Line) → list_all (line_fits (stated_by known)) (xs ++ ys) ≡ true → (list_all (line_fits (stated_by known)) xs ≡ true) × (list_all (line_fits (stated_by known)) ys ≡ true)
+pub both_fit : (known : List Headed) (xs ys : List Line) → list_all (line_fits (stated_by known)) (xs ++ ys) ≡ true → (list_all (line_fits (stated_by known)) xs ≡ true) × (list_all (line_fits (stated_by known)) ys ≡ true)
 both_fit known xs ys h = let p = line_fits (stated_by known) in both (list_all p xs) (list_all p ys) (sym (list_all-append p xs ys) ∙ h)
 
 -- ---- what is known of a script where its first line comes
@@ -91,16 +91,16 @@ pub record Taken (known : List Headed) (d : Draft) (i : Inside) (script : Script
       → Runs known (Some (proving d i)) (script_forms known i.in_scope script) (Some e)
 
 -- one more step, and what comes behind it
-one_more : (d : Draft) (last i : Inside) (s : PlainStep) (rest : Script) (e : Draft) → closed (proving d last) i.outers (i.steps ++ s ∷ steps_of rest) (close_of rest) ≡ Ok e
+pub one_more : (d : Draft) (last i : Inside) (s : PlainStep) (rest : Script) (e : Draft) → closed (proving d last) i.outers (i.steps ++ s ∷ steps_of rest) (close_of rest) ≡ Ok e
     → closed (proving d last) i.outers ((i.steps ++ s ∷ []) ++ steps_of rest) (close_of rest) ≡ Ok e
 one_more d last i s rest e h = ap (λ (l : List PlainStep). closed (proving d last) i.outers l (close_of rest)) (append_assoc i.steps (s ∷ []) (steps_of rest)) ∙ h
 
-no_more : (d : Draft) (last i : Inside) (close : CloseLine) (e : Draft) → closed (proving d last) i.outers (i.steps ++ []) close ≡ Ok e → closed (proving d last) i.outers i.steps close ≡ Ok e
+pub no_more : (d : Draft) (last i : Inside) (close : CloseLine) (e : Draft) → closed (proving d last) i.outers (i.steps ++ []) close ≡ Ok e → closed (proving d last) i.outers i.steps close ≡ Ok e
 no_more d last i close e h = ap (λ (l : List PlainStep). closed (proving d last) i.outers l close) (sym (append-nil i.steps)) ∙ h
 
 -- ---- steps without a block inside
 
-cite_ready : (known : List Headed) (d : Draft) (i : Inside) (b : By) (rest : Script) (given : List Lit) (goal : Goal) → Ready known d i (Cite b rest) given goal → Ready known d (behind i (Cited b) 1) rest (joined given b.lit) goal
+pub cite_ready : (known : List Headed) (d : Draft) (i : Inside) (b : By) (rest : Script) (given : List Lit) (goal : Goal) → Ready known d i (Cite b rest) given goal → Ready known d (behind i (Cited b) 1) rest (joined given b.lit) goal
 unfolding is_plain lines NewNamesFit size depth has_good_literals few_facts few_terms names_theorems few_blanks
 cite_ready known d i b rest given goal r =
     let s = scope_of_names i.in_scope in
@@ -138,10 +138,10 @@ cite_taken known d i b rest given goal r t =
       );
     }
 
-abbrev inferred : Inside → Lit → Inside
+abbrev pub inferred : Inside → Lit → Inside
 inferred i l = written (behind i (Inferred l None) 1) (monomials l.atom)
 
-hence_ready : (known : List Headed) (d : Draft) (i : Inside) (l : Lit) (rest : Script) (given : List Lit) (goal : Goal) → Ready known d i (Hence l None rest) given goal → Ready known d (inferred i l) rest (joined given l) goal
+pub hence_ready : (known : List Headed) (d : Draft) (i : Inside) (l : Lit) (rest : Script) (given : List Lit) (goal : Goal) → Ready known d i (Hence l None rest) given goal → Ready known d (inferred i l) rest (joined given l) goal
 unfolding is_plain lines NewNamesFit size depth has_good_literals few_facts few_terms names_theorems few_blanks
 hence_ready known d i l rest given goal r =
     let s = scope_of_names i.in_scope in
@@ -182,13 +182,13 @@ hence_taken known d i l rest given goal r t =
       );
     }
 
-abbrev gifts : Inside → Construction → ℕ
+abbrev pub gifts : Inside → Construction → ℕ
 gifts i form = length (gives form (scope_of_names i.in_scope))
 
-abbrev constructed : Inside → Construction → List (List ℕ) → Inside
+abbrev pub constructed : Inside → Construction → List (List ℕ) → Inside
 constructed i form names = record (behind i (Made form names []) (gifts i form)) { in_scope = named i.in_scope (made form) names }
 
-make_good : (known : List Headed) (d : Draft) (i : Inside) (form : Construction) (names : List (List ℕ)) (rest : Script) (given : List Lit) (goal : Goal) → Ready known d i (Make form names [] rest) given goal → GoodLet i.in_scope form names
+pub make_good : (known : List Headed) (d : Draft) (i : Inside) (form : Construction) (names : List (List ℕ)) (rest : Script) (given : List Lit) (goal : Goal) → Ready known d i (Make form names [] rest) given goal → GoodLet i.in_scope form names
 unfolding lines NewNamesFit
 make_good known d i form names rest given goal r =
     let s = scope_of_names i.in_scope in
@@ -198,7 +198,7 @@ make_good known d i form names rest given goal r =
       count = r.new_names.1;
     }
 
-make_ready : (known : List Headed) (d : Draft) (i : Inside) (form : Construction) (names : List (List ℕ)) (rest : Script) (given : List Lit) (goal : Goal) → Ready known d i (Make form names [] rest) given goal
+pub make_ready : (known : List Headed) (d : Draft) (i : Inside) (form : Construction) (names : List (List ℕ)) (rest : Script) (given : List Lit) (goal : Goal) → Ready known d i (Make form names [] rest) given goal
     → Ready known d (constructed i form names) rest (joined_all given (gives form (scope_of_names i.in_scope))) goal
 unfolding is_plain lines NewNamesFit size depth has_good_literals few_facts few_terms names_theorems few_blanks
 make_ready known d i form names rest given goal r =
@@ -244,7 +244,7 @@ make_taken known d i form names rest given goal r t =
     }
 
 -- what is known of a use of an earlier theorem, and of what comes behind it
-record ApplyParts (known : List Headed) (d : Draft) (i : Inside) (theorem : ℕ) (args : List (Option Obj)) (names : List (List ℕ)) (rest : Script) (given : List Lit) (goal : Goal) : Type 0 where
+pub record ApplyParts (known : List Headed) (d : Draft) (i : Inside) (theorem : ℕ) (args : List (Option Obj)) (names : List (List ℕ)) (rest : Script) (given : List Lit) (goal : Goal) : Type 0 where
   good : GoodApply known i.in_scope theorem args names
   named : AreNames names
   few : few_objects (applied_behind i (theorem_of known theorem) theorem args names).in_scope ≡ Ok tt
@@ -253,7 +253,7 @@ record ApplyParts (known : List Headed) (d : Draft) (i : Inside) (theorem : ℕ)
   blanks : count_blanks args ≤ most_blanks
   next : Ready known d (applied_behind i (theorem_of known theorem) theorem args names) rest (joined_all given (gives_of_use (theorem_of known theorem) (written_args args) (scope_of_names i.in_scope))) goal
 
-apply_parts : (known : List Headed) (d : Draft) (i : Inside) (theorem : ℕ) (args : List (Option Obj)) (names : List (List ℕ)) (rest : Script) (given : List Lit) (goal : Goal) → Ready known d i (Apply theorem args names [] rest) given goal
+pub apply_parts : (known : List Headed) (d : Draft) (i : Inside) (theorem : ℕ) (args : List (Option Obj)) (names : List (List ℕ)) (rest : Script) (given : List Lit) (goal : Goal) → Ready known d i (Apply theorem args names [] rest) given goal
     → ApplyParts known d i theorem args names rest given goal
 unfolding is_plain lines NewNamesFit size depth has_good_literals few_facts few_terms names_theorems few_blanks
 apply_parts known d i theorem args names rest given goal r =
@@ -315,7 +315,7 @@ apply_taken known d i theorem args names rest given goal r t =
 
 -- ---- a claim
 
-record ClaimParts (known : List Headed) (i : Inside) (shown : List Lit) (inner rest : Script) (given : List Lit) (goal : Goal) : Type 0 where
+pub record ClaimParts (known : List Headed) (i : Inside) (shown : List Lit) (inner rest : Script) (given : List Lit) (goal : Goal) : Type 0 where
   some : 0 < length shown
   plain_inner : is_plain inner ≡ true
   plain_rest : is_plain rest ≡ true
@@ -335,7 +335,7 @@ record ClaimParts (known : List Headed) (i : Inside) (shown : List Lit) (inner r
   terms : i.terms + count_monomials shown ≤ most_terms
   terms_rest : few_terms (stated_by known) (i.terms + count_monomials shown) (scope_of_names i.in_scope) rest ≡ true
 
-claim_parts : (known : List Headed) (d : Draft) (i : Inside) (shown : List Lit) (inner rest : Script) (given : List Lit) (goal : Goal) → Ready known d i (Claim shown inner rest) given goal → ClaimParts known i shown inner rest given goal
+pub claim_parts : (known : List Headed) (d : Draft) (i : Inside) (shown : List Lit) (inner rest : Script) (given : List Lit) (goal : Goal) → Ready known d i (Claim shown inner rest) given goal → ClaimParts known i shown inner rest given goal
 unfolding is_plain lines has_good_literals few_facts few_terms names_theorems few_blanks
 claim_parts known d i shown inner rest given goal r =
     let s = scope_of_names i.in_scope in
@@ -377,10 +377,10 @@ claim_parts known d i shown inner rest given goal r =
     }
 
 -- an inner block of a claim has as many facts as the block around it
-no_more_facts : (known : List Headed) (n : ℕ) (s : Scope) (inner : Script) → few_facts (stated_by known) n s inner ≡ true → few_facts (stated_by known) (n + 0) s inner ≡ true
+pub no_more_facts : (known : List Headed) (n : ℕ) (s : Scope) (inner : Script) → few_facts (stated_by known) n s inner ≡ true → few_facts (stated_by known) (n + 0) s inner ≡ true
 no_more_facts known n s inner h = subst (λ (k : ℕ). few_facts (stated_by known) k s inner ≡ true) (omega arith) h
 
-claim_inner : (known : List Headed) (d : Draft) (i : Inside) (shown : List Lit) (inner rest : Script) (given : List Lit) (goal : Goal) → Ready known d i (Claim shown inner rest) given goal → Ready known d (deep i (opened.Claim shown) 0) inner given (goal_of shown)
+pub claim_inner : (known : List Headed) (d : Draft) (i : Inside) (shown : List Lit) (inner rest : Script) (given : List Lit) (goal : Goal) → Ready known d i (Claim shown inner rest) given goal → Ready known d (deep i (opened.Claim shown) 0) inner given (goal_of shown)
 unfolding NewNamesFit size depth
 claim_inner known d i shown inner rest given goal r =
     let p = claim_parts known d i shown inner rest given goal r in
@@ -399,7 +399,7 @@ claim_inner known d i shown inner rest given goal r =
       terms = p.terms_inner;
     }
 
-claim_rest : (known : List Headed) (d : Draft) (i : Inside) (n : ℕ) (shown : List Lit) (inner rest : Script) (given : List Lit) (goal : Goal) → n ≡ i.lines + 1 + size inner → Ready known d i (Claim shown inner rest) given goal
+pub claim_rest : (known : List Headed) (d : Draft) (i : Inside) (n : ℕ) (shown : List Lit) (inner rest : Script) (given : List Lit) (goal : Goal) → n ≡ i.lines + 1 + size inner → Ready known d i (Claim shown inner rest) given goal
     → Ready known d (resume i n (Claimed shown inner) shown) rest (joined_all given shown) goal
 unfolding NewNamesFit size depth
 claim_rest known d i n shown inner rest given goal e r =
@@ -443,7 +443,7 @@ claim_taken known d i shown inner rest given goal r t u =
 
 -- ---- a superposition
 
-record CopyParts (known : List Headed) (i : Inside) (form : Superpose) (names : List (List ℕ)) (shown : List Lit) (inner rest : Script) (given : List Lit) (goal : Goal) : Type 0 where
+pub record CopyParts (known : List Headed) (i : Inside) (form : Superpose) (names : List (List ℕ)) (shown : List Lit) (inner rest : Script) (given : List Lit) (goal : Goal) : Type 0 where
   good : GoodSuperpose i.in_scope form names shown
   few : few_objects (named i.in_scope superposing.made names) ≡ Ok tt
   plain_inner : is_plain inner ≡ true
@@ -465,7 +465,7 @@ record CopyParts (known : List Headed) (i : Inside) (form : Superpose) (names : 
   terms : i.terms + count_monomials shown ≤ most_terms
   terms_rest : few_terms (stated_by known) (i.terms + count_monomials shown) (scope_of_names i.in_scope) rest ≡ true
 
-copy_parts : (known : List Headed) (d : Draft) (i : Inside) (form : Superpose) (names : List (List ℕ)) (shown : List Lit) (inner rest : Script) (given : List Lit) (goal : Goal) → Ready known d i (Superposed form names shown [] inner rest) given goal
+pub copy_parts : (known : List Headed) (d : Draft) (i : Inside) (form : Superpose) (names : List (List ℕ)) (shown : List Lit) (inner rest : Script) (given : List Lit) (goal : Goal) → Ready known d i (Superposed form names shown [] inner rest) given goal
     → CopyParts known i form names shown inner rest given goal
 unfolding is_plain lines NewNamesFit has_good_literals few_facts few_terms names_theorems few_blanks
 copy_parts known d i form names shown inner rest given goal r =
@@ -519,7 +519,7 @@ copy_parts known d i form names shown inner rest given goal r =
       terms_rest = bb.1;
     }
 
-copy_inner : (known : List Headed) (d : Draft) (i : Inside) (form : Superpose) (names : List (List ℕ)) (shown : List Lit) (inner rest : Script) (given : List Lit) (goal : Goal) → Ready known d i (Superposed form names shown [] inner rest) given goal
+pub copy_inner : (known : List Headed) (d : Draft) (i : Inside) (form : Superpose) (names : List (List ℕ)) (shown : List Lit) (inner rest : Script) (given : List Lit) (goal : Goal) → Ready known d i (Superposed form names shown [] inner rest) given goal
     → Ready known d (copied i form names shown) inner (joined_all given (superposing.gives form (scope_of_names i.in_scope))) (goal_of shown)
 unfolding NewNamesFit size depth
 copy_inner known d i form names shown inner rest given goal r =
@@ -539,7 +539,7 @@ copy_inner known d i form names shown inner rest given goal r =
       terms = p.terms_inner;
     }
 
-copy_rest : (known : List Headed) (d : Draft) (i : Inside) (n : ℕ) (form : Superpose) (names : List (List ℕ)) (shown : List Lit) (inner rest : Script) (given : List Lit) (goal : Goal) → n ≡ i.lines + 1 + size inner
+pub copy_rest : (known : List Headed) (d : Draft) (i : Inside) (n : ℕ) (form : Superpose) (names : List (List ℕ)) (shown : List Lit) (inner rest : Script) (given : List Lit) (goal : Goal) → n ≡ i.lines + 1 + size inner
     → Ready known d i (Superposed form names shown [] inner rest) given goal → Ready known d (resume i n (Copied form names shown [] inner) shown) rest (joined_all given shown) goal
 unfolding NewNamesFit size depth
 copy_rest known d i n form names shown inner rest given goal e r =
@@ -582,10 +582,10 @@ copy_taken known d i form names shown inner rest given goal r t u =
 
 -- ---- a split
 
-abbrev opens : Inside → Lit → Inside
+abbrev pub opens : Inside → Lit → Inside
 opens i l = written (deep i (opened.First l) 1) (monomials l.atom)
 
-record CasesParts (known : List Headed) (i : Inside) (l : Lit) (one two : Script) (given : List Lit) (goal : Goal) : Type 0 where
+pub record CasesParts (known : List Headed) (i : Inside) (l : Lit) (one two : Script) (given : List Lit) (goal : Goal) : Type 0 where
   plain_first : is_plain one ≡ true
   plain_second : is_plain two ≡ true
   plain : PlainLit i.in_scope l
@@ -604,7 +604,7 @@ record CasesParts (known : List Headed) (i : Inside) (l : Lit) (one two : Script
   terms_first : few_terms (stated_by known) (i.terms + monomials l.atom) (scope_of_names i.in_scope) one ≡ true
   terms_second : few_terms (stated_by known) (i.terms + monomials l.atom) (scope_of_names i.in_scope) two ≡ true
 
-cases_parts : (known : List Headed) (d : Draft) (i : Inside) (l : Lit) (one two : Script) (given : List Lit) (goal : Goal) → Ready known d i (Cases l one two) given goal → CasesParts known i l one two given goal
+pub cases_parts : (known : List Headed) (d : Draft) (i : Inside) (l : Lit) (one two : Script) (given : List Lit) (goal : Goal) → Ready known d i (Cases l one two) given goal → CasesParts known i l one two given goal
 unfolding is_plain lines has_good_literals few_facts few_terms names_theorems few_blanks
 cases_parts known d i l one two given goal r =
     let s = scope_of_names i.in_scope in
@@ -643,7 +643,7 @@ cases_parts known d i l one two given goal r =
       terms_second = bb.1;
     }
 
-cases_first : (known : List Headed) (d : Draft) (i : Inside) (l : Lit) (one two : Script) (given : List Lit) (goal : Goal) → Ready known d i (Cases l one two) given goal → Ready known d (opens i l) one (joined given l) goal
+pub cases_first : (known : List Headed) (d : Draft) (i : Inside) (l : Lit) (one two : Script) (given : List Lit) (goal : Goal) → Ready known d i (Cases l one two) given goal → Ready known d (opens i l) one (joined given l) goal
 unfolding NewNamesFit size depth
 cases_first known d i l one two given goal r =
     let p = cases_parts known d i l one two given goal r in
@@ -662,7 +662,7 @@ cases_first known d i l one two given goal r =
       terms = p.terms_first;
     }
 
-cases_second : (known : List Headed) (d : Draft) (i : Inside) (n : ℕ) (l : Lit) (one two : Script) (given : List Lit) (goal : Goal) → n ≡ i.lines + 1 + size one → Ready known d i (Cases l one two) given goal
+pub cases_second : (known : List Headed) (d : Draft) (i : Inside) (n : ℕ) (l : Lit) (one two : Script) (given : List Lit) (goal : Goal) → n ≡ i.lines + 1 + size one → Ready known d i (Cases l one two) given goal
     → Ready known d (second i n l one) two (joined given (negation l)) goal
 unfolding NewNamesFit size depth
 cases_second known d i n l one two given goal e r =
@@ -709,7 +709,7 @@ cases_taken known d i l one two given goal r t u =
 
 -- ---- other lines that close a block
 
-abbrev one_line : Inside → Inside
+abbrev pub one_line : Inside → Inside
 one_line i = record i { lines = i.lines + 1 }
 
 qed_taken : (known : List Headed) (d : Draft) (i : Inside) (os : List Obj) (given : List Lit) (goal : Goal) → Ready known d i (Qed os []) given goal → Taken known d i (Qed os [])

@@ -115,7 +115,7 @@ mono_words_are m h = append_words (coefficient_words m.coeff) (term_words m.term
 
 -- ---- tokens
 
-term_tokens : (t : RawTerm) → TermNamed t → AreTokens (term_words t)
+pub term_tokens : (t : RawTerm) → TermNamed t → AreTokens (term_words t)
 term_tokens (Seg x y) h = (refl, (is_token-name x h.0, (is_token-name y h.1, tt)))
 term_tokens (Ang x y z) h = (refl, (is_token-name x h.0, (is_token-name y h.1, (is_token-name z h.2, tt))))
 term_tokens (Area x y z) h = (refl, (is_token-name x h.0, (is_token-name y h.1, (is_token-name z h.2, tt))))
@@ -146,7 +146,7 @@ pub three_again : (x y z : List ℕ) → is_name x ≡ true → is_name y ≡ tr
 unfolding three_names word_at name_at end_at
 three_again x y z hx hy hz = rw (named x hx, named y hy, named z hz) refl
 
-term_again : (t : RawTerm) → TermNamed t → term_of (term_words t) ≡ Ok t
+pub term_again : (t : RawTerm) → TermNamed t → term_of (term_words t) ≡ Ok t
 unfolding term_of term_named end_at
 term_again (Seg x y) h = rw (two_again x y h.0 h.1) refl
 term_again (Ang x y z) h = rw (three_again x y z h.0 h.1 h.2) refl

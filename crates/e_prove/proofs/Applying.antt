@@ -39,7 +39,7 @@ use Rattle.e_prove.specs.Judging.{IsJudged, StepHalts}
 use Rattle.e_prove.specs.Applying.{CanApply, IsUse}
 use Rattle.e_prove.specs.Written.{has_good_certs}
 use Rattle.e_prove.proofs.Licensing.{and_both, and_left, and_right}
-use Rattle.e_prove.proofs.Keeping.{stay_all}
+use Rattle.e_deriv.proofs.Keeping.{stay_all}
 
 -- ---- numbers for all objects
 

@@ -32,7 +32,7 @@ use Rattle.e_prove.specs.declared.block.ProvedClose.{ProvedClose}
 use Rattle.e_prove.specs.Contexts.{after_literal, after_superposed, after_block, after_inner, left_for, outer_of}
 use Rattle.e_prove.specs.Halts.{HaltsIn, UnlessNoMemory, StopOf}
 use Rattle.e_prove.specs.Passing.{IsReadyFor, IsReadyStep, IsDerived, KeepsFacts, StopsWithin, IsPassed, StepStops}
-use Rattle.e_prove.proofs.Keeping.{stay_on, stay_joined, stay_all, all_stay, no_fewer}
+use Rattle.e_deriv.proofs.Keeping.{stay_on, stay_joined, stay_all, all_stay, no_fewer}
 use Rattle.e_prove.proofs.Passing.{passed_none, passed_more, passed_as, stops_first, names_kept}
 use Rattle.e_prove.proofs.Inside.{ClaimReady, claim_stops, passed_claim, SuperposedReady, Certifies, superposed_stops, passed_superposed, superposed_halts, SplitReady, split_ready, split_other, split_derives, split_first, split_second}
 

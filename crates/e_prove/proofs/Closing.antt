@@ -35,29 +35,6 @@ use Rattle.e_prove.specs.Judging.{IsClosed, CloseHalts}
 use Rattle.e_prove.specs.Written.{has_good_certs}
 use Rattle.e_prove.proofs.Licensing.{and_both, and_left, and_right}
 
-same_sorts : (a b : Sort) → same_sort a b ≡ true → a ≡ b
-same_sorts Point Point h = refl
-same_sorts Point Line h = absurd (true≢false (sym h))
-same_sorts Point Circle h = absurd (true≢false (sym h))
-same_sorts Line Point h = absurd (true≢false (sym h))
-same_sorts Line Line h = refl
-same_sorts Line Circle h = absurd (true≢false (sym h))
-same_sorts Circle Point h = absurd (true≢false (sym h))
-same_sorts Circle Line h = absurd (true≢false (sym h))
-same_sorts Circle Circle h = refl
-
--- objects that fit have the sorts asked for
-pub sorts_agree : (s : Scope) (sorts : List Sort) (os : List Obj) → are_of_sorts s sorts os ≡ true → sorts ≡ map (λ o. o.sort) os
-sorts_agree s [] [] h = refl
-sorts_agree s [] (o ∷ os) h = absurd (true≢false (sym h))
-sorts_agree s (sort ∷ sorts) [] h = absurd (true≢false (sym h))
-sorts_agree s (sort ∷ sorts) (o ∷ os) h =
-    let a = same_sort sort o.sort in
-    let b = is_in_scope s o in
-    let c = are_of_sorts s sorts os in
-    let rest = and_right b c (and_right a (b && c) h) in
-    ap (λ k. k ∷ sorts) (same_sorts sort o.sort (and_left a (b && c) h)) ∙ ap (λ ks. o.sort ∷ ks) (sorts_agree s sorts os rest)
-
 -- what a qed that is ready says
 pub record QedFits (objects : List Obj) (x : Basis) (goal : Goal) : Type 0 where
   pub form : are_for goal x.scope objects ≡ true

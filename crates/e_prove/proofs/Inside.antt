@@ -37,7 +37,7 @@ use Rattle.e_prove.specs.Passing.{IsReadyFor, IsDerived, StopIn, StopsWithin, Is
 use Rattle.e_prove.specs.Written.{has_good_certs}
 use Rattle.e_prove.proofs.Licensing.{and_both, and_left, and_right}
 use Rattle.e_prove.proofs.Halting.{stop_behind, stop_left, stop_right, names_length, all_left, all_right, all_both, lits_first, lits_second}
-use Rattle.e_prove.proofs.Keeping.{stay_all}
+use Rattle.e_deriv.proofs.Keeping.{stay_all}
 
 -- few objects are in scope before the line
 abbrev few_before : Line → Bool

@@ -28,7 +28,7 @@ use Rattle.e_prove.specs.Halts.{HaltsIn}
 use Rattle.e_prove.specs.Judging.{IsJudged, StepHalts}
 use Rattle.e_prove.specs.Written.{has_good_certs}
 use Rattle.e_prove.proofs.Licensing.{and_both}
-use Rattle.e_prove.proofs.Keeping.{stay_joined, stay_all}
+use Rattle.e_deriv.proofs.Keeping.{stay_joined, stay_all}
 
 -- ---- a citation
 

@@ -1,6 +1,5 @@
 pub mod Licensing
 pub mod Written
-pub mod Keeping
 pub mod Contexts
 pub mod Judging
 pub mod Applying

@@ -3,6 +3,7 @@ use Rattle.std.proofs.Common.{◌≡◌, ℕ, true, eqb, ◌&&◌, List, [], ◌
 use Rattle.std.specs.List.{list_all}
 use Rattle.std.proofs.lemmas.Bool.{eq-eqb}
 use Rattle.std.proofs.lemmas.List.{length-map}
+use Rattle.e_book.proofs.LinesRead.{objects_read}
 use Rattle.e_literal.specs.declared.object.Sort.{Sort}
 use Rattle.e_literal.specs.declared.object.Obj.{Obj}
 use Rattle.e_literal.specs.declared.object.Scope.{Scope}
@@ -75,16 +76,6 @@ pub superpose_due : (known : List Headed) (d : Draft) (form : Superpose) (names 
     → due_of known d (superpose_form d.in_scope form names shown) ≡ Ok (one_each (superposing.needs form))
 unfolding due_of
 superpose_due known d form names shown g = rw (superpose_number_again d.in_scope form names shown g) refl
-
-objects_read : (ns : Names) (sorts : List Sort) (os : List Obj) → InOrder ns → are_of_sorts (scope_of_names ns) sorts os ≡ true → objects_of_sorts ns sorts (map (name_of_object ns) os) ≡ Ok os
-objects_read ns [] [] o h = refl
-objects_read ns [] (x ∷ os) o h = absurd cc
-objects_read ns (sort ∷ sorts) [] o h = absurd cc
-objects_read ns (sort ∷ sorts) (x ∷ os) o h =
-    let p = both (same_sort sort x.sort) (is_in_scope (scope_of_names ns) x && are_of_sorts (scope_of_names ns) sorts os) h in
-    let q = both (is_in_scope (scope_of_names ns) x) (are_of_sorts (scope_of_names ns) sorts os) p.1 in
-    let one : object_as ns sort (name_of_object ns x) ≡ Ok x = subst (λ (t : Sort). object_as ns t (name_of_object ns x) ≡ Ok x) (sym (sorts_same sort x.sort p.0)) (object_again ns x o q.0) in
-    rw (one, objects_read ns sorts os o q.1) refl
 
 pub qed_due : (known : List Headed) (d : Draft) (goal : Goal) (os : List Obj) → InOrder d.in_scope → are_of_sorts (scope_of_names d.in_scope) (made_in d.outers d.made) os ≡ true → open_goal d ≡ goal
     → due_of known d (qed_form d.in_scope os) ≡ Ok (one_each (goal_with goal os))

@@ -21,7 +21,7 @@ use Rattle.e_book.specs.Canonical.{term_words}
 use Rattle.e_book.specs.HasSpelling.{AreNames}
 use Rattle.e_book.proofs.Differ.{both, same_bytes}
 use Rattle.e_book.proofs.NamesAgain.{titled, names_again}
-use Rattle.e_book.proofs.SumsAgain.{TermNamed, two_again, three_again}
+use Rattle.e_book.proofs.SumsAgain.{TermNamed, two_again, three_again, term_again, term_tokens}
 use Rattle.e_book.proofs.LitsAgain.{LitNamed, lit_again, diagram_again, lit_tokens}
 use Rattle.e_book.proofs.LetsAgain.{names_tokens}
 use Rattle.e_read.specs.declared.mark.RawRow.{RawRow}
@@ -106,13 +106,6 @@ word_apart (negsuc n) c cs h k = let e : eqb 45 c ≡ false = ne_eqb 45 c (λ e.
 
 -- ---- the words of a mark
 
-term_again : (t : RawTerm) → TermNamed t → term_of (term_words t) ≡ Ok t
-unfolding term_of term_named end_at
-term_again (Seg x y) h = rw (two_again x y h.0 h.1) refl
-term_again (Ang x y z) h = rw (three_again x y z h.0 h.1 h.2) refl
-term_again (Area x y z) h = rw (three_again x y z h.0 h.1 h.2) refl
-term_again Right h = refl
-
 row_again : (r : RawRow) → RowNamed r → row_of (row_words r) ≡ Ok r
 unfolding row_of row_named end_at
 row_again (rows.Fact l) h = rw (lit_again l h.0) refl
@@ -143,12 +136,6 @@ mark_again (marks.Row m r) h =
     rw (a, b, c, d, e, f, multiplier_again m h.0, row_again r h.1) refl
 
 -- ---- these words are tokens
-
-term_tokens : (t : RawTerm) → TermNamed t → AreTokens (term_words t)
-term_tokens (Seg x y) h = (refl, (is_token-name x h.0, (is_token-name y h.1, tt)))
-term_tokens (Ang x y z) h = (refl, (is_token-name x h.0, (is_token-name y h.1, (is_token-name z h.2, tt))))
-term_tokens (Area x y z) h = (refl, (is_token-name x h.0, (is_token-name y h.1, (is_token-name z h.2, tt))))
-term_tokens Right h = (refl, tt)
 
 row_tokens : (r : RawRow) → RowNamed r → AreTokens (row_words r)
 row_tokens (rows.Fact l) h = (refl, lit_tokens l h.0)

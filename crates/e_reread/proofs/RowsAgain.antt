@@ -19,7 +19,7 @@ use Rattle.e_book.specs.Canonical.{raw_term, raw_signed, raw_of}
 use Rattle.e_book.proofs.Differ.{both}
 use Rattle.e_book.proofs.SumsAgain.{TermNamed}
 use Rattle.e_book.proofs.Lookups.{InOrder, Within, number_again, named_at}
-use Rattle.e_book.proofs.LitLookups.{lit_number_again, lit_named}
+use Rattle.e_book.proofs.LitLookups.{lit_number_again, lit_named, TermWithin, two, three}
 use Rattle.e_book.proofs.ShortLits.{few_again}
 use Rattle.e_read.specs.declared.mark.RawRow.{RawRow}
 use Rattle.e_read.specs.declared.mark.RawRow.TheVariants as rows
@@ -52,22 +52,6 @@ row_spelled ns names.Above = refl
 row_spelled ns names.Below = refl
 
 -- ---- terms
-
-abbrev TermWithin : Names → Term → Type 0
-TermWithin ns t = list_all (is_in_scope (scope_of_names ns)) (objects_of_term t) ≡ true
-
-two : (ns : Names) (a b : Obj) → list_all (is_in_scope (scope_of_names ns)) (a ∷ b ∷ []) ≡ true → Within ns a.sort a.num × Within ns b.sort b.num
-two ns a b h =
-    let s = scope_of_names ns in
-    let p = both (is_in_scope s a) (is_in_scope s b && true) h in
-    (p.0, (both (is_in_scope s b) true p.1).0)
-
-three : (ns : Names) (a b c : Obj) → list_all (is_in_scope (scope_of_names ns)) (a ∷ b ∷ c ∷ []) ≡ true → Within ns a.sort a.num × Within ns b.sort b.num × Within ns c.sort c.num
-three ns a b c h =
-    let s = scope_of_names ns in
-    let p = both (is_in_scope s a) (is_in_scope s b && (is_in_scope s c && true)) h in
-    let q = two ns b c p.1 in
-    (p.0, q.0, q.1)
 
 -- its points are found, and their names are names
 record TermRead (ns : Names) (t : Term) : Type 0 where

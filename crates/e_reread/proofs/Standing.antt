@@ -27,7 +27,7 @@ use Rattle.e_book.proofs.Differ.{both}
 use Rattle.e_book.proofs.Respelled.{GoodForm, as_read}
 use Rattle.e_book.proofs.LinesRead.{Inside, proving}
 use Rattle.e_book.proofs.ScriptParts.{steps_of, close_of}
-use Rattle.e_book.proofs.ScriptRead.{Ready}
+use Rattle.e_book.proofs.ScriptRead.{Ready, one_more, no_more}
 use Rattle.e_read.specs.declared.owed.Due.{Due}
 use Rattle.e_read.specs.declared.kept.Kept.{Kept}
 use Rattle.e_read.specs.Strict.{is_strict, is_apart}
@@ -72,14 +72,6 @@ pub record Spelled (known : List Headed) (d : Draft) (i : Inside) (script : Scri
   pub lines : last.lines ≡ i.lines + size (erased script)
   pub along : (e : Draft) → closed (proving d last) i.outers (i.steps ++ steps_of (erased script)) (close_of (erased script)) ≡ Ok e → is_done e ≡ false
       → Along known (proving d i) (script_lines known i.in_scope script) e (kepts script)
-
--- one more step, and what comes behind it
-pub one_more : (d : Draft) (last i : Inside) (s : PlainStep) (rest : Script) (e : Draft) → closed (proving d last) i.outers (i.steps ++ s ∷ steps_of rest) (close_of rest) ≡ Ok e
-    → closed (proving d last) i.outers ((i.steps ++ s ∷ []) ++ steps_of rest) (close_of rest) ≡ Ok e
-one_more d last i s rest e h = ap (λ (l : List PlainStep). closed (proving d last) i.outers l (close_of rest)) (append_assoc i.steps (s ∷ []) (steps_of rest)) ∙ h
-
-pub no_more : (d : Draft) (last i : Inside) (close : CloseLine) (e : Draft) → closed (proving d last) i.outers (i.steps ++ []) close ≡ Ok e → closed (proving d last) i.outers i.steps close ≡ Ok e
-no_more d last i close e h = ap (λ (l : List PlainStep). closed (proving d last) i.outers l close) (sym (append-nil i.steps)) ∙ h
 
 -- ---- one line
 

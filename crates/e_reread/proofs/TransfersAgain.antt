@@ -4,6 +4,7 @@ use Rattle.std.specs.Prelude.{slice_get, option_and_then}
 use Rattle.std.specs.Option.{option_map}
 use Rattle.std.specs.List.{list_all, AllByRecursion}
 use Rattle.std.proofs.lemmas.List.{length-map, drop-drop, take-append-drop, take-map}
+use Rattle.e_book.proofs.Cited.{drop_map, sig_of_row}
 use Rattle.e_text.specs.Names.{is_title}
 use Rattle.e_literal.specs.declared.object.Sort.TheVariants.{Point, Line, Circle}
 use Rattle.e_literal.specs.declared.object.Obj.{Obj}
@@ -54,11 +55,6 @@ rule_titled rule args lits h = let r = of_row rule args lits h in ap is_title (r
 
 -- ---- arguments
 
-drop_map : {A B : Type 0} (f : A → B) (n : ℕ) (xs : List A) → drop n (map f xs) ≡ map f (drop n xs)
-drop_map f zero xs = refl
-drop_map f (suc n) [] = refl
-drop_map f (suc n) (x ∷ xs) = drop_map f n xs
-
 -- what holds of all holds of the first of them, and of those behind
 all_cut : {A : Type 0} (p : A → Bool) (n : ℕ) (xs : List A) → list_all p xs ≡ true → (list_all p (take n xs) ≡ true) × (list_all p (drop n xs) ≡ true)
 all_cut p zero xs h = (refl, h)
@@ -67,9 +63,6 @@ all_cut p (suc n) (x ∷ xs) h =
     let b = both (p x) (list_all p xs) h in
     let c = all_cut p n xs b.1 in
     (rw (b.0, c.0) refl, c.1)
-
-abbrev sig_of_row : Row → Sig
-sig_of_row r = record { points = r.points; lines = r.lines; circles = r.circles }
 
 -- how many arguments fit, and what they are read as
 record Arguments (ns : Names) (r : Row) (args : List Obj) : Type 0 where

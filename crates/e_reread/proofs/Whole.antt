@@ -2,6 +2,7 @@
 use Rattle.std.proofs.Common.{◌≡◌, ℕ, true, false, List, [], ◌∷◌, ◌++◌, length, map, Option, Some, None, Result, Ok, Err, refl, sym, ap, subst, ◌∙◌, arith, append_assoc}
 use Rattle.std.specs.List.{list_all}
 use Rattle.std.proofs.lemmas.List.{append-nil}
+use Rattle.e_book.proofs.CanonicalRead.{given_forms_of, run_proof}
 use Rattle.e_text.specs.Tokens.{tokens_of}
 use Rattle.e_text.specs.Lines.{Seen}
 use Rattle.e_text.specs.declared.line.LineEnd.{LineEnd}
@@ -60,23 +61,12 @@ use Rattle.e_reread.proofs.HeadAlong.{draft_is, head_along, statement_heads}
 
 -- ---- the statement
 
--- given literals are spelled with the names of the declared objects alone
-given_forms_of : (s : Scope) (ns : Names) (ls : List Lit) → list_all (all_in_scope s) ls ≡ true → map (given_form (first_names s ns)) ls ≡ map (given_form ns) ls
-given_forms_of s ns [] h = refl
-given_forms_of s ns (l ∷ ls) h =
-    let p = both (all_in_scope s l) (list_all (all_in_scope s) ls) h in
-    rw (lit_of_first s ns l p.0, given_forms_of s ns ls p.1) refl
-
 -- the draft behind the word proof
 abbrev pub started : Entry → Draft
 started t = showing t.title t.names t.statement.declared t.statement.given t.statement.made t.statement.shown
 
 abbrev pub begins : Entry → Inside
 begins t = record { outers = []; in_scope = names_of_proof t; steps = []; lines = 0; facts = length t.statement.given; terms = count_monomials t.statement.given }
-
-run_proof : (known : List Headed) (t : Entry) → Runs known (Some (started t)) (forms.Proof ∷ []) (Some (proving (started t) (begins t)))
-unfolding step stepped
-run_proof known t = (proving (started t) (begins t), tt, refl, refl, refl)
 
 -- the lines behind the title
 abbrev stating_forms : Entry → List Form

@@ -2,6 +2,7 @@
 use Rattle.std.proofs.Common.{◌≡◌, ℕ, Bool, true, false, List, [], ◌∷◌, ◌++◌, map, refl, sym, ap, ◌∙◌, append_assoc}
 use Rattle.std.specs.Prelude.{Some, if◌then◌else◌}
 use Rattle.std.specs.List.{flat_map}
+use Rattle.e_construct.proofs.Moving.{sorts_same}
 use Rattle.e_text.specs.Tokens.{spaced}
 use Rattle.e_literal.specs.declared.object.Sort.{Sort}
 use Rattle.e_literal.specs.declared.object.Sort.TheVariants.{Point, Line, Circle}
@@ -28,12 +29,6 @@ groups_text role gs = flat_map (group_text role) gs
 abbrev rest_after : Role → Sort → List Group → List ℕ
 rest_after role t [] = 10 ∷ []
 rest_after role t (g ∷ gs) = if same_sort t g.sort then spaced g.names ++ (10 ∷ groups_text role gs) else 10 ∷ groups_text role (g ∷ gs)
-
-sorts_same : (a b : Sort) → same_sort a b ≡ true → a ≡ b
-sorts_same Point Point e = refl
-sorts_same Line Line e = refl
-sorts_same Circle Circle e = refl
-sorts_same a b e = absurd cc
 
 -- an object alone in its group, and one before others of its sort
 group_of_one : (words name rest : List ℕ) → (words ++ (32 ∷ (name ++ []) ++ 10 ∷ [])) ++ rest ≡ (words ++ 32 ∷ name) ++ (10 ∷ rest)

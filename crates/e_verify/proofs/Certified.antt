@@ -54,7 +54,7 @@ use Rattle.e_deriv.specs.Parts.{has_no_blank, written}
 use Rattle.e_deriv.specs.Steps.{is_applied, are_over}
 use Rattle.e_deriv.specs.Certified.{is_certified}
 use Rattle.e_verify.specs.Checking.{line_at}
-use Rattle.e_verify.proofs.Keeping.{stay_joined, stay_all}
+use Rattle.e_deriv.proofs.Keeping.{stay_joined, stay_all}
 use Rattle.e_verify.proofs.FirstLines.{checked, cite_lines, hence_lines, make_lines, after_make, apply_lines, after_apply}
 
 -- ---- a citation

@@ -3,12 +3,11 @@ use Rattle.std.proofs.Common.{◌≡◌, ◌≤◌, List, [], ◌∷◌, length,
 use Rattle.std.specs.List.{list_all}
 use Rattle.std.proofs.lemmas.Grind.{common_steps}
 use Rattle.e_literal.specs.declared.object.Sort.{Sort}
-use Rattle.e_literal.specs.declared.object.Sort.TheVariants.{Point, Line, Circle}
 use Rattle.e_literal.specs.declared.object.Obj.{Obj}
 use Rattle.e_literal.specs.declared.object.Scope.{Scope}
 use Rattle.e_literal.specs.declared.literal.Lit.{Lit}
 use Rattle.e_literal.specs.Literal.{is_in_scope}
-use Rattle.e_literal.specs.Scopes.{same_sort, are_of_sorts}
+use Rattle.e_literal.specs.Scopes.{are_of_sorts}
 use Rattle.e_literal.specs.Rename.{renamed, image_in, paired}
 use Rattle.e_literal.specs.Use.{Stated}
 use Rattle.e_literal.specs.WellFormed.{is_well_formed}
@@ -36,29 +35,6 @@ no_objects s (m ∷ ms) [] h k = refl
 no_objects s (m ∷ ms) (o ∷ os) h k = absurd (omega (arith, k))
 
 pub ruleset objects = (common_steps, no_made, no_objects)
-
-same_sorts : (a b : Sort) → same_sort a b ≡ true → a ≡ b
-same_sorts Point Point h = refl
-same_sorts Point Line h = absurd (true≢false (sym h))
-same_sorts Point Circle h = absurd (true≢false (sym h))
-same_sorts Line Point h = absurd (true≢false (sym h))
-same_sorts Line Line h = refl
-same_sorts Line Circle h = absurd (true≢false (sym h))
-same_sorts Circle Point h = absurd (true≢false (sym h))
-same_sorts Circle Line h = absurd (true≢false (sym h))
-same_sorts Circle Circle h = refl
-
--- objects that fit have the sorts asked for
-pub sorts_agree : (s : Scope) (sorts : List Sort) (os : List Obj) → are_of_sorts s sorts os ≡ true → sorts ≡ map (λ o. o.sort) os
-sorts_agree s [] [] h = refl
-sorts_agree s [] (o ∷ os) h = absurd (true≢false (sym h))
-sorts_agree s (sort ∷ sorts) [] h = absurd (true≢false (sym h))
-sorts_agree s (sort ∷ sorts) (o ∷ os) h =
-    let a = same_sort sort o.sort in
-    let b = is_in_scope s o in
-    let c = are_of_sorts s sorts os in
-    let rest = and_right b c (and_right a (b && c) h) in
-    ap (λ k. k ∷ sorts) (same_sorts sort o.sort (and_left a (b && c) h)) ∙ ap (λ ks. o.sort ∷ ks) (sorts_agree s sorts os rest)
 
 each_formed : (f : Lit → Lit) → ((l : Lit) → is_well_formed (f l) ≡ is_well_formed l) → (ls : List Lit) → list_all is_well_formed ls ≡ true → list_all is_well_formed (map f ls) ≡ true
 each_formed f e [] h = refl

@@ -7,7 +7,6 @@ pub mod Paired
 pub mod Formed
 pub mod FirstLines
 pub mod Certified
-pub mod Keeping
 pub mod Closing
 pub mod Passing
 pub mod Inside

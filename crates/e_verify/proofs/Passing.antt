@@ -33,7 +33,7 @@ use Rattle.e_clause.specs.Written.{is_good_cert, is_good_against}
 use Rattle.e_deriv.specs.Written.{is_written_well}
 use Rattle.e_verify.specs.Checking.{line_at, lines_at, verdict_at, RejectIs, IsReadyFor, IsChecked, IsPassed, StepRejects}
 use Rattle.e_verify.proofs.FirstLines.{some_lines, claim_lines, superposed_lines, cases_lines}
-use Rattle.e_verify.proofs.Keeping.{stay_all}
+use Rattle.e_deriv.proofs.Keeping.{stay_all}
 
 -- ---- the first failure
 

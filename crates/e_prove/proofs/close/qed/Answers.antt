@@ -2,7 +2,8 @@ use Rattle.std.proofs.Common.{◌∙◌, subst}
 use Rattle.std.specs.Prelude.{IsTrue}
 use Rattle.e_clause.specs.Certify.{certify_all}
 use Rattle.e_prove.specs.Contexts.{goal_said}
-use Rattle.e_prove.proofs.Closing.{sorts_agree, closed_qed}
+use Rattle.e_deriv.proofs.Sorts.{sorts_agree}
+use Rattle.e_prove.proofs.Closing.{closed_qed}
 use Rattle.e_prove.proofs.close.qed.Goals as goal
 
 pub goal_with-requires : goal.goal_with-requires
