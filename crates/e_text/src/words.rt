@@ -1,7 +1,7 @@
 //! The words of the language.
 ghost use Rattle.std.specs.Prelude.{◌≡◌};
 ghost use Rattle.std.specs.Str.{bytes_eq};
-ghost use Rattle.e_text.specs.Names.{is_reserved, is_statement_word, is_steps_word, is_relations_word, is_shapes_word, is_others_word};
+ghost use Rattle.e_text.specs.Names.{is_reserved, is_statement_word, is_steps_word, is_relations_word, is_shapes_word, is_others_word, has_small_second};
 
 /// Whether a token is this word.
 pub fn is(token: &[u8], word: &[u8]) -> bool
@@ -10,15 +10,26 @@ pub fn is(token: &[u8], word: &[u8]) -> bool
     token == word
 }
 
+/// Whether the second byte is a small letter, as that of every word of the language; most names have none there.
+fn has_small_second(token: &[u8]) -> bool
+    ensures { result ≡ has_small_second token.now }
+{
+    match token {
+        [_, second, ..] => second.is_ascii_lowercase(),
+        _ => false,
+    }
+}
+
 /// Whether a token is one of the 45 words of the language. It takes no memory.
 pub fn reserved(token: &[u8]) -> bool
     ensures { result ≡ is_reserved token.now }
 {
-    is_statement_word(token)
-        || is_steps_word(token)
-        || is_relations_word(token)
-        || is_shapes_word(token)
-        || is_others_word(token)
+    has_small_second(token)
+        && (is_statement_word(token)
+            || is_steps_word(token)
+            || is_relations_word(token)
+            || is_shapes_word(token)
+            || is_others_word(token))
 }
 
 #[tactic(auto, unfolding(crate::specs::Names::is_statement_word))]
