@@ -20,7 +20,7 @@ one_of token [] all h = absurd (true≢false (sym h))
 one_of token (word ∷ words) all h =
     let p = both (has_small_second word) (list_all has_small_second words) all in
     either (bytes_eq token word) (list_any (bytes_eq token) words) (has_small_second token)
-        (λ k. subst (λ w. has_small_second w ≡ true) (sym ((bytes_eq-Decides token word).0 k)) p.0) (one_of token words p.1) h
+    (λ k. subst (λ w. has_small_second w ≡ true) (sym ((bytes_eq-Decides token word).0 k)) p.0) (one_of token words p.1) h
 
 statement : (token : List ℕ) → is_statement_word token ≡ true → has_small_second token ≡ true
 unfolding is_statement_word
