@@ -2,12 +2,9 @@
 use Rattle.std.proofs.Common.{◌≡◌, ℕ, ◌+◌, ◌<◌, add-one, List, [], ◌∷◌, ◌++◌, length, drop, get_or, drop-cons, refl, sym, ap, subst, ◌∙◌, append_assoc, arith}
 use Rattle.std.proofs.lemmas.List.{append-nil}
 use Rattle.e_text.specs.Tokens.{spaced}
+use Rattle.e_words.proofs.Spaced.{spaced_append}
 use Rattle.e_book.specs.declared.literal.RawLit.{RawLit}
 use Rattle.e_book.specs.Canonical.{lit_words, more_words, lits_words}
-
-pub spaced_append : (xs ys : List (List ℕ)) → spaced (xs ++ ys) ≡ spaced xs ++ spaced ys
-spaced_append [] ys = refl
-spaced_append (x ∷ xs) ys = rw (spaced_append xs ys) (ap (λ (l : List ℕ). 32 ∷ l) (sym (append_assoc x (spaced xs) (spaced ys))))
 
 -- words are written, and then more words
 pub after : (a b c : List ℕ) (xs ys : List (List ℕ)) → b ≡ a ++ spaced xs → c ≡ b ++ spaced ys → c ≡ a ++ spaced (xs ++ ys)

@@ -14,7 +14,6 @@ mod owed;
 mod reader;
 mod reading;
 mod strict;
-mod words;
 
 pub use kept::{Certs, Kept, KeptLines, Rows};
 pub use laws::derivations_are_of_books;

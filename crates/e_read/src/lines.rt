@@ -6,11 +6,11 @@ ghost use Rattle.e_book.specs.Superposes.{superpose_pieces};
 ghost use Rattle.e_book.specs.Canonical.{sort_word, lit_words, lits_words, filled, line_pieces, avoid_words, let_words, superpose_words, argument_word, made_words, apply_words, line_of};
 
 use crate::literals::{put_literal, put_literals};
-use crate::words::{put, put_names};
 use e_book::{Form, RawApply, RawLet, RawLit, RawSuperpose};
 use e_construct::{Piece, Shape, pieces};
 use e_literal::Sort;
 use e_text::{Name, Title};
+use e_words::{put, put_names};
 use std::alloc::AllocError;
 
 fn sort_word(sort: Sort) -> &'static [u8]
@@ -189,7 +189,7 @@ static SUPERPOSITION: [Piece; 13] = [
 ];
 
 /// A superposition behind its first word.
-#[tactic(auto, using(crate::proofs::Spaced::spaced_append))]
+#[tactic(auto, using(e_words::proofs::Spaced::spaced_append))]
 fn put_superposition(
     out: &mut Vec<u8>,
     new: &[Name],

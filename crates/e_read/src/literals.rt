@@ -1,11 +1,11 @@
 //! Sums and literals, spelled with the names that they have.
 ghost use Rattle.std.specs.Prelude.{◌≡◌, ◌++◌, ◌∷◌, [], true, OnOk};
 ghost use Rattle.e_text.specs.Tokens.{spaced};
-ghost use Rattle.e_book.specs.Canonical.{term_words, coefficient_words, mono_words, more_monos, sum_words, sums_words, atom_words, not_words, lit_words, more_words, lits_words};
+ghost use Rattle.e_book.specs.Canonical.{term_words, mono_words, more_monos, sum_words, sums_words, atom_words, not_words, lit_words, more_words, lits_words};
 
-use crate::words::{put, put_four, put_number, put_three};
 use e_book::{RawAtom, RawLit, RawMono, RawTerm};
 use e_text::Name;
+use e_words::{put, put_coefficient, put_four, put_three};
 use std::alloc::AllocError;
 
 pub(crate) fn put_term(out: &mut Vec<u8>, term: &RawTerm) -> Result<(), AllocError>
@@ -19,17 +19,7 @@ pub(crate) fn put_term(out: &mut Vec<u8>, term: &RawTerm) -> Result<(), AllocErr
     }
 }
 
-/// A coefficient; nothing for 1.
-fn put_coefficient(out: &mut Vec<u8>, coeff: u32) -> Result<(), AllocError>
-    ensures { OnOk result (out.new.items ≡ out.old.items ++ spaced (coefficient_words coeff)) }
-{
-    if coeff == 1 {
-        return Ok(());
-    }
-    put_number(out, coeff)
-}
-
-#[tactic(auto, using(crate::proofs::Spaced::spaced_append))]
+#[tactic(auto, using(e_words::proofs::Spaced::spaced_append))]
 fn put_mono(out: &mut Vec<u8>, mono: &RawMono) -> Result<(), AllocError>
     ensures { OnOk result (out.new.items ≡ out.old.items ++ spaced (mono_words mono.now)) }
 {
@@ -38,7 +28,7 @@ fn put_mono(out: &mut Vec<u8>, mono: &RawMono) -> Result<(), AllocError>
 }
 
 /// More monomials, each behind a plus.
-#[tactic(auto, using(crate::proofs::Spaced::spaced_append))]
+#[tactic(auto, using(e_words::proofs::Spaced::spaced_append))]
 fn put_more(out: &mut Vec<u8>, monos: &[RawMono]) -> Result<(), AllocError>
     ensures { OnOk result (out.new.items ≡ out.old.items ++ spaced (more_monos monos.now)) }
 {
@@ -50,7 +40,7 @@ fn put_more(out: &mut Vec<u8>, monos: &[RawMono]) -> Result<(), AllocError>
 }
 
 /// Monomials with a plus between two, and 0 for none.
-#[tactic(auto, using(crate::proofs::Spaced::spaced_append))]
+#[tactic(auto, using(e_words::proofs::Spaced::spaced_append))]
 fn put_sum(out: &mut Vec<u8>, sum: &[RawMono]) -> Result<(), AllocError>
     ensures { OnOk result (out.new.items ≡ out.old.items ++ spaced (sum_words sum.now)) }
 {

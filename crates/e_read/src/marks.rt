@@ -6,8 +6,8 @@ ghost use Rattle.e_read.specs.Marks.{row_words, mark_words, mark_line};
 
 use crate::literals::{put_literal, put_term};
 use crate::mark::{Mark, RawRow};
-use crate::words::{put, put_names, put_number};
 use e_book::RawTerm;
+use e_words::{put, put_names, put_number};
 use std::alloc::AllocError;
 
 /// A row that is said of a term.

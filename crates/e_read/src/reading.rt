@@ -18,11 +18,11 @@ use crate::mark::Mark;
 use crate::needs::due_of;
 use crate::owed::{Due, Owed};
 use crate::strict::{is_apart, strict_mark, strict_of};
-use crate::words::put_number;
 use e_book::{Draft, Form, Kind, Known, Place, Theorem, Trouble, collected};
 use e_deriv::Names;
 use e_literal::Items;
 use e_text::{Line, LineEnd, is};
+use e_words::put_number;
 use std::alloc::{AllocError, Global};
 
 /// What the lines of a block have said so far.

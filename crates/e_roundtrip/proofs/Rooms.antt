@@ -1,5 +1,5 @@
 -- Words of allowed bytes, and how many bytes they take on a line.
-use Rattle.std.proofs.Common.{◌≡◌, ℕ, ◌+◌, ◌*◌, ◌^◌, ◌<◌, ◌≤◌, Bool, true, leb, ltb, eqb, not, ◌&&◌, ◌||◌, List, [], ◌∷◌, ◌++◌, length, refl, sym, ap, ◌∙◌, arith, rules, tests, append_assoc, length-append}
+use Rattle.std.proofs.Common.{◌≡◌, ℕ, ◌+◌, ◌*◌, ◌^◌, ◌<◌, ◌≤◌, Bool, true, leb, ltb, eqb, not, ◌&&◌, ◌||◌, List, [], ◌∷◌, ◌++◌, length, refl, ap, ◌∙◌, arith, rules, tests, length-append}
 use Rattle.std.specs.Prelude.{decimal}
 use Rattle.std.specs.List.{list_all}
 use Rattle.std.proofs.lemmas.Bool.{leb-true, le-leb}
@@ -10,6 +10,7 @@ use Rattle.e_text.specs.Names.{is_letter, is_digit, is_name_byte, is_title_byte,
 use Rattle.e_text.specs.Numerals.{is_numeral}
 use Rattle.e_text.specs.Tokens.{spaced, joined}
 use Rattle.e_text.proofs.NumeralWords.{is_numeral-decimal}
+use Rattle.e_words.proofs.Spaced.{spaced_append}
 use Rattle.e_book.specs.HasSpelling.{AreNames}
 use Rattle.e_book.proofs.Differ.{both}
 
@@ -47,12 +48,7 @@ room_word k n w ws h r =
       few = omega (arith, r.few, leb-true (length w) k p.1, length-append w (spaced ws));
     }
 
--- words behind words
-spaced_append : (xs ys : List (List ℕ)) → spaced (xs ++ ys) ≡ spaced xs ++ spaced ys
-spaced_append [] ys = refl
-spaced_append (x ∷ xs) ys = ap (λ (t : List ℕ). 32 ∷ (x ++ t)) (spaced_append xs ys) ∙ ap (λ (t : List ℕ). 32 ∷ t) (sym (append_assoc x (spaced xs) (spaced ys)))
-
--- and their room
+-- the room of words behind words
 pub room_append : (m n : ℕ) (xs ys : List (List ℕ)) → Room m xs → Room n ys → Room (m + n) (xs ++ ys)
 room_append m n xs ys r s =
     let e = spaced_append xs ys in

@@ -11,7 +11,7 @@ use Rattle.e_deriv.specs.Naming.{named}
 use Rattle.e_deriv.specs.Lines.{no_statement}
 use Rattle.e_book.specs.Headed.{Headed, titles, statements, stated_by, title_at, theorem_of}
 use Rattle.e_text.specs.Tokens.{spaced}
-use Rattle.e_spell.proofs.Spaced.{spaced_append}
+use Rattle.e_words.proofs.Spaced.{spaced_append}
 
 pub title_found : (known : List Headed) (k : ℕ) (title : List ℕ) → slice_get (titles known) k ≡ Some title → title_at known k ≡ title
 title_found known k title e = get_or_from_slice_get (titles known) k title [] e

@@ -1,13 +1,10 @@
 -- Words behind spaces.
-use Rattle.std.proofs.Common.{◌≡◌, ℕ, ◌+◌, ◌<◌, List, [], ◌∷◌, ◌++◌, length, map, drop, get_or, add-one, drop-cons, refl, sym, ap, ◌∙◌, append_assoc}
+use Rattle.std.proofs.Common.{◌≡◌, ℕ, ◌+◌, ◌<◌, List, [], ◌∷◌, ◌++◌, length, map, drop, get_or, add-one, drop-cons, sym, ap, ◌∙◌, append_assoc}
 use Rattle.e_literal.specs.declared.literal.Lit.{Lit}
 use Rattle.e_deriv.specs.declared.names.Names.{Names}
 use Rattle.e_text.specs.Tokens.{spaced}
+use Rattle.e_words.proofs.Spaced.{spaced_append}
 use Rattle.e_book.specs.Canonical.{lit_words, lits_words, more_words, raw_of}
-
-pub spaced_append : (xs ys : List (List ℕ)) → spaced (xs ++ ys) ≡ spaced xs ++ spaced ys
-spaced_append [] ys = refl
-spaced_append (x ∷ xs) ys = rw (spaced_append xs ys) (ap (λ (l : List ℕ). 32 ∷ l) (sym (append_assoc x (spaced xs) (spaced ys))))
 
 -- what a citation has behind its first word
 pub citation : (old o1 o2 o3 o4 rule : List ℕ) (names lit : List (List ℕ)) → o1 ≡ old ++ 32 ∷ rule → o2 ≡ o1 ++ spaced names → o3 ≡ o2 ++ 32 ∷ 58 ∷ [] → o4 ≡ o3 ++ spaced lit

@@ -6,11 +6,11 @@ ghost use Rattle.e_book.specs.Canonical.{argument_name, argument_word, made_word
 ghost use Rattle.e_spell.specs.Parts.{application_words, application_text};
 
 use crate::literals::name_of_object;
-use crate::words::{end_line, put};
 use e_book::Known;
 use e_deriv::Names;
 use e_literal::Obj;
 use e_text::Name;
+use e_words::{end_line, put, put_names};
 use std::alloc::AllocError;
 
 /// The title of the theorem at a place; nothing where there is none.
@@ -40,15 +40,6 @@ fn put_arguments(out: &mut Vec<u8>, names: &Names, args: &[Option<Obj>]) -> Resu
 {
     for argument in args {
         put_argument(out, names, *argument)?;
-    }
-    Ok(())
-}
-
-fn put_names(out: &mut Vec<u8>, names: &[Name]) -> Result<(), AllocError>
-    ensures { OnOk result (out.new.items ≡ out.old.items ++ spaced names.now) }
-{
-    for name in names {
-        put(out, name.bytes())?;
     }
     Ok(())
 }

@@ -9,10 +9,10 @@ ghost use Rattle.e_spell.specs.Parts.{row_text, sum_text, rows_text, differs_tex
 use crate::literals::{put_literal, put_literal_line, put_objects};
 use crate::rules::put_rule;
 use crate::sums::put_term;
-use crate::words::{end_line, put, put_line, put_number};
 use e_clause::{Against, Cert, MetricCert, Part, RowName, Rule, Sums, TransferCert};
 use e_deriv::Names;
 use e_literal::{Lit, Obj, Term};
+use e_words::{end_line, put, put_line, put_number};
 use std::alloc::AllocError;
 
 /// A row that is said of a term.

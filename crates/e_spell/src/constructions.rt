@@ -9,11 +9,11 @@ ghost use Rattle.e_book.specs.Superposes.{superpose_pieces};
 ghost use Rattle.e_spell.specs.Parts.{construction_words, superposition_words, superposition_text};
 
 use crate::literals::{name_of_object, put_literals, put_objects};
-use crate::words::{end_line, put};
 use e_construct::{Construction, Piece, Superpose, pieces};
 use e_deriv::Names;
 use e_literal::{Lit, Obj, Sort};
 use e_text::Name;
+use e_words::{end_line, put};
 use std::alloc::AllocError;
 
 /// The pieces of a line, with the names of new objects and of arguments at their places.

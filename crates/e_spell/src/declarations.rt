@@ -7,9 +7,9 @@ ghost use Rattle.e_spell.specs.Counts.{Below, AtMostMore, scope_of_counts};
 ghost use Rattle.e_spell.specs.Parts.{role_words, opening, closing, objects_text};
 
 use crate::literals::name_of;
-use crate::words::{end_line, put};
 use e_deriv::Names;
 use e_literal::Sort;
+use e_words::{end_line, put};
 use std::alloc::AllocError;
 
 /// What a line says of its objects.

@@ -7,10 +7,10 @@ ghost use Rattle.e_spell.specs.Parts.{title_text, statement_text, head_text};
 
 use crate::declarations::{Counts, Role, put_objects_of};
 use crate::literals::put_literal_lines;
-use crate::words::{end_line, put, put_line};
 use e_deriv::Names;
 use e_text::Title;
 use e_theorem::Statement;
+use e_words::{end_line, put, put_line};
 use std::alloc::AllocError;
 
 fn put_title(out: &mut Vec<u8>, title: Title) -> Result<(), AllocError>

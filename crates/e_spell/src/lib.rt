@@ -13,7 +13,6 @@ mod rules;
 mod scope;
 mod stops;
 mod sums;
-mod words;
 mod writer;
 
 pub use laws::lines_are_the_theorem;

@@ -1,15 +1,15 @@
 //! Literals and objects by their names.
-ghost use Rattle.std.specs.Prelude.{◌≡◌, ◌++◌, ◌∷◌, [], codes, map, true, OnOk};
+ghost use Rattle.std.specs.Prelude.{◌≡◌, ◌++◌, codes, map, true, OnOk};
 ghost use Rattle.e_deriv.specs.Naming.{names_of_sort};
 ghost use Rattle.e_text.specs.Tokens.{spaced};
 ghost use Rattle.e_book.specs.Canonical.{atom_words, lit_words, more_words, raw_atom, raw_signed, raw_of, name_at, name_of_object};
 ghost use Rattle.e_spell.specs.Parts.{lit_text, lits_text, list_words};
 
 use crate::sums::put_sums;
-use crate::words::{end_line, put, put_three, put_two};
 use e_deriv::Names;
 use e_literal::{Atom, Lit, Obj, Sort};
 use e_text::Name;
+use e_words::{end_line, put, put_four, put_three};
 use std::alloc::AllocError;
 
 /// A name by its place; nothing where there is none.
@@ -68,60 +68,34 @@ pub(crate) fn put_objects(
     Ok(())
 }
 
-/// A word and two names.
-pub(crate) fn put_relation(
-    out: &mut Vec<u8>,
-    word: &[u8],
-    x: &[u8],
-    y: &[u8],
-) -> Result<(), AllocError>
-    ensures { OnOk result (out.new.items ≡ out.old.items ++ spaced (word.now ∷ x.now ∷ y.now ∷ [])) }
-{
-    put_three(out, word, x, y)
-}
-
-/// A word and three names.
-pub(crate) fn put_relation_of_three(
-    out: &mut Vec<u8>,
-    word: &[u8],
-    x: &[u8],
-    y: &[u8],
-    z: &[u8],
-) -> Result<(), AllocError>
-    ensures { OnOk result (out.new.items ≡ out.old.items ++ spaced (word.now ∷ x.now ∷ y.now ∷ z.now ∷ [])) }
-{
-    put_two(out, word, x)?;
-    put_two(out, y, z)
-}
-
 fn put_atom(out: &mut Vec<u8>, names: &Names, atom: &Atom) -> Result<(), AllocError>
     ensures { OnOk result (out.new.items ≡ out.old.items ++ spaced (atom_words (raw_atom names.now atom.now))) }
 {
     match atom {
-        Atom::On(a, l) => put_relation(out, b"on", point(names, *a), line(names, *l)),
-        Atom::OnC(a, c) => put_relation(out, b"on", point(names, *a), circle(names, *c)),
-        Atom::Inside(a, c) => put_relation(out, b"inside", point(names, *a), circle(names, *c)),
-        Atom::Center(a, c) => put_relation(out, b"center", point(names, *a), circle(names, *c)),
-        Atom::Between(a, b, c) => put_relation_of_three(
+        Atom::On(a, l) => put_three(out, b"on", point(names, *a), line(names, *l)),
+        Atom::OnC(a, c) => put_three(out, b"on", point(names, *a), circle(names, *c)),
+        Atom::Inside(a, c) => put_three(out, b"inside", point(names, *a), circle(names, *c)),
+        Atom::Center(a, c) => put_three(out, b"center", point(names, *a), circle(names, *c)),
+        Atom::Between(a, b, c) => put_four(
             out,
             b"between",
             point(names, *a),
             point(names, *b),
             point(names, *c),
         ),
-        Atom::Same(a, b, l) => put_relation_of_three(
+        Atom::Same(a, b, l) => put_four(
             out,
             b"same-side",
             point(names, *a),
             point(names, *b),
             line(names, *l),
         ),
-        Atom::MeetLL(l, m) => put_relation(out, b"meets", line(names, *l), line(names, *m)),
-        Atom::MeetLC(l, c) => put_relation(out, b"meets", line(names, *l), circle(names, *c)),
-        Atom::MeetCC(c, d) => put_relation(out, b"meets", circle(names, *c), circle(names, *d)),
-        Atom::EqP(a, b) => put_relation(out, point(names, *a), b"=", point(names, *b)),
-        Atom::EqL(l, m) => put_relation(out, line(names, *l), b"=", line(names, *m)),
-        Atom::EqC(c, d) => put_relation(out, circle(names, *c), b"=", circle(names, *d)),
+        Atom::MeetLL(l, m) => put_three(out, b"meets", line(names, *l), line(names, *m)),
+        Atom::MeetLC(l, c) => put_three(out, b"meets", line(names, *l), circle(names, *c)),
+        Atom::MeetCC(c, d) => put_three(out, b"meets", circle(names, *c), circle(names, *d)),
+        Atom::EqP(a, b) => put_three(out, point(names, *a), b"=", point(names, *b)),
+        Atom::EqL(l, m) => put_three(out, line(names, *l), b"=", line(names, *m)),
+        Atom::EqC(c, d) => put_three(out, circle(names, *c), b"=", circle(names, *d)),
         Atom::MagEq(x, y) => put_sums(out, names, x.items(), b"=", y.items()),
         Atom::MagLt(x, y) => put_sums(out, names, x.items(), b"<", y.items()),
     }
@@ -133,9 +107,9 @@ fn put_not(out: &mut Vec<u8>, names: &Names, atom: &Atom) -> Result<(), AllocErr
     ensures { OnOk result (out.new.items ≡ out.old.items ++ spaced (lit_words (raw_signed names.now true atom.now))) }
 {
     match atom {
-        Atom::EqP(a, b) => put_relation(out, point(names, *a), b"!=", point(names, *b)),
-        Atom::EqL(l, m) => put_relation(out, line(names, *l), b"!=", line(names, *m)),
-        Atom::EqC(c, d) => put_relation(out, circle(names, *c), b"!=", circle(names, *d)),
+        Atom::EqP(a, b) => put_three(out, point(names, *a), b"!=", point(names, *b)),
+        Atom::EqL(l, m) => put_three(out, line(names, *l), b"!=", line(names, *m)),
+        Atom::EqC(c, d) => put_three(out, circle(names, *c), b"!=", circle(names, *d)),
         Atom::MagEq(x, y) => put_sums(out, names, x.items(), b"!=", y.items()),
         Atom::MagLt(x, y) => put_sums(out, names, y.items(), b"<=", x.items()),
         _ => {

@@ -12,17 +12,17 @@ use crate::constructions::{put_let, put_superpose};
 use crate::literals::{put_literal, put_literal_line, put_literals, put_objects};
 use crate::rules::put_rule;
 use crate::scope::{name_new, with_copies};
-use crate::words::{end_line, put, put_line};
 use e_book::Known;
 use e_clause::{Against, By, Cert};
 use e_construct::{Construction, Superpose};
 use e_deriv::{Block, Close, Names, Step};
 use e_literal::{Lit, Obj};
 use e_text::Name;
+use e_words::{end_line, put, put_line};
 use std::alloc::{AllocError, Global};
 
 /// A rule, its objects and the literal that it gives.
-#[tactic(auto, using(crate::proofs::Spaced::spaced_append))]
+#[tactic(auto, using(e_words::proofs::Spaced::spaced_append))]
 fn put_citation(out: &mut Vec<u8>, names: &Names, by: &By) -> Result<(), AllocError>
     ensures { OnOk result (out.new.items ≡ out.old.items ++ spaced (citation_words names.now by.now)) }
 {

@@ -2,8 +2,8 @@
 ghost use Rattle.std.specs.Prelude.{◌≡◌, ◌++◌, ◌∷◌, OnOk};
 ghost use Rattle.e_book.specs.Canonical.{rule_name};
 
-use crate::words::put;
 use e_clause::Rule;
+use e_words::put;
 use std::alloc::AllocError;
 
 /// The name of a rule in the table.

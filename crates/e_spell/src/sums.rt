@@ -1,12 +1,12 @@
 //! Sums of magnitudes by the names of their points.
-ghost use Rattle.std.specs.Prelude.{◌≡◌, ◌++◌, ◌∷◌, [], OnOk};
+ghost use Rattle.std.specs.Prelude.{◌≡◌, ◌++◌, ◌∷◌, OnOk};
 ghost use Rattle.e_text.specs.Tokens.{spaced};
-ghost use Rattle.e_book.specs.Canonical.{term_words, coefficient_words, mono_words, more_monos, sum_words, sums_words, raw_term, raw_mono, raw_sum};
+ghost use Rattle.e_book.specs.Canonical.{term_words, mono_words, more_monos, sum_words, sums_words, raw_term, raw_mono, raw_sum};
 
-use crate::literals::{point, put_relation, put_relation_of_three};
-use crate::words::{put, put_number};
+use crate::literals::point;
 use e_deriv::Names;
 use e_literal::{Mono, Term};
+use e_words::{put, put_coefficient, put_four, put_three};
 use std::alloc::AllocError;
 
 /// A term by the names of its points.
@@ -14,15 +14,15 @@ pub(crate) fn put_term(out: &mut Vec<u8>, names: &Names, term: Term) -> Result<(
     ensures { OnOk result (out.new.items ≡ out.old.items ++ spaced (term_words (raw_term names.now term))) }
 {
     match term {
-        Term::Seg(a, b) => put_relation(out, b"seg", point(names, a), point(names, b)),
-        Term::Ang(a, b, c) => put_relation_of_three(
+        Term::Seg(a, b) => put_three(out, b"seg", point(names, a), point(names, b)),
+        Term::Ang(a, b, c) => put_four(
             out,
             b"ang",
             point(names, a),
             point(names, b),
             point(names, c),
         ),
-        Term::Area(a, b, c) => put_relation_of_three(
+        Term::Area(a, b, c) => put_four(
             out,
             b"area",
             point(names, a),
@@ -33,17 +33,7 @@ pub(crate) fn put_term(out: &mut Vec<u8>, names: &Names, term: Term) -> Result<(
     }
 }
 
-/// A coefficient; nothing for 1.
-fn put_coefficient(out: &mut Vec<u8>, coeff: u32) -> Result<(), AllocError>
-    ensures { OnOk result (out.new.items ≡ out.old.items ++ spaced (coefficient_words coeff)) }
-{
-    if coeff == 1 {
-        return Ok(());
-    }
-    put_number(out, coeff)
-}
-
-#[tactic(auto, using(crate::proofs::Spaced::spaced_append))]
+#[tactic(auto, using(e_words::proofs::Spaced::spaced_append))]
 fn put_mono(out: &mut Vec<u8>, names: &Names, mono: Mono) -> Result<(), AllocError>
     ensures { OnOk result (out.new.items ≡ out.old.items ++ spaced (mono_words (raw_mono names.now mono))) }
 {

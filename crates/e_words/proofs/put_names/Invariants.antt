@@ -1,6 +1,6 @@
 use Rattle.std.proofs.Common.{◌≡◌, ◌++◌, drop}
 use Rattle.e_text.specs.Tokens.{spaced}
-use Rattle.e_spell.proofs.applications.put_names.Given as goal
+use Rattle.e_words.proofs.put_names.Given as goal
 
 abbrev pub invariant-loop-name : goal.invariant-loop-name
 invariant-loop-name l = l.out.items ++ spaced (drop l.name-index l.names) ≡ l.initial.out.items ++ spaced l.names

@@ -1,6 +1,0 @@
-use Rattle.std.proofs.Common.{◌≡◌, ◌++◌, drop}
-use Rattle.e_text.specs.Tokens.{spaced}
-use Rattle.e_read.proofs.words.put_names.Given as goal
-
-abbrev pub invariant-loop-name : goal.invariant-loop-name
-invariant-loop-name l = l.out.items ++ spaced (drop l.name-index l.names) ≡ l.initial.out.items ++ spaced l.names
