@@ -3,7 +3,6 @@ ghost use Rattle.std.specs.Prelude.{◌≡◌, ◌≤◌, ◌<◌, ◌^◌, ◌+
 ghost use Rattle.e_deriv.specs.Naming.{named};
 ghost use Rattle.e_clause.specs.Instance;
 ghost use Rattle.e_clause.specs.Sigs.{sig_of};
-ghost use Rattle.e_literal.specs.Scopes.{same_sort};
 ghost use Rattle.std.specs.List.{list_any};
 ghost use Rattle.e_construct.specs.Lines;
 ghost use Rattle.e_book.specs.Reading.{Gives, Moves, each, with_front};
@@ -14,6 +13,7 @@ use crate::lets::RawLet;
 use crate::literal::{RawAtom, RawLit};
 use crate::terms::{Sides, sums_in};
 use e_clause::{By, Rule, Sig};
+use e_construct::naming::same_sort;
 use e_construct::{Construction, Shape, takes};
 use e_deriv::Names;
 use e_literal::{Atom, Items, Lit, Obj, Scope, Sort};
@@ -85,21 +85,10 @@ pub(crate) fn number_of(names: &Names, sort: Sort, name: Name) -> Result<u16, Tr
     ensures { Gives (λ n. n) result (number_of names.now sort name) }
 {
     let object = used(names, name)?;
-    if is_sort(object.sort, sort) {
+    if same_sort(object.sort, sort) {
         Ok(object.num)
     } else {
         Err(Trouble::Fault(Kind::WrongSort))
-    }
-}
-
-fn is_sort(a: Sort, b: Sort) -> bool
-    ensures { result ≡ same_sort a b }
-{
-    match (a, b) {
-        (Sort::Point, Sort::Point) => true,
-        (Sort::Line, Sort::Line) => true,
-        (Sort::Circle, Sort::Circle) => true,
-        _ => false,
     }
 }
 

@@ -45,8 +45,9 @@ static PIECES: [Piece; 13] = [
     Piece::Word(b"show"),
 ];
 
-/// The pieces of the head of a line.
-fn pieces() -> &'static [Piece]
+/// The words of a superposition from behind its first word to the literals that its block shows: the triangle and its line, the
+/// place and its line, and the names of the copied points. They are thirteen.
+pub fn superposition_pieces() -> &'static [Piece]
     ensures { map piece_said result.now ≡ superpose_pieces }
 {
     &PIECES
@@ -65,11 +66,11 @@ fn parted<'a, 'b>(words: &'a [&'b [u8]]) -> (&'a [&'b [u8]], &'a [&'b [u8]])
 fn head_of(alloc: Global, head: &[&[u8]], rest: &[&[u8]]) -> Result<RawSuperpose, Trouble>
     ensures { Gives (λ s. s) result (head_of (texts head.now) (texts rest.now)) }
 {
-    if !are_words_of(pieces(), head) {
+    if !are_words_of(superposition_pieces(), head) {
         return Err(Trouble::Fault(Kind::Malformed));
     }
-    let new = names_at(alloc, true, pieces(), head)?;
-    let args = names_at(alloc, false, pieces(), head)?;
+    let new = names_at(alloc, true, superposition_pieces(), head)?;
+    let args = names_at(alloc, false, superposition_pieces(), head)?;
     let shown = lits_of(alloc, rest)?;
     Ok(RawSuperpose { args, new, shown })
 }

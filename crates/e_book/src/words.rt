@@ -4,13 +4,25 @@ ghost use Rattle.std.specs.Iterator.{YieldsFirst};
 ghost use Rattle.e_text.specs.Tokens.{tokens_of};
 ghost use Rattle.std.specs.List.{position_or_len};
 ghost use Rattle.std.specs.Str.{bytes_eq};
+ghost use Rattle.e_book.specs.Canonical.{sort_word};
 ghost use Rattle.e_book.specs.Reading.{cut_at, texts, Gives, Reads, word_at, name_at, title_at, end_at, names_of, some_names, two_names, three_names};
 
 use crate::fault::{Kind, Trouble};
-use e_literal::Items;
+use e_literal::{Items, Sort};
 use e_text::{Name, Title, is, tokens};
 use std::alloc::{AllocError, Global};
 use std::marker::Model;
+
+/// The word of the lines that declare or make objects of this sort.
+pub fn sort_word(sort: Sort) -> &'static [u8]
+    ensures { result.now ≡ sort_word sort }
+{
+    match sort {
+        Sort::Point => b"points",
+        Sort::Line => b"lines",
+        Sort::Circle => b"circles",
+    }
+}
 
 /// The tokens of a line, kept.
 pub fn collected(alloc: Global, line: &[u8]) -> Result<Vec<&[u8]>, AllocError>

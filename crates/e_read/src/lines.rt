@@ -3,25 +3,14 @@ ghost use Rattle.std.specs.Prelude.{◌≡◌, ◌++◌, ◌∷◌, [], codes, m
 ghost use Rattle.e_text.specs.Tokens.{spaced};
 ghost use Rattle.e_construct.specs.Views.{piece_said};
 ghost use Rattle.e_book.specs.Superposes.{superpose_pieces};
-ghost use Rattle.e_book.specs.Canonical.{sort_word, lit_words, lits_words, filled, line_pieces, avoid_words, let_words, superpose_words, argument_word, made_words, apply_words, line_of};
+ghost use Rattle.e_book.specs.Canonical.{lit_words, lits_words, filled, line_pieces, avoid_words, let_words, superpose_words, argument_word, made_words, apply_words, line_of};
 
 use crate::literals::{put_literal, put_literals};
-use e_book::{Form, RawApply, RawLet, RawLit, RawSuperpose};
+use e_book::{Form, RawApply, RawLet, RawLit, RawSuperpose, sort_word, superposition_pieces};
 use e_construct::{Piece, Shape, pieces};
-use e_literal::Sort;
 use e_text::{Name, Title};
 use e_words::{put, put_names};
 use std::alloc::AllocError;
-
-fn sort_word(sort: Sort) -> &'static [u8]
-    ensures { result.now ≡ sort_word sort }
-{
-    match sort {
-        Sort::Point => b"points",
-        Sort::Line => b"lines",
-        Sort::Circle => b"circles",
-    }
-}
 
 /// A citation behind its first word.
 fn put_by(out: &mut Vec<u8>, rule: Title, names: &[Name], lit: &RawLit) -> Result<(), AllocError>
@@ -172,22 +161,6 @@ fn put_apply(out: &mut Vec<u8>, raw: &RawApply) -> Result<(), AllocError>
     put_use(out, raw.title, raw.args.items(), raw.new.items())
 }
 
-static SUPERPOSITION: [Piece; 13] = [
-    Piece::Argument,
-    Piece::Argument,
-    Piece::Argument,
-    Piece::Argument,
-    Piece::Word(b"onto"),
-    Piece::Argument,
-    Piece::Argument,
-    Piece::Argument,
-    Piece::Argument,
-    Piece::Word(b"as"),
-    Piece::New,
-    Piece::New,
-    Piece::Word(b"show"),
-];
-
 /// A superposition behind its first word.
 #[tactic(auto, using(e_words::proofs::Spaced::spaced_append))]
 fn put_superposition(
@@ -198,7 +171,7 @@ fn put_superposition(
 ) -> Result<(), AllocError>
     ensures { OnOk result (out.new.items ≡ out.old.items ++ spaced (filled superpose_pieces new.now args.now ++ lits_words shown.now)) }
 {
-    put_pieces(out, &SUPERPOSITION, new, args)?;
+    put_pieces(out, superposition_pieces(), new, args)?;
     put_literals(out, shown)?;
     Ok(())
 }

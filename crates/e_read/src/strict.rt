@@ -1,7 +1,6 @@
 //! Lines in the one spelling of a derivation.
 ghost use Rattle.std.specs.Prelude.{◌≡◌, is_some};
 ghost use Rattle.std.specs.List.{list_all};
-ghost use Rattle.e_literal.specs.Scopes.{same_sort};
 ghost use Rattle.e_book.specs.Reading.{texts, Gives};
 ghost use Rattle.e_read.specs.Strict.{is_less, is_direct, are_direct, is_strict, strict_of, is_strict_row, is_strict_mark, strict_mark, ends_with, is_apart};
 
@@ -9,6 +8,7 @@ use crate::lines::put_form;
 use crate::mark::{Mark, RawRow, mark_of};
 use crate::marks::put_mark;
 use e_book::{Draft, Form, Kind, RawAtom, RawLit, Trouble, form_of};
+use e_construct::naming::same_sort;
 use e_literal::Sort;
 use e_text::Name;
 use std::alloc::Global;
@@ -103,17 +103,6 @@ pub(crate) fn strict_mark(alloc: Global, line: &[u8], words: &[&[u8]]) -> Result
     }
 }
 
-fn is_sort(a: Sort, b: Sort) -> bool
-    ensures { result ≡ same_sort a b }
-{
-    match (a, b) {
-        (Sort::Point, Sort::Point) => true,
-        (Sort::Line, Sort::Line) => true,
-        (Sort::Circle, Sort::Circle) => true,
-        _ => false,
-    }
-}
-
 /// Whether the last of these objects has this sort.
 #[tactic(auto, using(crate::proofs::Ends::ends_behind))]
 fn ends_with(sorts: &[Sort], sort: Sort) -> bool
@@ -121,7 +110,7 @@ fn ends_with(sorts: &[Sort], sort: Sort) -> bool
 {
     match sorts {
         [] => false,
-        [only] => is_sort(*only, sort),
+        [only] => same_sort(*only, sort),
         [_, rest @ ..] => ends_with(rest, sort),
     }
 }

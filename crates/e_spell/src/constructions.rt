@@ -9,6 +9,7 @@ ghost use Rattle.e_book.specs.Superposes.{superpose_pieces};
 ghost use Rattle.e_spell.specs.Parts.{construction_words, superposition_words, superposition_text};
 
 use crate::literals::{name_of_object, put_literals, put_objects};
+use e_book::superposition_pieces;
 use e_construct::{Construction, Piece, Superpose, pieces};
 use e_deriv::Names;
 use e_literal::{Lit, Obj, Sort};
@@ -90,23 +91,6 @@ pub(crate) fn put_let(
     end_line(out)
 }
 
-/// A superposition from behind its first word to the literals that its block shows.
-static SUPERPOSITION: [Piece; 13] = [
-    Piece::Argument,
-    Piece::Argument,
-    Piece::Argument,
-    Piece::Argument,
-    Piece::Word(b"onto"),
-    Piece::Argument,
-    Piece::Argument,
-    Piece::Argument,
-    Piece::Argument,
-    Piece::Word(b"as"),
-    Piece::New,
-    Piece::New,
-    Piece::Word(b"show"),
-];
-
 fn point(num: u16) -> Obj
     ensures { result ≡ obj Point num }
 {
@@ -146,7 +130,7 @@ fn put_placed(
         point(h),
         line(l),
     ];
-    put_pieces(out, names, &SUPERPOSITION, new, &args)
+    put_pieces(out, names, superposition_pieces(), new, &args)
 }
 
 /// A superposition, with names for the copied points, and with the literals that its block shows.

@@ -1,12 +1,13 @@
 //! The lines that declare objects, and those of made objects.
 ghost use Rattle.std.specs.Prelude.{◌≡◌, ◌++◌, ◌∷◌, [], ◌≤◌, ◌+◌, ◌-◌, ◌^◌, Some, None, length, OnOk, IfOk};
 ghost use Rattle.e_literal.specs.Literal.{count_of};
-ghost use Rattle.e_literal.specs.Scopes.{same_sort, with_one, grown, next_objects};
-ghost use Rattle.e_book.specs.Canonical.{sort_word};
+ghost use Rattle.e_literal.specs.Scopes.{with_one, grown, next_objects};
 ghost use Rattle.e_spell.specs.Counts.{Below, AtMostMore, scope_of_counts};
 ghost use Rattle.e_spell.specs.Parts.{role_words, opening, closing, objects_text};
 
 use crate::literals::name_of;
+use e_book::sort_word;
+use e_construct::naming::same_sort;
 use e_deriv::Names;
 use e_literal::Sort;
 use e_words::{end_line, put};
@@ -56,25 +57,6 @@ fn with_one(counts: Counts, sort: Sort) -> Counts
             ..counts
         },
     }
-}
-
-fn sort_word(sort: Sort) -> &'static [u8]
-    ensures { result.now ≡ sort_word sort }
-{
-    match sort {
-        Sort::Point => b"points",
-        Sort::Line => b"lines",
-        Sort::Circle => b"circles",
-    }
-}
-
-fn same_sort(x: Sort, y: Sort) -> bool
-    ensures { result ≡ same_sort x y }
-{
-    matches!(
-        (x, y),
-        (Sort::Point, Sort::Point) | (Sort::Line, Sort::Line) | (Sort::Circle, Sort::Circle)
-    )
 }
 
 /// The first words of a line.
