@@ -1,7 +1,5 @@
 //! Judging a close without blocks.
 ghost use Rattle.std.specs.Prelude.{◌≡◌, List, Option, IfOk, IfErr, IsTrue, map};
-ghost use Rattle.e_literal.specs.Rename;
-ghost use Rattle.e_literal.specs.Rename.{image_in};
 ghost use Rattle.e_literal.specs.Use.{Stated};
 ghost use Rattle.e_clause.specs.declared.cert.Against.{Against};
 ghost use Rattle.e_clause.specs.declared.cert.Cert.{Cert};
@@ -15,7 +13,8 @@ use crate::halt::Halt;
 use crate::licence::licences;
 use e_deriv::{Close, Wanted};
 use e_licence::{Context, Refuted, against};
-use e_literal::{Items, Lit, Map, Obj, renamed};
+use e_literal::{Items, Lit, Map, Obj};
+use e_theorem::all_renamed;
 use std::alloc::{AllocError, Global};
 
 /// What a block has to show: literals, and the made objects in them.
@@ -67,16 +66,5 @@ fn goal_with(alloc: Global, goal: &Goal, objects: &[Obj]) -> Result<Vec<Lit>, Al
     ensures { IfOk result (λ lits. lits.items ≡ Rattle.e_deriv.specs.Goal.goal_with (goal_said goal.now) objects.now) }
 {
     let images = Map::paired(alloc, goal.made, objects)?;
-    with_images(alloc, goal.shown, &images)
-}
-
-/// The literals with the images of their objects.
-fn with_images(alloc: Global, lits: &[Lit], images: &Map) -> Result<Vec<Lit>, AllocError>
-    ensures { IfOk result (λ ls. ls.items ≡ map (Rename.renamed (image_in images.now)) lits.now) }
-{
-    let mut with = Vec::new(alloc);
-    for lit in lits {
-        with.push(renamed(alloc, lit, images)?)?;
-    }
-    Ok(with)
+    all_renamed(alloc, goal.shown, &images)
 }

@@ -24,9 +24,9 @@ use e_book::{
     Draft, Form, Kind, Known, Opened, Outer, RawApply, Trouble, apply_in, let_in, lit_in, qed_in,
     scope_of_names, superpose_in,
 };
-use e_literal::{Items, Lit, Map, Obj, Scope, Sort, grown, next_objects, renamed};
+use e_literal::{Items, Lit, Map, Obj, Scope, Sort, grown, next_objects};
 use e_text::Name;
-use e_theorem::{Statement, UseFault, use_of};
+use e_theorem::{Statement, UseFault, all_renamed, use_of};
 use std::alloc::{AllocError, Global};
 
 /// One certificate for each of these literals.
@@ -112,18 +112,6 @@ fn claimed(outers: &[Outer]) -> Option<&[Lit]>
     }
 }
 
-/// The literals under a renaming.
-fn all_renamed(alloc: Global, lits: &[Lit], images: &Map) -> Result<Items<Lit>, AllocError>
-    ensures { IfOk result (λ ls. ls ≡ map (Rename.renamed (image_in images.now)) lits.now) }
-{
-    let mut with = Items::empty(alloc);
-    for lit in lits {
-        let lit = renamed(alloc, lit, images)?;
-        with.push(lit)?;
-    }
-    Ok(with)
-}
-
 /// The literals with objects for the made ones in them.
 fn with_objects(
     alloc: Global,
@@ -135,7 +123,8 @@ fn with_objects(
     ensures { IfOk result (λ ls. ls ≡ map (Rename.renamed (image_in (paired made.now objects.now))) shown.now) }
 {
     let images = Map::paired(alloc, made, objects)?;
-    all_renamed(alloc, shown, &images)
+    let with = all_renamed(alloc, shown, &images)?;
+    Ok(Items::new(with))
 }
 
 const NOTHING: Scope = Scope {

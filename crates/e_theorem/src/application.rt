@@ -112,11 +112,19 @@ fn objects(alloc: Global, statement: &Statement) -> Result<Vec<Obj>, AllocError>
 fn at(alloc: Global, lits: &[Lit], images: &Map) -> Result<Items<Lit>, AllocError>
     ensures { IfOk result (λ ls. ls ≡ map_list (at_images (image_in images.now)) lits.now) }
 {
-    let mut at = Items::empty(alloc);
+    let at = all_renamed(alloc, lits, images)?;
+    Ok(Items::new(at))
+}
+
+/// The literals with the images of their objects, in their order. It fails only for want of memory.
+pub fn all_renamed(alloc: Global, lits: &[Lit], images: &Map) -> Result<Vec<Lit>, AllocError>
+    ensures { IfOk result (λ ls. ls.items ≡ map_list (at_images (image_in images.now)) lits.now) }
+{
+    let mut with = Vec::new(alloc);
     for lit in lits {
-        at.push(renamed(alloc, lit, images)?)?;
+        with.push(renamed(alloc, lit, images)?)?;
     }
-    Ok(at)
+    Ok(with)
 }
 
 // Whether the objects are as many as the sorts, of these sorts, and in scope.

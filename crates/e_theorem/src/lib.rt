@@ -7,6 +7,6 @@ mod statement;
 #[cfg(test)]
 mod tests;
 
-pub use application::{Applied, UseFault, use_of};
+pub use application::{Applied, UseFault, all_renamed, use_of};
 pub use pattern::is_pattern;
 pub use statement::Statement;

@@ -3,8 +3,6 @@
 ghost use Rattle.std.specs.Prelude.{◌≡◌, List, IfOk, IsTrue, map, true};
 ghost use Rattle.std.specs.List.{list_all};
 ghost use Rattle.std.specs.Option.{option_map_or};
-ghost use Rattle.e_literal.specs.Rename;
-ghost use Rattle.e_literal.specs.Rename.{image_in};
 ghost use Rattle.e_literal.specs.Scopes;
 ghost use Rattle.e_literal.specs.Use.{Stated};
 ghost use Rattle.e_literal.specs.WellFormed.{is_well_formed};
@@ -18,7 +16,8 @@ ghost use Rattle.e_clause.specs.Written.{is_good_cert, is_good_against};
 use crate::certificate::{certifies_against, certify_all};
 use crate::standing::{Goal, Standing};
 use e_clause::{Against, Cert};
-use e_literal::{Lit, Map, Obj, Scope, count, renamed};
+use e_literal::{Lit, Map, Obj, Scope, count};
+use e_theorem::all_renamed;
 use std::alloc::{AllocError, Global};
 
 /// Whether a qed is certified: each literal of the goal, with these objects for its made ones.
@@ -78,16 +77,5 @@ fn goal_with(alloc: Global, goal: &Goal, objects: &[Obj]) -> Result<Vec<Lit>, Al
     ensures { IfOk result (λ lits. lits.items ≡ Rattle.e_deriv.specs.Goal.goal_with (goal_said goal.now) objects.now) }
 {
     let images = Map::paired(alloc, goal.made, objects)?;
-    with_images(alloc, goal.shown, &images)
-}
-
-/// The literals with the images of their objects.
-fn with_images(alloc: Global, lits: &[Lit], images: &Map) -> Result<Vec<Lit>, AllocError>
-    ensures { IfOk result (λ ls. ls.items ≡ map (Rename.renamed (image_in images.now)) lits.now) }
-{
-    let mut with = Vec::new(alloc);
-    for lit in lits {
-        with.push(renamed(alloc, lit, images)?)?;
-    }
-    Ok(with)
+    all_renamed(alloc, goal.shown, &images)
 }

@@ -1,6 +1,0 @@
-use Rattle.std.proofs.Common.{◌≡◌, ◌++◌, drop, map}
-use Rattle.e_literal.specs.Rename.{renamed, image_in}
-use Rattle.e_read.proofs.needs.all_renamed.Given as goal
-
-abbrev pub invariant-loop-lit : goal.invariant-loop-lit
-invariant-loop-lit l = l.with ++ map (renamed (image_in l.images)) (drop l.lit-index l.lits) ≡ map (renamed (image_in l.images)) l.lits

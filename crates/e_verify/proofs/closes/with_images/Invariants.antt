@@ -1,7 +1,0 @@
-use Rattle.std.proofs.Common.{◌≡◌, ◌++◌, drop}
-use Rattle.std.specs.Prelude.{map}
-use Rattle.e_literal.specs.Rename.{renamed, image_in}
-use Rattle.e_verify.proofs.closes.with_images.Given as goal
-
-abbrev pub invariant-loop-lit : goal.invariant-loop-lit
-invariant-loop-lit l = l.with.items ++ map (renamed (image_in l.images)) (drop l.lit-index l.lits) ≡ map (renamed (image_in l.images)) l.lits
