@@ -60,7 +60,7 @@ pub(crate) fn strict_of(alloc: Global, line: &[u8], words: &[&[u8]]) -> Result<F
     ensures { Gives (λ f. f) result (strict_of line.now (texts words.now)) }
 {
     let form = form_of(alloc, words)?;
-    let mut again = Vec::new(alloc);
+    let mut again = Vec::with_capacity(alloc, line.len())?;
     put_form(&mut again, &form)?;
     if is_strict(&form) && line == again.as_slice() {
         Ok(form)
@@ -94,7 +94,7 @@ pub(crate) fn strict_mark(alloc: Global, line: &[u8], words: &[&[u8]]) -> Result
     ensures { Gives (λ m. m) result (strict_mark line.now (texts words.now)) }
 {
     let mark = mark_of(alloc, words)?;
-    let mut again = Vec::new(alloc);
+    let mut again = Vec::with_capacity(alloc, line.len())?;
     put_mark(&mut again, &mark)?;
     if is_strict_mark(&mark) && line == again.as_slice() {
         Ok(mark)

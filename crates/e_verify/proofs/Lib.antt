@@ -2,6 +2,7 @@ pub mod StepTerms
 pub mod Totalling
 pub mod Smallness
 pub mod Added
+pub mod Fingerprints
 pub mod Summing
 pub mod Paired
 pub mod Formed

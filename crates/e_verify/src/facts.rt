@@ -2,19 +2,57 @@
 
 ghost use Rattle.std.specs.Prelude.{◌≡◌, ◌≤◌, [], take, length, OnOk};
 ghost use Rattle.std.specs.List.{list_any};
-ghost use Rattle.e_literal.specs.Facts.{has_all, joined, joined_all, are_equal_points};
+ghost use Rattle.e_literal.specs.Facts.{has, has_all, joined, joined_all, are_equal_points};
 ghost use Rattle.e_literal.specs.Literal.{negation};
-ghost use Rattle.e_literal.specs.Same.{term_eq};
+ghost use Rattle.e_literal.specs.Same.{same_lit, term_eq};
+ghost use Rattle.e_verify.specs.Fingerprint.{fingerprint_of};
 ghost use Rattle.e_clause.specs.Assignment.{terms_of_atom, terms_of_lits};
 
+use crate::fingerprint::fingerprint_of;
 use e_literal::{Atom, Lit, Mono, Term, same};
 use std::alloc::{AllocError, Global};
 use std::marker::Model;
 
+/// A fact with its fingerprint, by which most literals that are not the same are told from it at once. Contracts see the literal.
+#[derive(Debug, Drop)]
+struct Fact {
+    lit: Lit,
+    fingerprint: u128,
+}
+
+impl Model for Fact {
+    ghost use Rattle.std.specs.Prelude.{◌≡◌};
+    ghost use Rattle.e_literal.specs.declared.literal.Lit.{Lit};
+    ghost use Rattle.e_verify.specs.Fingerprint.{fingerprint_of};
+
+    ghost Value = { Lit };
+
+    ghost view = { λ f. f.lit };
+
+    ghost invariant = { λ f. f.fingerprint ≡ fingerprint_of f.lit.atom };
+}
+
+impl Fact {
+    /// Whether the literal, which has this fingerprint, is the same.
+    fn is_same(&self, lit: &Lit, fingerprint: u128) -> bool
+        requires { fingerprint ≡ fingerprint_of lit.now.atom }
+        ensures { result ≡ same_lit self.now lit.now }
+    {
+        self.fingerprint == fingerprint && same(&self.lit, lit)
+    }
+
+    /// Whether the term stands in it, as it is written.
+    fn has_term(&self, term: Term) -> bool
+        ensures { result ≡ list_any (term_eq term) (terms_of_atom self.now.atom) }
+    {
+        stands_in(&self.lit, term)
+    }
+}
+
 /// The facts before a line, which contracts see as their list. No two that are put in are the same.
 #[derive(Debug, Drop)]
 pub struct Facts {
-    lits: Vec<Lit>,
+    lits: Vec<Fact>,
 }
 
 impl Model for Facts {
@@ -40,7 +78,7 @@ impl Facts {
     pub fn has(&self, lit: &Lit) -> bool
         ensures { result ≡ Rattle.e_literal.specs.Facts.has self.now lit.now }
     {
-        self.lits.iter().any(|fact| same(fact, lit))
+        has_same(&self.lits, lit, fingerprint_of(lit))
     }
 
     /// Whether each of the literals is there.
@@ -70,10 +108,11 @@ impl Facts {
     pub fn add(&mut self, lit: Lit) -> Result<(), AllocError>
         ensures { OnOk result (self.new ≡ joined self.old lit) }
     {
-        if self.has(&lit) {
+        let fingerprint = fingerprint_of(&lit);
+        if has_same(&self.lits, &lit, fingerprint) {
             return Ok(());
         }
-        self.lits.push(lit)?;
+        self.lits.push(Fact { lit, fingerprint })?;
         Ok(())
     }
 
@@ -102,6 +141,14 @@ impl Facts {
     }
 }
 
+/// Whether one the same as the literal, which has this fingerprint, is among the facts.
+fn has_same(facts: &[Fact], lit: &Lit, fingerprint: u128) -> bool
+    requires { fingerprint ≡ fingerprint_of lit.now.atom }
+    ensures { result ≡ has facts.now lit.now }
+{
+    facts.iter().any(|fact| fact.is_same(lit, fingerprint))
+}
+
 fn differ(a: u16, b: u16) -> Lit
     ensures { result ≡ negation (are_equal_points a b) }
 {
@@ -124,10 +171,10 @@ pub fn stands_in(lit: &Lit, term: Term) -> bool
     }
 }
 
-fn stands_in_any(lits: &[Lit], term: Term) -> bool
-    ensures { result ≡ list_any (λ l. list_any (term_eq term) (terms_of_atom l.atom)) lits.now }
+fn stands_in_any(facts: &[Fact], term: Term) -> bool
+    ensures { result ≡ list_any (λ l. list_any (term_eq term) (terms_of_atom l.atom)) facts.now }
 {
-    lits.iter().any(|lit| stands_in(lit, term))
+    facts.iter().any(|fact| fact.has_term(term))
 }
 
 fn is_among(sum: &[Mono], term: Term) -> bool

@@ -6,6 +6,7 @@ mod block;
 mod certificate;
 mod closes;
 mod facts;
+mod fingerprint;
 mod instances;
 mod metric;
 mod reject;

@@ -1,0 +1,95 @@
+// Fingerprints of literals: numbers by which most literals that are not the same are told apart at once.
+
+ghost use Rattle.std.specs.Prelude.{◌≡◌, ◌*◌, ◌<◌, ◌≤◌, ◌^◌};
+ghost use Rattle.e_literal.specs.Solution.{carried};
+ghost use Rattle.e_verify.specs.Fingerprint.{mixed, number_of, weight_of, placed, fingerprint_of};
+
+use e_literal::compare::{canonical, is_degenerate};
+use e_literal::{Atom, Lit, Mono, Term};
+
+/// The square, by a prime below 2^30.
+#[tactic(auto, unfolding(crate::specs::Fingerprint::mixed))]
+fn mixed(n: u64) -> u64
+    requires { n < 2 ^ 32 }
+    ensures value { result ≡ mixed n }
+    ensures bound { result < 2 ^ 30 }
+{
+    n * n % 1_073_741_789
+}
+
+/// The number of a term that is written one way.
+fn number_of(term: Term) -> u64
+    ensures value { result ≡ number_of term }
+    ensures bound { result < 2 ^ 30 }
+{
+    match term {
+        Term::Seg(a, b) => mixed(u64::from(a) + 251 * u64::from(b)),
+        Term::Ang(a, b, c) | Term::Area(a, b, c) => {
+            mixed(u64::from(a) + 251 * u64::from(b) + 63_001 * u64::from(c))
+        }
+        Term::Right => 1,
+    }
+}
+
+/// The number of a term, however it is written; 0 where it is 0 in itself.
+fn carried_number(term: Term) -> u64
+    ensures value { result ≡ carried number_of term }
+    ensures bound { result < 2 ^ 30 }
+{
+    if is_degenerate(term) {
+        0
+    } else {
+        number_of(canonical(term))
+    }
+}
+
+/// The number of a term as often as the sum has it.
+fn share(mono: &Mono) -> u64
+    ensures value { result ≡ mono.now.coeff * carried number_of mono.now.term }
+    ensures bound { result < 2 ^ 62 }
+{
+    u64::from(mono.coeff) * carried_number(mono.term)
+}
+
+/// The value of a sum where each term has its number.
+fn weight_of(sum: &[Mono]) -> u128
+    ensures { result ≡ weight_of sum.now }
+{
+    let mut total = 0u128;
+    for mono in sum {
+        total += u128::from(share(mono));
+    }
+    total
+}
+
+/// A kind of atom and its objects as one number.
+fn placed(kind: u16, a: u16, b: u16, c: u16) -> u128
+    ensures { result ≡ placed kind a b c }
+{
+    let front = (u64::from(kind) * 0x1_0000 + u64::from(a)) * 0x1_0000 + u64::from(b);
+    u128::from(front) * 0x1_0000 + u128::from(c)
+}
+
+/// The fingerprint of a literal: literals that are the same have one.
+#[tactic(auto, unfolding(crate::specs::Fingerprint::fingerprint_of))]
+pub(crate) fn fingerprint_of(lit: &Lit) -> u128
+    ensures { result ≡ fingerprint_of lit.now.atom }
+{
+    match &lit.atom {
+        Atom::On(a, b) => placed(1, *a, *b, 0),
+        Atom::OnC(a, b) => placed(2, *a, *b, 0),
+        Atom::Inside(a, b) => placed(3, *a, *b, 0),
+        Atom::Center(a, b) => placed(4, *a, *b, 0),
+        Atom::Between(a, b, c) => placed(5, *a, *b, *c),
+        Atom::Same(a, b, c) => placed(6, *a, *b, *c),
+        Atom::MeetLL(a, b) => placed(7, *a, *b, 0),
+        Atom::MeetLC(a, b) => placed(8, *a, *b, 0),
+        Atom::MeetCC(a, b) => placed(9, *a, *b, 0),
+        Atom::EqP(a, b) => placed(10, *a, *b, 0),
+        Atom::EqL(a, b) => placed(11, *a, *b, 0),
+        Atom::EqC(a, b) => placed(12, *a, *b, 0),
+        Atom::MagEq(x, y) | Atom::MagLt(x, y) => {
+            weight_of(x.items()).abs_diff(weight_of(y.items()))
+        }
+    }
+}
