@@ -17,7 +17,8 @@ use Rattle.e_book.specs.Applies.{entries_in, apply_in}
 use Rattle.e_book.specs.Canonical.{name_of_object, argument_name}
 use Rattle.e_book.specs.HasSpelling.{AreNames, is_place, is_named_by_title}
 use Rattle.e_book.proofs.Differ.{both}
-use Rattle.e_book.proofs.Lookups.{InOrder, object_again, objects_named, sorts_same}
+use Rattle.e_book.proofs.Lookups.{InOrder, object_again, objects_named}
+use Rattle.e_construct.proofs.Moving.{sorts_same}
 use Rattle.e_book.proofs.AppliesAgain.{AreArguments, ApplyNamed}
 
 -- ---- the arguments

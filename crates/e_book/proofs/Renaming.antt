@@ -21,7 +21,7 @@ use Rattle.e_literal.specs.WellFormed.{same_kind, is_good_coefficient, is_good_a
 use Rattle.e_literal.specs.Rename.{term_at, mono_at, atom_at, number_at, renamed, same_obj, image_in, paired}
 use Rattle.e_construct.proofs.Moving.{is_moved_in}
 use Rattle.e_book.proofs.Differ.{both}
-use Rattle.e_book.proofs.Lookups.{sorts_same}
+use Rattle.e_construct.proofs.Moving.{sorts_same}
 use Rattle.e_book.proofs.GoodSums.{is_good_mono, AreGood, GoodSums, good_sums, sums_good}
 
 -- ---- well formed

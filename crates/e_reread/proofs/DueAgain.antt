@@ -26,7 +26,8 @@ use Rattle.e_book.specs.Scope.{scope_of_names, object_as, objects_of_sorts, qed_
 use Rattle.e_book.specs.Canonical.{raw_of, name_of_object, argument_name, hence_form, let_form, apply_form, superpose_form, qed_form}
 use Rattle.e_book.proofs.Differ.{both}
 use Rattle.e_book.proofs.Respelled.{as_read}
-use Rattle.e_book.proofs.Lookups.{InOrder, object_again, sorts_same}
+use Rattle.e_book.proofs.Lookups.{InOrder, object_again}
+use Rattle.e_construct.proofs.Moving.{sorts_same}
 use Rattle.e_book.proofs.LitLookups.{lit_number_again}
 use Rattle.e_book.proofs.PlainLits.{PlainLit}
 use Rattle.e_book.proofs.Building.{GoodLet}
