@@ -1,7 +1,9 @@
 //! Lines in the one spelling of a derivation.
-ghost use Rattle.std.specs.Prelude.{◌≡◌, is_some};
+ghost use Rattle.std.specs.Prelude.{◌≡◌, is_some, IfOk};
 ghost use Rattle.std.specs.List.{list_all};
+ghost use Rattle.e_book.specs.Canonical.{line_of};
 ghost use Rattle.e_book.specs.Reading.{texts, Gives};
+ghost use Rattle.e_read.specs.Marks.{mark_line};
 ghost use Rattle.e_read.specs.Strict.{is_less, is_direct, are_direct, is_strict, strict_of, is_strict_row, is_strict_mark, strict_mark, ends_with, is_apart};
 
 use crate::lines::put_form;
@@ -11,7 +13,7 @@ use e_book::{Draft, Form, Kind, RawAtom, RawLit, Trouble, form_of};
 use e_construct::naming::same_sort;
 use e_literal::Sort;
 use e_text::Name;
-use std::alloc::Global;
+use std::alloc::{AllocError, Global};
 
 fn is_less(atom: &RawAtom) -> bool
     ensures { result ≡ is_less atom.now }
@@ -54,14 +56,22 @@ fn is_strict(form: &Form) -> bool
     }
 }
 
+/// The line of a form, made in room for so many bytes.
+fn line_of(alloc: Global, form: &Form, room: usize) -> Result<Vec<u8>, AllocError>
+    ensures { IfOk result (λ line. line.items ≡ line_of form.now) }
+{
+    let mut line = Vec::with_capacity(alloc, room)?;
+    put_form(&mut line, form)?;
+    Ok(line)
+}
+
 /// The form of a line of these words that is spelled as this form is.
 #[tactic(auto, unfolding(crate::specs::Strict::strict_of))]
 pub(crate) fn strict_of(alloc: Global, line: &[u8], words: &[&[u8]]) -> Result<Form, Trouble>
     ensures { Gives (λ f. f) result (strict_of line.now (texts words.now)) }
 {
     let form = form_of(alloc, words)?;
-    let mut again = Vec::with_capacity(alloc, line.len())?;
-    put_form(&mut again, &form)?;
+    let again = line_of(alloc, &form, line.len())?;
     if is_strict(&form) && line == again.as_slice() {
         Ok(form)
     } else {
@@ -88,14 +98,22 @@ fn is_strict_mark(mark: &Mark) -> bool
     }
 }
 
+/// The line of a certificate, made in room for so many bytes.
+fn mark_line(alloc: Global, mark: &Mark, room: usize) -> Result<Vec<u8>, AllocError>
+    ensures { IfOk result (λ line. line.items ≡ mark_line mark.now) }
+{
+    let mut line = Vec::with_capacity(alloc, room)?;
+    put_mark(&mut line, mark)?;
+    Ok(line)
+}
+
 /// The same of a line of a certificate, where these are the words behind its sign.
 #[tactic(auto, unfolding(crate::specs::Strict::strict_mark))]
 pub(crate) fn strict_mark(alloc: Global, line: &[u8], words: &[&[u8]]) -> Result<Mark, Trouble>
     ensures { Gives (λ m. m) result (strict_mark line.now (texts words.now)) }
 {
     let mark = mark_of(alloc, words)?;
-    let mut again = Vec::with_capacity(alloc, line.len())?;
-    put_mark(&mut again, &mark)?;
+    let again = mark_line(alloc, &mark, line.len())?;
     if is_strict_mark(&mark) && line == again.as_slice() {
         Ok(mark)
     } else {
