@@ -1,0 +1,515 @@
+-- What is known of a script where its next line comes: what is known where the line before comes, in parts.
+use Rattle.std.proofs.Common.{◌≡◌, ℕ, ◌+◌, ◌≤◌, ◌<◌, true, leb, ltb, ◌&&◌, List, [], ◌∷◌, ◌++◌, length, Option, None, Ok, refl, sym, subst, ◌∙◌, arith}
+use Rattle.std.specs.List.{list_all}
+use Rattle.std.proofs.lemmas.Bool.{leb-true, ltb-true}
+use Rattle.std.proofs.lemmas.List.Folds.{list_all-append}
+use Rattle.e_text.specs.Names.{is_name}
+use Rattle.e_literal.specs.declared.object.Obj.{Obj}
+use Rattle.e_literal.specs.declared.object.Scope.{Scope}
+use Rattle.e_literal.specs.declared.literal.Lit.{Lit}
+use Rattle.e_literal.specs.Literal.{negation, all_in_scope}
+use Rattle.e_literal.specs.WellFormed.{is_well_formed}
+use Rattle.e_literal.specs.Scopes.{grown}
+use Rattle.e_literal.specs.Facts.{joined, joined_all}
+use Rattle.e_literal.specs.Use.{gives_of_use}
+use Rattle.e_theorem.specs.Pattern.{is_pattern}
+use Rattle.e_clause.specs.declared.cert.By.{By}
+use Rattle.e_construct.specs.declared.construction.Construction.{Construction}
+use Rattle.e_construct.specs.declared.superpose.Superpose.{Superpose}
+use Rattle.e_construct.specs.Construct.{made, gives, fits as fits_form}
+use Rattle.e_construct.specs.Superposing as superposing
+use Rattle.e_deriv.specs.PlainStep.{Cited, Inferred, Made, Claimed, Copied}
+use Rattle.e_deriv.specs.Naming.{named}
+use Rattle.e_deriv.specs.Script.{Script, Cite, Hence, Make, Apply, Claim, Superposed, Cases, size, depth}
+use Rattle.e_deriv.specs.Goal.{Goal, goal_of}
+use Rattle.e_deriv.specs.Lines.{Line, lines}
+use Rattle.e_deriv.specs.Parts.{written as written_args}
+use Rattle.e_deriv.specs.Steps.{are_over, is_citation}
+use Rattle.e_book.specs.declared.blocks.Opened.TheVariants as opened
+use Rattle.e_book.specs.declared.draft.Draft.{Draft}
+use Rattle.e_book.specs.Limits.{most_facts, most_terms, most_blanks, monomials, count_monomials}
+use Rattle.e_book.specs.Headed.{Headed, stated_by, theorem_of}
+use Rattle.e_book.specs.Scope.{scope_of_names}
+use Rattle.e_book.specs.Applies.{count_blanks}
+use Rattle.e_book.specs.Steps.{few_objects}
+use Rattle.e_book.specs.Fits.{NewNamesFit, few_facts, few_terms, few_blanks, is_diagram_lit, has_good_literals}
+use Rattle.e_book.specs.HasSpelling.{AreNames, is_plain, is_named_by_title, names_theorems}
+use Rattle.e_book.proofs.Differ.{both}
+use Rattle.e_book.proofs.PlainLits.{Plain, PlainLit}
+use Rattle.e_book.proofs.Building.{GoodLet, named_scope}
+use Rattle.e_book.proofs.Growing.{named_in_order}
+use Rattle.e_book.proofs.Superposed.{GoodSuperpose}
+use Rattle.e_book.proofs.Applied.{GoodApply}
+use Rattle.e_book.proofs.FittingScripts.{line_fits}
+use Rattle.e_book.proofs.LinesRead.{Inside, behind, deep, written, copied, resume, second, applied_behind}
+use Rattle.e_book.proofs.ScriptRead.{Ready}
+
+pub list_names : (ns : List (List ℕ)) → list_all is_name ns ≡ true → AreNames ns
+list_names [] h = tt
+list_names (n ∷ ns) h = let p = both (is_name n) (list_all is_name ns) h in (p.0, list_names ns p.1)
+
+both_fit : (known : List Headed) (xs ys : List Line) → list_all (line_fits (stated_by known)) (xs ++ ys) ≡ true → (list_all (line_fits (stated_by known)) xs ≡ true) × (list_all (line_fits (stated_by known)) ys ≡ true)
+both_fit known xs ys h = let p = line_fits (stated_by known) in both (list_all p xs) (list_all p ys) (sym (list_all-append p xs ys) ∙ h)
+
+-- ---- steps without a block inside
+
+pub cite_ready : (known : List Headed) (d : Draft) (i : Inside) (b : By) (rest : Script) (given : List Lit) (goal : Goal) → Ready known d i (Cite b rest) given goal → Ready known d (behind i (Cited b) 1) rest (joined given b.lit) goal
+unfolding is_plain lines NewNamesFit size depth has_good_literals few_facts few_terms names_theorems few_blanks
+cite_ready known d i b rest given goal r =
+    let s = scope_of_names i.in_scope in
+    record {
+      order = r.order;
+      goal_sorts = r.goal_sorts;
+      plain = r.plain;
+      fitting = (both (is_citation s b) (list_all (line_fits (stated_by known)) (lines (stated_by known) rest rest s (joined given b.lit) goal)) r.fitting).1;
+      new_names = r.new_names;
+      few = omega (arith, r.few);
+      shallow = r.shallow;
+      good = (both (is_diagram_lit b.lit) (has_good_literals rest) r.good).1;
+      theorems = r.theorems;
+      blanks = r.blanks;
+      facts = (both (leb (i.facts + 1) most_facts) (few_facts (stated_by known) (i.facts + 1) s rest) r.facts).1;
+      terms = r.terms;
+    }
+
+abbrev pub inferred : Inside → Lit → Inside
+inferred i l = written (behind i (Inferred l None) 1) (monomials l.atom)
+
+pub hence_ready : (known : List Headed) (d : Draft) (i : Inside) (l : Lit) (rest : Script) (given : List Lit) (goal : Goal) → Ready known d i (Hence l None rest) given goal → Ready known d (inferred i l) rest (joined given l) goal
+unfolding is_plain lines NewNamesFit size depth has_good_literals few_facts few_terms names_theorems few_blanks
+hence_ready known d i l rest given goal r =
+    let s = scope_of_names i.in_scope in
+    let n = i.terms + monomials l.atom in
+    record {
+      order = r.order;
+      goal_sorts = r.goal_sorts;
+      plain = r.plain;
+      fitting = (both (all_in_scope s l) (list_all (line_fits (stated_by known)) (lines (stated_by known) rest rest s (joined given l) goal)) r.fitting).1;
+      new_names = r.new_names;
+      few = omega (arith, r.few);
+      shallow = r.shallow;
+      good = (both (is_well_formed l) (has_good_literals rest) r.good).1;
+      theorems = r.theorems;
+      blanks = r.blanks;
+      facts = (both (leb (i.facts + 1) most_facts) (few_facts (stated_by known) (i.facts + 1) s rest) r.facts).1;
+      terms = (both (leb n most_terms) (few_terms (stated_by known) n s rest) r.terms).1;
+    }
+
+abbrev pub gifts : Inside → Construction → ℕ
+gifts i form = length (gives form (scope_of_names i.in_scope))
+
+abbrev pub constructed : Inside → Construction → List (List ℕ) → Inside
+constructed i form names = record (behind i (Made form names []) (gifts i form)) { in_scope = named i.in_scope (made form) names }
+
+pub make_good : (known : List Headed) (d : Draft) (i : Inside) (form : Construction) (names : List (List ℕ)) (rest : Script) (given : List Lit) (goal : Goal) → Ready known d i (Make form names [] rest) given goal → GoodLet i.in_scope form names
+unfolding lines NewNamesFit
+make_good known d i form names rest given goal r =
+    let s = scope_of_names i.in_scope in
+    record {
+      fits = (both (fits_form form s) (list_all (line_fits (stated_by known)) (lines (stated_by known) rest rest (grown s (made form)) (joined_all given (gives form s)) goal)) r.fitting).0;
+      free = r.new_names.0;
+      count = r.new_names.1;
+    }
+
+pub make_ready : (known : List Headed) (d : Draft) (i : Inside) (form : Construction) (names : List (List ℕ)) (rest : Script) (given : List Lit) (goal : Goal) → Ready known d i (Make form names [] rest) given goal
+    → Ready known d (constructed i form names) rest (joined_all given (gives form (scope_of_names i.in_scope))) goal
+unfolding is_plain lines NewNamesFit size depth has_good_literals few_facts few_terms names_theorems few_blanks
+make_ready known d i form names rest given goal r =
+    let s = scope_of_names i.in_scope in
+    let after = named i.in_scope (made form) names in
+    let facts = joined_all given (gives form s) in
+    let n = i.facts + gifts i form in
+    let scope : grown s (made form) ≡ scope_of_names after = named_scope i.in_scope (made form) names r.new_names.1 in
+    let p = both (list_all is_name names) (is_plain rest) r.plain in
+    record {
+      order = named_in_order i.in_scope (made form) names r.order (list_names names p.0) r.new_names.0;
+      goal_sorts = r.goal_sorts;
+      plain = p.1;
+      fitting = subst (λ (z : Scope). list_all (line_fits (stated_by known)) (lines (stated_by known) rest rest z facts goal) ≡ true) scope (both (fits_form form s) (list_all (line_fits (stated_by known)) (lines (stated_by known) rest rest (grown s (made form)) facts goal)) r.fitting).1;
+      new_names = r.new_names.3;
+      few = omega (arith, r.few);
+      shallow = r.shallow;
+      good = r.good;
+      theorems = r.theorems;
+      blanks = r.blanks;
+      facts = subst (λ (z : Scope). few_facts (stated_by known) n z rest ≡ true) scope (both (leb n most_facts) (few_facts (stated_by known) n (grown s (made form)) rest) r.facts).1;
+      terms = subst (λ (z : Scope). few_terms (stated_by known) i.terms z rest ≡ true) scope r.terms;
+    }
+
+-- what is known of a use of an earlier theorem, and of what comes behind it
+pub record ApplyParts (known : List Headed) (d : Draft) (i : Inside) (theorem : ℕ) (args : List (Option Obj)) (names : List (List ℕ)) (rest : Script) (given : List Lit) (goal : Goal) : Type 0 where
+  pub good : GoodApply known i.in_scope theorem args names
+  pub named : AreNames names
+  pub few : few_objects (applied_behind i (theorem_of known theorem) theorem args names).in_scope ≡ Ok tt
+  pub facts : i.facts + length (theorem_of known theorem).shown ≤ most_facts
+  pub terms : i.terms + count_monomials (theorem_of known theorem).shown ≤ most_terms
+  pub blanks : count_blanks args ≤ most_blanks
+  pub next : Ready known d (applied_behind i (theorem_of known theorem) theorem args names) rest (joined_all given (gives_of_use (theorem_of known theorem) (written_args args) (scope_of_names i.in_scope))) goal
+
+pub apply_parts : (known : List Headed) (d : Draft) (i : Inside) (theorem : ℕ) (args : List (Option Obj)) (names : List (List ℕ)) (rest : Script) (given : List Lit) (goal : Goal) → Ready known d i (Apply theorem args names [] rest) given goal
+    → ApplyParts known d i theorem args names rest given goal
+unfolding is_plain lines NewNamesFit size depth has_good_literals few_facts few_terms names_theorems few_blanks
+apply_parts known d i theorem args names rest given goal r =
+    let before = stated_by known in
+    let s = scope_of_names i.in_scope in
+    let t = theorem_of known theorem in
+    let after = applied_behind i t theorem args names in
+    let facts = joined_all given (gives_of_use t (written_args args) s) in
+    let n = i.facts + length t.shown in
+    let m = i.terms + count_monomials t.shown in
+    let scope : grown s t.made ≡ scope_of_names after.in_scope = named_scope i.in_scope t.made names r.new_names.1 in
+    let p = both (list_all is_name names) (is_plain rest) r.plain in
+    let f = both (ltb theorem (length before) && is_pattern t s args) (list_all (line_fits before) (lines before rest rest (grown s t.made) facts goal)) r.fitting in
+    let e = both (ltb theorem (length before)) (is_pattern t s args) f.0 in
+    let h = both (is_named_by_title known theorem) (names_theorems known rest) r.theorems in
+    let k = both (leb n most_facts) (few_facts before n (grown s t.made) rest) r.facts in
+    let j = both (leb m most_terms) (few_terms before m (grown s t.made) rest) r.terms in
+    let b = both (leb (count_blanks args) most_blanks) (few_blanks rest) r.blanks in
+    record {
+      good = record { title = h.0; entries = e.1; free = r.new_names.0; count = r.new_names.1 };
+      named = list_names names p.0;
+      few = r.new_names.2;
+      facts = leb-true _ _ k.0;
+      terms = leb-true _ _ j.0;
+      blanks = leb-true _ _ b.0;
+      next = record {
+        order = named_in_order i.in_scope t.made names r.order (list_names names p.0) r.new_names.0;
+        goal_sorts = r.goal_sorts;
+        plain = p.1;
+        fitting = subst (λ (z : Scope). list_all (line_fits before) (lines before rest rest z facts goal) ≡ true) scope f.1;
+        new_names = r.new_names.3;
+        few = omega (arith, r.few);
+        shallow = r.shallow;
+        good = r.good;
+        theorems = h.1;
+        blanks = b.1;
+        facts = subst (λ (z : Scope). few_facts before n z rest ≡ true) scope k.1;
+        terms = subst (λ (z : Scope). few_terms before m z rest ≡ true) scope j.1;
+      };
+    }
+
+-- ---- a claim
+
+pub record ClaimParts (known : List Headed) (i : Inside) (shown : List Lit) (inner rest : Script) (given : List Lit) (goal : Goal) : Type 0 where
+  pub some : 0 < length shown
+  pub plain_inner : is_plain inner ≡ true
+  pub plain_rest : is_plain rest ≡ true
+  pub plain : Plain i.in_scope shown
+  pub fit_inner : list_all (line_fits (stated_by known)) (lines (stated_by known) inner inner (scope_of_names i.in_scope) given (goal_of shown)) ≡ true
+  pub fit_rest : list_all (line_fits (stated_by known)) (lines (stated_by known) rest rest (scope_of_names i.in_scope) (joined_all given shown) goal) ≡ true
+  pub good_inner : has_good_literals inner ≡ true
+  pub theorems_inner : names_theorems known inner ≡ true
+  pub blanks_inner : few_blanks inner ≡ true
+  pub good_rest : has_good_literals rest ≡ true
+  pub theorems_rest : names_theorems known rest ≡ true
+  pub blanks_rest : few_blanks rest ≡ true
+  pub facts_inner : few_facts (stated_by known) i.facts (scope_of_names i.in_scope) inner ≡ true
+  pub facts : i.facts + length shown ≤ most_facts
+  pub facts_rest : few_facts (stated_by known) (i.facts + length shown) (scope_of_names i.in_scope) rest ≡ true
+  pub terms_inner : few_terms (stated_by known) i.terms (scope_of_names i.in_scope) inner ≡ true
+  pub terms : i.terms + count_monomials shown ≤ most_terms
+  pub terms_rest : few_terms (stated_by known) (i.terms + count_monomials shown) (scope_of_names i.in_scope) rest ≡ true
+
+pub claim_parts : (known : List Headed) (d : Draft) (i : Inside) (shown : List Lit) (inner rest : Script) (given : List Lit) (goal : Goal) → Ready known d i (Claim shown inner rest) given goal → ClaimParts known i shown inner rest given goal
+unfolding is_plain lines has_good_literals few_facts few_terms names_theorems few_blanks
+claim_parts known d i shown inner rest given goal r =
+    let s = scope_of_names i.in_scope in
+    let facts = i.facts + length shown in
+    let terms = i.terms + count_monomials shown in
+    let inside = lines (stated_by known) inner inner s given (goal_of shown) in
+    let after = lines (stated_by known) rest rest s (joined_all given shown) goal in
+    let p = both (ltb 0 (length shown)) (is_plain inner && is_plain rest) r.plain in
+    let pp = both (is_plain inner) (is_plain rest) p.1 in
+    let f = both (are_over s shown) (list_all (line_fits (stated_by known)) (inside ++ after)) r.fitting in
+    let ff = both_fit known inside after f.1 in
+    let g = both (list_all is_well_formed shown) (has_good_literals inner && has_good_literals rest) r.good in
+    let gg = both (has_good_literals inner) (has_good_literals rest) g.1 in
+    let th = both (names_theorems known inner) (names_theorems known rest) r.theorems in
+    let bl = both (few_blanks inner) (few_blanks rest) r.blanks in
+    let n = both (few_facts (stated_by known) i.facts s inner) (leb facts most_facts && few_facts (stated_by known) facts s rest) r.facts in
+    let nn = both (leb facts most_facts) (few_facts (stated_by known) facts s rest) n.1 in
+    let m = both (few_terms (stated_by known) i.terms s inner) (leb terms most_terms && few_terms (stated_by known) terms s rest) r.terms in
+    let mm = both (leb terms most_terms) (few_terms (stated_by known) terms s rest) m.1 in
+    record {
+      some = ltb-true 0 (length shown) p.0;
+      plain_inner = pp.0;
+      plain_rest = pp.1;
+      plain = record { within = f.0; good = g.0 };
+      fit_inner = ff.0;
+      fit_rest = ff.1;
+      good_inner = gg.0;
+      good_rest = gg.1;
+      theorems_inner = th.0;
+      theorems_rest = th.1;
+      blanks_inner = bl.0;
+      blanks_rest = bl.1;
+      facts_inner = n.0;
+      facts = leb-true _ _ nn.0;
+      facts_rest = nn.1;
+      terms_inner = m.0;
+      terms = leb-true _ _ mm.0;
+      terms_rest = mm.1;
+    }
+
+-- an inner block of a claim has as many facts as the block around it
+no_more_facts : (known : List Headed) (n : ℕ) (s : Scope) (inner : Script) → few_facts (stated_by known) n s inner ≡ true → few_facts (stated_by known) (n + 0) s inner ≡ true
+no_more_facts known n s inner h = subst (λ (k : ℕ). few_facts (stated_by known) k s inner ≡ true) (omega arith) h
+
+pub claim_inner : (known : List Headed) (d : Draft) (i : Inside) (shown : List Lit) (inner rest : Script) (given : List Lit) (goal : Goal) → Ready known d i (Claim shown inner rest) given goal → Ready known d (deep i (opened.Claim shown) 0) inner given (goal_of shown)
+unfolding NewNamesFit size depth
+claim_inner known d i shown inner rest given goal r =
+    let p = claim_parts known d i shown inner rest given goal r in
+    record {
+      order = r.order;
+      goal_sorts = refl;
+      plain = p.plain_inner;
+      fitting = p.fit_inner;
+      new_names = r.new_names.0;
+      few = omega (arith, r.few);
+      shallow = omega (arith, r.shallow);
+      good = p.good_inner;
+      theorems = p.theorems_inner;
+      blanks = p.blanks_inner;
+      facts = no_more_facts known i.facts (scope_of_names i.in_scope) inner p.facts_inner;
+      terms = p.terms_inner;
+    }
+
+pub claim_rest : (known : List Headed) (d : Draft) (i : Inside) (n : ℕ) (shown : List Lit) (inner rest : Script) (given : List Lit) (goal : Goal) → n ≡ i.lines + 1 + size inner → Ready known d i (Claim shown inner rest) given goal
+    → Ready known d (resume i n (Claimed shown inner) shown) rest (joined_all given shown) goal
+unfolding NewNamesFit size depth
+claim_rest known d i n shown inner rest given goal e r =
+    let p = claim_parts known d i shown inner rest given goal r in
+    record {
+      order = r.order;
+      goal_sorts = r.goal_sorts;
+      plain = p.plain_rest;
+      fitting = p.fit_rest;
+      new_names = r.new_names.1;
+      few = omega (arith, r.few, e);
+      shallow = omega (arith, r.shallow);
+      good = p.good_rest;
+      theorems = p.theorems_rest;
+      blanks = p.blanks_rest;
+      facts = p.facts_rest;
+      terms = p.terms_rest;
+    }
+
+-- ---- a superposition
+
+pub record CopyParts (known : List Headed) (i : Inside) (form : Superpose) (names : List (List ℕ)) (shown : List Lit) (inner rest : Script) (given : List Lit) (goal : Goal) : Type 0 where
+  pub good : GoodSuperpose i.in_scope form names shown
+  pub few : few_objects (named i.in_scope superposing.made names) ≡ Ok tt
+  pub plain_inner : is_plain inner ≡ true
+  pub plain_rest : is_plain rest ≡ true
+  pub fit_inner : list_all (line_fits (stated_by known)) (lines (stated_by known) inner inner (scope_of_names (named i.in_scope superposing.made names)) (joined_all given (superposing.gives form (scope_of_names i.in_scope))) (goal_of shown)) ≡ true
+  pub fit_rest : list_all (line_fits (stated_by known)) (lines (stated_by known) rest rest (scope_of_names i.in_scope) (joined_all given shown) goal) ≡ true
+  pub good_inner : has_good_literals inner ≡ true
+  pub theorems_inner : names_theorems known inner ≡ true
+  pub blanks_inner : few_blanks inner ≡ true
+  pub good_rest : has_good_literals rest ≡ true
+  pub theorems_rest : names_theorems known rest ≡ true
+  pub blanks_rest : few_blanks rest ≡ true
+  pub facts_first : (copied i form names shown).facts ≤ most_facts
+  pub facts_inner : few_facts (stated_by known) (copied i form names shown).facts (scope_of_names (named i.in_scope superposing.made names)) inner ≡ true
+  pub facts : i.facts + length shown ≤ most_facts
+  pub facts_rest : few_facts (stated_by known) (i.facts + length shown) (scope_of_names i.in_scope) rest ≡ true
+  pub terms_first : (copied i form names shown).terms ≤ most_terms
+  pub terms_inner : few_terms (stated_by known) (copied i form names shown).terms (scope_of_names (named i.in_scope superposing.made names)) inner ≡ true
+  pub terms : i.terms + count_monomials shown ≤ most_terms
+  pub terms_rest : few_terms (stated_by known) (i.terms + count_monomials shown) (scope_of_names i.in_scope) rest ≡ true
+
+pub copy_parts : (known : List Headed) (d : Draft) (i : Inside) (form : Superpose) (names : List (List ℕ)) (shown : List Lit) (inner rest : Script) (given : List Lit) (goal : Goal) → Ready known d i (Superposed form names shown [] inner rest) given goal
+    → CopyParts known i form names shown inner rest given goal
+unfolding is_plain lines NewNamesFit has_good_literals few_facts few_terms names_theorems few_blanks
+copy_parts known d i form names shown inner rest given goal r =
+    let s = scope_of_names i.in_scope in
+    let t = grown s superposing.made in
+    let gives = superposing.gives form s in
+    let begun = joined_all given gives in
+    let scope : t ≡ scope_of_names (named i.in_scope superposing.made names) = named_scope i.in_scope superposing.made names r.new_names.1 in
+    let n = i.facts + length gives in
+    let m = i.terms + count_monomials gives in
+    let facts = i.facts + length shown in
+    let terms = i.terms + count_monomials shown in
+    let inside = lines (stated_by known) inner inner t begun (goal_of shown) in
+    let after = lines (stated_by known) rest rest s (joined_all given shown) goal in
+    let p = both (list_all is_name names) (ltb 0 (length shown) && (is_plain inner && is_plain rest)) r.plain in
+    let q = both (ltb 0 (length shown)) (is_plain inner && is_plain rest) p.1 in
+    let pp = both (is_plain inner) (is_plain rest) q.1 in
+    let f = both (superposing.fits form s && are_over s shown) (list_all (line_fits (stated_by known)) (inside ++ after)) r.fitting in
+    let fs = both (superposing.fits form s) (are_over s shown) f.0 in
+    let ff = both_fit known inside after f.1 in
+    let g = both (list_all is_well_formed shown) (has_good_literals inner && has_good_literals rest) r.good in
+    let gg = both (has_good_literals inner) (has_good_literals rest) g.1 in
+    let th = both (names_theorems known inner) (names_theorems known rest) r.theorems in
+    let bl = both (few_blanks inner) (few_blanks rest) r.blanks in
+    let a = both (leb n most_facts) (few_facts (stated_by known) n t inner && (leb facts most_facts && few_facts (stated_by known) facts s rest)) r.facts in
+    let aa = both (few_facts (stated_by known) n t inner) (leb facts most_facts && few_facts (stated_by known) facts s rest) a.1 in
+    let ab = both (leb facts most_facts) (few_facts (stated_by known) facts s rest) aa.1 in
+    let b = both (leb m most_terms) (few_terms (stated_by known) m t inner && (leb terms most_terms && few_terms (stated_by known) terms s rest)) r.terms in
+    let ba = both (few_terms (stated_by known) m t inner) (leb terms most_terms && few_terms (stated_by known) terms s rest) b.1 in
+    let bb = both (leb terms most_terms) (few_terms (stated_by known) terms s rest) ba.1 in
+    record {
+      good = record { order = r.order; fits = fs.0; free = r.new_names.0; named = list_names names p.0; count = r.new_names.1; plain = record { within = fs.1; good = g.0 }; some = ltb-true 0 (length shown) q.0 };
+      few = r.new_names.2;
+      plain_inner = pp.0;
+      plain_rest = pp.1;
+      fit_inner = subst (λ (z : Scope). list_all (line_fits (stated_by known)) (lines (stated_by known) inner inner z begun (goal_of shown)) ≡ true) scope ff.0;
+      fit_rest = ff.1;
+      good_inner = gg.0;
+      good_rest = gg.1;
+      theorems_inner = th.0;
+      theorems_rest = th.1;
+      blanks_inner = bl.0;
+      blanks_rest = bl.1;
+      facts_first = leb-true _ _ a.0;
+      facts_inner = subst (λ (z : Scope). few_facts (stated_by known) n z inner ≡ true) scope aa.0;
+      facts = leb-true _ _ ab.0;
+      facts_rest = ab.1;
+      terms_first = leb-true _ _ b.0;
+      terms_inner = subst (λ (z : Scope). few_terms (stated_by known) m z inner ≡ true) scope ba.0;
+      terms = leb-true _ _ bb.0;
+      terms_rest = bb.1;
+    }
+
+pub copy_inner : (known : List Headed) (d : Draft) (i : Inside) (form : Superpose) (names : List (List ℕ)) (shown : List Lit) (inner rest : Script) (given : List Lit) (goal : Goal) → Ready known d i (Superposed form names shown [] inner rest) given goal
+    → Ready known d (copied i form names shown) inner (joined_all given (superposing.gives form (scope_of_names i.in_scope))) (goal_of shown)
+unfolding NewNamesFit size depth
+copy_inner known d i form names shown inner rest given goal r =
+    let p = copy_parts known d i form names shown inner rest given goal r in
+    record {
+      order = named_in_order i.in_scope superposing.made names r.order p.good.named p.good.free;
+      goal_sorts = refl;
+      plain = p.plain_inner;
+      fitting = p.fit_inner;
+      new_names = r.new_names.3;
+      few = omega (arith, r.few);
+      shallow = omega (arith, r.shallow);
+      good = p.good_inner;
+      theorems = p.theorems_inner;
+      blanks = p.blanks_inner;
+      facts = p.facts_inner;
+      terms = p.terms_inner;
+    }
+
+pub copy_rest : (known : List Headed) (d : Draft) (i : Inside) (n : ℕ) (form : Superpose) (names : List (List ℕ)) (shown : List Lit) (inner rest : Script) (given : List Lit) (goal : Goal) → n ≡ i.lines + 1 + size inner
+    → Ready known d i (Superposed form names shown [] inner rest) given goal → Ready known d (resume i n (Copied form names shown [] inner) shown) rest (joined_all given shown) goal
+unfolding NewNamesFit size depth
+copy_rest known d i n form names shown inner rest given goal e r =
+    let p = copy_parts known d i form names shown inner rest given goal r in
+    record {
+      order = r.order;
+      goal_sorts = r.goal_sorts;
+      plain = p.plain_rest;
+      fitting = p.fit_rest;
+      new_names = r.new_names.4;
+      few = omega (arith, r.few, e);
+      shallow = omega (arith, r.shallow);
+      good = p.good_rest;
+      theorems = p.theorems_rest;
+      blanks = p.blanks_rest;
+      facts = p.facts_rest;
+      terms = p.terms_rest;
+    }
+
+-- ---- a split
+
+abbrev pub opens : Inside → Lit → Inside
+opens i l = written (deep i (opened.First l) 1) (monomials l.atom)
+
+pub record CasesParts (known : List Headed) (i : Inside) (l : Lit) (one two : Script) (given : List Lit) (goal : Goal) : Type 0 where
+  pub plain_first : is_plain one ≡ true
+  pub plain_second : is_plain two ≡ true
+  pub plain : PlainLit i.in_scope l
+  pub fit_first : list_all (line_fits (stated_by known)) (lines (stated_by known) one one (scope_of_names i.in_scope) (joined given l) goal) ≡ true
+  pub fit_second : list_all (line_fits (stated_by known)) (lines (stated_by known) two two (scope_of_names i.in_scope) (joined given (negation l)) goal) ≡ true
+  pub good_first : has_good_literals one ≡ true
+  pub theorems_first : names_theorems known one ≡ true
+  pub blanks_first : few_blanks one ≡ true
+  pub good_second : has_good_literals two ≡ true
+  pub theorems_second : names_theorems known two ≡ true
+  pub blanks_second : few_blanks two ≡ true
+  pub facts : i.facts + 1 ≤ most_facts
+  pub facts_first : few_facts (stated_by known) (i.facts + 1) (scope_of_names i.in_scope) one ≡ true
+  pub facts_second : few_facts (stated_by known) (i.facts + 1) (scope_of_names i.in_scope) two ≡ true
+  pub terms : i.terms + monomials l.atom ≤ most_terms
+  pub terms_first : few_terms (stated_by known) (i.terms + monomials l.atom) (scope_of_names i.in_scope) one ≡ true
+  pub terms_second : few_terms (stated_by known) (i.terms + monomials l.atom) (scope_of_names i.in_scope) two ≡ true
+
+pub cases_parts : (known : List Headed) (d : Draft) (i : Inside) (l : Lit) (one two : Script) (given : List Lit) (goal : Goal) → Ready known d i (Cases l one two) given goal → CasesParts known i l one two given goal
+unfolding is_plain lines has_good_literals few_facts few_terms names_theorems few_blanks
+cases_parts known d i l one two given goal r =
+    let s = scope_of_names i.in_scope in
+    let n = i.facts + 1 in
+    let m = i.terms + monomials l.atom in
+    let in_one = lines (stated_by known) one one s (joined given l) goal in
+    let in_two = lines (stated_by known) two two s (joined given (negation l)) goal in
+    let p = both (is_plain one) (is_plain two) r.plain in
+    let f = both (all_in_scope s l) (list_all (line_fits (stated_by known)) (in_one ++ in_two)) r.fitting in
+    let ff = both_fit known in_one in_two f.1 in
+    let g = both (is_well_formed l) (has_good_literals one && has_good_literals two) r.good in
+    let gg = both (has_good_literals one) (has_good_literals two) g.1 in
+    let th = both (names_theorems known one) (names_theorems known two) r.theorems in
+    let bl = both (few_blanks one) (few_blanks two) r.blanks in
+    let a = both (leb n most_facts) (few_facts (stated_by known) n s one && few_facts (stated_by known) n s two) r.facts in
+    let aa = both (few_facts (stated_by known) n s one) (few_facts (stated_by known) n s two) a.1 in
+    let b = both (leb m most_terms) (few_terms (stated_by known) m s one && few_terms (stated_by known) m s two) r.terms in
+    let bb = both (few_terms (stated_by known) m s one) (few_terms (stated_by known) m s two) b.1 in
+    record {
+      plain_first = p.0;
+      plain_second = p.1;
+      plain = record { within = f.0; good = g.0 };
+      fit_first = ff.0;
+      fit_second = ff.1;
+      good_first = gg.0;
+      good_second = gg.1;
+      theorems_first = th.0;
+      theorems_second = th.1;
+      blanks_first = bl.0;
+      blanks_second = bl.1;
+      facts = leb-true _ _ a.0;
+      facts_first = aa.0;
+      facts_second = aa.1;
+      terms = leb-true _ _ b.0;
+      terms_first = bb.0;
+      terms_second = bb.1;
+    }
+
+pub cases_first : (known : List Headed) (d : Draft) (i : Inside) (l : Lit) (one two : Script) (given : List Lit) (goal : Goal) → Ready known d i (Cases l one two) given goal → Ready known d (opens i l) one (joined given l) goal
+unfolding NewNamesFit size depth
+cases_first known d i l one two given goal r =
+    let p = cases_parts known d i l one two given goal r in
+    record {
+      order = r.order;
+      goal_sorts = r.goal_sorts;
+      plain = p.plain_first;
+      fitting = p.fit_first;
+      new_names = r.new_names.0;
+      few = omega (arith, r.few);
+      shallow = omega (arith, r.shallow);
+      good = p.good_first;
+      theorems = p.theorems_first;
+      blanks = p.blanks_first;
+      facts = p.facts_first;
+      terms = p.terms_first;
+    }
+
+pub cases_second : (known : List Headed) (d : Draft) (i : Inside) (n : ℕ) (l : Lit) (one two : Script) (given : List Lit) (goal : Goal) → n ≡ i.lines + 1 + size one → Ready known d i (Cases l one two) given goal
+    → Ready known d (second i n l one) two (joined given (negation l)) goal
+unfolding NewNamesFit size depth
+cases_second known d i n l one two given goal e r =
+    let p = cases_parts known d i l one two given goal r in
+    record {
+      order = r.order;
+      goal_sorts = r.goal_sorts;
+      plain = p.plain_second;
+      fitting = p.fit_second;
+      new_names = r.new_names.1;
+      few = omega (arith, r.few, e);
+      shallow = omega (arith, r.shallow);
+      good = p.good_second;
+      theorems = p.theorems_second;
+      blanks = p.blanks_second;
+      facts = p.facts_second;
+      terms = p.terms_second;
+    }
