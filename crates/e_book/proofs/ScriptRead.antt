@@ -245,13 +245,13 @@ make_taken known d i form names rest given goal r t =
 
 -- what is known of a use of an earlier theorem, and of what comes behind it
 pub record ApplyParts (known : List Headed) (d : Draft) (i : Inside) (theorem : ℕ) (args : List (Option Obj)) (names : List (List ℕ)) (rest : Script) (given : List Lit) (goal : Goal) : Type 0 where
-  good : GoodApply known i.in_scope theorem args names
-  named : AreNames names
-  few : few_objects (applied_behind i (theorem_of known theorem) theorem args names).in_scope ≡ Ok tt
-  facts : i.facts + length (theorem_of known theorem).shown ≤ most_facts
-  terms : i.terms + count_monomials (theorem_of known theorem).shown ≤ most_terms
-  blanks : count_blanks args ≤ most_blanks
-  next : Ready known d (applied_behind i (theorem_of known theorem) theorem args names) rest (joined_all given (gives_of_use (theorem_of known theorem) (written_args args) (scope_of_names i.in_scope))) goal
+  pub good : GoodApply known i.in_scope theorem args names
+  pub named : AreNames names
+  pub few : few_objects (applied_behind i (theorem_of known theorem) theorem args names).in_scope ≡ Ok tt
+  pub facts : i.facts + length (theorem_of known theorem).shown ≤ most_facts
+  pub terms : i.terms + count_monomials (theorem_of known theorem).shown ≤ most_terms
+  pub blanks : count_blanks args ≤ most_blanks
+  pub next : Ready known d (applied_behind i (theorem_of known theorem) theorem args names) rest (joined_all given (gives_of_use (theorem_of known theorem) (written_args args) (scope_of_names i.in_scope))) goal
 
 pub apply_parts : (known : List Headed) (d : Draft) (i : Inside) (theorem : ℕ) (args : List (Option Obj)) (names : List (List ℕ)) (rest : Script) (given : List Lit) (goal : Goal) → Ready known d i (Apply theorem args names [] rest) given goal
     → ApplyParts known d i theorem args names rest given goal
@@ -316,24 +316,24 @@ apply_taken known d i theorem args names rest given goal r t =
 -- ---- a claim
 
 pub record ClaimParts (known : List Headed) (i : Inside) (shown : List Lit) (inner rest : Script) (given : List Lit) (goal : Goal) : Type 0 where
-  some : 0 < length shown
-  plain_inner : is_plain inner ≡ true
-  plain_rest : is_plain rest ≡ true
-  plain : Plain i.in_scope shown
-  fit_inner : list_all (line_fits (stated_by known)) (lines (stated_by known) inner inner (scope_of_names i.in_scope) given (goal_of shown)) ≡ true
-  fit_rest : list_all (line_fits (stated_by known)) (lines (stated_by known) rest rest (scope_of_names i.in_scope) (joined_all given shown) goal) ≡ true
-  good_inner : has_good_literals inner ≡ true
-  theorems_inner : names_theorems known inner ≡ true
-  blanks_inner : few_blanks inner ≡ true
-  good_rest : has_good_literals rest ≡ true
-  theorems_rest : names_theorems known rest ≡ true
-  blanks_rest : few_blanks rest ≡ true
-  facts_inner : few_facts (stated_by known) i.facts (scope_of_names i.in_scope) inner ≡ true
-  facts : i.facts + length shown ≤ most_facts
-  facts_rest : few_facts (stated_by known) (i.facts + length shown) (scope_of_names i.in_scope) rest ≡ true
-  terms_inner : few_terms (stated_by known) i.terms (scope_of_names i.in_scope) inner ≡ true
-  terms : i.terms + count_monomials shown ≤ most_terms
-  terms_rest : few_terms (stated_by known) (i.terms + count_monomials shown) (scope_of_names i.in_scope) rest ≡ true
+  pub some : 0 < length shown
+  pub plain_inner : is_plain inner ≡ true
+  pub plain_rest : is_plain rest ≡ true
+  pub plain : Plain i.in_scope shown
+  pub fit_inner : list_all (line_fits (stated_by known)) (lines (stated_by known) inner inner (scope_of_names i.in_scope) given (goal_of shown)) ≡ true
+  pub fit_rest : list_all (line_fits (stated_by known)) (lines (stated_by known) rest rest (scope_of_names i.in_scope) (joined_all given shown) goal) ≡ true
+  pub good_inner : has_good_literals inner ≡ true
+  pub theorems_inner : names_theorems known inner ≡ true
+  pub blanks_inner : few_blanks inner ≡ true
+  pub good_rest : has_good_literals rest ≡ true
+  pub theorems_rest : names_theorems known rest ≡ true
+  pub blanks_rest : few_blanks rest ≡ true
+  pub facts_inner : few_facts (stated_by known) i.facts (scope_of_names i.in_scope) inner ≡ true
+  pub facts : i.facts + length shown ≤ most_facts
+  pub facts_rest : few_facts (stated_by known) (i.facts + length shown) (scope_of_names i.in_scope) rest ≡ true
+  pub terms_inner : few_terms (stated_by known) i.terms (scope_of_names i.in_scope) inner ≡ true
+  pub terms : i.terms + count_monomials shown ≤ most_terms
+  pub terms_rest : few_terms (stated_by known) (i.terms + count_monomials shown) (scope_of_names i.in_scope) rest ≡ true
 
 pub claim_parts : (known : List Headed) (d : Draft) (i : Inside) (shown : List Lit) (inner rest : Script) (given : List Lit) (goal : Goal) → Ready known d i (Claim shown inner rest) given goal → ClaimParts known i shown inner rest given goal
 unfolding is_plain lines has_good_literals few_facts few_terms names_theorems few_blanks
@@ -444,26 +444,26 @@ claim_taken known d i shown inner rest given goal r t u =
 -- ---- a superposition
 
 pub record CopyParts (known : List Headed) (i : Inside) (form : Superpose) (names : List (List ℕ)) (shown : List Lit) (inner rest : Script) (given : List Lit) (goal : Goal) : Type 0 where
-  good : GoodSuperpose i.in_scope form names shown
-  few : few_objects (named i.in_scope superposing.made names) ≡ Ok tt
-  plain_inner : is_plain inner ≡ true
-  plain_rest : is_plain rest ≡ true
-  fit_inner : list_all (line_fits (stated_by known)) (lines (stated_by known) inner inner (scope_of_names (named i.in_scope superposing.made names)) (joined_all given (superposing.gives form (scope_of_names i.in_scope))) (goal_of shown)) ≡ true
-  fit_rest : list_all (line_fits (stated_by known)) (lines (stated_by known) rest rest (scope_of_names i.in_scope) (joined_all given shown) goal) ≡ true
-  good_inner : has_good_literals inner ≡ true
-  theorems_inner : names_theorems known inner ≡ true
-  blanks_inner : few_blanks inner ≡ true
-  good_rest : has_good_literals rest ≡ true
-  theorems_rest : names_theorems known rest ≡ true
-  blanks_rest : few_blanks rest ≡ true
-  facts_first : (copied i form names shown).facts ≤ most_facts
-  facts_inner : few_facts (stated_by known) (copied i form names shown).facts (scope_of_names (named i.in_scope superposing.made names)) inner ≡ true
-  facts : i.facts + length shown ≤ most_facts
-  facts_rest : few_facts (stated_by known) (i.facts + length shown) (scope_of_names i.in_scope) rest ≡ true
-  terms_first : (copied i form names shown).terms ≤ most_terms
-  terms_inner : few_terms (stated_by known) (copied i form names shown).terms (scope_of_names (named i.in_scope superposing.made names)) inner ≡ true
-  terms : i.terms + count_monomials shown ≤ most_terms
-  terms_rest : few_terms (stated_by known) (i.terms + count_monomials shown) (scope_of_names i.in_scope) rest ≡ true
+  pub good : GoodSuperpose i.in_scope form names shown
+  pub few : few_objects (named i.in_scope superposing.made names) ≡ Ok tt
+  pub plain_inner : is_plain inner ≡ true
+  pub plain_rest : is_plain rest ≡ true
+  pub fit_inner : list_all (line_fits (stated_by known)) (lines (stated_by known) inner inner (scope_of_names (named i.in_scope superposing.made names)) (joined_all given (superposing.gives form (scope_of_names i.in_scope))) (goal_of shown)) ≡ true
+  pub fit_rest : list_all (line_fits (stated_by known)) (lines (stated_by known) rest rest (scope_of_names i.in_scope) (joined_all given shown) goal) ≡ true
+  pub good_inner : has_good_literals inner ≡ true
+  pub theorems_inner : names_theorems known inner ≡ true
+  pub blanks_inner : few_blanks inner ≡ true
+  pub good_rest : has_good_literals rest ≡ true
+  pub theorems_rest : names_theorems known rest ≡ true
+  pub blanks_rest : few_blanks rest ≡ true
+  pub facts_first : (copied i form names shown).facts ≤ most_facts
+  pub facts_inner : few_facts (stated_by known) (copied i form names shown).facts (scope_of_names (named i.in_scope superposing.made names)) inner ≡ true
+  pub facts : i.facts + length shown ≤ most_facts
+  pub facts_rest : few_facts (stated_by known) (i.facts + length shown) (scope_of_names i.in_scope) rest ≡ true
+  pub terms_first : (copied i form names shown).terms ≤ most_terms
+  pub terms_inner : few_terms (stated_by known) (copied i form names shown).terms (scope_of_names (named i.in_scope superposing.made names)) inner ≡ true
+  pub terms : i.terms + count_monomials shown ≤ most_terms
+  pub terms_rest : few_terms (stated_by known) (i.terms + count_monomials shown) (scope_of_names i.in_scope) rest ≡ true
 
 pub copy_parts : (known : List Headed) (d : Draft) (i : Inside) (form : Superpose) (names : List (List ℕ)) (shown : List Lit) (inner rest : Script) (given : List Lit) (goal : Goal) → Ready known d i (Superposed form names shown [] inner rest) given goal
     → CopyParts known i form names shown inner rest given goal
@@ -586,23 +586,23 @@ abbrev pub opens : Inside → Lit → Inside
 opens i l = written (deep i (opened.First l) 1) (monomials l.atom)
 
 pub record CasesParts (known : List Headed) (i : Inside) (l : Lit) (one two : Script) (given : List Lit) (goal : Goal) : Type 0 where
-  plain_first : is_plain one ≡ true
-  plain_second : is_plain two ≡ true
-  plain : PlainLit i.in_scope l
-  fit_first : list_all (line_fits (stated_by known)) (lines (stated_by known) one one (scope_of_names i.in_scope) (joined given l) goal) ≡ true
-  fit_second : list_all (line_fits (stated_by known)) (lines (stated_by known) two two (scope_of_names i.in_scope) (joined given (negation l)) goal) ≡ true
-  good_first : has_good_literals one ≡ true
-  theorems_first : names_theorems known one ≡ true
-  blanks_first : few_blanks one ≡ true
-  good_second : has_good_literals two ≡ true
-  theorems_second : names_theorems known two ≡ true
-  blanks_second : few_blanks two ≡ true
-  facts : i.facts + 1 ≤ most_facts
-  facts_first : few_facts (stated_by known) (i.facts + 1) (scope_of_names i.in_scope) one ≡ true
-  facts_second : few_facts (stated_by known) (i.facts + 1) (scope_of_names i.in_scope) two ≡ true
-  terms : i.terms + monomials l.atom ≤ most_terms
-  terms_first : few_terms (stated_by known) (i.terms + monomials l.atom) (scope_of_names i.in_scope) one ≡ true
-  terms_second : few_terms (stated_by known) (i.terms + monomials l.atom) (scope_of_names i.in_scope) two ≡ true
+  pub plain_first : is_plain one ≡ true
+  pub plain_second : is_plain two ≡ true
+  pub plain : PlainLit i.in_scope l
+  pub fit_first : list_all (line_fits (stated_by known)) (lines (stated_by known) one one (scope_of_names i.in_scope) (joined given l) goal) ≡ true
+  pub fit_second : list_all (line_fits (stated_by known)) (lines (stated_by known) two two (scope_of_names i.in_scope) (joined given (negation l)) goal) ≡ true
+  pub good_first : has_good_literals one ≡ true
+  pub theorems_first : names_theorems known one ≡ true
+  pub blanks_first : few_blanks one ≡ true
+  pub good_second : has_good_literals two ≡ true
+  pub theorems_second : names_theorems known two ≡ true
+  pub blanks_second : few_blanks two ≡ true
+  pub facts : i.facts + 1 ≤ most_facts
+  pub facts_first : few_facts (stated_by known) (i.facts + 1) (scope_of_names i.in_scope) one ≡ true
+  pub facts_second : few_facts (stated_by known) (i.facts + 1) (scope_of_names i.in_scope) two ≡ true
+  pub terms : i.terms + monomials l.atom ≤ most_terms
+  pub terms_first : few_terms (stated_by known) (i.terms + monomials l.atom) (scope_of_names i.in_scope) one ≡ true
+  pub terms_second : few_terms (stated_by known) (i.terms + monomials l.atom) (scope_of_names i.in_scope) two ≡ true
 
 pub cases_parts : (known : List Headed) (d : Draft) (i : Inside) (l : Lit) (one two : Script) (given : List Lit) (goal : Goal) → Ready known d i (Cases l one two) given goal → CasesParts known i l one two given goal
 unfolding is_plain lines has_good_literals few_facts few_terms names_theorems few_blanks

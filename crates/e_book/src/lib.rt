@@ -23,7 +23,7 @@ mod terms;
 mod theorem;
 mod words;
 
-pub use applies::{Application, RawApply, apply_in};
+pub use applies::{Application, RawApply, apply_in, put_made_names};
 pub use blocks::{Closed, Opened, Outer, Outers};
 pub use book::next_theorem;
 pub use draft::{Draft, Place};

@@ -139,10 +139,10 @@ fn put_monos_of(words: &[&[u8]], monos: &mut Items<RawMono>) -> Result<(), Troub
 pub(crate) fn sum_of(alloc: Global, words: &[&[u8]]) -> Result<Items<RawMono>, Trouble>
     ensures { Gives (λ s. s) result (sum_of (texts words.now)) }
 {
-    let mut monos = Items::empty(alloc);
     if is_zero(words) {
-        return Ok(monos);
+        return Ok(Items::empty(alloc));
     }
+    let mut monos = Items::new(Vec::with_capacity(alloc, words.len() / 4 + 1)?);
     put_monos_of(words, &mut monos)?;
     Ok(monos)
 }

@@ -97,7 +97,7 @@ fn sum_in(alloc: Global, names: &Names, kind: Magnitude, sum: &[RawMono]) -> Res
     requires { FewNames names.now }
     ensures { Gives (λ f. f) result (each (mono_in names.now kind) sum.now) }
 {
-    let mut monos = Vec::new(alloc);
+    let mut monos = Vec::with_capacity(alloc, sum.len())?;
     for mono in sum {
         let mono = mono_in(names, kind, mono)?;
         monos.push(mono)?;

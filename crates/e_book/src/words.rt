@@ -24,11 +24,15 @@ pub fn sort_word(sort: Sort) -> &'static [u8]
     }
 }
 
-/// The tokens of a line, kept.
+/// The tokens of a line, kept in room for as many as the line can have. It fails only for want of memory.
 pub fn collected(alloc: Global, line: &[u8]) -> Result<Vec<&[u8]>, AllocError>
     ensures { IfOk result (λ v. texts v.items ≡ tokens_of line.now) }
 {
-    tokens(line).collect(alloc)
+    let mut words = Vec::with_capacity(alloc, line.len() / 2 + 1)?;
+    for word in tokens(line) {
+        words.push(word)?;
+    }
+    Ok(words)
 }
 
 /// Where a word stands first, or the number of words.

@@ -1,15 +1,16 @@
 -- What stands ahead, line by line.
-use Rattle.std.proofs.Common.{◌≡◌, ℕ, false, true, List, [], ◌∷◌, Some, None, Result, Ok, Err, refl, sym, ap, ◌∙◌}
+use Rattle.std.proofs.Common.{◌≡◌, ℕ, false, true, List, [], ◌∷◌, Option, Some, None, Result, Ok, Err, refl}
 use Rattle.e_text.specs.Lines.{Seen, fault_line}
 use Rattle.e_text.specs.declared.line.LineFault.{LineFault}
 use Rattle.e_book.specs.Headed.{Headed}
-use Rattle.e_book.specs.Entry.{Entry, entry_of}
+use Rattle.e_book.specs.Entry.{Entry}
+use Rattle.e_book.specs.declared.draft.Draft.{Draft}
+use Rattle.e_read.specs.declared.kept.Kept.{Kept}
 use Rattle.e_read.specs.declared.reading.Reading.{Reading}
-use Rattle.e_read.specs.declared.reader.Turn.{Turn}
 use Rattle.e_read.specs.declared.reader.Turn.TheVariants as turns
 use Rattle.e_read.specs.declared.reader.TextFault.{TextFault}
 use Rattle.e_read.specs.declared.reader.TextFault.TheVariants as faults
-use Rattle.e_read.specs.Text.{Derived, Last, taken, garbled_at, finished, is_end, piece_from, LineReads, EndIs, TurnIs}
+use Rattle.e_read.specs.Text.{Derived, Last, taken, garbled_at, is_finished, finished, is_end, piece_from, LineReads, TurnIs}
 
 -- behind the last line of the text
 pub piece_none : (known : List Headed) (last : ℕ) (r : Reading) → piece_from known last r [] ≡ Err last
@@ -46,15 +47,20 @@ piece_next known last r next line lines e h f = rw (e, h, f) refl
 
 -- ---- a line before any others
 
-pub last_turn : (known : List Headed) (r : Reading) (line : Seen) → is_end known r.draft line ≡ true → TurnIs known r line (Ok turns.Last)
-last_turn known r line e = λ last rest. piece_last known last r line rest e
+pub last_turn : (known : List Headed) (old new : Reading) (line : Seen) → is_end known old.draft line ≡ true → TurnIs known old line new (Ok turns.Last)
+last_turn known old new line e = λ last rest. piece_last known last old line rest e
 
-pub err_turn : (known : List Headed) (r : Reading) (line : Seen) (e : TextFault) → is_end known r.draft line ≡ false → LineReads (Err e) (garbled_at line.number (taken known r line)) → TurnIs known r line (Err e)
-err_turn known r line (faults.Garbled n) b h = λ last rest. piece_garbled known last r line rest n b h
-err_turn known r line faults.NoMemory b h = tt
+pub err_turn : (known : List Headed) (old new : Reading) (line : Seen) (e : TextFault) → is_end known old.draft line ≡ false → LineReads (Err e) new (garbled_at line.number (taken known old line)) → TurnIs known old line new (Err e)
+err_turn known old new line (faults.Garbled n) b h = λ last rest. piece_garbled known last old line rest n b h
+err_turn known old new line faults.NoMemory b h = tt
 
-pub ok_turn : (known : List Headed) (r next : Reading) (line : Seen) (turn : Turn) → is_end known r.draft line ≡ false → garbled_at line.number (taken known r line) ≡ Ok next → EndIs (finished next.draft next.kept) next turn
-    → TurnIs known r line (Ok turn)
-ok_turn known r next line turns.Last b h e = absurd e
-ok_turn known r next line (turns.Theorem t) b h e = λ last rest. piece_ended known last r next line rest (entry_of t) b h e
-ok_turn known r next line (turns.More more) b h e = λ last rest. piece_next known last r next line rest b h e.0 ∙ ap (λ (x : Reading). piece_from known last x rest) (sym e.1)
+pub ended_turn : (known : List Headed) (old new : Reading) (line : Seen) → is_end known old.draft line ≡ false → garbled_at line.number (taken known old line) ≡ Ok new → is_finished new.draft ≡ true → TurnIs known old line new (Ok turns.Ended)
+ended_turn known old new line b h e = (e, λ t f last rest. piece_ended known last old new line rest t b h f)
+
+-- a theorem that has not ended is not finished
+unfinished : (d : Option Draft) (kept : List Kept) → is_finished d ≡ false → finished d kept ≡ None
+unfinished None kept e = refl
+unfinished (Some d) kept e = rw e refl
+
+pub more_turn : (known : List Headed) (old new : Reading) (line : Seen) → is_end known old.draft line ≡ false → garbled_at line.number (taken known old line) ≡ Ok new → is_finished new.draft ≡ false → TurnIs known old line new (Ok turns.More)
+more_turn known old new line b h e = λ last rest. piece_next known last old new line rest b h (unfinished new.draft new.kept e)

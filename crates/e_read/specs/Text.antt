@@ -1,5 +1,5 @@
 -- A block of a derivation text, line by line.
-use Rattle.std.specs.Prelude.{◌≡◌, IfSome, ℕ, ◌≤◌, Bool, true, false, ◌∷◌, ◌++◌, List, [], length, decimal, codes, Option, Some, None, Result, Ok, Err, if◌then◌else◌}
+use Rattle.std.specs.Prelude.{◌≡◌, IfSome, IsTrue, ℕ, ◌≤◌, Bool, true, false, ◌∷◌, ◌++◌, List, [], length, decimal, codes, Option, Some, None, Result, Ok, Err, if◌then◌else◌}
 use Rattle.std.specs.Option.{option_to_list}
 use Rattle.std.specs.Str.{bytes_eq}
 use Rattle.e_text.specs.Tokens.{tokens_of, joined}
@@ -144,10 +144,10 @@ piece_from known last r (Ok line ∷ lines) =
     (garbled_at line.number (taken known r line) >>= λ next. or_on (finished next.draft next.kept) lines (piece_from known last next lines))
 
 -- what a line made of a block, unless memory ran out
-abbrev pub LineReads : Result Reading TextFault → Result Reading ℕ → Type 0
-LineReads (Ok r) read = read ≡ Ok r
-LineReads (Err (faults.Garbled line)) read = read ≡ Err line
-LineReads (Err faults.NoMemory) read = Unit {0}
+abbrev pub LineReads : Result (Unit {0}) TextFault → Reading → Result Reading ℕ → Type 0
+LineReads (Ok u) new read = read ≡ Ok new
+LineReads (Err (faults.Garbled line)) new read = read ≡ Err line
+LineReads (Err faults.NoMemory) new read = Unit {0}
 
 -- the next line, or what stands ahead is garbled whatever of a block has come
 abbrev pub LineIs : Result Line TextFault → Ahead → Ahead → Type 0
@@ -155,27 +155,15 @@ LineIs (Ok line) old new = old.lines ≡ Ok (seen line) ∷ new.lines
 LineIs (Err (faults.Garbled n)) old new = (known : List Headed) (r : Reading) → piece_from known (last_line old) r old.lines ≡ Err n
 LineIs (Err faults.NoMemory) old new = ⊥
 
--- the theorem, or more lines have to come
-abbrev pub EndIs : Option Entry → Reading → Turn → Type 0
-EndIs end r turns.Last = ⊥
-EndIs end r (turns.Theorem t) = end ≡ Some (entry_of t)
-EndIs end r (turns.More next) = (end ≡ None) × (next ≡ r)
-
--- what stands ahead, where this line stands before any others, unless memory ran out
-abbrev pub TurnIs : List Headed → Reading → Seen → Result Turn TextFault → Type 0
-TurnIs known r line (Ok turns.Last) = (last : ℕ) (rest : List (Result Seen LineFault)) → piece_from known last r (Ok line ∷ rest) ≡ Ok (Last, rest)
-TurnIs known r line (Ok (turns.Theorem t)) =
-    (last : ℕ) (rest : List (Result Seen LineFault)) → piece_from known last r (Ok line ∷ rest) ≡ Ok (Derived (entry_of t), rest)
-TurnIs known r line (Ok (turns.More next)) =
-    (last : ℕ) (rest : List (Result Seen LineFault)) → piece_from known last r (Ok line ∷ rest) ≡ piece_from known last next rest
-TurnIs known r line (Err (faults.Garbled n)) = (last : ℕ) (rest : List (Result Seen LineFault)) → piece_from known last r (Ok line ∷ rest) ≡ Err n
-TurnIs known r line (Err faults.NoMemory) = Unit {0}
-
--- what holds of a block of which more has to come
-abbrev pub OfMore : (Reading → Type 0) → Turn → Type 0
-OfMore holds turns.Last = Unit {0}
-OfMore holds (turns.Theorem t) = Unit {0}
-OfMore holds (turns.More next) = holds next
+-- what stands ahead, where this line stands before any others and made this of the block, unless memory ran out
+abbrev pub TurnIs : List Headed → Reading → Seen → Reading → Result Turn TextFault → Type 0
+TurnIs known old line new (Ok turns.Last) = (last : ℕ) (rest : List (Result Seen LineFault)) → piece_from known last old (Ok line ∷ rest) ≡ Ok (Last, rest)
+TurnIs known old line new (Ok turns.Ended) = IsTrue (is_finished new.draft)
+    × ((t : Entry) → finished new.draft new.kept ≡ Some t → (last : ℕ) (rest : List (Result Seen LineFault)) → piece_from known last old (Ok line ∷ rest) ≡ Ok (Derived t, rest))
+TurnIs known old line new (Ok turns.More) =
+    (last : ℕ) (rest : List (Result Seen LineFault)) → piece_from known last old (Ok line ∷ rest) ≡ piece_from known last new rest
+TurnIs known old line new (Err (faults.Garbled n)) = (last : ℕ) (rest : List (Result Seen LineFault)) → piece_from known last old (Ok line ∷ rest) ≡ Err n
+TurnIs known old line new (Err faults.NoMemory) = Unit {0}
 
 -- what was answered is what stands ahead, unless memory ran out
 abbrev pub TextReads : List Headed → Result PieceRead TextFault → Ahead → Result (Piece × List (Result Seen LineFault)) ℕ → Type 0

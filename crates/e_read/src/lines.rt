@@ -6,7 +6,9 @@ ghost use Rattle.e_book.specs.Superposes.{superpose_pieces};
 ghost use Rattle.e_book.specs.Canonical.{lit_words, lits_words, filled, line_pieces, avoid_words, let_words, superpose_words, argument_word, made_words, apply_words, line_of};
 
 use crate::literals::{put_literal, put_literals};
-use e_book::{Form, RawApply, RawLet, RawLit, RawSuperpose, sort_word, superposition_pieces};
+use e_book::{
+    Form, RawApply, RawLet, RawLit, RawSuperpose, put_made_names, sort_word, superposition_pieces,
+};
 use e_construct::{Piece, Shape, pieces};
 use e_text::{Name, Title};
 use e_words::{put, put_names};
@@ -129,17 +131,6 @@ fn put_argument(out: &mut Vec<u8>, argument: Option<Name>) -> Result<(), AllocEr
     }
 }
 
-/// The names of made objects, if there are any.
-fn put_made(out: &mut Vec<u8>, new: &[Name]) -> Result<(), AllocError>
-    ensures { OnOk result (out.new.items ≡ out.old.items ++ spaced (made_words new.now)) }
-{
-    if new.is_empty() {
-        return Ok(());
-    }
-    put(out, b"as")?;
-    put_names(out, new)
-}
-
 /// The use of an earlier theorem behind its first word.
 fn put_use(
     out: &mut Vec<u8>,
@@ -151,7 +142,7 @@ fn put_use(
 {
     put(out, title.bytes())?;
     put_arguments(out, args)?;
-    put_made(out, new)?;
+    put_made_names(out, new)?;
     Ok(())
 }
 

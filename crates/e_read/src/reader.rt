@@ -9,7 +9,7 @@ ghost use Rattle.e_book.specs.Headed.{stated_by};
 ghost use Rattle.e_book.specs.Book.{last_line};
 ghost use Rattle.e_book.specs.Entry.{entry_of};
 ghost use Rattle.e_book.specs.HasSpelling.{HasSpelling};
-ghost use Rattle.e_read.specs.Text.{at_start, garbled_at, taken, finished, LineIs, LineReads, EndIs, TurnIs, OfMore, FitsReading, piece_from, bare, OfTheorem, TextReads};
+ghost use Rattle.e_read.specs.Text.{at_start, garbled_at, taken, LineIs, LineReads, TurnIs, FitsReading, piece_from, bare, OfTheorem, TextReads};
 
 use crate::reading::Reading;
 use e_book::{Known, Theorem, Trouble};
@@ -63,9 +63,9 @@ enum Turn {
     /// It is the last line of the text.
     Last,
     /// The theorem has ended.
-    Theorem(Theorem),
+    Ended,
     /// More lines have to come.
-    More(Reading),
+    More,
 }
 
 /// The next line.
@@ -83,57 +83,47 @@ fn seen_line<'a>(lines: &mut Lines<'a>) -> Result<Line<'a>, TextFault>
     }
 }
 
-/// The block behind one more line.
-fn next_line(
+/// The block goes on with one more line.
+fn take_line(
     alloc: Global,
     known: &Known,
-    reading: Reading,
+    reading: &mut Reading,
     line: Line<'_>,
-) -> Result<Reading, TextFault>
-    requires reading { FitsReading reading }
+) -> Result<(), TextFault>
+    requires reading { FitsReading reading.old }
     requires few { length known.now ≤ most_theorems }
     requires known { IsTrue (list_all is_small_statement (stated_by known.now)) }
-    ensures value { LineReads result (garbled_at line.entry.number (taken known.now reading (seen line.entry))) }
-    ensures fits { IfOk result FitsReading }
+    ensures value { LineReads result reading.new (garbled_at line.entry.number (taken known.now reading.old (seen line.entry))) }
+    ensures fits { OnOk result (FitsReading reading.new) }
 {
-    match reading.taking(alloc, known, line) {
-        Ok(next) => Ok(next),
+    match reading.take(alloc, known, line) {
+        Ok(()) => Ok(()),
         Err(Trouble::NoMemory) => Err(TextFault::NoMemory),
         Err(Trouble::Fault(_)) => Err(TextFault::Garbled { line: line.number }),
     }
 }
 
-/// A block behind its last line is a theorem, and else more lines have to come.
-fn ended(alloc: Global, reading: Reading) -> Result<Turn, AllocError>
-    requires { FitsReading reading }
-    ensures turn { IfOk result (EndIs (finished reading.draft reading.kept) reading) }
-    ensures fits { IfOk result (OfMore FitsReading) }
-{
-    if !reading.is_finished() {
-        return Ok(Turn::More(reading));
-    }
-    let theorem = reading.into_theorem(alloc)?;
-    Ok(Turn::Theorem(theorem))
-}
-
 /// What a line makes of a block.
-fn turned(alloc: Global, known: &Known, reading: Reading, line: Line<'_>) -> Result<Turn, TextFault>
-    requires reading { FitsReading reading }
+fn turned(
+    alloc: Global,
+    known: &Known,
+    reading: &mut Reading,
+    line: Line<'_>,
+) -> Result<Turn, TextFault>
+    requires reading { FitsReading reading.old }
     requires few { length known.now ≤ most_theorems }
     requires known { IsTrue (list_all is_small_statement (stated_by known.now)) }
-    ensures turn { TurnIs known.now reading (seen line.entry) result }
-    ensures fits { IfOk result (OfMore FitsReading) }
+    ensures turn { TurnIs known.now reading.old (seen line.entry) reading.new result }
+    ensures fits { OnOk result (FitsReading reading.new) }
 {
     if reading.is_end(alloc, known, line)? {
         return Ok(Turn::Last);
     }
-    match next_line(alloc, known, reading, line) {
-        Ok(next) => {
-            let turn = ended(alloc, next)?;
-            Ok(turn)
-        }
-        Err(fault) => Err(fault),
+    take_line(alloc, known, reading, line)?;
+    if reading.is_finished() {
+        return Ok(Turn::Ended);
     }
+    Ok(Turn::More)
 }
 
 /// Reads line by line, up to the end of a theorem or the last line.
@@ -147,14 +137,17 @@ fn read_piece(alloc: Global, lines: &mut Lines, known: &Known) -> Result<Piece, 
     let mut reading = Reading::new(alloc);
     loop {
         let line = seen_line(lines)?;
-        match turned(alloc, known, reading, line)? {
+        match turned(alloc, known, &mut reading, line)? {
             Turn::Last => {
                 return Ok(Piece::Last {
                     theorems: known.len() as u32,
                 });
             }
-            Turn::Theorem(theorem) => return Ok(Piece::Theorem(theorem)),
-            Turn::More(next) => reading = next,
+            Turn::Ended => {
+                let theorem = reading.into_theorem(alloc)?;
+                return Ok(Piece::Theorem(theorem));
+            }
+            Turn::More => {}
         }
     }
 }

@@ -1,5 +1,5 @@
 //! A block of a derivation text while its lines come.
-ghost use Rattle.std.specs.Prelude.{◌≡◌, ◌≤◌, length, IfOk, IfSome, IsTrue, Some};
+ghost use Rattle.std.specs.Prelude.{◌≡◌, ◌≤◌, length, IfOk, OnOk, IfSome, IsTrue, Some};
 ghost use Rattle.std.specs.List.{list_all};
 ghost use Rattle.e_text.specs.Lines.{seen};
 ghost use Rattle.e_text.specs.Tokens.{tokens_of};
@@ -7,7 +7,7 @@ ghost use Rattle.e_deriv.specs.Fitting.{is_small_statement};
 ghost use Rattle.e_book.specs.Limits.{most_theorems};
 ghost use Rattle.e_book.specs.Headed.{stated_by};
 ghost use Rattle.e_book.specs.Entry.{entry_of};
-ghost use Rattle.e_book.specs.Reading.{texts, Gives};
+ghost use Rattle.e_book.specs.Reading.{texts, Gives, Moves};
 ghost use Rattle.e_book.specs.Scope.{FewNames};
 ghost use Rattle.e_book.specs.Steps.{no_names};
 ghost use Rattle.e_read.specs.Text.{owes_nothing, at_start, with_mark, certified, owed_by, gone_on, all_settled, with_form, stepped, is_bar, worded, is_lf_end, spelled, taken, derived, is_finished, finished, is_end, is_last_line, last_line_of, FitsDraft, FitsReading, FitsBegun};
@@ -24,6 +24,7 @@ use e_literal::Items;
 use e_text::{Line, LineEnd, is};
 use e_words::put_number;
 use std::alloc::{AllocError, Global};
+use std::mem;
 
 /// What the lines of a block have said so far.
 #[derive(Debug, Drop)]
@@ -130,142 +131,141 @@ impl Reading {
         }
     }
 
-    /// A line of a certificate.
+    /// Takes a line of a certificate.
     #[tactic(auto, unfolding(crate::specs::Text::certified))]
-    fn certified(self, alloc: Global, line: &[u8], words: &[&[u8]]) -> Result<Reading, Trouble>
-        requires { FewNames self.owed.names }
-        ensures value { Gives (λ r. r) result (certified self line.now (texts words.now)) }
-        ensures draft { IfOk result (λ r. r.draft ≡ self.draft) }
-        ensures names { IfOk result (λ r. r.owed.names ≡ self.owed.names) }
+    fn take_certificate(
+        &mut self,
+        alloc: Global,
+        line: &[u8],
+        words: &[&[u8]],
+    ) -> Result<(), Trouble>
+        requires { FewNames self.old.owed.names }
+        ensures value { Moves result self.new (certified self.old line.now (texts words.now)) }
+        ensures draft { OnOk result (self.new.draft ≡ self.old.draft) }
+        ensures names { OnOk result (self.new.owed.names ≡ self.old.owed.names) }
     {
         let mark = strict_mark(alloc, line, words)?;
-        self.with_mark(alloc, &mark)
+        self.take_mark(alloc, &mark)
     }
 
-    /// What is owed behind a line of a certificate.
+    /// Takes what a line of a certificate says.
     #[tactic(auto, unfolding(crate::specs::Text::with_mark))]
-    fn with_mark(self, alloc: Global, mark: &Mark) -> Result<Reading, Trouble>
-        requires { FewNames self.owed.names }
-        ensures value { Gives (λ r. r) result (with_mark self mark.now) }
-        ensures draft { IfOk result (λ r. r.draft ≡ self.draft) }
-        ensures names { IfOk result (λ r. r.owed.names ≡ self.owed.names) }
+    fn take_mark(&mut self, alloc: Global, mark: &Mark) -> Result<(), Trouble>
+        requires { FewNames self.old.owed.names }
+        ensures value { Moves result self.new (with_mark self.old mark.now) }
+        ensures draft { OnOk result (self.new.draft ≡ self.old.draft) }
+        ensures names { OnOk result (self.new.owed.names ≡ self.old.owed.names) }
     {
-        let Reading { draft, owed, kept } = self;
-        let owed = owed.marked(alloc, mark)?;
-        Ok(Reading { draft, owed, kept })
+        let owed = mem::replace(&mut self.owed, owes_nothing(alloc));
+        self.owed = owed.marked(alloc, mark)?;
+        Ok(())
     }
 
-    /// Any other line: nothing is owed any more.
+    /// Takes any other line: nothing is owed any more.
     #[tactic(auto, unfolding(crate::specs::Text::stepped))]
-    fn stepped(
-        self,
+    fn take_step(
+        &mut self,
         alloc: Global,
         known: &Known,
         line: &[u8],
         words: &[&[u8]],
-    ) -> Result<Reading, Trouble>
+    ) -> Result<(), Trouble>
         requires words { texts words.now ≡ tokens_of line.now }
-        requires reading { FitsReading self }
+        requires reading { FitsReading self.old }
         requires few { length known.now ≤ most_theorems }
         requires known { IsTrue (list_all is_small_statement (stated_by known.now)) }
-        ensures value { Gives (λ r. r) result (stepped known.now self line.now) }
-        ensures fits { IfOk result FitsReading }
+        ensures value { Moves result self.new (stepped known.now self.old line.now) }
+        ensures fits { OnOk result (FitsReading self.new) }
     {
         let form = strict_of(alloc, line, words)?;
-        self.with_form(alloc, known, &form)
+        self.take_form(alloc, known, &form)
     }
 
     /// Nothing is owed any more, and the theorem goes on with this form.
     #[tactic(auto, unfolding(crate::specs::Text::with_form))]
-    fn with_form(self, alloc: Global, known: &Known, form: &Form) -> Result<Reading, Trouble>
-        requires reading { FitsReading self }
+    fn take_form(&mut self, alloc: Global, known: &Known, form: &Form) -> Result<(), Trouble>
+        requires reading { FitsReading self.old }
         requires few { length known.now ≤ most_theorems }
         requires known { IsTrue (list_all is_small_statement (stated_by known.now)) }
-        ensures value { Gives (λ r. r) result (with_form known.now self form.now) }
-        ensures fits { IfOk result FitsReading }
+        ensures value { Moves result self.new (with_form known.now self.old form.now) }
+        ensures fits { OnOk result (FitsReading self.new) }
     {
-        let Reading { draft, kept, .. } = self.settled(alloc)?;
+        self.settle(alloc)?;
+        let draft = self.draft.take();
         let Begun { draft, owed } = gone_on(alloc, known, draft, form)?;
-        Ok(Reading {
-            draft: Some(draft),
-            owed,
-            kept,
-        })
+        self.draft = Some(draft);
+        self.owed = owed;
+        Ok(())
     }
 
     /// Nothing is owed any more, and what was read is kept.
-    fn settled(self, alloc: Global) -> Result<Reading, Trouble>
-        requires { FewNames self.owed.names }
-        ensures value { Gives (λ r. r) result (all_settled self) }
-        ensures draft { IfOk result (λ r. r.draft ≡ self.draft) }
+    fn settle(&mut self, alloc: Global) -> Result<(), Trouble>
+        requires { FewNames self.old.owed.names }
+        ensures value { Moves result self.new (all_settled self.old) }
+        ensures draft { OnOk result (self.new.draft ≡ self.old.draft) }
     {
-        let Reading { draft, owed, kept } = self;
-        let mut kept = kept;
+        let owed = mem::replace(&mut self.owed, owes_nothing(alloc));
         let read = owed.settled()?;
-        kept.push(read)?;
-        Ok(Reading {
-            draft,
-            owed: owes_nothing(alloc),
-            kept,
-        })
+        self.kept.push(read)?;
+        Ok(())
     }
 
-    /// A line by its words.
+    /// Takes a line by its words.
     #[tactic(auto, unfolding(crate::specs::Text::worded))]
-    fn worded(
-        self,
+    fn take_words(
+        &mut self,
         alloc: Global,
         known: &Known,
         line: &[u8],
         words: &[&[u8]],
-    ) -> Result<Reading, Trouble>
+    ) -> Result<(), Trouble>
         requires words { texts words.now ≡ tokens_of line.now }
-        requires reading { FitsReading self }
+        requires reading { FitsReading self.old }
         requires few { length known.now ≤ most_theorems }
         requires known { IsTrue (list_all is_small_statement (stated_by known.now)) }
-        ensures value { Gives (λ r. r) result (worded known.now self line.now (texts words.now)) }
-        ensures fits { IfOk result FitsReading }
+        ensures value { Moves result self.new (worded known.now self.old line.now (texts words.now)) }
+        ensures fits { OnOk result (FitsReading self.new) }
     {
         match words {
             [] => Err(Trouble::Fault(Kind::Malformed)),
             [word, rest @ ..] => {
                 if is(word, b"|") {
-                    return self.certified(alloc, line, rest);
+                    return self.take_certificate(alloc, line, rest);
                 }
-                self.stepped(alloc, known, line, words)
+                self.take_step(alloc, known, line, words)
             }
         }
     }
 
-    /// A line by its bytes.
+    /// Takes a line by its bytes.
     #[tactic(auto, unfolding(crate::specs::Text::spelled))]
-    fn spelled(self, alloc: Global, known: &Known, line: &[u8]) -> Result<Reading, Trouble>
-        requires reading { FitsReading self }
+    fn take_bytes(&mut self, alloc: Global, known: &Known, line: &[u8]) -> Result<(), Trouble>
+        requires reading { FitsReading self.old }
         requires few { length known.now ≤ most_theorems }
         requires known { IsTrue (list_all is_small_statement (stated_by known.now)) }
-        ensures value { Gives (λ r. r) result (spelled known.now self line.now) }
-        ensures fits { IfOk result FitsReading }
+        ensures value { Moves result self.new (spelled known.now self.old line.now) }
+        ensures fits { OnOk result (FitsReading self.new) }
     {
         let words = collected(alloc, line)?;
-        self.worded(alloc, known, line, &words)
+        self.take_words(alloc, known, line, &words)
     }
 
-    /// The next line, which ends with a line feed.
+    /// Takes the next line, which ends with a line feed.
     #[tactic(auto, unfolding(crate::specs::Text::taken))]
-    pub(crate) fn taking(
-        self,
+    pub(crate) fn take(
+        &mut self,
         alloc: Global,
         known: &Known,
         line: Line<'_>,
-    ) -> Result<Reading, Trouble>
-        requires reading { FitsReading self }
+    ) -> Result<(), Trouble>
+        requires reading { FitsReading self.old }
         requires few { length known.now ≤ most_theorems }
         requires known { IsTrue (list_all is_small_statement (stated_by known.now)) }
-        ensures value { Gives (λ r. r) result (taken known.now self (seen line.entry)) }
-        ensures fits { IfOk result FitsReading }
+        ensures value { Moves result self.new (taken known.now self.old (seen line.entry)) }
+        ensures fits { OnOk result (FitsReading self.new) }
     {
         match line.end {
-            LineEnd::Lf => self.spelled(alloc, known, line.bytes),
+            LineEnd::Lf => self.take_bytes(alloc, known, line.bytes),
             _ => Err(Trouble::Fault(Kind::Malformed)),
         }
     }

@@ -6,7 +6,6 @@ pub mod TransfersAgain
 pub mod CertsPut
 pub mod CertsGood
 pub mod LinesTaken
-pub mod Readies
 pub mod DueAgain
 pub mod Standing
 pub mod ScriptAlong

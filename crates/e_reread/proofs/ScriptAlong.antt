@@ -62,8 +62,7 @@ use Rattle.e_reread.proofs.RowsAgain.{lit_direct}
 use Rattle.e_reread.proofs.CertsPut.{certs_kept, nothing_kept, against_kept}
 use Rattle.e_reread.proofs.CertsGood.{good_certs, good_against}
 use Rattle.e_reread.proofs.LinesTaken.{along_append}
-use Rattle.e_book.proofs.ScriptRead.{one_more, no_more, one_line}
-use Rattle.e_reread.proofs.Readies.{list_names, cite_ready, inferred, hence_ready, gifts, constructed, make_good, make_ready, apply_parts, claim_parts, claim_inner, claim_rest, copy_parts, copy_inner, copy_rest, opens, cases_parts, cases_first, cases_second}
+use Rattle.e_book.proofs.ScriptRead.{list_names, one_more, no_more, cite_ready, inferred, hence_ready, gifts, constructed, make_good, make_ready, apply_parts, claim_parts, claim_inner, claim_rest, copy_parts, copy_inner, copy_rest, opens, cases_parts, cases_first, cases_second, one_line}
 use Rattle.e_reread.proofs.DueAgain.{all_direct, all_written, hence_due, let_due, apply_due, superpose_due, qed_due}
 use Rattle.e_reread.proofs.Standing.{Stood, first_of, both_of, one_certified, Spelled, goes_along, then_along}
 

@@ -48,7 +48,7 @@ use Rattle.e_book.proofs.LinesRead.{Inside, behind, deep, copied, resume, second
 use Rattle.e_spell.specs.Certificates.{certs_lines}
 use Rattle.e_spell.specs.Spelling.{script_lines}
 use Rattle.e_reread.proofs.CertsGood.{good_certs, good_against}
-use Rattle.e_reread.proofs.Readies.{list_names, inferred, constructed, apply_parts, claim_parts, copy_parts, opens, cases_parts}
+use Rattle.e_book.proofs.ScriptRead.{list_names, inferred, constructed, apply_parts, claim_parts, copy_parts, opens, cases_parts}
 use Rattle.e_reread.proofs.Standing.{Stood, first_of, one_certified}
 use Rattle.e_reread.proofs.ScriptAlong.{cite_next, hence_next, make_next, apply_next, claim_inside, claim_next, copy_certified, copy_inside, copy_next, cases_one, cases_two, no_hence, no_contradiction}
 use Rattle.e_roundtrip.proofs.Rooms.{short_append}

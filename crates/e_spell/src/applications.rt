@@ -6,11 +6,11 @@ ghost use Rattle.e_book.specs.Canonical.{argument_name, argument_word, made_word
 ghost use Rattle.e_spell.specs.Parts.{application_words, application_text};
 
 use crate::literals::name_of_object;
-use e_book::Known;
+use e_book::{Known, put_made_names};
 use e_deriv::Names;
 use e_literal::Obj;
 use e_text::Name;
-use e_words::{end_line, put, put_names};
+use e_words::{end_line, put};
 use std::alloc::AllocError;
 
 /// The title of the theorem at a place; nothing where there is none.
@@ -42,17 +42,6 @@ fn put_arguments(out: &mut Vec<u8>, names: &Names, args: &[Option<Obj>]) -> Resu
         put_argument(out, names, *argument)?;
     }
     Ok(())
-}
-
-/// The names of made objects, if there are any.
-fn put_made_names(out: &mut Vec<u8>, new: &[Name]) -> Result<(), AllocError>
-    ensures { OnOk result (out.new.items ≡ out.old.items ++ spaced (made_words new.now)) }
-{
-    if new.is_empty() {
-        return Ok(());
-    }
-    put(out, b"as")?;
-    put_names(out, new)
 }
 
 /// An earlier theorem by its title, its arguments, and names for the objects that it makes.

@@ -3,6 +3,7 @@ pub mod Small
 pub mod Views
 pub mod Placed
 pub mod Fingerprint
+pub mod Alike
 pub mod Standing
 pub mod Checking
 pub mod Verdicts

@@ -8,6 +8,7 @@ ghost use Rattle.e_literal.specs.Same.{same_lit, term_eq};
 ghost use Rattle.e_verify.specs.Fingerprint.{fingerprint_of};
 ghost use Rattle.e_clause.specs.Assignment.{terms_of_atom, terms_of_lits};
 
+use crate::alike::are_alike;
 use crate::fingerprint::fingerprint_of;
 use e_literal::{Atom, Lit, Mono, Term, same};
 use std::alloc::{AllocError, Global};
@@ -38,7 +39,7 @@ impl Fact {
         requires { fingerprint ≡ fingerprint_of lit.now.atom }
         ensures { result ≡ same_lit self.now lit.now }
     {
-        self.fingerprint == fingerprint && same(&self.lit, lit)
+        self.fingerprint == fingerprint && (are_alike(&self.lit, lit) || same(&self.lit, lit))
     }
 
     /// Whether the term stands in it, as it is written.

@@ -2,6 +2,7 @@
 #![tactic(auto)]
 
 mod adding;
+mod alike;
 mod block;
 mod certificate;
 mod closes;

@@ -1,0 +1,45 @@
+// Literals that are written alike: most that are the same are told at once by it.
+
+ghost use Rattle.std.specs.Prelude.{◌≡◌, IsTrue};
+ghost use Rattle.e_literal.specs.Same.{same_lit};
+ghost use Rattle.e_verify.specs.Alike.{are_alike_monos, are_alike_sums, are_alike_atoms, are_alike};
+
+use e_literal::{Atom, Lit, Mono};
+
+fn are_alike_monos(m: &Mono, n: &Mono) -> bool
+    ensures { result ≡ are_alike_monos m.now n.now }
+{
+    m.coeff == n.coeff && m.term == n.term
+}
+
+fn are_alike_sums(x: &[Mono], y: &[Mono]) -> bool
+    ensures { result ≡ are_alike_sums x.now y.now }
+{
+    match x {
+        [] => y.is_empty(),
+        [m, x @ ..] => match y {
+            [] => false,
+            [n, y @ ..] => are_alike_monos(m, n) && are_alike_sums(x, y),
+        },
+    }
+}
+
+fn are_alike_atoms(a: &Atom, b: &Atom) -> bool
+    ensures { result ≡ are_alike_atoms a.now b.now }
+{
+    match (a, b) {
+        (Atom::MagEq(x, y), Atom::MagEq(z, w)) | (Atom::MagLt(x, y), Atom::MagLt(z, w)) => {
+            are_alike_sums(x.items(), z.items()) && are_alike_sums(y.items(), w.items())
+        }
+        _ => false,
+    }
+}
+
+/// Whether both compare magnitudes and are written alike, term by term; then they are the same.
+#[tactic(auto, using(crate::proofs::Alike::alike_is_same))]
+pub(crate) fn are_alike(a: &Lit, b: &Lit) -> bool
+    ensures value { result ≡ are_alike a.now b.now }
+    ensures same { IsTrue result → IsTrue (same_lit a.now b.now) }
+{
+    a.neg == b.neg && are_alike_atoms(&a.atom, &b.atom)
+}
