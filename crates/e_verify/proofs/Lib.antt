@@ -3,7 +3,7 @@ pub mod Totalling
 pub mod Smallness
 pub mod Added
 pub mod Fingerprints
-pub mod Alike
+pub mod WrittenAlike
 pub mod Summing
 pub mod Paired
 pub mod Formed

@@ -1,5 +1,5 @@
 -- Literals that are written alike are the same.
-use Rattle.std.proofs.Common.{◌≡◌, List, [], ◌∷◌, refl, sym, ap, ap₂, ◌∙◌, true, false, true≢false, ◌&&◌, Bool, eqb}
+use Rattle.std.proofs.Common.{◌≡◌, List, [], ◌∷◌, refl, sym, ap₂, ◌∙◌, true, true≢false, eqb}
 use Rattle.e_literal.specs.declared.object.Term.{Term}
 use Rattle.e_literal.specs.declared.object.Mono.{Mono}
 use Rattle.e_literal.specs.declared.literal.Lit.{Lit}
