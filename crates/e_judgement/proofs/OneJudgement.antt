@@ -8,6 +8,7 @@ use Rattle.e_deriv.specs.Certified.{is_certified, derivation_lines, verdict}
 use Rattle.e_book.specs.Headed.{Headed, stated_by}
 use Rattle.e_book.specs.Entry.{Entry}
 use Rattle.e_read.specs.Text.{Piece, Derived, Last}
+use Rattle.e_read.proofs.Bridge.{no_last, derived_is}
 use Rattle.e_judgement.specs.declared.judgement.Judgement.{Judgement}
 use Rattle.e_judgement.specs.declared.judgement.Judgement.TheVariants.{Bad, Garbled}
 use Rattle.e_judgement.specs.Judged.{Rest, with_theorem, ReadsNext, IsCertified, Passes, JudgedBehind, Closes, IsJudged, is_head, JudgesLines, JudgesText, lines_of_text}
@@ -32,19 +33,11 @@ broken line = Err line
 inside : (a b : Found) → let x : Answer = Ok a in x ≡ Ok b → a ≡ b
 inside a b e = cc
 
-abbrev entry_in : Entry → Piece → Entry
-entry_in t (Derived u) = u
-entry_in t Last = t
-
-abbrev is_derived : Piece → Bool
-is_derived (Derived t) = true
-is_derived Last = false
-
 same_entry : (t u : Entry) (xs ys : Rest) → found t xs ≡ found u ys → t ≡ u
-same_entry t u xs ys e = ap (λ (a : Found). entry_in t a.0) (inside (Derived t, xs) (Derived u, ys) e)
+same_entry t u xs ys e = (derived_is t u xs ys e).0
 
 same_rest : (t u : Entry) (xs ys : Rest) → found t xs ≡ found u ys → xs ≡ ys
-same_rest t u xs ys e = ap (λ (a : Found). a.1) (inside (Derived t, xs) (Derived u, ys) e)
+same_rest t u xs ys e = (derived_is t u xs ys e).1
 
 same_end : (xs ys : Rest) → ended xs ≡ ended ys → xs ≡ ys
 same_end xs ys e = ap (λ (a : Found). a.1) (inside (Last, xs) (Last, ys) e)
@@ -53,7 +46,7 @@ same_line : (n m : ℕ) → broken n ≡ broken m → n ≡ m
 same_line n m e = cc
 
 found_not_ended : (t : Entry) (xs ys : Rest) → found t xs ≡ ended ys → ⊥
-found_not_ended t xs ys e = true≢false (ap (λ (a : Found). is_derived a.0) (inside (Derived t, xs) (Last, ys) e))
+found_not_ended t xs ys e = no_last ys xs t (sym e)
 
 found_not_broken : (t : Entry) (xs : Rest) (n : ℕ) → found t xs ≡ broken n → ⊥
 found_not_broken t xs n e = absurd cc

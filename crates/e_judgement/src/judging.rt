@@ -1,6 +1,6 @@
 //! A derivation text, theorem by theorem.
 ghost use Rattle.std.specs.Prelude.{◌≡◌, ◌≤◌, ◌^◌, ◌++◌, ◌∷◌, [], false, length, IfOk, IfErr, OnOk};
-ghost use Rattle.e_text.specs.Lines.{seen, fault_line};
+ghost use Rattle.e_text.specs.Lines.{seen};
 ghost use Rattle.e_theorem.specs.Statements.{stated};
 ghost use Rattle.e_deriv.specs.Script.{script_of};
 ghost use Rattle.e_deriv.specs.Certified.{Certified, verdict};
@@ -12,8 +12,8 @@ ghost use Rattle.e_judgement.specs.Judged.{is_head, JudgesText, JudgedBehind, Is
 
 use crate::judgement::Judgement;
 use e_book::{Known, Theorem};
-use e_read::{Piece, TextFault, read};
-use e_text::{Line, LineEnd, LineFault, Lines};
+use e_read::{Piece, TextFault, faulty_line, read};
+use e_text::{Line, LineEnd, Lines};
 use e_verify::{Reject, verify};
 use std::alloc::{AllocError, Global};
 
@@ -25,17 +25,6 @@ fn is_head(line: &Line) -> bool
     ensures { result ≡ is_head (seen line.now) }
 {
     matches!(line.end, LineEnd::Lf) && line.bytes == b"derivation 1".as_slice()
-}
-
-/// The line that a fault names.
-fn faulty_line(fault: LineFault) -> u64
-    ensures { result ≡ fault_line fault }
-{
-    match fault {
-        LineFault::Bytes { line } => line,
-        LineFault::LineBytes { line } => line,
-        LineFault::NotAscii { line } => line,
-    }
 }
 
 /// Behind the last line of a text nothing stands.

@@ -43,11 +43,11 @@ certificate_left l front h = rw h refl
 line_kept : (l : Seen) (front : List (Result Seen LineFault)) → begins_with_bar (tokens_of l.bytes) ≡ false → filter is_of_theorem (Ok l ∷ front) ≡ Ok l ∷ filter is_of_theorem front
 line_kept l front h = rw h refl
 
-ends_or : (b : Bool) (x y z : Result Answer ℕ) → cond b x y ≡ z → ((b ≡ true) × (x ≡ z)) ⊎ ((b ≡ false) × (y ≡ z))
+pub ends_or : (b : Bool) (x y z : Result Answer ℕ) → cond b x y ≡ z → ((b ≡ true) × (x ≡ z)) ⊎ ((b ≡ false) × (y ≡ z))
 ends_or true x y z e = inl (refl, e)
 ends_or false x y z e = inr (refl, e)
 
-no_last : (lines rest : List (Result Seen LineFault)) (t : Entry) → let end : Result Answer ℕ = Ok (Last, lines) in end ≡ derives t rest → ⊥
+pub no_last : (lines rest : List (Result Seen LineFault)) (t : Entry) → let end : Result Answer ℕ = Ok (Last, lines) in end ≡ derives t rest → ⊥
 no_last lines rest t e = subst IsLast e tt where
   IsLast : Result Answer ℕ → Type 0
   IsLast (Ok (Last, ls)) = Unit {0}
@@ -58,7 +58,7 @@ pub garbled_ok : {A : Type 0} (n : ℕ) (r : Result A Kind) (x : A) → garbled_
 garbled_ok n (Ok y) x e = cc
 garbled_ok n (Err k) x e = absurd cc
 
-derived_is : (t u : Entry) (lines rest : List (Result Seen LineFault)) → derives t lines ≡ derives u rest → (t ≡ u) × (lines ≡ rest)
+pub derived_is : (t u : Entry) (lines rest : List (Result Seen LineFault)) → derives t lines ≡ derives u rest → (t ≡ u) × (lines ≡ rest)
 derived_is t u lines rest e = (ap (λ (a : Answer). entry_in t a) (inside _ _ e), ap (λ (a : Answer). a.1) (inside _ _ e)) where
   entry_in : Entry → Answer → Entry
   entry_in t (Derived u, ls) = u
@@ -68,12 +68,12 @@ derived_is t u lines rest e = (ap (λ (a : Answer). entry_in t a) (inside _ _ e)
   inside a b e = cc
 
 -- how it goes on behind a line that is taken
-goes_on : (t : Option Entry) (lines rest : List (Result Seen LineFault)) (more : Result Answer ℕ) (u : Entry) → or_on t lines more ≡ derives u rest
+pub goes_on : (t : Option Entry) (lines rest : List (Result Seen LineFault)) (more : Result Answer ℕ) (u : Entry) → or_on t lines more ≡ derives u rest
     → ((x : Entry) × (t ≡ Some x) × (derives x lines ≡ derives u rest)) ⊎ ((t ≡ None) × (more ≡ derives u rest))
 goes_on None lines rest more u e = inr (refl, e)
 goes_on (Some x) lines rest more u e = inl (x, refl, e)
 
-unfinished : (draft : Option Draft) (kept : List Kept) (x : Entry) → is_finished draft ≡ false → finished draft kept ≡ Some x → ⊥
+pub unfinished : (draft : Option Draft) (kept : List Kept) (x : Entry) → is_finished draft ≡ false → finished draft kept ≡ Some x → ⊥
 unfinished None kept x h e = absurd cc
 unfinished (Some d) kept x h e = by_test (is_done d) (derived d kept) h e
   where
@@ -81,7 +81,7 @@ unfinished (Some d) kept x h e = by_test (is_done d) (derived d kept) h e
     by_test true y h e = absurd cc
     by_test false y h e = absurd cc
 
-still : (draft : Option Draft) (kept : List Kept) → finished draft kept ≡ None → is_finished draft ≡ false
+pub still : (draft : Option Draft) (kept : List Kept) → finished draft kept ≡ None → is_finished draft ≡ false
 still None kept e = refl
 still (Some d) kept e = open_still (is_done d) (derived d kept) e
   where
@@ -89,7 +89,7 @@ still (Some d) kept e = open_still (is_done d) (derived d kept) e
     open_still true x h = absurd cc
     open_still false x h = refl
 
-closed_is : (d : Draft) (kept : List Kept) (x : Entry) → finished (Some d) kept ≡ Some x → (is_done d ≡ true) × (derived d kept ≡ x)
+pub closed_is : (d : Draft) (kept : List Kept) (x : Entry) → finished (Some d) kept ≡ Some x → (is_done d ≡ true) × (derived d kept ≡ x)
 closed_is d kept x e = by_test (is_done d) (derived d kept) e
   where
     by_test : (b : Bool) (y : Entry) → cond b (Some y) None ≡ Some x → (b ≡ true) × (y ≡ x)

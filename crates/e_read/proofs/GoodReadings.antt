@@ -1,6 +1,5 @@
 -- The certificates of a theorem that is read from a derivation text are well formed.
-use Rattle.std.proofs.Common.{◌≡◌, ℕ, Bool, true, false, true≢false, cond, inl, inr, List, [], ◌∷◌, ◌++◌, Option, Some, None, Result, Ok, Err, refl, sym, ap, subst}
-use Rattle.std.specs.Prelude.{◌⊎◌}
+use Rattle.std.proofs.Common.{◌≡◌, ℕ, Bool, true, false, cond, inl, inr, List, [], ◌∷◌, ◌++◌, Option, Some, None, Result, Ok, Err, refl, sym, ap, subst, ◌∙◌}
 use Rattle.std.specs.Option.{option_to_list}
 use Rattle.e_text.specs.Lines.{Seen}
 use Rattle.e_text.specs.declared.line.LineFault.{LineFault}
@@ -27,8 +26,8 @@ use Rattle.e_read.specs.declared.kept.Kept.{Kept}
 use Rattle.e_read.specs.declared.reading.Reading.{Reading}
 use Rattle.e_read.specs.Strict.{is_apart}
 use Rattle.e_read.specs.Needs.{one_each, needs_of_use, needs_at_qed, due_of}
-use Rattle.e_read.specs.Text.{owes_nothing, at_start, owed_by, gone_on, taken, Piece, Derived, Last, derived, garbled_at, finished, or_on, is_end, piece_from}
-use Rattle.e_read.proofs.Bridge.{Answer, derives, garbled_ok}
+use Rattle.e_read.specs.Text.{owes_nothing, at_start, owed_by, gone_on, taken, Derived, Last, derived, garbled_at, finished, or_on, is_end, piece_from}
+use Rattle.e_read.proofs.Bridge.{Answer, derives, ends_or, no_last, garbled_ok, derived_is, goes_on}
 use Rattle.e_read.proofs.TakenLines.{passed, Stepped, line_taken}
 use Rattle.e_read.proofs.GoodCerts.{has_good_certs, is_good_kept, AreGood, filled_good}
 use Rattle.e_read.proofs.GoodMarks.{GoodDue, GoodOwed, strict_good, settled_good}
@@ -104,31 +103,6 @@ finished_good (Some d) kept t h e = by (is_done d) e
     by true k = subst (λ (x : Entry). has_good_certs x.script ≡ true) (some_is (derived d kept) t k) (filled_good (entry_of_draft d).script kept h).0
     by false k = absurd cc
 
-ends_or : (b : Bool) (x y z : Result Answer ℕ) → cond b x y ≡ z → (x ≡ z) ⊎ (y ≡ z)
-ends_or true x y z e = inl e
-ends_or false x y z e = inr e
-
-inside : (a b : Answer) → let x : Result Answer ℕ = Ok a in x ≡ Ok b → a ≡ b
-inside a b e = cc
-
-abbrev entry_in : Entry → Piece → Entry
-entry_in t (Derived u) = u
-entry_in t Last = t
-
-abbrev is_derived : Piece → Bool
-is_derived (Derived t) = true
-is_derived Last = false
-
-no_last : (lines rest : List (Result Seen LineFault)) (t : Entry) → let end : Result Answer ℕ = Ok (Last, lines) in end ≡ derives t rest → ⊥
-no_last lines rest t e = true≢false (sym (ap (λ (a : Answer). is_derived a.0) (inside (Last, lines) (Derived t, rest) e)))
-
-same_theorem : (t u : Entry) (lines rest : List (Result Seen LineFault)) → derives t lines ≡ derives u rest → t ≡ u
-same_theorem t u lines rest e = ap (λ (a : Answer). entry_in t a.0) (inside (Derived t, lines) (Derived u, rest) e)
-
-goes_on : (t : Option Entry) (lines rest : List (Result Seen LineFault)) (more : Result Answer ℕ) (u : Entry) → or_on t lines more ≡ derives u rest → (t ≡ Some u) ⊎ (more ≡ derives u rest)
-goes_on None lines rest more u e = inr e
-goes_on (Some x) lines rest more u e = inl (ap (λ (y : Entry). Some y) (same_theorem x u lines rest e))
-
 certs_read : (known : List Headed) (last : ℕ) (r : Reading) (lines rest : List (Result Seen LineFault)) (t : Entry) → GoodReading r → piece_from known last r lines ≡ derives t rest → has_good_certs t.script ≡ true
 unfolding piece_from
 certs_read known last r [] rest t h e = absurd cc
@@ -137,13 +111,13 @@ certs_read known last r (Ok l ∷ lines) rest t h e =
     let next : Result Reading ℕ = garbled_at l.number (taken known r l) in
     let then : Reading → Result Answer ℕ = λ x. or_on (finished x.draft x.kept) lines (piece_from known last x lines) in
     elim (ends_or (is_end known r.draft l) (Ok (Last, lines)) (next >>= then) (derives t rest) e) [
-      | inl p ↦ absurd (no_last lines rest t p)
+      | inl p ↦ absurd (no_last lines rest t p.1)
       | inr p ↦
-          let x = bind_ok next then (Derived t, rest) p in
+          let x = bind_ok next then (Derived t, rest) p.1 in
           let good = taken_good known r x.0 l h (garbled_ok l.number (taken known r l) x.0 x.1) in
           elim (goes_on (finished x.0.draft x.0.kept) lines rest (piece_from known last x.0 lines) t x.2) [
-            | inl q ↦ finished_good x.0.draft x.0.kept t good.kept q
-            | inr q ↦ certs_read known last x.0 lines rest t good q
+            | inl q ↦ finished_good x.0.draft x.0.kept t good.kept (q.1 ∙ ap (λ (y : Entry). Some y) (derived_is q.0 t lines rest q.2).0)
+            | inr q ↦ certs_read known last x.0 lines rest t good q.1
           ]
     ]
 

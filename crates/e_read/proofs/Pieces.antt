@@ -58,9 +58,9 @@ pub ended_turn : (known : List Headed) (old new : Reading) (line : Seen) → is_
 ended_turn known old new line b h e = (e, λ t f last rest. piece_ended known last old new line rest t b h f)
 
 -- a theorem that has not ended is not finished
-unfinished : (d : Option Draft) (kept : List Kept) → is_finished d ≡ false → finished d kept ≡ None
-unfinished None kept e = refl
-unfinished (Some d) kept e = rw e refl
+not_finished : (d : Option Draft) (kept : List Kept) → is_finished d ≡ false → finished d kept ≡ None
+not_finished None kept e = refl
+not_finished (Some d) kept e = rw e refl
 
 pub more_turn : (known : List Headed) (old new : Reading) (line : Seen) → is_end known old.draft line ≡ false → garbled_at line.number (taken known old line) ≡ Ok new → is_finished new.draft ≡ false → TurnIs known old line new (Ok turns.More)
-more_turn known old new line b h e = λ last rest. piece_next known last old new line rest b h (unfinished new.draft new.kept e)
+more_turn known old new line b h e = λ last rest. piece_next known last old new line rest b h (not_finished new.draft new.kept e)

@@ -47,8 +47,8 @@ impl From<AllocError> for TextFault {
     }
 }
 
-/// The line that a fault names.
-fn faulty_line(fault: LineFault) -> u64
+/// The line that a fault names. It takes no memory.
+pub fn faulty_line(fault: LineFault) -> u64
     ensures { result ≡ fault_line fault }
 {
     match fault {

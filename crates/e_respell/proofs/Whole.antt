@@ -1,5 +1,5 @@
 -- The lines that are read as a theorem with its derivation are those of its one spelling.
-use Rattle.std.proofs.Common.{◌≡◌, ℕ, Bool, true, false, cond, inl, inr, List, [], ◌∷◌, ◌++◌, map, Option, Some, None, Result, Ok, Err, refl, sym, ap, subst, ◌∙◌, append_assoc}
+use Rattle.std.proofs.Common.{◌≡◌, ℕ, true, false, inl, inr, List, [], ◌∷◌, ◌++◌, map, Option, Some, None, Result, Ok, Err, refl, sym, ap, subst, ◌∙◌, append_assoc}
 use Rattle.std.specs.Prelude.{◌⊎◌}
 use Rattle.std.specs.Option.{option_to_list}
 use Rattle.std.specs.Str.{bytes_eq}
@@ -32,9 +32,9 @@ use Rattle.e_read.specs.Marks.{mark_line}
 use Rattle.e_read.specs.Strict.{is_strict, is_apart}
 use Rattle.e_read.specs.Needs.{due_of}
 use Rattle.e_read.specs.Filled.{filled}
-use Rattle.e_read.specs.Text.{spelled, Piece, Derived, Last, owes_nothing, at_start, owed_by, gone_on, worded, is_lf_end, taken, derived, garbled_at, is_finished, finished, or_on, is_end, piece_from}
+use Rattle.e_read.specs.Text.{spelled, Derived, Last, owes_nothing, at_start, owed_by, gone_on, worded, is_lf_end, taken, derived, garbled_at, is_finished, finished, or_on, is_end, piece_from}
 use Rattle.e_read.proofs.TakenLines.{Certified, Stepped, passed, line_taken, form_read}
-use Rattle.e_read.proofs.Bridge.{Answer, derives, garbled_ok}
+use Rattle.e_read.proofs.Bridge.{Answer, derives, ends_or, no_last, garbled_ok, derived_is, goes_on, unfinished, still, closed_is}
 use Rattle.e_spell.specs.Spelling.{script_lines, spelled_lines}
 use Rattle.e_respell.specs.Laws.{ShowsLf}
 use Rattle.e_respell.proofs.FormsRead.{Read, form_facts}
@@ -183,57 +183,6 @@ all_said known d o ks done s l =
     so.all ∙ i.lines ∙ ap (λ (l : List (List ℕ)). head ++ l) i.body.2 ∙ ap (λ (l : List (List ℕ)). head ++ (l ++ end)) (sym script)
 
 -- ---- all lines
-
-ends_or : (b : Bool) (x y z : Result Answer ℕ) → cond b x y ≡ z → ((b ≡ true) × (x ≡ z)) ⊎ ((b ≡ false) × (y ≡ z))
-ends_or true x y z e = inl (refl, e)
-ends_or false x y z e = inr (refl, e)
-
-answer_is : (a b : Answer) → let x : Result Answer ℕ = Ok a in x ≡ Ok b → a ≡ b
-answer_is a b e = cc
-
--- no theorem is the last line
-no_last : (lines rest : List (Result Seen LineFault)) (t : Entry) → let end : Result Answer ℕ = Ok (Last, lines) in end ≡ derives t rest → ⊥
-no_last lines rest t e = not_both (ap (λ (a : Answer). is_theorem a.0) (answer_is _ _ e)) where
-  is_theorem : Piece → Bool
-  is_theorem (Derived u) = true
-  is_theorem Last = false
-
-  not_both : false ≡ true → ⊥
-  not_both h = absurd cc
-
-derived_is : (t u : Entry) (lines rest : List (Result Seen LineFault)) → derives t lines ≡ derives u rest → (t ≡ u) × (lines ≡ rest)
-derived_is t u lines rest e = (ap (λ (a : Answer). entry_in t a.0) (answer_is _ _ e), ap (λ (a : Answer). a.1) (answer_is _ _ e)) where
-  entry_in : Entry → Piece → Entry
-  entry_in t (Derived u) = u
-  entry_in t Last = t
-
--- how it goes on behind a line that is taken
-goes_on : (t : Option Entry) (lines rest : List (Result Seen LineFault)) (more : Result Answer ℕ) (u : Entry) → or_on t lines more ≡ derives u rest
-    → ((x : Entry) × (t ≡ Some x) × (derives x lines ≡ derives u rest)) ⊎ ((t ≡ None) × (more ≡ derives u rest))
-goes_on None lines rest more u e = inr (refl, e)
-goes_on (Some x) lines rest more u e = inl (x, refl, e)
-
-unfinished : (draft : Option Draft) (kept : List Kept) (x : Entry) → is_finished draft ≡ false → finished draft kept ≡ Some x → ⊥
-unfinished None kept x h e = absurd cc
-unfinished (Some d) kept x h e = none_is (derived d kept) x (ap (λ (b : Bool). cond b (Some (derived d kept)) None) (sym h) ∙ e)
-  where
-    none_is : (y x : Entry) → cond false (Some y) None ≡ Some x → ⊥
-    none_is y x e = absurd cc
-
-still : (draft : Option Draft) (kept : List Kept) → finished draft kept ≡ None → is_finished draft ≡ false
-still None kept e = refl
-still (Some d) kept e = open_still (is_done d) (derived d kept) e
-  where
-    open_still : (b : Bool) (x : Entry) → let none : Option Entry = None in cond b (Some x) None ≡ none → b ≡ false
-    open_still true x h = absurd cc
-    open_still false x h = refl
-
-closed_is : (d : Draft) (kept : List Kept) (x : Entry) → finished (Some d) kept ≡ Some x → (is_done d ≡ true) × (derived d kept ≡ x)
-closed_is d kept x e = by_test (is_done d) (derived d kept) e
-  where
-    by_test : (b : Bool) (y : Entry) → cond b (Some y) None ≡ Some x → (b ≡ true) × (y ≡ x)
-    by_test true y h = (refl, cc)
-    by_test false y h = absurd cc
 
 -- the lines that are still taken, with those before them, are the spelling
 record Rest (known : List Headed) (done : List (List ℕ)) (t : Entry) (lines rest : List (Result Seen LineFault)) : Type 0 where
