@@ -68,9 +68,29 @@ let_fits ns l form e =
 
 -- ---- a superposition that is read
 
-placed_fits : (ns : Names) (args : List (List ℕ)) (form : Superpose) → placed_in ns args ≡ Ok form → superposing.fits form (scope_of_names ns) ≡ true
+-- the points and lines that a superposition places, each behind its name
+pub record Behind (ns : Names) (a b c k d g h l : List ℕ) (form : Superpose) : Type 0 where
+  pub na : ℕ
+  pub nb : ℕ
+  pub nc : ℕ
+  pub nk : ℕ
+  pub nd : ℕ
+  pub ng : ℕ
+  pub nh : ℕ
+  pub nl : ℕ
+  pub a_is : number_of ns Point a ≡ Ok na
+  pub b_is : number_of ns Point b ≡ Ok nb
+  pub c_is : number_of ns Point c ≡ Ok nc
+  pub k_is : number_of ns Line k ≡ Ok nk
+  pub d_is : number_of ns Point d ≡ Ok nd
+  pub g_is : number_of ns Point g ≡ Ok ng
+  pub h_is : number_of ns Point h ≡ Ok nh
+  pub l_is : number_of ns Line l ≡ Ok nl
+  pub form_is : superpose na nb nc nd ng nh nk nl ≡ form
+
+pub placed_behind : (ns : Names) (a b c k d g h l : List ℕ) (form : Superpose) → placed_in ns (a ∷ b ∷ c ∷ k ∷ d ∷ g ∷ h ∷ l ∷ []) ≡ Ok form → Behind ns a b c k d g h l form
 unfolding placed_in
-placed_fits ns (a ∷ b ∷ c ∷ k ∷ d ∷ g ∷ h ∷ l ∷ []) form e =
+placed_behind ns a b c k d g h l form e =
     let na = bind_ok (number_of ns Point a) (λ na. number_of ns Point b >>= λ nb. number_of ns Point c >>= λ nc. number_of ns Line k >>= λ nk. number_of ns Point d >>= λ nd. number_of ns Point g >>= λ ng. number_of ns Point h >>= λ nh. number_of ns Line l >>= λ nl. read_ok (superpose na nb nc nd ng nh nk nl)) form e in
     let nb = bind_ok (number_of ns Point b) (λ nb. number_of ns Point c >>= λ nc. number_of ns Line k >>= λ nk. number_of ns Point d >>= λ nd. number_of ns Point g >>= λ ng. number_of ns Point h >>= λ nh. number_of ns Line l >>= λ nl. read_ok (superpose na.0 nb nc nd ng nh nk nl)) form na.2 in
     let nc = bind_ok (number_of ns Point c) (λ nc. number_of ns Line k >>= λ nk. number_of ns Point d >>= λ nd. number_of ns Point g >>= λ ng. number_of ns Point h >>= λ nh. number_of ns Line l >>= λ nl. read_ok (superpose na.0 nb.0 nc nd ng nh nk nl)) form nb.2 in
@@ -79,11 +99,35 @@ placed_fits ns (a ∷ b ∷ c ∷ k ∷ d ∷ g ∷ h ∷ l ∷ []) form e =
     let ng = bind_ok (number_of ns Point g) (λ ng. number_of ns Point h >>= λ nh. number_of ns Line l >>= λ nl. read_ok (superpose na.0 nb.0 nc.0 nd.0 ng nh nk.0 nl)) form nd.2 in
     let nh = bind_ok (number_of ns Point h) (λ nh. number_of ns Line l >>= λ nl. read_ok (superpose na.0 nb.0 nc.0 nd.0 ng.0 nh nk.0 nl)) form ng.2 in
     let nl = bind_ok (number_of ns Line l) (λ nl. read_ok (superpose na.0 nb.0 nc.0 nd.0 ng.0 nh.0 nk.0 nl)) form nh.2 in
+    record {
+      na = na.0;
+      nb = nb.0;
+      nc = nc.0;
+      nk = nk.0;
+      nd = nd.0;
+      ng = ng.0;
+      nh = nh.0;
+      nl = nl.0;
+      a_is = na.1;
+      b_is = nb.1;
+      c_is = nc.1;
+      k_is = nk.1;
+      d_is = nd.1;
+      g_is = ng.1;
+      h_is = nh.1;
+      l_is = nl.1;
+      form_is = ok_is (superpose na.0 nb.0 nc.0 nd.0 ng.0 nh.0 nk.0 nl.0) form nl.2;
+    }
+
+placed_fits : (ns : Names) (args : List (List ℕ)) (form : Superpose) → placed_in ns args ≡ Ok form → superposing.fits form (scope_of_names ns) ≡ true
+unfolding placed_in
+placed_fits ns (a ∷ b ∷ c ∷ k ∷ d ∷ g ∷ h ∷ l ∷ []) form e =
+    let p = placed_behind ns a b c k d g h l form e in
     let point : (name : List ℕ) (n : ℕ) → number_of ns Point name ≡ Ok n → ltb n (length ns.points) ≡ true = λ name n i. number_in_scope ns Point name n i in
     let line : (name : List ℕ) (n : ℕ) → number_of ns Line name ≡ Ok n → ltb n (length ns.lines) ≡ true = λ name n i. number_in_scope ns Line name n i in
-    subst (λ (x : Superpose). superposing.fits x (scope_of_names ns) ≡ true) (ok_is (superpose na.0 nb.0 nc.0 nd.0 ng.0 nh.0 nk.0 nl.0) form nl.2)
-    (and _ _ (point a na.0 na.1) (and _ _ (point b nb.0 nb.1) (and _ _ (point c nc.0 nc.1) (and _ _ (point d nd.0 nd.1)
-    (and _ _ (point g ng.0 ng.1) (and _ _ (point h nh.0 nh.1) (and _ _ (line k nk.0 nk.1) (and _ _ (line l nl.0 nl.1) refl))))))))
+    subst (λ (x : Superpose). superposing.fits x (scope_of_names ns) ≡ true) p.form_is
+    (and _ _ (point a p.na p.a_is) (and _ _ (point b p.nb p.b_is) (and _ _ (point c p.nc p.c_is) (and _ _ (point d p.nd p.d_is)
+    (and _ _ (point g p.ng p.g_is) (and _ _ (point h p.nh p.h_is) (and _ _ (line k p.nk p.k_is) (and _ _ (line l p.nl p.l_is) refl))))))))
 placed_fits ns args form e = absurd cc
 
 -- it fits, its new names are free, and its literals have the names of objects around it

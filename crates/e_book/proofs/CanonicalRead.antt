@@ -27,7 +27,7 @@ use Rattle.e_book.specs.Entry.{Entry, entry_of_draft}
 use Rattle.e_book.specs.Fits.{few_facts, few_terms}
 use Rattle.e_book.specs.Book.{line_step, is_done, read_from}
 use Rattle.e_book.specs.Fits.{count_monomials}
-use Rattle.e_book.specs.Canonical.{form_words, line_of, given_form, show_form, declare_form, made_form, grouped, declared_objects, made_objects, head_forms, script_forms, names_of_proof, forms_of}
+use Rattle.e_book.specs.Canonical.{form_words, line_of, given_form, show_form, declare_form, made_form, grouped, declared_objects, made_objects, given_forms, shown_forms, head_forms, script_forms, names_of_proof, forms_of}
 use Rattle.e_book.specs.HasSpelling.{HasSpelling}
 use Rattle.e_book.specs.Laws.{Shows}
 use Rattle.e_book.proofs.Differ.{both}
@@ -47,25 +47,30 @@ use Rattle.e_book.proofs.ScriptRead.{Taken, run_script}
 -- ---- the statement
 
 -- given literals are spelled with the names of the declared objects alone
-pub given_forms_of : (s : Scope) (ns : Names) (ls : List Lit) → list_all (all_in_scope s) ls ≡ true → map (given_form (first_names s ns)) ls ≡ map (given_form ns) ls
+given_forms_of : (s : Scope) (ns : Names) (ls : List Lit) → list_all (all_in_scope s) ls ≡ true → map (given_form (first_names s ns)) ls ≡ map (given_form ns) ls
 given_forms_of s ns [] h = refl
 given_forms_of s ns (l ∷ ls) h =
     let p = both (all_in_scope s l) (list_all (all_in_scope s) ls) h in
     rw (lit_of_first s ns l p.0, given_forms_of s ns ls p.1) refl
 
 -- the draft behind the word proof
-abbrev started : Entry → Draft
+abbrev pub started : Entry → Draft
 started t = showing t.title t.names t.statement.declared t.statement.given t.statement.made t.statement.shown
 
-abbrev begins : Entry → Inside
+abbrev pub begins : Entry → Inside
 begins t = record { outers = []; in_scope = names_of_proof t; steps = []; lines = 0; facts = length t.statement.given; terms = count_monomials t.statement.given }
 
-pub run_proof : (known : List Headed) (t : Entry) → Runs known (Some (started t)) (forms.Proof ∷ []) (Some (proving (started t) (begins t)))
+run_proof : (known : List Headed) (t : Entry) → Runs known (Some (started t)) (forms.Proof ∷ []) (Some (proving (started t) (begins t)))
 unfolding step stepped
 run_proof known t = (proving (started t) (begins t), tt, refl, refl, refl)
 
-run_head : (known : List Headed) (t : Entry) → HasSpelling known t → InOrder t.names → Runs known None (head_forms t) (Some (proving (started t) (begins t)))
-run_head known t h o =
+-- the lines behind the title
+abbrev pub stating_forms : Entry → List Form
+stating_forms t = given_forms t.names t.statement ++ (shown_forms t.names t.statement ++ forms.Proof ∷ [])
+
+-- the lines of the statement lead from the title to the draft that begins the proof
+pub run_statement : (known : List Headed) (t : Entry) → HasSpelling known t → InOrder t.names → Runs known (Some (begun t.title)) (stating_forms t) (Some (proving (started t) (begins t)))
+run_statement known t h o =
     let ns = t.names in
     let st = t.statement in
     let s : Scope = scope_of (stated t.statement) in
@@ -93,8 +98,11 @@ run_head known t h o =
     let run_shown : Runs known made (map (show_form ns) st.shown) (Some (started t)) = run_all_shown known t.title ns st.declared st.given st.made st.shown o (record { within = h.fits.shown; good = h.fits.good_shown }) h.some_shown in
     let stating : Runs known titled f1 given = runs_append known titled declared given (map declare_form (grouped ns (declared_objects st))) (map (given_form ns) st.given) run_declared run_given in
     let showing : Runs known given f3 (Some (started t)) = runs_append known given made (Some (started t)) (map made_form (grouped ns (made_objects st))) (map (show_form ns) st.shown) run_made run_shown in
-    runs_append known None titled end (forms.Theorem t.title ∷ []) (f1 ++ f2) (run_title known t.title h.title h.fits.new h.few_theorems)
-    (runs_append known titled given end f1 f2 stating (runs_append known given (Some (started t)) end f3 f4 showing (run_proof known t)))
+    runs_append known titled given end f1 f2 stating (runs_append known given (Some (started t)) end f3 f4 showing (run_proof known t))
+
+run_head : (known : List Headed) (t : Entry) → HasSpelling known t → InOrder t.names → Runs known None (head_forms t) (Some (proving (started t) (begins t)))
+run_head known t h o =
+    runs_append known None (Some (begun t.title)) (Some (proving (started t) (begins t))) (forms.Theorem t.title ∷ []) (stating_forms t) (run_title known t.title h.title h.fits.new h.few_theorems) (run_statement known t h o)
 
 -- ---- the proof
 

@@ -82,13 +82,13 @@ length-filled (Word w ∷ ps) new args ln la = let e = length-filled ps new args
 -- ---- which lines have these words
 
 -- a piece that may stand for another one: a name for a name, and a word for itself
-abbrev like : Piece → Piece → Bool
+abbrev pub like : Piece → Piece → Bool
 like (Word v) (Word w) = bytes_eq w v
 like (Word v) q = false
 like p (Word w) = false
 like p q = true
 
-abbrev similar : List Piece → List Piece → Bool
+abbrev pub similar : List Piece → List Piece → Bool
 similar [] [] = true
 similar (p ∷ ps) (q ∷ qs) = like p q && similar ps qs
 similar ps qs = false
