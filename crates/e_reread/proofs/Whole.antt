@@ -2,7 +2,6 @@
 use Rattle.std.proofs.Common.{◌≡◌, ℕ, true, false, List, [], ◌∷◌, ◌++◌, length, map, Option, Some, None, Result, Ok, Err, refl, sym, ap, subst, ◌∙◌, arith, append_assoc}
 use Rattle.std.specs.List.{list_all}
 use Rattle.std.proofs.lemmas.List.{append-nil}
-use Rattle.e_book.proofs.CanonicalRead.{given_forms_of, run_proof}
 use Rattle.e_text.specs.Tokens.{tokens_of}
 use Rattle.e_text.specs.Lines.{Seen}
 use Rattle.e_text.specs.declared.line.LineEnd.{LineEnd}
@@ -10,17 +9,12 @@ use Rattle.e_text.specs.declared.line.LineEnd.TheVariants.{Lf}
 use Rattle.e_text.specs.declared.line.LineFault.{LineFault}
 use Rattle.e_literal.specs.declared.object.Scope.{Scope}
 use Rattle.e_literal.specs.declared.literal.Lit.{Lit}
-use Rattle.e_literal.specs.Literal.{all_in_scope}
-use Rattle.e_literal.specs.Scopes.{nothing, grown}
 use Rattle.e_literal.specs.Use.{scope_of}
 use Rattle.e_theorem.specs.Statements.{stated}
-use Rattle.e_deriv.specs.declared.names.Names.{Names}
-use Rattle.e_deriv.specs.Naming.{first_names}
 use Rattle.e_deriv.specs.Script.{Script, erased}
 use Rattle.e_deriv.specs.Goal.{Goal, goal_of_statement, facts_of_statement}
 use Rattle.e_deriv.specs.Lines.{lines}
 use Rattle.e_deriv.specs.Certified.{is_certified}
-use Rattle.e_book.specs.declared.form.Form.{Form}
 use Rattle.e_book.specs.declared.form.Form.TheVariants as forms
 use Rattle.e_book.specs.declared.draft.Place.TheVariants.{Closed, Done}
 use Rattle.e_book.specs.declared.draft.Draft.{Draft}
@@ -30,20 +24,19 @@ use Rattle.e_book.specs.Steps.{begin, begun, closed, stepped, step}
 use Rattle.e_book.specs.Entry.{Entry}
 use Rattle.e_book.specs.Fits.{few_facts, few_terms, count_monomials}
 use Rattle.e_book.specs.Book.{is_done}
-use Rattle.e_book.specs.Canonical.{line_of, given_form, show_form, declare_form, made_form, grouped, declared_objects, made_objects, given_forms, shown_forms, end_form, names_of_proof}
+use Rattle.e_book.specs.Canonical.{line_of, end_form, names_of_proof}
 use Rattle.e_book.specs.HasSpelling.{HasSpelling}
-use Rattle.e_book.proofs.Differ.{both}
 use Rattle.e_book.proofs.LineWords.{words_again}
 use Rattle.e_book.proofs.Lookups.{InOrder, in_order}
-use Rattle.e_book.proofs.Declared.{Runs, runs_append, Few, run_from, all_first}
 use Rattle.e_book.proofs.Building.{sorts_again, declared_scope}
-use Rattle.e_book.proofs.Growing.{first_in_order, lit_of_first}
-use Rattle.e_book.proofs.PlainLits.{Plain}
+use Rattle.e_book.proofs.Growing.{first_in_order}
 use Rattle.e_book.proofs.FittingScripts.{line_fits}
-use Rattle.e_book.proofs.HeadRead.{declaring, declared_lines, given_draft, making, made_lines, showing, run_title, run_all_given, run_all_shown}
+use Rattle.e_book.proofs.HeadRead.{run_title}
 use Rattle.e_book.proofs.LinesRead.{Inside, proving}
 use Rattle.e_book.proofs.ScriptParts.{steps_of, close_of, same_script}
 use Rattle.e_book.proofs.ScriptRead.{Ready}
+pub use Rattle.e_book.proofs.CanonicalRead.{started, begins}
+use Rattle.e_book.proofs.CanonicalRead.{stating_forms, run_statement}
 use Rattle.e_read.specs.declared.owed.Due.TheVariants as due
 use Rattle.e_read.specs.declared.kept.Kept.{Kept}
 use Rattle.e_read.specs.declared.reading.Reading.{Reading}
@@ -58,50 +51,6 @@ use Rattle.e_reread.proofs.LinesTaken.{strict_form_again, no_bar, AllTaken, Stan
 use Rattle.e_reread.proofs.Standing.{Stood}
 use Rattle.e_reread.proofs.ScriptAlong.{script_spelled}
 use Rattle.e_reread.proofs.HeadAlong.{draft_is, head_along, statement_heads}
-
--- ---- the statement
-
--- the draft behind the word proof
-abbrev pub started : Entry → Draft
-started t = showing t.title t.names t.statement.declared t.statement.given t.statement.made t.statement.shown
-
-abbrev pub begins : Entry → Inside
-begins t = record { outers = []; in_scope = names_of_proof t; steps = []; lines = 0; facts = length t.statement.given; terms = count_monomials t.statement.given }
-
--- the lines behind the title
-abbrev stating_forms : Entry → List Form
-stating_forms t = given_forms t.names t.statement ++ (shown_forms t.names t.statement ++ forms.Proof ∷ [])
-
-run_statement : (known : List Headed) (t : Entry) → HasSpelling known t → InOrder t.names → Runs known (Some (begun t.title)) (stating_forms t) (Some (proving (started t) (begins t)))
-run_statement known t h o =
-    let ns = t.names in
-    let st = t.statement in
-    let s : Scope = scope_of (stated t.statement) in
-    let dn = first_names s ns in
-    let few : Few ns = record { points = h.fits.points; lines = h.fits.lines; circles = h.fits.circles } in
-    let end : Option Draft = Some (proving (started t) (begins t)) in
-    let titled : Option Draft = Some (begun t.title) in
-    let declared : Option Draft = Some (declaring t.title dn st.declared) in
-    let given : Option Draft = Some (given_draft t.title dn st.declared st.given) in
-    let made : Option Draft = Some (making t.title st.declared st.given ns st.made) in
-    let f4 : List Form = forms.Proof ∷ [] in
-    let f3 : List Form = map made_form (grouped ns (made_objects st)) ++ map (show_form ns) st.shown in
-    let f2 : List Form = f3 ++ f4 in
-    let f1 : List Form = map declare_form (grouped ns (declared_objects st)) ++ map (given_form ns) st.given in
-    let run_declared : Runs known titled (map declare_form (grouped ns (declared_objects st))) declared =
-    run_from known forms.Declare (declaring t.title) (declared_lines known t.title) ns nothing [] st.declared st.made o few h.fits.scope in
-    let plain : Plain dn st.given = record { within = subst (λ (z : Scope). list_all (all_in_scope z) st.given ≡ true) (sym (declared_scope (stated st) ns h.fits.scope)) h.fits.given; good = h.fits.good_given } in
-    let run_given : Runs known declared (map (given_form ns) st.given) given =
-    subst (λ (fs : List Form). Runs known declared fs given) (given_forms_of s ns st.given h.fits.given)
-    (run_all_given known t.title dn st.declared st.given (first_in_order s ns o) plain h.fits.given_facts h.fits.given_terms) in
-    let whole : first_names (grown s st.made) ns ≡ ns = ap (λ (z : Scope). first_names z ns) h.fits.scope ∙ all_first ns in
-    let run_made : Runs known given (map made_form (grouped ns (made_objects st))) made =
-    subst (λ (m : Names). Runs known given (map made_form (grouped ns (made_objects st))) (Some (making t.title st.declared st.given m st.made))) whole
-    (run_from known forms.Made (making t.title st.declared st.given) (made_lines known t.title st.declared st.given) ns s [] st.made [] o few h.fits.scope) in
-    let run_shown : Runs known made (map (show_form ns) st.shown) (Some (started t)) = run_all_shown known t.title ns st.declared st.given st.made st.shown o (record { within = h.fits.shown; good = h.fits.good_shown }) h.some_shown in
-    let stating : Runs known titled f1 given = runs_append known titled declared given (map declare_form (grouped ns (declared_objects st))) (map (given_form ns) st.given) run_declared run_given in
-    let showing : Runs known given f3 (Some (started t)) = runs_append known given made (Some (started t)) (map made_form (grouped ns (made_objects st))) (map (show_form ns) st.shown) run_made run_shown in
-    runs_append known titled given end f1 f2 stating (runs_append known given (Some (started t)) end f3 f4 showing (run_proof known t))
 
 -- ---- the proof
 

@@ -28,12 +28,13 @@ use Rattle.e_book.specs.declared.form.Form.TheVariants as forms
 use Rattle.e_book.specs.Reading.{◌>>=◌, each}
 use Rattle.e_book.specs.Headed.{Headed, theorem_of, place_in}
 use Rattle.e_book.specs.Literals.{is_diagram_raw}
-use Rattle.e_book.specs.Superposes.{superpose, placed_in, superpose_in}
-use Rattle.e_book.specs.Scope.{scope_of_names, used, number_of, fresh, lit_in, lits_in, object_as, known_rule, variables_of, right_count, args_in, by_in, right_sort, arguments_in, construction, first_fitting, let_in, objects_of_sorts, qed_in}
+use Rattle.e_book.specs.Superposes.{placed_in, superpose_in}
+use Rattle.e_book.specs.Scope.{scope_of_names, used, fresh, lit_in, lits_in, object_as, known_rule, variables_of, right_count, args_in, by_in, right_sort, arguments_in, construction, first_fitting, let_in, objects_of_sorts, qed_in}
 use Rattle.e_book.specs.Applies.{known_place, entry_in, entries_in, apply_in}
 use Rattle.e_book.specs.Canonical.{name_of_object, line_pieces, filled, avoid_words, line_of, placed_names, by_form, hence_form, let_form, argument_name, apply_form, claim_form, superpose_form, cases_form, qed_form}
 use Rattle.e_book.proofs.Citations.{counted}
 use Rattle.e_book.proofs.InScope.{bind_ok, ok_is, read_ok}
+use Rattle.e_book.proofs.Building.{placed_behind}
 use Rattle.e_book.proofs.Uses.{found_title}
 use Rattle.e_read.specs.Strict.{is_direct, are_direct}
 use Rattle.e_respell.proofs.NamesSpelled.{keeps_all, used_named, number_named, object_named}
@@ -171,18 +172,11 @@ eight a b c d e f g h i j k l m n o p x1 x2 x3 x4 x5 x6 x7 x8 = cc
 placed_named : (ns : Names) (args : List (List ℕ)) (form : Superpose) → placed_in ns args ≡ Ok form → placed_names ns form ≡ args
 unfolding placed_in
 placed_named ns (a ∷ b ∷ c ∷ k ∷ d ∷ g ∷ h ∷ l ∷ []) form e =
-    let na = bind_ok (number_of ns Point a) (λ na. number_of ns Point b >>= λ nb. number_of ns Point c >>= λ nc. number_of ns Line k >>= λ nk. number_of ns Point d >>= λ nd. number_of ns Point g >>= λ ng. number_of ns Point h >>= λ nh. number_of ns Line l >>= λ nl. read_ok (superpose na nb nc nd ng nh nk nl)) form e in
-    let nb = bind_ok (number_of ns Point b) (λ nb. number_of ns Point c >>= λ nc. number_of ns Line k >>= λ nk. number_of ns Point d >>= λ nd. number_of ns Point g >>= λ ng. number_of ns Point h >>= λ nh. number_of ns Line l >>= λ nl. read_ok (superpose na.0 nb nc nd ng nh nk nl)) form na.2 in
-    let nc = bind_ok (number_of ns Point c) (λ nc. number_of ns Line k >>= λ nk. number_of ns Point d >>= λ nd. number_of ns Point g >>= λ ng. number_of ns Point h >>= λ nh. number_of ns Line l >>= λ nl. read_ok (superpose na.0 nb.0 nc nd ng nh nk nl)) form nb.2 in
-    let nk = bind_ok (number_of ns Line k) (λ nk. number_of ns Point d >>= λ nd. number_of ns Point g >>= λ ng. number_of ns Point h >>= λ nh. number_of ns Line l >>= λ nl. read_ok (superpose na.0 nb.0 nc.0 nd ng nh nk nl)) form nc.2 in
-    let nd = bind_ok (number_of ns Point d) (λ nd. number_of ns Point g >>= λ ng. number_of ns Point h >>= λ nh. number_of ns Line l >>= λ nl. read_ok (superpose na.0 nb.0 nc.0 nd ng nh nk.0 nl)) form nk.2 in
-    let ng = bind_ok (number_of ns Point g) (λ ng. number_of ns Point h >>= λ nh. number_of ns Line l >>= λ nl. read_ok (superpose na.0 nb.0 nc.0 nd.0 ng nh nk.0 nl)) form nd.2 in
-    let nh = bind_ok (number_of ns Point h) (λ nh. number_of ns Line l >>= λ nl. read_ok (superpose na.0 nb.0 nc.0 nd.0 ng.0 nh nk.0 nl)) form ng.2 in
-    let nl = bind_ok (number_of ns Line l) (λ nl. read_ok (superpose na.0 nb.0 nc.0 nd.0 ng.0 nh.0 nk.0 nl)) form nh.2 in
+    let p = placed_behind ns a b c k d g h l form e in
     let keeps = keeps_all ns in
-    ap (placed_names ns) (sym (ok_is (superpose na.0 nb.0 nc.0 nd.0 ng.0 nh.0 nk.0 nl.0) form nl.2))
-    ∙ eight _ _ _ _ _ _ _ _ a b c k d g h l (number_named ns ns Point a na.0 keeps na.1) (number_named ns ns Point b nb.0 keeps nb.1) (number_named ns ns Point c nc.0 keeps nc.1) (number_named ns ns Line k nk.0 keeps nk.1)
-    (number_named ns ns Point d nd.0 keeps nd.1) (number_named ns ns Point g ng.0 keeps ng.1) (number_named ns ns Point h nh.0 keeps nh.1) (number_named ns ns Line l nl.0 keeps nl.1)
+    ap (placed_names ns) (sym p.form_is)
+    ∙ eight _ _ _ _ _ _ _ _ a b c k d g h l (number_named ns ns Point a p.na keeps p.a_is) (number_named ns ns Point b p.nb keeps p.b_is) (number_named ns ns Point c p.nc keeps p.c_is) (number_named ns ns Line k p.nk keeps p.k_is)
+    (number_named ns ns Point d p.nd keeps p.d_is) (number_named ns ns Point g p.ng keeps p.g_is) (number_named ns ns Point h p.nh keeps p.h_is) (number_named ns ns Line l p.nl keeps p.l_is)
 placed_named ns args form e = absurd cc
 
 pub superpose_spelled : (ns : Names) (raw : RawSuperpose) (p : Superpose × List Lit) → are_direct raw.shown ≡ true → AllSigned raw.shown → superpose_in ns raw ≡ Ok p → superpose_form ns p.0 raw.new p.1 ≡ forms.Superpose raw

@@ -14,21 +14,9 @@ use Rattle.e_book.specs.Lets.{are_words_of, new_words, argument_words, is_line_o
 use Rattle.e_book.specs.Canonical.{line_pieces}
 use Rattle.e_book.proofs.Differ.{both}
 use Rattle.e_book.proofs.InScope.{bind_ok, ok_is, read_ok}
-use Rattle.e_book.proofs.Pieces.{is_own_word, own_words, own_words_of}
+use Rattle.e_book.proofs.Pieces.{is_own_word, own_words, own_words_of, similar}
 
 -- ---- pieces that have words in common
-
--- pieces that have a word in common: names, or one word
-abbrev like : Piece → Piece → Bool
-like (Word v) (Word w) = bytes_eq v w
-like (Word v) q = false
-like p (Word w) = false
-like p q = true
-
-abbrev similar : List Piece → List Piece → Bool
-similar [] [] = true
-similar (p ∷ ps) (q ∷ qs) = like p q && similar ps qs
-similar ps qs = false
 
 -- the same piece
 abbrev same : Piece → Piece → Bool
@@ -73,7 +61,7 @@ shared (Word u ∷ ps) (Word v ∷ qs) (w ∷ ws) hp hq p q =
     let b = both (bytes_eq w v) (are_words_of qs ws) q in
     let c = both (is_own_word u) (own_words ps) hp in
     let d = both (is_own_word v) (own_words qs) hq in
-    rw (one_word w u v a.0 b.0, shared ps qs ws c.1 d.1 a.1 b.1) refl
+    rw (one_word w v u b.0 a.0, shared ps qs ws c.1 d.1 a.1 b.1) refl
 
 pieces_same : (ps qs : List Piece) → all_same ps qs ≡ true → ps ≡ qs
 pieces_same [] [] h = refl
