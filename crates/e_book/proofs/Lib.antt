@@ -8,6 +8,8 @@ pub mod Arguments
 pub mod Entries
 pub mod SideBySide
 pub mod InScope
+pub mod Choices
+pub mod LitsByWord
 pub mod SaidLits
 pub mod Answered
 pub mod Citations
@@ -53,6 +55,7 @@ pub mod LinesRead
 pub mod ScriptParts
 pub mod ScriptRead
 pub mod CanonicalRead
+pub mod FormsByWord
 pub mod SaidForms
 pub mod ReadSpelled
 mod Checks

@@ -1,8 +1,7 @@
 -- What the forms of lines are known to be, and the literals that their names resolve to.
-use Rattle.std.proofs.Common.{◌≡◌, ℕ, ◌+◌, ◌<◌, Bool, true, false, cond, eqb, List, [], ◌∷◌, length, take, drop, Option, Some, None, Result, Ok, Err, refl, subst, ◌∙◌, arith}
+use Rattle.std.proofs.Common.{◌≡◌, ℕ, ◌+◌, ◌<◌, Bool, true, false, cond, eqb, List, [], ◌∷◌, length, take, drop, Option, Some, None, Result, Ok, refl, subst, ◌∙◌, arith}
 use Rattle.std.specs.Prelude.{codes}
 use Rattle.std.specs.List.{slice_split}
-use Rattle.std.specs.Str.{bytes_eq}
 use Rattle.std.proofs.lemmas.List.Splits.{length-slice_split}
 use Rattle.e_text.specs.Names.{is_name, is_title, name_of, title_of}
 use Rattle.e_literal.specs.declared.object.Sort.{Sort}
@@ -17,7 +16,6 @@ use Rattle.e_construct.specs.declared.construction.Shape.{Shape}
 use Rattle.e_construct.specs.Lines.{Piece, pieces}
 use Rattle.e_deriv.specs.declared.names.Names.{Names}
 use Rattle.e_book.specs.declared.fault.Kind.{Kind}
-use Rattle.e_book.specs.declared.fault.Kind.TheVariants.{Malformed}
 use Rattle.e_book.specs.declared.literal.RawLit.{RawLit}
 use Rattle.e_book.specs.declared.literal.RawAtom.{RawAtom}
 use Rattle.e_book.specs.declared.literal.RawAtom.TheVariants as raw
@@ -25,18 +23,20 @@ use Rattle.e_book.specs.declared.lets.RawLet.{RawLet}
 use Rattle.e_book.specs.declared.superposes.RawSuperpose.{RawSuperpose}
 use Rattle.e_book.specs.declared.form.Form.{Form}
 use Rattle.e_book.specs.declared.form.Form.TheVariants as forms
-use Rattle.e_book.specs.Reading.{◌>>=◌, or_malformed, word_at, title_at, end_at, cut_at, names_of, not_empty, some_names}
-use Rattle.e_book.specs.Literals.{lit_of, is_diagram_raw, diagram_lit_of, is_semicolon, lits_of}
+use Rattle.e_book.specs.Reading.{◌>>=◌, or_malformed, word_at, title_at, cut_at, names_of, not_empty, some_names}
+use Rattle.e_book.specs.Literals.{lit_of, is_diagram_raw, is_semicolon, lits_of}
 use Rattle.e_book.specs.Superposes.{superpose_pieces, head_of, superpose_of}
 use Rattle.e_book.specs.Lets.{is_word_of, are_words_of, is_place, words_at, new_words, argument_words, shapes_of, avoided_of, let_named, let_of}
 use Rattle.e_book.specs.declared.applies.RawApply.{RawApply}
 use Rattle.e_book.specs.Applies.{arguments_of, made_names as names_behind_as, apply_of}
-use Rattle.e_book.specs.Forms.{declare_of, sort_of, made_of, by_of, theorem_of, bare, form_named, form_of}
+use Rattle.e_book.specs.Forms.{form_of}
 use Rattle.e_book.specs.Scope.{used, number_of, on_sort, line_meets, meets_from, equal_at, atom_in, negated_in, lit_in, args_in, by_in, known_rule, variables_of, right_count}
 use Rattle.e_book.specs.Fits.{is_diagram_atom, is_diagram_lit}
 use Rattle.e_book.specs.HasSpelling.{AreNames}
 use Rattle.e_book.proofs.Differ.{both}
 use Rattle.e_book.proofs.InScope.{bind_ok, ok_is, read_ok, each_length}
+use Rattle.e_book.proofs.Choices.{passed}
+use Rattle.e_book.proofs.FormsByWord.{OfEachForm, form_by_word}
 use Rattle.e_book.proofs.SaidLits.{AtomSaid, LitsSaid, lit_said, lits_said, diagram_said}
 
 -- ---- forms
@@ -92,27 +92,6 @@ some_names_said ws ns e =
     let a = bind_ok (names_of ws) (λ ns. not_empty ns) ns e in
     not_empty_said a.0 ns (names_said ws a.0 a.1) a.2
 
-theorem_said : (ws : List (List ℕ)) (f : Form) → theorem_of ws ≡ Ok f → Said f
-unfolding theorem_of
-theorem_said ws f e =
-    let a = bind_ok (title_at ws) (λ t. end_at t.1 >>= λ none. read_ok (forms.Theorem t.0)) f e in
-    let b = bind_ok (end_at a.0.1) (λ none. read_ok (forms.Theorem a.0.0)) f a.2 in
-    subst Said (ok_is (forms.Theorem a.0.0) f b.2) (title_said ws a.0 a.1)
-
-declare_said : (sort : Sort) (ws : List (List ℕ)) (f : Form) → declare_of sort ws ≡ Ok f → Said f
-unfolding declare_of
-declare_said sort ws f e =
-    let a = bind_ok (some_names ws) (λ ns. read_ok (forms.Declare sort ns)) f e in
-    subst Said (ok_is (forms.Declare sort a.0) f a.2) (some_names_said ws a.0 a.1)
-
-made_said : (ws : List (List ℕ)) (f : Form) → made_of ws ≡ Ok f → Said f
-unfolding made_of
-made_said ws f e =
-    let w = bind_ok (word_at ws) (λ w. sort_of w.0 >>= λ sort. some_names w.1 >>= λ ns. read_ok (forms.Made sort ns)) f e in
-    let s = bind_ok (sort_of w.0.0) (λ sort. some_names w.0.1 >>= λ ns. read_ok (forms.Made sort ns)) f w.2 in
-    let a = bind_ok (some_names w.0.1) (λ ns. read_ok (forms.Made s.0 ns)) f s.2 in
-    subst Said (ok_is (forms.Made s.0 a.0) f a.2) (some_names_said w.0.1 a.0 a.1)
-
 let_named_said : (shapes : List Shape) (words avoid : List (List ℕ)) (l : RawLet) → let_named shapes words avoid ≡ Ok l → AreNames l.new
 unfolding let_named
 let_named_said [] words avoid l e = absurd cc
@@ -122,22 +101,21 @@ let_named_said (s ∷ ss) words avoid l e =
     let b = bind_ok (names_of (argument_words (pieces s) words)) (λ args. read_ok (made a.0 args)) l a.2 in
     subst (λ (x : RawLet). AreNames x.new) (ok_is (made a.0 b.0) l b.2) (names_said (new_words (pieces s) words) a.0 a.1)
 
-let_said : (ws : List (List ℕ)) (f : Form) → (let_of ws >>= λ l. read_ok (forms.Let l)) ≡ Ok f → Said f
+let_said : (ws : List (List ℕ)) (l : RawLet) → let_of ws ≡ Ok l → AreNames l.new
 unfolding let_of
-let_said ws f e =
+let_said ws l e =
     let parts = cut_at (codes "avoid") ws in
     let rest : List (List ℕ) → Result RawLet Kind = λ avoid. let_named (shapes_of parts.2 parts.0) parts.0 avoid in
-    let a = bind_ok (avoided_of parts.2 parts.1 >>= rest) (λ l. read_ok (forms.Let l)) f e in
-    let b = bind_ok (avoided_of parts.2 parts.1) rest a.0 a.1 in
-    subst Said (ok_is (forms.Let a.0) f a.2) (let_named_said (shapes_of parts.2 parts.0) parts.0 b.0 a.0 b.2)
+    let b = bind_ok (avoided_of parts.2 parts.1) rest l e in
+    let_named_said (shapes_of parts.2 parts.0) parts.0 b.0 l b.2
 
 behind_as_said : (b : Bool) (ws ns : List (List ℕ)) → names_behind_as b ws ≡ Ok ns → AreNames ns
 behind_as_said false ws ns e = subst AreNames (ok_is [] ns e) tt
 behind_as_said true ws ns e = some_names_said ws ns e
 
-apply_of_said : (ws : List (List ℕ)) (a : RawApply) → apply_of ws ≡ Ok a → (is_title a.title ≡ true) × AreNames a.new
+apply_said : (ws : List (List ℕ)) (a : RawApply) → apply_of ws ≡ Ok a → (is_title a.title ≡ true) × AreNames a.new
 unfolding apply_of
-apply_of_said ws a e =
+apply_said ws a e =
     let made : List ℕ → List (Option (List ℕ)) → List (List ℕ) → RawApply = λ t args new. record { title = t; args = args; new = new } in
     let rest : List ℕ × List (List ℕ) → Result RawApply Kind = λ t. arguments_of (cut_at (codes "as") t.1).0 >>= λ args. names_behind_as (cut_at (codes "as") t.1).2 (cut_at (codes "as") t.1).1 >>= λ new. read_ok (made t.0 args new) in
     let t = bind_ok (title_at ws) rest a e in
@@ -147,40 +125,10 @@ apply_of_said ws a e =
     subst (λ (x : RawApply). (is_title x.title ≡ true) × AreNames x.new) (ok_is (made t.0.0 args.0 new.0) a new.2)
     (title_said ws t.0 t.1, behind_as_said parts.2 parts.1 new.0 new.1)
 
-apply_said : (ws : List (List ℕ)) (f : Form) → (apply_of ws >>= λ a. read_ok (forms.Apply a)) ≡ Ok f → Said f
-apply_said ws f e = let a = bind_ok (apply_of ws) (λ a. read_ok (forms.Apply a)) f e in subst Said (ok_is (forms.Apply a.0) f a.2) (apply_of_said ws a.0 a.1)
-
-qed_said : (ws : List (List ℕ)) (f : Form) → (names_of ws >>= λ ns. read_ok (forms.Qed ns)) ≡ Ok f → Said f
-qed_said ws f e = let a = bind_ok (names_of ws) (λ ns. read_ok (forms.Qed ns)) f e in subst Said (ok_is (forms.Qed a.0) f a.2) tt
-
-given_said : (ws : List (List ℕ)) (f : Form) → (lits_of ws >>= λ ls. read_ok (forms.Given ls)) ≡ Ok f → Said f
-given_said ws f e = let a = bind_ok (lits_of ws) (λ ls. read_ok (forms.Given ls)) f e in subst Said (ok_is (forms.Given a.0) f a.2) (lits_said ws a.0 a.1)
-
 some_lits_said : (ws : List (List ℕ)) (ls : List RawLit) → lits_of ws ≡ Ok ls → (0 < length ls) × LitsSaid ls
 some_lits_said ws ls e =
     let n = each_length lit_of (slice_split is_semicolon ws) ls e in
     (omega (arith, n, length-slice_split is_semicolon ws), lits_said ws ls e)
-
-show_said : (ws : List (List ℕ)) (f : Form) → (lits_of ws >>= λ ls. read_ok (forms.Show ls)) ≡ Ok f → Said f
-show_said ws f e =
-    let a = bind_ok (lits_of ws) (λ ls. read_ok (forms.Show ls)) f e in
-    subst Said (ok_is (forms.Show a.0) f a.2) (some_lits_said ws a.0 a.1)
-
-claim_said : (ws : List (List ℕ)) (f : Form) → (lits_of ws >>= λ ls. read_ok (forms.Claim ls)) ≡ Ok f → Said f
-claim_said ws f e =
-    let a = bind_ok (lits_of ws) (λ ls. read_ok (forms.Claim ls)) f e in
-    subst Said (ok_is (forms.Claim a.0) f a.2) (some_lits_said ws a.0 a.1)
-
-cases_said : (ws : List (List ℕ)) (f : Form) → (lit_of ws >>= λ l. read_ok (forms.Cases l)) ≡ Ok f → Said f
-cases_said ws f e = let a = bind_ok (lit_of ws) (λ l. read_ok (forms.Cases l)) f e in subst Said (ok_is (forms.Cases a.0) f a.2) (lit_said ws a.0 a.1)
-
-bare_said : (ws : List (List ℕ)) (g f : Form) → Said g → bare ws g ≡ Ok f → Said f
-unfolding bare
-bare_said ws g f h e = let a = bind_ok (end_at ws) (λ none. read_ok g) f e in subst Said (ok_is g f a.2) h
-
-found : {A : Type 0} (b : Bool) (x : Result A Kind) (y : A) → cond b x (Err Malformed) ≡ Ok y → x ≡ Ok y
-found true x y e = e
-found false x y e = absurd cc
 
 -- how many words a line has for the pieces of a kind
 abbrev places : Bool → List Piece → ℕ
@@ -198,17 +146,13 @@ words_count new (p ∷ ps) [] h = absurd cc
 words_count new (p ∷ ps) (w ∷ ws) h =
     place_taken (is_place new p) w (words_at new ps ws) (places new ps) (words_count new ps ws (both (is_word_of p w) (are_words_of ps ws) h).1)
 
-raw_found : (b : Bool) (x : Result RawSuperpose Kind) (s : RawSuperpose) → cond b x (Err Malformed) ≡ Ok s → (b ≡ true) × (x ≡ Ok s)
-raw_found true x s e = (refl, e)
-raw_found false x s e = absurd cc
-
 head_said : (head rest : List (List ℕ)) (s : RawSuperpose) → head_of head rest ≡ Ok s → Said (forms.Superpose s)
 unfolding head_of
 head_said head rest s e =
     let made : List (List ℕ) → List (List ℕ) → List RawLit → RawSuperpose = λ new args ls. record { args = args; new = new; shown = ls } in
     let news = new_words superpose_pieces head in
     let arguments = argument_words superpose_pieces head in
-    let b = raw_found (are_words_of superpose_pieces head) (names_of news >>= λ new. names_of arguments >>= λ args. lits_of rest >>= λ ls. read_ok (made new args ls)) s e in
+    let b = passed (are_words_of superpose_pieces head) (names_of news >>= λ new. names_of arguments >>= λ args. lits_of rest >>= λ ls. read_ok (made new args ls)) s e in
     let n = bind_ok (names_of news) (λ new. names_of arguments >>= λ args. lits_of rest >>= λ ls. read_ok (made new args ls)) s b.1 in
     let a = bind_ok (names_of arguments) (λ args. lits_of rest >>= λ ls. read_ok (made n.0 args ls)) s n.2 in
     let l = bind_ok (lits_of rest) (λ ls. read_ok (made n.0 a.0 ls)) s a.2 in
@@ -216,79 +160,32 @@ head_said head rest s e =
     let shown = some_lits_said rest l.0 l.1 in
     subst (λ (x : RawSuperpose). Said (forms.Superpose x)) (ok_is (made n.0 a.0 l.0) s l.2) (names_said news n.0 n.1, count, shown.0, shown.1)
 
-superpose_said : (ws : List (List ℕ)) (f : Form) → (superpose_of ws >>= λ s. read_ok (forms.Superpose s)) ≡ Ok f → Said f
+superpose_said : (ws : List (List ℕ)) (s : RawSuperpose) → superpose_of ws ≡ Ok s → Said (forms.Superpose s)
 unfolding superpose_of
-superpose_said ws f e =
-    let a = bind_ok (head_of (take 13 ws) (drop 13 ws)) (λ s. read_ok (forms.Superpose s)) f e in
-    subst Said (ok_is (forms.Superpose a.0) f a.2) (head_said (take 13 ws) (drop 13 ws) a.0 a.1)
+superpose_said ws s e = head_said (take 13 ws) (drop 13 ws) s e
 
-by_said : (ws : List (List ℕ)) (f : Form) → by_of ws ≡ Ok f → Said f
-unfolding by_of
-by_said ws f e =
-    let rest : List ℕ × List (List ℕ) → Result Form Kind = λ r. cond (cut_at (codes ":") r.1).2 (names_of (cut_at (codes ":") r.1).0 >>= λ ns. diagram_lit_of (cut_at (codes ":") r.1).1 >>= λ l. read_ok (forms.By r.0 ns l)) (Err Malformed) in
-    let a = bind_ok (title_at ws) rest f e in
-    let parts = cut_at (codes ":") a.0.1 in
-    let b = found parts.2 (names_of parts.0 >>= λ ns. diagram_lit_of parts.1 >>= λ l. read_ok (forms.By a.0.0 ns l)) f a.2 in
-    let c = bind_ok (names_of parts.0) (λ ns. diagram_lit_of parts.1 >>= λ l. read_ok (forms.By a.0.0 ns l)) f b in
-    let d = bind_ok (diagram_lit_of parts.1) (λ l. read_ok (forms.By a.0.0 c.0 l)) f c.2 in
-    subst Said (ok_is (forms.By a.0.0 c.0 d.0) f d.2) (diagram_said parts.1 d.0 d.1)
-
-hence_said : (ws : List (List ℕ)) (f : Form) → (lit_of ws >>= λ l. read_ok (forms.Hence l)) ≡ Ok f → Said f
-hence_said ws f e = let a = bind_ok (lit_of ws) (λ l. read_ok (forms.Hence l)) f e in subst Said (ok_is (forms.Hence a.0) f a.2) (lit_said ws a.0 a.1)
-
-no_form : (f : Form) → Err Malformed ≡ read_ok f → Said f
-no_form f e = absurd cc
-
-either : (b : Bool) (x y : Result Form Kind) (f : Form) → cond b x y ≡ Ok f → (x ≡ Ok f → Said f) → (y ≡ Ok f → Said f) → Said f
-either true x y f e hx hy = hx e
-either false x y f e hx hy = hy e
-
-named_said : (w : List ℕ) (ws : List (List ℕ)) (f : Form) → form_named w ws ≡ Ok f → Said f
-unfolding form_named
-named_said w ws f e =
-    let r20 : Result Form Kind = Err Malformed in
-    let r19 : Result Form Kind = cond (bytes_eq w (codes "end")) (bare ws forms.End) r20 in
-    let r18 : Result Form Kind = cond (bytes_eq w (codes "else")) (bare ws forms.Else) r19 in
-    let r17 : Result Form Kind = cond (bytes_eq w (codes "cases")) (lit_of ws >>= λ l. read_ok (forms.Cases l)) r18 in
-    let r16 : Result Form Kind = cond (bytes_eq w (codes "superpose")) (superpose_of ws >>= λ s. read_ok (forms.Superpose s)) r17 in
-    let r15 : Result Form Kind = cond (bytes_eq w (codes "claim")) (lits_of ws >>= λ ls. read_ok (forms.Claim ls)) r16 in
-    let r14 : Result Form Kind = cond (bytes_eq w (codes "contradiction")) (bare ws forms.Contradiction) r15 in
-    let r13 : Result Form Kind = cond (bytes_eq w (codes "qed")) (names_of ws >>= λ ns. read_ok (forms.Qed ns)) r14 in
-    let r12 : Result Form Kind = cond (bytes_eq w (codes "apply")) (apply_of ws >>= λ a. read_ok (forms.Apply a)) r13 in
-    let r11 : Result Form Kind = cond (bytes_eq w (codes "let")) (let_of ws >>= λ l. read_ok (forms.Let l)) r12 in
-    let r10 : Result Form Kind = cond (bytes_eq w (codes "hence")) (lit_of ws >>= λ l. read_ok (forms.Hence l)) r11 in
-    let r9 : Result Form Kind = cond (bytes_eq w (codes "by")) (by_of ws) r10 in
-    let r8 : Result Form Kind = cond (bytes_eq w (codes "proof")) (bare ws forms.Proof) r9 in
-    let r7 : Result Form Kind = cond (bytes_eq w (codes "show")) (lits_of ws >>= λ ls. read_ok (forms.Show ls)) r8 in
-    let r6 : Result Form Kind = cond (bytes_eq w (codes "made")) (made_of ws) r7 in
-    let r5 : Result Form Kind = cond (bytes_eq w (codes "given")) (lits_of ws >>= λ ls. read_ok (forms.Given ls)) r6 in
-    let r4 : Result Form Kind = cond (bytes_eq w (codes "circles")) (declare_of Circle ws) r5 in
-    let r3 : Result Form Kind = cond (bytes_eq w (codes "lines")) (declare_of Line ws) r4 in
-    let r2 : Result Form Kind = cond (bytes_eq w (codes "points")) (declare_of Point ws) r3 in
-    either (bytes_eq w (codes "theorem")) (theorem_of ws) r2 f e (theorem_said ws f) (λ e1.
-    either (bytes_eq w (codes "points")) (declare_of Point ws) r3 f e1 (declare_said Point ws f) (λ e2.
-    either (bytes_eq w (codes "lines")) (declare_of Line ws) r4 f e2 (declare_said Line ws f) (λ e3.
-    either (bytes_eq w (codes "circles")) (declare_of Circle ws) r5 f e3 (declare_said Circle ws f) (λ e4.
-    either (bytes_eq w (codes "given")) (lits_of ws >>= λ ls. read_ok (forms.Given ls)) r6 f e4 (given_said ws f) (λ e5.
-    either (bytes_eq w (codes "made")) (made_of ws) r7 f e5 (made_said ws f) (λ e6.
-    either (bytes_eq w (codes "show")) (lits_of ws >>= λ ls. read_ok (forms.Show ls)) r8 f e6 (show_said ws f) (λ e7.
-    either (bytes_eq w (codes "proof")) (bare ws forms.Proof) r9 f e7 (bare_said ws forms.Proof f tt) (λ e8.
-    either (bytes_eq w (codes "by")) (by_of ws) r10 f e8 (by_said ws f) (λ e9.
-    either (bytes_eq w (codes "hence")) (lit_of ws >>= λ l. read_ok (forms.Hence l)) r11 f e9 (hence_said ws f) (λ e10.
-    either (bytes_eq w (codes "let")) (let_of ws >>= λ l. read_ok (forms.Let l)) r12 f e10 (let_said ws f) (λ e11.
-    either (bytes_eq w (codes "apply")) (apply_of ws >>= λ a. read_ok (forms.Apply a)) r13 f e11 (apply_said ws f) (λ e12.
-    either (bytes_eq w (codes "qed")) (names_of ws >>= λ ns. read_ok (forms.Qed ns)) r14 f e12 (qed_said ws f) (λ e13.
-    either (bytes_eq w (codes "contradiction")) (bare ws forms.Contradiction) r15 f e13 (bare_said ws forms.Contradiction f tt) (λ e14.
-    either (bytes_eq w (codes "claim")) (lits_of ws >>= λ ls. read_ok (forms.Claim ls)) r16 f e14 (claim_said ws f) (λ e15.
-    either (bytes_eq w (codes "superpose")) (superpose_of ws >>= λ s. read_ok (forms.Superpose s)) r17 f e15 (superpose_said ws f) (λ e16.
-    either (bytes_eq w (codes "cases")) (lit_of ws >>= λ l. read_ok (forms.Cases l)) r18 f e16 (cases_said ws f) (λ e17.
-    either (bytes_eq w (codes "else")) (bare ws forms.Else) r19 f e17 (bare_said ws forms.Else f tt) (λ e18.
-    either (bytes_eq w (codes "end")) (bare ws forms.End) r20 f e18 (bare_said ws forms.End f tt) (no_form f)))))))))))))))))))
+said : OfEachForm Said
+said = record {
+    of_theorem = title_said;
+    of_declare = λ sort. some_names_said;
+    of_made = λ sort. some_names_said;
+    of_given = lits_said;
+    of_show = some_lits_said;
+    of_claim = some_lits_said;
+    of_by = λ rule names. diagram_said;
+    of_hence = lit_said;
+    of_cases = lit_said;
+    of_let = let_said;
+    of_apply = apply_said;
+    of_superpose = superpose_said;
+    of_qed = λ names. tt;
+    of_proof = tt;
+    of_contradiction = tt;
+    of_else = tt;
+    of_end = tt }
 
 pub form_said : (words : List (List ℕ)) (f : Form) → form_of words ≡ Ok f → Said f
-unfolding form_of
-form_said [] f e = absurd cc
-form_said (w ∷ ws) f e = named_said w ws f e
+form_said = form_by_word Said said
 
 -- ---- literals
 

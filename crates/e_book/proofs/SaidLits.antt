@@ -17,11 +17,13 @@ use Rattle.e_book.specs.declared.literal.Sign.TheVariants as signs
 use Rattle.e_book.specs.declared.literal.RawLit.{RawLit}
 use Rattle.e_book.specs.declared.literal.RawAtom.{RawAtom}
 use Rattle.e_book.specs.declared.literal.RawAtom.TheVariants as raw
-use Rattle.e_book.specs.Reading.{◌>>=◌, each, two_names, three_names}
+use Rattle.e_book.specs.Reading.{◌>>=◌, each}
 use Rattle.e_book.specs.Sums.{term_named, term_of, coefficient_of, counted_term, mono_of, is_plus, is_zero, sum_of}
-use Rattle.e_book.specs.Literals.{is_sign, object_of, sums_of, equal_sides, sides_of, negation_of, sign_first, compared, signed, related, signed_of, lit_of, is_diagram_raw, diagram_lit_of, is_semicolon, lits_of}
+use Rattle.e_book.specs.Literals.{is_sign, object_of, sums_of, equal_sides, sides_of, negation_of, sign_first, compared, signed, lit_of, is_diagram_raw, diagram_lit_of, is_semicolon, lits_of}
 use Rattle.e_book.proofs.Differ.{both}
 use Rattle.e_book.proofs.InScope.{bind_ok, ok_is, read_ok}
+use Rattle.e_book.proofs.Choices.{passed}
+use Rattle.e_book.proofs.LitsByWord.{OfEachRelation, lit_by_word}
 
 -- ---- what is said
 
@@ -169,59 +171,25 @@ compared_said negated ws l e =
 
 -- ---- literals
 
-two_said : (negated : Bool) (f : List ℕ → List ℕ → RawAtom) → ((x y : List ℕ) → AtomSaid (f x y)) → (ws : List (List ℕ)) (l : RawLit)
-    → (two_names ws >>= λ p. read_ok (signed negated (f p.0 p.1))) ≡ Ok l → LitSaid l
-two_said negated f h ws l e =
-    let p = bind_ok (two_names ws) (λ p. read_ok (signed negated (f p.0 p.1))) l e in
-    subst LitSaid (ok_is (signed negated (f p.0.0 p.0.1)) l p.2) (h p.0.0 p.0.1)
-
-three_said : (negated : Bool) (f : List ℕ → List ℕ → List ℕ → RawAtom) → ((x y z : List ℕ) → AtomSaid (f x y z)) → (ws : List (List ℕ)) (l : RawLit)
-    → (three_names ws >>= λ p. read_ok (signed negated (f p.0 p.1 p.2))) ≡ Ok l → LitSaid l
-three_said negated f h ws l e =
-    let p = bind_ok (three_names ws) (λ p. read_ok (signed negated (f p.0 p.1 p.2))) l e in
-    subst LitSaid (ok_is (signed negated (f p.0.0 p.0.1 p.0.2)) l p.2) (h p.0.0 p.0.1 p.0.2)
-
-either : (b : Bool) (x y : Result RawLit Kind) (l : RawLit) → cond b x y ≡ Ok l → (x ≡ Ok l → LitSaid l) → (y ≡ Ok l → LitSaid l) → LitSaid l
-either true x y l e hx hy = hx e
-either false x y l e hx hy = hy e
-
-related_said : (negated : Bool) (w : List ℕ) (ws : List (List ℕ)) (l : RawLit) → related negated w ws ≡ Ok l → LitSaid l
-unfolding related
-related_said negated w ws l e =
-    let two : (List ℕ → List ℕ → RawAtom) → Result RawLit Kind = λ f. two_names ws >>= λ p. read_ok (signed negated (f p.0 p.1)) in
-    let three : (List ℕ → List ℕ → List ℕ → RawAtom) → Result RawLit Kind = λ f. three_names ws >>= λ p. read_ok (signed negated (f p.0 p.1 p.2)) in
-    let r6 : Result RawLit Kind = cond (bytes_eq w (codes "meets")) (two raw.Meets) (compared negated (w ∷ ws)) in
-    let r5 : Result RawLit Kind = cond (bytes_eq w (codes "same-side")) (three raw.Same) r6 in
-    let r4 : Result RawLit Kind = cond (bytes_eq w (codes "between")) (three raw.Between) r5 in
-    let r3 : Result RawLit Kind = cond (bytes_eq w (codes "center")) (two raw.Center) r4 in
-    let r2 : Result RawLit Kind = cond (bytes_eq w (codes "inside")) (two raw.Inside) r3 in
-    either (bytes_eq w (codes "on")) (two raw.On) r2 l e (two_said negated raw.On (λ x y. tt) ws l) (λ e1.
-    either (bytes_eq w (codes "inside")) (two raw.Inside) r3 l e1 (two_said negated raw.Inside (λ x y. tt) ws l) (λ e2.
-    either (bytes_eq w (codes "center")) (two raw.Center) r4 l e2 (two_said negated raw.Center (λ x y. tt) ws l) (λ e3.
-    either (bytes_eq w (codes "between")) (three raw.Between) r5 l e3 (three_said negated raw.Between (λ x y z. tt) ws l) (λ e4.
-    either (bytes_eq w (codes "same-side")) (three raw.Same) r6 l e4 (three_said negated raw.Same (λ x y z. tt) ws l) (λ e5.
-    either (bytes_eq w (codes "meets")) (two raw.Meets) (compared negated (w ∷ ws)) l e5 (two_said negated raw.Meets (λ x y. tt) ws l) (compared_said negated (w ∷ ws) l))))))
-
-signed_said : (negated : Bool) (ws : List (List ℕ)) (l : RawLit) → signed_of negated ws ≡ Ok l → LitSaid l
-unfolding signed_of
-signed_said negated [] l e = absurd cc
-signed_said negated (w ∷ ws) l e = related_said negated w ws l e
+said : OfEachRelation LitSaid
+said = record {
+    of_on = λ negated x y. tt;
+    of_inside = λ negated x y. tt;
+    of_center = λ negated x y. tt;
+    of_between = λ negated x y z. tt;
+    of_same_side = λ negated x y z. tt;
+    of_meets = λ negated x y. tt;
+    of_compared = compared_said }
 
 pub lit_said : (ws : List (List ℕ)) (l : RawLit) → lit_of ws ≡ Ok l → AtomSaid l.atom
-unfolding lit_of
-lit_said [] l e = absurd cc
-lit_said (w ∷ ws) l e = either (bytes_eq w (codes "not")) (signed_of true ws) (related false w ws) l e (signed_said true ws l) (related_said false w ws l)
+lit_said = lit_by_word LitSaid said
 
 pub lits_said : (ws : List (List ℕ)) (ls : List RawLit) → lits_of ws ≡ Ok ls → LitsSaid ls
 lits_said ws ls e = each_said lit_of (λ l. AtomSaid l.atom) lit_said (slice_split is_semicolon ws) ls e
-
-diagram : (b : Bool) (x l : RawLit) → cond b (read_ok x) (Err Malformed) ≡ Ok l → (b ≡ true) × (x ≡ l)
-diagram true x l e = (refl, ok_is x l e)
-diagram false x l e = absurd cc
 
 pub diagram_said : (ws : List (List ℕ)) (l : RawLit) → diagram_lit_of ws ≡ Ok l → is_diagram_raw l.atom ≡ true
 unfolding diagram_lit_of
 diagram_said ws l e =
     let x = bind_ok (lit_of ws) (λ x. cond (is_diagram_raw x.atom) (read_ok x) (Err Malformed)) l e in
-    let d = diagram (is_diagram_raw x.0.atom) x.0 l x.2 in
-    subst (λ (y : RawLit). is_diagram_raw y.atom ≡ true) d.1 d.0
+    let d = passed (is_diagram_raw x.0.atom) (read_ok x.0) l x.2 in
+    subst (λ (y : RawLit). is_diagram_raw y.atom ≡ true) (ok_is x.0 l d.1) d.0

@@ -9,9 +9,10 @@ use Rattle.e_book.specs.declared.sum.RawMono.{RawMono}
 use Rattle.e_book.specs.declared.literal.RawLit.{RawLit}
 use Rattle.e_book.specs.declared.literal.RawAtom.{RawAtom}
 use Rattle.e_book.specs.declared.literal.RawAtom.TheVariants as raw
-use Rattle.e_book.specs.Reading.{◌>>=◌, or_malformed, two_names, three_names}
-use Rattle.e_book.specs.Literals.{sign_of, is_sign, object_of, sums_of, equal_sides, sides_of, negation_of, sign_first, compared, signed, related, signed_of, lit_of, is_semicolon, lits_of}
+use Rattle.e_book.specs.Reading.{◌>>=◌, or_malformed}
+use Rattle.e_book.specs.Literals.{sign_of, is_sign, object_of, sums_of, equal_sides, sides_of, negation_of, sign_first, compared, signed, lit_of, is_semicolon, lits_of}
 use Rattle.e_book.proofs.InScope.{bind_ok, ok_is, read_ok}
+use Rattle.e_book.proofs.LitsByWord.{OfEachRelation, lit_by_word}
 use Rattle.e_book.proofs.SaidLits.{each_said}
 
 abbrev pub is_at_most : RawAtom → Bool
@@ -101,48 +102,18 @@ compared_signed negated ws l e = let n = position_or_len is_sign ws in sides_sig
 
 -- ---- literals
 
-two_signed : (negated : Bool) (f : List ℕ → List ℕ → RawAtom) → ((x y : List ℕ) → OtherSign (f x y)) → (ws : List (List ℕ)) (l : RawLit)
-    → (two_names ws >>= λ p. read_ok (signed negated (f p.0 p.1))) ≡ Ok l → Signed l
-two_signed negated f h ws l e =
-    let p = bind_ok (two_names ws) (λ p. read_ok (signed negated (f p.0 p.1))) l e in
-    subst Signed (ok_is (signed negated (f p.0.0 p.0.1)) l p.2) (unsigned (f p.0.0 p.0.1) negated (h p.0.0 p.0.1))
-
-three_signed : (negated : Bool) (f : List ℕ → List ℕ → List ℕ → RawAtom) → ((x y z : List ℕ) → OtherSign (f x y z)) → (ws : List (List ℕ)) (l : RawLit)
-    → (three_names ws >>= λ p. read_ok (signed negated (f p.0 p.1 p.2))) ≡ Ok l → Signed l
-three_signed negated f h ws l e =
-    let p = bind_ok (three_names ws) (λ p. read_ok (signed negated (f p.0 p.1 p.2))) l e in
-    subst Signed (ok_is (signed negated (f p.0.0 p.0.1 p.0.2)) l p.2) (unsigned (f p.0.0 p.0.1 p.0.2) negated (h p.0.0 p.0.1 p.0.2))
-
-either : (b : Bool) (x y : Result RawLit Kind) (l : RawLit) → cond b x y ≡ Ok l → (x ≡ Ok l → Signed l) → (y ≡ Ok l → Signed l) → Signed l
-either true x y l e hx hy = hx e
-either false x y l e hx hy = hy e
-
-related_signed : (negated : Bool) (w : List ℕ) (ws : List (List ℕ)) (l : RawLit) → related negated w ws ≡ Ok l → Signed l
-unfolding related
-related_signed negated w ws l e =
-    let two : (List ℕ → List ℕ → RawAtom) → Result RawLit Kind = λ f. two_names ws >>= λ p. read_ok (signed negated (f p.0 p.1)) in
-    let three : (List ℕ → List ℕ → List ℕ → RawAtom) → Result RawLit Kind = λ f. three_names ws >>= λ p. read_ok (signed negated (f p.0 p.1 p.2)) in
-    let r6 : Result RawLit Kind = cond (bytes_eq w (codes "meets")) (two raw.Meets) (compared negated (w ∷ ws)) in
-    let r5 : Result RawLit Kind = cond (bytes_eq w (codes "same-side")) (three raw.Same) r6 in
-    let r4 : Result RawLit Kind = cond (bytes_eq w (codes "between")) (three raw.Between) r5 in
-    let r3 : Result RawLit Kind = cond (bytes_eq w (codes "center")) (two raw.Center) r4 in
-    let r2 : Result RawLit Kind = cond (bytes_eq w (codes "inside")) (two raw.Inside) r3 in
-    either (bytes_eq w (codes "on")) (two raw.On) r2 l e (two_signed negated raw.On (λ x y. refl) ws l) (λ e1.
-    either (bytes_eq w (codes "inside")) (two raw.Inside) r3 l e1 (two_signed negated raw.Inside (λ x y. refl) ws l) (λ e2.
-    either (bytes_eq w (codes "center")) (two raw.Center) r4 l e2 (two_signed negated raw.Center (λ x y. refl) ws l) (λ e3.
-    either (bytes_eq w (codes "between")) (three raw.Between) r5 l e3 (three_signed negated raw.Between (λ x y z. refl) ws l) (λ e4.
-    either (bytes_eq w (codes "same-side")) (three raw.Same) r6 l e4 (three_signed negated raw.Same (λ x y z. refl) ws l) (λ e5.
-    either (bytes_eq w (codes "meets")) (two raw.Meets) (compared negated (w ∷ ws)) l e5 (two_signed negated raw.Meets (λ x y. refl) ws l) (compared_signed negated (w ∷ ws) l))))))
-
-signed_signed : (negated : Bool) (ws : List (List ℕ)) (l : RawLit) → signed_of negated ws ≡ Ok l → Signed l
-unfolding signed_of
-signed_signed negated [] l e = absurd cc
-signed_signed negated (w ∷ ws) l e = related_signed negated w ws l e
+each_signed : OfEachRelation Signed
+each_signed = record {
+    of_on = λ negated x y. unsigned (raw.On x y) negated refl;
+    of_inside = λ negated x y. unsigned (raw.Inside x y) negated refl;
+    of_center = λ negated x y. unsigned (raw.Center x y) negated refl;
+    of_between = λ negated x y z. unsigned (raw.Between x y z) negated refl;
+    of_same_side = λ negated x y z. unsigned (raw.Same x y z) negated refl;
+    of_meets = λ negated x y. unsigned (raw.Meets x y) negated refl;
+    of_compared = compared_signed }
 
 pub lit_signed : (ws : List (List ℕ)) (l : RawLit) → lit_of ws ≡ Ok l → Signed l
-unfolding lit_of
-lit_signed [] l e = absurd cc
-lit_signed (w ∷ ws) l e = either (bytes_eq w (codes "not")) (signed_of true ws) (related false w ws) l e (signed_signed true ws l) (related_signed false w ws l)
+lit_signed = lit_by_word Signed each_signed
 
 pub lits_signed : (ws : List (List ℕ)) (ls : List RawLit) → lits_of ws ≡ Ok ls → AllSigned ls
 lits_signed ws ls e = each_said lit_of Signed lit_signed (slice_split is_semicolon ws) ls e
