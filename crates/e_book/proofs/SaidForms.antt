@@ -166,23 +166,24 @@ superpose_said ws s e = head_said (take 13 ws) (drop 13 ws) s e
 
 said : OfEachForm Said
 said = record {
-    of_theorem = title_said;
-    of_declare = λ sort. some_names_said;
-    of_made = λ sort. some_names_said;
-    of_given = lits_said;
-    of_show = some_lits_said;
-    of_claim = some_lits_said;
-    of_by = λ rule names. diagram_said;
-    of_hence = lit_said;
-    of_cases = lit_said;
-    of_let = let_said;
-    of_apply = apply_said;
-    of_superpose = superpose_said;
-    of_qed = λ names. tt;
-    of_proof = tt;
-    of_contradiction = tt;
-    of_else = tt;
-    of_end = tt }
+  of_theorem = title_said;
+  of_declare = λ sort. some_names_said;
+  of_made = λ sort. some_names_said;
+  of_given = lits_said;
+  of_show = some_lits_said;
+  of_claim = some_lits_said;
+  of_by = λ rule names. diagram_said;
+  of_hence = lit_said;
+  of_cases = lit_said;
+  of_let = let_said;
+  of_apply = apply_said;
+  of_superpose = superpose_said;
+  of_qed = λ names. tt;
+  of_proof = tt;
+  of_contradiction = tt;
+  of_else = tt;
+  of_end = tt;
+}
 
 pub form_said : (words : List (List ℕ)) (f : Form) → form_of words ≡ Ok f → Said f
 form_said = form_by_word Said said

@@ -173,13 +173,14 @@ compared_said negated ws l e =
 
 said : OfEachRelation LitSaid
 said = record {
-    of_on = λ negated x y. tt;
-    of_inside = λ negated x y. tt;
-    of_center = λ negated x y. tt;
-    of_between = λ negated x y z. tt;
-    of_same_side = λ negated x y z. tt;
-    of_meets = λ negated x y. tt;
-    of_compared = compared_said }
+  of_on = λ negated x y. tt;
+  of_inside = λ negated x y. tt;
+  of_center = λ negated x y. tt;
+  of_between = λ negated x y z. tt;
+  of_same_side = λ negated x y z. tt;
+  of_meets = λ negated x y. tt;
+  of_compared = compared_said;
+}
 
 pub lit_said : (ws : List (List ℕ)) (l : RawLit) → lit_of ws ≡ Ok l → AtomSaid l.atom
 lit_said = lit_by_word LitSaid said

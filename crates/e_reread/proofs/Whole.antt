@@ -35,8 +35,7 @@ use Rattle.e_book.proofs.HeadRead.{run_title}
 use Rattle.e_book.proofs.LinesRead.{Inside, proving}
 use Rattle.e_book.proofs.ScriptParts.{steps_of, close_of, same_script}
 use Rattle.e_book.proofs.ScriptRead.{Ready}
-pub use Rattle.e_book.proofs.CanonicalRead.{started, begins}
-use Rattle.e_book.proofs.CanonicalRead.{stating_forms, run_statement}
+use Rattle.e_book.proofs.CanonicalRead.{stating_forms, run_statement, started, begins}
 use Rattle.e_read.specs.declared.owed.Due.TheVariants as due
 use Rattle.e_read.specs.declared.kept.Kept.{Kept}
 use Rattle.e_read.specs.declared.reading.Reading.{Reading}

@@ -56,23 +56,24 @@ superpose_read ws s e = head_read (take 13 ws) (drop 13 ws) s e
 
 each_read : OfEachForm Read
 each_read = record {
-    of_theorem = λ ws t e. tt;
-    of_declare = λ sort. some_named;
-    of_made = λ sort. some_named;
-    of_given = lits_signed;
-    of_show = lits_signed;
-    of_claim = lits_signed;
-    of_by = λ rule names. diagram_said;
-    of_hence = lit_signed;
-    of_cases = lit_signed;
-    of_let = let_line;
-    of_apply = λ ws a e. tt;
-    of_superpose = superpose_read;
-    of_qed = λ names. tt;
-    of_proof = tt;
-    of_contradiction = tt;
-    of_else = tt;
-    of_end = tt }
+  of_theorem = λ ws t e. tt;
+  of_declare = λ sort. some_named;
+  of_made = λ sort. some_named;
+  of_given = lits_signed;
+  of_show = lits_signed;
+  of_claim = lits_signed;
+  of_by = λ rule names. diagram_said;
+  of_hence = lit_signed;
+  of_cases = lit_signed;
+  of_let = let_line;
+  of_apply = λ ws a e. tt;
+  of_superpose = superpose_read;
+  of_qed = λ names. tt;
+  of_proof = tt;
+  of_contradiction = tt;
+  of_else = tt;
+  of_end = tt;
+}
 
 pub form_facts : (words : List (List ℕ)) (f : Form) → form_of words ≡ Ok f → Read f
 form_facts = form_by_word Read each_read

@@ -104,13 +104,14 @@ compared_signed negated ws l e = let n = position_or_len is_sign ws in sides_sig
 
 each_signed : OfEachRelation Signed
 each_signed = record {
-    of_on = λ negated x y. unsigned (raw.On x y) negated refl;
-    of_inside = λ negated x y. unsigned (raw.Inside x y) negated refl;
-    of_center = λ negated x y. unsigned (raw.Center x y) negated refl;
-    of_between = λ negated x y z. unsigned (raw.Between x y z) negated refl;
-    of_same_side = λ negated x y z. unsigned (raw.Same x y z) negated refl;
-    of_meets = λ negated x y. unsigned (raw.Meets x y) negated refl;
-    of_compared = compared_signed }
+  of_on = λ negated x y. unsigned (raw.On x y) negated refl;
+  of_inside = λ negated x y. unsigned (raw.Inside x y) negated refl;
+  of_center = λ negated x y. unsigned (raw.Center x y) negated refl;
+  of_between = λ negated x y z. unsigned (raw.Between x y z) negated refl;
+  of_same_side = λ negated x y z. unsigned (raw.Same x y z) negated refl;
+  of_meets = λ negated x y. unsigned (raw.Meets x y) negated refl;
+  of_compared = compared_signed;
+}
 
 pub lit_signed : (ws : List (List ℕ)) (l : RawLit) → lit_of ws ≡ Ok l → Signed l
 lit_signed = lit_by_word Signed each_signed
