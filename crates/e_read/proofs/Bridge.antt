@@ -16,7 +16,7 @@ use Rattle.e_read.specs.declared.reading.Reading.{Reading}
 use Rattle.e_read.specs.Filled.{filled}
 use Rattle.e_read.specs.Laws.{begins_with_bar, is_of_theorem}
 use Rattle.e_read.specs.Text.{Piece, Derived, Last, taken, derived, garbled_at, is_finished, finished, or_on, is_end, piece_from}
-use Rattle.e_read.proofs.TakenLines.{Stepped, line_taken, form_read, not_skipped, book_line}
+use Rattle.e_read.proofs.TakenLines.{Stepped, line_taken, form_read, not_skipped, book_line, either}
 
 abbrev pub Answer : Type 0
 Answer = Piece × List (Result Seen LineFault)
@@ -42,10 +42,6 @@ certificate_left l front h = rw h refl
 
 line_kept : (l : Seen) (front : List (Result Seen LineFault)) → begins_with_bar (tokens_of l.bytes) ≡ false → filter is_of_theorem (Ok l ∷ front) ≡ Ok l ∷ filter is_of_theorem front
 line_kept l front h = rw h refl
-
-pub ends_or : (b : Bool) (x y z : Result Answer ℕ) → cond b x y ≡ z → ((b ≡ true) × (x ≡ z)) ⊎ ((b ≡ false) × (y ≡ z))
-ends_or true x y z e = inl (refl, e)
-ends_or false x y z e = inr (refl, e)
 
 pub no_last : (lines rest : List (Result Seen LineFault)) (t : Entry) → let end : Result Answer ℕ = Ok (Last, lines) in end ≡ derives t rest → ⊥
 no_last lines rest t e = subst IsLast e tt where
@@ -108,7 +104,7 @@ plainly known last r (Err f ∷ lines) rest t unended e = absurd cc
 plainly known last r (Ok l ∷ lines) rest t unended e =
     let next : Result Reading ℕ = garbled_at l.number (taken known r l) in
     let then : Reading → Result Answer ℕ = λ x. or_on (finished x.draft x.kept) lines (piece_from known last x lines) in
-    elim (ends_or (is_end known r.draft l) (Ok (Last, lines)) (next >>= then) (derives t rest) e) [
+    elim (either (is_end known r.draft l) (Ok (Last, lines)) (next >>= then) (derives t rest) e) [
       | inl p ↦ absurd (no_last lines rest t p.1)
       | inr p ↦
           let x = bind_ok next then (Derived t, rest) p.1 in

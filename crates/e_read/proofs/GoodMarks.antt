@@ -36,6 +36,7 @@ use Rattle.e_book.proofs.InScope.{bind_ok, ok_is, read_ok}
 use Rattle.e_book.proofs.KeptSums.{few_ok}
 use Rattle.e_book.proofs.SaidLits.{AtomSaid, lit_said}
 use Rattle.e_book.proofs.WellRead.{good_lits}
+use Rattle.e_book.proofs.Choices.{either}
 use Rattle.e_read.specs.declared.mark.RawRow.{RawRow}
 use Rattle.e_read.specs.declared.mark.RawRow.TheVariants as rows
 use Rattle.e_read.specs.declared.mark.Mark.{Mark}
@@ -65,10 +66,6 @@ abbrev MarkSaid : Mark → Type 0
 MarkSaid (marks.Differs r) = RowSaid r
 MarkSaid (marks.Row m r) = RowSaid r
 MarkSaid mark = Unit {0}
-
-either : {A : Type 0} (P : A → Type 0) (b : Bool) (x y : Result A Kind) (z : A) → cond b x y ≡ Ok z → (x ≡ Ok z → P z) → (y ≡ Ok z → P z) → P z
-either P true x y z e hx hy = hx e
-either P false x y z e hx hy = hy e
 
 bare_said : (ws : List (List ℕ)) (row r : RawRow) → RowSaid row → bare_row ws row ≡ Ok r → RowSaid r
 bare_said ws row r h e = let n = bind_ok (end_at ws) (λ none. read_ok row) r e in subst RowSaid (ok_is row r n.2) h

@@ -27,8 +27,8 @@ use Rattle.e_read.specs.declared.reading.Reading.{Reading}
 use Rattle.e_read.specs.Strict.{is_apart}
 use Rattle.e_read.specs.Needs.{one_each, needs_of_use, needs_at_qed, due_of}
 use Rattle.e_read.specs.Text.{owes_nothing, at_start, owed_by, gone_on, taken, Derived, Last, derived, garbled_at, finished, or_on, is_end, piece_from}
-use Rattle.e_read.proofs.Bridge.{Answer, derives, ends_or, no_last, garbled_ok, derived_is, goes_on}
-use Rattle.e_read.proofs.TakenLines.{passed, Stepped, line_taken}
+use Rattle.e_read.proofs.Bridge.{Answer, derives, no_last, garbled_ok, derived_is, goes_on}
+use Rattle.e_read.proofs.TakenLines.{passed, Stepped, line_taken, either}
 use Rattle.e_read.proofs.GoodCerts.{has_good_certs, is_good_kept, AreGood, filled_good}
 use Rattle.e_read.proofs.GoodMarks.{GoodDue, GoodOwed, strict_good, settled_good}
 
@@ -110,7 +110,7 @@ certs_read known last r (Err f ∷ lines) rest t h e = absurd cc
 certs_read known last r (Ok l ∷ lines) rest t h e =
     let next : Result Reading ℕ = garbled_at l.number (taken known r l) in
     let then : Reading → Result Answer ℕ = λ x. or_on (finished x.draft x.kept) lines (piece_from known last x lines) in
-    elim (ends_or (is_end known r.draft l) (Ok (Last, lines)) (next >>= then) (derives t rest) e) [
+    elim (either (is_end known r.draft l) (Ok (Last, lines)) (next >>= then) (derives t rest) e) [
       | inl p ↦ absurd (no_last lines rest t p.1)
       | inr p ↦
           let x = bind_ok next then (Derived t, rest) p.1 in

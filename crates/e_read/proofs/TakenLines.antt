@@ -31,7 +31,7 @@ pub passed : {A : Type 0} (b : Bool) (x : Result A Kind) (y : A) → cond b x (E
 passed true x y e = (refl, e)
 passed false x y e = absurd cc
 
-either : {A : Type 0} (b : Bool) (x y z : A) → cond b x y ≡ z → ((b ≡ true) × (x ≡ z)) ⊎ ((b ≡ false) × (y ≡ z))
+pub either : {A : Type 0} (b : Bool) (x y z : A) → cond b x y ≡ z → ((b ≡ true) × (x ≡ z)) ⊎ ((b ≡ false) × (y ≡ z))
 either true x y z e = inl (refl, e)
 either false x y z e = inr (refl, e)
 

@@ -12,6 +12,7 @@ use Rattle.e_book.specs.Literals.{lit_of, is_diagram_raw, diagram_lit_of}
 use Rattle.e_book.proofs.Differ.{both}
 use Rattle.e_book.proofs.InScope.{bind_ok, ok_is, read_ok}
 use Rattle.e_book.proofs.SaidLits.{diagram_said}
+use Rattle.e_book.proofs.Choices.{either}
 use Rattle.e_read.specs.declared.mark.RawRow.{RawRow}
 use Rattle.e_read.specs.declared.mark.RawRow.TheVariants as rows
 use Rattle.e_read.specs.declared.mark.Mark.{Mark}
@@ -44,10 +45,6 @@ term_row_signed ws f r h e = let a = bind_ok (term_of ws) (λ t. read_ok (f t)) 
 fact_row_signed : (ws : List (List ℕ)) (r : RawRow) → (lit_of ws >>= λ l. read_ok (rows.Fact l)) ≡ Ok r → RowSigned r
 fact_row_signed ws r e = let a = bind_ok (lit_of ws) (λ l. read_ok (rows.Fact l)) r e in subst RowSigned (ok_is (rows.Fact a.0) r a.2) (lit_signed ws a.0 a.1)
 
-row_or : (b : Bool) (x y : Result RawRow Kind) (r : RawRow) → cond b x y ≡ Ok r → (x ≡ Ok r → RowSigned r) → (y ≡ Ok r → RowSigned r) → RowSigned r
-row_or true x y r e hx hy = hx e
-row_or false x y r e hx hy = hy e
-
 no_row : (r : RawRow) → Err Malformed ≡ read_ok r → RowSigned r
 no_row r e = absurd cc
 
@@ -62,14 +59,14 @@ row_named_signed w ws r e =
     let r4 : Result RawRow Kind = cond (bytes_eq w (codes "top")) (term_of ws >>= λ t. read_ok (rows.Top t)) r5 in
     let r3 : Result RawRow Kind = cond (bytes_eq w (codes "pos")) (term_of ws >>= λ t. read_ok (rows.Pos t)) r4 in
     let r2 : Result RawRow Kind = cond (bytes_eq w (codes "goal")) (bare_row ws rows.Goal) r3 in
-    row_or (bytes_eq w (codes "fact")) (lit_of ws >>= λ l. read_ok (rows.Fact l)) r2 r e (fact_row_signed ws r) (λ e1.
-    row_or (bytes_eq w (codes "goal")) (bare_row ws rows.Goal) r3 r e1 (bare_row_signed ws rows.Goal r tt) (λ e2.
-    row_or (bytes_eq w (codes "pos")) (term_of ws >>= λ t. read_ok (rows.Pos t)) r4 r e2 (term_row_signed ws rows.Pos r (λ t. tt)) (λ e3.
-    row_or (bytes_eq w (codes "top")) (term_of ws >>= λ t. read_ok (rows.Top t)) r5 r e3 (term_row_signed ws rows.Top r (λ t. tt)) (λ e4.
-    row_or (bytes_eq w (codes "right")) (bare_row ws rows.Right) r6 r e4 (bare_row_signed ws rows.Right r tt) (λ e5.
-    row_or (bytes_eq w (codes "least")) (term_of ws >>= λ t. read_ok (rows.Least t)) r7 r e5 (term_row_signed ws rows.Least r (λ t. tt)) (λ e6.
-    row_or (bytes_eq w (codes "above")) (bare_row ws rows.Above) r8 r e6 (bare_row_signed ws rows.Above r tt) (λ e7.
-    row_or (bytes_eq w (codes "below")) (bare_row ws rows.Below) r9 r e7 (bare_row_signed ws rows.Below r tt) (no_row r))))))))
+    either RowSigned (bytes_eq w (codes "fact")) (lit_of ws >>= λ l. read_ok (rows.Fact l)) r2 r e (fact_row_signed ws r) (λ e1.
+    either RowSigned (bytes_eq w (codes "goal")) (bare_row ws rows.Goal) r3 r e1 (bare_row_signed ws rows.Goal r tt) (λ e2.
+    either RowSigned (bytes_eq w (codes "pos")) (term_of ws >>= λ t. read_ok (rows.Pos t)) r4 r e2 (term_row_signed ws rows.Pos r (λ t. tt)) (λ e3.
+    either RowSigned (bytes_eq w (codes "top")) (term_of ws >>= λ t. read_ok (rows.Top t)) r5 r e3 (term_row_signed ws rows.Top r (λ t. tt)) (λ e4.
+    either RowSigned (bytes_eq w (codes "right")) (bare_row ws rows.Right) r6 r e4 (bare_row_signed ws rows.Right r tt) (λ e5.
+    either RowSigned (bytes_eq w (codes "least")) (term_of ws >>= λ t. read_ok (rows.Least t)) r7 r e5 (term_row_signed ws rows.Least r (λ t. tt)) (λ e6.
+    either RowSigned (bytes_eq w (codes "above")) (bare_row ws rows.Above) r8 r e6 (bare_row_signed ws rows.Above r tt) (λ e7.
+    either RowSigned (bytes_eq w (codes "below")) (bare_row ws rows.Below) r9 r e7 (bare_row_signed ws rows.Below r tt) (no_row r))))))))
 
 row_signed : (ws : List (List ℕ)) (r : RawRow) → row_of ws ≡ Ok r → RowSigned r
 unfolding row_of
@@ -107,10 +104,6 @@ row_mark_signed w ws m e =
     let r = bind_ok (row_of ws) (λ r. read_ok (marks.Row n.0 r)) m n.2 in
     subst MarkSigned (ok_is (marks.Row n.0 r.0) m r.2) (row_signed ws r.0 r.1)
 
-mark_or : (b : Bool) (x y : Result Mark Kind) (m : Mark) → cond b x y ≡ Ok m → (x ≡ Ok m → MarkSigned m) → (y ≡ Ok m → MarkSigned m) → MarkSigned m
-mark_or true x y m e hx hy = hx e
-mark_or false x y m e hx hy = hy e
-
 mark_named_signed : (w : List ℕ) (ws : List (List ℕ)) (m : Mark) → mark_named w ws ≡ Ok m → MarkSigned m
 unfolding mark_named
 mark_named_signed w ws m e =
@@ -119,12 +112,12 @@ mark_named_signed w ws m e =
     let r4 : Result Mark Kind = cond (bytes_eq w (codes "clash")) (diagram_lit_of ws >>= λ l. read_ok (marks.Clash l)) r5 in
     let r3 : Result Mark Kind = cond (bytes_eq w (codes "transfer")) (transfer_of ws) r4 in
     let r2 : Result Mark Kind = cond (bytes_eq w (codes "metric")) (bare ws marks.Metric) r3 in
-    mark_or (bytes_eq w (codes "fact")) (bare ws marks.Fact) r2 m e (bare_signed ws marks.Fact m tt) (λ e1.
-    mark_or (bytes_eq w (codes "metric")) (bare ws marks.Metric) r3 m e1 (bare_signed ws marks.Metric m tt) (λ e2.
-    mark_or (bytes_eq w (codes "transfer")) (transfer_of ws) r4 m e2 (transfer_signed ws m) (λ e3.
-    mark_or (bytes_eq w (codes "clash")) (diagram_lit_of ws >>= λ l. read_ok (marks.Clash l)) r5 m e3 (clash_signed ws m) (λ e4.
-    mark_or (bytes_eq w (codes "sum")) (bare ws marks.Sum) r6 m e4 (bare_signed ws marks.Sum m tt) (λ e5.
-    mark_or (bytes_eq w (codes "differs")) (differs_of ws) (row_mark_of w ws) m e5 (differs_signed ws m) (row_mark_signed w ws m))))))
+    either MarkSigned (bytes_eq w (codes "fact")) (bare ws marks.Fact) r2 m e (bare_signed ws marks.Fact m tt) (λ e1.
+    either MarkSigned (bytes_eq w (codes "metric")) (bare ws marks.Metric) r3 m e1 (bare_signed ws marks.Metric m tt) (λ e2.
+    either MarkSigned (bytes_eq w (codes "transfer")) (transfer_of ws) r4 m e2 (transfer_signed ws m) (λ e3.
+    either MarkSigned (bytes_eq w (codes "clash")) (diagram_lit_of ws >>= λ l. read_ok (marks.Clash l)) r5 m e3 (clash_signed ws m) (λ e4.
+    either MarkSigned (bytes_eq w (codes "sum")) (bare ws marks.Sum) r6 m e4 (bare_signed ws marks.Sum m tt) (λ e5.
+    either MarkSigned (bytes_eq w (codes "differs")) (differs_of ws) (row_mark_of w ws) m e5 (differs_signed ws m) (row_mark_signed w ws m))))))
 
 mark_signed : (ws : List (List ℕ)) (m : Mark) → mark_of ws ≡ Ok m → MarkSigned m
 unfolding mark_of

@@ -33,8 +33,8 @@ use Rattle.e_read.specs.Strict.{is_strict, is_apart}
 use Rattle.e_read.specs.Needs.{due_of}
 use Rattle.e_read.specs.Filled.{filled}
 use Rattle.e_read.specs.Text.{spelled, Derived, Last, owes_nothing, at_start, owed_by, gone_on, worded, is_lf_end, taken, derived, garbled_at, is_finished, finished, or_on, is_end, piece_from}
-use Rattle.e_read.proofs.TakenLines.{Certified, Stepped, passed, line_taken, form_read}
-use Rattle.e_read.proofs.Bridge.{Answer, derives, ends_or, no_last, garbled_ok, derived_is, goes_on, unfinished, still, closed_is}
+use Rattle.e_read.proofs.TakenLines.{Certified, Stepped, passed, line_taken, form_read, either}
+use Rattle.e_read.proofs.Bridge.{Answer, derives, no_last, garbled_ok, derived_is, goes_on, unfinished, still, closed_is}
 use Rattle.e_spell.specs.Spelling.{script_lines, spelled_lines}
 use Rattle.e_respell.specs.Laws.{ShowsLf}
 use Rattle.e_respell.proofs.FormsRead.{Read, form_facts}
@@ -240,7 +240,7 @@ whole known last r (Err f ∷ lines) rest t done s unended e = absurd cc
 whole known last r (Ok l ∷ lines) rest t done s unended e =
     let next : Result Reading ℕ = garbled_at l.number (taken known r l) in
     let then : Reading → Result Answer ℕ = λ x. or_on (finished x.draft x.kept) lines (piece_from known last x lines) in
-    elim (ends_or (is_end known r.draft l) (Ok (Last, lines)) (next >>= then) (derives t rest) e) [
+    elim (either (is_end known r.draft l) (Ok (Last, lines)) (next >>= then) (derives t rest) e) [
       | inl p ↦ absurd (no_last lines rest t p.1)
       | inr p ↦
           let x = bind_ok next then (Derived t, rest) p.1 in
