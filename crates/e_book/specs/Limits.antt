@@ -1,5 +1,5 @@
 -- The limits of a book.
-use Rattle.std.specs.Prelude.{ℕ, ◌+◌, ◌++◌, List, length, sum_by, nat_lt, Result, Ok, Err, if◌then◌else◌}
+use Rattle.std.specs.Prelude.{ℕ, ◌++◌, List, length, sum_by, nat_lt, Result, Ok, Err, if◌then◌else◌}
 use Rattle.e_literal.specs.declared.object.Sort.{Sort}
 use Rattle.e_literal.specs.declared.object.Sort.TheVariants as sorts
 use Rattle.e_literal.specs.declared.literal.Atom.{Atom}
