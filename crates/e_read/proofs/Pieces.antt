@@ -1,5 +1,5 @@
 -- What stands ahead, line by line.
-use Rattle.std.proofs.Common.{◌≡◌, ℕ, false, true, List, [], ◌∷◌, Option, Some, None, Result, Ok, Err, refl}
+use Rattle.std.proofs.Common.{◌≡◌, ℕ, false, true, List, [], ◌∷◌, Option, Some, None, Result, Ok, Err, refl, sym, ap, subst, ◌∙◌}
 use Rattle.e_text.specs.Lines.{Seen, fault_line}
 use Rattle.e_text.specs.declared.line.LineFault.{LineFault}
 use Rattle.e_book.specs.Headed.{Headed}
@@ -7,10 +7,11 @@ use Rattle.e_book.specs.Entry.{Entry}
 use Rattle.e_book.specs.declared.draft.Draft.{Draft}
 use Rattle.e_read.specs.declared.kept.Kept.{Kept}
 use Rattle.e_read.specs.declared.reading.Reading.{Reading}
+use Rattle.e_read.specs.declared.reader.Turn.{Turn}
 use Rattle.e_read.specs.declared.reader.Turn.TheVariants as turns
 use Rattle.e_read.specs.declared.reader.TextFault.{TextFault}
 use Rattle.e_read.specs.declared.reader.TextFault.TheVariants as faults
-use Rattle.e_read.specs.Text.{Derived, Last, taken, garbled_at, is_finished, finished, is_end, piece_from, LineReads, TurnIs}
+use Rattle.e_read.specs.Text.{Piece, Derived, Last, taken, garbled_at, is_finished, finished, is_end, piece_from, LineReads, TurnIs}
 
 -- behind the last line of the text
 pub piece_none : (known : List Headed) (last : ℕ) (r : Reading) → piece_from known last r [] ≡ Err last
@@ -64,3 +65,11 @@ not_finished (Some d) kept e = rw e refl
 
 pub more_turn : (known : List Headed) (old new : Reading) (line : Seen) → is_end known old.draft line ≡ false → garbled_at line.number (taken known old line) ≡ Ok new → is_finished new.draft ≡ false → TurnIs known old line new (Ok turns.More)
 more_turn known old new line b h e = λ last rest. piece_next known last old new line rest b h (not_finished new.draft new.kept e)
+
+-- ---- the lines ahead
+
+-- the line behind which the theorem has ended
+pub read_ended : (known : List Headed) (last : ℕ) (old new : Reading) (line : Seen) (lines rest : List (Result Seen LineFault)) (all : Result (Piece × List (Result Seen LineFault)) ℕ) (t : Entry) (turn : Turn) → turn ≡ turns.Ended
+    → TurnIs known old line new (Ok turn) → finished new.draft new.kept ≡ Some t → lines ≡ Ok line ∷ rest → piece_from known last old lines ≡ all → all ≡ Ok (Derived t, rest)
+read_ended known last old new line lines rest all t turn is h f e so_far =
+    sym so_far ∙ ap (λ (ls : List (Result Seen LineFault)). piece_from known last old ls) e ∙ (subst (λ (x : Turn). TurnIs known old line new (Ok x)) is h).1 t f last rest
