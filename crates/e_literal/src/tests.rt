@@ -7,43 +7,52 @@ use crate::{
 use std::alloc::Global;
 use std::test::Fail;
 
-type Sum = &'static [(u32, Term)];
+// The term with this name: its points are the letters, `a` for 0.
+fn term_of(name: &str) -> Term {
+    match name {
+        "aa" => Term::Seg(0, 0),
+        "ab" => Term::Seg(0, 1),
+        "ba" => Term::Seg(1, 0),
+        "cd" => Term::Seg(2, 3),
+        "fa" => Term::Seg(5, 0),
+        "ff" => Term::Seg(5, 5),
+        "angle-abc" => Term::Ang(0, 1, 2),
+        "area-abc" => Term::Area(0, 1, 2),
+        "area-cab" => Term::Area(2, 0, 1),
+        _ => Term::Right,
+    }
+}
 
-type Sides = (Sum, Sum);
-
-const AB: Term = Term::Seg(0, 1);
-
-const BA: Term = Term::Seg(1, 0);
-
-const CD: Term = Term::Seg(2, 3);
-
-const ABC: Term = Term::Ang(0, 1, 2);
-
-const AREA: Term = Term::Area(0, 1, 2);
-
-fn form(alloc: Global, monos: &[(u32, Term)]) -> Result<Form, Fail> {
+// A sum of terms, each behind its coefficient; a single word is the sum of none.
+fn form(alloc: Global, text: &str) -> Result<Form, Fail> {
     let mut items = Vec::new(alloc);
-    for (coeff, term) in monos {
-        items.push(Mono {
-            coeff: *coeff,
-            term: *term,
-        })?;
+    for mono in text.split(" + ") {
+        if let Some((coeff, name)) = mono.split_once(' ') {
+            items.push(Mono {
+                coeff: coeff.parse::<u32>().unwrap_or(0),
+                term: term_of(name),
+            })?;
+        }
     }
     Ok(Form::new(items))
 }
 
-fn equal(alloc: Global, sides: Sides) -> Result<Lit, Fail> {
-    let left = form(alloc, sides.0)?;
-    let right = form(alloc, sides.1)?;
+// The two sums of a text.
+fn sides(alloc: Global, text: &str) -> Result<(Form, Form), Fail> {
+    let (left, right) = text.split_once(" = ").unwrap_or(("", ""));
+    Ok((form(alloc, left)?, form(alloc, right)?))
+}
+
+fn equal(alloc: Global, text: &str) -> Result<Lit, Fail> {
+    let (left, right) = sides(alloc, text)?;
     Ok(Lit {
         neg: false,
         atom: Atom::MagEq(left, right),
     })
 }
 
-fn less(alloc: Global, sides: Sides) -> Result<Lit, Fail> {
-    let left = form(alloc, sides.0)?;
-    let right = form(alloc, sides.1)?;
+fn less(alloc: Global, text: &str) -> Result<Lit, Fail> {
+    let (left, right) = sides(alloc, text)?;
     Ok(Lit {
         neg: false,
         atom: Atom::MagLt(left, right),
@@ -60,24 +69,24 @@ fn agrees(alloc: Global, a: &Lit, b: &Lit, want: bool) -> Result<bool, Fail> {
 }
 
 // Two pairs of sums, and whether their equations and their inequalities are the same.
-#[rattlefmt::skip]
-const PAIRS: [(Sides, Sides, bool, bool); 6] = [
-    ((&[(1, AB)], &[(1, CD)]), (&[(1, BA)], &[(1, CD)]), true, true),
-    ((&[(1, AB)], &[(1, CD)]), (&[(1, CD)], &[(1, AB)]), true, false),
-    ((&[(2, AB)], &[(1, CD)]), (&[(1, AB), (1, BA)], &[(1, CD)]), true, true),
-    ((&[(2, AB)], &[(2, CD)]), (&[(1, AB)], &[(1, CD)]), false, false),
-    ((&[(1, AREA)], &[]), (&[(1, Term::Area(2, 0, 1))], &[]), true, true),
-    ((&[(1, AB)], &[(1, BA)]), (&[(1, ABC)], &[(1, ABC)]), true, true),
-];
+fn pairs() -> &'static str {
+    "\
+1 ab = 1 cd : 1 ba = 1 cd : yes : yes
+1 ab = 1 cd : 1 cd = 1 ab : yes : no
+2 ab = 1 cd : 1 ab + 1 ba = 1 cd : yes : yes
+2 ab = 2 cd : 1 ab = 1 cd : no : no
+1 area-abc = 0 : 1 area-cab = 0 : yes : yes
+1 ab = 1 ba : 1 angle-abc = 1 angle-abc : yes : yes"
+}
+
+fn part(row: &str, number: usize) -> &str {
+    row.split(" : ").nth(number).unwrap_or("")
+}
 
 // Whether the equations and the inequalities of two pairs of sums are the same exactly where it is wanted.
-fn pair_agrees(
-    alloc: Global,
-    first: Sides,
-    second: Sides,
-    equations: bool,
-    inequalities: bool,
-) -> Result<bool, Fail> {
+fn pair_agrees(alloc: Global, row: &str) -> Result<bool, Fail> {
+    let (first, second) = (part(row, 0), part(row, 1));
+    let (equations, inequalities) = (part(row, 2) == "yes", part(row, 3) == "yes");
     let (a, b) = (equal(alloc, first)?, equal(alloc, second)?);
     let (c, d) = (less(alloc, first)?, less(alloc, second)?);
     Ok(
@@ -91,35 +100,44 @@ fn pair_agrees(
 
 #[test]
 fn literals_that_are_the_same_and_that_are_not(rt: HostRuntime) -> Result<(), Fail> {
-    for (first, second, equations, inequalities) in PAIRS {
-        let agrees = pair_agrees(rt.alloc(), first, second, equations, inequalities)?;
-        assert!(rt; agrees, "{first:?} and {second:?}");
+    for row in pairs().split('\n') {
+        assert!(rt; pair_agrees(rt.alloc(), row)?, "{row}");
     }
     Ok(())
+}
+
+// Diagram atoms, no two of which are the same.
+const ATOMS: &str =
+    "on on-turned on-circle inside center between between-turned same meets-lines meets-circle meets-circles points lines circles";
+
+fn atom_of(name: &str) -> Atom {
+    match name {
+        "on" => Atom::On(0, 1),
+        "on-turned" => Atom::On(1, 0),
+        "on-circle" => Atom::OnC(0, 1),
+        "inside" => Atom::Inside(0, 1),
+        "center" => Atom::Center(0, 1),
+        "between" => Atom::Between(0, 1, 2),
+        "between-turned" => Atom::Between(2, 1, 0),
+        "same" => Atom::Same(0, 1, 2),
+        "meets-lines" => Atom::MeetLL(0, 1),
+        "meets-circle" => Atom::MeetLC(0, 1),
+        "meets-circles" => Atom::MeetCC(0, 1),
+        "points" => Atom::EqP(0, 1),
+        "lines" => Atom::EqL(0, 1),
+        _ => Atom::EqC(0, 1),
+    }
 }
 
 #[test]
 fn diagram_literals_are_the_same_only_as_they_stand(rt: HostRuntime) -> Result<(), Fail> {
     let alloc = rt.alloc();
-    let table = [
-        Atom::On(0, 1),
-        Atom::On(1, 0),
-        Atom::OnC(0, 1),
-        Atom::Inside(0, 1),
-        Atom::Center(0, 1),
-        Atom::Between(0, 1, 2),
-        Atom::Between(2, 1, 0),
-        Atom::Same(0, 1, 2),
-        Atom::MeetLL(0, 1),
-        Atom::MeetLC(0, 1),
-        Atom::MeetCC(0, 1),
-        Atom::EqP(0, 1),
-        Atom::EqL(0, 1),
-        Atom::EqC(0, 1),
-    ];
     let mut lits = Vec::new(alloc);
-    for atom in table {
-        let lit = Lit { neg: false, atom };
+    for name in ATOMS.split(' ') {
+        let lit = Lit {
+            neg: false,
+            atom: atom_of(name),
+        };
         lits.push(negate(copy(alloc, &lit)?))?;
         lits.push(lit)?;
     }
@@ -140,10 +158,7 @@ fn diagram_literals_are_read(rt: HostRuntime) -> Result<(), Fail> {
     });
     assert!(rt; lit.neg);
     assert_eq!(rt; kind(&lit), None);
-    assert_eq!(rt;
-        kind(&equal(alloc, (&[], &[(1, Term::Right)]))?),
-        Some(Kind::Angle)
-    );
+    assert_eq!(rt; kind(&equal(alloc, "0 = 1 right")?), Some(Kind::Angle));
     for (points, lines, want) in [(2, 1, true), (1, 1, false), (2, 0, false)] {
         let scope = Scope {
             points,
@@ -166,7 +181,7 @@ fn a_literal_is_renamed_where_each_object_has_an_image(rt: HostRuntime) -> Resul
         sort: Sort::Point,
         num,
     };
-    let lit = less(alloc, (&[(3, AB)], &[(1, Term::Seg(0, 0))]))?;
+    let lit = less(alloc, "3 ab = 1 aa")?;
     let mut map = Map::new(alloc);
     assert!(rt; rename(alloc, &lit, &map)?.is_none());
     map.set(point(0), point(7))?;
@@ -174,7 +189,7 @@ fn a_literal_is_renamed_where_each_object_has_an_image(rt: HostRuntime) -> Resul
     map.set(point(1), point(0))?;
     map.set(point(0), point(5))?;
     assert_eq!(rt; map.image(point(0)), Some(point(5)));
-    let wanted = less(alloc, (&[(3, Term::Seg(5, 0))], &[(1, Term::Seg(5, 5))]))?;
+    let wanted = less(alloc, "3 fa = 1 ff")?;
     let renamed = rename(alloc, &lit, &map)?.ok_or("an object has no image")?;
     assert!(rt; same(&renamed, &wanted), "{renamed:?}");
     Ok(())
