@@ -1,9 +1,7 @@
 -- What is known where reading goes on: which test was passed, and what the answer was.
-use Rattle.std.proofs.Common.{◌≡◌, ℕ, ◌≤◌, Bool, true, false, cond, ltb, ◌&&◌, inl, inr, List, ◌++◌, Option, Some, None, Result, Ok, Err, refl, ap, ◌∙◌, arith}
+use Rattle.std.proofs.Common.{◌≡◌, ℕ, ◌≤◌, Bool, true, false, cond, ltb, inl, inr, List, Option, Some, None, Result, Ok, Err, refl, ap, arith}
 use Rattle.std.specs.Prelude.{◌⊎◌}
-use Rattle.std.specs.List.{list_all}
 use Rattle.std.proofs.lemmas.Bool.{cases_lt, lt-ltb}
-use Rattle.std.proofs.lemmas.List.Folds.{list_all-append}
 use Rattle.e_text.specs.Lines.{Seen}
 use Rattle.e_text.specs.declared.line.LineFault.{LineFault}
 use Rattle.e_book.specs.declared.fault.Kind.{Kind}
@@ -26,13 +24,6 @@ within_ok n most what u e =
       | inl lt ↦ absurd (refused (ltb most n) what u (lt-ltb most n lt) e)
       | inr ge ↦ omega (arith, ge)
     ]
-
-pub and : (a b : Bool) → a ≡ true → b ≡ true → (a && b) ≡ true
-and a b h k = rw (h, k) refl
-
--- what holds of the old and of the new holds of all
-pub appended : {X : Type 0} (p : X → Bool) (xs ys : List X) → list_all p xs ≡ true → list_all p ys ≡ true → list_all p (xs ++ ys) ≡ true
-appended p xs ys hx hy = list_all-append p xs ys ∙ rw (hx, hy) refl
 
 -- ---- a test that was passed
 

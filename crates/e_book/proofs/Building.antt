@@ -1,14 +1,14 @@
 -- What a construction, a superposition and a close line that are read are known to be.
 use Rattle.std.proofs.Common.{◌≡◌, ℕ, Bool, true, false, cond, eqb, ltb, inl, inr, List, [], ◌∷◌, ◌++◌, length, Result, Ok, refl, sym, ap, subst, ◌∙◌, arith, length-append}
-use Rattle.std.specs.Prelude.{◌⊎◌, map}
-use Rattle.std.proofs.lemmas.Bool.{eqb-true}
+use Rattle.std.specs.Prelude.{◌⊎◌}
+use Rattle.std.proofs.lemmas.Bool.{eqb-true, and_from}
 use Rattle.std.proofs.lemmas.List.{length-take-le}
 use Rattle.e_literal.specs.declared.object.Sort.{Sort}
 use Rattle.e_literal.specs.declared.object.Sort.TheVariants.{Point, Line, Circle}
 use Rattle.e_literal.specs.declared.object.Obj.{Obj}
 use Rattle.e_literal.specs.declared.object.Scope.{Scope}
 use Rattle.e_literal.specs.declared.literal.Lit.{Lit}
-use Rattle.e_literal.specs.Scopes.{same_sort, with_one, grown, next_objects, are_of_sorts}
+use Rattle.e_literal.specs.Scopes.{same_sort, with_one, grown, are_of_sorts}
 use Rattle.e_literal.specs.Use.{Stated, scope_of}
 use Rattle.e_construct.specs.declared.construction.Shape.{Shape}
 use Rattle.e_construct.specs.declared.construction.Construction.{Construction}
@@ -25,7 +25,6 @@ use Rattle.e_book.specs.declared.superposes.RawSuperpose.{RawSuperpose}
 use Rattle.e_book.specs.Reading.{◌>>=◌, each}
 use Rattle.e_book.specs.Superposes.{superpose, placed_in, superpose_in}
 use Rattle.e_book.specs.Scope.{scope_of_names, used, number_of, object_as, fresh, right_count, construction, arguments_in, first_fitting, let_in, lits_in, objects_of_sorts, qed_in}
-use Rattle.e_book.proofs.Answered.{and}
 use Rattle.e_book.proofs.InScope.{bind_ok, ok_is, read_ok, number_in_scope}
 use Rattle.e_book.proofs.Citations.{object_scope, object_sort, counted}
 
@@ -126,8 +125,8 @@ placed_fits ns (a ∷ b ∷ c ∷ k ∷ d ∷ g ∷ h ∷ l ∷ []) form e =
     let point : (name : List ℕ) (n : ℕ) → number_of ns Point name ≡ Ok n → ltb n (length ns.points) ≡ true = λ name n i. number_in_scope ns Point name n i in
     let line : (name : List ℕ) (n : ℕ) → number_of ns Line name ≡ Ok n → ltb n (length ns.lines) ≡ true = λ name n i. number_in_scope ns Line name n i in
     subst (λ (x : Superpose). superposing.fits x (scope_of_names ns) ≡ true) p.form_is
-    (and _ _ (point a p.na p.a_is) (and _ _ (point b p.nb p.b_is) (and _ _ (point c p.nc p.c_is) (and _ _ (point d p.nd p.d_is)
-    (and _ _ (point g p.ng p.g_is) (and _ _ (point h p.nh p.h_is) (and _ _ (line k p.nk p.k_is) (and _ _ (line l p.nl p.l_is) refl))))))))
+    (and_from _ _ (point a p.na p.a_is) (and_from _ _ (point b p.nb p.b_is) (and_from _ _ (point c p.nc p.c_is) (and_from _ _ (point d p.nd p.d_is)
+    (and_from _ _ (point g p.ng p.g_is) (and_from _ _ (point h p.nh p.h_is) (and_from _ _ (line k p.nk p.k_is) (and_from _ _ (line l p.nl p.l_is) refl))))))))
 placed_fits ns args form e = absurd cc
 
 -- it fits, its new names are free, and its literals have the names of objects around it
@@ -174,10 +173,6 @@ unfolding qed_in
 qed_fits ns sorts names os e =
     let r = bind_ok (right_count (eqb (length names) (length sorts))) (λ right. objects_of_sorts ns sorts names) os e in
     of_sorts ns sorts names os (eqb-true (length names) (length sorts) (counted _ r.0 r.1)) r.2
-
-pub sorts_again : (s : Scope) (sorts : List Sort) → map (λ (o : Obj). o.sort) (next_objects s sorts) ≡ sorts
-sorts_again s [] = refl
-sorts_again s (x ∷ sorts) = ap (λ (l : List Sort). x ∷ l) (sorts_again (with_one s x) sorts)
 
 -- ---- names and scopes
 

@@ -1,6 +1,7 @@
 -- A theorem is read from its canonical lines.
 use Rattle.std.proofs.Common.{◌≡◌, ℕ, ◌+◌, true, cond, List, [], ◌∷◌, ◌++◌, length, map, Option, Some, None, Result, Ok, Err, refl, sym, ap, subst, ◌∙◌, arith, append_assoc}
 use Rattle.std.specs.List.{list_all}
+use Rattle.std.proofs.lemmas.Bool.{and_parts}
 use Rattle.e_text.specs.Tokens.{tokens_of}
 use Rattle.e_text.specs.Lines.{Seen, numbered}
 use Rattle.e_text.specs.declared.line.LineFault.{LineFault}
@@ -9,6 +10,7 @@ use Rattle.e_literal.specs.declared.literal.Lit.{Lit}
 use Rattle.e_literal.specs.Literal.{all_in_scope}
 use Rattle.e_literal.specs.Scopes.{nothing, grown}
 use Rattle.e_literal.specs.Use.{scope_of}
+use Rattle.e_literal.proofs.Growing.{sorts_next}
 use Rattle.e_theorem.specs.Statements.{stated}
 use Rattle.e_deriv.specs.declared.names.Names.{Names}
 use Rattle.e_deriv.specs.Naming.{first_names}
@@ -30,12 +32,11 @@ use Rattle.e_book.specs.Fits.{count_monomials}
 use Rattle.e_book.specs.Canonical.{form_words, line_of, given_form, show_form, declare_form, made_form, grouped, declared_objects, made_objects, given_forms, shown_forms, head_forms, script_forms, names_of_proof, forms_of}
 use Rattle.e_book.specs.HasSpelling.{HasSpelling}
 use Rattle.e_book.specs.Laws.{Shows}
-use Rattle.e_book.proofs.Differ.{both}
 use Rattle.e_book.proofs.Respelled.{GoodForm, as_read, form_again}
 use Rattle.e_book.proofs.LineWords.{words_again, not_skipped}
 use Rattle.e_book.proofs.Lookups.{InOrder, in_order}
 use Rattle.e_book.proofs.Declared.{form_step, Runs, runs_append, Few, run_from, all_first}
-use Rattle.e_book.proofs.Building.{sorts_again, declared_scope}
+use Rattle.e_book.proofs.Building.{declared_scope}
 use Rattle.e_book.proofs.Growing.{first_in_order, lit_of_first}
 use Rattle.e_book.proofs.PlainLits.{Plain}
 use Rattle.e_book.proofs.FittingScripts.{line_fits}
@@ -50,7 +51,7 @@ use Rattle.e_book.proofs.ScriptRead.{Taken, run_script}
 given_forms_of : (s : Scope) (ns : Names) (ls : List Lit) → list_all (all_in_scope s) ls ≡ true → map (given_form (first_names s ns)) ls ≡ map (given_form ns) ls
 given_forms_of s ns [] h = refl
 given_forms_of s ns (l ∷ ls) h =
-    let p = both (all_in_scope s l) (list_all (all_in_scope s) ls) h in
+    let p = and_parts (all_in_scope s l) (list_all (all_in_scope s) ls) h in
     rw (lit_of_first s ns l p.0, given_forms_of s ns ls p.1) refl
 
 -- the draft behind the word proof
@@ -115,7 +116,7 @@ run_proof_lines known t h o =
     let scope : s ≡ scope_of_names (names_of_proof t) = sym (declared_scope (stated t.statement) t.names h.fits.scope) in
     run_script known (started t) (begins t) t.script facts goal (record {
       order = first_in_order s t.names o;
-      goal_sorts = sorts_again s t.statement.made;
+      goal_sorts = sorts_next s t.statement.made;
       plain = h.script;
       fitting = subst (λ (z : Scope). list_all (line_fits before) (lines before t.script t.script z facts goal) ≡ true) scope h.fits.script;
       new_names = h.fits.new_names;

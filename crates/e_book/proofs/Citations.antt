@@ -12,6 +12,7 @@ use Rattle.e_literal.specs.declared.object.Sort.TheVariants.{Point, Line, Circle
 use Rattle.e_literal.specs.declared.object.Obj.{Obj}
 use Rattle.e_literal.specs.Literal.{obj, is_in_scope}
 use Rattle.e_literal.specs.Scopes.{same_sort}
+use Rattle.e_literal.proofs.Sorts.{same_sort_self}
 use Rattle.e_clause.specs.declared.rule.Sig.{Sig}
 use Rattle.e_clause.specs.declared.cert.By.{By}
 use Rattle.e_clause.specs.Rows.{Row}
@@ -28,11 +29,6 @@ use Rattle.e_book.specs.Scope.{number_of, object_as, objects_as, args_in, by_in,
 use Rattle.e_book.specs.Fits.{scope_of_names}
 use Rattle.e_book.proofs.InScope.{bind_ok, ok_is, read_ok, number_in_scope, lit_in_scope, each_all, each_length}
 
-same_is : (sort : Sort) → same_sort sort sort ≡ true
-same_is Point = refl
-same_is Line = refl
-same_is Circle = refl
-
 pub object_scope : (ns : Names) (sort : Sort) (name : List ℕ) (o : Obj) → object_as ns sort name ≡ Ok o → is_in_scope (scope_of_names ns) o ≡ true
 unfolding object_as
 object_scope ns sort name o e =
@@ -43,7 +39,7 @@ pub object_sort : (ns : Names) (sort : Sort) (name : List ℕ) (o : Obj) → obj
 unfolding object_as
 object_sort ns sort name o e =
     let n = bind_ok (number_of ns sort name) (λ n. read_ok (obj sort n)) o e in
-    subst (λ (x : Obj). same_sort x.sort sort ≡ true) (ok_is (obj sort n.0) o n.2) (same_is sort)
+    subst (λ (x : Obj). same_sort x.sort sort ≡ true) (ok_is (obj sort n.0) o n.2) (same_sort_self sort)
 
 -- three parts of these lengths, one behind the other
 abbrev pub Parts : ℕ → ℕ → ℕ → List Obj → Type 0

@@ -4,6 +4,7 @@ use Rattle.std.specs.Prelude.{slice_get, is_some, option_and_then}
 use Rattle.std.specs.Option.{option_map}
 use Rattle.std.specs.List.{list_all}
 use Rattle.std.proofs.lemmas.List.{length-map, drop-drop, take-append-drop}
+use Rattle.std.proofs.lemmas.Bool.{and_parts}
 use Rattle.e_text.specs.Names.{is_title}
 use Rattle.e_literal.specs.declared.object.Sort.TheVariants.{Point, Line, Circle}
 use Rattle.e_literal.specs.declared.object.Obj.{Obj}
@@ -23,7 +24,6 @@ use Rattle.e_book.specs.Scope.{objects_as, args_in, by_in, known_rule, variables
 use Rattle.e_book.specs.Canonical.{name_of_object, raw_of, rule_name, by_form}
 use Rattle.e_book.specs.Fits.{scope_of_names}
 use Rattle.e_book.specs.Fits.{is_diagram_lit}
-use Rattle.e_book.proofs.Differ.{both}
 use Rattle.e_book.proofs.Respelled.{GoodForm}
 use Rattle.e_book.proofs.Lookups.{InOrder, objects_again, objects_named}
 use Rattle.e_book.proofs.LitLookups.{lit_number_again, lit_named, diagram_is_good, diagram_is_raw}
@@ -42,12 +42,12 @@ drop_map f (suc n) (x ∷ xs) = drop_map f n xs
 all_take : {A : Type 0} (p : A → Bool) (n : ℕ) (xs : List A) → list_all p xs ≡ true → list_all p (take n xs) ≡ true
 all_take p zero xs h = refl
 all_take p (suc n) [] h = refl
-all_take p (suc n) (x ∷ xs) h = let b = both (p x) (list_all p xs) h in rw (b.0, all_take p n xs b.1) refl
+all_take p (suc n) (x ∷ xs) h = let b = and_parts (p x) (list_all p xs) h in rw (b.0, all_take p n xs b.1) refl
 
 all_drop : {A : Type 0} (p : A → Bool) (n : ℕ) (xs : List A) → list_all p xs ≡ true → list_all p (drop n xs) ≡ true
 all_drop p zero xs h = h
 all_drop p (suc n) [] h = refl
-all_drop p (suc n) (x ∷ xs) h = all_drop p n xs (both (p x) (list_all p xs) h).1
+all_drop p (suc n) (x ∷ xs) h = all_drop p n xs (and_parts (p x) (list_all p xs) h).1
 
 -- what fits a row
 record FitsRow (r : Row) (args : List Obj) : Type 0 where
@@ -58,9 +58,9 @@ record FitsRow (r : Row) (args : List Obj) : Type 0 where
 
 fits_row : (r : Row) (args : List Obj) → fits r args ≡ true → FitsRow r args
 fits_row r args h =
-    let a = both _ _ h in
-    let b = both _ _ a.1 in
-    let c = both _ _ b.1 in
+    let a = and_parts _ _ h in
+    let b = and_parts _ _ a.1 in
+    let c = and_parts _ _ b.1 in
     let same : drop r.lines (drop r.points args) ≡ drop (r.points + r.lines) args = drop-drop r.lines r.points args in
     record { count = a.0; points = b.0; lines = c.0; circles = ap (λ (l : List Obj). all_of Circle l) same ∙ c.1 }
 
@@ -109,9 +109,9 @@ record Cited (ns : Names) (b : By) : Type 0 where
 
 cited : (ns : Names) (b : By) → is_citation (scope_of_names ns) b ≡ true → Cited ns b
 cited ns b h =
-    let p = both _ _ h in
-    let q = both _ _ p.1 in
-    let r = both _ _ q.1 in
+    let p = and_parts _ _ h in
+    let q = and_parts _ _ p.1 in
+    let r = and_parts _ _ q.1 in
     let row = row_at b.rule b.args r.1 in
     record { diagram = p.0; within = q.0; lit = r.0; row = row.0; at = row.1; fitting = row.2 }
 

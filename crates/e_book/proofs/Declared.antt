@@ -3,12 +3,15 @@ use Rattle.std.proofs.Common.{◌≡◌, ℕ, zero, suc, ◌+◌, ◌<◌, ◌�
 use Rattle.std.specs.Str.{bytes_eq}
 use Rattle.std.proofs.lemmas.Bool.{le-ltb, lt-ltb}
 use Rattle.std.proofs.lemmas.List.{append-nil, take_all}
+use mathlib.Core.Bool.{or-false}
 use Rattle.e_text.specs.Names.{is_name}
 use Rattle.e_literal.specs.declared.object.Sort.{Sort}
 use Rattle.e_literal.specs.declared.object.Sort.TheVariants.{Point, Line, Circle}
 use Rattle.e_literal.specs.declared.object.Scope.{Scope}
 use Rattle.e_literal.specs.Literal.{count_of}
 use Rattle.e_literal.specs.Scopes.{same_sort, with_one, grown, next_objects}
+use Rattle.e_literal.proofs.Sorts.{same_sort_is}
+use Rattle.e_literal.proofs.Growing.{count_one}
 use Rattle.e_deriv.specs.declared.names.Names.{Names}
 use Rattle.e_book.specs.declared.fault.Kind.{Kind}
 use Rattle.e_book.specs.declared.fault.Kind.TheVariants.{NameTaken}
@@ -27,7 +30,6 @@ use Rattle.e_book.proofs.Differ.{apart_at, has_not_in_front, not_before}
 use Rattle.e_book.proofs.Building.{grows}
 use Rattle.e_book.proofs.Respelled.{GoodForm, as_read}
 use Rattle.e_book.proofs.Lookups.{InOrder, named_at}
-use Rattle.e_construct.proofs.Moving.{sorts_same}
 
 -- a form at its place: the first of a theorem, or one more
 abbrev pub form_step : List Headed → Option Draft → Form → Result Draft Kind
@@ -53,16 +55,12 @@ Free ns n = (has ns.points n ≡ false) × (has ns.lines n ≡ false) × (has ns
 
 -- ---- a name on a line of its own, or on the next line
 
-or_false : (b : Bool) → (b || false) ≡ b
-or_false true = refl
-or_false false = refl
-
 or_assoc : (a b c : Bool) → (a || (b || c)) ≡ ((a || b) || c)
 or_assoc true b c = refl
 or_assoc false b c = refl
 
 has_push : (xs : List (List ℕ)) (n m : List ℕ) → has (xs ++ n ∷ []) m ≡ (has xs m || bytes_eq n m)
-has_push [] n m = or_false (bytes_eq n m)
+has_push [] n m = or-false (bytes_eq n m)
 has_push (x ∷ xs) n m = ap (λ b. bytes_eq x m || b) (has_push xs n m) ∙ or_assoc (bytes_eq x m) (has xs m) (bytes_eq n m)
 
 in_points : (p l c q s : Bool) → (p || (l || (c || (q || s)))) ≡ ((p || q) || (l || (c || s)))
@@ -179,7 +177,7 @@ together known say at l ns sorts sort s name more fs u n e r =
 by_sort : (b : Bool) (known : List Headed) (say : Sort → List (List ℕ) → Form) (at : Names → List Sort → Draft) (l : LinesOfNames known say at) (ns : Names) (sorts : List Sort) (sort : Sort) (name : List ℕ) (g : Group) (gs : List Group) (u : Option Draft)
     → Next ns sort name → same_sort sort g.sort ≡ b → Runs known (Some (at (plus ns sort name) (sorts ++ sort ∷ []))) (map (says say) (g ∷ gs)) u
     → Runs known (Some (at ns sorts)) (map (says say) (cond b (group g.sort (name ∷ g.names) ∷ gs) (group sort (name ∷ []) ∷ g ∷ gs))) u
-by_sort true known say at l ns sorts sort name g gs u n e r = together known say at l ns sorts sort g.sort name g.names (map (says say) gs) u n (sorts_same sort g.sort e) r
+by_sort true known say at l ns sorts sort name g gs u n e r = together known say at l ns sorts sort g.sort name g.names (map (says say) gs) u n (same_sort_is sort g.sort e) r
 by_sort false known say at l ns sorts sort name g gs u n e r = alone known say at l ns sorts sort name (map (says say) (g ∷ gs)) u n r
 
 run_before : (known : List Headed) (say : Sort → List (List ℕ) → Form) (at : Names → List Sort → Draft) (l : LinesOfNames known say at) (ns : Names) (sorts : List Sort) (sort : Sort) (name : List ℕ) (gs : List Group) (u : Option Draft)
@@ -227,11 +225,6 @@ room_next ns s Circle f lt = omega (arith, lt, f.circles, length-take-le s.circl
 next : (ns : Names) (s : Scope) (sort : Sort) → InOrder ns → Few ns → count_of s sort < count_of (scope_of_names ns) sort → Next (first_names s ns) sort (name_at (names_of_sort ns sort) (count_of s sort))
 next ns s sort o f lt = record { named = named_at ns sort (count_of s sort) o (lt-ltb _ _ lt); free = free_next ns s sort o lt; few = room_next ns s sort f lt }
 
-one_counts : (s : Scope) (sort : Sort) → count_of (with_one s sort) sort ≡ count_of s sort + 1
-one_counts s Point = refl
-one_counts s Line = refl
-one_counts s Circle = refl
-
 -- the lines of the objects from some scope on, behind which more objects come
 pub run_from : (known : List Headed) (say : Sort → List (List ℕ) → Form) (at : Names → List Sort → Draft) (l : LinesOfNames known say at) (ns : Names) (s : Scope) (before more after : List Sort) → InOrder ns → Few ns
     → grown (grown s more) after ≡ scope_of_names ns → Runs known (Some (at (first_names s ns) before)) (map (says say) (grouped ns (next_objects s more))) (Some (at (first_names (grown s more) ns) (before ++ more)))
@@ -240,7 +233,7 @@ run_from known say at l ns s before (sort ∷ more) after o f e =
     let first_grows = grows (with_one s sort) more sort in
     let more_grows = grows (grown (with_one s sort) more) after sort in
     let final : count_of (grown (grown (with_one s sort) more) after) sort ≡ count_of (scope_of_names ns) sort = ap (λ (x : Scope). count_of x sort) e in
-    let lt : count_of s sort < count_of (scope_of_names ns) sort = omega (arith, first_grows, more_grows, final, one_counts s sort) in
+    let lt : count_of s sort < count_of (scope_of_names ns) sort = omega (arith, first_grows, more_grows, final, count_one s sort) in
     let name : List ℕ = name_at (names_of_sort ns sort) (count_of s sort) in
     let gs : List Group = grouped ns (next_objects (with_one s sort) more) in
     let u : Option Draft = Some (at (first_names (grown (with_one s sort) more) ns) (before ++ sort ∷ more)) in

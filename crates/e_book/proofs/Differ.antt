@@ -1,8 +1,8 @@
 -- Names that differ: what stands at its place stands nowhere else.
-use Rattle.std.proofs.Common.{◌≡◌, ℕ, zero, suc, ◌<◌, Bool, true, false, ltb, not, ◌&&◌, ◌||◌, List, [], ◌∷◌, length, get_or, take, Some, None, refl, sym, ap, ◌∙◌, arith, length-take-le}
+use Rattle.std.proofs.Common.{◌≡◌, ℕ, zero, suc, ◌<◌, Bool, true, false, ltb, not, List, [], ◌∷◌, length, get_or, take, Some, None, refl, sym, ap, ◌∙◌, arith, length-take-le}
 use Rattle.std.specs.List.{position, position_or_len, AllByRecursion}
 use Rattle.std.specs.Str.{bytes_eq}
-use Rattle.std.proofs.lemmas.Bool.{lt-ltb, le-ltb, not-true}
+use Rattle.std.proofs.lemmas.Bool.{lt-ltb, le-ltb, not-true, and_parts, or_parts}
 use Rattle.std.proofs.lemmas.List.{get_or-take}
 use Rattle.std.proofs.lemmas.List.Sums.{position_or_len_is}
 use Rattle.std.proofs.lemmas.Slice.Eq.{bytes_eq-Decides}
@@ -11,14 +11,6 @@ use Rattle.e_book.specs.Scope.{has}
 use Rattle.e_book.specs.Canonical.{name_at}
 use Rattle.e_book.specs.Fits.{are_distinct, are_apart}
 use Rattle.e_book.specs.HasSpelling.{AreNames}
-
-pub both : (a b : Bool) → (a && b) ≡ true → (a ≡ true) × (b ≡ true)
-both true b e = (refl, e)
-both false b e = absurd cc
-
-pub neither : (a b : Bool) → (a || b) ≡ false → (a ≡ false) × (b ≡ false)
-neither true b e = absurd cc
-neither false b e = (refl, e)
 
 pub same_bytes : (w : List ℕ) → bytes_eq w w ≡ true
 same_bytes w = (bytes_eq-Decides w w).1 refl
@@ -54,12 +46,12 @@ Apart others names = AllByRecursion (λ n. has others n ≡ false) names
 pub first_out : (x : List ℕ) (xs ys : List (List ℕ)) → Apart (x ∷ xs) ys → has ys x ≡ false
 first_out x xs [] h = refl
 first_out x xs (y ∷ ys) h =
-    let n = neither (bytes_eq x y) (has xs y) h.0 in
+    let n = or_parts (bytes_eq x y) (has xs y) h.0 in
     rw (turned x y n.0, first_out x xs ys h.1) refl
 
 rest_out : (x : List ℕ) (xs ys : List (List ℕ)) → Apart (x ∷ xs) ys → Apart xs ys
 rest_out x xs [] h = tt
-rest_out x xs (y ∷ ys) h = ((neither (bytes_eq x y) (has xs y) h.0).1, rest_out x xs ys h.1)
+rest_out x xs (y ∷ ys) h = ((or_parts (bytes_eq x y) (has xs y) h.0).1, rest_out x xs ys h.1)
 
 pub Apart-sym : (xs ys : List (List ℕ)) → Apart xs ys → Apart ys xs
 Apart-sym [] ys h = tt
@@ -67,7 +59,7 @@ Apart-sym (x ∷ xs) ys h = (first_out x xs ys h, Apart-sym xs ys (rest_out x xs
 
 pub apart : (others names : List (List ℕ)) → are_apart others names ≡ true → Apart others names
 apart others [] h = tt
-apart others (n ∷ ns) h = let p = both (not (has others n)) (are_apart others ns) h in (not-true (has others n) p.0, apart others ns p.1)
+apart others (n ∷ ns) h = let p = and_parts (not (has others n)) (are_apart others ns) h in (not-true (has others n) p.0, apart others ns p.1)
 
 pub apart_at : (others names : List (List ℕ)) (i : ℕ) → Apart others names → i < length names → has others (name_at names i) ≡ false
 apart_at others [] i h lt = absurd (omega arith)
@@ -78,19 +70,19 @@ pub has_not_in_front : (names : List (List ℕ)) (k : ℕ) (name : List ℕ) →
 has_not_in_front names zero name h = refl
 has_not_in_front [] (suc k) name h = refl
 has_not_in_front (n ∷ ns) (suc k) name h =
-    let a = neither (bytes_eq n name) (has ns name) h in rw (a.0, has_not_in_front ns k name a.1) refl
+    let a = or_parts (bytes_eq n name) (has ns name) h in rw (a.0, has_not_in_front ns k name a.1) refl
 
 has_not : (names : List (List ℕ)) (name : List ℕ) (k : ℕ) → has names name ≡ false → k < length names → bytes_eq (get_or names k []) name ≡ false
 has_not [] name k e lt = absurd (omega arith)
-has_not (n ∷ ns) name zero e lt = (neither (bytes_eq n name) (has ns name) e).0
-has_not (n ∷ ns) name (suc k) e lt = has_not ns name k (neither (bytes_eq n name) (has ns name) e).1 (omega arith)
+has_not (n ∷ ns) name zero e lt = (or_parts (bytes_eq n name) (has ns name) e).0
+has_not (n ∷ ns) name (suc k) e lt = has_not ns name k (or_parts (bytes_eq n name) (has ns name) e).1 (omega arith)
 
 -- no name stands before its place
 pub not_before : (names : List (List ℕ)) (i : ℕ) → are_distinct names ≡ true → i < length names → has (take i names) (name_at names i) ≡ false
 not_before [] i h lt = absurd (omega arith)
 not_before (n ∷ ns) zero h lt = refl
 not_before (n ∷ ns) (suc i) h lt =
-    let p = both (not (has ns n)) (are_distinct ns) h in
+    let p = and_parts (not (has ns n)) (are_distinct ns) h in
     let first = has_not ns n i (not-true (has ns n) p.0) (omega arith) in
     rw (turned (get_or ns i []) n first, not_before ns i p.1 (omega arith)) refl
 

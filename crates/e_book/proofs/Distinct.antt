@@ -1,54 +1,38 @@
 -- New names keep all names apart.
-use Rattle.std.proofs.Common.{◌≡◌, ℕ, Bool, true, false, cond, not, ◌&&◌, ◌||◌, List, [], ◌∷◌, ◌++◌, Result, Ok, Err, refl, sym, ap, subst, ◌∙◌, append_assoc}
+use Rattle.std.proofs.Common.{◌≡◌, ℕ, Bool, true, false, cond, not, ◌||◌, List, [], ◌∷◌, ◌++◌, Result, Ok, Err, refl, sym, ap, subst, ◌∙◌, append_assoc}
 use Rattle.std.specs.Str.{bytes_eq}
 use Rattle.std.proofs.lemmas.List.{append-nil}
 use Rattle.std.proofs.lemmas.List.Folds.{list_all-append, list_any-append}
 use Rattle.std.proofs.lemmas.Slice.Eq.{bytes_eq-Decides}
+use Rattle.std.proofs.lemmas.Bool.{and_parts, or_parts, not-true}
 use Rattle.e_literal.specs.declared.object.Sort.{Sort}
 use Rattle.e_literal.specs.declared.object.Sort.TheVariants.{Point, Line, Circle}
+use Rattle.e_literal.proofs.Booleans.{same_bool}
 use Rattle.e_deriv.specs.declared.names.Names.{Names}
 use Rattle.e_book.specs.declared.fault.Kind.{Kind}
 use Rattle.e_book.specs.declared.fault.Kind.TheVariants.{NameTaken}
 use Rattle.e_book.specs.Scope.{has, is_taken, fresh, names_of_sort, with_names}
 use Rattle.e_book.specs.Fits.{are_distinct, are_apart, NamesDiffer}
 
-equal_or : (b c : Bool) → (b ≡ true → c ≡ true) → (c ≡ true → b ≡ true) → b ≡ c
-equal_or true true f g = refl
-equal_or true false f g = sym (f refl)
-equal_or false true f g = g refl
-equal_or false false f g = refl
-
 turned : (a b : List ℕ) → bytes_eq a b ≡ true → bytes_eq b a ≡ true
 turned a b h = (bytes_eq-Decides b a).1 (sym ((bytes_eq-Decides a b).0 h))
 
 same_turned : (a b : List ℕ) → bytes_eq a b ≡ bytes_eq b a
-same_turned a b = equal_or (bytes_eq a b) (bytes_eq b a) (turned a b) (turned b a)
-
-both : (a b : Bool) → (a && b) ≡ true → (a ≡ true) × (b ≡ true)
-both true b e = (refl, e)
-both false b e = absurd cc
-
-neither : (a b : Bool) → (a || b) ≡ false → (a ≡ false) × (b ≡ false)
-neither true b e = absurd cc
-neither false b e = (refl, e)
-
-is_not : (a : Bool) → not a ≡ true → a ≡ false
-is_not true e = absurd cc
-is_not false e = refl
+same_turned a b = same_bool (bytes_eq a b) (bytes_eq b a) (turned a b) (turned b a)
 
 pub distinct_last : (xs : List (List ℕ)) (n : List ℕ) → are_distinct xs ≡ true → has xs n ≡ false → are_distinct (xs ++ n ∷ []) ≡ true
 distinct_last [] n d h = refl
 distinct_last (x ∷ xs) n d h =
-    let p = both (not (has xs x)) (are_distinct xs) d in
-    let q = neither (bytes_eq x n) (has xs n) h in
-    rw (list_any-append (λ m. bytes_eq m x) xs (n ∷ []), is_not (has xs x) p.0, same_turned n x, q.0, distinct_last xs n p.1 q.1) refl
+    let p = and_parts (not (has xs x)) (are_distinct xs) d in
+    let q = or_parts (bytes_eq x n) (has xs n) h in
+    rw (list_any-append (λ m. bytes_eq m x) xs (n ∷ []), not-true (has xs x) p.0, same_turned n x, q.0, distinct_last xs n p.1 q.1) refl
 
 -- apart from a longer list
 apart_first : (x : List ℕ) (xs ys : List (List ℕ)) → are_apart (x ∷ xs) ys ≡ true → (has ys x ≡ false) × (are_apart xs ys ≡ true)
 apart_first x xs [] h = (refl, refl)
 apart_first x xs (y ∷ ys) h =
-    let p = both (not (bytes_eq x y || has xs y)) (are_apart (x ∷ xs) ys) h in
-    let q = neither (bytes_eq x y) (has xs y) (is_not (bytes_eq x y || has xs y) p.0) in
+    let p = and_parts (not (bytes_eq x y || has xs y)) (are_apart (x ∷ xs) ys) h in
+    let q = or_parts (bytes_eq x y) (has xs y) (not-true (bytes_eq x y || has xs y) p.0) in
     let r = apart_first x xs ys p.1 in
     (rw (same_turned y x, q.0, r.0) refl, rw (q.1, r.1) refl)
 
@@ -59,9 +43,9 @@ apart_turned (x ∷ xs) ys h = let p = apart_first x xs ys h in rw (p.0, apart_t
 apart_behind : (xs zs ys : List (List ℕ)) → are_apart xs ys ≡ true → are_apart zs ys ≡ true → are_apart (xs ++ zs) ys ≡ true
 apart_behind xs zs [] h k = refl
 apart_behind xs zs (y ∷ ys) h k =
-    let p = both (not (has xs y)) (are_apart xs ys) h in
-    let q = both (not (has zs y)) (are_apart zs ys) k in
-    rw (list_any-append (λ m. bytes_eq m y) xs zs, is_not (has xs y) p.0, is_not (has zs y) q.0, apart_behind xs zs ys p.1 q.1) refl
+    let p = and_parts (not (has xs y)) (are_apart xs ys) h in
+    let q = and_parts (not (has zs y)) (are_apart zs ys) k in
+    rw (list_any-append (λ m. bytes_eq m y) xs zs, not-true (has xs y) p.0, not-true (has zs y) q.0, apart_behind xs zs ys p.1 q.1) refl
 
 apart_more : (xs ys zs : List (List ℕ)) → are_apart xs ys ≡ true → are_apart xs zs ≡ true → are_apart xs (ys ++ zs) ≡ true
 apart_more xs ys zs h k = list_all-append (λ n. not (has xs n)) ys zs ∙ rw (h, k) refl
@@ -74,9 +58,9 @@ pub record Untaken (ns : Names) (seen : List (List ℕ)) (n : List ℕ) : Type 0
 
 pub untaken : (ns : Names) (seen : List (List ℕ)) (n : List ℕ) → is_taken ns seen n ≡ false → Untaken ns seen n
 untaken ns seen n e =
-    let p = neither (has ns.points n) (has ns.lines n || (has ns.circles n || has seen n)) e in
-    let q = neither (has ns.lines n) (has ns.circles n || has seen n) p.1 in
-    let r = neither (has ns.circles n) (has seen n) q.1 in
+    let p = or_parts (has ns.points n) (has ns.lines n || (has ns.circles n || has seen n)) e in
+    let q = or_parts (has ns.lines n) (has ns.circles n || has seen n) p.1 in
+    let r = or_parts (has ns.circles n) (has seen n) q.1 in
     record { points = p.0; lines = q.0; circles = r.0; among = r.1 }
 
 pub passed : (b : Bool) (x : Result (Unit {0}) Kind) (u : Unit {0}) → cond b (Err NameTaken) x ≡ Ok u → (b ≡ false) × (x ≡ Ok u)

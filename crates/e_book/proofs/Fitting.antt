@@ -2,7 +2,7 @@
 use Rattle.std.proofs.Common.{◌≡◌, ℕ, ◌+◌, ◌≤◌, Bool, true, leb, ◌&&◌, List, [], ◌∷◌, ◌++◌, length, Option, Some, None, Result, Ok, Err, refl, sym, ap, subst, arith}
 use Rattle.std.specs.Prelude.{IsTrue, IfOk, IfSome}
 use Rattle.std.specs.List.{list_all}
-use Rattle.std.proofs.lemmas.Bool.{le-leb}
+use Rattle.std.proofs.lemmas.Bool.{le-leb, and_parts, and_from}
 use Rattle.e_text.specs.Lines.{Seen, Ahead}
 use Rattle.e_text.specs.declared.line.LineFault.{LineFault}
 use Rattle.e_literal.specs.declared.object.Sort.TheVariants as sorts
@@ -13,6 +13,7 @@ use Rattle.e_literal.specs.Scopes.{grown}
 use Rattle.e_literal.specs.WellFormed.{is_well_formed}
 use Rattle.e_literal.specs.Facts.{joined, joined_all}
 use Rattle.e_literal.specs.Use.{Stated, scope_of, is_statement, gives_of_use}
+use Rattle.e_literal.proofs.Booleans.{all_both}
 use Rattle.e_construct.specs.Construct.{made, gives}
 use Rattle.e_construct.specs.Superposing as superposing
 use Rattle.e_construct.proofs.Moving.{every, grows}
@@ -36,9 +37,8 @@ use Rattle.e_book.specs.declared.fault.BookFault.{BookFault}
 use Rattle.e_book.specs.Entry.{Entry, entry_of}
 use Rattle.e_book.specs.Fits.{NewNamesFit, Fits}
 use Rattle.e_book.specs.Book.{read_from, BookReads}
-use Rattle.e_book.proofs.Answered.{within_ok, and, appended, answered, pair}
+use Rattle.e_book.proofs.Answered.{within_ok, answered, pair}
 use Rattle.e_book.proofs.InScope.{bind_ok}
-use Rattle.e_book.proofs.Differ.{both}
 use Rattle.e_book.proofs.Building.{named_scope, declared_scope}
 use Rattle.e_book.proofs.GoodLines.{GoodFacts, GoodGoal, two_good, all_joined, lines_good}
 use Rattle.e_book.proofs.Keeps.{reading_fits}
@@ -49,7 +49,7 @@ abbrev is_small_line : Line → Bool
 is_small_line x = is_small x.scope
 
 few_is_small : (ns : Names) → FewNamed ns → is_small (scope_of_names ns) ≡ true
-few_is_small ns f = and _ _ (le-leb (length ns.points) 1000 (omega (arith, f.points))) (and _ _ (le-leb (length ns.lines) 1000 (omega (arith, f.lines))) (le-leb (length ns.circles) 1000 (omega (arith, f.circles))))
+few_is_small ns f = and_from _ _ (le-leb (length ns.points) 1000 (omega (arith, f.points))) (and_from _ _ (le-leb (length ns.lines) 1000 (omega (arith, f.lines))) (le-leb (length ns.circles) 1000 (omega (arith, f.circles))))
 
 few_named : (ns : Names) → few_objects ns ≡ Ok tt → FewNamed ns
 unfolding few_objects
@@ -61,14 +61,14 @@ few_named ns e =
 -- before each line few objects are in scope
 small_scopes : (bs : List Stated) (script f : Script) (ns : Names) (facts : List Lit) (goal : Goal) → FewNamed ns → NewNamesFit bs ns script → list_all is_small_line (lines bs script f (scope_of_names ns) facts goal) ≡ true
 unfolding lines NewNamesFit
-small_scopes bs (Cite by rest) f ns facts goal few fit = and _ _ (few_is_small ns few) (small_scopes bs rest (rest_of f) ns (joined facts by.lit) goal few fit)
-small_scopes bs (Hence lit cert rest) f ns facts goal few fit = and _ _ (few_is_small ns few) (small_scopes bs rest (rest_of f) ns (joined facts lit) goal few fit)
+small_scopes bs (Cite by rest) f ns facts goal few fit = and_from _ _ (few_is_small ns few) (small_scopes bs rest (rest_of f) ns (joined facts by.lit) goal few fit)
+small_scopes bs (Hence lit cert rest) f ns facts goal few fit = and_from _ _ (few_is_small ns few) (small_scopes bs rest (rest_of f) ns (joined facts lit) goal few fit)
 small_scopes bs (Make form names certs rest) f ns facts goal few fit =
     let s = scope_of_names ns in
     let after = named ns (made form) names in
     let more = joined_all facts (gives form s) in
     let scopes : grown s (made form) ≡ scope_of_names after = named_scope ns (made form) names fit.1 in
-    and _ _ (few_is_small ns few)
+    and_from _ _ (few_is_small ns few)
     (subst (λ (z : Scope). list_all is_small_line (lines bs rest (rest_of f) z more goal) ≡ true) (sym scopes) (small_scopes bs rest (rest_of f) after more goal (few_named after fit.2) fit.3))
 small_scopes bs (Apply theorem args names certs rest) f ns facts goal few fit =
     let s = scope_of_names ns in
@@ -76,11 +76,11 @@ small_scopes bs (Apply theorem args names certs rest) f ns facts goal few fit =
     let after = named ns t.made names in
     let more = joined_all facts (gives_of_use t (args_of f) s) in
     let scopes : grown s t.made ≡ scope_of_names after = named_scope ns t.made names fit.1 in
-    and _ _ (few_is_small ns few)
+    and_from _ _ (few_is_small ns few)
     (subst (λ (z : Scope). list_all is_small_line (lines bs rest (rest_of f) z more goal) ≡ true) (sym scopes) (small_scopes bs rest (rest_of f) after more goal (few_named after fit.2) fit.3))
 small_scopes bs (Claim shown inner rest) f ns facts goal few fit =
-    and _ _ (few_is_small ns few)
-    (appended is_small_line (lines bs inner (inner_of f) (scope_of_names ns) facts (goal_of shown)) _ (small_scopes bs inner (inner_of f) ns facts (goal_of shown) few fit.0)
+    and_from _ _ (few_is_small ns few)
+    (all_both is_small_line (lines bs inner (inner_of f) (scope_of_names ns) facts (goal_of shown)) _ (small_scopes bs inner (inner_of f) ns facts (goal_of shown) few fit.0)
     (small_scopes bs rest (rest_of f) ns (joined_all facts shown) goal few fit.1))
 small_scopes bs (Superposed form names shown certs inner rest) f ns facts goal few fit =
     let s = scope_of_names ns in
@@ -89,13 +89,13 @@ small_scopes bs (Superposed form names shown certs inner rest) f ns facts goal f
     let scopes : grown s superposing.made ≡ scope_of_names after = named_scope ns superposing.made names fit.1 in
     let inside : list_all is_small_line (lines bs inner (inner_of f) (grown s superposing.made) more (goal_of shown)) ≡ true =
     subst (λ (z : Scope). list_all is_small_line (lines bs inner (inner_of f) z more (goal_of shown)) ≡ true) (sym scopes) (small_scopes bs inner (inner_of f) after more (goal_of shown) (few_named after fit.2) fit.3) in
-    and _ _ (few_is_small ns few)
-    (appended is_small_line (lines bs inner (inner_of f) (grown s superposing.made) more (goal_of shown)) _ inside (small_scopes bs rest (rest_of f) ns (joined_all facts shown) goal few fit.4))
-small_scopes bs (Qed objects certs) f ns facts goal few fit = and _ _ (few_is_small ns few) refl
-small_scopes bs (Contradiction against) f ns facts goal few fit = and _ _ (few_is_small ns few) refl
+    and_from _ _ (few_is_small ns few)
+    (all_both is_small_line (lines bs inner (inner_of f) (grown s superposing.made) more (goal_of shown)) _ inside (small_scopes bs rest (rest_of f) ns (joined_all facts shown) goal few fit.4))
+small_scopes bs (Qed objects certs) f ns facts goal few fit = and_from _ _ (few_is_small ns few) refl
+small_scopes bs (Contradiction against) f ns facts goal few fit = and_from _ _ (few_is_small ns few) refl
 small_scopes bs (Cases lit first second) f ns facts goal few fit =
-    and _ _ (few_is_small ns few)
-    (appended is_small_line (lines bs first (inner_of f) (scope_of_names ns) (joined facts lit) goal) _ (small_scopes bs first (inner_of f) ns (joined facts lit) goal few fit.0)
+    and_from _ _ (few_is_small ns few)
+    (all_both is_small_line (lines bs first (inner_of f) (scope_of_names ns) (joined facts lit) goal) _ (small_scopes bs first (inner_of f) ns (joined facts lit) goal few fit.0)
     (small_scopes bs second (rest_of f) ns (joined facts (negation lit)) goal few fit.1))
 
 -- ---- the statement
@@ -103,9 +103,9 @@ small_scopes bs (Cases lit first second) f ns facts goal few fit =
 lits_said : (s : Scope) (ls : List Lit) → list_all (all_in_scope s) ls ≡ true → list_all is_well_formed ls ≡ true → list_all (λ l. is_well_formed l && all_in_scope s l) ls ≡ true
 lits_said s [] h k = refl
 lits_said s (l ∷ ls) h k =
-    let p = both (all_in_scope s l) (list_all (all_in_scope s) ls) h in
-    let q = both (is_well_formed l) (list_all is_well_formed ls) k in
-    and _ _ (and _ _ q.0 p.0) (lits_said s ls p.1 q.1)
+    let p = and_parts (all_in_scope s l) (list_all (all_in_scope s) ls) h in
+    let q = and_parts (is_well_formed l) (list_all is_well_formed ls) k in
+    and_from _ _ (and_from _ _ q.0 p.0) (lits_said s ls p.1 q.1)
 
 -- at most so many objects
 record FewObjects (s : Scope) : Type 0 where
@@ -126,8 +126,8 @@ small_statement known t f =
     let st = stated t.statement in
     let n = few_of known t f in
     let shown : list_all (all_in_scope (all_objects st)) st.shown ≡ true = subst (λ (z : Scope). list_all (all_in_scope z) st.shown ≡ true) (sym f.scope) f.shown in
-    and _ _ (and _ _ (lits_said (scope_of st) st.given f.given f.good_given) (lits_said (all_objects st) st.shown shown f.good_shown))
-    (and _ _ (le-leb _ _ n.points) (and _ _ (le-leb _ _ n.lines) (le-leb _ _ n.circles)))
+    and_from _ _ (and_from _ _ (lits_said (scope_of st) st.given f.given f.good_given) (lits_said (all_objects st) st.shown shown f.good_shown))
+    (and_from _ _ (le-leb _ _ n.points) (and_from _ _ (le-leb _ _ n.lines) (le-leb _ _ n.circles)))
 
 -- ---- the whole
 
@@ -157,7 +157,7 @@ scopes_fit known t f =
     (small_scopes bs t.script t.script (declared_names st t.names) (facts_of_statement st) (goal_of_statement st) (few_declared known t f) f.new_names)
 
 are_statements : (bs : List Stated) → list_all is_small_statement bs ≡ true → list_all is_statement bs ≡ true
-are_statements bs h = every is_small_statement is_statement (λ t k. (both (is_statement t) (is_small (all_objects t)) k).0) bs h
+are_statements bs h = every is_small_statement is_statement (λ t k. (and_parts (is_statement t) (is_small (all_objects t)) k).0) bs h
 
 lits_fit : (known : List Headed) (t : Entry) → list_all is_small_statement (stated_by known) ≡ true → Fits known t → (filled : Script) → LitsFit (stated_by known) (proof_lines (stated_by known) (stated t.statement) t.script filled)
 lits_fit known t states f filled =
@@ -196,10 +196,10 @@ reading_states known last ahead rest t e = small_statement known t (reading_fits
 -- one more statement is known
 pub one_more_stated : (known : List Headed) (title : List ℕ) (t : Statement) → list_all is_small_statement (stated_by known) ≡ true → is_small_statement (stated t) ≡ true
     → list_all is_small_statement (stated_by (known ++ headed title t ∷ [])) ≡ true
-one_more_stated [] title t h k = and _ _ k refl
+one_more_stated [] title t h k = and_from _ _ k refl
 one_more_stated (x ∷ known) title t h k =
-    let p = both (is_small_statement (stated x.statement)) (list_all is_small_statement (stated_by known)) h in
-    and _ _ p.0 (one_more_stated known title t p.1 k)
+    let p = and_parts (is_small_statement (stated x.statement)) (list_all is_small_statement (stated_by known)) h in
+    and_from _ _ p.0 (one_more_stated known title t p.1 k)
 
 -- what is answered states something
 pub answer_states : (known : List Headed) (last : ℕ) (ahead : List (Result Seen LineFault)) (result : Result (Option Theorem) BookFault) (new : Ahead) → BookReads result new (read_from known last None ahead)

@@ -3,7 +3,7 @@ use Rattle.std.proofs.Common.{◌≡◌, ℕ, ◌+◌, ◌-◌, ◌≤◌, max, 
 use Rattle.std.specs.Prelude.{map, Ok}
 use Rattle.std.specs.List.{list_all}
 use Rattle.std.proofs.Math.Nat.{max-le}
-use Rattle.std.proofs.lemmas.Bool.{le-leb}
+use Rattle.std.proofs.lemmas.Bool.{le-leb, and_from}
 use Rattle.e_literal.specs.declared.object.Sort.{Sort}
 use Rattle.e_literal.specs.declared.object.Obj.{Obj}
 use Rattle.e_literal.specs.declared.object.Scope.{Scope}
@@ -13,6 +13,7 @@ use Rattle.e_literal.specs.Facts.{joined, joined_all}
 use Rattle.e_literal.specs.Scopes.{grown, are_of_sorts}
 use Rattle.e_literal.specs.WellFormed.{is_well_formed}
 use Rattle.e_literal.specs.Use.{Stated, gives_of_use}
+use Rattle.e_literal.proofs.Booleans.{all_both}
 use Rattle.e_clause.specs.declared.cert.By.{By}
 use Rattle.e_clause.specs.declared.cert.Cert.{Cert}
 use Rattle.e_construct.specs.declared.construction.Construction.{Construction}
@@ -33,7 +34,6 @@ use Rattle.e_book.specs.Scope.{scope_of_names, fresh}
 use Rattle.e_book.specs.Applies.{count_blanks}
 use Rattle.e_book.specs.Steps.{few_objects}
 use Rattle.e_book.specs.Fits.{NewNamesFit, few_facts, few_terms, few_blanks, is_diagram_lit, has_good_literals}
-use Rattle.e_book.proofs.Answered.{and, appended}
 use Rattle.e_book.proofs.Building.{GoodLet, named_scope}
 
 -- where a line stands: the earlier theorems, the names in scope, and how many literals are facts and how many monomials they have, repeats counted
@@ -123,7 +123,7 @@ pub record SplitFits (at : Spot) (lit : Lit) : Type 0 where
 -- ---- tests that hold together
 
 few : (n most : ℕ) (b : Bool) → n ≤ most → b ≡ true → (leb n most && b) ≡ true
-few n most b le h = and (leb n most) b (le-leb n most le) h
+few n most b le h = and_from (leb n most) b (le-leb n most le) h
 
 max_within : (k a b most : ℕ) → k + a ≤ most → k + b ≤ most → k + max a b ≤ most
 max_within k a b most h i = let m : max a b ≤ most - k = max-le (omega (arith, h)) (omega (arith, i)) in omega (arith, m, h)
@@ -134,9 +134,9 @@ pub fits_cited : (at : Spot) (sorts : List Sort) (level : ℕ) (by : By) (rest :
     → ScriptFits (spot at.before at.names (at.facts + 1) at.terms) sorts level rest → ScriptFits at sorts level (Cite by rest)
 unfolding lines NewNamesFit has_good_literals few_facts few_terms few_blanks depth
 fits_cited at sorts level by rest cited plain le r = record {
-  forms = λ f known goal m. and _ _ cited (r.forms (rest_of f) (joined known by.lit) goal m);
+  forms = λ f known goal m. and_from _ _ cited (r.forms (rest_of f) (joined known by.lit) goal m);
   new_names = r.new_names;
-  literals = and _ _ plain r.literals;
+  literals = and_from _ _ plain r.literals;
   facts = few _ _ _ le r.facts;
   terms = r.terms;
   blanks = r.blanks;
@@ -147,9 +147,9 @@ pub fits_inferred : (at : Spot) (sorts : List Sort) (level : ℕ) (lit : Lit) (r
     → at.terms + monomials lit.atom ≤ most_terms → ScriptFits (with_lit at lit) sorts level rest → ScriptFits at sorts level (Hence lit None rest)
 unfolding lines NewNamesFit has_good_literals few_facts few_terms few_blanks depth
 fits_inferred at sorts level lit rest over good le lt r = record {
-  forms = λ f known goal m. and _ _ over (r.forms (rest_of f) (joined known lit) goal m);
+  forms = λ f known goal m. and_from _ _ over (r.forms (rest_of f) (joined known lit) goal m);
   new_names = r.new_names;
-  literals = and _ _ good r.literals;
+  literals = and_from _ _ good r.literals;
   facts = few _ _ _ le r.facts;
   terms = few _ _ _ lt r.terms;
   blanks = r.blanks;
@@ -166,7 +166,7 @@ fits_made at sorts level form names certs rest g objects le r =
     let scopes : grown s (made form) ≡ scope_of_names (named at.names (made form) names) = named_scope at.names (made form) names g.count in
     record {
       forms = λ f known goal m. let more = joined_all known (gives form s) in
-          and _ _ g.fits (subst (λ (z : Scope). list_all (line_fits at.before) (lines at.before rest (rest_of f) z more goal) ≡ true) (sym scopes) (r.forms (rest_of f) more goal m));
+          and_from _ _ g.fits (subst (λ (z : Scope). list_all (line_fits at.before) (lines at.before rest (rest_of f) z more goal) ≡ true) (sym scopes) (r.forms (rest_of f) more goal m));
       new_names = (g.free, g.count, objects, r.new_names);
       literals = r.literals;
       facts = few _ _ _ le (subst (λ (z : Scope). few_facts at.before n z rest ≡ true) (sym scopes) r.facts);
@@ -184,7 +184,7 @@ fits_applied at sorts level theorem args names certs rest u r =
     let scopes : grown s t.made ≡ scope_of_names (named at.names t.made names) = named_scope at.names t.made names u.count in
     record {
       forms = λ f known goal m. let more = joined_all known (gives_of_use t (args_of f) s) in
-          and _ _ (and _ _ u.earlier u.entries) (subst (λ (z : Scope). list_all (line_fits at.before) (lines at.before rest (rest_of f) z more goal) ≡ true) (sym scopes) (r.forms (rest_of f) more goal m));
+          and_from _ _ (and_from _ _ u.earlier u.entries) (subst (λ (z : Scope). list_all (line_fits at.before) (lines at.before rest (rest_of f) z more goal) ≡ true) (sym scopes) (r.forms (rest_of f) more goal m));
       new_names = (u.free, u.count, u.objects, r.new_names);
       literals = r.literals;
       facts = few _ _ _ u.facts (subst (λ (z : Scope). few_facts at.before (at.facts + length t.shown) z rest ≡ true) (sym scopes) r.facts);
@@ -197,12 +197,12 @@ pub fits_claimed : (at : Spot) (sorts : List Sort) (level : ℕ) (shown : List L
     → at.facts + length shown ≤ most_facts → at.terms + count_monomials shown ≤ most_terms → ScriptFits (with_facts at shown) sorts level rest → ScriptFits at sorts level (Claim shown inner rest)
 unfolding lines NewNamesFit has_good_literals few_facts few_terms few_blanks depth
 fits_claimed at sorts level shown inner rest s i le lt r = record {
-  forms = λ f known goal m. and _ _ s.over (appended (line_fits at.before) (lines at.before inner (inner_of f) (scope_at at) known (goal_of shown)) _ (i.forms (inner_of f) known (goal_of shown) refl) (r.forms (rest_of f) (joined_all known shown) goal m));
+  forms = λ f known goal m. and_from _ _ s.over (all_both (line_fits at.before) (lines at.before inner (inner_of f) (scope_at at) known (goal_of shown)) _ (i.forms (inner_of f) known (goal_of shown) refl) (r.forms (rest_of f) (joined_all known shown) goal m));
   new_names = (i.new_names, r.new_names);
-  literals = and _ _ s.good (and _ _ i.literals r.literals);
-  facts = and _ _ i.facts (few _ _ _ le r.facts);
-  terms = and _ _ i.terms (few _ _ _ lt r.terms);
-  blanks = and _ _ i.blanks r.blanks;
+  literals = and_from _ _ s.good (and_from _ _ i.literals r.literals);
+  facts = and_from _ _ i.facts (few _ _ _ le r.facts);
+  terms = and_from _ _ i.terms (few _ _ _ lt r.terms);
+  blanks = and_from _ _ i.blanks r.blanks;
   shallow = max_within level (1 + depth inner) (depth rest) most_depth (omega (arith, i.shallow)) r.shallow;
 }
 
@@ -219,13 +219,13 @@ fits_copied at sorts level form names shown certs inner rest c s i le lt r =
     let inside : (f : Script) (known : List Lit) → list_all (line_fits at.before) (lines at.before inner f (grown scope superposing.made) (joined_all known given) (goal_of shown)) ≡ true = λ f known.
     subst (λ (z : Scope). list_all (line_fits at.before) (lines at.before inner f z (joined_all known given) (goal_of shown)) ≡ true) (sym scopes) (i.forms f (joined_all known given) (goal_of shown) refl) in
     record {
-      forms = λ f known goal m. and _ _ (and _ _ c.fits s.over)
-          (appended (line_fits at.before) (lines at.before inner (inner_of f) (grown scope superposing.made) (joined_all known given) (goal_of shown)) _ (inside (inner_of f) known) (r.forms (rest_of f) (joined_all known shown) goal m));
+      forms = λ f known goal m. and_from _ _ (and_from _ _ c.fits s.over)
+          (all_both (line_fits at.before) (lines at.before inner (inner_of f) (grown scope superposing.made) (joined_all known given) (goal_of shown)) _ (inside (inner_of f) known) (r.forms (rest_of f) (joined_all known shown) goal m));
       new_names = (c.free, c.count, c.objects, i.new_names, r.new_names);
-      literals = and _ _ s.good (and _ _ i.literals r.literals);
-      facts = few _ _ _ c.facts (and _ _ (subst (λ (z : Scope). few_facts at.before n z inner ≡ true) (sym scopes) i.facts) (few _ _ _ le r.facts));
-      terms = few _ _ _ c.terms (and _ _ (subst (λ (z : Scope). few_terms at.before t z inner ≡ true) (sym scopes) i.terms) (few _ _ _ lt r.terms));
-      blanks = and _ _ i.blanks r.blanks;
+      literals = and_from _ _ s.good (and_from _ _ i.literals r.literals);
+      facts = few _ _ _ c.facts (and_from _ _ (subst (λ (z : Scope). few_facts at.before n z inner ≡ true) (sym scopes) i.facts) (few _ _ _ le r.facts));
+      terms = few _ _ _ c.terms (and_from _ _ (subst (λ (z : Scope). few_terms at.before t z inner ≡ true) (sym scopes) i.terms) (few _ _ _ lt r.terms));
+      blanks = and_from _ _ i.blanks r.blanks;
       shallow = max_within level (1 + depth inner) (depth rest) most_depth (omega (arith, i.shallow)) r.shallow;
     }
 
@@ -234,7 +234,7 @@ fits_copied at sorts level form names shown certs inner rest c s i le lt r =
 pub fits_qed : (at : Spot) (sorts : List Sort) (level : ℕ) (objects : List Obj) → are_of_sorts (scope_at at) sorts objects ≡ true → level + 1 ≤ most_depth → ScriptFits at sorts level (Qed objects [])
 unfolding lines NewNamesFit has_good_literals few_facts few_terms few_blanks depth
 fits_qed at sorts level objects h le = record {
-  forms = λ f known goal m. and _ _ (subst (λ (l : List Sort). are_of_sorts (scope_at at) l objects ≡ true) (sym m) h) refl;
+  forms = λ f known goal m. and_from _ _ (subst (λ (l : List Sort). are_of_sorts (scope_at at) l objects ≡ true) (sym m) h) refl;
   new_names = tt;
   literals = refl;
   facts = refl;
@@ -259,12 +259,12 @@ pub fits_split : (at : Spot) (sorts : List Sort) (level : ℕ) (lit : Lit) (firs
     → ScriptFits (with_lit at lit) sorts (level + 1) second → ScriptFits at sorts level (Cases lit first second)
 unfolding lines NewNamesFit has_good_literals few_facts few_terms few_blanks depth
 fits_split at sorts level lit first second s a b = record {
-  forms = λ f known goal m. and _ _ s.over
-      (appended (line_fits at.before) (lines at.before first (inner_of f) (scope_at at) (joined known lit) goal) _ (a.forms (inner_of f) (joined known lit) goal m) (b.forms (rest_of f) (joined known (negation lit)) goal m));
+  forms = λ f known goal m. and_from _ _ s.over
+      (all_both (line_fits at.before) (lines at.before first (inner_of f) (scope_at at) (joined known lit) goal) _ (a.forms (inner_of f) (joined known lit) goal m) (b.forms (rest_of f) (joined known (negation lit)) goal m));
   new_names = (a.new_names, b.new_names);
-  literals = and _ _ s.good (and _ _ a.literals b.literals);
-  facts = few _ _ _ s.facts (and _ _ a.facts b.facts);
-  terms = few _ _ _ s.terms (and _ _ a.terms b.terms);
-  blanks = and _ _ a.blanks b.blanks;
+  literals = and_from _ _ s.good (and_from _ _ a.literals b.literals);
+  facts = few _ _ _ s.facts (and_from _ _ a.facts b.facts);
+  terms = few _ _ _ s.terms (and_from _ _ a.terms b.terms);
+  blanks = and_from _ _ a.blanks b.blanks;
   shallow = let m = max_within (level + 1) (depth first) (depth second) most_depth a.shallow b.shallow in omega (arith, m);
 }

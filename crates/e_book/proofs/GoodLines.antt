@@ -3,7 +3,7 @@
 use Rattle.std.proofs.Common.{◌≡◌, ℕ, zero, suc, ◌+◌, ◌≤◌, Bool, true, false, cond, leb, ltb, ◌&&◌, List, [], ◌∷◌, ◌++◌, length, map, Option, refl, sym, ap, subst, ◌∙◌, arith, length-append}
 use Rattle.std.specs.Prelude.{is_some}
 use Rattle.std.specs.List.{list_all}
-use Rattle.std.proofs.lemmas.Bool.{le-leb, leb-true, lt-ltb, ltb-true}
+use Rattle.std.proofs.lemmas.Bool.{le-leb, leb-true, lt-ltb, ltb-true, and_parts}
 use Rattle.std.proofs.lemmas.List.{length-map}
 use Rattle.std.proofs.lemmas.List.Concat.{flat_map-append}
 use Rattle.std.proofs.lemmas.List.Folds.{list_all-append}
@@ -22,6 +22,9 @@ use Rattle.e_literal.specs.WellFormed.{is_well_formed}
 use Rattle.e_literal.specs.Facts.{has, joined, joined_all}
 use Rattle.e_literal.specs.Rename.{mono_at, atom_at, number_at, renamed, image_in, paired}
 use Rattle.e_literal.specs.Use.{Stated, is_statement, are_arguments, image, gives_of_use}
+use Rattle.e_literal.proofs.Renamed.{is_moved_in}
+use Rattle.e_literal.proofs.Growing.{sorts_next}
+use Rattle.e_literal.proofs.Booleans.{all_both}
 use Rattle.e_clause.specs.declared.cert.By.{By}
 use Rattle.e_clause.specs.Instance.{Inst}
 use Rattle.e_clause.specs.RuleKinds.{is_diagram_rule}
@@ -29,7 +32,7 @@ use Rattle.e_clause.specs.Assignment.{terms_of_atom, terms_of_lits}
 use Rattle.e_clause.specs.Judged.{is_good, are_good, are_good_facts}
 use Rattle.e_construct.specs.Construct.{made, gives, fits as fits_form}
 use Rattle.e_construct.specs.Superposing as superposing
-use Rattle.e_construct.proofs.Moving.{is_plain, is_moved_in, moved_lit, Within, in_more, every, grows}
+use Rattle.e_construct.proofs.Moving.{is_plain, moved_lit, Within, in_more, every, grows}
 use Rattle.e_construct.proofs.Given.{needs_good, gives_good, gives_plain, superposition_needs_good, superposition_gives}
 use Rattle.e_theorem.specs.Pattern.{is_pattern}
 use Rattle.e_theorem.specs.Choice.{fills, is_choice}
@@ -42,13 +45,10 @@ use Rattle.e_deriv.specs.Steps.{are_over, is_citation}
 use Rattle.e_deriv.specs.Fitting.{LitsFit}
 use Rattle.e_book.specs.Limits.{most_terms, monomials, count_monomials}
 use Rattle.e_book.specs.Fits.{is_diagram_lit, has_good_literals, few_terms}
-use Rattle.e_book.proofs.Answered.{appended}
 use Rattle.e_book.proofs.FittingScripts.{line_fits}
-use Rattle.e_book.proofs.Differ.{both}
 use Rattle.e_book.proofs.ShortLits.{count_first}
 use Rattle.e_book.proofs.LitLookups.{diagram_is_good}
 use Rattle.e_book.proofs.WellRead.{no_monomials}
-use Rattle.e_book.proofs.Building.{sorts_again}
 use Rattle.e_book.proofs.Renaming.{renamed_good, made_moved}
 
 -- ---- facts
@@ -74,7 +74,7 @@ one_more facts l =
 
 either : (s : Scope) (facts : List Lit) (l : Lit) (n : ℕ) (b : Bool) → GoodFacts s facts n → is_good s l ≡ true → GoodFacts s (cond b facts (facts ++ l ∷ [])) (n + monomials l.atom)
 either s facts l n true g h = record { good = g.good; few = omega (arith, g.few) }
-either s facts l n false g h = record { good = appended (is_good s) facts (l ∷ []) g.good (rw h refl); few = omega (arith, g.few, one_more facts l) }
+either s facts l n false g h = record { good = all_both (is_good s) facts (l ∷ []) g.good (rw h refl); few = omega (arith, g.few, one_more facts l) }
 
 good_joined : (s : Scope) (facts : List Lit) (l : Lit) (n : ℕ) → GoodFacts s facts n → is_good s l ≡ true → GoodFacts s (joined facts l) (n + monomials l.atom)
 unfolding joined
@@ -83,7 +83,7 @@ good_joined s facts l n g h = either s facts l n (has facts l) g h
 pub all_joined : (s : Scope) (facts ls : List Lit) (n : ℕ) → GoodFacts s facts n → are_good s ls ≡ true → GoodFacts s (joined_all facts ls) (n + count_monomials ls)
 all_joined s facts [] n g h = record { good = g.good; few = omega (arith, g.few) }
 all_joined s facts (l ∷ ls) n g h =
-    let p = both (is_good s l) (are_good s ls) h in
+    let p = and_parts (is_good s l) (are_good s ls) h in
     let r = all_joined s (joined facts l) ls (n + monomials l.atom) (good_joined s facts l n g p.0) p.1 in
     record { good = r.good; few = omega (arith, r.few, count_first l ls) }
 
@@ -97,14 +97,14 @@ plain_monomials n a h = refl
 plain_count : (ls : List Lit) → list_all is_plain ls ≡ true → count_monomials ls ≡ 0
 plain_count [] h = refl
 plain_count (l ∷ ls) h =
-    let p = both (is_plain l) (list_all is_plain ls) h in
+    let p = and_parts (is_plain l) (list_all is_plain ls) h in
     omega (arith, count_first l ls, plain_monomials l.neg l.atom p.0, plain_count ls p.1)
 
 pub two_good : (s : Scope) (ls : List Lit) → list_all (all_in_scope s) ls ≡ true → list_all is_well_formed ls ≡ true → are_good s ls ≡ true
 two_good s [] h k = refl
 two_good s (l ∷ ls) h k =
-    let p = both (all_in_scope s l) (list_all (all_in_scope s) ls) h in
-    let q = both (is_well_formed l) (list_all is_well_formed ls) k in
+    let p = and_parts (all_in_scope s l) (list_all (all_in_scope s) ls) h in
+    let q = and_parts (is_well_formed l) (list_all is_well_formed ls) k in
     rw (p.0, q.0, two_good s ls p.1 q.1) refl
 
 -- in a larger scope
@@ -113,7 +113,7 @@ good_more s t w ls h = every (is_good s) (is_good t) one ls h
   where
     one : (l : Lit) → is_good s l ≡ true → is_good t l ≡ true
     one l k =
-        let p = both (all_in_scope s l) (is_well_formed l) k in
+        let p = and_parts (all_in_scope s l) (is_well_formed l) k in
         rw (every (is_in_scope s) (is_in_scope t) (in_more s t w) (objects_of_atom l.atom) p.0, p.1) refl
 
 -- ---- the goal
@@ -130,8 +130,8 @@ good_goal : (before s : Scope) (sorts : List Sort) (os : List Obj) (shown : List
     → are_good s (goal_with (goal_for before sorts shown) os) ≡ true
 good_goal before s sorts os [] w f h k = refl
 good_goal before s sorts os (l ∷ shown) w f h k =
-    let p = both (all_in_scope (grown before sorts) l) (list_all (all_in_scope (grown before sorts)) shown) h in
-    let q = both (is_well_formed l) (list_all is_well_formed shown) k in
+    let p = and_parts (all_in_scope (grown before sorts) l) (list_all (all_in_scope (grown before sorts)) shown) h in
+    let q = and_parts (is_well_formed l) (list_all is_well_formed shown) k in
     let image = image_in (paired (next_objects before sorts) os) in
     let here = moved_lit s image l (every (is_in_scope (grown before sorts)) (is_moved_in s image) (λ o i. made_moved before s sorts os o f i (in_more before s w o)) (objects_of_atom l.atom) p.0) in
     rw (here, renamed_good image l q.0, good_goal before s sorts os shown w f p.1 q.1) refl
@@ -141,8 +141,8 @@ good_goal before s sorts os (l ∷ shown) w f h k =
 -- each of the earlier theorems is a statement
 stated_at : (bs : List Stated) (k : ℕ) → list_all is_statement bs ≡ true → ltb k (length bs) ≡ true → is_statement (theorem_at bs k) ≡ true
 stated_at [] k h lt = let less = ltb-true k 0 lt in absurd (omega (arith, less))
-stated_at (b ∷ bs) zero h lt = (both (is_statement b) (list_all is_statement bs) h).0
-stated_at (b ∷ bs) (suc k) h lt = let less = ltb-true (suc k) (length (b ∷ bs)) lt in stated_at bs k (both (is_statement b) (list_all is_statement bs) h).1 (lt-ltb k (length bs) (omega (arith, less)))
+stated_at (b ∷ bs) zero h lt = (and_parts (is_statement b) (list_all is_statement bs) h).0
+stated_at (b ∷ bs) (suc k) h lt = let less = ltb-true (suc k) (length (b ∷ bs)) lt in stated_at bs k (and_parts (is_statement b) (list_all is_statement bs) h).1 (lt-ltb k (length bs) (omega (arith, less)))
 
 moved_monomials : (p l c : ℕ → ℕ) (a : Atom) → monomials (atom_at p l c a) ≡ monomials a
 moved_monomials p l c (atoms.MagEq x y) = omega (arith, length-append x y, length-append (map (mono_at p) x) (map (mono_at p) y), length-map x (mono_at p), length-map y (mono_at p))
@@ -167,13 +167,13 @@ one_good s l h = rw h refl
 
 cited_in_scope : (s : Scope) (by : By) → is_citation s by ≡ true → all_in_scope s by.lit ≡ true
 cited_in_scope s by h =
-    let p = both (is_diagram_rule by.rule) (list_all (is_in_scope s) by.args && (all_in_scope s by.lit && is_some (Inst by.rule by.args))) h in
-    let q = both (list_all (is_in_scope s) by.args) (all_in_scope s by.lit && is_some (Inst by.rule by.args)) p.1 in
-    (both (all_in_scope s by.lit) (is_some (Inst by.rule by.args)) q.1).0
+    let p = and_parts (is_diagram_rule by.rule) (list_all (is_in_scope s) by.args && (all_in_scope s by.lit && is_some (Inst by.rule by.args))) h in
+    let q = and_parts (list_all (is_in_scope s) by.args) (all_in_scope s by.lit && is_some (Inst by.rule by.args)) p.1 in
+    (and_parts (all_in_scope s by.lit) (is_some (Inst by.rule by.args)) q.1).0
 
 -- the lines of two parts of a script
 parted : (p : Line → Bool) (xs ys : List Line) → list_all p (xs ++ ys) ≡ true → (list_all p xs ≡ true) × (list_all p ys ≡ true)
-parted p xs ys h = both (list_all p xs) (list_all p ys) (sym (list_all-append p xs ys) ∙ h)
+parted p xs ys h = and_parts (list_all p xs) (list_all p ys) (sym (list_all-append p xs ys) ∙ h)
 
 both_parts : (bs : List Stated) (xs ys : List Line) → LitsFit bs xs → LitsFit bs ys → LitsFit bs (xs ++ ys)
 both_parts bs [] ys h k = k
@@ -181,7 +181,7 @@ both_parts bs (x ∷ xs) ys h k = (h.0, λ f. let r = h.1 f in (r.0, both_parts 
 
 -- a test of a number, and another
 room : (n : ℕ) (b : Bool) → (leb n most_terms && b) ≡ true → (n ≤ most_terms) × (b ≡ true)
-room n b h = let p = both (leb n most_terms) b h in (leb-true n most_terms p.0, p.1)
+room n b h = let p = and_parts (leb n most_terms) b h in (leb-true n most_terms p.0, p.1)
 
 -- what a line gives that uses an earlier theorem
 good_gifts : (bs : List Stated) (k : ℕ) (s : Scope) (args : List Obj) (facts : List Lit) (n : ℕ) → list_all is_statement bs ≡ true → ltb k (length bs) ≡ true → are_arguments (theorem_at bs k) s args ≡ true → GoodFacts s facts n
@@ -201,16 +201,16 @@ pub lines_good : (bs : List Stated) → list_all is_statement bs ≡ true → (b
     → list_all (line_fits bs) (lines bs script g s other (goal_for before sorts shown)) ≡ true → LitsFit bs (lines bs script f s facts (goal_for before sorts shown))
 unfolding lines has_good_literals few_terms
 lines_good bs states before sorts shown goal (Cite by rest) g f s other facts n good w le few h fit =
-    let p = both (is_citation s by) (list_all (line_fits bs) (lines bs rest (rest_of g) s (joined other by.lit) (goal_for before sorts shown))) fit in
-    let q = both (is_diagram_lit by.lit) (has_good_literals rest) h in
+    let p = and_parts (is_citation s by) (list_all (line_fits bs) (lines bs rest (rest_of g) s (joined other by.lit) (goal_for before sorts shown))) fit in
+    let q = and_parts (is_diagram_lit by.lit) (has_good_literals rest) h in
     let lit : is_good s by.lit ≡ true = rw (cited_in_scope s by p.0, diagram_is_good by.lit q.0) refl in
     let next = good_joined s facts by.lit n good lit in
     let same : GoodFacts s (joined facts by.lit) n = record { good = next.good; few = omega (arith, next.few, no_monomials by.lit.atom q.0) } in
     (facts_fit s facts n good le, λ is. (refl, lines_good bs states before sorts shown goal rest (rest_of g) (rest_of f) s (joined other by.lit) (joined facts by.lit) n same w le few q.1 p.1))
 lines_good bs states before sorts shown goal (Hence lit cert rest) g f s other facts n good w le few h fit =
     let m = n + monomials lit.atom in
-    let p = both (all_in_scope s lit) (list_all (line_fits bs) (lines bs rest (rest_of g) s (joined other lit) (goal_for before sorts shown))) fit in
-    let q = both (is_well_formed lit) (has_good_literals rest) h in
+    let p = and_parts (all_in_scope s lit) (list_all (line_fits bs) (lines bs rest (rest_of g) s (joined other lit) (goal_for before sorts shown))) fit in
+    let q = and_parts (is_well_formed lit) (has_good_literals rest) h in
     let r = room m (few_terms bs m s rest) few in
     let here : is_good s lit ≡ true = rw (p.0, q.0) refl in (
       facts_fit s facts n good le,
@@ -222,7 +222,7 @@ lines_good bs states before sorts shown goal (Hence lit cert rest) g f s other f
 lines_good bs states before sorts shown goal (Make form names certs rest) g f s other facts n good w le few h fit =
     let t = grown s (made form) in
     let more = joined_all facts (gives form s) in
-    let p = both (fits_form form s) (list_all (line_fits bs) (lines bs rest (rest_of g) t (joined_all other (gives form s)) (goal_for before sorts shown))) fit in
+    let p = and_parts (fits_form form s) (list_all (line_fits bs) (lines bs rest (rest_of g) t (joined_all other (gives form s)) (goal_for before sorts shown))) fit in
     let larger : Within s t = grows s (made form) in
     let start : GoodFacts t facts n = record { good = good_more s t larger facts good.good; few = good.few } in
     let next = all_joined t facts (gives form s) n start (gives_good form s p.0) in
@@ -237,12 +237,12 @@ lines_good bs states before sorts shown goal (Apply theorem pattern names certs 
     let t = theorem_at bs theorem in
     let u = grown s t.made in
     let m = n + count_monomials t.shown in
-    let p = both (ltb theorem (length bs) && is_pattern t s pattern) (list_all (line_fits bs) (lines bs rest (rest_of g) u (joined_all other (gives_of_use t (args_of g) s)) (goal_for before sorts shown))) fit in
-    let earlier : ltb theorem (length bs) ≡ true = (both (ltb theorem (length bs)) (is_pattern t s pattern) p.0).0 in
+    let p = and_parts (ltb theorem (length bs) && is_pattern t s pattern) (list_all (line_fits bs) (lines bs rest (rest_of g) u (joined_all other (gives_of_use t (args_of g) s)) (goal_for before sorts shown))) fit in
+    let earlier : ltb theorem (length bs) ≡ true = (and_parts (ltb theorem (length bs)) (is_pattern t s pattern) p.0).0 in
     let r = room m (few_terms bs m u rest) few in
     let larger : Within s u = grows s t.made in
     let chosen : (ltb theorem (length bs) && is_choice t s pattern (args_of f)) ≡ true → are_arguments t s (args_of f) ≡ true = λ is.
-    (both (fills pattern (args_of f)) (are_arguments t s (args_of f)) (both (ltb theorem (length bs)) (is_choice t s pattern (args_of f)) is).1).1 in (
+    (and_parts (fills pattern (args_of f)) (are_arguments t s (args_of f)) (and_parts (ltb theorem (length bs)) (is_choice t s pattern (args_of f)) is).1).1 in (
       facts_fit s facts n good le,
       λ is. (
         needs_of_use_good t (args_of f) s (stated_at bs theorem states earlier) (chosen is),
@@ -254,11 +254,11 @@ lines_good bs states before sorts shown goal (Claim claimed inner rest) g f s ot
     let m = n + count_monomials claimed in
     let inside = lines bs inner (inner_of g) s other (goal_for s [] claimed) in
     let behind = lines bs rest (rest_of g) s (joined_all other claimed) (goal_for before sorts shown) in
-    let p = both (are_over s claimed) (list_all (line_fits bs) (inside ++ behind)) fit in
+    let p = and_parts (are_over s claimed) (list_all (line_fits bs) (inside ++ behind)) fit in
     let q = parted (line_fits bs) inside behind p.1 in
-    let l = both (list_all is_well_formed claimed) (has_good_literals inner && has_good_literals rest) h in
-    let k = both (has_good_literals inner) (has_good_literals rest) l.1 in
-    let r = both (few_terms bs n s inner) (leb m most_terms && few_terms bs m s rest) few in
+    let l = and_parts (list_all is_well_formed claimed) (has_good_literals inner && has_good_literals rest) h in
+    let k = and_parts (has_good_literals inner) (has_good_literals rest) l.1 in
+    let r = and_parts (few_terms bs n s inner) (leb m most_terms && few_terms bs m s rest) few in
     let v = room m (few_terms bs m s rest) r.1 in
     let next = all_joined s facts claimed n good (two_good s claimed p.0 l.0) in
     let own : GoodGoal s [] claimed = record { within = p.0; good = l.0 } in (
@@ -277,13 +277,13 @@ lines_good bs states before sorts shown goal (Superposed form names copied certs
     let m = n + count_monomials copied in
     let inside = lines bs inner (inner_of g) t (joined_all other given) (goal_for s [] copied) in
     let behind = lines bs rest (rest_of g) s (joined_all other copied) (goal_for before sorts shown) in
-    let p = both (superposing.fits form s && are_over s copied) (list_all (line_fits bs) (inside ++ behind)) fit in
-    let o = both (superposing.fits form s) (are_over s copied) p.0 in
+    let p = and_parts (superposing.fits form s && are_over s copied) (list_all (line_fits bs) (inside ++ behind)) fit in
+    let o = and_parts (superposing.fits form s) (are_over s copied) p.0 in
     let q = parted (line_fits bs) inside behind p.1 in
-    let l = both (list_all is_well_formed copied) (has_good_literals inner && has_good_literals rest) h in
-    let k = both (has_good_literals inner) (has_good_literals rest) l.1 in
+    let l = and_parts (list_all is_well_formed copied) (has_good_literals inner && has_good_literals rest) h in
+    let k = and_parts (has_good_literals inner) (has_good_literals rest) l.1 in
     let a = room i (few_terms bs i t inner && (leb m most_terms && few_terms bs m s rest)) few in
-    let r = both (few_terms bs i t inner) (leb m most_terms && few_terms bs m s rest) a.1 in
+    let r = and_parts (few_terms bs i t inner) (leb m most_terms && few_terms bs m s rest) a.1 in
     let v = room m (few_terms bs m s rest) r.1 in
     let larger : Within s t = grows s superposing.made in
     let start : GoodFacts t facts n = record { good = good_more s t larger facts good.good; few = good.few } in
@@ -299,20 +299,20 @@ lines_good bs states before sorts shown goal (Superposed form names copied certs
       ),
     )
 lines_good bs states before sorts shown goal (Qed objects certs) g f s other facts n good w le few h fit =
-    let p = both (are_for (goal_for before sorts shown) s objects) true fit in
-    let of_sorts : are_of_sorts s sorts objects ≡ true = subst (λ (xs : List Sort). are_of_sorts s xs objects ≡ true) (sorts_again before sorts) p.0 in
+    let p = and_parts (are_for (goal_for before sorts shown) s objects) true fit in
+    let of_sorts : are_of_sorts s sorts objects ≡ true = subst (λ (xs : List Sort). are_of_sorts s xs objects ≡ true) (sorts_next before sorts) p.0 in
     (facts_fit s facts n good le, λ is. (good_goal before s sorts objects shown w of_sorts goal.within goal.good, tt))
 lines_good bs states before sorts shown goal (Contradiction against) g f s other facts n good w le few h fit = (facts_fit s facts n good le, λ is. (refl, tt))
 lines_good bs states before sorts shown goal (Cases lit first second) g f s other facts n good w le few h fit =
     let m = n + monomials lit.atom in
     let one = lines bs first (inner_of g) s (joined other lit) (goal_for before sorts shown) in
     let two = lines bs second (rest_of g) s (joined other (negation lit)) (goal_for before sorts shown) in
-    let p = both (all_in_scope s lit) (list_all (line_fits bs) (one ++ two)) fit in
+    let p = and_parts (all_in_scope s lit) (list_all (line_fits bs) (one ++ two)) fit in
     let q = parted (line_fits bs) one two p.1 in
-    let l = both (is_well_formed lit) (has_good_literals first && has_good_literals second) h in
-    let k = both (has_good_literals first) (has_good_literals second) l.1 in
+    let l = and_parts (is_well_formed lit) (has_good_literals first && has_good_literals second) h in
+    let k = and_parts (has_good_literals first) (has_good_literals second) l.1 in
     let a = room m (few_terms bs m s first && few_terms bs m s second) few in
-    let r = both (few_terms bs m s first) (few_terms bs m s second) a.1 in
+    let r = and_parts (few_terms bs m s first) (few_terms bs m s second) a.1 in
     let here : is_good s lit ≡ true = rw (p.0, l.0) refl in (
       facts_fit s facts n good le,
       λ is. (

@@ -1,25 +1,13 @@
 -- Sums that are well formed, on either side of a comparison.
 use Rattle.std.proofs.Common.{◌≡◌, ◌+◌, ◌≤◌, Bool, true, leb, ◌&&◌, List, [], ◌∷◌, ◌++◌, length, refl, sym, subst, ◌∙◌, arith, length-append}
 use Rattle.std.specs.List.{list_all}
-use Rattle.std.proofs.lemmas.Bool.{leb-true, le-leb}
+use Rattle.std.proofs.lemmas.Bool.{leb-true, le-leb, and_parts}
 use Rattle.std.proofs.lemmas.List.Folds.{list_all-append}
 use Rattle.e_literal.specs.declared.object.Kind.{Kind}
-use Rattle.e_literal.specs.declared.object.Kind.TheVariants.{Segment, Angle, Area}
 use Rattle.e_literal.specs.declared.object.Mono.{Mono}
 use Rattle.e_literal.specs.Literal.{kind_of_term, kind_of_sums}
 use Rattle.e_literal.specs.WellFormed.{same_kind, is_good_coefficient, are_good_sums}
-use Rattle.e_book.proofs.Differ.{both}
-
-pub kinds_same : (a b : Kind) → same_kind a b ≡ true → a ≡ b
-kinds_same Segment Segment e = refl
-kinds_same Angle Angle e = refl
-kinds_same Area Area e = refl
-kinds_same a b e = absurd cc
-
-pub same_itself : (k : Kind) → same_kind k k ≡ true
-same_itself Segment = refl
-same_itself Angle = refl
-same_itself Area = refl
+use Rattle.e_literal.proofs.Sorts.{same_kind_is}
 
 -- terms of this kind with good coefficients
 abbrev pub is_good_mono : Kind → Mono → Bool
@@ -37,17 +25,17 @@ pub record GoodSums (k : Kind) (x y : List Mono) : Type 0 where
 pub good_sums : (x y : List Mono) → are_good_sums x y ≡ true → GoodSums (kind_of_sums x y) x y
 good_sums x y h =
     let k = kind_of_sums x y in
-    let p = both (leb 1 (length (x ++ y))) (leb (length (x ++ y)) 32 && list_all (is_good_mono k) (x ++ y)) h in
-    let q = both (leb (length (x ++ y)) 32) (list_all (is_good_mono k) (x ++ y)) p.1 in
+    let p = and_parts (leb 1 (length (x ++ y))) (leb (length (x ++ y)) 32 && list_all (is_good_mono k) (x ++ y)) h in
+    let q = and_parts (leb (length (x ++ y)) 32) (list_all (is_good_mono k) (x ++ y)) p.1 in
     let l = length-append x y in
     let a = leb-true 1 (length (x ++ y)) p.0 in
     let b = leb-true (length (x ++ y)) 32 q.0 in
-    let parts = both (list_all (is_good_mono k) x) (list_all (is_good_mono k) y) (sym (list_all-append (is_good_mono k) x y) ∙ q.1) in
+    let parts = and_parts (list_all (is_good_mono k) x) (list_all (is_good_mono k) y) (sym (list_all-append (is_good_mono k) x y) ∙ q.1) in
     record { left = parts.0; right = parts.1; some = omega (arith, l, a); short = omega (arith, l, b) }
 
 -- the kind of sums is that of each of their terms
 first_kind_is : (k : Kind) (m : Mono) (ms : List Mono) → AreGood k (m ∷ ms) → kind_of_term m.term ≡ k
-first_kind_is k m ms h = kinds_same (kind_of_term m.term) k (both (same_kind (kind_of_term m.term) k) (is_good_coefficient m.coeff) (both (is_good_mono k m) (list_all (is_good_mono k) ms) h).0).0
+first_kind_is k m ms h = same_kind_is (kind_of_term m.term) k (and_parts (same_kind (kind_of_term m.term) k) (is_good_coefficient m.coeff) (and_parts (is_good_mono k m) (list_all (is_good_mono k) ms) h).0).0
 
 pub kind_is : (k : Kind) (x y : List Mono) → GoodSums k x y → kind_of_sums x y ≡ k
 kind_is k (m ∷ xs) y g = first_kind_is k m xs g.left

@@ -1,7 +1,7 @@
 -- Names stay in order where some are left out and where new ones come into scope.
 use Rattle.std.proofs.Common.{◌≡◌, ℕ, zero, suc, Bool, true, false, not, ◌&&◌, List, [], ◌∷◌, ◌++◌, take, Ok, refl, sym, ap, ap₂, ◌∙◌}
 use Rattle.std.specs.List.{list_all}
-use Rattle.std.proofs.lemmas.Bool.{not-true, ltb-true}
+use Rattle.std.proofs.lemmas.Bool.{not-true, ltb-true, and_parts}
 use Rattle.std.proofs.lemmas.List.{get_or-take}
 use Rattle.std.proofs.lemmas.List.Folds.{list_all-append}
 use Rattle.e_text.specs.Names.{is_name}
@@ -27,7 +27,7 @@ use Rattle.e_book.specs.Scope.{has, is_taken, fresh}
 use Rattle.e_book.specs.Fits.{are_distinct}
 use Rattle.e_book.specs.Canonical.{name_at, raw_term, raw_sum, raw_atom, raw_signed, raw_of}
 use Rattle.e_book.specs.HasSpelling.{AreNames}
-use Rattle.e_book.proofs.Differ.{both, Apart, Apart-sym, has_not_in_front}
+use Rattle.e_book.proofs.Differ.{Apart, Apart-sym, has_not_in_front}
 use Rattle.e_book.proofs.Distinct.{distinct_last, untaken, passed}
 use Rattle.e_book.proofs.Lookups.{InOrder, ordered}
 use Rattle.e_book.proofs.Declared.{Free, plus, same_fresh}
@@ -43,7 +43,7 @@ front_distinct : (n : ℕ) (xs : List (List ℕ)) → are_distinct xs ≡ true �
 front_distinct zero xs h = refl
 front_distinct (suc n) [] h = refl
 front_distinct (suc n) (x ∷ xs) h =
-    let p = both (not (has xs x)) (are_distinct xs) h in
+    let p = and_parts (not (has xs x)) (are_distinct xs) h in
     rw (has_not_in_front xs n x (not-true (has xs x) p.0), front_distinct n xs p.1) refl
 
 front_apart : (m n : ℕ) (others names : List (List ℕ)) → Apart others names → Apart (take m others) (take n names)
@@ -93,12 +93,12 @@ named_in_order ns (sort ∷ sorts) (n ∷ names) o h e =
 
 two : (s : Scope) (a b : Obj) → list_all (is_in_scope s) (a ∷ b ∷ []) ≡ true → (is_in_scope s a ≡ true) × (is_in_scope s b ≡ true)
 two s a b h =
-    let p = both (is_in_scope s a) (is_in_scope s b && true) h in
-    (p.0, (both (is_in_scope s b) true p.1).0)
+    let p = and_parts (is_in_scope s a) (is_in_scope s b && true) h in
+    (p.0, (and_parts (is_in_scope s b) true p.1).0)
 
 three : (s : Scope) (a b c : Obj) → list_all (is_in_scope s) (a ∷ b ∷ c ∷ []) ≡ true → (is_in_scope s a ≡ true) × (is_in_scope s b ≡ true) × (is_in_scope s c ≡ true)
 three s a b c h =
-    let p = both (is_in_scope s a) (is_in_scope s b && (is_in_scope s c && true)) h in
+    let p = and_parts (is_in_scope s a) (is_in_scope s b && (is_in_scope s c && true)) h in
     let q = two s b c p.1 in
     (p.0, q.0, q.1)
 
@@ -129,12 +129,12 @@ term_of_first s ns terms.Right h = refl
 sum_of_first : (s : Scope) (ns : Names) (ms : List Mono) → list_all (is_in_scope s) (objects_of_sum ms) ≡ true → raw_sum (first_names s ns) ms ≡ raw_sum ns ms
 sum_of_first s ns [] h = refl
 sum_of_first s ns (m ∷ ms) h =
-    let p = both (list_all (is_in_scope s) (objects_of_term m.term)) (list_all (is_in_scope s) (objects_of_sum ms)) (sym (list_all-append (is_in_scope s) (objects_of_term m.term) (objects_of_sum ms)) ∙ h) in
+    let p = and_parts (list_all (is_in_scope s) (objects_of_term m.term)) (list_all (is_in_scope s) (objects_of_sum ms)) (sym (list_all-append (is_in_scope s) (objects_of_term m.term) (objects_of_sum ms)) ∙ h) in
     ap₂ (λ (t : RawTerm) (rs : List RawMono). record { coeff = m.coeff; term = t } ∷ rs) (term_of_first s ns m.term p.0) (sum_of_first s ns ms p.1)
 
 sides : (s : Scope) (x y : List Mono) → list_all (is_in_scope s) (objects_of_sum x ++ objects_of_sum y) ≡ true
     → (list_all (is_in_scope s) (objects_of_sum x) ≡ true) × (list_all (is_in_scope s) (objects_of_sum y) ≡ true)
-sides s x y h = both (list_all (is_in_scope s) (objects_of_sum x)) (list_all (is_in_scope s) (objects_of_sum y)) (sym (list_all-append (is_in_scope s) (objects_of_sum x) (objects_of_sum y)) ∙ h)
+sides s x y h = and_parts (list_all (is_in_scope s) (objects_of_sum x)) (list_all (is_in_scope s) (objects_of_sum y)) (sym (list_all-append (is_in_scope s) (objects_of_sum x) (objects_of_sum y)) ∙ h)
 
 -- ---- literals over the first objects
 

@@ -5,6 +5,7 @@ use Rattle.std.specs.Str.{bytes_eq}
 use Rattle.std.proofs.lemmas.Bool.{lt-ltb}
 use Rattle.std.proofs.lemmas.List.Folds.{list_all-append}
 use Rattle.std.proofs.lemmas.List.Quantifiers.{position-Some}
+use Rattle.std.proofs.lemmas.Option.{same_Some}
 use Rattle.e_literal.specs.declared.object.Sort.{Sort}
 use Rattle.e_literal.specs.declared.object.Sort.TheVariants.{Point, Line, Circle}
 use Rattle.e_literal.specs.declared.object.Obj.{Obj}
@@ -41,9 +42,6 @@ read_ok x = Ok x
 pub ok_is : {A : Type 0} (x y : A) → read_ok x ≡ read_ok y → x ≡ y
 ok_is x y e = cc
 
-some_is : {A : Type 0} (x y : A) → Some x ≡ Some y → x ≡ y
-some_is x y e = cc
-
 abbrev pub Within : Scope → Sort → ℕ → Type 0
 Within s sort n = ltb n (count_of s sort) ≡ true
 
@@ -55,7 +53,7 @@ found names name i e = lt-ltb i (length names) (position-Some (λ n. bytes_eq n 
 
 at_found : (s : Scope) (sort : Sort) (p : Option ℕ) (o : Obj) → ((i : ℕ) → p ≡ Some i → Within s sort i) → object_at sort p ≡ Some o → Within s o.sort o.num
 at_found s sort None o h e = absurd cc
-at_found s sort (Some i) o h e = subst (λ (x : Obj). Within s x.sort x.num) (some_is (obj sort i) o e) (h i refl)
+at_found s sort (Some i) o h e = subst (λ (x : Obj). Within s x.sort x.num) (same_Some (obj sort i) o e) (h i refl)
 
 in_found : (ns : Names) (sort : Sort) (name : List ℕ) (o : Obj) → object_in ns sort name ≡ Some o → Within (scope_of_names ns) o.sort o.num
 in_found ns Point name o e = at_found (scope_of_names ns) Point (position (λ n. bytes_eq n name) ns.points) o (λ i h. found ns.points name i h) e
@@ -66,7 +64,7 @@ either_found : (s : Scope) (a b : Option Obj) (o : Obj) → (a ≡ Some o → Wi
 either_found s (Some x) b o ha hb e = ha e
 either_found s None b o ha hb e = hb e
 
-known_is : (x : Option Obj) (o : Obj) → known_object x ≡ Ok o → x ≡ Some o
+pub known_is : (x : Option Obj) (o : Obj) → known_object x ≡ Ok o → x ≡ Some o
 known_is None o e = absurd cc
 known_is (Some x) o e = ap (λ (y : Obj). Some y) (ok_is x o e)
 

@@ -9,6 +9,8 @@ use Rattle.e_literal.specs.Literal.{all_in_scope}
 use Rattle.e_literal.specs.Scopes.{nothing, with_one, grown}
 use Rattle.e_literal.specs.WellFormed.{is_well_formed}
 use Rattle.e_literal.specs.Use.{scope_of}
+use Rattle.e_literal.proofs.Growing.{grown-append, sorts_next}
+use Rattle.e_literal.proofs.Booleans.{all_both}
 use Rattle.e_text.specs.Tokens.{tokens_of}
 use Rattle.e_text.specs.Lines.{Seen}
 use Rattle.e_text.specs.declared.line.LineFault.{LineFault}
@@ -39,21 +41,17 @@ use Rattle.e_book.specs.Steps.{count_monos, few_monos, with_terms, allowed, decl
 use Rattle.e_book.specs.Entry.{Entry, script_of_close, entry_of_draft, statement_of_draft}
 use Rattle.e_book.specs.Fits.{NamesDiffer, few_facts, few_terms, Fits}
 use Rattle.e_book.specs.Book.{is_skipped, line_step, put_at, is_last, is_done, read_from}
-use Rattle.e_book.proofs.Answered.{within_ok, appended, passes, untaken, put_ok, answered, pair, first_is, skip_or, Answer}
+use Rattle.e_book.proofs.Answered.{within_ok, passes, untaken, put_ok, answered, pair, first_is, skip_or, Answer}
 use Rattle.e_book.proofs.InScope.{bind_ok, ok_is, read_ok, each_length}
 use Rattle.e_book.proofs.SaidForms.{Said, form_said}
 use Rattle.e_book.proofs.WellRead.{good_lits, lits_count}
 use Rattle.e_book.proofs.KeptSums.{few_ok, terms_added, monomials-append}
 use Rattle.e_book.proofs.Distinct.{still_differ}
-use Rattle.e_book.proofs.Building.{sorts_again, declared_scope}
+use Rattle.e_book.proofs.Building.{declared_scope}
 use Rattle.e_book.proofs.FittingScripts.{Spot, spot, line_fits}
 use Rattle.e_book.proofs.OpenBlocks.{Open, open_first}
 use Rattle.e_book.proofs.Drafts.{HeadOf, start, NoProof, NoProofOf, OpenOf, ShutOf, Body, Good}
 use Rattle.e_book.proofs.KeptBlocks.{lits_within, keeps_by, keeps_hence, keeps_let, keeps_apply, keeps_claim, keeps_superpose, keeps_cases, keeps_else, keeps_qed, keeps_contradiction}
-
-grown-append : (s : Scope) (xs ys : List Sort) → grown s (xs ++ ys) ≡ grown (grown s xs) ys
-grown-append s [] ys = refl
-grown-append s (x ∷ xs) ys = grown-append (with_one s x) xs ys
 
 abbrev more : Scope → Sort → ℕ → Scope
 more s Point n = record { points = s.points + n; lines = s.lines; circles = s.circles }
@@ -180,9 +178,9 @@ keeps_given known d e raws good a said h =
       scope = g.scope;
       differ = g.differ;
       few = g.few;
-      given = appended (all_in_scope (grown nothing d.declared)) d.given ls.0 g.given (subst (λ (s : Scope). list_all (all_in_scope s) ls.0 ≡ true) was (lits_within d.names raws ls.0 ls.1));
+      given = all_both (all_in_scope (grown nothing d.declared)) d.given ls.0 g.given (subst (λ (s : Scope). list_all (all_in_scope s) ls.0 ≡ true) was (lits_within d.names raws ls.0 ls.1));
       shown = g.shown;
-      good_given = appended is_well_formed d.given ls.0 g.good_given (good_lits d.names raws ls.0 ls.1 said t.few.short t.few.small);
+      good_given = all_both is_well_formed d.given ls.0 g.good_given (good_lits d.names raws ls.0 ls.1 said t.few.short t.few.small);
       good_shown = g.good_shown;
       few_given = omega (arith, facts, le);
       few_terms = omega (arith, terms, t.within);
@@ -232,9 +230,9 @@ keeps_shown known d e raws good a said h =
       differ = g.differ;
       few = g.few;
       given = g.given;
-      shown = appended (all_in_scope (scope_of_names d.names)) d.shown ls.0 g.shown (lits_within d.names raws ls.0 ls.1);
+      shown = all_both (all_in_scope (scope_of_names d.names)) d.shown ls.0 g.shown (lits_within d.names raws ls.0 ls.1);
       good_given = g.good_given;
-      good_shown = appended is_well_formed d.shown ls.0 g.good_shown (good_lits d.names raws ls.0 ls.1 said.1 few.short few.small);
+      good_shown = all_both is_well_formed d.shown ls.0 g.good_shown (good_lits d.names raws ls.0 ls.1 said.1 few.short few.small);
       few_given = g.few_given;
       few_terms = g.few_terms;
     } in
@@ -310,7 +308,7 @@ keeps_end known d e g a h = subst (λ (y : Draft). Good known y) (ok_is (record 
 
 -- ---- all lines
 
-no_title : (known : List Headed) (d e : Draft) (t : List ℕ) → stepped known d (forms.Theorem t) ≡ Ok e → ⊥
+pub no_title : (known : List Headed) (d e : Draft) (t : List ℕ) → stepped known d (forms.Theorem t) ≡ Ok e → ⊥
 unfolding stepped
 no_title known d e t h = absurd cc
 
@@ -396,7 +394,7 @@ fits_read known d good a =
       good_given = g.good_given;
       good_shown = g.good_shown;
       good_script = s.fits.literals;
-      script = subst (λ (z : Scope). list_all (line_fits before) (lines before script script z (facts_of_statement t) (goal_of_statement t)) ≡ true) here (s.fits.forms script (facts_of_statement t) (goal_of_statement t) (sorts_again (scope_of t) d.made));
+      script = subst (λ (z : Scope). list_all (line_fits before) (lines before script script z (facts_of_statement t) (goal_of_statement t)) ≡ true) here (s.fits.forms script (facts_of_statement t) (goal_of_statement t) (sorts_next (scope_of t) d.made));
       new_names = s.fits.new_names;
       steps = s.short;
       depth = omega (arith, s.fits.shallow);

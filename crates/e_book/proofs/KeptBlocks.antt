@@ -1,6 +1,7 @@
 -- Each line of a proof keeps what is known of a draft.
 use Rattle.std.proofs.Common.{◌≡◌, ℕ, ◌+◌, ◌≤◌, true, cond, ◌||◌, List, [], ◌∷◌, ◌++◌, length, Option, None, Result, Ok, refl, sym, ap, subst, ◌∙◌, arith}
 use Rattle.std.specs.List.{list_all}
+use Rattle.std.proofs.lemmas.Bool.{and_parts}
 use Rattle.e_literal.specs.declared.object.Sort.{Sort}
 use Rattle.e_literal.specs.declared.object.Obj.{Obj}
 use Rattle.e_literal.specs.declared.literal.Lit.{Lit}
@@ -39,7 +40,6 @@ use Rattle.e_book.specs.Applies.{count_blanks, apply_in}
 use Rattle.e_book.specs.Steps.{count_monos, few_monos, terms_after, with_terms, few_objects, with_step, built, used_by, applied, outer_of, deeper, claimed, superposed, split, counted_from, resumed, closed_inside, closed, shut, stepped}
 use Rattle.e_book.specs.Entry.{script_of_close}
 use Rattle.e_book.proofs.Answered.{within_ok}
-use Rattle.e_book.proofs.Differ.{both}
 use Rattle.e_book.proofs.InScope.{bind_ok, ok_is, read_ok, lit_in_scope, each_all}
 use Rattle.e_book.proofs.SaidLits.{LitsSaid}
 use Rattle.e_book.proofs.SaidForms.{Said, by_plain}
@@ -72,7 +72,7 @@ shown_fit : (known : List Headed) (d : Draft) (raws : List RawLit) (ls : List Li
 shown_fit known d raws ls e said few = record { over = lits_within d.in_scope raws ls e; good = good_lits d.in_scope raws ls e said few.short few.small }
 
 good_one : (ns : Names) (r : RawLit) (l : Lit) → lit_in ns r ≡ Ok l → Said (forms.Hence r) → FewMonos (r ∷ []) → is_well_formed l ≡ true
-good_one ns r l e said few = (both (is_well_formed l) true (good_lits ns (r ∷ []) (l ∷ []) (one_lit ns r l e) (said, tt) few.short few.small)).0
+good_one ns r l e said few = (and_parts (is_well_formed l) true (good_lits ns (r ∷ []) (l ∷ []) (one_lit ns r l e) (said, tt) few.short few.small)).0
 
 -- ---- steps
 
@@ -293,7 +293,7 @@ goes_on d e o os shown s h =
 abbrev made_inside : Opened → List Outer → List Sort → List Sort
 made_inside op os sorts = cond (is_claim op || has_claim os) [] sorts
 
-size_split : (lit : Lit) (first second : Script) → size (Cases lit first second) ≡ 1 + size first + size second
+pub size_split : (lit : Lit) (first second : Script) → size (Cases lit first second) ≡ 1 + size first + size second
 unfolding size
 size_split lit first second = refl
 

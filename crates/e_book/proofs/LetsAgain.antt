@@ -2,7 +2,7 @@
 use Rattle.std.proofs.Common.{◌≡◌, ℕ, Bool, true, false, not, List, [], ◌∷◌, ◌++◌, Result, Ok, refl, sym, ap, subst, ◌∙◌}
 use Rattle.std.specs.Prelude.{codes}
 use Rattle.std.specs.Str.{bytes_eq}
-use Rattle.std.proofs.lemmas.Bool.{not-true}
+use Rattle.std.proofs.lemmas.Bool.{not-true, and_parts}
 use Rattle.std.proofs.lemmas.List.{append-nil}
 use Rattle.e_text.specs.Names.{is_name, is_statement_word, is_steps_word, is_relations_word, is_shapes_word, is_others_word}
 use Rattle.e_text.specs.Tokens.{is_token, AreTokens}
@@ -15,7 +15,7 @@ use Rattle.e_book.specs.Reading.{◌>>=◌, cut_at}
 use Rattle.e_book.specs.Lets.{new_words, argument_words, shapes_of, avoided_of, let_named, let_of}
 use Rattle.e_book.specs.Canonical.{filled, line_pieces, avoid_words, let_words}
 use Rattle.e_book.specs.HasSpelling.{AreNames}
-use Rattle.e_book.proofs.Differ.{both, name_differs}
+use Rattle.e_book.proofs.Differ.{name_differs}
 use Rattle.e_book.proofs.NamesAgain.{Without, names_again, some_names_again, cut_again, uncut_again}
 use Rattle.e_book.proofs.Pieces.{is_own_word, own_words_of, all_filled, new_again, arguments_again, alike, Filled, shapes_again, avoiding_shapes_again, first_alike}
 
@@ -50,10 +50,10 @@ unfolding is_statement_word is_steps_word is_relations_word is_shapes_word is_ot
 no_avoid = refl
 
 own_word_differs : (w : List ℕ) → is_own_word w ≡ true → bytes_eq w (codes "avoid") ≡ false
-own_word_differs w h = not-true (bytes_eq w (codes "avoid")) (both _ _ (both (not (is_name w)) _ h).1).0
+own_word_differs w h = not-true (bytes_eq w (codes "avoid")) (and_parts _ _ (and_parts (not (is_name w)) _ h).1).0
 
 pub own_word_token : (w : List ℕ) → is_own_word w ≡ true → is_token w ≡ true
-own_word_token w h = (both (not (bytes_eq w (codes "avoid"))) (is_token w) (both (not (is_name w)) _ h).1).1
+own_word_token w h = (and_parts (not (bytes_eq w (codes "avoid"))) (is_token w) (and_parts (not (is_name w)) _ h).1).1
 
 without_avoid : (s : Shape) (new args : List (List ℕ)) → Filled s new args → Without (codes "avoid") (filled (pieces s) new args)
 without_avoid s new args f =

@@ -10,6 +10,7 @@ pub mod SideBySide
 pub mod InScope
 pub mod Choices
 pub mod LitsByWord
+pub mod WrittenScripts
 pub mod SaidLits
 pub mod Answered
 pub mod Citations

@@ -1,6 +1,6 @@
 -- Each line of a proof is read from its canonical spelling.
 use Rattle.std.proofs.Common.{◌≡◌, ℕ, ◌+◌, ◌≤◌, false, true, eqb, ltb, ◌&&◌, List, [], ◌∷◌, ◌++◌, length, map, Option, None, Ok, refl, sym, ap, subst, ◌∙◌, arith}
-use Rattle.std.proofs.lemmas.Bool.{le-ltb, eq-eqb}
+use Rattle.std.proofs.lemmas.Bool.{le-ltb, eq-eqb, and_parts}
 use Rattle.std.proofs.lemmas.List.{length-map}
 use Rattle.e_literal.specs.declared.object.Sort.{Sort}
 use Rattle.e_literal.specs.declared.object.Obj.{Obj}
@@ -13,6 +13,7 @@ use Rattle.e_construct.specs.declared.superpose.Superpose.{Superpose}
 use Rattle.e_construct.specs.Construct.{made, gives}
 use Rattle.e_construct.specs.Superposing as superposing
 use Rattle.e_literal.specs.Use.{Stated}
+use Rattle.e_literal.proofs.Sorts.{same_sort_is}
 use Rattle.e_deriv.specs.declared.names.Names.{Names}
 use Rattle.e_deriv.specs.Naming.{named}
 use Rattle.e_deriv.specs.PlainStep.{PlainStep, Cited, Inferred, Made, Applied, Claimed, Copied, all_before}
@@ -34,10 +35,8 @@ use Rattle.e_book.specs.Steps.{count_monos, few_objects, with_step, with_terms, 
 use Rattle.e_book.specs.Entry.{script_of_close}
 use Rattle.e_book.specs.Fits.{is_diagram_lit}
 use Rattle.e_book.specs.Canonical.{raw_of, name_of_object, by_form, hence_form, let_form, apply_form, claim_form, superpose_form, cases_form, else_form, qed_form, contradiction_form}
-use Rattle.e_book.proofs.Differ.{both}
 use Rattle.e_book.proofs.Respelled.{as_read}
 use Rattle.e_book.proofs.Lookups.{InOrder, object_again}
-use Rattle.e_construct.proofs.Moving.{sorts_same}
 use Rattle.e_book.proofs.LitLookups.{lit_number_again}
 use Rattle.e_book.proofs.ShortLits.{few_again, all_few_again, count_again}
 use Rattle.e_book.proofs.PlainLits.{Plain, PlainLit, lits_number_again}
@@ -189,9 +188,9 @@ objects_read ns [] [] o h = refl
 objects_read ns [] (x ∷ os) o h = absurd cc
 objects_read ns (sort ∷ sorts) [] o h = absurd cc
 objects_read ns (sort ∷ sorts) (x ∷ os) o h =
-    let p = both (same_sort sort x.sort) (is_in_scope (scope_of_names ns) x && are_of_sorts (scope_of_names ns) sorts os) h in
-    let q = both (is_in_scope (scope_of_names ns) x) (are_of_sorts (scope_of_names ns) sorts os) p.1 in
-    let one : object_as ns sort (name_of_object ns x) ≡ Ok x = subst (λ (t : Sort). object_as ns t (name_of_object ns x) ≡ Ok x) (sym (sorts_same sort x.sort p.0)) (object_again ns x o q.0) in
+    let p = and_parts (same_sort sort x.sort) (is_in_scope (scope_of_names ns) x && are_of_sorts (scope_of_names ns) sorts os) h in
+    let q = and_parts (is_in_scope (scope_of_names ns) x) (are_of_sorts (scope_of_names ns) sorts os) p.1 in
+    let one : object_as ns sort (name_of_object ns x) ≡ Ok x = subst (λ (t : Sort). object_as ns t (name_of_object ns x) ≡ Ok x) (sym (same_sort_is sort x.sort p.0)) (object_again ns x o q.0) in
     rw (one, objects_read ns sorts os o q.1) refl
 
 qed_read : (ns : Names) (sorts : List Sort) (os : List Obj) → InOrder ns → are_of_sorts (scope_of_names ns) sorts os ≡ true → qed_in ns sorts (map (name_of_object ns) os) ≡ Ok os

@@ -2,7 +2,7 @@
 use Rattle.std.proofs.Common.{◌≡◌, ℕ, ◌+◌, ◌≤◌, Bool, true, false, leb, ◌&&◌, List, [], ◌∷◌, length, Ok, refl, sym, ap, ◌∙◌, arith}
 use Rattle.std.specs.Prelude.{◌==◌}
 use Rattle.std.specs.List.{list_all}
-use Rattle.std.proofs.lemmas.Bool.{leb-true}
+use Rattle.std.proofs.lemmas.Bool.{leb-true, and_parts}
 use Rattle.std.proofs.lemmas.Bool.Decides.{nat_tests}
 use Rattle.std.proofs.lemmas.List.{length-map}
 use Rattle.std.proofs.lemmas.List.Folds.{list_all-append}
@@ -25,11 +25,11 @@ use Rattle.e_book.specs.Reading.{each}
 use Rattle.e_book.specs.Scope.{scope_of_names, term_in, kind_of_raw, first_kind, mono_in, sums_in, atom_in, lit_in}
 use Rattle.e_book.specs.Canonical.{raw_term, raw_mono, raw_sum, raw_atom, raw_signed, raw_of}
 use Rattle.e_book.specs.Fits.{is_diagram_atom, is_diagram_lit}
-use Rattle.e_book.proofs.Differ.{both}
 use Rattle.e_book.proofs.SumsAgain.{TermNamed, SumNamed}
 use Rattle.e_book.proofs.LitsAgain.{SidesNamed, AtomNamed, LitNamed}
 use Rattle.e_book.proofs.GoodSums.{is_good_mono, AreGood, GoodSums, good_sums, kind_is, turned}
 use Rattle.e_book.proofs.Lookups.{InOrder, Within, used_again, number_again, named_at}
+use Rattle.e_book.proofs.WrittenScripts.{good_diagram}
 
 -- ---- objects of a literal
 
@@ -39,13 +39,13 @@ AtomWithin ns a = list_all (is_in_scope (scope_of_names ns)) (objects_of_atom a)
 pub two : (ns : Names) (a b : Obj) → list_all (is_in_scope (scope_of_names ns)) (a ∷ b ∷ []) ≡ true → Within ns a.sort a.num × Within ns b.sort b.num
 two ns a b h =
     let s = scope_of_names ns in
-    let p = both (is_in_scope s a) (is_in_scope s b && true) h in
-    (p.0, (both (is_in_scope s b) true p.1).0)
+    let p = and_parts (is_in_scope s a) (is_in_scope s b && true) h in
+    (p.0, (and_parts (is_in_scope s b) true p.1).0)
 
 pub three : (ns : Names) (a b c : Obj) → list_all (is_in_scope (scope_of_names ns)) (a ∷ b ∷ c ∷ []) ≡ true → Within ns a.sort a.num × Within ns b.sort b.num × Within ns c.sort c.num
 three ns a b c h =
     let s = scope_of_names ns in
-    let p = both (is_in_scope s a) (is_in_scope s b && (is_in_scope s c && true)) h in
+    let p = and_parts (is_in_scope s a) (is_in_scope s b && (is_in_scope s c && true)) h in
     let q = two ns b c p.1 in
     (p.0, q.0, q.1)
 
@@ -92,9 +92,9 @@ record First (ns : Names) (k : Magnitude) (m : Mono) (ms : List Mono) : Type 0 w
 first_of : (ns : Names) (k : Magnitude) (m : Mono) (ms : List Mono) → AreGood k (m ∷ ms) → SumWithin ns (m ∷ ms) → First ns k m ms
 first_of ns k m ms g w =
     let s = scope_of_names ns in
-    let p = both (is_good_mono k m) (list_all (is_good_mono k) ms) g in
-    let q = both (same_kind (kind_of_term m.term) k) (is_good_coefficient m.coeff) p.0 in
-    let r = both (list_all (is_in_scope s) (objects_of_term m.term)) (list_all (is_in_scope s) (objects_of_sum ms)) (sym (list_all-append (is_in_scope s) (objects_of_term m.term) (objects_of_sum ms)) ∙ w) in
+    let p = and_parts (is_good_mono k m) (list_all (is_good_mono k) ms) g in
+    let q = and_parts (same_kind (kind_of_term m.term) k) (is_good_coefficient m.coeff) p.0 in
+    let r = and_parts (list_all (is_in_scope s) (objects_of_term m.term)) (list_all (is_in_scope s) (objects_of_sum ms)) (sym (list_all-append (is_in_scope s) (objects_of_term m.term) (objects_of_sum ms)) ∙ w) in
     record { kind = q.0; coeff = q.1; good = p.1; here = r.0; within = r.1 }
 
 mono_number_again : (ns : Names) (k : Magnitude) (m : Mono) → InOrder ns → same_kind (kind_of_term m.term) k ≡ true → TermWithin ns m.term → mono_in ns k (raw_mono ns m) ≡ Ok m
@@ -112,7 +112,7 @@ sum_named : (ns : Names) (k : Magnitude) (ms : List Mono) → InOrder ns → Are
 sum_named ns k [] o g w = tt
 sum_named ns k (m ∷ ms) o g w =
     let f = first_of ns k m ms g w in
-    let c = both (leb 1 m.coeff) (leb m.coeff most_coefficient) f.coeff in
+    let c = and_parts (leb 1 m.coeff) (leb m.coeff most_coefficient) f.coeff in
     (record { term = term_named ns m.term o f.here; some = leb-true 1 m.coeff c.0; small = leb-true m.coeff most_coefficient c.1 }, sum_named ns k ms o f.good f.within)
 
 sums_number_again : (ns : Names) (k : Magnitude) (x y : List Mono) → InOrder ns → GoodSums k x y → SumWithin ns x → SumWithin ns y → sums_in ns (raw_sum ns x) (raw_sum ns y) ≡ Ok (x, y)
@@ -134,7 +134,7 @@ sides_named ns k x y o g wx wy = record {
 sides_within : (ns : Names) (x y : List Mono) → AtomWithin ns (atoms.MagEq x y) → SumWithin ns x × SumWithin ns y
 sides_within ns x y h =
     let s = scope_of_names ns in
-    both (list_all (is_in_scope s) (objects_of_sum x)) (list_all (is_in_scope s) (objects_of_sum y)) (sym (list_all-append (is_in_scope s) (objects_of_sum x) (objects_of_sum y)) ∙ h)
+    and_parts (list_all (is_in_scope s) (objects_of_sum x)) (list_all (is_in_scope s) (objects_of_sum y)) (sym (list_all-append (is_in_scope s) (objects_of_sum x) (objects_of_sum y)) ∙ h)
 
 -- ---- literals
 
@@ -253,11 +253,6 @@ pub lit_named : (ns : Names) (l : Lit) → InOrder ns → all_in_scope (scope_of
 lit_named ns l s h d = signed_named ns l.neg l.atom s h d
 
 -- ---- literals of diagrams and of equal objects
-
-good_diagram : (a : Atom) → is_diagram_atom a ≡ true → is_good_atom a ≡ true
-good_diagram (atoms.MagEq x y) h = absurd cc
-good_diagram (atoms.MagLt x y) h = absurd cc
-good_diagram a h = refl
 
 pub diagram_is_good : (l : Lit) → is_diagram_lit l ≡ true → is_well_formed l ≡ true
 diagram_is_good l h = good_diagram l.atom h

@@ -20,7 +20,7 @@ use Rattle.e_book.specs.Literals.{sign_of, is_sign, object_of, sums_of, equal_si
 use Rattle.e_book.specs.Canonical.{sum_words, sums_words, atom_words, signed_words, lit_words, more_words, lits_words}
 use Rattle.e_book.proofs.NamesAgain.{Without, named, first_place}
 use Rattle.e_book.proofs.LetsAgain.{append_tokens}
-use Rattle.e_book.proofs.SumsAgain.{is_mono_word, mono_word_differs, SumNamed, sum_tokens, two_again, three_again, sum_again, sum_no_object, Begins, sum_begins, sum_all}
+use Rattle.e_book.proofs.SumsAgain.{is_mono_word, mono_word_differs, SumNamed, sum_tokens, two_again, three_again, sum_again, sum_no_object, Begins, sum_begins, sum_all, name_word}
 
 -- ---- what is known of the literals of canonical lines
 
@@ -53,9 +53,6 @@ pub record LitNamed (l : RawLit) : Type 0 where
   pub sign : MaySign l.neg l.atom
 
 -- ---- signs
-
-name_is_word : (w : List ℕ) → is_name w ≡ true → is_mono_word w ≡ true
-name_is_word w h = rw h refl
 
 no_on : is_mono_word (codes "on") ≡ false
 unfolding is_statement_word is_steps_word is_relations_word is_shapes_word is_others_word
@@ -154,7 +151,7 @@ sums_at_most x y h = comparison false false (codes "<=") signs.AtMost (sum_words
 
 objects_again : (neg : Bool) (w : List ℕ) (s : Sign) (x y : List ℕ) → is_name x ≡ true → is_name y ≡ true → sign_of w ≡ Some s → negation_of false s ≡ Ok neg
     → sides_of s (x ∷ []) (y ∷ []) ≡ Ok (raw.Equal x y) → compared false (x ∷ w ∷ y ∷ []) ≡ Ok (signed neg (raw.Equal x y))
-objects_again neg w s x y hx hy is n sides = comparison false neg w s (x ∷ []) (y ∷ []) (raw.Equal x y) (no_sign x (name_is_word x hx), tt) is n sides
+objects_again neg w s x y hx hy is n sides = comparison false neg w s (x ∷ []) (y ∷ []) (raw.Equal x y) (no_sign x (name_word x hx), tt) is n sides
 
 objects_equal : (x y : List ℕ) → is_name x ≡ true → is_name y ≡ true → compared false (x ∷ codes "=" ∷ y ∷ []) ≡ Ok (signed false (raw.Equal x y))
 unfolding sides_of
@@ -201,7 +198,7 @@ signed_again false (raw.Center x y) h s = rw (two_again x y h.0 h.1) refl
 signed_again false (raw.Between x y z) h s = rw (three_again x y z h.0 h.1 h.2) refl
 signed_again false (raw.Same x y z) h s = rw (three_again x y z h.0 h.1 h.2) refl
 signed_again false (raw.Meets x y) h s = rw (two_again x y h.0 h.1) refl
-signed_again false (raw.Equal x y) h s = plain_first x (codes "=" ∷ y ∷ []) (signed false (raw.Equal x y)) (name_is_word x h.0) (objects_equal x y h.0 h.1)
+signed_again false (raw.Equal x y) h s = plain_first x (codes "=" ∷ y ∷ []) (signed false (raw.Equal x y)) (name_word x h.0) (objects_equal x y h.0 h.1)
 signed_again false (raw.SumsEqual x y) h s = plain_again (sums_words x (codes "=") y) (signed false (raw.SumsEqual x y)) (sum_begins x (codes "=" ∷ sum_words y) h.left) (sums_equal x y h)
 signed_again false (raw.SumsLess x y) h s = plain_again (sums_words x (codes "<") y) (signed false (raw.SumsLess x y)) (sum_begins x (codes "<" ∷ sum_words y) h.left) (sums_less false x y h)
 signed_again false (raw.SumsAtMost x y) h s = plain_again (sums_words x (codes "<=") y) (signed false (raw.SumsAtMost x y)) (sum_begins x (codes "<=" ∷ sum_words y) h.left) (sums_at_most x y h)
@@ -211,7 +208,7 @@ signed_again true (raw.Center x y) h s = rw (two_again x y h.0 h.1) refl
 signed_again true (raw.Between x y z) h s = rw (three_again x y z h.0 h.1 h.2) refl
 signed_again true (raw.Same x y z) h s = rw (three_again x y z h.0 h.1 h.2) refl
 signed_again true (raw.Meets x y) h s = rw (two_again x y h.0 h.1) refl
-signed_again true (raw.Equal x y) h s = plain_first x (codes "!=" ∷ y ∷ []) (signed true (raw.Equal x y)) (name_is_word x h.0) (objects_differ x y h.0 h.1)
+signed_again true (raw.Equal x y) h s = plain_first x (codes "!=" ∷ y ∷ []) (signed true (raw.Equal x y)) (name_word x h.0) (objects_differ x y h.0 h.1)
 signed_again true (raw.SumsEqual x y) h s = plain_again (sums_words x (codes "!=") y) (signed true (raw.SumsEqual x y)) (sum_begins x (codes "!=" ∷ sum_words y) h.left) (sums_differ x y h)
 signed_again true (raw.SumsLess x y) h s = not_again (sums_words x (codes "<") y) (signed true (raw.SumsLess x y)) (sum_begins x (codes "<" ∷ sum_words y) h.left) (sums_less true x y h)
 signed_again true (raw.SumsAtMost x y) h s = absurd s
@@ -229,7 +226,7 @@ no_part : (w : List ℕ) → is_mono_word w ≡ true → bytes_eq w (codes ";") 
 no_part w h = mono_word_differs w (codes ";") h no_semicolon
 
 name_no_part : (w : List ℕ) → is_name w ≡ true → bytes_eq w (codes ";") ≡ false
-name_no_part w h = no_part w (name_is_word w h)
+name_no_part w h = no_part w (name_word w h)
 
 append_without : (c : List ℕ) (xs ys : List (List ℕ)) → Without c xs → Without c ys → Without c (xs ++ ys)
 append_without c [] ys h k = k

@@ -1,15 +1,15 @@
 -- The name of an object in scope is read as that object.
 use Rattle.std.proofs.Common.{◌≡◌, ℕ, Bool, true, ltb, List, [], ◌∷◌, length, map, Result, Ok, refl, ap, subst, ◌∙◌}
 use Rattle.std.specs.List.{list_all}
-use Rattle.std.proofs.lemmas.Bool.{ltb-true}
+use Rattle.std.proofs.lemmas.Bool.{ltb-true, and_parts}
 use Rattle.e_text.specs.Names.{is_name}
 use Rattle.e_literal.specs.declared.object.Sort.{Sort}
 use Rattle.e_literal.specs.declared.object.Sort.TheVariants.{Point, Line, Circle}
 use Rattle.e_literal.specs.declared.object.Obj.{Obj}
 use Rattle.e_literal.specs.Literal.{obj, count_of, is_in_scope}
 use Rattle.e_literal.specs.Scopes.{same_sort}
+use Rattle.e_literal.proofs.Sorts.{same_sort_is}
 use Rattle.e_deriv.specs.declared.names.Names.{Names}
-use Rattle.e_construct.proofs.Moving.{sorts_same}
 use Rattle.e_book.specs.declared.fault.Kind.{Kind}
 use Rattle.e_book.specs.Reading.{◌>>=◌}
 use Rattle.e_deriv.specs.Naming.{names_of_sort}
@@ -17,7 +17,7 @@ use Rattle.e_book.specs.Scope.{scope_of_names, used, number_at, number_of, objec
 use Rattle.e_book.specs.Canonical.{name_at, name_of_object}
 use Rattle.e_book.specs.Fits.{are_distinct, NamesDiffer}
 use Rattle.e_book.specs.HasSpelling.{AreNames}
-use Rattle.e_book.proofs.Differ.{both, Apart, Apart-sym, apart, apart_at, there, not_there, name_there}
+use Rattle.e_book.proofs.Differ.{Apart, Apart-sym, apart, apart_at, there, not_there, name_there}
 
 -- the names in scope are names, and each stands once
 pub record InOrder (ns : Names) : Type 0 where
@@ -96,13 +96,13 @@ all_of_sort sort os = list_all (λ o. same_sort o.sort sort) os
 pub objects_again : (ns : Names) (sort : Sort) (os : List Obj) → InOrder ns → list_all (is_in_scope (scope_of_names ns)) os ≡ true → all_of_sort sort os ≡ true → objects_as ns sort (map (name_of_object ns) os) ≡ Ok os
 objects_again ns sort [] s h k = refl
 objects_again ns sort (o ∷ os) s h k =
-    let p = both (is_in_scope (scope_of_names ns) o) (list_all (is_in_scope (scope_of_names ns)) os) h in
-    let q = both (same_sort o.sort sort) (all_of_sort sort os) k in
-    let one : object_as ns sort (name_of_object ns o) ≡ Ok o = subst (λ (t : Sort). object_as ns t (name_of_object ns o) ≡ Ok o) (sorts_same o.sort sort q.0) (object_again ns o s p.0) in
+    let p = and_parts (is_in_scope (scope_of_names ns) o) (list_all (is_in_scope (scope_of_names ns)) os) h in
+    let q = and_parts (same_sort o.sort sort) (all_of_sort sort os) k in
+    let one : object_as ns sort (name_of_object ns o) ≡ Ok o = subst (λ (t : Sort). object_as ns t (name_of_object ns o) ≡ Ok o) (same_sort_is o.sort sort q.0) (object_again ns o s p.0) in
     rw (one, objects_again ns sort os s p.1 q.1) refl
 
 pub objects_named : (ns : Names) (os : List Obj) → InOrder ns → list_all (is_in_scope (scope_of_names ns)) os ≡ true → AreNames (map (name_of_object ns) os)
 objects_named ns [] s h = tt
 objects_named ns (o ∷ os) s h =
-    let p = both (is_in_scope (scope_of_names ns) o) (list_all (is_in_scope (scope_of_names ns)) os) h in
+    let p = and_parts (is_in_scope (scope_of_names ns) o) (list_all (is_in_scope (scope_of_names ns)) os) h in
     (named_at ns o.sort o.num s p.0, objects_named ns os s p.1)

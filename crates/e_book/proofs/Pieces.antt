@@ -3,7 +3,7 @@ use Rattle.std.proofs.Common.{◌≡◌, ℕ, Bool, true, false, not, ◌&&◌, 
 use Rattle.std.specs.Prelude.{codes}
 use Rattle.std.specs.List.{AllByRecursion}
 use Rattle.std.specs.Str.{bytes_eq}
-use Rattle.std.proofs.lemmas.Bool.{not-true}
+use Rattle.std.proofs.lemmas.Bool.{not-true, and_parts}
 use Rattle.e_text.specs.Names.{is_name, is_statement_word, is_steps_word, is_relations_word, is_shapes_word, is_others_word}
 use Rattle.e_text.specs.Tokens.{is_token}
 use Rattle.e_construct.specs.declared.construction.Shape.{Shape}
@@ -13,7 +13,7 @@ use Rattle.e_construct.specs.Lines.{Piece, New, Argument, Word, pieces, all_shap
 use Rattle.e_book.specs.Lets.{are_words_of, new_words, argument_words, is_line_of, shapes_of}
 use Rattle.e_book.specs.Canonical.{filled}
 use Rattle.e_book.specs.HasSpelling.{AreNames}
-use Rattle.e_book.proofs.Differ.{both, same_bytes, name_differs}
+use Rattle.e_book.proofs.Differ.{same_bytes, name_differs}
 
 -- ---- the words of pieces
 
@@ -40,7 +40,7 @@ all_filled P name word (New ∷ ps) [] args h hn ha = all_filled P name word ps 
 all_filled P name word (New ∷ ps) (n ∷ new) args h hn ha = (name n hn.0, all_filled P name word ps new args h hn.1 ha)
 all_filled P name word (Argument ∷ ps) new [] h hn ha = all_filled P name word ps new [] h hn ha
 all_filled P name word (Argument ∷ ps) new (n ∷ args) h hn ha = (name n ha.0, all_filled P name word ps new args h hn ha.1)
-all_filled P name word (Word w ∷ ps) new args h hn ha = let p = both (is_own_word w) (own_words ps) h in (word w p.0, all_filled P name word ps new args p.1 hn ha)
+all_filled P name word (Word w ∷ ps) new args h hn ha = let p = and_parts (is_own_word w) (own_words ps) h in (word w p.0, all_filled P name word ps new args p.1 hn ha)
 
 -- ---- the names stand at their places
 
@@ -94,7 +94,7 @@ similar (p ∷ ps) (q ∷ qs) = like p q && similar ps qs
 similar ps qs = false
 
 no_name : (w : List ℕ) → is_own_word w ≡ true → is_name w ≡ false
-no_name w h = not-true (is_name w) (both _ _ h).0
+no_name w h = not-true (is_name w) (and_parts _ _ h).0
 
 no_word : (v n : List ℕ) → is_own_word v ≡ true → is_name n ≡ true → bytes_eq n v ≡ false
 no_word v n h hn = name_differs n v hn (no_name v h)
@@ -106,20 +106,20 @@ words_of_filled (New ∷ ps) [] new args hp hq an aa ln la = refl
 words_of_filled (Argument ∷ ps) [] new args hp hq an aa ln la = refl
 words_of_filled (Word v ∷ ps) [] new args hp hq an aa ln la = refl
 words_of_filled [] (Word w ∷ qs) new args hp hq an aa ln la = refl
-words_of_filled (New ∷ ps) (Word w ∷ qs) new args hp hq an aa ln la = rw (no_name w (both _ _ hq).0) refl
-words_of_filled (Argument ∷ ps) (Word w ∷ qs) new args hp hq an aa ln la = rw (no_name w (both _ _ hq).0) refl
+words_of_filled (New ∷ ps) (Word w ∷ qs) new args hp hq an aa ln la = rw (no_name w (and_parts _ _ hq).0) refl
+words_of_filled (Argument ∷ ps) (Word w ∷ qs) new args hp hq an aa ln la = rw (no_name w (and_parts _ _ hq).0) refl
 words_of_filled (Word v ∷ ps) (Word w ∷ qs) new args hp hq an aa ln la =
-    ap (λ b. bytes_eq w v && b) (words_of_filled ps qs new args (both _ _ hp).1 (both _ _ hq).1 an aa ln la)
+    ap (λ b. bytes_eq w v && b) (words_of_filled ps qs new args (and_parts _ _ hp).1 (and_parts _ _ hq).1 an aa ln la)
 words_of_filled ps (New ∷ qs) [] args hp hq an aa ln la = absurd (omega (arith, ln))
 words_of_filled [] (New ∷ qs) (n ∷ new) args hp hq an aa ln la = refl
 words_of_filled (New ∷ ps) (New ∷ qs) (n ∷ new) args hp hq an aa ln la = rw (an.0, words_of_filled ps qs new args hp hq an.1 aa (omega (arith, ln)) la) refl
 words_of_filled (Argument ∷ ps) (New ∷ qs) (n ∷ new) args hp hq an aa ln la = rw (an.0, words_of_filled ps qs new args hp hq an.1 aa (omega (arith, ln)) la) refl
-words_of_filled (Word v ∷ ps) (New ∷ qs) (n ∷ new) args hp hq an aa ln la = rw (no_word v n (both _ _ hp).0 an.0) refl
+words_of_filled (Word v ∷ ps) (New ∷ qs) (n ∷ new) args hp hq an aa ln la = rw (no_word v n (and_parts _ _ hp).0 an.0) refl
 words_of_filled ps (Argument ∷ qs) new [] hp hq an aa ln la = absurd (omega (arith, la))
 words_of_filled [] (Argument ∷ qs) new (n ∷ args) hp hq an aa ln la = refl
 words_of_filled (New ∷ ps) (Argument ∷ qs) new (n ∷ args) hp hq an aa ln la = rw (aa.0, words_of_filled ps qs new args hp hq an aa.1 ln (omega (arith, la))) refl
 words_of_filled (Argument ∷ ps) (Argument ∷ qs) new (n ∷ args) hp hq an aa ln la = rw (aa.0, words_of_filled ps qs new args hp hq an aa.1 ln (omega (arith, la))) refl
-words_of_filled (Word v ∷ ps) (Argument ∷ qs) new (n ∷ args) hp hq an aa ln la = rw (no_word v n (both _ _ hp).0 aa.0) refl
+words_of_filled (Word v ∷ ps) (Argument ∷ qs) new (n ∷ args) hp hq an aa ln la = rw (no_word v n (and_parts _ _ hp).0 aa.0) refl
 
 -- ---- shapes with one line
 

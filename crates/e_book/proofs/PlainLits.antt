@@ -1,13 +1,13 @@
 -- Literals over the objects in scope that canonical lines can spell, and their spelling.
 use Rattle.std.proofs.Common.{◌≡◌, ◌<◌, true, List, [], ◌∷◌, length, map, Ok, refl, arith}
 use Rattle.std.specs.List.{list_all, AllByRecursion}
+use Rattle.std.proofs.lemmas.Bool.{and_parts}
 use Rattle.e_literal.specs.declared.literal.Lit.{Lit}
 use Rattle.e_literal.specs.Literal.{all_in_scope}
 use Rattle.e_literal.specs.WellFormed.{is_well_formed}
 use Rattle.e_deriv.specs.declared.names.Names.{Names}
 use Rattle.e_book.specs.Scope.{scope_of_names, lits_in}
 use Rattle.e_book.specs.Canonical.{raw_of}
-use Rattle.e_book.proofs.Differ.{both}
 use Rattle.e_book.proofs.Lookups.{InOrder}
 use Rattle.e_book.proofs.LitsAgain.{LitNamed, LitsNamed}
 use Rattle.e_book.proofs.LitLookups.{lit_number_again, lit_named}
@@ -22,8 +22,8 @@ pub record PlainLit (ns : Names) (l : Lit) : Type 0 where
 
 pub plain_first : (ns : Names) (l : Lit) (ls : List Lit) → Plain ns (l ∷ ls) → PlainLit ns l × Plain ns ls
 plain_first ns l ls p =
-    let a = both (all_in_scope (scope_of_names ns) l) (list_all (all_in_scope (scope_of_names ns)) ls) p.within in
-    let b = both (is_well_formed l) (list_all is_well_formed ls) p.good in
+    let a = and_parts (all_in_scope (scope_of_names ns) l) (list_all (all_in_scope (scope_of_names ns)) ls) p.within in
+    let b = and_parts (is_well_formed l) (list_all is_well_formed ls) p.good in
     (record { within = a.0; good = b.0 }, record { within = a.1; good = b.1 })
 
 pub lits_number_again : (ns : Names) (ls : List Lit) → InOrder ns → Plain ns ls → lits_in ns (map (raw_of ns) ls) ≡ Ok ls

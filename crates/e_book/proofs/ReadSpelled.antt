@@ -1,8 +1,7 @@
 -- A theorem that is read has a spelling.
-use Rattle.std.proofs.Common.{◌≡◌, ℕ, ◌+◌, ◌<◌, Bool, true, false, cond, eqb, ltb, ◌&&◌, inl, inr, List, [], ◌∷◌, ◌++◌, length, replicate, Option, Some, None, Result, Ok, Err, refl, sym, ap, subst, ◌∙◌, arith, length-append}
+use Rattle.std.proofs.Common.{◌≡◌, ℕ, ◌+◌, ◌<◌, Bool, true, false, cond, ltb, ◌&&◌, inl, inr, List, [], ◌∷◌, ◌++◌, length, replicate, Option, Some, None, Result, Ok, Err, refl, sym, ap, subst, ◌∙◌, arith, length-append}
 use Rattle.std.specs.List.{list_all}
-use Rattle.std.proofs.lemmas.Bool.{lt-ltb}
-use Rattle.std.proofs.lemmas.Bool.Decides.{nat_tests}
+use Rattle.std.proofs.lemmas.Bool.{lt-ltb, and_parts, and_from}
 use Rattle.e_text.specs.Tokens.{tokens_of}
 use Rattle.e_text.specs.Lines.{Seen}
 use Rattle.e_text.specs.Names.{is_name, is_title}
@@ -11,6 +10,7 @@ use Rattle.e_literal.specs.declared.object.Sort.{Sort}
 use Rattle.e_literal.specs.declared.object.Sort.TheVariants.{Point, Line, Circle}
 use Rattle.e_literal.specs.declared.object.Obj.{Obj}
 use Rattle.e_literal.specs.declared.literal.Lit.{Lit}
+use Rattle.e_literal.proofs.Booleans.{eqb_self, all_both}
 use Rattle.e_construct.specs.declared.construction.Construction.{Construction}
 use Rattle.e_construct.specs.declared.superpose.Superpose.{Superpose}
 use Rattle.e_construct.specs.Construct.{made, gives}
@@ -49,10 +49,9 @@ use Rattle.e_book.specs.Steps.{count_monos, few_monos, terms_after, with_terms, 
 use Rattle.e_book.specs.Entry.{Entry, script_of_close, statement_of_draft, entry_of_draft}
 use Rattle.e_book.specs.Book.{is_skipped, line_step, put_at, is_last, is_done, read_from}
 use Rattle.e_book.specs.HasSpelling.{HasSpelling, AreNames, is_plain, is_place, is_named_by_title, names_theorems}
-use Rattle.e_book.proofs.Answered.{within_ok, and, appended, passes, untaken, put_ok, answered, pair, first_is, skip_or, Answer}
+use Rattle.e_book.proofs.Answered.{within_ok, passes, untaken, put_ok, answered, pair, first_is, skip_or, Answer}
 use Rattle.e_book.proofs.InScope.{bind_ok, ok_is, read_ok, each_length}
-use Rattle.e_book.proofs.Keeps.{reading_fits}
-use Rattle.e_book.proofs.Differ.{both}
+use Rattle.e_book.proofs.Keeps.{reading_fits, no_title}
 use Rattle.e_book.proofs.SaidForms.{Said, form_said}
 use Rattle.e_book.proofs.KeptSums.{terms_added}
 use Rattle.e_book.proofs.Uses.{GoodUse, use_fits, found_title}
@@ -111,7 +110,7 @@ record PlainBlocks (known : List Headed) (steps : List PlainStep) (outers : List
   shut : is_plain_close known close ≡ true
 
 one_more : (known : List Headed) (ss : List PlainStep) (s : PlainStep) → list_all (is_plain_step known) ss ≡ true → is_plain_step known s ≡ true → list_all (is_plain_step known) (ss ++ s ∷ []) ≡ true
-one_more known ss s h p = appended (is_plain_step known) ss (s ∷ []) h (rw p refl)
+one_more known ss s h p = all_both (is_plain_step known) ss (s ∷ []) h (rw p refl)
 
 -- what is said of a script, in two parts
 Sayable : List Headed → Script → Type 0
@@ -119,16 +118,16 @@ Sayable known x = (is_plain x ≡ true) × (names_theorems known x ≡ true)
 
 parts_of : (known : List Headed) (x : Script) → is_said known x ≡ true → Sayable known x
 unfolding Sayable
-parts_of known x h = both (is_plain x) (names_theorems known x) h
+parts_of known x h = and_parts (is_plain x) (names_theorems known x) h
 
 plain_close : (known : List Headed) (close : CloseLine) → is_plain_close known close ≡ true → Sayable known (script_of_close close)
 unfolding Sayable is_plain names_theorems
 plain_close known (closes.Qed os) h = (refl, refl)
 plain_close known closes.Contradiction h = (refl, refl)
 plain_close known (closes.Cases lit first second) h =
-    let p = both (is_said known first) (is_said known second) h in
-    let a = both (is_plain first) (names_theorems known first) p.0 in
-    let b = both (is_plain second) (names_theorems known second) p.1 in
+    let p = and_parts (is_said known first) (is_said known second) h in
+    let a = and_parts (is_plain first) (names_theorems known first) p.0 in
+    let b = and_parts (is_plain second) (names_theorems known second) p.1 in
     (rw (a.0, b.0) refl, rw (a.1, b.1) refl)
 
 plain_steps : (known : List Headed) (ss : List PlainStep) (close : CloseLine) → list_all (is_plain_step known) ss ≡ true → is_plain_close known close ≡ true → Sayable known (all_before ss (script_of_close close))
@@ -138,34 +137,34 @@ plain_steps known (Cited by ∷ ss) close h k = plain_steps known ss close h k
 plain_steps known (Inferred lit None ∷ ss) close h k = plain_steps known ss close h k
 plain_steps known (Inferred lit (Some cert) ∷ ss) close h k = absurd cc
 plain_steps known (Made form names [] ∷ ss) close h k =
-    let p = both (list_all is_name names) (list_all (is_plain_step known) ss) h in
+    let p = and_parts (list_all is_name names) (list_all (is_plain_step known) ss) h in
     let r = plain_steps known ss close p.1 k in
     (rw (p.0, r.0) refl, r.1)
 plain_steps known (Made form names (c ∷ cs) ∷ ss) close h k = absurd cc
 plain_steps known (Applied theorem args names [] ∷ ss) close h k =
-    let p = both (list_all is_name names && is_named_by_title known theorem) (list_all (is_plain_step known) ss) h in
-    let q = both (list_all is_name names) (is_named_by_title known theorem) p.0 in
+    let p = and_parts (list_all is_name names && is_named_by_title known theorem) (list_all (is_plain_step known) ss) h in
+    let q = and_parts (list_all is_name names) (is_named_by_title known theorem) p.0 in
     let r = plain_steps known ss close p.1 k in
-    (and _ _ q.0 r.0, and _ _ q.1 r.1)
+    (and_from _ _ q.0 r.0, and_from _ _ q.1 r.1)
 plain_steps known (Applied theorem args names (c ∷ cs) ∷ ss) close h k = absurd cc
 plain_steps known (Claimed shown inner ∷ ss) close h k =
-    let p = both (ltb 0 (length shown) && is_said known inner) (list_all (is_plain_step known) ss) h in
-    let q = both (ltb 0 (length shown)) (is_said known inner) p.0 in
-    let i = both (is_plain inner) (names_theorems known inner) q.1 in
+    let p = and_parts (ltb 0 (length shown) && is_said known inner) (list_all (is_plain_step known) ss) h in
+    let q = and_parts (ltb 0 (length shown)) (is_said known inner) p.0 in
+    let i = and_parts (is_plain inner) (names_theorems known inner) q.1 in
     let r = plain_steps known ss close p.1 k in
-    (and _ _ q.0 (and _ _ i.0 r.0), and _ _ i.1 r.1)
+    (and_from _ _ q.0 (and_from _ _ i.0 r.0), and_from _ _ i.1 r.1)
 plain_steps known (Copied form names shown [] inner ∷ ss) close h k =
-    let p = both (list_all is_name names && (ltb 0 (length shown) && is_said known inner)) (list_all (is_plain_step known) ss) h in
-    let n = both (list_all is_name names) (ltb 0 (length shown) && is_said known inner) p.0 in
-    let q = both (ltb 0 (length shown)) (is_said known inner) n.1 in
-    let i = both (is_plain inner) (names_theorems known inner) q.1 in
+    let p = and_parts (list_all is_name names && (ltb 0 (length shown) && is_said known inner)) (list_all (is_plain_step known) ss) h in
+    let n = and_parts (list_all is_name names) (ltb 0 (length shown) && is_said known inner) p.0 in
+    let q = and_parts (ltb 0 (length shown)) (is_said known inner) n.1 in
+    let i = and_parts (is_plain inner) (names_theorems known inner) q.1 in
     let r = plain_steps known ss close p.1 k in
-    (and _ _ n.0 (and _ _ q.0 (and _ _ i.0 r.0)), and _ _ i.1 r.1)
+    (and_from _ _ n.0 (and_from _ _ q.0 (and_from _ _ i.0 r.0)), and_from _ _ i.1 r.1)
 plain_steps known (Copied form names shown (c ∷ cs) inner ∷ ss) close h k = absurd cc
 
 plain_script : (known : List Headed) (ss : List PlainStep) (close : CloseLine) → list_all (is_plain_step known) ss ≡ true → is_plain_close known close ≡ true → is_said known (all_before ss (script_of_close close)) ≡ true
 unfolding Sayable
-plain_script known ss close h k = let r = plain_steps known ss close h k in and _ _ r.0 r.1
+plain_script known ss close h k = let r = plain_steps known ss close h k in and_from _ _ r.0 r.1
 
 -- ---- what each line keeps
 
@@ -283,17 +282,14 @@ spelled_let : (known : List Headed) (d e : Draft) (l : RawLet) → Spelled known
 unfolding stepped
 spelled_let known d e l g said h = spelled_built known d e l g said h
 
-same_place : (n : ℕ) → eqb n n ≡ true
-same_place n = grind (arith, nat_tests)
-
 -- the theorem that is used can be named by its title
 by_title : (known : List Headed) (ns : Names) (raw : RawApply) (theorem : ℕ) (args : List (Option Obj)) → GoodUse known ns raw theorem args → is_title raw.title ≡ true → is_named_by_title known theorem ≡ true
 by_title known ns raw theorem args u h =
     let t = found_title known raw.title theorem u.place in
     let named_so : is_title (title_at known theorem) ≡ true = subst (λ (x : List ℕ). is_title x ≡ true) (sym t) h in
     let there : place_in known (title_at known theorem) ≡ Some theorem = ap (place_in known) t ∙ u.place in
-    let here : is_place theorem (place_in known (title_at known theorem)) ≡ true = ap (is_place theorem) there ∙ same_place theorem in
-    and _ _ named_so here
+    let here : is_place theorem (place_in known (title_at known theorem)) ≡ true = ap (is_place theorem) there ∙ eqb_self theorem in
+    and_from _ _ named_so here
 
 spelled_used : (known : List Headed) (d e : Draft) (raw : RawApply) (theorem : ℕ) (args : List (Option Obj)) → Spelled known d → AreNames raw.new → is_named_by_title known theorem ≡ true
     → used_by d (theorem_of known theorem) theorem args raw.new ≡ Ok e → Spelled known e
@@ -309,7 +305,7 @@ spelled_used known d e raw theorem args g names title h =
     let v = bind_ok (with_step x s (length t.shown)) (λ v. terms_after v.terms t.shown >>= λ n. last v n) e b.2 in
     let n = bind_ok (terms_after v.0.terms t.shown) (λ n. last v.0 n) e v.2 in
     let w = bind_ok (within (count_blanks args) most_blanks limits.Blanks) (λ written. read_ok (then v.0 n.0)) e n.2 in
-    let y = spelled_step known x v.0 s (length t.shown) (moved known d d.place after d.lines d.facts d.terms g g.some) (and _ _ (names_listed raw.new names) title) v.1 in
+    let y = spelled_step known x v.0 s (length t.shown) (moved known d d.place after d.lines d.facts d.terms g g.some) (and_from _ _ (names_listed raw.new names) title) v.1 in
     subst (λ (y : Draft). Spelled known y) (ok_is (then v.0 n.0) e w.2) (counted known v.0 n.0 y)
 
 spelled_applied : (known : List Headed) (d e : Draft) (raw : RawApply) → Spelled known d → (is_title raw.title ≡ true) × AreNames raw.new → applied known d raw ≡ Ok e → Spelled known e
@@ -449,7 +445,7 @@ spelled_inside : (known : List Headed) (d e : Draft) (o : Outer) (os : List Oute
     → closed_inside d o os inner (λ c. closed d os o.steps c) by ≡ Ok e → Spelled known e
 spelled_inside known d e o os inner (opened.Claim shown) g inside p around q again h = spelled_resumed known d e o os shown (Claimed shown inner) g inside around (rw (p, q) refl) h
 spelled_inside known d e o os inner (opened.Superpose form names shown) g inside p around q again h =
-    let n = both (list_all is_name names) (ltb 0 (length shown)) p in
+    let n = and_parts (list_all is_name names) (ltb 0 (length shown)) p in
     spelled_resumed known d e o os shown (Copied form names shown [] inner) g inside around (rw (n.0, n.1, q) refl) h
 spelled_inside known d e o os inner (opened.First lit) g inside p around q again h =
     subst (λ (y : Draft). Spelled known y) (ok_is (at_second d o os lit inner) e h)
@@ -463,8 +459,8 @@ spelled_closed known d e [] ss close g around inside k h =
     subst (λ (y : Draft). Spelled known y) (ok_is (shut_last d ss close) e h)
     (record { few = g.few; title = g.title; naming = g.naming; some = g.some; blocks = record { inside = inside; around = refl; shut = k } })
 spelled_closed known d e (o ∷ os) ss close g around inside k h =
-    let p = both (is_plain_outer known o) (list_all (is_plain_outer known) os) around in
-    let q = both (list_all (is_plain_step known) o.steps) (is_plain_opened known o.opened) p.0 in
+    let p = and_parts (is_plain_outer known o) (list_all (is_plain_outer known) os) around in
+    let q = and_parts (list_all (is_plain_step known) o.steps) (is_plain_opened known o.opened) p.0 in
     spelled_inside known d e o os (all_before ss (script_of_close close)) o.opened g q.0 q.1 p.1 (plain_script known ss close inside k) (λ c kc hc. spelled_closed known d e os o.steps c g p.1 q.0 kc hc) h
 
 spelled_shut : (known : List Headed) (d e : Draft) (close : CloseLine) → Spelled known d → 0 < length d.shown → is_plain_close known close ≡ true → shut d close ≡ Ok e → Spelled known e
@@ -487,10 +483,6 @@ spelled_contradiction known d e g a h = spelled_shut known d e closes.Contradict
 spelled_end : (known : List Headed) (d e : Draft) → Spelled known d → allowed d.place forms.End ≡ true → stepped known d forms.End ≡ Ok e → Spelled known e
 unfolding stepped
 spelled_end known d e g a h = subst (λ (y : Draft). Spelled known y) (ok_is (record d { place = Done }) e h) (moved known d Done d.in_scope d.lines d.facts d.terms g (at_close d.place d.shown a g.some))
-
-no_title : (known : List Headed) (d e : Draft) (t : List ℕ) → stepped known d (forms.Theorem t) ≡ Ok e → ⊥
-unfolding stepped
-no_title known d e t h = absurd cc
 
 spelled_stepped : (known : List Headed) (d e : Draft) (f : Form) → Spelled known d → Said f → allowed d.place f ≡ true → stepped known d f ≡ Ok e → Spelled known e
 spelled_stepped known d e (forms.Theorem t) g s a h = absurd (no_title known d e t h)
@@ -578,7 +570,7 @@ pub read_is_spelled : (known : List Headed) (last : ℕ) (t : Entry) (lines rest
 read_is_spelled known last t lines rest e =
     let f = reading_fits known last None lines rest t tt e in
     let n = reading_names known last None lines rest t tt e in
-    let s = both (is_plain t.script) (names_theorems known t.script) n.said in
+    let s = and_parts (is_plain t.script) (names_theorems known t.script) n.said in
     record {
       fits = f;
       few_theorems = n.few;

@@ -1,60 +1,25 @@
 -- Literals with other objects in the place of theirs are as well formed as they were; those for made objects are in scope.
-use Rattle.std.proofs.Common.{◌≡◌, ℕ, ◌+◌, Bool, true, false, cond, ltb, eqb, ◌&&◌, List, [], ◌∷◌, map, Option, Some, refl, sym, ap, subst, ◌∙◌, arith}
+use Rattle.std.proofs.Common.{◌≡◌, ℕ, ◌+◌, Bool, true, false, cond, ltb, eqb, ◌&&◌, List, [], ◌∷◌, Option, Some, refl, sym, subst, ◌∙◌, arith}
 use Rattle.std.specs.Option.{option_map_or}
-use Rattle.std.specs.List.{list_all}
-use Rattle.std.proofs.lemmas.Bool.{ltb-true, ltb-false, eqb-false}
-use Rattle.std.proofs.lemmas.List.{length-map}
+use Rattle.std.proofs.lemmas.Bool.{ltb-true, ltb-false, eqb-false, and_parts}
 use Rattle.e_literal.specs.declared.object.Sort.{Sort}
 use Rattle.e_literal.specs.declared.object.Sort.TheVariants.{Point, Line, Circle}
-use Rattle.e_literal.specs.declared.object.Kind.{Kind}
 use Rattle.e_literal.specs.declared.object.Obj.{Obj}
 use Rattle.e_literal.specs.declared.object.Scope.{Scope}
-use Rattle.e_literal.specs.declared.object.Term.{Term}
 use Rattle.e_literal.specs.declared.object.Term.TheVariants as terms
-use Rattle.e_literal.specs.declared.object.Mono.{Mono}
-use Rattle.e_literal.specs.declared.literal.Atom.{Atom}
 use Rattle.e_literal.specs.declared.literal.Atom.TheVariants as atoms
 use Rattle.e_literal.specs.declared.literal.Lit.{Lit}
-use Rattle.e_literal.specs.Literal.{obj, count_of, is_in_scope, kind_of_term, kind_of_sums}
+use Rattle.e_literal.specs.Literal.{obj, count_of, is_in_scope}
 use Rattle.e_literal.specs.Scopes.{same_sort, with_one, grown, next_objects, are_of_sorts}
-use Rattle.e_literal.specs.WellFormed.{same_kind, is_good_coefficient, is_good_atom, is_well_formed}
-use Rattle.e_literal.specs.Rename.{term_at, mono_at, atom_at, number_at, renamed, same_obj, image_in, paired}
-use Rattle.e_construct.proofs.Moving.{is_moved_in}
-use Rattle.e_book.proofs.Differ.{both}
-use Rattle.e_construct.proofs.Moving.{sorts_same}
-use Rattle.e_book.proofs.GoodSums.{is_good_mono, AreGood, GoodSums, good_sums, sums_good}
+use Rattle.e_literal.specs.WellFormed.{is_well_formed}
+use Rattle.e_literal.specs.Rename.{renamed, same_obj, image_in, paired}
+use Rattle.e_literal.proofs.Renamed.{is_moved_in, renamed_well_formed}
+use Rattle.e_literal.proofs.Sorts.{same_sort_is}
 
 -- ---- well formed
 
-kind_moved : (p : ℕ → ℕ) (t : Term) → kind_of_term (term_at p t) ≡ kind_of_term t
-kind_moved p (terms.Seg a b) = refl
-kind_moved p (terms.Ang a b c) = refl
-kind_moved p (terms.Area a b c) = refl
-kind_moved p terms.Right = refl
-
-monos_moved : (p : ℕ → ℕ) (k : Kind) (ms : List Mono) → AreGood k ms → AreGood k (map (mono_at p) ms)
-monos_moved p k [] g = refl
-monos_moved p k (m ∷ ms) g =
-    let q = both (is_good_mono k m) (list_all (is_good_mono k) ms) g in
-    let r = both (same_kind (kind_of_term m.term) k) (is_good_coefficient m.coeff) q.0 in
-    let kind : same_kind (kind_of_term (term_at p m.term)) k ≡ true = ap (λ (z : Kind). same_kind z k) (kind_moved p m.term) ∙ r.0 in
-    rw (kind, r.1, monos_moved p k ms q.1) refl
-
-sums_moved : (p : ℕ → ℕ) (k : Kind) (x y : List Mono) → GoodSums k x y → GoodSums k (map (mono_at p) x) (map (mono_at p) y)
-sums_moved p k x y g = record {
-  left = monos_moved p k x g.left;
-  right = monos_moved p k y g.right;
-  some = omega (arith, g.some, length-map x (mono_at p), length-map y (mono_at p));
-  short = omega (arith, g.short, length-map x (mono_at p), length-map y (mono_at p));
-}
-
-good_moved : (p l c : ℕ → ℕ) (a : Atom) → is_good_atom a ≡ true → is_good_atom (atom_at p l c a) ≡ true
-good_moved p l c (atoms.MagEq x y) h = let k = kind_of_sums x y in sums_good k (map (mono_at p) x) (map (mono_at p) y) (sums_moved p k x y (good_sums x y h))
-good_moved p l c (atoms.MagLt x y) h = let k = kind_of_sums x y in sums_good k (map (mono_at p) x) (map (mono_at p) y) (sums_moved p k x y (good_sums x y h))
-good_moved p l c a h = refl
-
 pub renamed_good : (image : Obj → Option Obj) (l : Lit) → is_well_formed l ≡ true → is_well_formed (renamed image l) ≡ true
-renamed_good image l h = good_moved (number_at image Point) (number_at image Line) (number_at image Circle) l.atom h
+renamed_good image l h = renamed_well_formed image l ∙ h
 
 -- ---- made objects
 
@@ -89,10 +54,10 @@ made_moved before s [] [] o f i w = w i
 made_moved before s [] (t ∷ os) o f i w = absurd cc
 made_moved before s (x ∷ sorts) [] o f i w = absurd cc
 made_moved before s (x ∷ sorts) (t ∷ os) o f i w =
-    let p = both (same_sort x t.sort) (is_in_scope s t && are_of_sorts s sorts os) f in
-    let q = both (is_in_scope s t) (are_of_sorts s sorts os) p.1 in
+    let p = and_parts (same_sort x t.sort) (is_in_scope s t && are_of_sorts s sorts os) f in
+    let q = and_parts (is_in_scope s t) (are_of_sorts s sorts os) p.1 in
     let new : Obj = obj x (count_of before x) in
     let image : same_obj new o ≡ true → ltb t.num (count_of s o.sort) ≡ true = λ e.
-    subst (λ (y : Sort). ltb t.num (count_of s y) ≡ true) (sym (sorts_same x t.sort p.0) ∙ sorts_same x o.sort (both (same_sort x o.sort) (eqb (count_of before x) o.num) e).0) q.0 in
+    subst (λ (y : Sort). ltb t.num (count_of s y) ≡ true) (sym (same_sort_is x t.sort p.0) ∙ same_sort_is x o.sort (and_parts (same_sort x o.sort) (eqb (count_of before x) o.num) e).0) q.0 in
     first_or (count_of s o.sort) o.num t (image_in (paired (next_objects (with_one before x) sorts) os) o) (same_obj new o) image
     (λ e. made_moved (with_one before x) s sorts os o q.1 i (λ j. w (not_new before x o.sort o.num e j)))

@@ -1,8 +1,10 @@
 -- The name of a rule is a title.
-use Rattle.std.proofs.Common.{◌≡◌, ℕ, zero, suc, Bool, true, List, [], ◌∷◌, Option, Some, None, refl, sym, ap, ◌∙◌}
+use Rattle.std.proofs.Common.{◌≡◌, ℕ, zero, suc, Bool, true, List, [], ◌∷◌, Option, Some, refl, sym, ap, ◌∙◌}
 use Rattle.std.specs.Prelude.{slice_get}
 use Rattle.std.specs.Option.{option_map, option_map_or}
 use Rattle.std.specs.List.{list_all}
+use Rattle.std.proofs.lemmas.Bool.{and_parts}
+use Rattle.std.proofs.lemmas.Option.{none-some}
 use Rattle.e_text.specs.Names.{is_title}
 use Rattle.e_clause.specs.Rows.{Row}
 use Rattle.e_clause.specs.Table.{table}
@@ -13,7 +15,6 @@ use Rattle.e_clause.specs.Table.Equality.{equality}
 use Rattle.e_clause.specs.Table.Lengths.{lengths}
 use Rattle.e_clause.specs.Table.Angles.{angles}
 use Rattle.e_book.specs.Canonical.{rule_name}
-use Rattle.e_book.proofs.Differ.{both}
 
 abbrev has_title : Row → Bool
 has_title r = is_title r.name
@@ -22,16 +23,13 @@ all_titles : list_all has_title table ≡ true
 unfolding table incidence sides circles equality lengths angles
 all_titles = refl
 
-none_some : (r : Row) → None ≡ Some r → ⊥
-none_some r e = absurd cc
-
 some_row : (x r : Row) → Some x ≡ Some r → x ≡ r
 some_row x r e = cc
 
 title_in : (rows : List Row) (n : ℕ) (r : Row) → list_all has_title rows ≡ true → slice_get rows n ≡ Some r → is_title r.name ≡ true
-title_in [] n r h at = absurd (none_some r at)
-title_in (x ∷ rows) zero r h at = ap (λ (y : Row). is_title y.name) (sym (some_row x r at)) ∙ (both (has_title x) (list_all has_title rows) h).0
-title_in (x ∷ rows) (suc n) r h at = title_in rows n r (both (has_title x) (list_all has_title rows) h).1 at
+title_in [] n r h at = absurd (none-some r at)
+title_in (x ∷ rows) zero r h at = ap (λ (y : Row). is_title y.name) (sym (some_row x r at)) ∙ (and_parts (has_title x) (list_all has_title rows) h).0
+title_in (x ∷ rows) (suc n) r h at = title_in rows n r (and_parts (has_title x) (list_all has_title rows) h).1 at
 
 pub title_again : (n : ℕ) (r : Row) → slice_get table n ≡ Some r → is_title r.name ≡ true
 title_again n r at = title_in table n r all_titles at

@@ -3,6 +3,7 @@ use Rattle.std.proofs.Common.{◌≡◌, ℕ, ◌+◌, ◌<◌, Bool, true, fals
 use Rattle.std.specs.Prelude.{codes}
 use Rattle.std.specs.List.{slice_split}
 use Rattle.std.proofs.lemmas.List.Splits.{length-slice_split}
+use Rattle.std.proofs.lemmas.Bool.{and_parts}
 use Rattle.e_text.specs.Names.{is_name, is_title, name_of, title_of}
 use Rattle.e_literal.specs.declared.object.Sort.{Sort}
 use Rattle.e_literal.specs.declared.object.Sort.TheVariants.{Point, Line, Circle}
@@ -33,7 +34,6 @@ use Rattle.e_book.specs.Forms.{form_of}
 use Rattle.e_book.specs.Scope.{used, number_of, on_sort, line_meets, meets_from, equal_at, atom_in, negated_in, lit_in, args_in, by_in, known_rule, variables_of, right_count}
 use Rattle.e_book.specs.Fits.{is_diagram_atom, is_diagram_lit}
 use Rattle.e_book.specs.HasSpelling.{AreNames}
-use Rattle.e_book.proofs.Differ.{both}
 use Rattle.e_book.proofs.InScope.{bind_ok, ok_is, read_ok, each_length}
 use Rattle.e_book.proofs.Choices.{passed}
 use Rattle.e_book.proofs.FormsByWord.{OfEachForm, form_by_word}
@@ -144,7 +144,7 @@ words_count new [] [] h = refl
 words_count new [] (w ∷ ws) h = absurd cc
 words_count new (p ∷ ps) [] h = absurd cc
 words_count new (p ∷ ps) (w ∷ ws) h =
-    place_taken (is_place new p) w (words_at new ps ws) (places new ps) (words_count new ps ws (both (is_word_of p w) (are_words_of ps ws) h).1)
+    place_taken (is_place new p) w (words_at new ps ws) (places new ps) (words_count new ps ws (and_parts (is_word_of p w) (are_words_of ps ws) h).1)
 
 head_said : (head rest : List (List ℕ)) (s : RawSuperpose) → head_of head rest ≡ Ok s → Said (forms.Superpose s)
 unfolding head_of

@@ -1,13 +1,14 @@
 -- What the spelling of literals says of their sums.
-use Rattle.std.proofs.Common.{◌≡◌, ℕ, ◌+◌, ◌-◌, ◌*◌, ◌≤◌, Bool, true, false, cond, eqb, leb, ltb, ◌&&◌, ◌||◌, List, [], ◌∷◌, length, take, drop, Option, Some, None, Result, Ok, Err, ◌≢◌, true≢false, refl, sym, ap, subst, ◌∙◌, arith}
+use Rattle.std.proofs.Common.{◌≡◌, ℕ, ◌+◌, ◌-◌, ◌≤◌, Bool, true, false, cond, eqb, leb, ltb, ◌&&◌, ◌||◌, List, [], ◌∷◌, length, take, drop, Option, Some, None, Result, Ok, Err, ◌≢◌, true≢false, refl, sym, ap, subst, ◌∙◌, arith}
 use Rattle.std.specs.Prelude.{codes, ◌==◌}
 use Rattle.std.specs.List.{slice_split, position_or_len, list_all, AllByRecursion}
 use Rattle.std.specs.Str.{bytes_eq}
-use Rattle.std.proofs.lemmas.Bool.{leb-true, ltb-true}
+use Rattle.std.proofs.lemmas.Bool.{leb-true, ltb-true, and_parts}
 use Rattle.std.proofs.lemmas.Bool.Decides.{nat_tests}
 use Rattle.std.proofs.lemmas.Bool.{eqb-false, ne_eqb}
 use Rattle.e_text.specs.Names.{is_digit}
 use Rattle.e_text.specs.Numerals.{is_numeral, value_from}
+use Rattle.e_text.proofs.Values.{value_le}
 use Rattle.e_book.specs.declared.fault.Kind.{Kind}
 use Rattle.e_book.specs.declared.fault.Kind.TheVariants.{Malformed}
 use Rattle.e_book.specs.declared.sum.RawTerm.{RawTerm}
@@ -20,7 +21,6 @@ use Rattle.e_book.specs.declared.literal.RawAtom.TheVariants as raw
 use Rattle.e_book.specs.Reading.{◌>>=◌, each}
 use Rattle.e_book.specs.Sums.{term_named, term_of, coefficient_of, counted_term, mono_of, is_plus, is_zero, sum_of}
 use Rattle.e_book.specs.Literals.{is_sign, object_of, sums_of, equal_sides, sides_of, negation_of, sign_first, compared, signed, lit_of, is_diagram_raw, diagram_lit_of, is_semicolon, lits_of}
-use Rattle.e_book.proofs.Differ.{both}
 use Rattle.e_book.proofs.InScope.{bind_ok, ok_is, read_ok}
 use Rattle.e_book.proofs.Choices.{passed}
 use Rattle.e_book.proofs.LitsByWord.{OfEachRelation, lit_by_word}
@@ -48,17 +48,13 @@ LitsSaid raws = AllByRecursion (λ r. AtomSaid r.atom) raws
 
 -- ---- numerals
 
-value_grows : (n : ℕ) (bs : List ℕ) → n ≤ value_from n bs
-value_grows n [] = omega arith
-value_grows n (b ∷ bs) = let h = value_grows (10 * n + (b - 48)) bs in omega (arith, h)
-
 same_digit : (c : ℕ) → c ≡ 48 → bytes_eq (c ∷ []) (codes "0") ≡ true
 same_digit c e = ap (λ k. bytes_eq (k ∷ []) (codes "0")) e
 
 digit_by : (t : Bool) (b : ℕ) → (b == 48) ≡ t → is_digit b ≡ true → bytes_eq (b ∷ []) (codes "0") ≡ false → 1 ≤ b - 48
 digit_by true b e d n = let is : b ≡ 48 = grind (arith, nat_tests) in absurd (true≢false (sym (same_digit b is) ∙ n))
 digit_by false b e d n =
-    let le = leb-true 48 b (both (leb 48 b) (leb b 57) d).0 in
+    let le = leb-true 48 b (and_parts (leb 48 b) (leb b 57) d).0 in
     let differs : b ≢ 48 = eqb-false b 48 e in omega arith
 
 second : (t u : Bool) → (t || u) ≡ true → t ≡ false → u ≡ true
@@ -68,13 +64,13 @@ second false u h e = h
 numeral_some : (w : List ℕ) → is_numeral w ≡ true → bytes_eq w (codes "0") ≡ false → 1 ≤ value_from 0 w
 numeral_some [] h n = absurd cc
 numeral_some (b ∷ []) h n =
-    let p = both (list_all is_digit (b ∷ [])) (eqb 0 0 || ltb 48 b) h in
-    let d = digit_by (b == 48) b refl (both (is_digit b) true p.0).0 n in omega (arith, d)
+    let p = and_parts (list_all is_digit (b ∷ [])) (eqb 0 0 || ltb 48 b) h in
+    let d = digit_by (b == 48) b refl (and_parts (is_digit b) true p.0).0 n in omega (arith, d)
 numeral_some (b ∷ c ∷ cs) h n =
-    let p = both (list_all is_digit (b ∷ c ∷ cs)) (eqb (length (c ∷ cs)) 0 || ltb 48 b) h in
+    let p = and_parts (list_all is_digit (b ∷ c ∷ cs)) (eqb (length (c ∷ cs)) 0 || ltb 48 b) h in
     let some : eqb (length (c ∷ cs)) 0 ≡ false = ne_eqb (length (c ∷ cs)) 0 (λ e. omega (arith, e)) in
     let big = ltb-true 48 b (second (eqb (length (c ∷ cs)) 0) (ltb 48 b) p.1 some) in
-    let g = value_grows (0 + (b - 48)) (c ∷ cs) in omega (arith, big, g)
+    let g = value_le (0 + (b - 48)) (c ∷ cs) in omega (arith, big, g)
 
 -- ---- sums
 

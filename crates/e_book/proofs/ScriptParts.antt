@@ -1,13 +1,13 @@
 -- A script as steps and the line that closes its block.
 use Rattle.std.proofs.Common.{◌≡◌, ◌≤◌, true, false, ltb, ◌&&◌, List, [], ◌∷◌, length, Some, None, refl, ap, arith}
 use Rattle.std.specs.List.{list_all}
+use Rattle.std.proofs.lemmas.Bool.{and_parts}
 use Rattle.e_text.specs.Names.{is_name}
 use Rattle.e_deriv.specs.PlainStep.{PlainStep, Cited, Inferred, Made, Applied, Claimed, Copied}
 use Rattle.e_deriv.specs.Script.{Script, Cite, Hence, Make, Apply, Claim, Superposed, Qed, Contradiction, Cases, size, depth}
 use Rattle.e_book.specs.declared.steps.CloseLine.{CloseLine}
 use Rattle.e_book.specs.declared.steps.CloseLine.TheVariants as closes
 use Rattle.e_book.specs.HasSpelling.{is_plain}
-use Rattle.e_book.proofs.Differ.{both}
 use Rattle.e_book.proofs.LinesRead.{Closes}
 
 -- up to its close
@@ -42,17 +42,17 @@ unfolding is_plain
 same_script (Cite by rest) p = ap (λ (s : Script). Cite by s) (same_script rest p)
 same_script (Hence lit None rest) p = ap (λ (s : Script). Hence lit None s) (same_script rest p)
 same_script (Hence lit (Some cert) rest) p = absurd (no_cert p)
-same_script (Make form names [] rest) p = ap (λ (s : Script). Make form names [] s) (same_script rest (both (list_all is_name names) (is_plain rest) p).1)
+same_script (Make form names [] rest) p = ap (λ (s : Script). Make form names [] s) (same_script rest (and_parts (list_all is_name names) (is_plain rest) p).1)
 same_script (Make form names (c ∷ cs) rest) p = absurd (no_cert p)
-same_script (Apply theorem args names [] rest) p = ap (λ (s : Script). Apply theorem args names [] s) (same_script rest (both (list_all is_name names) (is_plain rest) p).1)
+same_script (Apply theorem args names [] rest) p = ap (λ (s : Script). Apply theorem args names [] s) (same_script rest (and_parts (list_all is_name names) (is_plain rest) p).1)
 same_script (Apply theorem args names (c ∷ cs) rest) p = absurd (no_cert p)
 same_script (Claim shown inner rest) p =
-    let q = both (ltb 0 (length shown)) (is_plain inner && is_plain rest) p in
-    ap (λ (s : Script). Claim shown inner s) (same_script rest (both (is_plain inner) (is_plain rest) q.1).1)
+    let q = and_parts (ltb 0 (length shown)) (is_plain inner && is_plain rest) p in
+    ap (λ (s : Script). Claim shown inner s) (same_script rest (and_parts (is_plain inner) (is_plain rest) q.1).1)
 same_script (Superposed form names shown [] inner rest) p =
-    let n = both (list_all is_name names) (ltb 0 (length shown) && (is_plain inner && is_plain rest)) p in
-    let q = both (ltb 0 (length shown)) (is_plain inner && is_plain rest) n.1 in
-    ap (λ (s : Script). Superposed form names shown [] inner s) (same_script rest (both (is_plain inner) (is_plain rest) q.1).1)
+    let n = and_parts (list_all is_name names) (ltb 0 (length shown) && (is_plain inner && is_plain rest)) p in
+    let q = and_parts (ltb 0 (length shown)) (is_plain inner && is_plain rest) n.1 in
+    ap (λ (s : Script). Superposed form names shown [] inner s) (same_script rest (and_parts (is_plain inner) (is_plain rest) q.1).1)
 same_script (Superposed form names shown (c ∷ cs) inner rest) p = absurd (no_cert p)
 same_script (Qed os []) p = refl
 same_script (Qed os (c ∷ cs)) p = absurd (no_cert p)

@@ -1,7 +1,7 @@
 -- The lines of a proof are read from their canonical spelling.
 use Rattle.std.proofs.Common.{◌≡◌, ℕ, ◌+◌, ◌≤◌, ◌<◌, true, false, leb, ltb, ◌&&◌, List, [], ◌∷◌, ◌++◌, length, Option, Some, None, Ok, refl, sym, ap, subst, ◌∙◌, arith, append_assoc}
 use Rattle.std.specs.List.{list_all}
-use Rattle.std.proofs.lemmas.Bool.{leb-true, ltb-true}
+use Rattle.std.proofs.lemmas.Bool.{leb-true, ltb-true, and_parts}
 use Rattle.std.proofs.lemmas.List.{append-nil}
 use Rattle.std.proofs.lemmas.List.Folds.{list_all-append}
 use Rattle.e_text.specs.Names.{is_name}
@@ -41,7 +41,6 @@ use Rattle.e_book.specs.Book.{is_done}
 use Rattle.e_book.specs.Fits.{NewNamesFit, few_facts, few_terms, few_blanks, is_diagram_lit, has_good_literals}
 use Rattle.e_book.specs.Canonical.{script_forms, else_form}
 use Rattle.e_book.specs.HasSpelling.{AreNames, is_plain, is_named_by_title, names_theorems}
-use Rattle.e_book.proofs.Differ.{both}
 use Rattle.e_book.proofs.Lookups.{InOrder, objects_named}
 use Rattle.e_book.proofs.LitLookups.{lit_named}
 use Rattle.e_book.proofs.PlainLits.{Plain, PlainLit, lits_named}
@@ -62,10 +61,10 @@ no_cert e = absurd cc
 
 pub list_names : (ns : List (List ℕ)) → list_all is_name ns ≡ true → AreNames ns
 list_names [] h = tt
-list_names (n ∷ ns) h = let p = both (is_name n) (list_all is_name ns) h in (p.0, list_names ns p.1)
+list_names (n ∷ ns) h = let p = and_parts (is_name n) (list_all is_name ns) h in (p.0, list_names ns p.1)
 
 pub both_fit : (known : List Headed) (xs ys : List Line) → list_all (line_fits (stated_by known)) (xs ++ ys) ≡ true → (list_all (line_fits (stated_by known)) xs ≡ true) × (list_all (line_fits (stated_by known)) ys ≡ true)
-both_fit known xs ys h = let p = line_fits (stated_by known) in both (list_all p xs) (list_all p ys) (sym (list_all-append p xs ys) ∙ h)
+both_fit known xs ys h = let p = line_fits (stated_by known) in and_parts (list_all p xs) (list_all p ys) (sym (list_all-append p xs ys) ∙ h)
 
 -- ---- what is known of a script where its first line comes
 
@@ -108,14 +107,14 @@ cite_ready known d i b rest given goal r =
       order = r.order;
       goal_sorts = r.goal_sorts;
       plain = r.plain;
-      fitting = (both (is_citation s b) (list_all (line_fits (stated_by known)) (lines (stated_by known) rest rest s (joined given b.lit) goal)) r.fitting).1;
+      fitting = (and_parts (is_citation s b) (list_all (line_fits (stated_by known)) (lines (stated_by known) rest rest s (joined given b.lit) goal)) r.fitting).1;
       new_names = r.new_names;
       few = omega (arith, r.few);
       shallow = r.shallow;
-      good = (both (is_diagram_lit b.lit) (has_good_literals rest) r.good).1;
+      good = (and_parts (is_diagram_lit b.lit) (has_good_literals rest) r.good).1;
       theorems = r.theorems;
       blanks = r.blanks;
-      facts = (both (leb (i.facts + 1) most_facts) (few_facts (stated_by known) (i.facts + 1) s rest) r.facts).1;
+      facts = (and_parts (leb (i.facts + 1) most_facts) (few_facts (stated_by known) (i.facts + 1) s rest) r.facts).1;
       terms = r.terms;
     }
 
@@ -123,9 +122,9 @@ cite_taken : (known : List Headed) (d : Draft) (i : Inside) (b : By) (rest : Scr
 unfolding script_forms lines size has_good_literals few_facts
 cite_taken known d i b rest given goal r t =
     let s = scope_of_names i.in_scope in
-    let fit = (both (is_citation s b) (list_all (line_fits (stated_by known)) (lines (stated_by known) rest rest s (joined given b.lit) goal)) r.fitting).0 in
-    let good = (both (is_diagram_lit b.lit) (has_good_literals rest) r.good).0 in
-    let most = leb-true _ _ (both (leb (i.facts + 1) most_facts) (few_facts (stated_by known) (i.facts + 1) s rest) r.facts).0 in
+    let fit = (and_parts (is_citation s b) (list_all (line_fits (stated_by known)) (lines (stated_by known) rest rest s (joined given b.lit) goal)) r.fitting).0 in
+    let good = (and_parts (is_diagram_lit b.lit) (has_good_literals rest) r.good).0 in
+    let most = leb-true _ _ (and_parts (leb (i.facts + 1) most_facts) (few_facts (stated_by known) (i.facts + 1) s rest) r.facts).0 in
     record {
       last = t.last;
       lines = omega (arith, t.lines);
@@ -150,15 +149,15 @@ hence_ready known d i l rest given goal r =
       order = r.order;
       goal_sorts = r.goal_sorts;
       plain = r.plain;
-      fitting = (both (all_in_scope s l) (list_all (line_fits (stated_by known)) (lines (stated_by known) rest rest s (joined given l) goal)) r.fitting).1;
+      fitting = (and_parts (all_in_scope s l) (list_all (line_fits (stated_by known)) (lines (stated_by known) rest rest s (joined given l) goal)) r.fitting).1;
       new_names = r.new_names;
       few = omega (arith, r.few);
       shallow = r.shallow;
-      good = (both (is_well_formed l) (has_good_literals rest) r.good).1;
+      good = (and_parts (is_well_formed l) (has_good_literals rest) r.good).1;
       theorems = r.theorems;
       blanks = r.blanks;
-      facts = (both (leb (i.facts + 1) most_facts) (few_facts (stated_by known) (i.facts + 1) s rest) r.facts).1;
-      terms = (both (leb n most_terms) (few_terms (stated_by known) n s rest) r.terms).1;
+      facts = (and_parts (leb (i.facts + 1) most_facts) (few_facts (stated_by known) (i.facts + 1) s rest) r.facts).1;
+      terms = (and_parts (leb n most_terms) (few_terms (stated_by known) n s rest) r.terms).1;
     }
 
 hence_taken : (known : List Headed) (d : Draft) (i : Inside) (l : Lit) (rest : Script) (given : List Lit) (goal : Goal) → Ready known d i (Hence l None rest) given goal → Taken known d (inferred i l) rest → Taken known d i (Hence l None rest)
@@ -166,10 +165,10 @@ unfolding script_forms lines size has_good_literals few_facts few_terms names_th
 hence_taken known d i l rest given goal r t =
     let s = scope_of_names i.in_scope in
     let n = i.terms + monomials l.atom in
-    let fit = (both (all_in_scope s l) (list_all (line_fits (stated_by known)) (lines (stated_by known) rest rest s (joined given l) goal)) r.fitting).0 in
-    let good = (both (is_well_formed l) (has_good_literals rest) r.good).0 in
-    let most = leb-true _ _ (both (leb (i.facts + 1) most_facts) (few_facts (stated_by known) (i.facts + 1) s rest) r.facts).0 in
-    let short = leb-true _ _ (both (leb n most_terms) (few_terms (stated_by known) n s rest) r.terms).0 in
+    let fit = (and_parts (all_in_scope s l) (list_all (line_fits (stated_by known)) (lines (stated_by known) rest rest s (joined given l) goal)) r.fitting).0 in
+    let good = (and_parts (is_well_formed l) (has_good_literals rest) r.good).0 in
+    let most = leb-true _ _ (and_parts (leb (i.facts + 1) most_facts) (few_facts (stated_by known) (i.facts + 1) s rest) r.facts).0 in
+    let short = leb-true _ _ (and_parts (leb n most_terms) (few_terms (stated_by known) n s rest) r.terms).0 in
     record {
       last = t.last;
       lines = omega (arith, t.lines);
@@ -193,7 +192,7 @@ unfolding lines NewNamesFit
 make_good known d i form names rest given goal r =
     let s = scope_of_names i.in_scope in
     record {
-      fits = (both (fits_form form s) (list_all (line_fits (stated_by known)) (lines (stated_by known) rest rest (grown s (made form)) (joined_all given (gives form s)) goal)) r.fitting).0;
+      fits = (and_parts (fits_form form s) (list_all (line_fits (stated_by known)) (lines (stated_by known) rest rest (grown s (made form)) (joined_all given (gives form s)) goal)) r.fitting).0;
       free = r.new_names.0;
       count = r.new_names.1;
     }
@@ -207,19 +206,19 @@ make_ready known d i form names rest given goal r =
     let facts = joined_all given (gives form s) in
     let n = i.facts + gifts i form in
     let scope : grown s (made form) ≡ scope_of_names after = named_scope i.in_scope (made form) names r.new_names.1 in
-    let p = both (list_all is_name names) (is_plain rest) r.plain in
+    let p = and_parts (list_all is_name names) (is_plain rest) r.plain in
     record {
       order = named_in_order i.in_scope (made form) names r.order (list_names names p.0) r.new_names.0;
       goal_sorts = r.goal_sorts;
       plain = p.1;
-      fitting = subst (λ (z : Scope). list_all (line_fits (stated_by known)) (lines (stated_by known) rest rest z facts goal) ≡ true) scope (both (fits_form form s) (list_all (line_fits (stated_by known)) (lines (stated_by known) rest rest (grown s (made form)) facts goal)) r.fitting).1;
+      fitting = subst (λ (z : Scope). list_all (line_fits (stated_by known)) (lines (stated_by known) rest rest z facts goal) ≡ true) scope (and_parts (fits_form form s) (list_all (line_fits (stated_by known)) (lines (stated_by known) rest rest (grown s (made form)) facts goal)) r.fitting).1;
       new_names = r.new_names.3;
       few = omega (arith, r.few);
       shallow = r.shallow;
       good = r.good;
       theorems = r.theorems;
       blanks = r.blanks;
-      facts = subst (λ (z : Scope). few_facts (stated_by known) n z rest ≡ true) scope (both (leb n most_facts) (few_facts (stated_by known) n (grown s (made form)) rest) r.facts).1;
+      facts = subst (λ (z : Scope). few_facts (stated_by known) n z rest ≡ true) scope (and_parts (leb n most_facts) (few_facts (stated_by known) n (grown s (made form)) rest) r.facts).1;
       terms = subst (λ (z : Scope). few_terms (stated_by known) i.terms z rest ≡ true) scope r.terms;
     }
 
@@ -230,13 +229,13 @@ make_taken known d i form names rest given goal r t =
     let s = scope_of_names i.in_scope in
     let n = i.facts + gifts i form in
     let good = make_good known d i form names rest given goal r in
-    let most = leb-true _ _ (both (leb n most_facts) (few_facts (stated_by known) n (grown s (made form)) rest) r.facts).0 in
+    let most = leb-true _ _ (and_parts (leb n most_facts) (few_facts (stated_by known) n (grown s (made form)) rest) r.facts).0 in
     record {
       last = t.last;
       lines = omega (arith, t.lines);
       runs = λ e h done. (
         proving d (constructed i form names),
-        let_named i.in_scope form names r.order good (list_names names (both (list_all is_name names) (is_plain rest) r.plain).0),
+        let_named i.in_scope form names r.order good (list_names names (and_parts (list_all is_name names) (is_plain rest) r.plain).0),
         step_let known d i form names r.order good r.new_names.2 (omega (arith, r.few, at_least rest)) most,
         refl,
         t.runs e (one_more d t.last i (Made form names []) rest e h) done,
@@ -265,13 +264,13 @@ apply_parts known d i theorem args names rest given goal r =
     let n = i.facts + length t.shown in
     let m = i.terms + count_monomials t.shown in
     let scope : grown s t.made ≡ scope_of_names after.in_scope = named_scope i.in_scope t.made names r.new_names.1 in
-    let p = both (list_all is_name names) (is_plain rest) r.plain in
-    let f = both (ltb theorem (length before) && is_pattern t s args) (list_all (line_fits before) (lines before rest rest (grown s t.made) facts goal)) r.fitting in
-    let e = both (ltb theorem (length before)) (is_pattern t s args) f.0 in
-    let h = both (is_named_by_title known theorem) (names_theorems known rest) r.theorems in
-    let k = both (leb n most_facts) (few_facts before n (grown s t.made) rest) r.facts in
-    let j = both (leb m most_terms) (few_terms before m (grown s t.made) rest) r.terms in
-    let b = both (leb (count_blanks args) most_blanks) (few_blanks rest) r.blanks in
+    let p = and_parts (list_all is_name names) (is_plain rest) r.plain in
+    let f = and_parts (ltb theorem (length before) && is_pattern t s args) (list_all (line_fits before) (lines before rest rest (grown s t.made) facts goal)) r.fitting in
+    let e = and_parts (ltb theorem (length before)) (is_pattern t s args) f.0 in
+    let h = and_parts (is_named_by_title known theorem) (names_theorems known rest) r.theorems in
+    let k = and_parts (leb n most_facts) (few_facts before n (grown s t.made) rest) r.facts in
+    let j = and_parts (leb m most_terms) (few_terms before m (grown s t.made) rest) r.terms in
+    let b = and_parts (leb (count_blanks args) most_blanks) (few_blanks rest) r.blanks in
     record {
       good = record { title = h.0; entries = e.1; free = r.new_names.0; count = r.new_names.1 };
       named = list_names names p.0;
@@ -343,18 +342,18 @@ claim_parts known d i shown inner rest given goal r =
     let terms = i.terms + count_monomials shown in
     let inside = lines (stated_by known) inner inner s given (goal_of shown) in
     let after = lines (stated_by known) rest rest s (joined_all given shown) goal in
-    let p = both (ltb 0 (length shown)) (is_plain inner && is_plain rest) r.plain in
-    let pp = both (is_plain inner) (is_plain rest) p.1 in
-    let f = both (are_over s shown) (list_all (line_fits (stated_by known)) (inside ++ after)) r.fitting in
+    let p = and_parts (ltb 0 (length shown)) (is_plain inner && is_plain rest) r.plain in
+    let pp = and_parts (is_plain inner) (is_plain rest) p.1 in
+    let f = and_parts (are_over s shown) (list_all (line_fits (stated_by known)) (inside ++ after)) r.fitting in
     let ff = both_fit known inside after f.1 in
-    let g = both (list_all is_well_formed shown) (has_good_literals inner && has_good_literals rest) r.good in
-    let gg = both (has_good_literals inner) (has_good_literals rest) g.1 in
-    let th = both (names_theorems known inner) (names_theorems known rest) r.theorems in
-    let bl = both (few_blanks inner) (few_blanks rest) r.blanks in
-    let n = both (few_facts (stated_by known) i.facts s inner) (leb facts most_facts && few_facts (stated_by known) facts s rest) r.facts in
-    let nn = both (leb facts most_facts) (few_facts (stated_by known) facts s rest) n.1 in
-    let m = both (few_terms (stated_by known) i.terms s inner) (leb terms most_terms && few_terms (stated_by known) terms s rest) r.terms in
-    let mm = both (leb terms most_terms) (few_terms (stated_by known) terms s rest) m.1 in
+    let g = and_parts (list_all is_well_formed shown) (has_good_literals inner && has_good_literals rest) r.good in
+    let gg = and_parts (has_good_literals inner) (has_good_literals rest) g.1 in
+    let th = and_parts (names_theorems known inner) (names_theorems known rest) r.theorems in
+    let bl = and_parts (few_blanks inner) (few_blanks rest) r.blanks in
+    let n = and_parts (few_facts (stated_by known) i.facts s inner) (leb facts most_facts && few_facts (stated_by known) facts s rest) r.facts in
+    let nn = and_parts (leb facts most_facts) (few_facts (stated_by known) facts s rest) n.1 in
+    let m = and_parts (few_terms (stated_by known) i.terms s inner) (leb terms most_terms && few_terms (stated_by known) terms s rest) r.terms in
+    let mm = and_parts (leb terms most_terms) (few_terms (stated_by known) terms s rest) m.1 in
     record {
       some = ltb-true 0 (length shown) p.0;
       plain_inner = pp.0;
@@ -480,22 +479,22 @@ copy_parts known d i form names shown inner rest given goal r =
     let terms = i.terms + count_monomials shown in
     let inside = lines (stated_by known) inner inner t begun (goal_of shown) in
     let after = lines (stated_by known) rest rest s (joined_all given shown) goal in
-    let p = both (list_all is_name names) (ltb 0 (length shown) && (is_plain inner && is_plain rest)) r.plain in
-    let q = both (ltb 0 (length shown)) (is_plain inner && is_plain rest) p.1 in
-    let pp = both (is_plain inner) (is_plain rest) q.1 in
-    let f = both (superposing.fits form s && are_over s shown) (list_all (line_fits (stated_by known)) (inside ++ after)) r.fitting in
-    let fs = both (superposing.fits form s) (are_over s shown) f.0 in
+    let p = and_parts (list_all is_name names) (ltb 0 (length shown) && (is_plain inner && is_plain rest)) r.plain in
+    let q = and_parts (ltb 0 (length shown)) (is_plain inner && is_plain rest) p.1 in
+    let pp = and_parts (is_plain inner) (is_plain rest) q.1 in
+    let f = and_parts (superposing.fits form s && are_over s shown) (list_all (line_fits (stated_by known)) (inside ++ after)) r.fitting in
+    let fs = and_parts (superposing.fits form s) (are_over s shown) f.0 in
     let ff = both_fit known inside after f.1 in
-    let g = both (list_all is_well_formed shown) (has_good_literals inner && has_good_literals rest) r.good in
-    let gg = both (has_good_literals inner) (has_good_literals rest) g.1 in
-    let th = both (names_theorems known inner) (names_theorems known rest) r.theorems in
-    let bl = both (few_blanks inner) (few_blanks rest) r.blanks in
-    let a = both (leb n most_facts) (few_facts (stated_by known) n t inner && (leb facts most_facts && few_facts (stated_by known) facts s rest)) r.facts in
-    let aa = both (few_facts (stated_by known) n t inner) (leb facts most_facts && few_facts (stated_by known) facts s rest) a.1 in
-    let ab = both (leb facts most_facts) (few_facts (stated_by known) facts s rest) aa.1 in
-    let b = both (leb m most_terms) (few_terms (stated_by known) m t inner && (leb terms most_terms && few_terms (stated_by known) terms s rest)) r.terms in
-    let ba = both (few_terms (stated_by known) m t inner) (leb terms most_terms && few_terms (stated_by known) terms s rest) b.1 in
-    let bb = both (leb terms most_terms) (few_terms (stated_by known) terms s rest) ba.1 in
+    let g = and_parts (list_all is_well_formed shown) (has_good_literals inner && has_good_literals rest) r.good in
+    let gg = and_parts (has_good_literals inner) (has_good_literals rest) g.1 in
+    let th = and_parts (names_theorems known inner) (names_theorems known rest) r.theorems in
+    let bl = and_parts (few_blanks inner) (few_blanks rest) r.blanks in
+    let a = and_parts (leb n most_facts) (few_facts (stated_by known) n t inner && (leb facts most_facts && few_facts (stated_by known) facts s rest)) r.facts in
+    let aa = and_parts (few_facts (stated_by known) n t inner) (leb facts most_facts && few_facts (stated_by known) facts s rest) a.1 in
+    let ab = and_parts (leb facts most_facts) (few_facts (stated_by known) facts s rest) aa.1 in
+    let b = and_parts (leb m most_terms) (few_terms (stated_by known) m t inner && (leb terms most_terms && few_terms (stated_by known) terms s rest)) r.terms in
+    let ba = and_parts (few_terms (stated_by known) m t inner) (leb terms most_terms && few_terms (stated_by known) terms s rest) b.1 in
+    let bb = and_parts (leb terms most_terms) (few_terms (stated_by known) terms s rest) ba.1 in
     record {
       good = record { order = r.order; fits = fs.0; free = r.new_names.0; named = list_names names p.0; count = r.new_names.1; plain = record { within = fs.1; good = g.0 }; some = ltb-true 0 (length shown) q.0 };
       few = r.new_names.2;
@@ -612,17 +611,17 @@ cases_parts known d i l one two given goal r =
     let m = i.terms + monomials l.atom in
     let in_one = lines (stated_by known) one one s (joined given l) goal in
     let in_two = lines (stated_by known) two two s (joined given (negation l)) goal in
-    let p = both (is_plain one) (is_plain two) r.plain in
-    let f = both (all_in_scope s l) (list_all (line_fits (stated_by known)) (in_one ++ in_two)) r.fitting in
+    let p = and_parts (is_plain one) (is_plain two) r.plain in
+    let f = and_parts (all_in_scope s l) (list_all (line_fits (stated_by known)) (in_one ++ in_two)) r.fitting in
     let ff = both_fit known in_one in_two f.1 in
-    let g = both (is_well_formed l) (has_good_literals one && has_good_literals two) r.good in
-    let gg = both (has_good_literals one) (has_good_literals two) g.1 in
-    let th = both (names_theorems known one) (names_theorems known two) r.theorems in
-    let bl = both (few_blanks one) (few_blanks two) r.blanks in
-    let a = both (leb n most_facts) (few_facts (stated_by known) n s one && few_facts (stated_by known) n s two) r.facts in
-    let aa = both (few_facts (stated_by known) n s one) (few_facts (stated_by known) n s two) a.1 in
-    let b = both (leb m most_terms) (few_terms (stated_by known) m s one && few_terms (stated_by known) m s two) r.terms in
-    let bb = both (few_terms (stated_by known) m s one) (few_terms (stated_by known) m s two) b.1 in
+    let g = and_parts (is_well_formed l) (has_good_literals one && has_good_literals two) r.good in
+    let gg = and_parts (has_good_literals one) (has_good_literals two) g.1 in
+    let th = and_parts (names_theorems known one) (names_theorems known two) r.theorems in
+    let bl = and_parts (few_blanks one) (few_blanks two) r.blanks in
+    let a = and_parts (leb n most_facts) (few_facts (stated_by known) n s one && few_facts (stated_by known) n s two) r.facts in
+    let aa = and_parts (few_facts (stated_by known) n s one) (few_facts (stated_by known) n s two) a.1 in
+    let b = and_parts (leb m most_terms) (few_terms (stated_by known) m s one && few_terms (stated_by known) m s two) r.terms in
+    let bb = and_parts (few_terms (stated_by known) m s one) (few_terms (stated_by known) m s two) b.1 in
     record {
       plain_first = p.0;
       plain_second = p.1;
@@ -716,7 +715,7 @@ qed_taken : (known : List Headed) (d : Draft) (i : Inside) (os : List Obj) (give
 unfolding script_forms lines size
 qed_taken known d i os given goal r =
     let s = scope_of_names i.in_scope in
-    let q = (both (are_of_sorts s (sorts_of goal.made) os) true r.fitting).0 in
+    let q = (and_parts (are_of_sorts s (sorts_of goal.made) os) true r.fitting).0 in
     let h : are_of_sorts s (made_in i.outers d.made) os ≡ true = subst (λ (l : List Sort). are_of_sorts s l os ≡ true) r.goal_sorts q in
     record {
       last = one_line i;

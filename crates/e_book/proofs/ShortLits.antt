@@ -1,7 +1,7 @@
 -- A literal that is well formed is within the limits, as it is spelled.
 use Rattle.std.proofs.Common.{◌≡◌, ◌+◌, Bool, true, false, leb, List, [], ◌∷◌, ◌++◌, length, map, Ok, refl, ◌∙◌, arith, length-append}
 use Rattle.std.specs.List.{list_all}
-use Rattle.std.proofs.lemmas.Bool.{le-leb}
+use Rattle.std.proofs.lemmas.Bool.{le-leb, and_parts}
 use Rattle.std.proofs.lemmas.List.{length-map}
 use Rattle.std.proofs.lemmas.List.Folds.{list_all-append}
 use Rattle.std.proofs.lemmas.List.Sums.{sum_by-append}
@@ -19,7 +19,6 @@ use Rattle.e_book.specs.Literals.{monos_of}
 use Rattle.e_book.specs.Steps.{are_short, are_small, count_monos, few_monos}
 use Rattle.e_book.specs.Fits.{monomials, count_monomials}
 use Rattle.e_book.specs.Canonical.{raw_mono, raw_sum, raw_signed, raw_of}
-use Rattle.e_book.proofs.Differ.{both}
 use Rattle.e_book.proofs.GoodSums.{is_good_mono, AreGood, GoodSums, good_sums, turned}
 
 abbrev is_small : List RawMono → Bool
@@ -28,9 +27,9 @@ is_small ms = list_all (λ m. leb m.coeff most_coefficient) ms
 small_sum : (ns : Names) (k : Magnitude) (ms : List Mono) → AreGood k ms → is_small (raw_sum ns ms) ≡ true
 small_sum ns k [] g = refl
 small_sum ns k (m ∷ ms) g =
-    let p = both (is_good_mono k m) (list_all (is_good_mono k) ms) g in
-    let q = both (same_kind (kind_of_term m.term) k) (is_good_coefficient m.coeff) p.0 in
-    let c = both (leb 1 m.coeff) (leb m.coeff most_coefficient) q.1 in
+    let p = and_parts (is_good_mono k m) (list_all (is_good_mono k) ms) g in
+    let q = and_parts (same_kind (kind_of_term m.term) k) (is_good_coefficient m.coeff) p.0 in
+    let c = and_parts (leb 1 m.coeff) (leb m.coeff most_coefficient) q.1 in
     rw (c.1, small_sum ns k ms p.1) refl
 
 -- a literal's monomials as they are spelled
@@ -62,14 +61,14 @@ few_again ns l h = let s = short_lit ns l.neg l.atom h in rw (s.short, s.small) 
 short_lits : (ns : Names) (ls : List Lit) → list_all is_well_formed ls ≡ true → are_short (map (raw_of ns) ls) ≡ true
 short_lits ns [] h = refl
 short_lits ns (l ∷ ls) h =
-    let p = both (is_well_formed l) (list_all is_well_formed ls) h in
+    let p = and_parts (is_well_formed l) (list_all is_well_formed ls) h in
     let s = short_lit ns l.neg l.atom p.0 in
     rw (s.short, short_lits ns ls p.1) refl
 
 small_lits : (ns : Names) (ls : List Lit) → list_all is_well_formed ls ≡ true → are_small (map (raw_of ns) ls) ≡ true
 small_lits ns [] h = refl
 small_lits ns (l ∷ ls) h =
-    let p = both (is_well_formed l) (list_all is_well_formed ls) h in
+    let p = and_parts (is_well_formed l) (list_all is_well_formed ls) h in
     let s = short_lit ns l.neg l.atom p.0 in
     rw (s.small, small_lits ns ls p.1) refl
 

@@ -30,7 +30,7 @@ use Rattle.e_book.proofs.LetsAgain.{append_tokens}
 abbrev pub is_mono_word : List ℕ → Bool
 is_mono_word w = is_name w || (is_numeral w || is_shapes_word w)
 
-name_word : (w : List ℕ) → is_name w ≡ true → is_mono_word w ≡ true
+pub name_word : (w : List ℕ) → is_name w ≡ true → is_mono_word w ≡ true
 name_word w h = rw h refl
 
 numeral_word : (w : List ℕ) → is_numeral w ≡ true → is_mono_word w ≡ true

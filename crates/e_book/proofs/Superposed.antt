@@ -1,5 +1,6 @@
 -- The words of a superposition in scope are read as that superposition.
 use Rattle.std.proofs.Common.{◌≡◌, ℕ, ◌<◌, true, List, [], ◌∷◌, ◌++◌, length, map, Ok, refl, sym, ap, ap₂, subst, ◌∙◌}
+use Rattle.std.proofs.lemmas.Bool.{and_parts}
 use Rattle.e_literal.specs.declared.object.Sort.{Sort}
 use Rattle.e_literal.specs.declared.object.Sort.TheVariants.{Point, Line}
 use Rattle.e_literal.specs.declared.object.Obj.{Obj}
@@ -15,7 +16,6 @@ use Rattle.e_book.specs.Scope.{scope_of_names, fresh}
 use Rattle.e_book.specs.Superposes.{superpose, placed_in, superpose_in}
 use Rattle.e_book.specs.Canonical.{raw_of, placed_names}
 use Rattle.e_book.specs.HasSpelling.{AreNames}
-use Rattle.e_book.proofs.Differ.{both}
 use Rattle.e_book.proofs.SuperposesAgain.{SuperposeNamed}
 use Rattle.e_book.proofs.Lookups.{InOrder, number_again, named_at}
 use Rattle.e_book.proofs.PlainLits.{Plain, lits_number_again, lits_named}
@@ -37,7 +37,7 @@ first_point : (s : Scope) (sorts : List Sort) (ps ls : List ℕ) → are_of_sort
 first_point s sorts [] [] h = absurd cc
 first_point s sorts [] (l ∷ ls) h = absurd cc
 first_point s sorts (p ∷ ps) ls h =
-    let b = both (is_in_scope s (obj Point p)) (are_of_sorts s sorts (objects ps ls)) h in
+    let b = and_parts (is_in_scope s (obj Point p)) (are_of_sorts s sorts (objects ps ls)) h in
     record { n = p; more = ps; is = refl; within = b.0; others = b.1 }
 
 -- the two lines, behind which there is nothing
@@ -52,14 +52,14 @@ record Lines (s : Scope) (ps ls : List ℕ) : Type 0 where
 two_lines : (s : Scope) (ps ls : List ℕ) → are_of_sorts s (Line ∷ Line ∷ []) (objects ps ls) ≡ true → Lines s ps ls
 two_lines s (p ∷ ps) ls h = absurd cc
 two_lines s [] [] h = absurd cc
-two_lines s [] (k ∷ []) h = absurd cc (both (is_in_scope s (obj Line k)) (are_of_sorts s (Line ∷ []) (objects [] [])) h).1
+two_lines s [] (k ∷ []) h = absurd cc (and_parts (is_in_scope s (obj Line k)) (are_of_sorts s (Line ∷ []) (objects [] [])) h).1
 two_lines s [] (k ∷ l ∷ []) h =
-    let b = both (is_in_scope s (obj Line k)) (are_of_sorts s (Line ∷ []) (objects [] (l ∷ []))) h in
-    let c = both (is_in_scope s (obj Line l)) (are_of_sorts s [] (objects [] [])) b.1 in
+    let b = and_parts (is_in_scope s (obj Line k)) (are_of_sorts s (Line ∷ []) (objects [] (l ∷ []))) h in
+    let c = and_parts (is_in_scope s (obj Line l)) (are_of_sorts s [] (objects [] [])) b.1 in
     record { k = k; l = l; no_point = refl; are = refl; first = b.0; second = c.0 }
 two_lines s [] (k ∷ l ∷ m ∷ ls) h =
-    let b = both (is_in_scope s (obj Line k)) (are_of_sorts s (Line ∷ []) (objects [] (l ∷ m ∷ ls))) h in
-    let c = both (is_in_scope s (obj Line l)) (are_of_sorts s [] (objects [] (m ∷ ls))) b.1 in
+    let b = and_parts (is_in_scope s (obj Line k)) (are_of_sorts s (Line ∷ []) (objects [] (l ∷ m ∷ ls))) h in
+    let c = and_parts (is_in_scope s (obj Line l)) (are_of_sorts s [] (objects [] (m ∷ ls))) b.1 in
     absurd (none c.1)
   where
     none : are_of_sorts s [] (objects [] (m ∷ ls)) ≡ true → ⊥

@@ -2,7 +2,7 @@
 use Rattle.std.proofs.Common.{◌≡◌, ℕ, ◌+◌, ◌≤◌, Bool, true, false, leb, ◌&&◌, List, [], ◌∷◌, ◌++◌, length, Ok, refl, sym, ap, subst, ◌∙◌, arith, length-append}
 use Rattle.std.specs.Prelude.{◌==◌}
 use Rattle.std.specs.List.{list_all}
-use Rattle.std.proofs.lemmas.Bool.{leb-true, le-leb}
+use Rattle.std.proofs.lemmas.Bool.{leb-true, le-leb, and_parts}
 use Rattle.std.proofs.lemmas.Bool.Decides.{nat_tests}
 use Rattle.std.proofs.lemmas.List.Folds.{list_all-append}
 use Rattle.std.proofs.lemmas.List.Sums.{sum_by-append}
@@ -29,12 +29,12 @@ use Rattle.e_book.specs.Literals.{monos_of}
 use Rattle.e_book.specs.Scope.{number_of, term_in, kind_of_raw, first_kind, mono_in, sums_in, atom_in, negated_in, lit_in, lits_in}
 use Rattle.e_book.specs.Steps.{are_short, are_small, count_monos}
 use Rattle.e_book.specs.Fits.{is_diagram_atom, monomials, count_monomials}
-use Rattle.e_book.proofs.Differ.{both}
 use Rattle.e_book.proofs.InScope.{bind_ok, ok_is, read_ok, each_length, mono_read, sums_read}
 use Rattle.e_book.proofs.SaidLits.{SumSaid, SidesSaid, AtomSaid, LitsSaid}
 use Rattle.e_book.proofs.GoodSums.{is_good_mono, AreGood, GoodSums, sums_good, turned}
 use Rattle.e_book.proofs.SaidForms.{atom_plain}
 use Rattle.e_book.proofs.ShortLits.{count_first}
+use Rattle.e_book.proofs.WrittenScripts.{good_diagram}
 
 abbrev is_small : List RawMono → Bool
 is_small ms = list_all (λ m. leb m.coeff most_coefficient) ms
@@ -73,7 +73,7 @@ good_sum ns k [] ms e said small = subst (AreGood k) (ok_is [] ms e) refl
 good_sum ns k (r ∷ rs) ms e said small =
     let a = bind_ok (mono_in ns k r) (λ m. each (mono_in ns k) rs >>= λ zs. read_ok (m ∷ zs)) ms e in
     let b = bind_ok (each (mono_in ns k) rs) (λ zs. read_ok (a.0 ∷ zs)) ms a.2 in
-    let s = both (leb r.coeff most_coefficient) (is_small rs) small in
+    let s = and_parts (leb r.coeff most_coefficient) (is_small rs) small in
     subst (AreGood k) (ok_is (a.0 ∷ b.0) ms b.2) (rw (good_mono ns k r a.0 a.1 said.0 s.0, good_sum ns k rs b.0 b.1 said.1 s.1) refl)
 
 some_by : (m n : ℕ) → (m == 0 && n == 0) ≡ false → 1 ≤ m + n
@@ -84,7 +84,7 @@ good_sides : (ns : Names) (x y : List RawMono) (p : List Mono × List Mono) → 
 good_sides ns x y p e said short small =
     let k = first_kind x y in
     let r = sums_read ns x y p e in
-    let parts = both (is_small x) (is_small y) (sym (list_all-append (λ m. leb m.coeff most_coefficient) x y) ∙ small) in
+    let parts = and_parts (is_small x) (is_small y) (sym (list_all-append (λ m. leb m.coeff most_coefficient) x y) ∙ small) in
     let a = each_length (mono_in ns k) x p.0 r.left in
     let b = each_length (mono_in ns k) y p.1 r.right in
     let some = some_by (length x) (length y) said.some in
@@ -99,11 +99,6 @@ good_sides ns x y p e said short small =
 to : (x a : Atom) → is_good_atom x ≡ true → read_ok x ≡ Ok a → is_good_atom a ≡ true
 to x a h e = subst (λ (y : Atom). is_good_atom y ≡ true) (ok_is x a e) h
 
-plain_good : (a : Atom) → is_diagram_atom a ≡ true → is_good_atom a ≡ true
-plain_good (atoms.MagEq x y) h = absurd cc
-plain_good (atoms.MagLt x y) h = absurd cc
-plain_good a h = refl
-
 good_atom : (ns : Names) (r : RawAtom) (a : Atom) → atom_in ns r ≡ Ok a → AtomSaid r → leb (length (monos_of r)) most_monomials ≡ true → is_small (monos_of r) ≡ true → is_good_atom a ≡ true
 unfolding atom_in
 good_atom ns (raw.SumsEqual x y) a e said short small =
@@ -116,7 +111,7 @@ good_atom ns (raw.SumsAtMost x y) a e said short small =
     let p = bind_ok (sums_in ns x y) (λ p. read_ok (atoms.MagLt p.1 p.0)) a e in
     let k = first_kind x y in
     to (atoms.MagLt p.0.1 p.0.0) a (sums_good k p.0.1 p.0.0 (turned k p.0.0 p.0.1 (good_sides ns x y p.0 p.1 said short small))) p.2
-good_atom ns r a e said short small = plain_good a (atom_plain ns r a refl e)
+good_atom ns r a e said short small = good_diagram a (atom_plain ns r a refl e)
 
 abbrev lit : Bool → Atom → Lit
 lit neg a = record { neg = neg; atom = a }
@@ -132,8 +127,8 @@ good_lits ns [] ls e said short small = subst (λ (x : List Lit). list_all is_we
 good_lits ns (r ∷ raws) ls e said short small =
     let a = bind_ok (lit_in ns r) (λ l. lits_in ns raws >>= λ zs. read_ok (l ∷ zs)) ls e in
     let b = bind_ok (lits_in ns raws) (λ zs. read_ok (a.0 ∷ zs)) ls a.2 in
-    let s = both (leb (length (monos_of r.atom)) most_monomials) (are_short raws) short in
-    let t = both (is_small (monos_of r.atom)) (are_small raws) small in
+    let s = and_parts (leb (length (monos_of r.atom)) most_monomials) (are_short raws) short in
+    let t = and_parts (is_small (monos_of r.atom)) (are_small raws) small in
     subst (λ (x : List Lit). list_all is_well_formed x ≡ true) (ok_is (a.0 ∷ b.0) ls b.2)
     (rw (good_lit ns r a.0 a.1 said.0 s.0 t.0, good_lits ns raws b.0 b.1 said.1 s.1 t.1) refl)
 

@@ -1,12 +1,13 @@
 -- Solutions of the three metric systems, carried to the terms as they are written, are a counterexample.
-use Rattle.std.proofs.Common.{◌≡◌, ◌≢◌, ℕ, ◌+◌, ◌*◌, ◌≤◌, List, [], ◌∷◌, ◌++◌, length, refl, sym, ap, ap₂, ◌∙◌, subst, arith, Option, Some, None, Bool, true, false, cond, ◌&&◌, ◌||◌, ◌==◌, eqb, eq-eqb, true≢false, ◌⊎◌, inl, inr, min, max}
+use Rattle.std.proofs.Common.{◌≡◌, ◌≢◌, ℕ, ◌+◌, ◌*◌, ◌≤◌, List, [], ◌∷◌, ◌++◌, length, refl, sym, ap, ap₂, ◌∙◌, subst, arith, Option, Some, None, Bool, true, false, cond, ◌&&◌, ◌||◌, ◌==◌, eqb, eq-eqb, true≢false, ◌⊎◌, inl, inr, min, max, le-leb, eqb-true}
 use Rattle.std.specs.Prelude.{flat_map, nat_le}
 use Rattle.std.specs.Option.{option_map, option_map_or}
 use Rattle.std.specs.List.{list_all, cons_option}
-use Rattle.std.proofs.lemmas.Bool.Decides.{nat_tests}
+use Rattle.std.proofs.lemmas.Bool.{and_from, or_left, or_right, or_cases, cases_Bool}
+use Rattle.std.proofs.lemmas.Option.{same_Some}
 use lib.IntN.{pos, negsuc}
 use Rattle.e_literal.specs.declared.object.Kind.{Kind}
-use Rattle.e_literal.specs.declared.object.Kind.TheVariants.{Segment, Angle, Area as AreaKind}
+use Rattle.e_literal.specs.declared.object.Kind.TheVariants.{Segment, Angle}
 use Rattle.e_literal.specs.declared.object.Mono.{Mono}
 use Rattle.e_literal.specs.declared.object.Term.{Term}
 use Rattle.e_literal.specs.declared.object.Term.TheVariants.{Seg, Ang, Area, Right}
@@ -22,9 +23,11 @@ use Rattle.e_literal.specs.Facts.{has, is_metric, are_apart, are_equal_points}
 use Rattle.e_literal.specs.Rows.{Row, Zero, AtLeast, More, Not, is_degenerate, times, row, plus, minus, row_of_atom, row_of_lit, has_term, first_terms}
 use Rattle.e_literal.specs.Solution.{Satisfy, carried}
 use Rattle.e_literal.proofs.Arith.{sums, one_mul, minus_one}
-use Rattle.e_literal.proofs.Terms.{eqb_is, and_left, and_right, both, or_either, or_left, or_right, yes_or_no, term_eq_is, equal_terms, among_either, among_left, among_right, among_first, among_rest}
+use Rattle.e_literal.proofs.Terms.{term_eq_is, equal_terms, among_either, among_left, among_right, among_first, among_rest}
 use Rattle.e_literal.proofs.Canonical.{kind_canonical, one_term_is, same_degenerate}
 use Rattle.e_literal.proofs.Valued.{IsMagEq, IsMagLt, IsDiagram, split, normal_value, holds_of_so}
+use Rattle.e_literal.proofs.Sorts.{same_kind_is, same_kind_self}
+use Rattle.e_literal.proofs.Booleans.{and_left, and_right}
 use Rattle.e_clause.specs.declared.cert.RowName.{RowName}
 use Rattle.e_clause.specs.declared.cert.RowName.TheVariants.{Fact, Goal, Pos}
 use Rattle.e_clause.specs.Assignment.{terms_of_atom, terms_of_lits, terms_of_wanted, terms_of_step, is_within, is_zero_if_degenerate, is_positive_if_apart, agrees_with}
@@ -32,7 +35,7 @@ use Rattle.e_clause.specs.Metric.{wanted_fails, IsCounterexample}
 use Rattle.e_clause.specs.System.{NamedRow, named, is_of_kind, of_kind, against_goal, rows_named, pos_row, top_row, rows_of_term, rows_of_kind, system, rows_of_system, by_kind}
 use Rattle.e_clause.specs.Laws.{is_good_wanted, SolutionsRefute}
 use Rattle.e_clause.proofs.Spread.{Agree, terms_of_sum, holds_agrees, all_hold_agrees, fails_agrees, among_facts, among_wanted}
-use Rattle.e_clause.proofs.Refuted.{IsSoAt, some_is, negation_fails}
+use Rattle.e_clause.proofs.Refuted.{IsSoAt, negation_fails}
 use Rattle.e_clause.proofs.Solved.{SatisfyNamed, terms_of_system}
 
 -- ---- parts of what is satisfied
@@ -45,28 +48,12 @@ satisfy_at : (w : Term → ℕ) (f : Term → List NamedRow) (ts : List Term) (t
 satisfy_at w f [] t h a = absurd (true≢false (sym a))
 satisfy_at w f (s ∷ ss) t h a =
     let k = satisfy_split w (f s) (flat_map f ss) h in
-    elim (or_either (term_eq t s) (is_among ss t) a) [
+    elim (or_cases (term_eq t s) (is_among ss t) a) [
       | inl e ↦ subst (λ x. SatisfyNamed w (f x)) (sym (term_eq_is t s e)) k.0
       | inr b ↦ satisfy_at w f ss t k.1 b
     ]
 
 -- ---- kinds
-
-same_kind_is : (a b : Kind) → same_kind a b ≡ true → a ≡ b
-same_kind_is Segment Segment h = refl
-same_kind_is Angle Angle h = refl
-same_kind_is AreaKind AreaKind h = refl
-same_kind_is Segment Angle h = absurd (true≢false (sym h))
-same_kind_is Segment AreaKind h = absurd (true≢false (sym h))
-same_kind_is Angle Segment h = absurd (true≢false (sym h))
-same_kind_is Angle AreaKind h = absurd (true≢false (sym h))
-same_kind_is AreaKind Segment h = absurd (true≢false (sym h))
-same_kind_is AreaKind Angle h = absurd (true≢false (sym h))
-
-same_kind_self : (a : Kind) → same_kind a a ≡ true
-same_kind_self Segment = refl
-same_kind_self Angle = refl
-same_kind_self AreaKind = refl
 
 -- each term of a well-formed sum is of its kind
 kind_in_sums : (ms : List Mono) (which : Kind) (t : Term) → list_all (λ (m : Mono). same_kind (kind_of_term m.term) which && is_good_coefficient m.coeff) ms ≡ true
@@ -75,7 +62,7 @@ kind_in_sums [] which t h a = absurd (true≢false (sym a))
 kind_in_sums (m ∷ ms) which t h a =
     let here = same_kind (kind_of_term m.term) which && is_good_coefficient m.coeff in
     let rest = list_all (λ (n : Mono). same_kind (kind_of_term n.term) which && is_good_coefficient n.coeff) ms in
-    elim (or_either (term_eq t m.term) (is_among (terms_of_sum ms) t) a) [
+    elim (or_cases (term_eq t m.term) (is_among (terms_of_sum ms) t) a) [
       | inl e ↦ ap kind_of_term (term_eq_is t m.term e) ∙ same_kind_is (kind_of_term m.term) which (and_left (same_kind (kind_of_term m.term) which) (is_good_coefficient m.coeff) (and_left here rest h))
       | inr b ↦ kind_in_sums ms which t (and_right here rest h) b
     ]
@@ -122,7 +109,7 @@ among_own_kind (l ∷ ls) t h a =
     by false e (inl k) ih = absurd (true≢false (sym (of_own_kind l t (and_left (is_well_formed l) (list_all is_well_formed ls) h) k) ∙ e))
     by false e (inr k) ih = ih k
 
-good_against : (wanted : Option Lit) → is_good_wanted wanted ≡ true → list_all is_well_formed (against_goal wanted) ≡ true
+pub good_against : (wanted : Option Lit) → is_good_wanted wanted ≡ true → list_all is_well_formed (against_goal wanted) ≡ true
 good_against None h = refl
 good_against (Some l) h = ap (λ b. b && true) (and_right (is_metric l) (is_well_formed l) h)
 
@@ -133,7 +120,7 @@ among_against (Some l) t h = among_left (terms_of_atom l.atom) [] t h
 -- a term of the step is right, or one of the system of its kind
 among_system : (facts : List Lit) (wanted : Option Lit) (t : Term) → list_all is_well_formed facts ≡ true → is_good_wanted wanted ≡ true
     → is_among (terms_of_step facts wanted) t ≡ true → (t ≡ Right) ⊎ (is_among (terms_of_system (kind_of_term t) facts wanted) t ≡ true)
-among_system facts wanted t h g a = elim (or_either (term_eq t Right) (is_among (terms_of_lits facts ++ terms_of_wanted wanted) t) a) [
+among_system facts wanted t h g a = elim (or_cases (term_eq t Right) (is_among (terms_of_lits facts ++ terms_of_wanted wanted) t) a) [
   | inl e ↦ inl (term_eq_is t Right e)
   | inr b ↦ inr (elim (among_either (terms_of_lits facts) (terms_of_wanted wanted) t b) [
     | inl k ↦ among_left (terms_of_lits (of_kind (kind_of_term t) facts)) (terms_of_lits (of_kind (kind_of_term t) (against_goal wanted))) t (among_own_kind facts t h k)
@@ -148,7 +135,7 @@ one_term_self t = equal_terms (canonical t) (canonical t) refl
 -- each term of a list is one term with one that stands first
 first_found : (seen ts : List Term) (t : Term) → is_among ts t ≡ true → (has_term seen t ≡ true) ⊎ (s : Term) × (is_among (first_terms seen ts) s ≡ true) × (one_term t s ≡ true)
 first_found seen [] t a = absurd (true≢false (sym a))
-first_found seen (x ∷ xs) t a = by (has_term seen x) refl (or_either (term_eq t x) (is_among xs t) a) (λ bs. first_found bs xs t)
+first_found seen (x ∷ xs) t a = by (has_term seen x) refl (or_cases (term_eq t x) (is_among xs t) a) (λ bs. first_found bs xs t)
   where
     by : (b : Bool) → has_term seen x ≡ b → (term_eq t x ≡ true) ⊎ (is_among xs t ≡ true)
         → ((bs : List Term) → is_among xs t ≡ true → (has_term bs t ≡ true) ⊎ (s : Term) × (is_among (first_terms bs xs) s ≡ true) × (one_term t s ≡ true))
@@ -157,7 +144,7 @@ first_found seen (x ∷ xs) t a = by (has_term seen x) refl (or_either (term_eq 
     by true e (inr k) ih = ih seen k
     by false e (inl k) ih = inr (x, among_first x (first_terms (x ∷ seen) xs), ap (one_term t) (sym (term_eq_is t x k)) ∙ one_term_self t)
     by false e (inr k) ih = elim (ih (x ∷ seen) k) [
-      | inl m ↦ elim (or_either (one_term t x) (has_term seen t) m) [
+      | inl m ↦ elim (or_cases (one_term t x) (has_term seen t) m) [
         | inl o ↦ inr (x, among_first x (first_terms (x ∷ seen) xs), o)
         | inr n ↦ inl n
       ]
@@ -166,7 +153,7 @@ first_found seen (x ∷ xs) t a = by (has_term seen x) refl (or_either (term_eq 
 
 -- ---- values of all terms
 
-carried_same : (w : Term → ℕ) (s t : Term) → canonical s ≡ canonical t → carried w s ≡ carried w t
+pub carried_same : (w : Term → ℕ) (s t : Term) → canonical s ≡ canonical t → carried w s ≡ carried w t
 carried_same w s t e = ap₂ {A = Bool} {B = ℕ} (λ b n. cond b 0 n) (same_degenerate s t e) (ap w e)
 
 -- a term has the value that the solution for its kind gives it
@@ -210,7 +197,7 @@ module _ (values : Kind → Term → ℕ) where
       → all_hold (carried (by_kind values)) ls ≡ true
   literals_true name [] g h = refl
   literals_true name (l ∷ ls) g h =
-      both (holds (carried (by_kind values)) l) (all_hold (carried (by_kind values)) ls) (one (split l.atom))
+      and_from (holds (carried (by_kind values)) l) (all_hold (carried (by_kind values)) ls) (one (split l.atom))
       (literals_true name ls (and_right (is_well_formed l) (list_all is_well_formed ls) g) (λ which. rest_so (values which) which name l ls (h which)))
     where
       good : is_well_formed l ≡ true
@@ -222,7 +209,7 @@ module _ (values : Kind → Term → ℕ) where
           let r = metric_row l.atom l.neg p in
           let is : is_of_kind k.0 l ≡ true = ap (λ o. option_map_or (same_kind k.0) o false) k.1 ∙ same_kind_self k.0 in
           let agree : Agree (terms_of_atom l.atom) (carried (by_kind values)) (carried (values k.0)) =
-          λ t a. sym (of_its_kind values k.0 t (some_is (kind_of_term t) k.0 (sym (kind_in_atom l.atom t good a) ∙ k.1))) in
+          λ t a. sym (of_its_kind values k.0 t (same_Some (kind_of_term t) k.0 (sym (kind_in_atom l.atom t good a) ∙ k.1))) in
           holds_agrees l (carried (by_kind values)) (carried (values k.0)) agree
           ∙ holds_of_so l r.0 (values k.0) r.1 (first_so (values k.0) k.0 name l ls r.0 is r.1 (h k.0))
 
@@ -231,9 +218,6 @@ module _ (values : Kind → Term → ℕ) where
       one (inr d) = d.quiet (carried (by_kind values)) l.neg
 
 -- ---- the bounds of the terms
-
-nat_le_of : (a b : ℕ) → a ≤ b → nat_le a b ≡ true
-nat_le_of a b h = grind (arith, nat_tests)
 
 pos_is : (t : Term) (w : Term → ℕ) → IsSoAt w (pos_row t) → 1 ≤ carried w t
 pos_is t w h = let e = normal_value (times (pos 1) t ∷ []) w in let k = one_mul (pos (carried w t)) in omega (arith, sums, e, k, h)
@@ -246,8 +230,8 @@ top_is t w h =
 
 -- two points in one order or the other
 turned_points : (a b c d : ℕ) → min a b ≡ min c d → max a b ≡ max c d → ((a ≡ c) × (b ≡ d)) ⊎ ((a ≡ d) × (b ≡ c))
-turned_points a b c d h g = elim (yes_or_no (eqb a c)) [
-  | inl e ↦ inl (eqb_is a c e, omega (arith, eqb_is a c e, h, g))
+turned_points a b c d h g = elim (cases_Bool (eqb a c)) [
+  | inl e ↦ inl (eqb-true a c e, omega (arith, eqb-true a c e, h, g))
   | inr n ↦ (let k : a ≢ c = λ e. true≢false (sym (eq-eqb a c e) ∙ n) in inr (omega (arith, k, h, g), omega (arith, k, h, g)))
 ]
 
@@ -255,9 +239,9 @@ apart_turned : (facts : List Lit) (a b : ℕ) → are_apart facts a b ≡ true �
 apart_turned facts a b h =
     let here = has facts (negation (are_equal_points a b)) in
     let there = has facts (negation (are_equal_points b a)) in
-    elim (or_either here (there || false) h) [
+    elim (or_cases here (there || false) h) [
       | inl e ↦ or_right there (here || false) (or_left here false e)
-      | inr k ↦ elim (or_either there false k) [
+      | inr k ↦ elim (or_cases there false k) [
         | inl e ↦ or_left there (here || false) e
         | inr n ↦ absurd (true≢false (sym n))
       ]
@@ -338,7 +322,7 @@ module _ (facts : List Lit) (wanted : Option Lit) (values : Kind → Term → �
   within_so : (t : Term) → is_among (terms_of_step facts wanted) t ≡ true → is_within all t ≡ true
   within_so (Seg a b) k = refl
   within_so (Area a b c) k = refl
-  within_so Right k = nat_le_of 1 (all Right) right_at_least
+  within_so Right k = le-leb 1 (all Right) right_at_least
   within_so (Ang a b c) k = elim (among_system facts wanted (Ang a b c) good good_wanted k) [
     | inl e ↦ absurd (true≢false (sym (equal_terms (Ang a b c) Right e)))
     | inr m ↦ (let own = own_rows (Ang a b c) m in by own.0 own.1 own.2)
@@ -346,7 +330,7 @@ module _ (facts : List Lit) (wanted : Option Lit) (values : Kind → Term → �
     where
       by : (s : Term) → canonical (Ang a b c) ≡ canonical s → SatisfyNamed (values Angle) (rows_of_term facts s) → is_within all (Ang a b c) ≡ true
       by (Ang d e f) o h =
-          nat_le_of (all (Ang a b c)) (2 * all Right) (subst (λ n. n ≤ 2 * all Right) (sym (carried_same (values Angle) (Ang a b c) (Ang d e f) o)) (top_is (Ang d e f) (values Angle) h.0))
+          le-leb (all (Ang a b c)) (2 * all Right) (subst (λ n. n ≤ 2 * all Right) (sym (carried_same (values Angle) (Ang a b c) (Ang d e f) o)) (top_is (Ang d e f) (values Angle) h.0))
       by (Seg d e) o h = absurd (true≢false (sym (equal_terms (canonical (Ang a b c)) (canonical (Seg d e)) o)))
       by (Area d e f) o h = absurd (true≢false (sym (equal_terms (canonical (Ang a b c)) (canonical (Area d e f)) o)))
       by Right o h = absurd (true≢false (sym (equal_terms (canonical (Ang a b c)) (canonical Right) o)))
@@ -370,16 +354,16 @@ module _ (facts : List Lit) (wanted : Option Lit) (values : Kind → Term → �
       at false e = refl
       at true e = elim (among_system facts wanted (Seg a b) good good_wanted k) [
         | inl n ↦ absurd (true≢false (sym (equal_terms (Seg a b) Right n)))
-        | inr m ↦ (let own = own_rows (Seg a b) m in nat_le_of 1 (all (Seg a b)) (rows_say own.0 own.1 e own.2))
+        | inr m ↦ (let own = own_rows (Seg a b) m in le-leb 1 (all (Seg a b)) (rows_say own.0 own.1 e own.2))
       ]
 
 -- ---- assignments with these values at the terms of the step
 
 all_of : (p : Term → Bool) (ts : List Term) → ((t : Term) → is_among ts t ≡ true → p t ≡ true) → list_all p ts ≡ true
 all_of p [] h = refl
-all_of p (t ∷ ts) h = both (p t) (list_all p ts) (h t (among_first t ts)) (all_of p ts (λ s a. h s (among_rest t ts s a)))
+all_of p (t ∷ ts) h = and_from (p t) (list_all p ts) (h t (among_first t ts)) (all_of p ts (λ s a. h s (among_rest t ts s a)))
 
-zero_so : (w : Term → ℕ) (t : Term) → is_zero_if_degenerate (carried w) t ≡ true
+pub zero_so : (w : Term → ℕ) (t : Term) → is_zero_if_degenerate (carried w) t ≡ true
 zero_so w t = by (is_degenerate t)
   where
     by : (b : Bool) → cond b (cond b 0 (w (canonical t)) == 0) true ≡ true
@@ -416,11 +400,11 @@ counterexample_of facts wanted values v good good_wanted solve agree =
     let right : v Right ≡ u Right = agree Right (among_first Right (terms_of_lits facts ++ terms_of_wanted wanted)) in
     record {
       is_admissible = all_of (λ t. is_within v t && (is_zero_if_degenerate v t && (is_positive_if_apart facts v t && agrees_with v ts t))) ts (λ t a.
-          both (is_within v t) (is_zero_if_degenerate v t && (is_positive_if_apart facts v t && agrees_with v ts t))
+          and_from (is_within v t) (is_zero_if_degenerate v t && (is_positive_if_apart facts v t && agrees_with v ts t))
           (within_same v u t (agree t a) right ∙ within_so facts wanted values good good_wanted solve t a)
-          (both (is_zero_if_degenerate v t) (is_positive_if_apart facts v t && agrees_with v ts t)
+          (and_from (is_zero_if_degenerate v t) (is_positive_if_apart facts v t && agrees_with v ts t)
           (ap (λ n. cond (is_degenerate t) (n == 0) true) (agree t a) ∙ zero_so (by_kind values) t)
-          (both (is_positive_if_apart facts v t) (agrees_with v ts t)
+          (and_from (is_positive_if_apart facts v t) (agrees_with v ts t)
           (positive_same facts v u t (agree t a) ∙ positive_so facts wanted values good good_wanted solve t a)
           (agrees_so (by_kind values) v ts t agree a))));
       facts_hold = all_hold_agrees facts v u (λ t a. agree t (among_facts facts wanted t a)) ∙ facts_true facts wanted values good good_wanted solve;

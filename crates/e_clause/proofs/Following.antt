@@ -2,13 +2,14 @@
 use Rattle.std.proofs.Common.{◌≡◌, ◌∙◌, ℕ, List, [], ◌∷◌, refl, sym, ap, Some, None, Bool, true, false, not, true≢false, inl, inr}
 use Rattle.std.specs.Prelude.{IsTrue, MatchBool}
 use Rattle.std.specs.Option.{option_map_or}
+use Rattle.std.proofs.lemmas.Bool.{cases_Bool}
 use Rattle.e_literal.specs.declared.object.Term.{Term}
 use Rattle.e_literal.specs.declared.literal.Lit.{Lit}
 use Rattle.e_literal.specs.Literal.{negation}
 use Rattle.e_literal.specs.Truth.{holds}
 use Rattle.e_literal.specs.Facts.{has, others, is_metric}
 use Rattle.e_literal.specs.Solution.{carried}
-use Rattle.e_literal.proofs.Terms.{and_left, and_right, yes_or_no}
+use Rattle.e_literal.proofs.Booleans.{and_left, and_right}
 use Rattle.e_clause.specs.declared.cert.Part.{Part}
 use Rattle.e_clause.specs.declared.cert.Part.TheVariants.{Fact, Metric}
 use Rattle.e_clause.specs.Assignment.{terms_of_step}
@@ -30,7 +31,7 @@ use Rattle.e_clause.proofs.Solved.{system_so}
 pub follows_without : (facts : List Lit) (l : Lit) → is_metric l ≡ true → ((v : Term → ℕ) → IsCounterexample facts (Some l) v → ⊥) → MetricConsequence facts l
 follows_without facts l m none = record {
   is_metric = m;
-  follows = λ v a h. elim (yes_or_no (holds v l)) [
+  follows = λ v a h. elim (cases_Bool (holds v l)) [
     | inl e ↦ e
     | inr n ↦ absurd (none v (record { is_admissible = a; facts_hold = h; wanted_fails = ap not n }))
   ];

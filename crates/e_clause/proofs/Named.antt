@@ -4,6 +4,8 @@ use Rattle.std.specs.Prelude.{flat_map, option_and_then}
 use Rattle.std.specs.Option.{option_map}
 use Rattle.std.specs.List.{cons_option}
 use Rattle.std.proofs.lemmas.List.{map-append}
+use Rattle.std.proofs.lemmas.Bool.{and_from, or_right, or_cases}
+use Rattle.std.proofs.lemmas.Option.{same_Some, none-some}
 use lib.IntN.{ℤ, pos, negsuc, ◌-ℤ◌}
 use Rattle.e_literal.specs.declared.object.Kind.{Kind}
 use Rattle.e_literal.specs.declared.object.Kind.TheVariants.{Segment, Angle, Area as AreaKind}
@@ -16,9 +18,10 @@ use Rattle.e_literal.specs.Same.{canonical, term_eq, one_term, coeff_of, same_li
 use Rattle.e_literal.specs.Width.{is_among}
 use Rattle.e_literal.specs.Facts.{has, are_apart}
 use Rattle.e_literal.specs.Rows.{Row, Zero, AtLeast, More, Not, coefficient, times, normal_summands, plus, minus, row, row_of_atom, row_of_lit, has_term, first_terms}
-use Rattle.e_literal.proofs.Terms.{both, or_either, or_right, or_not_left, or_not_right, term_eq_is, term_eq_turned, among_first, among_rest}
+use Rattle.e_literal.proofs.Terms.{term_eq_is, term_eq_turned, among_first, among_rest}
 use Rattle.e_literal.proofs.Agreeing.{same_lit_self}
 use Rattle.e_literal.proofs.Valued.{IsMagEq, IsMagLt, IsDiagram, split, is_normal, normal_coefficient, normal_none}
+use Rattle.e_literal.proofs.Booleans.{or_not_left, or_not_right}
 use Rattle.e_clause.specs.declared.cert.RowName.{RowName}
 use Rattle.e_clause.specs.declared.cert.RowName.TheVariants.{Fact, Goal, Pos}
 use Rattle.e_clause.specs.Assignment.{terms_of_atom, terms_of_lits, terms_of_step}
@@ -26,7 +29,6 @@ use Rattle.e_clause.specs.Sum.{Place, is_step_term, fact_row, goal_row, says_dif
 use Rattle.e_clause.specs.MetricCertificate.{differing}
 use Rattle.e_clause.specs.System.{NamedRow, named, is_of_kind, of_kind, against_goal, rows_named, pos_row, top_row, rows_of_term, rows_of_kind, system}
 use Rattle.e_clause.proofs.Spread.{terms_of_sum}
-use Rattle.e_clause.proofs.Refuted.{none_is, some_is}
 use Rattle.e_clause.proofs.Solved.{terms_of_system, system_among, first_among}
 
 -- ---- properties of each row
@@ -35,7 +37,7 @@ abbrev pub Each : (NamedRow → Type 0) → List NamedRow → Type 0
 Each P [] = Unit {0}
 Each P (n ∷ ns) = P n × Each P ns
 
-each-append : (P : NamedRow → Type 0) (ns ms : List NamedRow) → Each P ns → Each P ms → Each P (ns ++ ms)
+pub each-append : (P : NamedRow → Type 0) (ns ms : List NamedRow) → Each P ns → Each P ms → Each P (ns ++ ms)
 each-append P [] ms h g = g
 each-append P (n ∷ ns) ms h g = (h.0, each-append P ns ms h.1 g)
 
@@ -118,7 +120,7 @@ module _ (p : Place) where
   term_named (Seg a b) h = by (are_apart p.facts a b) refl
     where
       by : (c : Bool) → are_apart p.facts a b ≡ c → Each (IsNamed p) (cond c (named (Pos (Seg a b)) (pos_row (Seg a b)) ∷ []) [])
-      by true e = (record { by_name = ap (λ c. cond c (Some (pos_row (Seg a b))) None) (both (is_step_term p (Seg a b)) (are_apart p.facts a b) h e); differs = λ s. absurd (true≢false (sym s)) }, tt)
+      by true e = (record { by_name = ap (λ c. cond c (Some (pos_row (Seg a b))) None) (and_from (is_step_term p (Seg a b)) (are_apart p.facts a b) h e); differs = λ s. absurd (true≢false (sym s)) }, tt)
       by false e = tt
   term_named (Ang a b c) h = (record { by_name = ap (λ k. cond k (Some (top_row (Ang a b c))) None) h; differs = λ s. absurd (true≢false (sym s)) }, tt)
   term_named (Area a b c) h = tt
@@ -193,7 +195,7 @@ literal_misses : (l : Lit) (r : Row) (u : Term) → row_of_lit l ≡ Some r → 
 literal_misses l r u e h = by l.neg e (split l.atom)
   where
     taken : (s : Row) → Some s ≡ Some r → coefficient s.form u ≡ pos 0 → coefficient r.form u ≡ pos 0
-    taken s k g = ap (λ (x : Row). coefficient x.form u) (sym (some_is s r k)) ∙ g
+    taken s k g = ap (λ (x : Row). coefficient x.form u) (sym (same_Some s r k)) ∙ g
 
     by : (neg : Bool) → row_of_atom l.atom neg ≡ Some r → (IsMagEq l.atom ⊎ IsMagLt l.atom) ⊎ IsDiagram l.atom → coefficient r.form u ≡ pos 0
     by neg k (inl (inl p)) =
@@ -205,7 +207,7 @@ literal_misses l r u e h = by l.neg e (split l.atom)
     by false k (inl (inr p)) =
         taken (row More (plus p.1 ++ minus p.0)) (sym (ap (λ a. row_of_atom a false) p.2) ∙ k)
         (sums_miss p.1 p.0 u (turned_miss p.0 p.1 u (subst (λ a. Misses (terms_of_atom a) u) p.2 h)))
-    by neg k (inr d) = absurd (none_is r (sym (d.no_row neg) ∙ k))
+    by neg k (inr d) = absurd (none-some r (sym (d.no_row neg) ∙ k))
 
 each_misses : (which : Kind) (ls : List Lit) (u : Term) → Misses (terms_of_lits (of_kind which ls)) u → EachLit (λ l. is_of_kind which l ≡ true → Misses (terms_of_atom l.atom) u) ls
 each_misses which [] u h = tt
@@ -232,7 +234,7 @@ each_misses which (l ∷ ls) u h = by (is_of_kind which l) refl h (λ k. each_mi
 misses_at : (ts : List Term) (t u : Term) → is_among ts t ≡ true → Misses ts u → (is_normal u ≡ false) ⊎ (one_term t u ≡ false)
 misses_at ts t u a (inl n) = inl n
 misses_at [] t u a (inr n) = absurd (true≢false (sym a))
-misses_at (s ∷ ss) t u a (inr n) = elim (or_either (term_eq t s) (is_among ss t) a) [
+misses_at (s ∷ ss) t u a (inr n) = elim (or_cases (term_eq t s) (is_among ss t) a) [
   | inl e ↦ inr (ap (λ x. one_term x u) (term_eq_is t s e) ∙ term_eq_turned (canonical s) (canonical u) ∙ or_not_left (one_term u s) (has_term ss u) n)
   | inr b ↦ misses_at ss t u b (inr (or_not_right (one_term u s) (has_term ss u) n))
 ]

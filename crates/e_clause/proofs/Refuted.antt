@@ -2,6 +2,9 @@
 use Rattle.std.proofs.Common.{◌≡◌, ◌≢◌, ℕ, zero, suc, ◌*◌, ◌≤◌, List, [], ◌∷◌, map, refl, sym, ap, ◌∙◌, subst, arith, Option, Some, None, Bool, true, false, not, cond, ◌&&◌, true≢false, ◌⊎◌, inl, inr}
 use Rattle.std.specs.Prelude.{option_and_then, is_some}
 use Rattle.std.specs.Option.{option_map_or, option_map}
+use Rattle.std.proofs.lemmas.Bool.{or_cases}
+use Rattle.std.proofs.lemmas.Option.{same_Some, none-some}
+use mathlib.Core.Bool.{not-not}
 use lib.IntN.{ℤ, pos, negsuc, neg_ℤ}
 use lib.Signed.{◌<ℤ◌}
 use Rattle.e_literal.specs.declared.object.Term.{Term}
@@ -15,9 +18,9 @@ use Rattle.e_literal.specs.Rows.{Row, Says, Zero, AtLeast, More, Not, times, row
 use Rattle.e_literal.specs.Absurd.{Weighed, is_absurd}
 use Rattle.e_literal.specs.Solution.{form_value, IsSo, Satisfy, carried}
 use Rattle.e_literal.proofs.Arith.{sums, one_mul, minus_one}
-use Rattle.e_literal.proofs.Terms.{and_left, and_right, or_either}
 use Rattle.e_literal.proofs.Valued.{IsMagEq, IsMagLt, IsDiagram, split, form-negative, normal_value, holds_same, so_of_holds}
 use Rattle.e_literal.proofs.Refutes.{no_values}
+use Rattle.e_literal.proofs.Booleans.{and_left, and_right}
 use Rattle.e_clause.specs.declared.cert.RowName.{RowName}
 use Rattle.e_clause.specs.declared.cert.RowName.TheVariants.{Fact, Goal, Pos, Top, Right as RightRow, Least, Above, Below}
 use Rattle.e_clause.specs.declared.cert.Sums.{Sums}
@@ -34,15 +37,9 @@ pub option_split : {A : Type 0} (o : Option A) → (o ≡ None) ⊎ ((a : A) × 
 option_split None = inl refl
 option_split (Some a) = inr (a, refl)
 
-pub none_is : {A : Type 0} (a : A) → None ≡ Some a → ⊥
-none_is a e = cc
-
-pub some_is : {A : Type 0} (a b : A) → Some a ≡ Some b → a ≡ b
-some_is a b e = cc
-
 cond_some : {A : Type 0} (b : Bool) (o : Option A) (a : A) → cond b o None ≡ Some a → (b ≡ true) × (o ≡ Some a)
 cond_some true o a e = (refl, e)
-cond_some false o a e = absurd (none_is a e)
+cond_some false o a e = absurd (none-some a e)
 
 -- an option whose test is true has a value that passes it
 pub found : {A : Type 0} (f : A → Bool) (o : Option A) → option_map_or f o false ≡ true → (a : A) × (o ≡ Some a) × (f a ≡ true)
@@ -50,11 +47,11 @@ found f (Some a) h = (a, refl, h)
 found f None h = absurd (true≢false (sym h))
 
 kept : (b : Bool) (x r : Row) → cond b None (Some x) ≡ Some r → x ≡ r
-kept true x r e = absurd (none_is r e)
-kept false x r e = some_is x r e
+kept true x r e = absurd (none-some r e)
+kept false x r e = same_Some x r e
 
 unless_not_is : (o : Option Row) (r : Row) → unless_not o ≡ Some r → o ≡ Some r
-unless_not_is None r e = absurd (none_is r e)
+unless_not_is None r e = absurd (none-some r e)
 unless_not_is (Some x) r e = ap Some (kept (says_differ x.says) x r e)
 
 -- ---- rows
@@ -65,17 +62,13 @@ IsSoAt w r = IsSo r.says (form_value r.form w)
 -- what is among true facts is true
 pub has_holds : (facts : List Lit) (l : Lit) (w : Term → ℕ) → all_hold (carried w) facts ≡ true → has facts l ≡ true → holds (carried w) l ≡ true
 has_holds [] l w h k = absurd (true≢false (sym k))
-has_holds (f ∷ facts) l w h k = elim (or_either (same_lit f l) (has facts l) k) [
+has_holds (f ∷ facts) l w h k = elim (or_cases (same_lit f l) (has facts l) k) [
   | inl e ↦ holds_same f l w e (and_left (holds (carried w) f) (all_hold (carried w) facts) h)
   | inr m ↦ has_holds facts l w (and_right (holds (carried w) f) (all_hold (carried w) facts) h) m
 ]
 
-not_not : (b : Bool) → not (not b) ≡ b
-not_not true = refl
-not_not false = refl
-
 negated_cond : (n b : Bool) → not (cond n (not b) b) ≡ cond (not n) (not b) b
-negated_cond true b = not_not b
+negated_cond true b = not-not b
 negated_cond false b = refl
 
 -- the negation of a false literal is true
@@ -119,18 +112,18 @@ module _ (facts : List Lit) (wanted : Option Lit) (w : Term → ℕ) (model : Is
   goal_so r e = by wanted e model.wanted_fails
     where
       by : (o : Option Lit) → goal_row o ≡ Some r → wanted_fails (carried w) o ≡ true → IsSoAt w r
-      by None k h = absurd (none_is r k)
+      by None k h = absurd (none-some r k)
       by (Some l) k h = so_of_holds (negation l) r w k (negation_holds l (carried w) h)
 
   differing_so : (name : RowName) (r : Row) → differing_of facts wanted name ≡ Some r → IsSoAt w r
   differing_so (Fact l) r e = fact_so l r e
   differing_so Goal r e = goal_so r e
-  differing_so (Pos t) r e = absurd (none_is r e)
-  differing_so (Top t) r e = absurd (none_is r e)
-  differing_so RightRow r e = absurd (none_is r e)
-  differing_so (Least t) r e = absurd (none_is r e)
-  differing_so Above r e = absurd (none_is r e)
-  differing_so Below r e = absurd (none_is r e)
+  differing_so (Pos t) r e = absurd (none-some r e)
+  differing_so (Top t) r e = absurd (none-some r e)
+  differing_so RightRow r e = absurd (none-some r e)
+  differing_so (Least t) r e = absurd (none-some r e)
+  differing_so Above r e = absurd (none-some r e)
+  differing_so Below r e = absurd (none-some r e)
 
 -- ---- sums
 
@@ -139,42 +132,42 @@ abbrev IsSoIfAny : (Term → ℕ) → Option Row → Type 0
 IsSoIfAny w o = (r : Row) → o ≡ Some r → IsSoAt w r
 
 none_so : (w : Term → ℕ) → IsSoIfAny w None
-none_so w r e = absurd (none_is r e)
+none_so w r e = absurd (none-some r e)
 
 some_so : (w : Term → ℕ) (x : Row) → IsSoAt w x → IsSoIfAny w (Some x)
-some_so w x h r e = subst (IsSoAt w) (some_is x r e) h
+some_so w x h r e = subst (IsSoAt w) (same_Some x r e) h
 
 module _ (p : Place) (w : Term → ℕ) (model : IsModel p.facts p.wanted w) (high : IsSoIfAny w p.above) (low : IsSoIfAny w p.below) where
   pos_named : (t : Term) (r : Row) → pos_of p t ≡ Some r → IsSoAt w r
   pos_named (Seg a b) r e =
       let k = cond_some (is_step_term p (Seg a b) && are_apart p.facts a b) (Some (pos_row (Seg a b))) r e in
-      subst (IsSoAt w) (some_is (pos_row (Seg a b)) r k.1)
+      subst (IsSoAt w) (same_Some (pos_row (Seg a b)) r k.1)
       (pos_so (Seg a b) w (model.apart a b (and_left (is_step_term p (Seg a b)) (are_apart p.facts a b) k.0) (and_right (is_step_term p (Seg a b)) (are_apart p.facts a b) k.0)))
-  pos_named (Ang a b c) r e = absurd (none_is r e)
-  pos_named (Area a b c) r e = absurd (none_is r e)
-  pos_named Right r e = absurd (none_is r e)
+  pos_named (Ang a b c) r e = absurd (none-some r e)
+  pos_named (Area a b c) r e = absurd (none-some r e)
+  pos_named Right r e = absurd (none-some r e)
 
   top_named : (t : Term) (r : Row) → top_of p t ≡ Some r → IsSoAt w r
   top_named (Ang a b c) r e =
       let k = cond_some (is_step_term p (Ang a b c)) (Some (top_row (Ang a b c))) r e in
-      subst (IsSoAt w) (some_is (top_row (Ang a b c)) r k.1) (top_so (Ang a b c) w (model.within a b c k.0))
-  top_named (Seg a b) r e = absurd (none_is r e)
-  top_named (Area a b c) r e = absurd (none_is r e)
-  top_named Right r e = absurd (none_is r e)
+      subst (IsSoAt w) (same_Some (top_row (Ang a b c)) r k.1) (top_so (Ang a b c) w (model.within a b c k.0))
+  top_named (Seg a b) r e = absurd (none-some r e)
+  top_named (Area a b c) r e = absurd (none-some r e)
+  top_named Right r e = absurd (none-some r e)
 
   named_so : (name : RowName) (r : Row) → row_named p name ≡ Some r → IsSoAt w r
   named_so (Fact l) r e = fact_so p.facts p.wanted w model l r (unless_not_is (fact_row p.facts l) r e)
   named_so Goal r e = goal_so p.facts p.wanted w model r (unless_not_is (goal_row p.wanted) r e)
   named_so (Pos t) r e = pos_named t r e
   named_so (Top t) r e = top_named t r e
-  named_so RightRow r e = subst (IsSoAt w) (some_is right_row r e) (pos_so Right w model.right)
-  named_so (Least t) r e = subst (IsSoAt w) (some_is (least_row t) r (cond_some (is_step_term p t) (Some (least_row t)) r e).1) (least_so t w)
+  named_so RightRow r e = subst (IsSoAt w) (same_Some right_row r e) (pos_so Right w model.right)
+  named_so (Least t) r e = subst (IsSoAt w) (same_Some (least_row t) r (cond_some (is_step_term p t) (Some (least_row t)) r e).1) (least_so t w)
   named_so Above r e = high r e
   named_so Below r e = low r e
 
   -- the rows of a sum are so
   weighed_so : (xs : List (ℤ × RowName)) (ws : List Weighed) → weighed_rows p xs ≡ Some ws → Satisfy w (map (λ x. x.row) ws)
-  weighed_so [] ws e = subst (λ l. Satisfy w (map (λ (x : Weighed). x.row) l)) (some_is [] ws e) tt
+  weighed_so [] ws e = subst (λ l. Satisfy w (map (λ (x : Weighed). x.row) l)) (same_Some [] ws e) tt
   weighed_so (x ∷ xs) ws e = by (option_split (row_named p x.1)) (option_split (weighed_rows p xs)) (λ vs k. weighed_so xs vs k)
     where
       first : Row → List Weighed → List Weighed
@@ -182,10 +175,10 @@ module _ (p : Place) (w : Term → ℕ) (model : IsModel p.facts p.wanted w) (hi
 
       by : (row_named p x.1 ≡ None) ⊎ (r : Row) × (row_named p x.1 ≡ Some r) → (weighed_rows p xs ≡ None) ⊎ (vs : List Weighed) × (weighed_rows p xs ≡ Some vs)
           → ((vs : List Weighed) → weighed_rows p xs ≡ Some vs → Satisfy w (map (λ (x : Weighed). x.row) vs)) → Satisfy w (map (λ (x : Weighed). x.row) ws)
-      by (inl n) later ih = absurd (none_is ws (sym (ap (option_and_then (λ r. option_map (first r) (weighed_rows p xs))) n) ∙ e))
-      by (inr k) (inl n) ih = absurd (none_is ws (sym (ap (option_and_then (λ r. option_map (first r) (weighed_rows p xs))) k.1 ∙ ap (option_map (first k.0)) n) ∙ e))
+      by (inl n) later ih = absurd (none-some ws (sym (ap (option_and_then (λ r. option_map (first r) (weighed_rows p xs))) n) ∙ e))
+      by (inr k) (inl n) ih = absurd (none-some ws (sym (ap (option_and_then (λ r. option_map (first r) (weighed_rows p xs))) k.1 ∙ ap (option_map (first k.0)) n) ∙ e))
       by (inr k) (inr m) ih =
-          let is : first k.0 m.0 ≡ ws = some_is (first k.0 m.0) ws (sym (ap (option_and_then (λ r. option_map (first r) (weighed_rows p xs))) k.1 ∙ ap (option_map (first k.0)) m.1) ∙ e) in
+          let is : first k.0 m.0 ≡ ws = same_Some (first k.0 m.0) ws (sym (ap (option_and_then (λ r. option_map (first r) (weighed_rows p xs))) k.1 ∙ ap (option_map (first k.0)) m.1) ∙ e) in
           subst (λ l. Satisfy w (map (λ (x : Weighed). x.row) l)) is (named_so x.1 k.0 k.1, ih m.0 m.1)
 
   -- and so no sum refutes
@@ -218,10 +211,10 @@ sums_not_refuted facts wanted w model (Two differs first second) h =
     by r e both = at (option_split (differing_of facts wanted differs))
       where
         at : (differing_of facts wanted differs ≡ None) ⊎ (x : Row) × (differing_of facts wanted differs ≡ Some x) → ⊥
-        at (inl n) = none_is r (sym (ap (option_and_then (λ x. cond (says_differ x.says) (Some x) None)) n) ∙ e)
+        at (inl n) = none-some r (sym (ap (option_and_then (λ x. cond (says_differ x.says) (Some x) None)) n) ∙ e)
         at (inr m) =
             let k = cond_some (says_differ m.0.says) (Some m.0) r (sym (ap (option_and_then (λ x. cond (says_differ x.says) (Some x) None)) m.1) ∙ e) in
-            let is : m.0 ≡ r = some_is m.0 r k.1 in
+            let is : m.0 ≡ r = same_Some m.0 r k.1 in
             let differs_from : form_value r.form w ≢ pos 0 =
             subst (λ s. IsSo s (form_value r.form w)) (ap (λ (x : Row). x.says) (sym is) ∙ says_not m.0.says k.0) (subst (IsSoAt w) is (differing_so facts wanted w model differs m.0 m.1)) in
             let high : Place = record { facts = facts; wanted = wanted; above = Some (above_row r); below = None } in

@@ -3,6 +3,7 @@ use Rattle.std.proofs.Common.{◌≡◌, ℕ, List, [], ◌∷◌, ◌++◌, map
 use Rattle.std.specs.Prelude.{flat_map}
 use Rattle.std.specs.Option.{option_map}
 use Rattle.std.specs.List.{cons_option}
+use Rattle.std.proofs.lemmas.Bool.{or_left, or_cases}
 use Rattle.e_literal.specs.declared.object.Kind.{Kind}
 use Rattle.e_literal.specs.declared.object.Kind.TheVariants.{Segment, Angle, Area as AreaKind}
 use Rattle.e_literal.specs.declared.object.Term.{Term}
@@ -15,8 +16,9 @@ use Rattle.e_literal.specs.Truth.{holds, all_hold}
 use Rattle.e_literal.specs.Facts.{are_apart}
 use Rattle.e_literal.specs.Rows.{Row, row_of_lit, has_term, first_terms}
 use Rattle.e_literal.specs.Solution.{Satisfy, carried}
-use Rattle.e_literal.proofs.Terms.{and_left, and_right, or_either, or_left, among_either, among_left, among_right, among_first, among_rest}
+use Rattle.e_literal.proofs.Terms.{among_either, among_left, among_right, among_first, among_rest}
 use Rattle.e_literal.proofs.Valued.{so_of_holds}
+use Rattle.e_literal.proofs.Booleans.{and_left, and_right}
 use Rattle.e_clause.specs.declared.cert.RowName.{RowName}
 use Rattle.e_clause.specs.declared.cert.RowName.TheVariants.{Fact, Goal, Pos}
 use Rattle.e_clause.specs.Assignment.{terms_of_atom, terms_of_lits, terms_of_wanted, terms_of_step}
@@ -67,7 +69,7 @@ first_among seen (s ∷ ss) t h = by (has_term seen s) h (λ bs. first_among bs 
     by : (b : Bool) → is_among (cond b (first_terms seen ss) (s ∷ first_terms (s ∷ seen) ss)) t ≡ true → ((bs : List Term) → is_among (first_terms bs ss) t ≡ true → is_among ss t ≡ true)
         → is_among (s ∷ ss) t ≡ true
     by true k ih = among_rest s ss t (ih seen k)
-    by false k ih = elim (or_either (term_eq t s) (is_among (first_terms (s ∷ seen) ss) t) k) [
+    by false k ih = elim (or_cases (term_eq t s) (is_among (first_terms (s ∷ seen) ss) t) k) [
       | inl e ↦ or_left (term_eq t s) (is_among ss t) e
       | inr b ↦ among_rest s ss t (ih (s ∷ seen) b)
     ]

@@ -1,9 +1,9 @@
 -- Assignments that agree on the terms of a step, and an admissible one spread over all terms.
-use Rattle.std.proofs.Common.{◌≡◌, ℕ, ◌+◌, ◌*◌, ◌≤◌, List, [], ◌∷◌, ◌++◌, map, refl, sym, ap, ap₂, ◌∙◌, subst, arith, Option, Some, None, Bool, true, false, not, cond, ◌&&◌, ◌==◌, eqb, true≢false, ◌⊎◌, inl, inr}
+use Rattle.std.proofs.Common.{◌≡◌, ℕ, ◌+◌, ◌*◌, ◌≤◌, List, [], ◌∷◌, ◌++◌, map, refl, sym, ap, ap₂, ◌∙◌, subst, Option, Some, None, Bool, true, false, not, cond, ◌&&◌, ◌==◌, eqb, true≢false, ◌⊎◌, inl, inr, leb-true, eqb-true}
 use Rattle.std.specs.Prelude.{nat_le, nat_lt}
 use Rattle.std.specs.List.{list_all}
 use Rattle.std.proofs.lemmas.List.{map-append}
-use Rattle.std.proofs.lemmas.Bool.Decides.{nat_tests}
+use Rattle.std.proofs.lemmas.Bool.{or_cases, cases_Bool}
 use Rattle.e_literal.specs.declared.object.Term.{Term}
 use Rattle.e_literal.specs.declared.object.Term.TheVariants.{Seg, Ang, Right}
 use Rattle.e_literal.specs.declared.object.Mono.{Mono}
@@ -15,8 +15,9 @@ use Rattle.e_literal.specs.Truth.{value_of, atom_holds, holds, all_hold}
 use Rattle.e_literal.specs.Facts.{are_apart}
 use Rattle.e_literal.specs.Rows.{is_degenerate}
 use Rattle.e_literal.specs.Solution.{carried}
-use Rattle.e_literal.proofs.Terms.{eqb_is, and_left, and_right, or_either, yes_or_no, term_eq_is, equal_terms, term_eq_turned, among_left, among_right, among_first, among_rest}
+use Rattle.e_literal.proofs.Terms.{term_eq_is, equal_terms, term_eq_turned, among_left, among_right, among_first, among_rest}
 use Rattle.e_literal.proofs.Valued.{IsMagEq, IsMagLt, IsDiagram, split}
+use Rattle.e_literal.proofs.Booleans.{and_left, and_right}
 use Rattle.e_clause.specs.Assignment.{terms_of_atom, terms_of_lits, terms_of_wanted, terms_of_step, is_within, is_zero_if_degenerate, is_positive_if_apart, agrees_with, is_admissible_over}
 use Rattle.e_clause.specs.Metric.{wanted_fails, IsCounterexample}
 
@@ -79,7 +80,7 @@ among_wanted facts wanted t a =
 -- what is so of each of a list is so of one that is among it
 pub all_among : (p : Term → Bool) (ts : List Term) (t : Term) → list_all p ts ≡ true → is_among ts t ≡ true → p t ≡ true
 all_among p [] t h a = absurd (true≢false (sym a))
-all_among p (s ∷ ss) t h a = elim (or_either (term_eq t s) (is_among ss t) a) [
+all_among p (s ∷ ss) t h a = elim (or_cases (term_eq t s) (is_among ss t) a) [
   | inl e ↦ ap p (term_eq_is t s e) ∙ and_left (p s) (list_all p ss) h
   | inr b ↦ all_among p ss t (and_right (p s) (list_all p ss) h) b
 ]
@@ -93,14 +94,14 @@ spread v (s ∷ ss) t = cond (term_eq (canonical s) t) (v s) (spread v ss t)
 
 spread_at : (v : Term → ℕ) (ts : List Term) (t : Term) → list_all (λ s. cond (one_term t s) (v t == v s) true) ts ≡ true → is_among ts t ≡ true → spread v ts (canonical t) ≡ v t
 spread_at v [] t h a = absurd (true≢false (sym a))
-spread_at v (s ∷ ss) t h a = elim (yes_or_no (term_eq (canonical s) (canonical t))) [
+spread_at v (s ∷ ss) t h a = elim (cases_Bool (term_eq (canonical s) (canonical t))) [
   | inl e ↦
       ap (λ b. cond b (v s) (spread v ss (canonical t))) e
-      ∙ sym (eqb_is (v t) (v s) (sym (ap (λ b. cond b (v t == v s) true) (term_eq_turned (canonical t) (canonical s) ∙ e)) ∙ and_left (cond (one_term t s) (v t == v s) true) (list_all (λ s. cond (one_term t s) (v t == v s) true) ss) h))
+      ∙ sym (eqb-true (v t) (v s) (sym (ap (λ b. cond b (v t == v s) true) (term_eq_turned (canonical t) (canonical s) ∙ e)) ∙ and_left (cond (one_term t s) (v t == v s) true) (list_all (λ s. cond (one_term t s) (v t == v s) true) ss) h))
   | inr n ↦
       ap (λ b. cond b (v s) (spread v ss (canonical t))) n
       ∙ spread_at v ss t (and_right (cond (one_term t s) (v t == v s) true) (list_all (λ s. cond (one_term t s) (v t == v s) true) ss) h)
-      (elim (or_either (term_eq t s) (is_among ss t) a) [
+      (elim (or_cases (term_eq t s) (is_among ss t) a) [
         | inl e ↦ absurd (true≢false (sym (equal_terms (canonical s) (canonical t) (ap canonical (sym (term_eq_is t s e)))) ∙ n))
         | inr b ↦ b
       ])
@@ -116,8 +117,8 @@ spread_agrees facts ts v h t a =
     let after_within = and_right (is_within v t) (is_zero_if_degenerate v t && (is_positive_if_apart facts v t && agrees_with v ts t)) good in
     let flat : is_zero_if_degenerate v t ≡ true = and_left (is_zero_if_degenerate v t) (is_positive_if_apart facts v t && agrees_with v ts t) after_within in
     let one : agrees_with v ts t ≡ true = and_right (is_positive_if_apart facts v t) (agrees_with v ts t) (and_right (is_zero_if_degenerate v t) (is_positive_if_apart facts v t && agrees_with v ts t) after_within) in
-    elim (yes_or_no (is_degenerate t)) [
-      | inl d ↦ eqb_is (v t) 0 (sym (ap (λ b. cond b (v t == 0) true) d) ∙ flat) ∙ sym (ap (λ b. cond b 0 (spread v ts (canonical t))) d)
+    elim (cases_Bool (is_degenerate t)) [
+      | inl d ↦ eqb-true (v t) 0 (sym (ap (λ b. cond b (v t == 0) true) d) ∙ flat) ∙ sym (ap (λ b. cond b 0 (spread v ts (canonical t))) d)
       | inr n ↦ sym (spread_at v ts t one a) ∙ sym (ap (λ b. cond b 0 (spread v ts (canonical t))) n)
     ]
 
@@ -130,9 +131,6 @@ pub record IsModel (facts : List Lit) (wanted : Option Lit) (w : Term → ℕ) :
   pub apart : (a b : ℕ) → is_among (terms_of_step facts wanted) (Seg a b) ≡ true → are_apart facts a b ≡ true → 1 ≤ carried w (Seg a b)
   pub facts_hold : all_hold (carried w) facts ≡ true
   pub wanted_fails : wanted_fails (carried w) wanted ≡ true
-
-nat_le_is : (a b : ℕ) → nat_le a b ≡ true → a ≤ b
-nat_le_is a b h = grind (arith, nat_tests)
 
 -- a counterexample, spread, is a model
 pub model_of : (facts : List Lit) (wanted : Option Lit) (v : Term → ℕ) → IsCounterexample facts wanted v → IsModel facts wanted (spread v (terms_of_step facts wanted))
@@ -148,11 +146,11 @@ model_of facts wanted v x =
     (and_right (is_within v t) (is_zero_if_degenerate v t && (is_positive_if_apart facts v t && agrees_with v ts t)) (good t a))) in
     let first : is_among ts Right ≡ true = among_first Right (terms_of_lits facts ++ terms_of_wanted wanted) in
     record {
-      right = subst (λ n. 1 ≤ n) (agree Right first) (nat_le_is 1 (v Right) (bound Right first));
+      right = subst (λ n. 1 ≤ n) (agree Right first) (leb-true 1 (v Right) (bound Right first));
       within = λ a b c k. subst (λ n. n ≤ 2 * carried w Right) (agree (Ang a b c) k)
-          (subst (λ n. v (Ang a b c) ≤ 2 * n) (agree Right first) (nat_le_is (v (Ang a b c)) (2 * v Right) (bound (Ang a b c) k)));
+          (subst (λ n. v (Ang a b c) ≤ 2 * n) (agree Right first) (leb-true (v (Ang a b c)) (2 * v Right) (bound (Ang a b c) k)));
       apart = λ a b k d. subst (λ n. 1 ≤ n) (agree (Seg a b) k)
-          (nat_le_is 1 (v (Seg a b)) (sym (ap (λ c. cond c (nat_le 1 (v (Seg a b))) true) d) ∙ positive (Seg a b) k));
+          (leb-true 1 (v (Seg a b)) (sym (ap (λ c. cond c (nat_le 1 (v (Seg a b))) true) d) ∙ positive (Seg a b) k));
       facts_hold = sym (all_hold_agrees facts v (carried w) (λ t a. agree t (among_facts facts wanted t a))) ∙ x.facts_hold;
       wanted_fails = sym (fails_agrees wanted v (carried w) (λ t a. agree t (among_wanted facts wanted t a))) ∙ x.wanted_fails;
     }

@@ -4,7 +4,7 @@ use Rattle.std.proofs.Common.{◌≡◌, ℕ, ◌+◌, ◌<◌, Bool, true, fals
 use Rattle.std.specs.Prelude.{unwrap_or}
 use Rattle.std.specs.Option.{option_map_or}
 use Rattle.std.specs.List.{list_all, list_any}
-use Rattle.std.proofs.lemmas.Bool.{lt-ltb, eqb-true}
+use Rattle.std.proofs.lemmas.Bool.{lt-ltb, eqb-true, and_parts}
 use Rattle.std.proofs.lemmas.List.{append-nil}
 use Rattle.std.proofs.lemmas.List.Folds.{list_all-append}
 use Rattle.e_literal.specs.declared.object.Sort.{Sort}
@@ -26,7 +26,10 @@ use Rattle.e_construct.specs.Superposing as superposing
 use Rattle.e_literal.specs.WellFormed.{is_good_atom, is_well_formed}
 use Rattle.e_literal.specs.declared.literal.Atom.{Atom}
 use Rattle.e_literal.specs.declared.literal.Atom.TheVariants as atoms
-use Rattle.e_construct.proofs.Moving.{both, every, sorts_same, is_moved_in, moved_lit, is_plain, renamed_plain, Within, in_more, of_sorts_more, grows}
+use Rattle.e_literal.proofs.Renamed.{is_moved_in}
+use Rattle.e_literal.proofs.Sorts.{same_sort_is, same_sort_self}
+use Rattle.e_literal.proofs.Growing.{count_one}
+use Rattle.e_construct.proofs.Moving.{every, moved_lit, is_plain, renamed_plain, Within, in_more, of_sorts_more, grows}
 
 -- in scope, and no comparison of magnitudes
 abbrev pub is_fine : Scope → Lit → Bool
@@ -87,10 +90,10 @@ lands_behind s [] [] es o b f h k = k h
 lands_behind s [] (t ∷ os) es o b f h k = absurd cc
 lands_behind s (l ∷ ls) [] es o b f h k = absurd cc
 lands_behind s (l ∷ ls) (t ∷ os) es o b f h k =
-    let p = both (same_sort l.sort t.sort) (is_in_scope s t && are_of_sorts s (sorts_of ls) os) f in
-    let q = both (is_in_scope s t) (are_of_sorts s (sorts_of ls) os) p.1 in
+    let p = and_parts (same_sort l.sort t.sort) (is_in_scope s t && are_of_sorts s (sorts_of ls) os) f in
+    let q = and_parts (is_in_scope s t) (are_of_sorts s (sorts_of ls) os) p.1 in
     let here : same_obj l o ≡ true → suits s o t ≡ true = λ e.
-    rw (subst (λ (y : Sort). same_sort y t.sort ≡ true) (sorts_same l.sort o.sort (both (same_sort l.sort o.sort) (eqb l.num o.num) e).0) p.0, q.0) refl in
+    rw (subst (λ (y : Sort). same_sort y t.sort ≡ true) (same_sort_is l.sort o.sort (and_parts (same_sort l.sort o.sort) (eqb l.num o.num) e).0) p.0, q.0) refl in
     first_or s o t (image_in (paired ls os ++ es) o) (same_obj l o) here
     (λ e. lands_behind s ls os es o b q.1 (other (same_obj l o) (is_letter ls o) b e h) k)
 
@@ -104,8 +107,8 @@ lands_paired s ls os o f h =
 number_lands : (s : Scope) (sort : Sort) (n : ℕ) (v : Option Obj) → option_map_or (suits s (obj sort n)) v false ≡ true → ltb (option_map_or (λ (i : Obj). i.num) v n) (count_of s sort) ≡ true
 number_lands s sort n None h = absurd cc
 number_lands s sort n (Some i) h =
-    let p = both (same_sort sort i.sort) (is_in_scope s i) h in
-    subst (λ (y : Sort). ltb i.num (count_of s y) ≡ true) (sym (sorts_same sort i.sort p.0)) p.1
+    let p = and_parts (same_sort sort i.sort) (is_in_scope s i) h in
+    subst (λ (y : Sort). ltb i.num (count_of s y) ≡ true) (sym (same_sort_is sort i.sort p.0)) p.1
 
 lands_moved : (s : Scope) (es : List Entry) (o : Obj) → lands s es o ≡ true → is_moved_in s (image_in es) o ≡ true
 lands_moved s es o h = number_lands s o.sort o.num (image_in es o) h
@@ -115,8 +118,8 @@ fine_renamed : (s : Scope) (es : List Entry) (args made : List Obj) → ((o : Ob
     → (ls : List Lit) → list_all (is_over args made) ls ≡ true → list_all is_plain ls ≡ true → list_all (is_fine s) (map (renamed (image_in es)) ls) ≡ true
 fine_renamed s es args made land [] h d = refl
 fine_renamed s es args made land (l ∷ ls) h d =
-    let p = both (is_over args made l) (list_all (is_over args made) ls) h in
-    let q = both (is_plain l) (list_all is_plain ls) d in
+    let p = and_parts (is_over args made l) (list_all (is_over args made) ls) h in
+    let q = and_parts (is_plain l) (list_all is_plain ls) d in
     let here = moved_lit s (image_in es) l (every (λ (o : Obj). is_letter args o || is_letter made o) (is_moved_in s (image_in es)) (λ o i. lands_moved s es o (land o i)) (objects_of_atom l.atom) p.0) in
     rw (here, renamed_plain (image_in es) l q.0, fine_renamed s es args made land ls p.1 q.1) refl
 
@@ -140,10 +143,10 @@ fine_next s x y rest false h k = k
 fine_unequal : (s : Scope) (x : Obj) (sort : Sort) (os : List Obj) → suits s (obj sort 0) x ≡ true → list_all (is_in_scope s) os ≡ true → list_all (is_fine s) (map (unequal x) (of_sort sort os)) ≡ true
 fine_unequal s x sort [] h k = refl
 fine_unequal s x sort (y ∷ os) h k =
-    let p = both (same_sort sort x.sort) (is_in_scope s x) h in
-    let q = both (is_in_scope s y) (list_all (is_in_scope s) os) k in
+    let p = and_parts (same_sort sort x.sort) (is_in_scope s x) h in
+    let q = and_parts (is_in_scope s y) (list_all (is_in_scope s) os) k in
     fine_next s x y (of_sort sort os) (same_sort sort y.sort)
-    (λ e. fine_equation s x.sort x.num y.num p.1 (subst (λ (z : Sort). ltb y.num (count_of s z) ≡ true) (sym (sorts_same sort y.sort e) ∙ sorts_same sort x.sort p.0) q.0))
+    (λ e. fine_equation s x.sort x.num y.num p.1 (subst (λ (z : Sort). ltb y.num (count_of s z) ≡ true) (sym (same_sort_is sort y.sort e) ∙ same_sort_is sort x.sort p.0) q.0))
     (fine_unequal s x sort os h q.1)
 
 found : (s : Scope) (o : Obj) (v : Option Obj) → option_map_or (suits s o) v false ≡ true → suits s o (unwrap_or v o) ≡ true
@@ -159,33 +162,23 @@ fine_needs_avoided : (s : Scope) (r : ShapeRow) (a : Avoids) (args avoid : List 
 fine_needs_avoided s r NoObject args avoid f h k = refl
 fine_needs_avoided s r AnyObject args avoid f h k = refl
 fine_needs_avoided s r (AnyApartFrom o) args avoid f h k =
-    let p = both (is_letter r.args o) (is_point_first r.made) h in
+    let p = and_parts (is_letter r.args o) (is_point_first r.made) h in
     fine_unequal s (argument r args o) o.sort avoid (found s o (image_in (paired r.args args) o) (lands_paired s r.args args o f (or_none (is_letter r.args o) p.0))) k
 
 fine_avoiding : (t : Scope) (p : Obj) (os : List Obj) → p.sort ≡ Point → is_in_scope t p ≡ true → list_all (is_in_scope t) os ≡ true → list_all (is_fine t) (map (avoiding p) os) ≡ true
 fine_avoiding t p [] e h k = refl
 fine_avoiding t p (y ∷ os) e h k =
-    let q = both (is_in_scope t y) (list_all (is_in_scope t) os) k in
+    let q = and_parts (is_in_scope t y) (list_all (is_in_scope t) os) k in
     let point : ltb p.num t.points ≡ true = subst (λ (z : Sort). ltb p.num (count_of t z) ≡ true) e h in
     rw (fine_meeting t y.sort p.num y.num point q.0, fine_avoiding t p os e h q.1) refl
 
 -- ---- new objects
 
-same_itself : (sort : Sort) → same_sort sort sort ≡ true
-same_itself Point = refl
-same_itself Line = refl
-same_itself Circle = refl
-
-one_more : (s : Scope) (x : Sort) → count_of (with_one s x) x ≡ count_of s x + 1
-one_more s Point = refl
-one_more s Line = refl
-one_more s Circle = refl
-
 new_of_sorts : (s t : Scope) (sorts : List Sort) → Within (grown s sorts) t → are_of_sorts t sorts (next_objects s sorts) ≡ true
 new_of_sorts s t [] w = refl
 new_of_sorts s t (x ∷ sorts) w =
-    let here : count_of s x < count_of t x = omega (arith, one_more s x, grows (with_one s x) sorts x, w x) in
-    rw (same_itself x, lt-ltb (count_of s x) (count_of t x) here, new_of_sorts (with_one s x) t sorts w) refl
+    let here : count_of s x < count_of t x = omega (arith, count_one s x, grows (with_one s x) sorts x, w x) in
+    rw (same_sort_self x, lt-ltb (count_of s x) (count_of t x) here, new_of_sorts (with_one s x) t sorts w) refl
 
 fine_points : (s t : Scope) (made avoid : List Obj) → is_point_first made ≡ true → are_of_sorts t (sorts_of made) (next_objects s (sorts_of made)) ≡ true → list_all (is_in_scope t) avoid ≡ true
     → list_all (is_fine t) (gives_of_avoided (next_objects s (sorts_of made)) avoid) ≡ true
@@ -193,9 +186,9 @@ fine_points s t [] avoid h f k = absurd cc
 fine_points s t (o ∷ made) avoid h f k =
     let new : Obj = obj o.sort (count_of s o.sort) in
     let rest = next_objects (with_one s o.sort) (sorts_of made) in
-    let p = both (same_sort o.sort o.sort) (is_in_scope t new && are_of_sorts t (sorts_of made) rest) f in
-    let q = both (is_in_scope t new) (are_of_sorts t (sorts_of made) rest) p.1 in
-    fine_avoiding t new avoid (sym (sorts_same Point o.sort h)) q.0 k
+    let p = and_parts (same_sort o.sort o.sort) (is_in_scope t new && are_of_sorts t (sorts_of made) rest) f in
+    let q = and_parts (is_in_scope t new) (are_of_sorts t (sorts_of made) rest) p.1 in
+    fine_avoiding t new avoid (sym (same_sort_is Point o.sort h)) q.0 k
 
 none_avoided : (t : Scope) (ps : List Obj) → list_all (is_fine t) (gives_of_avoided ps []) ≡ true
 none_avoided t [] = refl
@@ -207,7 +200,7 @@ fine_gives_avoided s t r NoObject [] w h k f = none_avoided t (next_objects s (s
 fine_gives_avoided s t r NoObject (o ∷ avoid) w h k f = let n = eqb-true (length (o ∷ avoid)) 0 k in absurd (omega (arith, n))
 fine_gives_avoided s t r AnyObject avoid w h k f = fine_points s t r.made avoid h f (every (is_in_scope s) (is_in_scope t) (in_more s t w) avoid k)
 fine_gives_avoided s t r (AnyApartFrom o) avoid w h k f =
-    fine_points s t r.made avoid (both (is_letter r.args o) (is_point_first r.made) h).1 f (every (is_in_scope s) (is_in_scope t) (in_more s t w) avoid k)
+    fine_points s t r.made avoid (and_parts (is_letter r.args o) (is_point_first r.made) h).1 f (every (is_in_scope s) (is_in_scope t) (in_more s t w) avoid k)
 
 -- ---- the whole
 
@@ -215,7 +208,7 @@ pub fine_needs : (form : Construction) (s : Scope) → fits form s ≡ true → 
 fine_needs form s h =
     let r = row_of form in
     let g = good_row form.shape in
-    let p = both (are_of_sorts s (sorts_of r.args) form.args) (avoids_well s r.avoids form.avoid) h in
+    let p = and_parts (are_of_sorts s (sorts_of r.args) form.args) (avoids_well s r.avoids form.avoid) h in
     let es = paired r.args form.args in
     let first = fine_renamed s es r.args [] (λ o i. lands_paired s r.args form.args o p.0 i) r.needs g.needs g.needs_plain in
     list_all-append (is_fine s) (map (renamed (image_in es)) r.needs) (needs_of_avoided r.avoids (argument r form.args) form.avoid)
@@ -227,7 +220,7 @@ fine_gives form s h =
     let g = good_row form.shape in
     let t = grown s (made form) in
     let w : Within s t = grows s (made form) in
-    let p = both (are_of_sorts s (sorts_of r.args) form.args) (avoids_well s r.avoids form.avoid) h in
+    let p = and_parts (are_of_sorts s (sorts_of r.args) form.args) (avoids_well s r.avoids form.avoid) h in
     let args = of_sorts_more s t w (sorts_of r.args) form.args p.0 in
     let new = next_objects s (sorts_of r.made) in
     let made_are : are_of_sorts t (sorts_of r.made) new ≡ true = new_of_sorts s t (sorts_of r.made) (λ sort. omega arith) in
@@ -239,20 +232,20 @@ fine_gives form s h =
     ∙ rw (first, fine_gives_avoided s t r r.avoids form.avoid w g.avoids p.1 made_are) refl
 
 pub needs_in_scope : (form : Construction) (s : Scope) → fits form s ≡ true → list_all (all_in_scope s) (needs form) ≡ true
-needs_in_scope form s h = every (is_fine s) (all_in_scope s) (λ l k. (both (all_in_scope s l) (is_plain l) k).0) (needs form) (fine_needs form s h)
+needs_in_scope form s h = every (is_fine s) (all_in_scope s) (λ l k. (and_parts (all_in_scope s l) (is_plain l) k).0) (needs form) (fine_needs form s h)
 
 pub needs_plain : (form : Construction) (s : Scope) → fits form s ≡ true → list_all is_plain (needs form) ≡ true
-needs_plain form s h = every (is_fine s) is_plain (λ l k. (both (all_in_scope s l) (is_plain l) k).1) (needs form) (fine_needs form s h)
+needs_plain form s h = every (is_fine s) is_plain (λ l k. (and_parts (all_in_scope s l) (is_plain l) k).1) (needs form) (fine_needs form s h)
 
 pub gives_in_scope : (form : Construction) (s : Scope) → fits form s ≡ true → list_all (all_in_scope (grown s (made form))) (gives form s) ≡ true
 gives_in_scope form s h =
     let t = grown s (made form) in
-    every (is_fine t) (all_in_scope t) (λ l k. (both (all_in_scope t l) (is_plain l) k).0) (gives form s) (fine_gives form s h)
+    every (is_fine t) (all_in_scope t) (λ l k. (and_parts (all_in_scope t l) (is_plain l) k).0) (gives form s) (fine_gives form s h)
 
 pub gives_plain : (form : Construction) (s : Scope) → fits form s ≡ true → list_all is_plain (gives form s) ≡ true
 gives_plain form s h =
     let t = grown s (made form) in
-    every (is_fine t) is_plain (λ l k. (both (all_in_scope t l) (is_plain l) k).1) (gives form s) (fine_gives form s h)
+    every (is_fine t) is_plain (λ l k. (and_parts (all_in_scope t l) (is_plain l) k).1) (gives form s) (fine_gives form s h)
 
 -- ---- well formed
 
@@ -266,7 +259,7 @@ plain_atom_good n (atoms.MagLt x y) h = absurd cc
 plain_atom_good n a h = refl
 
 fine_is_good : (s : Scope) (l : Lit) → is_fine s l ≡ true → is_good s l ≡ true
-fine_is_good s l h = let p = both (all_in_scope s l) (is_plain l) h in rw (p.0, plain_atom_good l.neg l.atom p.1) refl
+fine_is_good s l h = let p = and_parts (all_in_scope s l) (is_plain l) h in rw (p.0, plain_atom_good l.neg l.atom p.1) refl
 
 pub needs_good : (form : Construction) (s : Scope) → fits form s ≡ true → list_all (is_good s) (needs form) ≡ true
 needs_good form s h = every (is_fine s) (is_good s) (fine_is_good s) (needs form) (fine_needs form s h)
@@ -283,8 +276,8 @@ good_renamed : (s : Scope) (es : List Entry) (args made : List Obj) → ((o : Ob
     → list_all (is_good s) (map (renamed (image_in es)) ls) ≡ true
 good_renamed s es args made land [] h d = refl
 good_renamed s es args made land (l ∷ ls) h d =
-    let p = both (is_over args made l) (list_all (is_over args made) ls) h in
-    let q = both (is_well_formed (renamed (image_in es) l)) (list_all (λ l. is_well_formed (renamed (image_in es) l)) ls) d in
+    let p = and_parts (is_over args made l) (list_all (is_over args made) ls) h in
+    let q = and_parts (is_well_formed (renamed (image_in es) l)) (list_all (λ l. is_well_formed (renamed (image_in es) l)) ls) d in
     let here = moved_lit s (image_in es) l (every (λ (o : Obj). is_letter args o || is_letter made o) (is_moved_in s (image_in es)) (λ o i. lands_moved s es o (land o i)) (objects_of_atom l.atom) p.0) in
     rw (here, q.0, good_renamed s es args made land ls p.1 q.1) refl
 

@@ -1,8 +1,7 @@
 -- The objects for variables.
-use Rattle.std.proofs.Common.{◌≡◌, List, [], ◌∷◌, ◌++◌, refl, ap, ◌∙◌, Option, Some, None, Bool, true, false, cond}
+use Rattle.std.proofs.Common.{◌≡◌, List, [], ◌∷◌, ◌++◌, refl, ap, ◌∙◌, None, true, false, cond}
 use Rattle.e_literal.specs.declared.object.Obj.{Obj}
-use Rattle.e_literal.specs.declared.map.Entry.{Entry}
-use Rattle.e_literal.specs.Rename.{image_in, same_obj, paired, renamed}
+use Rattle.e_literal.specs.Rename.{image_in, paired, renamed}
 use Rattle.std.proofs.Common.{◌≤◌, arith, length, map}
 use Rattle.e_literal.specs.Scopes.{same_sort, are_of_sorts}
 use Rattle.e_literal.specs.declared.literal.Lit.{Lit}
@@ -10,34 +9,9 @@ use Rattle.e_construct.specs.Shapes.{ShapeRow}
 use Rattle.e_construct.specs.Construct.{of_sort, sorts_of, needs_of_avoided, argument, needs_of_row}
 use Rattle.e_literal.specs.declared.object.Scope.{Scope}
 use Rattle.e_literal.specs.declared.object.Sort.{Sort}
+use Rattle.e_literal.proofs.Renamed.{image_in_first, image_in_second}
 use Rattle.std.proofs.lemmas.List.{append-nil}
 use Rattle.std.proofs.lemmas.Grind.{common_steps}
-
-in_first : (b : Bool) (t i : Obj) (u v : Option Obj) → (u ≡ Some i → v ≡ Some i) → cond b (Some t) u ≡ Some i → cond b (Some t) v ≡ Some i
-in_first true t i u v k h = h
-in_first false t i u v k h = k h
-
-in_second : (b : Bool) (t : Obj) (u v w : Option Obj) → (u ≡ None → v ≡ w) → cond b (Some t) u ≡ None → cond b (Some t) v ≡ w
-in_second true t u v w k h = absurd (some_none h)
-  where
-    some_none : Some t ≡ None → ⊥
-    some_none e = cc
-in_second false t u v w k h = k h
-
--- where the first list has an image it counts
-pub image_in_first : (xs ys : List Entry) (o i : Obj) → image_in xs o ≡ Some i → image_in (xs ++ ys) o ≡ Some i
-image_in_first [] ys o i h = absurd (none_some h)
-  where
-    none_some : None ≡ Some i → ⊥
-    none_some e = cc
-image_in_first (x ∷ xs) ys o i h =
-    in_first (same_obj x.source o) x.target i (image_in xs o) (image_in (xs ++ ys) o) (image_in_first xs ys o i) h
-
--- else the second does
-pub image_in_second : (xs ys : List Entry) (o : Obj) → image_in xs o ≡ None → image_in (xs ++ ys) o ≡ image_in ys o
-image_in_second [] ys o h = refl
-image_in_second (x ∷ xs) ys o h =
-    in_second (same_obj x.source o) x.target (image_in xs o) (image_in (xs ++ ys) o) (image_in ys o) (image_in_second xs ys o) h
 
 -- an object of the sort stays, another does not
 pub of_sort_yes : (s : Sort) (o : Obj) (os : List Obj) → same_sort s o.sort ≡ true → of_sort s (o ∷ os) ≡ o ∷ of_sort s os

@@ -1,8 +1,8 @@
 -- Lines that are certified, lines that are licensed, and proofs: what each gives of the others.
-use Rattle.std.proofs.Common.{◌≡◌, ℕ, List, [], ◌∷◌, ◌++◌, refl, sym, ap, ◌∙◌, subst, Bool, true, false, Option, Some, None, ◌&&◌, ltb, length, true≢false}
+use Rattle.std.proofs.Common.{◌≡◌, ℕ, List, [], ◌∷◌, ◌++◌, refl, sym, ap, subst, true, Option, Some, None, ◌&&◌, ltb, length, true≢false}
 use Rattle.std.specs.Prelude.{IsTrue}
 use Rattle.std.specs.List.{list_all}
-use Rattle.std.proofs.lemmas.List.Folds.{list_all-append}
+use Rattle.std.proofs.lemmas.Bool.{and_from}
 use Rattle.e_literal.specs.declared.literal.Lit.{Lit}
 use Rattle.e_literal.specs.declared.object.Obj.{Obj}
 use Rattle.e_literal.specs.declared.object.Scope.{Scope}
@@ -10,6 +10,7 @@ use Rattle.e_literal.specs.Literal.{negation}
 use Rattle.e_literal.specs.Facts.{joined, joined_all}
 use Rattle.e_literal.specs.Scopes.{grown}
 use Rattle.e_literal.specs.Use.{Stated, are_arguments, needs_of_use, gives_of_use, scope_of}
+use Rattle.e_literal.proofs.Booleans.{and_left, and_right, all_left, all_right}
 use Rattle.e_clause.specs.Allowed.{Allowed, AllAllowed}
 use Rattle.e_clause.specs.Certify.{certify_all}
 use Rattle.e_clause.proofs.Sound.{all_allowed_of_certified, contradictory_of_certified}
@@ -25,23 +26,6 @@ use Rattle.e_deriv.specs.Proves.{Proves, IsProof}
 use Rattle.e_deriv.specs.Licensed.{Licensed, AllLicensed}
 use Rattle.e_deriv.specs.Certified.{is_certified, certs_of, certified_beside, Certified}
 use Rattle.e_deriv.proofs.Choices.{written_again, no_blank_again, fills_again, least_of_good}
-
-and_left : (a b : Bool) → (a && b) ≡ true → a ≡ true
-and_left true b h = refl
-and_left false b h = h
-
-and_both : (a b : Bool) → a ≡ true → b ≡ true → (a && b) ≡ true
-and_both a b h k = rw (h, k) refl
-
-and_right : (a b : Bool) → (a && b) ≡ true → b ≡ true
-and_right true b h = h
-and_right false b h = absurd (true≢false (sym h))
-
-all_left : (p : Line → Bool) (xs ys : List Line) → list_all p (xs ++ ys) ≡ true → list_all p xs ≡ true
-all_left p xs ys h = and_left _ _ (sym (list_all-append p xs ys) ∙ h)
-
-all_right : (p : Line → Bool) (xs ys : List Line) → list_all p (xs ++ ys) ≡ true → list_all p ys ≡ true
-all_right p xs ys h = and_right _ _ (sym (list_all-append p xs ys) ∙ h)
 
 -- ---- lists of lines, one behind the other
 
@@ -152,8 +136,8 @@ applied_again : (before : List Stated) (theorem : ℕ) (s : Scope) (pattern : Li
 applied_again before theorem s pattern args h =
     let low = ltb theorem (length before) in
     let t = theorem_at before theorem in
-    and_both low (is_choice t s (filled_in args) args) (and_left low (is_choice t s pattern args) h)
-    (and_both (fills (filled_in args) args) (are_arguments t s args) (fills_again args) (and_right (fills pattern args) (are_arguments t s args) (and_right low (is_choice t s pattern args) h)))
+    and_from low (is_choice t s (filled_in args) args) (and_left low (is_choice t s pattern args) h)
+    (and_from (fills (filled_in args) args) (are_arguments t s args) (fills_again args) (and_right (fills pattern args) (are_arguments t s args) (and_right low (is_choice t s pattern args) h)))
 
 proves_of_licensed : (before : List Stated) (d f : Script) (s : Scope) (facts : List Lit) (goal : Goal) → AllLicensed before (lines before d f s facts goal) → Proves before s facts goal (filled_by d f)
 unfolding lines Proves filled_by
@@ -224,7 +208,7 @@ licensed_of_proves before (Superposed form names shown certs inner rest) s facts
     let given = joined_all facts (superposing.gives form s) in
     let one = lines before inner inner g given (goal_of shown) in
     let other = lines before rest rest s (joined_all facts shown) goal in (
-      record { fits = and_both (superposing.fits form s) (are_over s shown) h.0 h.2; allowed = h.1; beside = tt },
+      record { fits = and_from (superposing.fits form s) (are_over s shown) h.0 h.2; allowed = h.1; beside = tt },
       both_licensed before one other (licensed_of_proves before inner g given (goal_of shown) h.3) (licensed_of_proves before rest s (joined_all facts shown) goal h.4),
     )
 licensed_of_proves before (Qed objects certs) s facts goal h = (record { fits = h.0; allowed = h.1; beside = tt }, tt)

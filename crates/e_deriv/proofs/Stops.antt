@@ -1,8 +1,9 @@
 -- What holds before a line, the first line that is not licensed, and what it lacks, are one; and where each line is licensed there
 -- is no such line.
-use Rattle.std.proofs.Common.{◌≡◌, ℕ, zero, suc, ◌+◌, ◌<◌, List, [], ◌∷◌, ◌++◌, length, refl, sym, ap, ◌∙◌, subst, Bool, true, false, ◌&&◌, true≢false, Option, Some, None, inl, inr, ◌⊎◌, length-append}
-use Rattle.std.specs.Prelude.{take, slice_get, unwrap_or}
+use Rattle.std.proofs.Common.{◌≡◌, ℕ, zero, suc, ◌+◌, ◌<◌, List, [], ◌∷◌, ◌++◌, length, refl, sym, ap, ◌∙◌, subst, true≢false, Option, Some, inl, inr, ◌⊎◌, length-append}
+use Rattle.std.specs.Prelude.{take, slice_get}
 use Rattle.std.proofs.Common.{arith}
+use Rattle.std.proofs.lemmas.Option.{same_Some, none-some}
 use Rattle.e_literal.specs.declared.literal.Lit.{Lit}
 use Rattle.e_literal.specs.declared.object.Obj.{Obj}
 use Rattle.e_literal.specs.declared.object.Scope.{Scope}
@@ -10,6 +11,7 @@ use Rattle.e_literal.specs.Literal.{negation}
 use Rattle.e_literal.specs.Facts.{joined, joined_all}
 use Rattle.e_literal.specs.Scopes.{grown}
 use Rattle.e_literal.specs.Use.{Stated, are_arguments, needs_of_use, gives_of_use, scope_of}
+use Rattle.e_literal.proofs.Booleans.{and_left, and_right}
 use Rattle.e_clause.specs.Allowed.{Allowed, AllAllowed}
 use Rattle.e_construct.specs.Construct.{made, gives}
 use Rattle.e_construct.specs.Superposing as superposing
@@ -59,14 +61,6 @@ one_not_allowed s facts ls l l' a b =
 
 -- ---- one line
 
-right : (a b : Bool) → (a && b) ≡ true → b ≡ true
-right true b h = h
-right false b h = absurd (true≢false (sym h))
-
-left : (a b : Bool) → (a && b) ≡ true → a ≡ true
-left true b h = refl
-left false b h = h
-
 abbrev at_place : Script → Scope → List Lit → Goal → List Obj → Line
 at_place here s facts goal args = record { scope = s; facts = facts; goal = goal; here = here; args = args }
 
@@ -77,7 +71,7 @@ lacks_nothing before (Hence lit cert rest) s facts goal args (Literal l) h k = n
 lacks_nothing before (Make form names certs rest) s facts goal args (Literal l) h k = none_not_allowed s facts (needs_at before (Make form names certs rest) s goal args) l h.allowed k
 lacks_nothing before (Apply theorem pattern names certs rest) s facts goal args (Literal l) h k =
     let t = theorem_at before theorem in
-    let same : args ≡ written pattern = only_choice pattern args k.0 (left (fills pattern args) (are_arguments t s args) (right _ (is_choice t s pattern args) h.fits)) in
+    let same : args ≡ written pattern = only_choice pattern args k.0 (and_left (fills pattern args) (are_arguments t s args) (and_right _ (is_choice t s pattern args) h.fits)) in
     none_not_allowed s facts (needs_of_use t (written pattern) s) l (subst (λ xs. AllAllowed s facts (needs_of_use t xs s)) same h.allowed) k.1
 lacks_nothing before (Apply theorem pattern names certs rest) s facts goal args Match h k = k.1 args h.beside.good
 lacks_nothing before (Superposed form names shown certs inner rest) s facts goal args (Literal l) h k =
@@ -141,12 +135,6 @@ lacks_one before x y v w e h k = lacks_same before y.here y.scope y.facts y.goal
 
 -- ---- lists of lines
 
-pub some_same : {A : Type 0} (x y : A) → Some x ≡ Some y → x ≡ y
-some_same x y e = ap (λ o. unwrap_or o x) e
-
-pub none_is_not_some : {A : Type 0} (x : A) → None ≡ Some x → ⊥
-none_is_not_some x e = cc
-
 -- the line at a place, where all lines before it are licensed
 pub record Stands (before : List Stated) (xs : List Line) (p : ℕ) (x : Line) : Type 0 where
   pub at : slice_get xs p ≡ Some x
@@ -158,7 +146,7 @@ same_line x y e = record { scope = ap (λ z. z.scope) e; facts = ap (λ z. z.fac
 -- in two lists that begin alike
 first_place : (before : List Stated) (a b : Line) (xs ys : List Line) (x y : Line) → SamePlace a b → Stands before (a ∷ xs) zero x → Stands before (b ∷ ys) zero y → SamePlace x y
 first_place before a b xs ys x y e p q =
-    subst (λ z. SamePlace z y) (some_same a x p.at) (subst (λ z. SamePlace a z) (some_same b y q.at) e)
+    subst (λ z. SamePlace z y) (same_Some a x p.at) (subst (λ z. SamePlace a z) (same_Some b y q.at) e)
 
 behind : (before : List Stated) (a : Line) (xs : List Line) (p : ℕ) (x : Line) → Stands before (a ∷ xs) (suc p) x → Stands before xs p x
 behind before a xs p x h = record { at = h.at; earlier = h.earlier.1 }
@@ -226,7 +214,7 @@ alike : (here f f' : Script) (s : Scope) (facts : List Lit) (goal : Goal) → Sa
 alike here f f' s facts goal = record { scope = refl; facts = refl; goal = refl; here = refl }
 
 nothing_behind : (before : List Stated) (a : Line) (p : ℕ) (x : Line) → Stands before (a ∷ []) (suc p) x → ⊥
-nothing_behind before a p x h = none_is_not_some x h.at
+nothing_behind before a p x h = none-some x h.at
 
 same_context : (before : List Stated) (d f f' : Script) (s : Scope) (facts : List Lit) (goal : Goal) (p : ℕ) (x y : Line) →
     Stands before (lines before d f s facts goal) p x → Stands before (lines before d f' s facts goal) p y → SamePlace x y
@@ -308,7 +296,7 @@ pub record Earlier (before : List Stated) (xs : List Line) (p : ℕ) : Type 0 wh
   pub licensed : Licensed before line
 
 pub earlier_line : (before : List Stated) (xs : List Line) (p q : ℕ) (y : Line) → p < q → Stands before xs q y → Earlier before xs p
-earlier_line before [] p q y lt h = absurd (none_is_not_some y h.at)
+earlier_line before [] p q y lt h = absurd (none-some y h.at)
 earlier_line before (a ∷ xs) p zero y lt h = absurd (omega (arith, lt))
 earlier_line before (a ∷ xs) zero (suc q) y lt h = record { line = a; stands = record { at = refl; earlier = tt }; licensed = h.earlier.0 }
 earlier_line before (a ∷ xs) (suc p) (suc q) y lt h =
@@ -317,7 +305,7 @@ earlier_line before (a ∷ xs) (suc p) (suc q) y lt h =
 
 -- in a list of licensed lines each is
 pub licensed_line : (before : List Stated) (xs ys : List Line) (p : ℕ) (y : Line) → length xs ≡ length ys → AllLicensed before xs → slice_get ys p ≡ Some y → Earlier before xs p
-licensed_line before [] [] p y n h e = absurd (none_is_not_some y e)
+licensed_line before [] [] p y n h e = absurd (none-some y e)
 licensed_line before [] (b ∷ ys) p y n h e = absurd (omega (arith, n))
 licensed_line before (a ∷ xs) [] p y n h e = absurd (omega (arith, n))
 licensed_line before (a ∷ xs) (b ∷ ys) zero y n h e = record { line = a; stands = record { at = refl; earlier = tt }; licensed = h.0 }

@@ -18,3 +18,15 @@ is_written_well (Superposed form names shown certs inner rest) =
 is_written_well (Qed objects certs) = list_all is_good_cert certs
 is_written_well (Contradiction against) = option_map_or is_good_against against true
 is_written_well (Cases lit first second) = is_well_formed lit && (is_written_well first && is_written_well second)
+
+-- each literal of a row that the certificates name is well formed
+unfoldable pub has_good_certs : Script → Bool
+has_good_certs (Cite by rest) = has_good_certs rest
+has_good_certs (Hence lit cert rest) = option_map_or is_good_cert cert true && has_good_certs rest
+has_good_certs (Make form names certs rest) = list_all is_good_cert certs && has_good_certs rest
+has_good_certs (Apply theorem args names certs rest) = list_all is_good_cert certs && has_good_certs rest
+has_good_certs (Claim shown inner rest) = has_good_certs inner && has_good_certs rest
+has_good_certs (Superposed form names shown certs inner rest) = list_all is_good_cert certs && (has_good_certs inner && has_good_certs rest)
+has_good_certs (Qed objects certs) = list_all is_good_cert certs
+has_good_certs (Contradiction against) = option_map_or is_good_against against true
+has_good_certs (Cases lit first second) = has_good_certs first && has_good_certs second

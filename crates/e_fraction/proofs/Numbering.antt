@@ -1,18 +1,20 @@
 -- Rows over terms and rows over numbered columns: column 0 is that of the constants, and the others are the terms in order.
 use Rattle.std.proofs.Common.{◌≡◌, ℕ, zero, suc, ◌<◌, ◌≤◌, ◌^◌, List, [], ◌∷◌, map, length, get_or, refl, sym, ap, ◌∙◌, arith, cond, true, false, true≢false, ◌||◌, inl, inr, subst}
 use Rattle.std.specs.Prelude.{unsigned_abs}
-use lib.IntN.{ℤ, ◌*ℤ◌}
+use Rattle.std.proofs.lemmas.Bool.{cases_Bool}
+use Rattle.std.proofs.lemmas.List.{length-map}
+use lib.IntN.{ℤ}
 use Rattle.e_literal.specs.declared.object.Term.{Term}
 use Rattle.e_literal.specs.declared.object.Term.TheVariants.{Right}
 use Rattle.e_literal.specs.Same.{term_eq}
 use Rattle.e_literal.specs.Rows.{Row}
 use Rattle.e_literal.specs.Minor.{Column, Constants, Of, SignedRow, entry, IsWide as IsWideRows}
 use Rattle.e_literal.specs.Width.{is_among}
-use Rattle.e_fraction.specs.Det.{det, expand, IsPart, EachBelow, IsWide}
-use Rattle.e_literal.proofs.Arith.{sums}
+use Rattle.e_fraction.specs.Det.{det, IsPart, EachBelow, IsWide}
 use Rattle.e_fraction.proofs.Named.{numbered, det_named}
 use Rattle.e_fraction.proofs.Width.{part_trans}
-use Rattle.e_literal.proofs.Terms.{term_eq_is, yes_or_no}
+use Rattle.e_fraction.proofs.Expand.{expand_below}
+use Rattle.e_literal.proofs.Terms.{term_eq_is}
 
 -- ---- names and numbers of columns
 
@@ -35,14 +37,14 @@ among_later t x xs h n = sym (ap (λ b. b || is_among xs t) n) ∙ h
 
 pub place_below : (ts : List Term) (t : Term) → is_among ts t ≡ true → place ts t < length ts
 place_below [] t h = absurd (true≢false (sym h))
-place_below (x ∷ xs) t h = elim (yes_or_no (term_eq t x)) [
+place_below (x ∷ xs) t h = elim (cases_Bool (term_eq t x)) [
   | inl e ↦ subst (λ n. n < suc (length xs)) (sym (ap (λ b. cond b 0 (suc (place xs t))) e)) (omega arith)
   | inr n ↦ subst (λ k. k < suc (length xs)) (sym (ap (λ b. cond b 0 (suc (place xs t))) n)) (omega (arith, place_below xs t (among_later t x xs h n)))
 ]
 
 pub term_at_place : (ts : List Term) (t : Term) → is_among ts t ≡ true → get_or ts (place ts t) Right ≡ t
 term_at_place [] t h = absurd (true≢false (sym h))
-term_at_place (x ∷ xs) t h = elim (yes_or_no (term_eq t x)) [
+term_at_place (x ∷ xs) t h = elim (cases_Bool (term_eq t x)) [
   | inl e ↦ ap (λ b. get_or (x ∷ xs) (cond b 0 (suc (place xs t))) Right) e ∙ sym (term_eq_is t x e)
   | inr n ↦ ap (λ b. get_or (x ∷ xs) (cond b 0 (suc (place xs t))) Right) n ∙ term_at_place xs t (among_later t x xs h n)
 ]
@@ -55,18 +57,6 @@ SameEntries ts n [] [] = Unit {0}
 SameEntries ts n (s ∷ ss) (r ∷ rs) = ((c : ℕ) → c < n → r c ≡ entry s (column ts c)) × SameEntries ts n ss rs
 SameEntries ts n [] (r ∷ rs) = ⊥
 SameEntries ts n (s ∷ ss) [] = ⊥
-
-expand_below : (n : ℕ) (r q : ℕ → ℤ) (f g : List ℕ → ℤ) → ((c : ℕ) → c < n → r c ≡ q c) → ((ds : List ℕ) → EachBelow n ds → f ds ≡ g ds)
-    → (cs : List ℕ) → EachBelow n cs → expand r f cs ≡ expand q g cs
-expand_below n r q f g h k [] b = refl
-expand_below n r q f g h k (c ∷ cs) b =
-    omega (
-      arith,
-      sums,
-      ap (λ z. z *ℤ f cs) (h c b.0),
-      ap (λ z. q c *ℤ z) (k cs b.1),
-      expand_below n r q (λ ds. f (c ∷ ds)) (λ ds. g (c ∷ ds)) h (λ ds e. k (c ∷ ds) (b.0, e)) cs b.1,
-    )
 
 -- rows that agree in the first n columns
 abbrev pub SameBelow : ℕ → List (ℕ → ℤ) → List (ℕ → ℤ) → Type 0
@@ -111,10 +101,6 @@ as_many ts n (s ∷ ss) (r ∷ rs) h = ap suc (as_many ts n ss rs h.1)
 as_many ts n [] (r ∷ rs) h = absurd h
 as_many ts n (s ∷ ss) [] h = absurd h
 
-length_map : {X Y : Type 0} (f : X → Y) (xs : List X) → length (map f xs) ≡ length xs
-length_map f [] = refl
-length_map f (x ∷ xs) = ap suc (length_map f xs)
-
 -- where rows over numbered columns have the entries of some rows over terms, and are wide, the rows over terms are wide
 pub wide_named : (ts : List Term) (n : ℕ) (chosen : List SignedRow) (lines : List (ℕ → ℤ)) (rows : List Row)
     → SameEntries ts n chosen lines → IsPart (map (λ s. s.row) chosen) rows → IsWide lines n (2 ^ 63) → IsWideRows rows
@@ -124,7 +110,7 @@ wide_named ts n chosen lines rows same part h =
       chosen = c.some;
       is_part = part_trans (map row_of c.some) (map row_of chosen) rows c.are_part part;
       columns = map (column ts) h.columns;
-      square = length_map (column ts) h.columns ∙ h.as_many ∙ sym (as_many ts n c.some h.chosen c.same);
+      square = length-map h.columns (column ts) ∙ h.as_many ∙ sym (as_many ts n c.some h.chosen c.same);
       is_large = subst (λ z. 2 ^ 63 ≤ unsigned_abs z)
           (det_below n h.chosen (numbered (column ts) (map entry c.some)) h.columns (same_numbered ts n c.some h.chosen c.same) h.are_columns
           ∙ det_named (column ts) (map entry c.some) h.columns) h.wide;

@@ -4,6 +4,8 @@ use Rattle.std.proofs.Math.Nat.{mul-le-mul_left}
 use Rattle.std.specs.Prelude.{nat_le}
 use Rattle.std.specs.List.{list_any}
 use Rattle.std.proofs.lemmas.List.Folds.{list_any-append}
+use Rattle.std.proofs.lemmas.Bool.{or_left, cases_Bool, not-true, not-false}
+use mathlib.Core.Bool.{or-false}
 use lib.IntN.{ℤ}
 use Rattle.e_literal.specs.declared.object.Term.{Term}
 use Rattle.e_literal.specs.Same.{term_eq}
@@ -11,7 +13,7 @@ use Rattle.e_literal.specs.Rows.{Row, Summands, terms_of_rows}
 use Rattle.e_literal.specs.Width.{is_among, new_terms, weight, product, constants, width_over, width}
 use Rattle.e_fraction.specs.declared.row.Row.{Row as GivenRow}
 use Rattle.e_fraction.specs.Views.{all_seen}
-use Rattle.e_literal.proofs.Terms.{yes_or_no, term_eq_is, term_eq_turned}
+use Rattle.e_literal.proofs.Terms.{term_eq_is, term_eq_turned}
 
 -- ---- what the tests find
 
@@ -32,14 +34,6 @@ neither true false = refl
 neither false true = refl
 neither false false = refl
 
-not_true : (b : Bool) → not b ≡ true → b ≡ false
-not_true true h = cc
-not_true false h = refl
-
-not_false : (b : Bool) → not b ≡ false → b ≡ true
-not_false true h = refl
-not_false false h = cc
-
 pub is_new_is : (rows : List GivenRow) (form : Summands) (t : Term) (a b : Bool) → a ≡ list_any (λ (q : ℤ × Term). term_eq q.1 t) form
     → b ≡ list_any (λ (r : GivenRow). list_any (λ (q : ℤ × Term). term_eq q.1 t) r.form) rows
     → (not a && not b) ≡ not (is_among (terms_of_rows (all_seen rows) ++ map (λ p. p.1) form) t)
@@ -49,27 +43,19 @@ is_new_is rows form t a b e f =
 
 -- ---- one term more
 
-or_none : (b : Bool) → (b || false) ≡ b
-or_none true = refl
-or_none false = refl
-
 or_moved : (a b c : Bool) → ((a || b) || c) ≡ (b || (a || c))
 or_moved true true c = refl
 or_moved true false c = refl
 or_moved false b c = refl
 
-or_absorbed : (a b : Bool) → a ≡ true → (a || b) ≡ true
-or_absorbed true b h = refl
-or_absorbed false b h = cc
-
 pub new_more : (before ts : List Term) (t : Term) → new_terms before (ts ++ t ∷ []) ≡ new_terms before ts ++ cond (is_among before t || is_among ts t) [] (t ∷ [])
-new_more before [] t = ap (λ b. cond b [] (t ∷ [])) (sym (or_none (is_among before t)))
+new_more before [] t = ap (λ b. cond b [] (t ∷ [])) (sym (or-false (is_among before t)))
 new_more before (x ∷ xs) t = by (is_among before x) refl (λ bs. new_more bs xs t)
   where
     met : is_among before x ≡ true → (is_among before t || is_among xs t) ≡ (is_among before t || (term_eq t x || is_among xs t))
-    met is = elim (yes_or_no (term_eq t x)) [
+    met is = elim (cases_Bool (term_eq t x)) [
       | inl e ↦ (let known : is_among before t ≡ true = ap (is_among before) (term_eq_is t x e) ∙ is in
-          or_absorbed (is_among before t) (is_among xs t) known ∙ sym (or_absorbed (is_among before t) (term_eq t x || is_among xs t) known))
+          or_left (is_among before t) (is_among xs t) known ∙ sym (or_left (is_among before t) (term_eq t x || is_among xs t) known))
       | inr n ↦ ap (λ b. is_among before t || (b || is_among xs t)) (sym n)
     ]
 
@@ -89,7 +75,7 @@ product_more rows (x ∷ xs) t = ap (λ n. weight rows x * n) (product_more rows
     grouped a b c = omega arith
 
 le_or_lt : (a b : ℕ) → (a ≤ b) ⊎ (b < a)
-le_or_lt a b = elim (yes_or_no (nat_le a b)) [ inl e ↦ inl (grind (arith)) | inr n ↦ inr (grind (arith)) ]
+le_or_lt a b = elim (cases_Bool (nat_le a b)) [ inl e ↦ inl (grind (arith)) | inr n ↦ inr (grind (arith)) ]
 
 -- a cap before a factor that is at least 1 makes no difference to the cap after it
 pub capped : (a w cap : ℕ) → 1 ≤ w → min (min a cap * w) cap ≡ min (a * w) cap
@@ -146,7 +132,7 @@ pub width_step_new : (rows : List Row) (before : List Term) (form : Summands) (j
     → min (n * weight rows (get_or form j d).1) (2 ^ 128 - 1) ≡ width_over rows (before ++ map (λ p. p.1) (take (j + 1) form))
 width_step_new rows before form j d n h new e =
     ap (λ k. min (k * weight rows (get_or form j d).1) (2 ^ 128 - 1)) e
-    ∙ sym (width_new rows (before ++ map (λ p. p.1) (take j form)) (get_or form j d).1 (not_true (is_among (before ++ map (λ p. p.1) (take j form)) (get_or form j d).1) new))
+    ∙ sym (width_new rows (before ++ map (λ p. p.1) (take j form)) (get_or form j d).1 (not-true (is_among (before ++ map (λ p. p.1) (take j form)) (get_or form j d).1) new))
     ∙ ap (width_over rows) (append_assoc before (map (λ p. p.1) (take j form)) ((get_or form j d).1 ∷ []) ∙ ap (λ xs. before ++ xs) (sym (summands_more form j d h)))
 
 pub width_step_known : (rows : List Row) (before : List Term) (form : Summands) (j : ℕ) (d : ℤ × Term) (n : ℕ) → j < length form
@@ -154,7 +140,7 @@ pub width_step_known : (rows : List Row) (before : List Term) (form : Summands) 
     → n ≡ width_over rows (before ++ map (λ p. p.1) (take (j + 1) form))
 width_step_known rows before form j d n h old e =
     e
-    ∙ sym (width_known rows (before ++ map (λ p. p.1) (take j form)) (get_or form j d).1 (not_false (is_among (before ++ map (λ p. p.1) (take j form)) (get_or form j d).1) old))
+    ∙ sym (width_known rows (before ++ map (λ p. p.1) (take j form)) (get_or form j d).1 (not-false (is_among (before ++ map (λ p. p.1) (take j form)) (get_or form j d).1) old))
     ∙ ap (width_over rows) (append_assoc before (map (λ p. p.1) (take j form)) ((get_or form j d).1 ∷ []) ∙ ap (λ xs. before ++ xs) (sym (summands_more form j d h)))
 
 pub all_rows : (rows : List GivenRow) (i n : ℕ) → length rows ≤ i → n ≡ width_over (all_seen rows) (terms_of_rows (all_seen (take i rows))) → n ≡ width (all_seen rows)

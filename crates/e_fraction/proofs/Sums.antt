@@ -1,14 +1,14 @@
 -- What the calls on sums compute, row by row.
-use Rattle.std.proofs.Common.{◌≡◌, ℕ, zero, suc, ◌+◌, ◌*◌, ◌<◌, ◌≤◌, ◌^◌, List, [], ◌∷◌, map, length, take, get_or, refl, sym, ap, ◌∙◌, arith, Bool, true, false, not, cond, ◌&&◌, ◌||◌, true≢false, inl, inr, subst}
+use Rattle.std.proofs.Common.{◌≡◌, ℕ, zero, suc, ◌+◌, ◌*◌, ◌<◌, ◌≤◌, ◌^◌, List, [], ◌∷◌, map, length, take, get_or, refl, sym, ap, ◌∙◌, arith, Bool, true, false, not, cond, ◌&&◌, ◌||◌, true≢false, inl, inr, subst, leb-true}
 use Rattle.std.specs.Prelude.{unsigned_abs, nat_le}
 use Rattle.std.specs.List.{list_any, list_all, zip}
 use Rattle.std.specs.Ordering.{int_eq}
 use Rattle.std.proofs.lemmas.List.Folds.{list_all-append, list_all-map}
-use Rattle.std.proofs.lemmas.Int.{unsigned_abs-mul, fits_signed_from_abs}
+use Rattle.std.proofs.lemmas.Int.{unsigned_abs-mul}
 use Rattle.std.proofs.lemmas.Nat.{mul-le}
+use Rattle.std.proofs.lemmas.Bool.{cases_Bool, not-true}
+use mathlib.Core.Bool.{and_comm}
 use lib.IntN.{ℤ, pos, ◌+ℤ◌, ◌*ℤ◌}
-use mir.Syntax.{w128}
-use mir.Val.{SFits}
 use borrow.Author.Differences.{abs_is}
 use Rattle.e_literal.specs.declared.object.Term.{Term}
 use Rattle.e_literal.specs.Same.{term_eq}
@@ -19,7 +19,8 @@ use Rattle.e_fraction.specs.Distinct.{have_distinct_terms}
 use Rattle.e_fraction.specs.Limits.{has_small_coefficients, all_small, are_good_multipliers}
 use Rattle.e_fraction.specs.Views.{says_of, seen, all_seen, weighed}
 use Rattle.e_literal.proofs.Arith.{sums}
-use Rattle.e_literal.proofs.Terms.{and_left, and_right, yes_or_no, term_eq_is}
+use Rattle.e_literal.proofs.Terms.{term_eq_is}
+use Rattle.e_literal.proofs.Booleans.{and_left, and_right}
 
 -- ---- the coefficient of a term
 
@@ -29,28 +30,24 @@ stands t form = list_any (λ q. term_eq q.1 t) form
 pub coefficient_none : (form : Summands) (t : Term) → stands t form ≡ false → coefficient form t ≡ pos 0
 coefficient_none [] t h = refl
 coefficient_none (p ∷ ps) t h =
-    elim (yes_or_no (term_eq p.1 t)) [
+    elim (cases_Bool (term_eq p.1 t)) [
       | inl e ↦ absurd (true≢false (sym (ap (λ b. b || stands t ps) e) ∙ h))
       | inr n ↦
           ap (λ b. cond b p.0 (pos 0) +ℤ coefficient ps t) n
           ∙ ap (λ z. pos 0 +ℤ z) (coefficient_none ps t (sym (ap (λ b. b || stands t ps) n) ∙ h))
     ]
 
-not_true : (b : Bool) → not b ≡ true → b ≡ false
-not_true true h = absurd (true≢false (sym h))
-not_true false h = refl
-
 -- where terms stand once, the first summand with the term has its coefficient
 pub coefficient_at : (form : Summands) (t : Term) (k : ℕ) (d : ℤ × Term) → k < length form → stands t (take k form) ≡ false
     → term_eq (get_or form k d).1 t ≡ true → have_distinct_terms form ≡ true → coefficient form t ≡ (get_or form k d).0
 coefficient_at [] t k d l s e h = absurd (omega (arith, l))
 coefficient_at (p ∷ ps) t zero d l s e h =
-    let once : stands p.1 ps ≡ false = not_true (stands p.1 ps) (and_left (not (stands p.1 ps)) (have_distinct_terms ps) h) in
+    let once : stands p.1 ps ≡ false = not-true (stands p.1 ps) (and_left (not (stands p.1 ps)) (have_distinct_terms ps) h) in
     ap (λ b. cond b p.0 (pos 0) +ℤ coefficient ps t) e
     ∙ ap (λ z. p.0 +ℤ z) (coefficient_none ps t (ap (λ u. stands u ps) (sym (term_eq_is p.1 t e)) ∙ once))
     ∙ omega (arith, sums)
 coefficient_at (p ∷ ps) t (suc k) d l s e h =
-    elim (yes_or_no (term_eq p.1 t)) [
+    elim (cases_Bool (term_eq p.1 t)) [
       | inl y ↦ absurd (true≢false (sym (ap (λ b. b || stands t (take k ps)) y) ∙ s))
       | inr n ↦
           ap (λ b. cond b p.0 (pos 0) +ℤ coefficient ps t) n
@@ -68,16 +65,13 @@ none_in_all form t h = coefficient_none form t (ap (stands t) (sym (whole form))
 
 -- ---- sizes
 
-nat_le_is : (a b : ℕ) → nat_le a b ≡ true → a ≤ b
-nat_le_is a b h = grind (arith)
-
 pub small_coefficient : (form : Summands) (t : Term) → has_small_coefficients form ≡ true → have_distinct_terms form ≡ true → unsigned_abs (coefficient form t) ≤ 2 ^ 30
 small_coefficient [] t h k = omega arith
-small_coefficient (p ∷ ps) t h k = elim (yes_or_no (term_eq p.1 t)) [
+small_coefficient (p ∷ ps) t h k = elim (cases_Bool (term_eq p.1 t)) [
   | inl e ↦ omega (
     arith,
     ap unsigned_abs (coefficient_at (p ∷ ps) t 0 p (omega arith) refl e k),
-    nat_le_is (unsigned_abs p.0) (2 ^ 30) (and_left (nat_le (unsigned_abs p.0) (2 ^ 30)) (has_small_coefficients ps) h),
+    leb-true (unsigned_abs p.0) (2 ^ 30) (and_left (nat_le (unsigned_abs p.0) (2 ^ 30)) (has_small_coefficients ps) h),
   )
   | inr n ↦
       subst (λ z. unsigned_abs z ≤ 2 ^ 30) (sym (past n))
@@ -97,7 +91,7 @@ small_row (r ∷ rs) (suc i) d l h = small_row rs i d (omega (arith, l)) (and_ri
 
 pub good_multiplier : (ms : List ℤ) (i : ℕ) → i < length ms → are_good_multipliers ms ≡ true → unsigned_abs (get_or ms i (pos 0)) ≤ 2 ^ 80
 good_multiplier [] i l h = absurd (omega (arith, l))
-good_multiplier (m ∷ ms) zero l h = nat_le_is (unsigned_abs m) (2 ^ 80) (and_left (nat_le (unsigned_abs m) (2 ^ 80)) (are_good_multipliers ms) h)
+good_multiplier (m ∷ ms) zero l h = leb-true (unsigned_abs m) (2 ^ 80) (and_left (nat_le (unsigned_abs m) (2 ^ 80)) (are_good_multipliers ms) h)
 good_multiplier (m ∷ ms) (suc i) l h = good_multiplier ms i (omega (arith, l)) (and_right (nat_le (unsigned_abs m) (2 ^ 80)) (are_good_multipliers ms) h)
 
 -- one row more
@@ -140,18 +134,12 @@ strict_signs : (xs : List (GivenRow × ℤ)) → list_any (λ (w : Weighed). is_
 strict_signs [] = refl
 strict_signs (x ∷ xs) = ap (λ b. is_strict (says_of x.0.kind) x.1 || b) (strict_signs xs)
 
-turned : (a b : Bool) → (a && b) ≡ (b && a)
-turned true true = refl
-turned true false = refl
-turned false true = refl
-turned false false = refl
-
 pub absurd_is : (rows : List GivenRow) (ms : List ℤ) (signs cancels : Bool) → length ms ≡ length rows
     → signs ≡ (list_all (λ (x : GivenRow × ℤ). is_good_sign (says_of x.0.kind) x.1) (zip rows ms) && list_any (λ (x : GivenRow × ℤ). is_strict (says_of x.0.kind) x.1) (zip rows ms))
     → cancels ≡ list_all (λ r. list_all (λ p. int_eq (total (weighed rows ms) p.1) (pos 0)) r.form) rows
     → (signs && cancels) ≡ is_absurd (weighed rows ms)
 absurd_is rows ms signs cancels e s c =
-    turned signs cancels
+    and_comm signs cancels
     ∙ ap (λ b. b && signs) (c ∙ sym (cancels_rows (total (weighed rows ms)) rows) ∙ ap (λ rs. list_all (λ t. int_eq (total (weighed rows ms) t) (pos 0)) (terms_of_rows rs)) (sym (weighed_rows rows ms e)))
     ∙ ap (λ b. list_all (λ t. int_eq (total (weighed rows ms) t) (pos 0)) (terms_of_rows (map (λ (w : Weighed). w.row) (weighed rows ms))) && b)
     (s ∙ ap (λ b. b && list_any (λ (x : GivenRow × ℤ). is_strict (says_of x.0.kind) x.1) (zip rows ms)) (sym (good_signs (zip rows ms)))
@@ -163,9 +151,6 @@ pub absurd_not : (rows : List GivenRow) (ms : List ℤ) (signs : Bool) → lengt
 absurd_not rows ms signs e s n =
     let cancels = list_all (λ (r : GivenRow). list_all (λ (p : ℤ × Term). int_eq (total (weighed rows ms) p.1) (pos 0)) r.form) rows in
     n ∙ sym (ap (λ b. b && cancels) n) ∙ absurd_is rows ms signs cancels e s refl
-
-pub fits_wide : (z : ℤ) → unsigned_abs z < 2 ^ 127 → SFits w128 z
-fits_wide z h = fits_signed_from_abs w128 z h
 
 pub sum_size : (a b : ℤ) (i : ℕ) → unsigned_abs a ≤ i * 2 ^ 110 → unsigned_abs b ≤ 2 ^ 110 → unsigned_abs (a +ℤ b) ≤ (i + 1) * 2 ^ 110
 sum_size a b i h k = omega (arith, sums, abs_is a, abs_is b, abs_is (a +ℤ b), h, k)

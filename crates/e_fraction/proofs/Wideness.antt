@@ -4,6 +4,8 @@ use Rattle.std.specs.Prelude.{unsigned_abs, sum_by}
 use Rattle.std.proofs.lemmas.List.Sums.{sum_by-cons}
 use Rattle.std.proofs.lemmas.List.Folds.{list_any-append}
 use Rattle.std.proofs.lemmas.Nat.{mul-le}
+use Rattle.std.proofs.lemmas.Bool.{cases_Bool}
+use Rattle.std.proofs.lemmas.List.{length-map}
 use lib.IntN.{ℤ}
 use Rattle.e_literal.specs.declared.object.Term.{Term}
 use Rattle.e_literal.specs.declared.object.Term.TheVariants.{Right}
@@ -14,7 +16,7 @@ use Rattle.e_literal.specs.Width.{has_constant, is_among, new_terms, weight, pro
 use Rattle.e_fraction.specs.Det.{IsPart, EachBelow, IsWide}
 use Rattle.e_fraction.proofs.Named.{numbered, det_named}
 use Rattle.e_fraction.proofs.Width.{column_sum, whole, width_of, wide_width, part_all}
-use Rattle.e_literal.proofs.Terms.{yes_or_no, among_left, among_right, among_first, among_new}
+use Rattle.e_literal.proofs.Terms.{among_left, among_right, among_first, among_new}
 use Rattle.e_fraction.proofs.Products.{new_more, product_more, none_more, among_form}
 use Rattle.e_fraction.proofs.Sums.{coefficient_none}
 use Rattle.e_fraction.proofs.Numbering.{column, number, place_below, term_at_place}
@@ -45,7 +47,7 @@ sum_constants : (ts : List Term) (ss : List SignedRow) → column_sum (numbered 
 sum_constants ts [] = refl
 sum_constants ts (s ∷ ss) = omega (arith, constant_size s.row.says s.down, sum_constants ts ss, sum_by-cons has_one s.row (map row_of ss))
 
-abbrev size_at : Term → Row → ℕ
+abbrev pub size_at : Term → Row → ℕ
 size_at t r = unsigned_abs (coefficient r.form t)
 
 sum_term : (ts : List Term) (c : ℕ) (ss : List SignedRow)
@@ -88,7 +90,7 @@ absent (r ∷ rs) t h =
     not_right true b e = absurd (true≢false e)
     not_right false b e = e
 
-light : (rows : List Row) (t : Term) → is_among (terms_of_rows rows) t ≡ false → weight rows t ≡ 1
+pub light : (rows : List Row) (t : Term) → is_among (terms_of_rows rows) t ≡ false → weight rows t ≡ 1
 light rows t h = ap (max 1) (absent rows t h)
 
 extra : (rows : List Row) (us ts : List Term) → ((t : Term) → is_among ts t ≡ false → weight rows t ≡ 1)
@@ -101,7 +103,7 @@ extra rows (u ∷ us) ts h =
     ∙ last (is_among ts u) refl
   where
     not_before : (t : Term) → is_among (ts ++ u ∷ []) t ≡ false → is_among ts t ≡ false
-    not_before t n = elim (yes_or_no (is_among ts t)) [
+    not_before t n = elim (cases_Bool (is_among ts t)) [
       | inl e ↦ absurd (true≢false (sym (among_left ts (u ∷ []) t e) ∙ n))
       | inr m ↦ m
     ]
@@ -137,10 +139,6 @@ all_named ts [] h = tt
 all_named ts (Constants ∷ cs) h = all_named ts cs h
 all_named ts (Of t ∷ cs) h = (h t (among_first t (terms_of_columns cs)), all_named ts cs (λ u k. h u (among_right (t ∷ []) (terms_of_columns cs) u k)))
 
-length_map : {X Y : Type 0} (f : X → Y) (xs : List X) → length (map f xs) ≡ length xs
-length_map f [] = refl
-length_map f (x ∷ xs) = ap suc (length_map f xs)
-
 length_numbered : {C : Type 0} (name : ℕ → C) (rs : List (C → ℤ)) → length (numbered name rs) ≡ length rs
 length_numbered name [] = refl
 length_numbered name (r ∷ rs) = ap suc (length_numbered name rs)
@@ -166,7 +164,7 @@ numbered_wide rows h =
       are_rows = part_all (numbered (column ts) (map entry h.chosen));
       columns = map (number ts) h.columns;
       are_columns = each_below ts h.columns known;
-      as_many = length_map (number ts) h.columns ∙ h.square ∙ sym (length_map entry h.chosen) ∙ sym (length_numbered (column ts) (map entry h.chosen));
+      as_many = length-map h.columns (number ts) ∙ h.square ∙ sym (length-map h.chosen entry) ∙ sym (length_numbered (column ts) (map entry h.chosen));
       wide = subst (λ z. 2 ^ 63 ≤ unsigned_abs z)
           (sym (det_named (column ts) (map entry h.chosen) (map (number ts) h.columns) ∙ ap (determinant (map entry h.chosen)) (names ts h.columns known))) h.is_large;
     })

@@ -1,5 +1,5 @@
 -- A theorem that is read from a derivation text can be checked.
-use Rattle.std.proofs.Common.{◌≡◌, ℕ, true, List, Result, arith}
+use Rattle.std.proofs.Common.{◌≡◌, ℕ, true, List, Result, sym, ◌∙◌, arith}
 use Rattle.std.specs.List.{list_all}
 use Rattle.e_text.specs.Lines.{Seen}
 use Rattle.e_text.specs.declared.line.LineFault.{LineFault}
@@ -12,11 +12,12 @@ use Rattle.e_book.specs.Headed.{Headed, stated_by}
 use Rattle.e_book.specs.Entry.{Entry}
 use Rattle.e_book.specs.HasSpelling.{HasSpelling}
 use Rattle.e_book.proofs.Fitting.{fitting}
+use Rattle.e_book.proofs.WrittenScripts.{erased_literals, written_well}
 use Rattle.e_verify.specs.Verdicts.{IsVerifiable}
 use Rattle.e_read.specs.Text.{at_start, piece_from, bare}
 use Rattle.e_read.proofs.Bridge.{derives}
 use Rattle.e_read.proofs.GoodReadings.{good_certs_read}
-use Rattle.e_judgement.proofs.WithCertificates.{size_erased, small_with, written_well}
+use Rattle.e_judgement.proofs.WithCertificates.{size_erased, small_with}
 
 pub verifiable : (known : List Headed) (last : ℕ) (lines rest : List (Result Seen LineFault)) (t : Entry) → list_all is_small_statement (stated_by known) ≡ true → is_small_statement (stated t.statement) ≡ true → HasSpelling known (bare t)
     → piece_from known last at_start lines ≡ derives t rest → IsVerifiable (stated_by known) (stated t.statement) t.script
@@ -29,5 +30,5 @@ verifiable known last lines rest t states small spelled e =
       statement = small;
       short = omega (arith, fit.short, size_erased t.script);
       scopes = small_with bs t.script (erased t.script) t.script (scope_of st) (facts_of_statement st) (facts_of_statement st) (goal_of_statement st) (goal_of_statement st) fit.scopes;
-      written = written_well t.script spelled.fits.good_script (good_certs_read known last lines rest t e);
+      written = written_well t.script (sym (erased_literals t.script) ∙ spelled.fits.good_script) (good_certs_read known last lines rest t e);
     }

@@ -1,17 +1,15 @@
 -- A script with certificates and the same one without them: as many lines, the same scopes, the same literals.
-use Rattle.std.proofs.Common.{◌≡◌, ◌+◌, Bool, true, ◌&&◌, List, ◌++◌, refl, sym, ap, ◌∙◌}
+use Rattle.std.proofs.Common.{◌≡◌, ◌+◌, Bool, true, List, ◌++◌, refl, sym, ap, ◌∙◌}
 use Rattle.std.specs.List.{list_all}
-use Rattle.std.specs.Option.{option_map_or}
 use Rattle.std.proofs.lemmas.List.Folds.{list_all-append}
+use Rattle.std.proofs.lemmas.Bool.{and_parts, and_from}
 use Rattle.e_literal.specs.declared.object.Scope.{Scope}
-use Rattle.e_literal.specs.declared.literal.Atom.{Atom}
-use Rattle.e_literal.specs.declared.literal.Atom.TheVariants as atoms
 use Rattle.e_literal.specs.declared.literal.Lit.{Lit}
 use Rattle.e_literal.specs.Literal.{negation}
-use Rattle.e_literal.specs.WellFormed.{is_good_atom, is_well_formed}
 use Rattle.e_literal.specs.Scopes.{grown}
 use Rattle.e_literal.specs.Facts.{joined, joined_all}
 use Rattle.e_literal.specs.Use.{Stated, gives_of_use}
+use Rattle.e_literal.proofs.Booleans.{all_both}
 use Rattle.e_construct.specs.Construct.{made, gives}
 use Rattle.e_construct.specs.Superposing as superposing
 use Rattle.e_deriv.specs.Script.{Script, Cite, Hence, Make, Apply, Claim, Superposed, Qed, Contradiction, Cases, size, erased}
@@ -19,12 +17,6 @@ use Rattle.e_deriv.specs.Parts.{rest_of, inner_of, args_of}
 use Rattle.e_deriv.specs.Goal.{Goal, goal_of}
 use Rattle.e_deriv.specs.Lines.{Line, lines, theorem_at}
 use Rattle.e_deriv.specs.Fitting.{is_small}
-use Rattle.e_book.specs.Fits.{is_diagram_atom, is_diagram_lit, has_good_literals}
-use Rattle.e_book.proofs.Answered.{and, appended}
-use Rattle.e_book.proofs.Differ.{both}
-use Rattle.e_read.proofs.GoodCerts.{has_good_certs}
-use Rattle.e_clause.specs.Written.{is_good_cert}
-use Rattle.e_deriv.specs.Written.{is_written_well}
 
 pub size_erased : (s : Script) → size (erased s) ≡ size s
 unfolding size erased
@@ -44,92 +36,51 @@ abbrev is_small_line : Line → Bool
 is_small_line x = is_small x.scope
 
 parted : (xs ys : List Line) → list_all is_small_line (xs ++ ys) ≡ true → (list_all is_small_line xs ≡ true) × (list_all is_small_line ys ≡ true)
-parted xs ys h = both (list_all is_small_line xs) (list_all is_small_line ys) (sym (list_all-append is_small_line xs ys) ∙ h)
+parted xs ys h = and_parts (list_all is_small_line xs) (list_all is_small_line ys) (sym (list_all-append is_small_line xs ys) ∙ h)
 
 -- the scopes before the lines are the same, whatever the facts, the goals and the arguments are
 pub small_with : (bs : List Stated) (d f g : Script) (s : Scope) (facts more : List Lit) (goal aim : Goal) → list_all is_small_line (lines bs (erased d) f s facts goal) ≡ true → list_all is_small_line (lines bs d g s more aim) ≡ true
 unfolding lines erased
 small_with bs (Cite by rest) f g s facts more goal aim h =
-    let p = both (is_small s) (list_all is_small_line (lines bs (erased rest) (rest_of f) s (joined facts by.lit) goal)) h in
-    and _ _ p.0 (small_with bs rest (rest_of f) (rest_of g) s (joined facts by.lit) (joined more by.lit) goal aim p.1)
+    let p = and_parts (is_small s) (list_all is_small_line (lines bs (erased rest) (rest_of f) s (joined facts by.lit) goal)) h in
+    and_from _ _ p.0 (small_with bs rest (rest_of f) (rest_of g) s (joined facts by.lit) (joined more by.lit) goal aim p.1)
 small_with bs (Hence lit cert rest) f g s facts more goal aim h =
-    let p = both (is_small s) (list_all is_small_line (lines bs (erased rest) (rest_of f) s (joined facts lit) goal)) h in
-    and _ _ p.0 (small_with bs rest (rest_of f) (rest_of g) s (joined facts lit) (joined more lit) goal aim p.1)
+    let p = and_parts (is_small s) (list_all is_small_line (lines bs (erased rest) (rest_of f) s (joined facts lit) goal)) h in
+    and_from _ _ p.0 (small_with bs rest (rest_of f) (rest_of g) s (joined facts lit) (joined more lit) goal aim p.1)
 small_with bs (Make form names certs rest) f g s facts more goal aim h =
     let t = grown s (made form) in
-    let p = both (is_small s) (list_all is_small_line (lines bs (erased rest) (rest_of f) t (joined_all facts (gives form s)) goal)) h in
-    and _ _ p.0 (small_with bs rest (rest_of f) (rest_of g) t (joined_all facts (gives form s)) (joined_all more (gives form s)) goal aim p.1)
+    let p = and_parts (is_small s) (list_all is_small_line (lines bs (erased rest) (rest_of f) t (joined_all facts (gives form s)) goal)) h in
+    and_from _ _ p.0 (small_with bs rest (rest_of f) (rest_of g) t (joined_all facts (gives form s)) (joined_all more (gives form s)) goal aim p.1)
 small_with bs (Apply theorem args names certs rest) f g s facts more goal aim h =
     let u = theorem_at bs theorem in
     let t = grown s u.made in
-    let p = both (is_small s) (list_all is_small_line (lines bs (erased rest) (rest_of f) t (joined_all facts (gives_of_use u (args_of f) s)) goal)) h in
-    and _ _ p.0 (small_with bs rest (rest_of f) (rest_of g) t (joined_all facts (gives_of_use u (args_of f) s)) (joined_all more (gives_of_use u (args_of g) s)) goal aim p.1)
+    let p = and_parts (is_small s) (list_all is_small_line (lines bs (erased rest) (rest_of f) t (joined_all facts (gives_of_use u (args_of f) s)) goal)) h in
+    and_from _ _ p.0 (small_with bs rest (rest_of f) (rest_of g) t (joined_all facts (gives_of_use u (args_of f) s)) (joined_all more (gives_of_use u (args_of g) s)) goal aim p.1)
 small_with bs (Claim shown inner rest) f g s facts more goal aim h =
     let inside = lines bs (erased inner) (inner_of f) s facts (goal_of shown) in
     let behind = lines bs (erased rest) (rest_of f) s (joined_all facts shown) goal in
-    let p = both (is_small s) (list_all is_small_line (inside ++ behind)) h in
+    let p = and_parts (is_small s) (list_all is_small_line (inside ++ behind)) h in
     let q = parted inside behind p.1 in
-    and _ _ p.0
-    (appended is_small_line (lines bs inner (inner_of g) s more (goal_of shown)) _ (small_with bs inner (inner_of f) (inner_of g) s facts more (goal_of shown) (goal_of shown) q.0)
+    and_from _ _ p.0
+    (all_both is_small_line (lines bs inner (inner_of g) s more (goal_of shown)) _ (small_with bs inner (inner_of f) (inner_of g) s facts more (goal_of shown) (goal_of shown) q.0)
     (small_with bs rest (rest_of f) (rest_of g) s (joined_all facts shown) (joined_all more shown) goal aim q.1))
 small_with bs (Superposed form names shown certs inner rest) f g s facts more goal aim h =
     let t = grown s superposing.made in
     let given = superposing.gives form s in
     let inside = lines bs (erased inner) (inner_of f) t (joined_all facts given) (goal_of shown) in
     let behind = lines bs (erased rest) (rest_of f) s (joined_all facts shown) goal in
-    let p = both (is_small s) (list_all is_small_line (inside ++ behind)) h in
+    let p = and_parts (is_small s) (list_all is_small_line (inside ++ behind)) h in
     let q = parted inside behind p.1 in
-    and _ _ p.0
-    (appended is_small_line (lines bs inner (inner_of g) t (joined_all more given) (goal_of shown)) _ (small_with bs inner (inner_of f) (inner_of g) t (joined_all facts given) (joined_all more given) (goal_of shown) (goal_of shown) q.0)
+    and_from _ _ p.0
+    (all_both is_small_line (lines bs inner (inner_of g) t (joined_all more given) (goal_of shown)) _ (small_with bs inner (inner_of f) (inner_of g) t (joined_all facts given) (joined_all more given) (goal_of shown) (goal_of shown) q.0)
     (small_with bs rest (rest_of f) (rest_of g) s (joined_all facts shown) (joined_all more shown) goal aim q.1))
-small_with bs (Qed objects certs) f g s facts more goal aim h = and _ _ (both (is_small s) true h).0 refl
-small_with bs (Contradiction against) f g s facts more goal aim h = and _ _ (both (is_small s) true h).0 refl
+small_with bs (Qed objects certs) f g s facts more goal aim h = and_from _ _ (and_parts (is_small s) true h).0 refl
+small_with bs (Contradiction against) f g s facts more goal aim h = and_from _ _ (and_parts (is_small s) true h).0 refl
 small_with bs (Cases lit first second) f g s facts more goal aim h =
     let one = lines bs (erased first) (inner_of f) s (joined facts lit) goal in
     let two = lines bs (erased second) (rest_of f) s (joined facts (negation lit)) goal in
-    let p = both (is_small s) (list_all is_small_line (one ++ two)) h in
+    let p = and_parts (is_small s) (list_all is_small_line (one ++ two)) h in
     let q = parted one two p.1 in
-    and _ _ p.0
-    (appended is_small_line (lines bs first (inner_of g) s (joined more lit) aim) _ (small_with bs first (inner_of f) (inner_of g) s (joined facts lit) (joined more lit) goal aim q.0)
+    and_from _ _ p.0
+    (all_both is_small_line (lines bs first (inner_of g) s (joined more lit) aim) _ (small_with bs first (inner_of f) (inner_of g) s (joined facts lit) (joined more lit) goal aim q.0)
     (small_with bs second (rest_of f) (rest_of g) s (joined facts (negation lit)) (joined more (negation lit)) goal aim q.1))
-
--- ---- literals
-
-plain_good : (a : Atom) → is_diagram_atom a ≡ true → is_good_atom a ≡ true
-plain_good (atoms.MagEq x y) h = absurd cc
-plain_good (atoms.MagLt x y) h = absurd cc
-plain_good a h = refl
-
-pub written_well : (d : Script) → has_good_literals (erased d) ≡ true → has_good_certs d ≡ true → is_written_well d ≡ true
-unfolding has_good_literals has_good_certs is_written_well erased
-written_well (Cite by rest) h k =
-    let p = both (is_diagram_lit by.lit) (has_good_literals (erased rest)) h in
-    and _ _ (plain_good by.lit.atom p.0) (written_well rest p.1 k)
-written_well (Hence lit cert rest) h k =
-    let p = both (is_well_formed lit) (has_good_literals (erased rest)) h in
-    let q = both (option_map_or is_good_cert cert true) (has_good_certs rest) k in
-    and _ _ p.0 (and _ _ q.0 (written_well rest p.1 q.1))
-written_well (Make form names certs rest) h k =
-    let q = both (list_all is_good_cert certs) (has_good_certs rest) k in
-    and _ _ q.0 (written_well rest h q.1)
-written_well (Apply theorem args names certs rest) h k =
-    let q = both (list_all is_good_cert certs) (has_good_certs rest) k in
-    and _ _ q.0 (written_well rest h q.1)
-written_well (Claim shown inner rest) h k =
-    let p = both (list_all is_well_formed shown) (has_good_literals (erased inner) && has_good_literals (erased rest)) h in
-    let l = both (has_good_literals (erased inner)) (has_good_literals (erased rest)) p.1 in
-    let q = both (has_good_certs inner) (has_good_certs rest) k in
-    and _ _ p.0 (and _ _ (written_well inner l.0 q.0) (written_well rest l.1 q.1))
-written_well (Superposed form names shown certs inner rest) h k =
-    let p = both (list_all is_well_formed shown) (has_good_literals (erased inner) && has_good_literals (erased rest)) h in
-    let l = both (has_good_literals (erased inner)) (has_good_literals (erased rest)) p.1 in
-    let c = both (list_all is_good_cert certs) (has_good_certs inner && has_good_certs rest) k in
-    let q = both (has_good_certs inner) (has_good_certs rest) c.1 in
-    and _ _ p.0 (and _ _ c.0 (and _ _ (written_well inner l.0 q.0) (written_well rest l.1 q.1)))
-written_well (Qed objects certs) h k = k
-written_well (Contradiction against) h k = k
-written_well (Cases lit first second) h k =
-    let p = both (is_well_formed lit) (has_good_literals (erased first) && has_good_literals (erased second)) h in
-    let l = both (has_good_literals (erased first)) (has_good_literals (erased second)) p.1 in
-    let q = both (has_good_certs first) (has_good_certs second) k in
-    and _ _ p.0 (and _ _ (written_well first l.0 q.0) (written_well second l.1 q.1))

@@ -12,8 +12,8 @@ ghost use Rattle.e_judgement.specs.Judged.{is_head, JudgesText, JudgedBehind, Is
 
 use crate::judgement::Judgement;
 use e_book::{Known, Theorem};
-use e_read::{Piece, TextFault, faulty_line, read};
-use e_text::{Line, LineEnd, Lines};
+use e_read::{Piece, TextFault, read};
+use e_text::{Line, LineEnd, Lines, faulty_line};
 use e_verify::{Reject, verify};
 use std::alloc::{AllocError, Global};
 

@@ -1,40 +1,24 @@
 -- Choices for the blanks as lists of numbers.
-use Rattle.std.proofs.Common.{◌≡◌, ℕ, zero, suc, ◌<◌, ◌≤◌, List, [], ◌∷◌, length, map, drop, refl, sym, ap, ◌∙◌, subst, arith, Bool, true, false, ltb, eqb, ◌&&◌, ◌||◌, true≢false, inl, inr, Option, Some, None}
+use Rattle.std.proofs.Common.{◌≡◌, ℕ, zero, suc, ◌<◌, ◌≤◌, List, [], ◌∷◌, length, map, drop, refl, sym, ap, ◌∙◌, subst, arith, Bool, true, false, ltb, eqb, ◌&&◌, ◌||◌, true≢false, inl, inr, Option, Some, None, eqb-true}
 use Rattle.std.specs.Prelude.{min}
 use Rattle.std.specs.List.{list_any}
 use Rattle.std.proofs.lemmas.Grind.{common_steps}
 use Rattle.std.proofs.lemmas.List.{drop_all}
-use Rattle.std.proofs.lemmas.Bool.{ltb-true, lt-ltb, le-ltb, cases_lt}
+use Rattle.std.proofs.lemmas.Bool.{ltb-true, lt-ltb, le-ltb, cases_lt, or_cases}
 use Rattle.e_literal.specs.declared.object.Obj.{Obj}
 use Rattle.e_literal.specs.declared.object.Scope.{Scope}
 use Rattle.e_literal.specs.declared.object.Sort.{Sort}
-use Rattle.e_literal.specs.declared.object.Sort.TheVariants.{Point, Line, Circle}
 use Rattle.e_literal.specs.Literal.{obj, count_of, is_in_scope}
 use Rattle.e_literal.specs.Rename.{same_obj}
 use Rattle.e_literal.specs.Scopes.{same_sort, nothing, with_one, next_objects, are_of_sorts}
-use Rattle.e_literal.proofs.Terms.{and_left, and_right, or_either, eqb_is, eqb_self}
+use Rattle.e_literal.proofs.Sorts.{same_sort_is, same_sort_self, same_obj_is, same_obj_self}
+use Rattle.e_literal.proofs.Growing.{counts_nothing}
+use Rattle.e_literal.proofs.Booleans.{or_not_right, and_left, and_right}
 use Rattle.e_theorem.specs.Choice.{fills, is_below}
 use Rattle.e_theorem.specs.Pattern.{are_entries}
-use Rattle.e_theorem.proofs.Imaging.{same_sort_is, same_sort_self}
 use Rattle.e_transfer.specs.declared.walk.Span.{Span}
 use Rattle.e_transfer.specs.Choice.{Fits, Starts, Below}
 use Rattle.e_licence.specs.Filling.{filled, spans_of}
-
--- ---- objects
-
-same_obj_is : (a b : Obj) → same_obj a b ≡ true → a ≡ b
-same_obj_is a b h =
-    let sorts = same_sort_is a.sort b.sort (and_left (same_sort a.sort b.sort) _ h) in
-    let nums = eqb_is a.num b.num (and_right (same_sort a.sort b.sort) _ h) in
-    ap (λ x. obj x a.num) sorts ∙ ap (λ n. obj b.sort n) nums
-
-same_obj_self : (a : Obj) → same_obj a a ≡ true
-same_obj_self a = ap (λ b. b && eqb a.num a.num) (same_sort_self a.sort) ∙ eqb_self a.num
-
-counts_nothing : (x : Sort) → count_of nothing x ≡ 0
-counts_nothing Point = refl
-counts_nothing Line = refl
-counts_nothing Circle = refl
 
 -- ---- the numbers of a choice give arguments
 
@@ -50,10 +34,6 @@ some_number n rest h = elim (cases_lt 0 n) [
   where
     zero_is : (n : ℕ) → n ≤ 0 → eqb n 0 ≡ true
     zero_is n h = let e : n ≡ 0 = omega (arith, h) in ap (λ k. eqb k 0) e
-
-none_after : (a b : Bool) → (a || b) ≡ false → b ≡ false
-none_after true b h = absurd (true≢false h)
-none_after false b h = h
 
 is_there : (s : Scope) (sort : Sort) (num : ℕ) (rest : Bool) → num < count_of s sort → rest ≡ true → (same_sort sort sort && (is_in_scope s (obj sort num) && rest)) ≡ true
 is_there s sort num rest less h =
@@ -73,13 +53,13 @@ start_is_of_sorts s b (sort ∷ sorts) (Some p ∷ entries) c are starts some =
     ∙ start_is_of_sorts s (with_one b sort) sorts entries c (and_right (is_in_scope s p) _ rest) starts some
 start_is_of_sorts s b (sort ∷ sorts) (None ∷ entries) [] are starts some =
     is_there s sort (count_of nothing sort) _ (omega (arith, counts_nothing sort, some_number (count_of s sort) _ some))
-    (start_is_of_sorts s (with_one b sort) sorts entries [] are (no_start (spans_of s (next_objects (with_one b sort) sorts) entries)) (none_after (eqb (count_of s sort) 0) _ some))
+    (start_is_of_sorts s (with_one b sort) sorts entries [] are (no_start (spans_of s (next_objects (with_one b sort) sorts) entries)) (or_not_right (eqb (count_of s sort) 0) _ some))
   where
     no_start : (spans : List Span) → Starts spans []
     no_start [] = tt
     no_start (n ∷ ns) = tt
 start_is_of_sorts s b (sort ∷ sorts) (None ∷ entries) (v ∷ c) are (from, less, starts) some =
-    is_there s sort v _ less (start_is_of_sorts s (with_one b sort) sorts entries c are starts (none_after (eqb (count_of s sort) 0) _ some))
+    is_there s sort v _ less (start_is_of_sorts s (with_one b sort) sorts entries c are starts (or_not_right (eqb (count_of s sort) 0) _ some))
 
 pub filled_fills : (s m b : Scope) (sorts : List Sort) (entries : List (Option Obj)) (c : List ℕ) → are_entries s sorts entries ≡ true → fills entries (filled m (next_objects b sorts) entries c) ≡ true
 filled_fills s m b [] [] c are = refl
@@ -111,8 +91,8 @@ pub none_fits : (spans : List Span) (c : List ℕ) → has_empty spans ≡ true 
 none_fits [] c h fits = true≢false (sym h)
 none_fits (n ∷ ns) [] h fits = fits
 none_fits (n ∷ ns) (v ∷ c) h (from, less, fits) =
-    elim (or_either (eqb n.to 0) (has_empty ns) h) [
-      | inl none ↦ let e = eqb_is n.to 0 none in omega (arith, e, less)
+    elim (or_cases (eqb n.to 0) (has_empty ns) h) [
+      | inl none ↦ let e = eqb-true n.to 0 none in omega (arith, e, less)
       | inr rest ↦ none_fits ns c rest fits
     ]
 
@@ -166,7 +146,7 @@ after_same n rest h = and_right (eqb n n) rest (sym (ap (λ b. b || (eqb n n && 
 
 none_below_zero : (n z : ℕ) (rest : Bool) → z ≡ 0 → (ltb n z || (eqb n z && rest)) ≡ true → rest ≡ true
 none_below_zero n z rest is h =
-    elim (or_either (ltb n z) (eqb n z && rest) h) [
+    elim (or_cases (ltb n z) (eqb n z && rest) h) [
       | inl less ↦ absurd (let k = ltb-true n z less in omega (arith, k, is))
       | inr both ↦ and_right (eqb n z) rest both
     ]
@@ -185,9 +165,9 @@ below s m b (sort ∷ sorts) (None ∷ entries) [] c fits h = absurd fits
 below s m b (sort ∷ sorts) (None ∷ entries) (v ∷ d) [] (from, less, fits) h =
     absurd (not_below_none d (below s m (with_one b sort) sorts entries d [] fits (none_below_zero v (count_of nothing sort) _ (counts_nothing sort) h)))
 below s m b (sort ∷ sorts) (None ∷ entries) (v ∷ d) (u ∷ c) (from, less, fits) h =
-    elim (or_either (ltb v u) _ h) [
+    elim (or_cases (ltb v u) _ h) [
       | inl smaller ↦ inl (ltb-true v u smaller)
-      | inr both ↦ inr (eqb_is v u (and_left (eqb v u) _ both), below s m (with_one b sort) sorts entries d c fits (and_right (eqb v u) _ both))
+      | inr both ↦ inr (eqb-true v u (and_left (eqb v u) _ both), below s m (with_one b sort) sorts entries d c fits (and_right (eqb v u) _ both))
     ]
 
 -- ---- the loops over the objects and the entries

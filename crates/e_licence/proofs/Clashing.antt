@@ -3,11 +3,11 @@ use Rattle.std.proofs.Common.{◌≡◌, ℕ, zero, suc, ◌+◌, List, [], ◌�
 use Rattle.std.specs.Prelude.{slice_get}
 use Rattle.std.specs.List.{list_any}
 use Rattle.std.proofs.lemmas.List.Folds.{list_any-append}
+use Rattle.std.proofs.lemmas.Bool.{and_from, or_left, or_right}
 use Rattle.e_literal.specs.declared.literal.Lit.{Lit}
 use Rattle.e_literal.specs.Literal.{negation, all_in_scope}
 use Rattle.e_literal.specs.Same.{same_lit}
 use Rattle.e_literal.specs.Facts.{has, is_metric}
-use Rattle.e_literal.proofs.Terms.{both, or_left, or_right}
 use Rattle.e_literal.proofs.Agreeing.{same_lit_self}
 use Rattle.e_clause.specs.declared.cert.Against.TheVariants.{Clash, Metric as MetricAgainst}
 use Rattle.e_clause.specs.declared.cert.MetricCert.{MetricCert}
@@ -59,13 +59,13 @@ none_clashes facts i l h k e =
 
 pub by_clash : (b : Basis) (l : Lit) → are_good_facts b.scope b.facts ≡ true → IsClashing b.facts l → IsCertifiedAgainst b (Clash l)
 by_clash b l g h = record {
-  certifies = both (all_in_scope b.scope l) (clashes_at b.facts l) (all_at (all_in_scope b.scope) b.facts h.place l (in_scope b.scope b.facts g) h.is_there) h.clashes;
+  certifies = and_from (all_in_scope b.scope l) (clashes_at b.facts l) (all_at (all_in_scope b.scope) b.facts h.place l (in_scope b.scope b.facts g) h.is_there) h.clashes;
   written = refl;
 }
 
 pub by_sums : (b : Basis) (m : MetricCert) → are_good_facts b.scope b.facts ≡ true → IsCertified b.facts None m → IsCertifiedAgainst b (MetricAgainst m)
 by_sums b m g h = record {
-  certifies = both (sums_in b.scope m.sums) (metric_contradicts b.facts m) (h.scoped b.scope (in_scope b.scope b.facts g) refl) h.refutes;
+  certifies = and_from (sums_in b.scope m.sums) (metric_contradicts b.facts m) (h.scoped b.scope (in_scope b.scope b.facts g) refl) h.refutes;
   written = h.written;
 }
 

@@ -2,7 +2,7 @@
 use Rattle.std.proofs.Common.{◌≡◌, ℕ, zero, suc, ◌+◌, ◌-◌, ◌<◌, ◌≤◌, List, [], ◌∷◌, ◌++◌, map, length, take, drop, get_or, refl, sym, ap, ◌∙◌, subst, arith, Bool, true, false, cond, not, ltb, eqb, ◌&&◌, ◌||◌, inl, inr, Option, Some, None, append_assoc, append-nil}
 use Rattle.std.specs.Prelude.{IsTrue, Contains, slice_index_or}
 use Rattle.std.specs.Option.{option_map_or}
-use Rattle.std.proofs.lemmas.Bool.{ltb-true}
+use Rattle.std.proofs.lemmas.Bool.{ltb-true, cases_Bool}
 use Rattle.std.proofs.lemmas.List.{take-append-drop, take-append-le, drop_more, drop_all}
 use Rattle.e_literal.specs.declared.object.Obj.{Obj}
 use Rattle.e_literal.specs.declared.object.Scope.{Scope}
@@ -13,14 +13,15 @@ use Rattle.e_literal.specs.Literal.{obj, count_of, all_in_scope}
 use Rattle.e_literal.specs.WellFormed.{is_well_formed}
 use Rattle.e_literal.specs.Rename.{same_obj, image_in, paired, renamed}
 use Rattle.e_literal.specs.Scopes.{same_sort, nothing, with_one, next_objects}
-use Rattle.e_literal.proofs.Terms.{and_left, and_right, yes_or_no}
 use Rattle.e_clause.specs.Allowed.{Allowed, AllAllowed}
 use Rattle.e_clause.specs.Judged.{is_good, are_good}
-use Rattle.e_theorem.proofs.Imaging.{same_sort_is}
-use Rattle.e_theorem.proofs.Renaming.{is_moved_in, same_renamed, renamed_scope}
+use Rattle.e_theorem.proofs.Renaming.{same_renamed}
 use Rattle.e_transfer.specs.Choice.{EachKept}
 use Rattle.e_transfer.specs.Outcome.{VerdictIs}
 use Rattle.e_literal.specs.declared.values.Values.{Values}
+use Rattle.e_literal.proofs.Renamed.{is_moved_in, renamed_scope}
+use Rattle.e_literal.proofs.Sorts.{same_sort_is}
+use Rattle.e_literal.proofs.Booleans.{and_left, and_right}
 use Rattle.e_clause.specs.declared.cert.Cert.{Cert}
 use Rattle.e_clause.proofs.Sound.{allowed_of_certified}
 use Rattle.e_transfer.specs.declared.walk.Verdict.{Verdict}
@@ -100,7 +101,7 @@ known_next b now before first (l ∷ ls) stay (old, olds) (here, rest) = (one, k
 
     one : is_good b.scope (at now l) ≡ true → Allowed b.scope b.facts (at now l)
     one good =
-        elim (yes_or_no (is_good b.scope (at before l))) [
+        elim (cases_Bool (is_good b.scope (at before l))) [
           | inl was ↦ subst (λ x. Allowed b.scope b.facts x) (stay l was) (old was)
           | inr new ↦ here (ap (λ x. x && (first || not (is_good b.scope (at before l)))) good ∙ ap (λ x. first || not x) new ∙ or_true first)
         ]

@@ -1,12 +1,13 @@
 -- What is answered on a metric literal that is no fact.
 use Rattle.std.proofs.Common.{◌≡◌, ℕ, List, [], ◌∷◌, refl, sym, subst, ◌∙◌, Bool, true, false, true≢false, Some, ◌⊎◌, inl, inr}
 use Rattle.std.specs.Prelude.{map, MatchBool, IsTrue}
+use Rattle.std.proofs.lemmas.Bool.{and_from}
 use Rattle.e_literal.specs.declared.object.Scope.{Scope}
 use Rattle.e_literal.specs.declared.literal.Lit.{Lit}
 use Rattle.e_literal.specs.Literal.{negation, all_in_scope}
 use Rattle.e_literal.specs.Facts.{has, has_all, others, is_metric}
 use Rattle.e_literal.specs.WellFormed.{is_well_formed}
-use Rattle.e_literal.proofs.Terms.{and_left, and_right, both}
+use Rattle.e_literal.proofs.Booleans.{and_left, and_right}
 use Rattle.e_clause.specs.declared.cert.MetricCert.{MetricCert}
 use Rattle.e_clause.specs.declared.cert.Part.TheVariants.{Metric}
 use Rattle.e_clause.specs.declared.cert.Cert.TheVariants.{Plain}
@@ -28,9 +29,9 @@ use Rattle.e_licence.proofs.Judging.{in_scope}
 pub by_sums : (s : Scope) (facts : List Lit) (l : Lit) (m : MetricCert) → are_good_facts s facts ≡ true → is_good s l ≡ true → has facts l ≡ false → is_metric l ≡ true
     → IsCertified facts (Some l) m → IsCertifiedBy (record { scope = s; facts = facts }) l (Plain (Metric m))
 by_sums s facts l m g k n e h = record {
-  certifies = both (sums_in s m.sums) (metric_certifies facts l m)
+  certifies = and_from (sums_in s m.sums) (metric_certifies facts l m)
       (h.scoped s (in_scope s facts g) (and_left (all_in_scope s l) (is_well_formed l) k))
-      (both (is_metric l) (sums_refute facts (Some l) m.sums) e h.refutes);
+      (and_from (is_metric l) (sums_refute facts (Some l) m.sums) e h.refutes);
   as_fact = λ f. absurd (true≢false (sym f ∙ n));
   written = h.written;
 }

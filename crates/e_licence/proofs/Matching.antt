@@ -1,12 +1,13 @@
 -- What a search says of the choices for the blanks.
-use Rattle.std.proofs.Common.{◌≡◌, ℕ, List, [], map, sym, ap, ◌∙◌, subst, Bool, true, false, ◌&&◌, inl, inr, Option, append-nil}
+use Rattle.std.proofs.Common.{◌≡◌, ℕ, List, [], map, sym, ap, ◌∙◌, subst, true, false, inl, inr, Option, append-nil}
 use Rattle.std.specs.Prelude.{Contains}
+use Rattle.std.proofs.lemmas.Bool.{and_from, cases_Bool}
 use Rattle.e_literal.specs.declared.object.Obj.{Obj}
 use Rattle.e_literal.specs.declared.literal.Lit.{Lit}
 use Rattle.e_literal.specs.Rename.{paired}
 use Rattle.e_literal.specs.Scopes.{nothing, next_objects}
 use Rattle.e_literal.specs.Use.{Stated, are_arguments, needs_of_use, is_statement}
-use Rattle.e_literal.proofs.Terms.{and_left, and_right, yes_or_no}
+use Rattle.e_literal.proofs.Booleans.{and_left, and_right}
 use Rattle.e_clause.specs.Allowed.{AllAllowed}
 use Rattle.e_clause.specs.Judged.{are_good}
 use Rattle.e_clause.specs.Wide.{IsTooWideLit}
@@ -46,9 +47,6 @@ pub record IsAsked (b : Basis) (t : Stated) (pattern : List (Option Obj)) : Type
   pub states : is_statement t ≡ true
   pub fits : is_pattern t b.scope pattern ≡ true
 
-both : (x y : Bool) → x ≡ true → y ≡ true → (x && y) ≡ true
-both x y h k = ap (λ b. b && y) h ∙ k
-
 -- ---- a good choice is wanted
 
 good_fits : (b : Basis) (t : Stated) (pattern : List (Option Obj)) (args : List Obj) → IsGood t b.scope b.facts pattern args → Fits (spans b t pattern) (chosen pattern args)
@@ -77,7 +75,7 @@ none_where_empty b t pattern empty args good = none_fits (spans b t pattern) (ch
 none_below : (b : Basis) (t : Stated) (pattern : List (Option Obj)) (c : List ℕ) (other : List Obj) → is_statement t ≡ true → NoneBelow (Wanted b t pattern) [] (spans b t pattern) c
     → IsGood t b.scope b.facts pattern other → is_below other (filled nothing (objects t) pattern c) ≡ false
 none_below b t pattern c other states none good =
-    elim (yes_or_no (is_below other (filled nothing (objects t) pattern c))) [
+    elim (cases_Bool (is_below other (filled nothing (objects t) pattern c))) [
       | inl is ↦
           absurd (none (chosen pattern other) (good_fits b t pattern other good)
           (below b.scope b.scope nothing t.declared pattern (chosen pattern other) c (good_fits b t pattern other good)
@@ -95,7 +93,7 @@ start_fits b t pattern c asked some starts = start_is_of_sorts b.scope nothing t
 start_choice : (b : Basis) (t : Stated) (pattern : List (Option Obj)) (c : List ℕ) → IsAsked b t pattern → has_empty (spans b t pattern) ≡ false → Starts (spans b t pattern) c
     → is_choice t b.scope pattern (filled nothing (objects t) pattern c) ≡ true
 start_choice b t pattern c asked some starts =
-    both (fills pattern (filled nothing (objects t) pattern c)) _ (filled_fills b.scope nothing nothing t.declared pattern c asked.fits) (start_fits b t pattern c asked some starts)
+    and_from (fills pattern (filled nothing (objects t) pattern c)) _ (filled_fills b.scope nothing nothing t.declared pattern c asked.fits) (start_fits b t pattern c asked some starts)
 
 kept_allowed : (b : Basis) (t : Stated) (pattern : List (Option Obj)) (c : List ℕ) (args : List Obj) → is_statement t ≡ true → filled b.scope (objects t) pattern c ≡ args
     → are_arguments t b.scope args ≡ true → EachKept (Kept b t pattern) [] c → AllAllowed b.scope b.facts (needs_of_use t args b.scope)

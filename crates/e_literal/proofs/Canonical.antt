@@ -1,11 +1,13 @@
 -- What a term shares with its canonical form, and so with each that is one term with it.
-use Rattle.std.proofs.Common.{◌≡◌, ◌≢◌, ℕ, ◌≤◌, refl, sym, ap, ◌∙◌, arith, Bool, true, false, ◌||◌, ◌==◌, eqb, eq-eqb, true≢false, inl, inr, min, max}
+use Rattle.std.proofs.Common.{◌≡◌, ◌≢◌, ℕ, ◌≤◌, refl, sym, ap, ◌∙◌, arith, Bool, true, false, ◌||◌, ◌==◌, eqb, eq-eqb, true≢false, inl, inr, min, max, eqb-true}
+use Rattle.std.proofs.lemmas.Bool.{or_left, or_right, or_cases, cases_Bool}
 use Rattle.e_literal.specs.declared.object.Term.{Term}
 use Rattle.e_literal.specs.declared.object.Term.TheVariants.{Seg, Ang, Area, Right}
 use Rattle.e_literal.specs.Literal.{kind_of_term}
 use Rattle.e_literal.specs.Same.{canonical, one_term}
 use Rattle.e_literal.specs.Rows.{is_degenerate}
-use Rattle.e_literal.proofs.Terms.{eqb_is, or_either, or_left, or_right, yes_or_no, term_eq_is, equal_terms}
+use Rattle.e_literal.proofs.Terms.{term_eq_is, equal_terms}
+use Rattle.e_literal.proofs.Booleans.{same_bool}
 
 pub kind_canonical : (t : Term) → kind_of_term (canonical t) ≡ kind_of_term t
 kind_canonical (Seg a b) = refl
@@ -13,21 +15,16 @@ kind_canonical (Ang a b c) = refl
 kind_canonical (Area a b c) = refl
 kind_canonical Right = refl
 
-pub same_bool : (a b : Bool) → (a ≡ true → b ≡ true) → (b ≡ true → a ≡ true) → a ≡ b
-same_bool true b h g = sym (h refl)
-same_bool false true h g = g refl
-same_bool false false h g = refl
-
 -- two of three numbers are equal
 abbrev two_equal : ℕ → ℕ → ℕ → Bool
 two_equal a b c = a == b || (b == c || a == c)
 
 two_equal_of : (a b c : ℕ) → (a ≢ b → b ≢ c → a ≢ c → ⊥) → two_equal a b c ≡ true
-two_equal_of a b c h = elim (yes_or_no (eqb a b)) [
+two_equal_of a b c h = elim (cases_Bool (eqb a b)) [
   | inl x ↦ or_left (eqb a b) (eqb b c || eqb a c) x
-  | inr x ↦ or_right (eqb a b) (eqb b c || eqb a c) (elim (yes_or_no (eqb b c)) [
+  | inr x ↦ or_right (eqb a b) (eqb b c || eqb a c) (elim (cases_Bool (eqb b c)) [
     | inl y ↦ or_left (eqb b c) (eqb a c) y
-    | inr y ↦ or_right (eqb b c) (eqb a c) (elim (yes_or_no (eqb a c)) [
+    | inr y ↦ or_right (eqb b c) (eqb a c) (elim (cases_Bool (eqb a c)) [
       | inl z ↦ z
       | inr z ↦ absurd (h (apart a b x) (apart b c y) (apart a c z))
     ])
@@ -38,19 +35,19 @@ two_equal_of a b c h = elim (yes_or_no (eqb a b)) [
     apart m n f e = true≢false (sym (eq-eqb m n e) ∙ f)
 
 two_equal_is : (a b c : ℕ) → two_equal a b c ≡ true → a ≢ b → b ≢ c → a ≢ c → ⊥
-two_equal_is a b c h x y z = elim (or_either (eqb a b) (eqb b c || eqb a c) h) [
-  | inl e ↦ x (eqb_is a b e)
-  | inr k ↦ elim (or_either (eqb b c) (eqb a c) k) [
-    | inl e ↦ y (eqb_is b c e)
-    | inr e ↦ z (eqb_is a c e)
+two_equal_is a b c h x y z = elim (or_cases (eqb a b) (eqb b c || eqb a c) h) [
+  | inl e ↦ x (eqb-true a b e)
+  | inr k ↦ elim (or_cases (eqb b c) (eqb a c) k) [
+    | inl e ↦ y (eqb-true b c e)
+    | inr e ↦ z (eqb-true a c e)
   ]
 ]
 
 pub degenerate_canonical : (t : Term) → is_degenerate (canonical t) ≡ is_degenerate t
 degenerate_canonical (Seg a b) =
     same_bool (eqb (min a b) (max a b)) (eqb a b)
-    (λ h. eq-eqb a b (omega (arith, eqb_is (min a b) (max a b) h)))
-    (λ h. eq-eqb (min a b) (max a b) (omega (arith, eqb_is a b h)))
+    (λ h. eq-eqb a b (omega (arith, eqb-true (min a b) (max a b) h)))
+    (λ h. eq-eqb (min a b) (max a b) (omega (arith, eqb-true a b h)))
 degenerate_canonical (Ang a b c) = refl
 degenerate_canonical (Area a b c) =
     let least = min (min a b) c in

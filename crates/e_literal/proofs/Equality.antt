@@ -20,16 +20,11 @@ use Rattle.e_literal.specs.contracts.normals.NormalPartialEq.TheImpl.{eq-value a
 use Rattle.e_literal.specs.Same.{term_eq, same_lit}
 use Rattle.e_literal.specs.NormalForm.{NormalAtom, Diagram, Equation, Inequality, normal_form}
 use Rattle.e_literal.specs.Normal.{atom_of, form_of}
-use Rattle.e_literal.proofs.Terms.{and_left, and_right, term_eq_is}
+use Rattle.e_literal.proofs.Terms.{term_eq_is, term_eq_same}
 use Rattle.e_literal.proofs.NormalLiterals.{two_are, three_are, two_itself, three_itself, normals_are_same}
+use Rattle.e_literal.proofs.Booleans.{and_left, and_right}
 
 -- ---- terms
-
-term_itself : (t : Term) → term_eq t t ≡ true
-term_itself (Seg a b) = two_itself a b
-term_itself (Ang a b c) = three_itself a b c
-term_itself (Area a b c) = three_itself a b c
-term_itself Right = refl
 
 term_test_is : (s t : Term) → term_test.it s t ≡ term_eq s t
 term_test_is (Seg a b) (Seg c d) = refl
@@ -41,7 +36,7 @@ term_test_is s t = refl
 term_decides : (s t : Term) → Decides (term_test.it s t) (s ≡ t)
 term_decides s t = (
   λ h. term_eq_is s t (sym (term_test_is s t) ∙ h),
-  λ e. term_test_is s t ∙ ap (term_eq s) (sym e) ∙ term_itself s,
+  λ e. term_test_is s t ∙ ap (term_eq s) (sym e) ∙ term_eq_same s,
 )
 
 forms_decide : (m n : BTreeMap Term ℤ) → Decides (pointwise (λ p q. term_test.it p.0 q.0 && int_eq p.1 q.1) m.entries n.entries) (m.entries ≡ n.entries)

@@ -1,10 +1,12 @@
 -- How far a scope grows.
-use Rattle.std.proofs.Common.{◌≡◌, ℕ, ◌+◌, ◌≤◌, List, [], ◌∷◌, length, arith}
+use Rattle.std.proofs.Common.{◌≡◌, ℕ, ◌+◌, ◌≤◌, List, [], ◌∷◌, ◌++◌, length, map, refl, ap, arith}
 use Rattle.std.proofs.lemmas.Grind.{common_steps}
 use Rattle.e_literal.specs.declared.object.Scope.{Scope}
 use Rattle.e_literal.specs.declared.object.Sort.{Sort}
 use Rattle.e_literal.specs.declared.object.Sort.TheVariants.{Point, Line, Circle}
-use Rattle.e_literal.specs.Scopes.{with_one, grown}
+use Rattle.e_literal.specs.declared.object.Obj.{Obj}
+use Rattle.e_literal.specs.Literal.{count_of}
+use Rattle.e_literal.specs.Scopes.{nothing, with_one, grown, next_objects}
 
 -- ---- by one object
 
@@ -30,7 +32,7 @@ pub ruleset growing = (common_steps, points_grow, lines_grow, circles_grow)
 abbrev pub total : Scope → ℕ
 total s = s.points + s.lines + s.circles
 
-total_grows : (s : Scope) (sort : Sort) → total (with_one s sort) ≡ total s + 1
+pub total_grows : (s : Scope) (sort : Sort) → total (with_one s sort) ≡ total s + 1
 total_grows s Point = omega arith
 total_grows s Line = omega arith
 total_grows s Circle = omega arith
@@ -63,3 +65,23 @@ grown_bounds s [] = record { points = omega arith; lines = omega arith; circles 
 grown_bounds s (sort ∷ sorts) =
     let more : length (sort ∷ sorts) ≡ length sorts + 1 = omega arith in
     bounds_then s (with_one s sort) (grown (with_one s sort) sorts) (length sorts) (length (sort ∷ sorts)) more (with_one_bounds s sort) (grown_bounds (with_one s sort) sorts)
+
+-- ---- counts and sorts
+
+pub counts_nothing : (x : Sort) → count_of nothing x ≡ 0
+counts_nothing Point = refl
+counts_nothing Line = refl
+counts_nothing Circle = refl
+
+pub count_one : (s : Scope) (sort : Sort) → count_of (with_one s sort) sort ≡ count_of s sort + 1
+count_one s Point = refl
+count_one s Line = refl
+count_one s Circle = refl
+
+pub grown-append : (s : Scope) (xs ys : List Sort) → grown s (xs ++ ys) ≡ grown (grown s xs) ys
+grown-append s [] ys = refl
+grown-append s (x ∷ xs) ys = grown-append (with_one s x) xs ys
+
+pub sorts_next : (s : Scope) (sorts : List Sort) → map (λ (o : Obj). o.sort) (next_objects s sorts) ≡ sorts
+sorts_next s [] = refl
+sorts_next s (sort ∷ sorts) = ap (λ xs. sort ∷ xs) (sorts_next (with_one s sort) sorts)

@@ -1,6 +1,6 @@
 -- Normal forms are equal exactly where the literals are the same.
-use Rattle.std.proofs.Common.{◌≡◌, ℕ, zero, suc, ◌+◌, ◌≤◌, ◌↔◌, List, [], ◌∷◌, ◌++◌, refl, sym, ap, subst, ◌∙◌, arith, Bool, true, false, cond, Option, Some, None, ◌&&◌, ◌||◌, IsTrue, true≢false, T}
-use Rattle.std.specs.Prelude.{ℤ, pos, ◌-ℤ◌, unwrap_or, min, max, ◌==◌}
+use Rattle.std.proofs.Common.{◌≡◌, ℕ, zero, suc, ◌+◌, ◌↔◌, List, [], ◌∷◌, ◌++◌, refl, sym, ap, subst, ◌∙◌, arith, Bool, true, false, cond, Option, Some, None, ◌&&◌, ◌||◌, IsTrue, true≢false, T}
+use Rattle.std.specs.Prelude.{ℤ, pos, ◌-ℤ◌, unwrap_or, ◌==◌}
 use Rattle.std.specs.List.{fold, list_any}
 use Rattle.std.proofs.lemmas.Int.{ints}
 use Rattle.std.proofs.lemmas.Bool.Decides.{Decides-int_eq}
@@ -13,6 +13,8 @@ use Rattle.std.specs.Cmp.Lexicographic.{slice_cmp, nat_list_cmp_total, lists_tot
 use Rattle.std.specs.FinMap.{put, find, is_sorted, slice_cmp-IsAntisymmetric, nat_cmp-IsAntisymmetric, int_cmp-IsAntisymmetric}
 use Rattle.std.specs.FinMap.Entries.{find-put, is_sorted-put, same_entries}
 use Rattle.std.proofs.lemmas.Map.Lookups.{exact_pairs}
+use Rattle.std.proofs.lemmas.Bool.{or_left, or_right}
+use mathlib.Core.Bool.{or-true, or-false, or_assoc}
 use Rattle.e_literal.specs.declared.object.Term.{Term}
 use Rattle.e_literal.specs.declared.object.Term.TheVariants.{Seg, Ang, Area, Right}
 use Rattle.e_literal.specs.declared.object.Mono.{Mono}
@@ -20,6 +22,8 @@ use Rattle.e_literal.specs.Same.{canonical, term_eq, one_term, coeff_of, agree, 
 use Rattle.e_literal.specs.NormalForm.{numbers_of, term_cmp, Coefficients, difference, put_unless_zero, put_term, normal_sum, form_cmp, normal_up_to_sign}
 use Rattle.e_literal.proofs.Terms.{term_eq_is}
 use Rattle.e_literal.proofs.Agreeing.{coeff_same, equal_of_agree, agree_of_equal}
+use Rattle.e_literal.proofs.Booleans.{or_not_left, or_not_right}
+use Rattle.e_literal.proofs.Canonical.{canonical_twice}
 
 -- ---- terms in their order
 
@@ -53,43 +57,6 @@ tied_is s t h = term_cmp_exact s t ((Equal-is (term_cmp s t)).0 h)
 is_tied : (s t : Term) → s ≡ t → ties s t ≡ true
 is_tied s t e = ap (ties s) (sym e) ∙ ap is_eq (tied_itself term_cmp_total s)
 
--- ---- terms in their normal order
-
-min_is : (a b : ℕ) → a ≤ b → min a b ≡ a
-min_is a b h = omega arith
-
-max_is : (a b : ℕ) → a ≤ b → max a b ≡ b
-max_is a b h = omega arith
-
-mid_is : (a b c : ℕ) → a ≤ b → b ≤ c → max (min a b) (min (max a b) c) ≡ b
-mid_is a b c h k = omega arith
-
-least_is : (a b c : ℕ) → a ≤ b → b ≤ c → min (min a b) c ≡ a
-least_is a b c h k = omega arith
-
-most_is : (a b c : ℕ) → a ≤ b → b ≤ c → max (max a b) c ≡ c
-most_is a b c h k = omega arith
-
-pub canonical_twice : (t : Term) → canonical (canonical t) ≡ canonical t
-canonical_twice (Seg a b) =
-    let h : min a b ≤ max a b = omega arith in
-    let p = min_is (min a b) (max a b) h in
-    let q = max_is (min a b) (max a b) h in cc
-canonical_twice (Ang a b c) =
-    let h : min a c ≤ max a c = omega arith in
-    let p = min_is (min a c) (max a c) h in
-    let q = max_is (min a c) (max a c) h in cc
-canonical_twice (Area a b c) =
-    let x = min (min a b) c in
-    let y = max (min a b) (min (max a b) c) in
-    let z = max (max a b) c in
-    let h : x ≤ y = omega arith in
-    let k : y ≤ z = omega arith in
-    let p = least_is x y z h k in
-    let q = mid_is x y z h k in
-    let r = most_is x y z h k in cc
-canonical_twice Right = refl
-
 -- ---- what is found in a normal form
 
 abbrev some_unless_zero : ℤ → Option ℤ
@@ -104,29 +71,17 @@ find-put_unless_zero : (form : Coefficients) (q k : Term) (v : ℤ) (z : Bool) �
 find-put_unless_zero form q k v true = refl
 find-put_unless_zero form q k v false = find-put term_cmp term_cmp_total q k v form
 
-or_false : (b : Bool) → (b || false) ≡ b
-or_false true = refl
-or_false false = refl
-
-or_true : (b : Bool) → (b || true) ≡ true
-or_true true = refl
-or_true false = refl
-
-or_next : (b c d : Bool) → ((b || c) || d) ≡ (b || (c || d))
-or_next true c d = refl
-or_next false c d = refl
-
 -- one more term, which is q or not
 found_once : (b c z : Bool) (v : ℤ) (o s : Option ℤ) → o ≡ cond b s None → (c ≡ true → s ≡ cond z None (Some v)) →
     cond z o (cond c (Some v) o) ≡ cond (b || c) s None
-found_once b true true v o s e h = e ∙ by b ∙ ap (λ d. cond d s None) (sym (or_true b))
+found_once b true true v o s e h = e ∙ by b ∙ ap (λ d. cond d s None) (sym (or-true b))
   where
     by : (d : Bool) → cond d s None ≡ s
     by true = refl
     by false = sym (h refl)
-found_once b true false v o s e h = sym (h refl) ∙ ap (λ d. cond d s None) (sym (or_true b))
-found_once b false true v o s e h = e ∙ ap (λ d. cond d s None) (sym (or_false b))
-found_once b false false v o s e h = e ∙ ap (λ d. cond d s None) (sym (or_false b))
+found_once b true false v o s e h = sym (h refl) ∙ ap (λ d. cond d s None) (sym (or-true b))
+found_once b false true v o s e h = e ∙ ap (λ d. cond d s None) (sym (or-false b))
+found_once b false false v o s e h = e ∙ ap (λ d. cond d s None) (sym (or-false b))
 
 difference_same : (x y : List Mono) (s t : Term) → canonical s ≡ canonical t → difference x y s ≡ difference x y t
 difference_same x y s t e = ap (λ n. pos n -ℤ pos (coeff_of y s)) (coeff_same x s t e) ∙ ap (λ n. pos (coeff_of x t) -ℤ pos n) (coeff_same y s t e)
@@ -139,13 +94,13 @@ found_at_term x y q m h =
 find-fold : (x y : List Mono) (q : Term) (ms : List Mono) (form : Coefficients) (b : Bool) →
     find term_cmp q form ≡ cond b (some_unless_zero (difference x y q)) None →
     find term_cmp q (fold (put_term x y) form ms) ≡ cond (b || among q ms) (some_unless_zero (difference x y q)) None
-find-fold x y q [] form b e = e ∙ ap (λ d. cond d (some_unless_zero (difference x y q)) None) (sym (or_false b))
+find-fold x y q [] form b e = e ∙ ap (λ d. cond d (some_unless_zero (difference x y q)) None) (sym (or-false b))
 find-fold x y q (m ∷ ms) form b e =
     let c = ties q (canonical m.term) in
     let here : find term_cmp q (put_term x y form m) ≡ cond (b || c) (some_unless_zero (difference x y q)) None =
     find-put_unless_zero form q (canonical m.term) (difference x y m.term) (int_eq (difference x y m.term) (pos 0))
     ∙ found_once b c (int_eq (difference x y m.term) (pos 0)) (difference x y m.term) (find term_cmp q form) (some_unless_zero (difference x y q)) e (found_at_term x y q m) in
-    find-fold x y q ms (put_term x y form m) (b || c) here ∙ ap (λ d. cond d (some_unless_zero (difference x y q)) None) (or_next b c (among q ms))
+    find-fold x y q ms (put_term x y form m) (b || c) here ∙ ap (λ d. cond d (some_unless_zero (difference x y q)) None) (or_assoc b c (among q ms))
 
 among_once : (q t : Term) (b c : Bool) → ties q (canonical t) ≡ b → (b || c) ≡ true → (c ≡ true → canonical q ≡ q) → canonical q ≡ q
 among_once q t true c e k later = let is = tied_is q (canonical t) e in ap canonical is ∙ canonical_twice t ∙ sym is
@@ -167,20 +122,12 @@ absent q (m ∷ ms) n h = absent_once q m.term (ties q (canonical m.term)) (amon
 
 among-append : (q : Term) (ms ns : List Mono) → among q (ms ++ ns) ≡ (among q ms || among q ns)
 among-append q [] ns = refl
-among-append q (m ∷ ms) ns = ap (λ b. ties q (canonical m.term) || b) (among-append q ms ns) ∙ sym (or_next (ties q (canonical m.term)) (among q ms) (among q ns))
-
-or_left : (b c : Bool) → (b || c) ≡ false → b ≡ false
-or_left true c h = absurd (true≢false h)
-or_left false c h = refl
-
-or_right : (b c : Bool) → (b || c) ≡ false → c ≡ false
-or_right true c h = absurd (true≢false h)
-or_right false c h = h
+among-append q (m ∷ ms) ns = ap (λ b. ties q (canonical m.term) || b) (among-append q ms ns) ∙ sym (or_assoc (ties q (canonical m.term)) (among q ms) (among q ns))
 
 difference_none : (x y : List Mono) (q : Term) → canonical q ≡ q → among q (x ++ y) ≡ false → difference x y q ≡ pos 0
 difference_none x y q n h =
     let k : (among q x || among q y) ≡ false = sym (among-append q x y) ∙ h in
-    ap (λ a. pos a -ℤ pos (coeff_of y q)) (absent q x n (or_left (among q x) (among q y) k)) ∙ ap (λ a. pos 0 -ℤ pos a) (absent q y n (or_right (among q x) (among q y) k))
+    ap (λ a. pos a -ℤ pos (coeff_of y q)) (absent q x n (or_not_left (among q x) (among q y) k)) ∙ ap (λ a. pos 0 -ℤ pos a) (absent q y n (or_not_right (among q x) (among q y) k))
 
 -- the coefficient of each term in its normal order, but for 0
 pub find-normal_sum : (x y : List Mono) (q : Term) → find term_cmp q (normal_sum x y) ≡ cond (ties (canonical q) q) (some_unless_zero (difference x y q)) None
@@ -256,20 +203,12 @@ lesser_turned x y = by (form_cmp x y) refl
 turned_sides : (x y z w : List Mono) → EqualNormal y x w z → EqualNormal x y z w
 turned_sides x y z w h t = let e = h t in omega arith
 
-or_one : (b c : Bool) → b ≡ true → (b || c) ≡ true
-or_one true c h = refl
-or_one false c h = absurd (true≢false (sym h))
-
-or_two : (b c : Bool) → c ≡ true → (b || c) ≡ true
-or_two true c h = refl
-or_two false c h = h
-
 -- of two lists with equal lesser ones, some two are equal
 some_equal : (b c : Bool) (x y z w : List Mono) → cond b (normal_sum y x) (normal_sum x y) ≡ cond c (normal_sum w z) (normal_sum z w) → (agree x y z w || agree x y w z) ≡ true
-some_equal false false x y z w e = or_one (agree x y z w) (agree x y w z) (agree_of_equal x y z w (equal_of_form x y z w e))
-some_equal true true x y z w e = or_one (agree x y z w) (agree x y w z) (agree_of_equal x y z w (turned_sides x y z w (equal_of_form y x w z e)))
-some_equal false true x y z w e = or_two (agree x y z w) (agree x y w z) (agree_of_equal x y w z (equal_of_form x y w z e))
-some_equal true false x y z w e = or_two (agree x y z w) (agree x y w z) (agree_of_equal x y w z (turned_sides x y w z (equal_of_form y x z w e)))
+some_equal false false x y z w e = or_left (agree x y z w) (agree x y w z) (agree_of_equal x y z w (equal_of_form x y z w e))
+some_equal true true x y z w e = or_left (agree x y z w) (agree x y w z) (agree_of_equal x y z w (turned_sides x y z w (equal_of_form y x w z e)))
+some_equal false true x y z w e = or_right (agree x y z w) (agree x y w z) (agree_of_equal x y w z (equal_of_form x y w z e))
+some_equal true false x y z w e = or_right (agree x y z w) (agree x y w z) (agree_of_equal x y w z (turned_sides x y w z (equal_of_form y x z w e)))
 
 pub agree_up_to_sign : (x y z w : List Mono) → normal_up_to_sign x y ≡ normal_up_to_sign z w → (agree x y z w || agree x y w z) ≡ true
 agree_up_to_sign x y z w e = some_equal _ _ x y z w e

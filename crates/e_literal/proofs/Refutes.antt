@@ -3,6 +3,7 @@ use Rattle.std.proofs.Common.{◌≡◌, ℕ, zero, suc, List, [], ◌∷◌, �
 use Rattle.std.specs.List.{list_any, list_all}
 use Rattle.std.specs.Ordering.{int_eq}
 use Rattle.std.proofs.lemmas.Bool.Decides.{Decides-int_eq}
+use Rattle.std.proofs.lemmas.Bool.{or_cases, cases_Bool}
 use lib.IntN.{ℤ, pos, negsuc, ◌+ℤ◌, ◌*ℤ◌, *ℤ-zero, zero-*ℤ}
 use lib.Signed.{◌<ℤ◌, ◌≤ℤ◌}
 use Rattle.e_literal.specs.declared.object.Term.{Term}
@@ -11,8 +12,9 @@ use Rattle.e_literal.specs.Rows.{Says, Zero, AtLeast, More, Not, Summands, coeff
 use Rattle.e_literal.specs.Width.{is_among, new_terms}
 use Rattle.e_literal.specs.Absurd.{Weighed, total, is_good_sign, is_strict, is_absurd}
 use Rattle.e_literal.specs.Solution.{form_value, IsSo, Satisfy}
-use Rattle.e_literal.proofs.Arith.{sums, add_mul, mul_add, mul_assoc, mul-not_negative}
-use Rattle.e_literal.proofs.Terms.{term_eq_is, and_left, and_right, or_either, yes_or_no, among_right, among_first, among_rest}
+use Rattle.e_literal.proofs.Arith.{sums, add_mul, mul_add, mul_assoc, mul-not_negative, mul-positive}
+use Rattle.e_literal.proofs.Terms.{term_eq_is, among_right, among_first, among_rest}
+use Rattle.e_literal.proofs.Booleans.{and_left, and_right}
 
 -- ---- sums over terms
 
@@ -49,12 +51,12 @@ point_step : (before ts : List Term) (t : Term) (c : ℤ) (u : Term) (v : Term �
     → ((bs : List Term) → over (new_terms bs ts) (point c u) v ≡ chosen (is_among bs u) (is_among ts u) (c *ℤ pos (v u)))
     → (b : Bool) → is_among before t ≡ b
     → over (cond b (new_terms before ts) (t ∷ new_terms (t ∷ before) ts)) (point c u) v ≡ chosen (is_among before u) (term_eq u t || is_among ts u) (c *ℤ pos (v u))
-point_step before ts t c u v ih true is = elim (yes_or_no (term_eq u t)) [
+point_step before ts t c u v ih true is = elim (cases_Bool (term_eq u t)) [
   | inl e ↦ (let known : is_among before u ≡ true = ap (is_among before) (term_eq_is u t e) ∙ is in
       ih before ∙ ap (λ a. chosen a (is_among ts u) (c *ℤ pos (v u))) known ∙ sym (ap (λ a. chosen a (term_eq u t || is_among ts u) (c *ℤ pos (v u))) known))
   | inr n ↦ ih before ∙ sym (ap (λ k. chosen (is_among before u) (k || is_among ts u) (c *ℤ pos (v u))) n)
 ]
-point_step before ts t c u v ih false is = elim (yes_or_no (term_eq u t)) [
+point_step before ts t c u v ih false is = elim (cases_Bool (term_eq u t)) [
   | inl e ↦ (let unknown : is_among before u ≡ false = ap (is_among before) (term_eq_is u t e) ∙ is in
       ap (λ k. cond k c (pos 0) *ℤ pos (v t) +ℤ over (new_terms (t ∷ before) ts) (point c u) v) e
       ∙ ap (λ z. c *ℤ pos (v t) +ℤ z) (ih (t ∷ before) ∙ ap (λ k. chosen (k || is_among before u) (is_among ts u) (c *ℤ pos (v u))) e)
@@ -161,13 +163,6 @@ one_row AtLeast m z a b = mul-not_negative m z (not_less m a) b
 one_row More m z a b = mul-not_negative m z (not_less m a) (omega (arith, sums, b))
 one_row Not m z a b = absurd (true≢false (sym a))
 
-mul-positive : (a b : ℤ) → pos 0 <ℤ a → pos 0 <ℤ b → pos 0 <ℤ (a *ℤ b)
-mul-positive (pos zero) b h g = absurd (omega (arith, sums, h))
-mul-positive (pos (suc n)) (pos zero) h g = absurd (omega (arith, sums, g))
-mul-positive (pos (suc n)) (pos (suc m)) h g = omega (arith, sums)
-mul-positive (pos (suc n)) (negsuc m) h g = absurd (omega (arith, sums, g))
-mul-positive (negsuc n) b h g = absurd (omega (arith, sums, h))
-
 one_strict : (s : Says) (m z : ℤ) → is_strict s m ≡ true → IsSo s z → pos 0 <ℤ (m *ℤ z)
 one_strict Zero m z a b = absurd (true≢false (sym a))
 one_strict AtLeast m z a b = absurd (true≢false (sym a))
@@ -192,7 +187,7 @@ value-not_negative (w ∷ ws) v a s =
 
 value-positive : (ws : List Weighed) (v : Term → ℕ) → list_all good ws ≡ true → list_any strict ws ≡ true → Satisfy v (map (λ w. w.row) ws) → pos 0 <ℤ weighed_value ws v
 value-positive [] v a b s = absurd (true≢false (sym b))
-value-positive (w ∷ ws) v a b s = elim (or_either (strict w) (list_any strict ws) b) [
+value-positive (w ∷ ws) v a b s = elim (or_cases (strict w) (list_any strict ws) b) [
   | inl e ↦ omega (
     arith,
     sums,

@@ -1,5 +1,5 @@
 -- Values of sums, of forms and of literals, where terms that are one term have one value and those that are 0 have 0.
-use Rattle.std.proofs.Common.{◌≡◌, ℕ, ◌+◌, ◌<◌, ◌≤◌, List, [], ◌∷◌, ◌++◌, map, refl, sym, ap, ap₂, ◌∙◌, subst, arith, Some, None, Bool, true, false, not, cond, ◌&&◌, ◌||◌, true≢false, eqb, eq-eqb, ◌⊎◌, inl, inr}
+use Rattle.std.proofs.Common.{◌≡◌, ℕ, ◌+◌, ◌<◌, ◌≤◌, List, [], ◌∷◌, ◌++◌, map, refl, sym, ap, ap₂, ◌∙◌, subst, arith, Some, None, Bool, true, false, not, cond, ◌&&◌, ◌||◌, true≢false, eqb, eq-eqb, ◌⊎◌, inl, inr, ltb-true, lt-ltb, eqb-true}
 use Rattle.std.specs.Prelude.{filter, nat_lt}
 use Rattle.std.specs.List.{list_any}
 use Rattle.std.proofs.lemmas.List.{map-append}
@@ -7,6 +7,8 @@ use Rattle.std.proofs.lemmas.List.Elements.{filter-append}
 use Rattle.std.proofs.Math.IntN.{pos-*ℤ-pos}
 use Rattle.std.proofs.lemmas.Int.{ints}
 use Rattle.std.proofs.lemmas.Bool.Decides.{nat_tests}
+use Rattle.std.proofs.lemmas.Bool.{or_cases, cases_Bool}
+use Rattle.std.proofs.lemmas.Option.{none-some}
 use lib.IntN.{ℤ, pos, ◌+ℤ◌, ◌-ℤ◌, ◌*ℤ◌, neg_ℤ, *ℤ-zero}
 use lib.Signed.{◌≤ℤ◌, ◌<ℤ◌}
 use Rattle.e_literal.specs.declared.object.Term.{Term}
@@ -20,10 +22,11 @@ use Rattle.e_literal.specs.Truth.{value_of, atom_holds, holds}
 use Rattle.e_literal.specs.Rows.{Row, Zero, AtLeast, More, Not, Summands, coefficient, times, is_degenerate, normal_summands, row, plus, minus, negative, row_of_atom, row_of_lit}
 use Rattle.e_literal.specs.Solution.{form_value, IsSo, carried}
 use Rattle.e_literal.proofs.Arith.{sums, neg_mul}
-use Rattle.e_literal.proofs.Terms.{eqb_is, and_left, and_right, or_either, or_not_left, or_not_right, yes_or_no, term_eq_is, equal_terms}
+use Rattle.e_literal.proofs.Terms.{term_eq_is, equal_terms}
 use Rattle.e_literal.proofs.Agreeing.{agree_equal}
-use Rattle.e_literal.proofs.Canonical.{same_bool, canonical_twice, one_term_is, one_term_of, same_degenerate}
+use Rattle.e_literal.proofs.Canonical.{canonical_twice, one_term_is, one_term_of, same_degenerate}
 use Rattle.e_literal.proofs.Refutes.{form_value_same}
+use Rattle.e_literal.proofs.Booleans.{or_not_left, or_not_right, and_left, and_right, same_bool, same_neg_is}
 
 -- ---- forms
 
@@ -77,7 +80,7 @@ is_normal t = term_eq (canonical t) t && not (is_degenerate t)
 
 -- a monomial counts at a normal term where it has that term
 counts : (s t : Term) (z : ℤ) → cond (not (is_degenerate s)) (cond (term_eq (canonical s) t) z (pos 0)) (pos 0) ≡ cond (is_normal t) (cond (one_term s t) z (pos 0)) (pos 0)
-counts s t z = elim (yes_or_no (term_eq (canonical s) t)) [
+counts s t z = elim (cases_Bool (term_eq (canonical s) t)) [
   | inl e ↦
       (let is : canonical s ≡ t = term_eq_is (canonical s) t e in
       let own : canonical t ≡ t = ap canonical (sym is) ∙ canonical_twice s ∙ is in
@@ -88,8 +91,8 @@ counts s t z = elim (yes_or_no (term_eq (canonical s) t)) [
       ∙ ap (λ b. cond (not (is_degenerate t)) (cond b z (pos 0)) (pos 0)) (one_term_of s t one)))
   | inr n ↦
       ap (λ b. cond (not (is_degenerate s)) (cond b z (pos 0)) (pos 0)) n ∙ none (not (is_degenerate s))
-      ∙ elim (yes_or_no (one_term s t)) [
-        | inl o ↦ elim (yes_or_no (term_eq (canonical t) t)) [
+      ∙ elim (cases_Bool (one_term s t)) [
+        | inl o ↦ elim (cases_Bool (term_eq (canonical t) t)) [
           | inl own ↦ absurd (true≢false (sym (equal_terms (canonical s) t (one_term_is s t o ∙ term_eq_is (canonical t) t own)) ∙ n))
           | inr m ↦ sym (ap (λ b. cond (b && not (is_degenerate t)) (cond (one_term s t) z (pos 0)) (pos 0)) m)
         ]
@@ -263,17 +266,11 @@ same_as_order (EqL x y) z w h = absurd (true≢false (sym h))
 same_as_order (EqC x y) z w h = absurd (true≢false (sym h))
 same_as_order (MagEq x y) z w h = absurd (true≢false (sym h))
 
-same_neg_is : (a b : Bool) → same_neg a b ≡ true → a ≡ b
-same_neg_is true true h = refl
-same_neg_is true false h = absurd (true≢false (sym h))
-same_neg_is false true h = absurd (true≢false (sym h))
-same_neg_is false false h = refl
-
 eqb_moved : (a b c d : ℕ) → a + d ≡ c + b → eqb a b ≡ eqb c d
-eqb_moved a b c d e = same_bool (eqb a b) (eqb c d) (λ h. eq-eqb c d (omega (arith, e, eqb_is a b h))) (λ h. eq-eqb a b (omega (arith, e, eqb_is c d h)))
+eqb_moved a b c d e = same_bool (eqb a b) (eqb c d) (λ h. eq-eqb c d (omega (arith, e, eqb-true a b h))) (λ h. eq-eqb a b (omega (arith, e, eqb-true c d h)))
 
 eqb_crossed : (a b c d : ℕ) → a + c ≡ d + b → eqb a b ≡ eqb c d
-eqb_crossed a b c d e = same_bool (eqb a b) (eqb c d) (λ h. eq-eqb c d (omega (arith, e, eqb_is a b h))) (λ h. eq-eqb a b (omega (arith, e, eqb_is c d h)))
+eqb_crossed a b c d e = same_bool (eqb a b) (eqb c d) (λ h. eq-eqb c d (omega (arith, e, eqb-true a b h))) (λ h. eq-eqb a b (omega (arith, e, eqb-true c d h)))
 
 lt_moved : (a b c d : ℕ) → a + d ≡ c + b → nat_lt a b ≡ nat_lt c d
 lt_moved a b c d e = grind (arith, nat_tests)
@@ -289,7 +286,7 @@ holds_same f l u h g =
 
     equations : (x y z w : List Mono) → (agree x y z w || agree x y w z) ≡ true → atom_holds v (MagEq x y) l.neg ≡ atom_holds v (MagEq z w) l.neg
     equations x y z w k =
-        let e : eqb (value_of v x) (value_of v y) ≡ eqb (value_of v z) (value_of v w) = elim (or_either (agree x y z w) (agree x y w z) k) [
+        let e : eqb (value_of v x) (value_of v y) ≡ eqb (value_of v z) (value_of v w) = elim (or_cases (agree x y z w) (agree x y w z) k) [
           | inl c ↦ eqb_moved (value_of v x) (value_of v y) (value_of v z) (value_of v w) (same_difference x y z w u c)
           | inr c ↦ eqb_crossed (value_of v x) (value_of v y) (value_of v z) (value_of v w) (same_difference x y w z u c)
         ] in
@@ -313,26 +310,17 @@ holds_same f l u h g =
 eqb_apart : (a b : ℕ) → not (eqb a b) ≡ true → a ≡ b → ⊥
 eqb_apart a b h e = true≢false (sym h ∙ ap not (eq-eqb a b e))
 
-lt_is : (a b : ℕ) → nat_lt a b ≡ true → a < b
-lt_is a b h = grind (arith, nat_tests)
-
 lt_not : (a b : ℕ) → not (nat_lt a b) ≡ true → b ≤ a
 lt_not a b h = grind (arith, nat_tests)
-
-lt_of : (a b : ℕ) → a < b → nat_lt a b ≡ true
-lt_of a b h = grind (arith, nat_tests)
 
 not_lt_of : (a b : ℕ) → b ≤ a → not (nat_lt a b) ≡ true
 not_lt_of a b h = grind (arith, nat_tests)
 
 not_eqb_of : (a b : ℕ) → (a ≡ b → ⊥) → not (eqb a b) ≡ true
-not_eqb_of a b h = elim (yes_or_no (eqb a b)) [
-  | inl e ↦ absurd (h (eqb_is a b e))
+not_eqb_of a b h = elim (cases_Bool (eqb a b)) [
+  | inl e ↦ absurd (h (eqb-true a b e))
   | inr e ↦ ap not e
 ]
-
-no_row_is : (r : Row) → None ≡ Some r → ⊥
-no_row_is r e = cc
 
 -- what the row of an atom says is so exactly where the atom is true
 abbrev IsSoWhere : (Term → ℕ) → Atom → Bool → Row → Type 0
@@ -347,14 +335,14 @@ equation_row w x y true = (
   λ n. not_eqb_of (value_of (carried w) x) (value_of (carried w) y) (λ e. n (row_value w x y ∙ omega (arith, ints, e))),
 )
 equation_row w x y false = (
-  λ t. row_value w x y ∙ (let e = eqb_is (value_of (carried w) x) (value_of (carried w) y) t in omega (arith, ints, e)),
+  λ t. row_value w x y ∙ (let e = eqb-true (value_of (carried w) x) (value_of (carried w) y) t in omega (arith, ints, e)),
   λ z. eq-eqb (value_of (carried w) x) (value_of (carried w) y) (let d = sym (row_value w x y) ∙ z in omega (arith, ints, d)),
 )
 
 order_row : (w : Term → ℕ) (x y : List Mono) → IsSoWhere w (MagLt x y) false (row More (plus y ++ minus x))
 order_row w x y = (
-  λ t. subst (λ z. pos 0 <ℤ z) (sym (row_value w y x)) (let l = lt_is (value_of (carried w) x) (value_of (carried w) y) t in omega (arith, sums, l)),
-  λ g. lt_of (value_of (carried w) x) (value_of (carried w) y) (let d = row_value w y x in omega (arith, sums, g, d)),
+  λ t. subst (λ z. pos 0 <ℤ z) (sym (row_value w y x)) (let l = ltb-true (value_of (carried w) x) (value_of (carried w) y) t in omega (arith, sums, l)),
+  λ g. lt-ltb (value_of (carried w) x) (value_of (carried w) y) (let d = row_value w y x in omega (arith, sums, g, d)),
 )
 
 not_order_row : (w : Term → ℕ) (x y : List Mono) → IsSoWhere w (MagLt x y) true (row AtLeast (plus x ++ minus y))
@@ -376,7 +364,7 @@ row_where w a false r e (inl (inr p)) =
     let k : Some (row More (plus p.1 ++ minus p.0)) ≡ Some r = sym (ap (λ b. row_of_atom b false) p.2) ∙ e in
     let same : row More (plus p.1 ++ minus p.0) ≡ r = cc in
     subst (λ b. IsSoWhere w b false r) (sym p.2) (subst (IsSoWhere w (MagLt p.0 p.1) false) same (order_row w p.0 p.1))
-row_where w a neg r e (inr d) = absurd (no_row_is r (sym (d.no_row neg) ∙ e))
+row_where w a neg r e (inr d) = absurd (none-some r (sym (d.no_row neg) ∙ e))
 
 -- the row of a true literal is so
 pub so_of_holds : (l : Lit) (r : Row) (w : Term → ℕ) → row_of_lit l ≡ Some r → holds (carried w) l ≡ true → IsSo r.says (form_value r.form w)
@@ -385,3 +373,13 @@ so_of_holds l r w e h = (row_where w l.atom l.neg r e (split l.atom)).0 h
 -- a literal whose row is so is true
 pub holds_of_so : (l : Lit) (r : Row) (w : Term → ℕ) → row_of_lit l ≡ Some r → IsSo r.says (form_value r.form w) → holds (carried w) l ≡ true
 holds_of_so l r w e h = (row_where w l.atom l.neg r e (split l.atom)).1 h
+
+-- ---- coefficients of negatives
+
+pub coefficient_negative : (f : Summands) (u : Term) → coefficient (negative f) u ≡ neg_ℤ (coefficient f u)
+coefficient_negative [] u = refl
+coefficient_negative (p ∷ ps) u = by (term_eq p.1 u) (coefficient_negative ps u)
+  where
+    by : (b : Bool) → coefficient (negative ps) u ≡ neg_ℤ (coefficient ps u) → cond b (neg_ℤ p.0) (pos 0) +ℤ coefficient (negative ps) u ≡ neg_ℤ (cond b p.0 (pos 0) +ℤ coefficient ps u)
+    by true ih = omega (arith, sums, ih)
+    by false ih = omega (arith, sums, ih)

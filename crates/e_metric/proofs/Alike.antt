@@ -2,8 +2,8 @@
 use Rattle.std.proofs.Common.{◌≡◌, ℕ, zero, suc, ◌+◌, ◌-◌, ◌*◌, ◌≤◌, ◌^◌, max, min, List, [], ◌∷◌, map, length, refl, sym, ap, ap₂, ◌∙◌, subst, arith, cond, Bool, true, false, not, ◌||◌, true≢false, ◌⊎◌, inl, inr}
 use Rattle.std.specs.Prelude.{unsigned_abs, sum_by, count_by, filter}
 use Rattle.std.proofs.lemmas.List.Sums.{sum_by-cons}
-use Rattle.std.proofs.lemmas.List.Folds.{list_any-append}
 use Rattle.std.proofs.Math.Path.{fun_ext}
+use Rattle.std.proofs.lemmas.Bool.{or_left, or_right, or_cases, cases_Bool}
 use lib.IntN.{ℤ}
 use Rattle.e_literal.specs.declared.object.Term.{Term}
 use Rattle.e_literal.specs.Same.{term_eq}
@@ -11,10 +11,10 @@ use Rattle.e_literal.specs.Rows.{Row, coefficient, terms_of_rows}
 use Rattle.e_literal.specs.Minor.{determinant, constant, Column, Constants, Of, SignedRow, entry, IsWide, IsPart}
 use Rattle.e_literal.specs.Width.{has_constant, is_among, new_terms, weight, product, width}
 use Rattle.e_literal.specs.Solution.{form_value, IsSo, Satisfy, HasSolution}
-use Rattle.e_literal.proofs.Terms.{yes_or_no, or_either, or_left, or_right, or_not_left, or_not_right, term_eq_is, term_eq_turned, among_first, among_rest, among_new}
+use Rattle.e_literal.proofs.Terms.{term_eq_is, term_eq_turned, among_first, among_rest, among_new}
 use Rattle.e_literal.proofs.Refutes.{form_value_same}
-use Rattle.e_fraction.proofs.Products.{among_form}
-use Rattle.e_fraction.proofs.Sums.{coefficient_none}
+use Rattle.e_literal.proofs.Booleans.{or_not_left, or_not_right}
+use Rattle.e_fraction.proofs.Wideness.{light}
 
 pub record IsAlike (a b : Row) : Type 0 where
   pub says : a.says ≡ b.says
@@ -119,14 +119,14 @@ among_of_without t u (x ∷ xs) h = by (term_eq t x) refl h (λ k. among_of_with
     by : (b : Bool) → term_eq t x ≡ b → is_among (cond (not b) (x ∷ without t xs) (without t xs)) u ≡ true
         → (is_among (without t xs) u ≡ true → (is_among xs u ≡ true) × (term_eq t u ≡ false)) → ((term_eq u x || is_among xs u) ≡ true) × (term_eq t u ≡ false)
     by true e k ih = (let w = ih k in (or_right (term_eq u x) (is_among xs u) w.0, w.1))
-    by false e k ih = elim (or_either (term_eq u x) (is_among (without t xs) u) k) [
+    by false e k ih = elim (or_cases (term_eq u x) (is_among (without t xs) u) k) [
       | inl a ↦ (or_left (term_eq u x) (is_among xs u) a, ap (term_eq t) (term_eq_is u x a) ∙ e)
       | inr a ↦ (let w = ih a in (or_right (term_eq u x) (is_among xs u) w.0, w.1))
     ]
 
 without_among : (t u : Term) (ts : List Term) → is_among ts u ≡ true → term_eq t u ≡ false → is_among (without t ts) u ≡ true
 without_among t u [] h n = absurd (true≢false (sym h))
-without_among t u (x ∷ xs) h n = by (term_eq t x) refl (or_either (term_eq u x) (is_among xs u) h) (λ k. without_among t u xs k n)
+without_among t u (x ∷ xs) h n = by (term_eq t x) refl (or_cases (term_eq u x) (is_among xs u) h) (λ k. without_among t u xs k n)
   where
     by : (b : Bool) → term_eq t x ≡ b → (term_eq u x ≡ true) ⊎ (is_among xs u ≡ true) → (is_among xs u ≡ true → is_among (without t xs) u ≡ true)
         → is_among (cond (not b) (x ∷ without t xs) (without t xs)) u ≡ true
@@ -136,7 +136,7 @@ without_among t u (x ∷ xs) h n = by (term_eq t x) refl (or_either (term_eq u x
     by false e (inr a) ih = or_right (term_eq u x) (is_among (without t xs) u) (ih a)
 
 not_among : (t u : Term) (ts : List Term) → is_among ts u ≡ false → is_among (without t ts) u ≡ false
-not_among t u ts h = elim (yes_or_no (is_among (without t ts) u)) [
+not_among t u ts h = elim (cases_Bool (is_among (without t ts) u)) [
   | inl e ↦ absurd (true≢false (sym (among_of_without t u ts e).0 ∙ h))
   | inr n ↦ n
 ]
@@ -151,7 +151,7 @@ without_apart t (x ∷ xs) h = by (term_eq t x) (without_apart t xs h.1)
 
 product_without : (w : Term → ℕ) (ts : List Term) (t : Term) → Apart ts → is_among ts t ≡ true → product (map w ts) ≡ w t * product (map w (without t ts))
 product_without w [] t a h = absurd (true≢false (sym h))
-product_without w (x ∷ xs) t a h = by (term_eq t x) refl (or_either (term_eq t x) (is_among xs t) h) (λ k. product_without w xs t a.1 k)
+product_without w (x ∷ xs) t a h = by (term_eq t x) refl (or_cases (term_eq t x) (is_among xs t) h) (λ k. product_without w xs t a.1 k)
   where
     swap : (p q r : ℕ) → p * (q * r) ≡ q * (p * r)
     swap p q r = omega arith
@@ -179,13 +179,13 @@ product_same w [] ms a b f g = sym (product_ones w ms (λ t k. elim (one_or_not 
 product_same w (n ∷ ns) ms a b f g = by (one_or_not (w n)) (λ ms b f g. product_same w ns ms a.1 b f g)
   where
     apart_from : (t : Term) → is_among ns t ≡ true → term_eq n t ≡ false
-    apart_from t k = elim (yes_or_no (term_eq n t)) [
+    apart_from t k = elim (cases_Bool (term_eq n t)) [
       | inl e ↦ absurd (true≢false (sym k ∙ ap (is_among ns) (sym (term_eq_is n t e)) ∙ a.0))
       | inr m ↦ m
     ]
 
     rest : (t : Term) → is_among (n ∷ ns) t ≡ true → (term_eq t n ≡ true → ⊥) → is_among ns t ≡ true
-    rest t k m = elim (or_either (term_eq t n) (is_among ns t) k) [ inl e ↦ absurd (m e) | inr r ↦ r ]
+    rest t k m = elim (or_cases (term_eq t n) (is_among ns t) k) [ inl e ↦ absurd (m e) | inr r ↦ r ]
 
     by : (w n ≡ 1) ⊎ (w n ≡ 1 → ⊥)
         → ((ms : List Term) → Apart ms → ((t : Term) → is_among ns t ≡ true → (w t ≡ 1 → ⊥) → is_among ms t ≡ true) → ((t : Term) → is_among ms t ≡ true → (w t ≡ 1 → ⊥) → is_among ns t ≡ true)
@@ -206,7 +206,7 @@ among_of_new before (t ∷ ts) u h = by (is_among before t) h (λ bs k. among_of
     by : (b : Bool) → is_among (cond b (new_terms before ts) (t ∷ new_terms (t ∷ before) ts)) u ≡ true → ((bs : List Term) → is_among (new_terms bs ts) u ≡ true → is_among ts u ≡ true)
         → (term_eq u t || is_among ts u) ≡ true
     by true k ih = or_right (term_eq u t) (is_among ts u) (ih before k)
-    by false k ih = elim (or_either (term_eq u t) (is_among (new_terms (t ∷ before) ts) u) k) [
+    by false k ih = elim (or_cases (term_eq u t) (is_among (new_terms (t ∷ before) ts) u) k) [
       | inl e ↦ or_left (term_eq u t) (is_among ts u) e
       | inr m ↦ or_right (term_eq u t) (is_among ts u) (ih (t ∷ before) m)
     ]
@@ -216,7 +216,7 @@ new_not before [] u h = refl
 new_not before (t ∷ ts) u h = by (is_among before t) refl (λ bs k. new_not bs ts u k)
   where
     differ : is_among before t ≡ false → term_eq u t ≡ false
-    differ e = elim (yes_or_no (term_eq u t)) [ inl k ↦ absurd (true≢false (sym h ∙ ap (is_among before) (term_eq_is u t k) ∙ e)) | inr n ↦ n ]
+    differ e = elim (cases_Bool (term_eq u t)) [ inl k ↦ absurd (true≢false (sym h ∙ ap (is_among before) (term_eq_is u t k) ∙ e)) | inr n ↦ n ]
 
     by : (b : Bool) → is_among before t ≡ b → ((bs : List Term) → is_among bs u ≡ true → is_among (new_terms bs ts) u ≡ false)
         → is_among (cond b (new_terms before ts) (t ∷ new_terms (t ∷ before) ts)) u ≡ false
@@ -256,28 +256,6 @@ count_alike (r ∷ rs) (q ∷ ss) h =
 
 -- ---- terms that stand in no row have weight 1
 
-abbrev size_at : Term → Row → ℕ
-size_at t r = unsigned_abs (coefficient r.form t)
-
-absent : (rows : List Row) (t : Term) → is_among (terms_of_rows rows) t ≡ false → sum_by (size_at t) rows ≡ 0
-absent [] t h = refl
-absent (r ∷ rs) t h =
-    omega (arith, sum_by-cons (size_at t) r rs, ap unsigned_abs (coefficient_none r.form t (sym (among_form r.form t) ∙ not_left _ _ both)), absent rs t (not_right _ _ both))
-  where
-    both : (is_among (map (λ p. p.1) r.form) t || is_among (terms_of_rows rs) t) ≡ false
-    both = sym (list_any-append (term_eq t) (map (λ p. p.1) r.form) (terms_of_rows rs)) ∙ h
-
-    not_left : (a b : Bool) → (a || b) ≡ false → a ≡ false
-    not_left true b e = e
-    not_left false b e = refl
-
-    not_right : (a b : Bool) → (a || b) ≡ false → b ≡ false
-    not_right true b e = absurd (true≢false e)
-    not_right false b e = e
-
-light : (rows : List Row) (t : Term) → is_among (terms_of_rows rows) t ≡ false → weight rows t ≡ 1
-light rows t h = ap (max 1) (absent rows t h)
-
 map_same : (f g : Term → ℕ) (ts : List Term) → ((t : Term) → f t ≡ g t) → map f ts ≡ map g ts
 map_same f g [] h = refl
 map_same f g (t ∷ ts) h = ap₂ {A = ℕ} {B = List ℕ} (λ x xs. x ∷ xs) (h t) (map_same f g ts h)
@@ -286,7 +264,7 @@ once_among : (ts : List Term) (t : Term) → is_among ts t ≡ true → is_among
 once_among ts t h = elim (among_new [] ts t h) [ inl e ↦ absurd (true≢false (sym e)) | inr k ↦ k ]
 
 heavy_among : (rows : List Row) (t : Term) → (weight rows t ≡ 1 → ⊥) → is_among (new_terms [] (terms_of_rows rows)) t ≡ true
-heavy_among rows t n = elim (yes_or_no (is_among (terms_of_rows rows) t)) [
+heavy_among rows t n = elim (cases_Bool (is_among (terms_of_rows rows) t)) [
   | inl e ↦ once_among (terms_of_rows rows) t e
   | inr e ↦ absurd (n (light rows t e))
 ]

@@ -1,9 +1,9 @@
 -- How many rows and terms a metric system has.
-use Rattle.std.proofs.Common.{◌≡◌, ℕ, suc, ◌+◌, ◌≤◌, List, [], ◌∷◌, ◌++◌, map, length, refl, sym, ap, ◌∙◌, subst, arith, cond, Bool, true, false, ◌&&◌, true≢false, ◌⊎◌, inl, inr, Option, Some, None}
+use Rattle.std.proofs.Common.{◌≡◌, suc, ◌+◌, ◌≤◌, List, [], ◌∷◌, ◌++◌, map, length, refl, sym, ap, ◌∙◌, subst, arith, cond, Bool, true, false, ◌&&◌, true≢false, ◌⊎◌, inl, inr, Option, Some, None, leb-true, length-append}
 use Rattle.std.specs.Prelude.{flat_map, nat_le, is_some}
 use Rattle.std.specs.Option.{option_map, option_map_or}
 use Rattle.std.specs.List.{list_all, cons_option}
-use Rattle.std.proofs.lemmas.Bool.Decides.{nat_tests}
+use Rattle.std.proofs.lemmas.List.{length-map}
 use Rattle.e_literal.specs.declared.object.Kind.{Kind}
 use Rattle.e_literal.specs.declared.object.Kind.TheVariants.{Segment, Angle, Area as AreaKind}
 use Rattle.e_literal.specs.declared.object.Mono.{Mono}
@@ -14,31 +14,21 @@ use Rattle.e_literal.specs.Literal.{kind_of_sums, kind_of_term}
 use Rattle.e_literal.specs.Facts.{are_apart, is_metric}
 use Rattle.e_literal.specs.Rows.{row_of_lit, has_term, first_terms}
 use Rattle.e_literal.specs.WellFormed.{same_kind, is_good_coefficient, are_good_sums, is_good_atom, is_well_formed}
-use Rattle.e_literal.proofs.Terms.{and_left, and_right}
 use Rattle.e_literal.proofs.Valued.{IsMagEq, IsMagLt, IsDiagram, split}
+use Rattle.e_literal.proofs.Booleans.{and_left, and_right}
 use Rattle.e_clause.specs.declared.cert.RowName.{RowName}
 use Rattle.e_clause.specs.declared.cert.RowName.TheVariants.{Fact, Goal, Pos}
 use Rattle.e_clause.specs.Assignment.{terms_of_atom, terms_of_lits}
 use Rattle.e_clause.specs.Laws.{is_good_wanted}
 use Rattle.e_clause.specs.System.{NamedRow, named, is_of_kind, of_kind, against_goal, rows_named, rows_of_term, rows_of_kind, pos_row, system}
+use Rattle.e_clause.proofs.Carried.{good_against}
 use Rattle.e_metric.specs.Listed.{listed, terms_of_kind}
 use Rattle.e_metric.proofs.FirstTerms.{with_right}
-
-length_append : {X : Type 0} (xs ys : List X) → length (xs ++ ys) ≡ length xs + length ys
-length_append [] ys = omega arith
-length_append (x ∷ xs) ys = omega (arith, length_append xs ys)
-
-length_map : {X Y : Type 0} (f : X → Y) (xs : List X) → length (map f xs) ≡ length xs
-length_map f [] = refl
-length_map f (x ∷ xs) = ap suc (length_map f xs)
-
-le_of : (a b : ℕ) → nat_le a b ≡ true → a ≤ b
-le_of a b h = grind (arith, nat_tests)
 
 -- ---- one literal
 
 sums_some : (x y : List Mono) → are_good_sums x y ≡ true → 1 ≤ length (map (λ (m : Mono). m.term) (x ++ y))
-sums_some x y h = omega (arith, length_map (λ (m : Mono). m.term) (x ++ y), le_of 1 (length (x ++ y)) (and_left (nat_le 1 (length (x ++ y))) (nat_le (length (x ++ y)) 32 && each) h))
+sums_some x y h = omega (arith, length-map (x ++ y) (λ (m : Mono). m.term), leb-true 1 (length (x ++ y)) (and_left (nat_le 1 (length (x ++ y))) (nat_le (length (x ++ y)) 32 && each) h))
   where
     each : Bool
     each = list_all (λ (m : Mono). same_kind (kind_of_term m.term) (kind_of_sums x y) && is_good_coefficient m.coeff) (x ++ y)
@@ -46,8 +36,8 @@ sums_some x y h = omega (arith, length_map (λ (m : Mono). m.term) (x ++ y), le_
 sums_few : (x y : List Mono) → are_good_sums x y ≡ true → length (map (λ (m : Mono). m.term) (x ++ y)) ≤ 32
 sums_few x y h = omega (
   arith,
-  length_map (λ (m : Mono). m.term) (x ++ y),
-  le_of (length (x ++ y)) 32
+  length-map (x ++ y) (λ (m : Mono). m.term),
+  leb-true (length (x ++ y)) 32
       (and_left (nat_le (length (x ++ y)) 32) each (and_right (nat_le 1 (length (x ++ y))) (nat_le (length (x ++ y)) 32 && each) h)),
 )
   where
@@ -90,7 +80,7 @@ literal_rows which name (l ∷ ls) h = by (is_of_kind which l) refl (literal_row
       arith,
       ih,
       one (option_map (named (name l)) (row_of_lit l)),
-      length_append (terms_of_atom l.atom) (terms_of_lits rest),
+      length-append (terms_of_atom l.atom) (terms_of_lits rest),
       some_terms which l (and_left (is_well_formed l) (list_all is_well_formed ls) h) e,
     )
     by false e ih = ih
@@ -103,8 +93,8 @@ kind_terms which (l ∷ ls) = by (is_of_kind which l) (kind_terms which ls)
     rest = of_kind which ls
 
     by : (b : Bool) → length (terms_of_lits rest) ≤ length (terms_of_lits ls) → length (terms_of_lits (cons_option (cond b (Some l) None) rest)) ≤ length (terms_of_atom l.atom ++ terms_of_lits ls)
-    by true ih = omega (arith, ih, length_append (terms_of_atom l.atom) (terms_of_lits rest), length_append (terms_of_atom l.atom) (terms_of_lits ls))
-    by false ih = omega (arith, ih, length_append (terms_of_atom l.atom) (terms_of_lits ls))
+    by true ih = omega (arith, ih, length-append (terms_of_atom l.atom) (terms_of_lits rest), length-append (terms_of_atom l.atom) (terms_of_lits ls))
+    by false ih = omega (arith, ih, length-append (terms_of_atom l.atom) (terms_of_lits ls))
 
 first_length : (seen ts : List Term) → length (first_terms seen ts) ≤ length ts
 first_length seen [] = omega arith
@@ -116,7 +106,7 @@ first_length seen (t ∷ ts) = by (has_term seen t) (λ bs. first_length bs ts)
 
 term_rows : (facts : List Lit) (ts : List Term) → length (flat_map (rows_of_term facts) ts) ≤ length ts
 term_rows facts [] = omega arith
-term_rows facts (t ∷ ts) = omega (arith, length_append (rows_of_term facts t) (flat_map (rows_of_term facts) ts), one t, term_rows facts ts)
+term_rows facts (t ∷ ts) = omega (arith, length-append (rows_of_term facts t) (flat_map (rows_of_term facts) ts), one t, term_rows facts ts)
   where
     one : (u : Term) → length (rows_of_term facts u) ≤ 1
     one (Seg a b) = by (are_apart facts a b)
@@ -135,13 +125,9 @@ right_rows AreaKind = omega arith
 
 -- ---- a system
 
-wanted_good : (wanted : Option Lit) → is_good_wanted wanted ≡ true → list_all is_well_formed (against_goal wanted) ≡ true
-wanted_good None h = refl
-wanted_good (Some l) h = ap (λ b. b && true) (and_right (is_metric l) (is_well_formed l) h)
-
 wanted_terms : (wanted : Option Lit) → is_good_wanted wanted ≡ true → length (terms_of_lits (against_goal wanted)) ≤ 32
 wanted_terms None h = omega arith
-wanted_terms (Some l) h = omega (arith, length_append (terms_of_atom l.atom) [], few_terms l (and_right (is_metric l) (is_well_formed l) h) (and_left (is_metric l) (is_well_formed l) h))
+wanted_terms (Some l) h = omega (arith, length-append (terms_of_atom l.atom) [], few_terms l (and_right (is_metric l) (is_well_formed l) h) (and_left (is_metric l) (is_well_formed l) h))
 
 pub system_length : (which : Kind) (facts : List Lit) (wanted : Option Lit) → list_all is_well_formed facts ≡ true → is_good_wanted wanted ≡ true → length (terms_of_lits facts) ≤ 1100
     → length (system which facts wanted) + length (listed (terms_of_kind which facts wanted) (Right ∷ [])) ≤ 4096
@@ -156,19 +142,19 @@ system_length which facts wanted good good_wanted few =
     omega (
       arith,
       few,
-      length_append a (b ++ (c ++ d)),
-      length_append b (c ++ d),
-      length_append c d,
+      length-append a (b ++ (c ++ d)),
+      length-append b (c ++ d),
+      length-append c d,
       literal_rows which (λ l. Fact l) facts good,
-      literal_rows which (λ l. Goal) (against_goal wanted) (wanted_good wanted good_wanted),
+      literal_rows which (λ l. Goal) (against_goal wanted) (good_against wanted good_wanted),
       term_rows facts (first_terms [] ts),
       right_rows which,
       first_length [] ts,
-      length_append (terms_of_lits known) (terms_of_lits turned),
+      length-append (terms_of_lits known) (terms_of_lits turned),
       kind_terms which facts,
       kind_terms which (against_goal wanted),
       wanted_terms wanted good_wanted,
       ap (λ (us : List Term). length us) (with_right ts),
       first_length [] (ts ++ Right ∷ []),
-      length_append ts (Right ∷ []),
+      length-append ts (Right ∷ []),
     ))

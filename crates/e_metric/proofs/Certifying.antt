@@ -4,6 +4,8 @@ use Rattle.std.specs.Prelude.{neg_ℤ, set, unsigned_abs}
 use lib.Signed.{◌≤ℤ◌}
 use Rattle.std.specs.Option.{option_map_or}
 use Rattle.std.proofs.lemmas.List.Folds.{list_any-append}
+use Rattle.std.proofs.lemmas.Bool.{and_from, or_left, or_right, or_cases}
+use Rattle.std.proofs.lemmas.List.{length-map}
 use lib.IntN.{ℤ, pos, ◌+ℤ◌, ◌*ℤ◌, *ℤ-zero}
 use Rattle.e_literal.specs.declared.object.Kind.{Kind}
 use Rattle.e_literal.specs.declared.object.Term.{Term}
@@ -11,11 +13,11 @@ use Rattle.e_literal.specs.declared.object.Term.TheVariants.{Right}
 use Rattle.e_literal.specs.declared.literal.Lit.{Lit}
 use Rattle.e_literal.specs.Same.{one_term, term_eq}
 use Rattle.e_literal.specs.Width.{is_among}
-use Rattle.e_literal.specs.Rows.{Row, Says, Zero, AtLeast, More, Not, Summands, coefficient, has_term, first_terms, negative}
+use Rattle.e_literal.specs.Rows.{Row, Says, Zero, AtLeast, More, Not, coefficient, has_term, first_terms}
 use Rattle.e_literal.specs.Absurd.{total}
 use Rattle.e_literal.proofs.Arith.{sums, neg_mul, mul_neg}
-use Rattle.e_literal.proofs.Terms.{or_either, or_left, or_right, both, among_either, among_first, among_rest}
-use Rattle.e_literal.proofs.Valued.{is_normal}
+use Rattle.e_literal.proofs.Terms.{among_either, among_first, among_rest}
+use Rattle.e_literal.proofs.Valued.{is_normal, coefficient_negative}
 use Rattle.e_clause.specs.declared.cert.RowName.{RowName}
 use Rattle.e_clause.specs.declared.cert.RowName.TheVariants.{Goal, Above, Below}
 use Rattle.e_clause.specs.declared.cert.Sums.TheVariants.{Two as TwoSums}
@@ -46,10 +48,10 @@ name_of n = n.name
 abbrev row_of : NamedRow → Row
 row_of n = n.row
 
-abbrev names_given : List (RowName × GivenRow) → List RowName
+abbrev pub names_given : List (RowName × GivenRow) → List RowName
 names_given ps = map (λ (p : RowName × GivenRow). p.0) ps
 
-abbrev rows_given : List (RowName × GivenRow) → List GivenRow
+abbrev pub rows_given : List (RowName × GivenRow) → List GivenRow
 rows_given ps = map (λ (p : RowName × GivenRow). p.1) ps
 
 pub names_are : (ns : List NamedRow) (ps : List (RowName × GivenRow)) → AreRows ns ps → names_given ps ≡ map name_of ns
@@ -69,10 +71,6 @@ length_rows [] [] h = refl
 length_rows [] (p ∷ ps) h = absurd h
 length_rows (n ∷ ns) [] h = absurd h
 length_rows (n ∷ ns) (p ∷ ps) h = ap suc (length_rows ns ps h.2)
-
-pub length_map : {X Y : Type 0} (f : X → Y) (xs : List X) → length (map f xs) ≡ length xs
-length_map f [] = refl
-length_map f (x ∷ xs) = ap suc (length_map f xs)
 
 -- ---- multipliers of rows that are alike
 
@@ -106,14 +104,6 @@ refutes_alike rs ss ms h r = record {
   no_positive = λ t. subst (λ z. z ≤ℤ pos 0) (total_alike rs ss ms t h) (r.no_positive t);
   small_sums = λ t. subst (λ z. unsigned_abs z ≤ 2 ^ 80) (total_alike rs ss ms t h) (r.small_sums t);
 }
-
-coefficient_negative : (f : Summands) (u : Term) → coefficient (negative f) u ≡ neg_ℤ (coefficient f u)
-coefficient_negative [] u = refl
-coefficient_negative (p ∷ ps) u = by (term_eq p.1 u) (coefficient_negative ps u)
-  where
-    by : (b : Bool) → coefficient (negative ps) u ≡ neg_ℤ (coefficient ps u) → cond b (neg_ℤ p.0) (pos 0) +ℤ coefficient (negative ps) u ≡ neg_ℤ (cond b p.0 (pos 0) +ℤ coefficient ps u)
-    by true ih = omega (arith, sums, ih)
-    by false ih = omega (arith, sums, ih)
 
 more_of_alike : (rs ss : List Row) (k : ℕ) → Alike rs ss → Alike (as_more rs k) (as_more ss k)
 more_of_alike [] [] k h = tt
@@ -268,7 +258,7 @@ module _ (which : Kind) (facts : List Lit) (wanted : Option Lit) where
   summed_is = with_right written
 
   has_right : (u : Term) → has_term (Right ∷ written) u ≡ true → has_term (written ++ Right ∷ []) u ≡ true
-  has_right u h = list_any-append (one_term u) written (Right ∷ []) ∙ elim (or_either (one_term u Right) (has_term written u) h) [
+  has_right u h = list_any-append (one_term u) written (Right ∷ []) ∙ elim (or_cases (one_term u Right) (has_term written u) h) [
     | inl e ↦ or_right (has_term written u) (one_term u Right || false) (or_left (one_term u Right) false e)
     | inr e ↦ or_left (has_term written u) (one_term u Right || false) e
   ]
@@ -279,7 +269,7 @@ module _ (which : Kind) (facts : List Lit) (wanted : Option Lit) where
       by : (a b : Bool) → is_normal u ≡ a → has_term (Right ∷ written) u ≡ b → Misses (Right ∷ written) u
       by false b e f = inl e
       by true false e f = inr f
-      by true true e f = absurd (true≢false (sym (both (is_normal u) (has_term summed u) e
+      by true true e f = absurd (true≢false (sym (and_from (is_normal u) (has_term summed u) e
           (ap (λ ts. has_term ts u) summed_is ∙ first_has [] (written ++ Right ∷ []) u (has_right u f) refl)) ∙ h))
 
   all_steps : (p : Place) (ts : List Term) → ((t : Term) → is_among ts t ≡ true → is_step_term p t ≡ true) → AllStepTerms p ts
@@ -294,7 +284,7 @@ module _ (which : Kind) (facts : List Lit) (wanted : Option Lit) where
 
       by : (t : Term) → (is_among written t ≡ true) ⊎ (is_among (Right ∷ []) t ≡ true) → is_step_term p t ≡ true
       by t (inl k) = at_place t (system_among which facts wanted t k)
-      by t (inr k) = at_place t (elim (or_either (term_eq t Right) false k) [
+      by t (inr k) = at_place t (elim (or_cases (term_eq t Right) false k) [
         | inl a ↦ or_left (term_eq t Right) (is_among (terms_of_lits facts ++ terms_of_wanted wanted) t) a
         | inr b ↦ absurd (true≢false (sym b))
       ])
@@ -318,10 +308,10 @@ module _ (which : Kind) (facts : List Lit) (wanted : Option Lit) where
     place above below = record { facts = facts; wanted = wanted; above = above; below = below }
 
     length_names : length (map name_of ns) ≡ length rows
-    length_names = length_map name_of ns ∙ sym (length_map row_of ns)
+    length_names = length-map ns name_of ∙ sym (length-map ns row_of)
 
     few_names : length (map name_of ns) + length summed ≤ 4096
-    few_names = omega (arith, length_map name_of ns, length_rows ns pairs are, few)
+    few_names = omega (arith, length-map ns name_of, length_rows ns pairs are, few)
 
     one_sum : (ms : List ℤ) → Refutes (all_seen (rows_given pairs)) ms → refutes (place None None) (sum_of (map name_of ns) (rows_given pairs) ms ms summed) ≡ true
     one_sum ms r =
@@ -377,7 +367,7 @@ module _ (which : Kind) (facts : List Lit) (wanted : Option Lit) where
         let second = sum_of (set (map name_of ns) k Below) (rows_given pairs) below (turned below k) summed in
         let named = each_at (IsNamed (place None None)) ns k w.row (all_named (place None None) refl refl) w.here in
         ap (λ (o : Option Row). option_map_or (λ r. both_refute facts wanted r first second) o false) (ap (differing facts wanted) w.name ∙ named.differs (ap says_differ w.is_not))
-        ∙ both (refutes (place (Some (above_row w.row.row)) None) first) (refutes (place None (Some (below_row w.row.row))) second)
+        ∙ and_from (refutes (place (Some (above_row w.row.row)) None) first) (refutes (place None (Some (below_row w.row.row))) second)
         (above_sum k above w.row w.here h.above_refutes) (below_sum k below w.row w.here h.below_refutes))
 
     -- what the multipliers make is a certificate

@@ -1,8 +1,10 @@
 -- Terms in the order in which they stand first.
-use Rattle.std.proofs.Common.{◌≡◌, ℕ, zero, suc, ◌+◌, ◌≤◌, List, [], ◌∷◌, ◌++◌, map, take, length, refl, sym, ap, ap₂, ◌∙◌, arith, Bool, true, false, cond, ◌||◌, true≢false, ◌⊎◌, inl, inr, Option, Some, None, append_assoc}
+use Rattle.std.proofs.Common.{◌≡◌, ℕ, zero, suc, ◌+◌, List, [], ◌∷◌, ◌++◌, map, take, refl, sym, ap, ap₂, ◌∙◌, arith, Bool, true, false, cond, ◌||◌, true≢false, ◌⊎◌, inl, inr, Option, Some, None, append_assoc}
 use Rattle.std.specs.Prelude.{slice_get}
 use Rattle.std.specs.List.{cons_option}
 use Rattle.std.proofs.lemmas.List.Folds.{list_any-append}
+use Rattle.std.proofs.lemmas.Bool.{or_left, or_right, or_cases, cases_Bool}
+use Rattle.std.proofs.lemmas.List.{map-append}
 use Rattle.e_literal.specs.declared.object.Kind.{Kind}
 use Rattle.e_literal.specs.declared.object.Mono.{Mono}
 use Rattle.e_literal.specs.declared.object.Term.{Term}
@@ -11,7 +13,6 @@ use Rattle.e_literal.specs.Literal.{negation}
 use Rattle.e_literal.specs.declared.object.Term.TheVariants.{Right}
 use Rattle.e_literal.specs.Same.{canonical, term_eq, one_term}
 use Rattle.e_literal.specs.Rows.{has_term, first_terms}
-use Rattle.e_literal.proofs.Terms.{yes_or_no, or_either, or_left, or_right}
 use Rattle.e_literal.proofs.Canonical.{one_term_is, one_term_of}
 use Rattle.e_clause.specs.Assignment.{terms_of_atom, terms_of_lits}
 use Rattle.e_clause.specs.System.{is_of_kind, of_kind, against_goal}
@@ -24,15 +25,11 @@ listed_append : (seen ts us : List Term) → listed seen (ts ++ us) ≡ listed (
 listed_append seen [] us = refl
 listed_append seen (t ∷ ts) us = listed_append (cond (has_term seen t) seen (seen ++ t ∷ [])) ts us
 
-map_append : {X Y : Type 0} (f : X → Y) (xs ys : List X) → map f (xs ++ ys) ≡ map f xs ++ map f ys
-map_append f [] ys = refl
-map_append f (x ∷ xs) ys = ap (λ zs. f x ∷ zs) (map_append f xs ys)
-
 abbrev term_of : Mono → Term
 term_of m = m.term
 
 pub sum_terms : (seen : List Term) (x y : List Mono) → listed seen (map (λ m. m.term) (x ++ y)) ≡ listed (listed seen (map (λ m. m.term) x)) (map (λ m. m.term) y)
-sum_terms seen x y = ap (listed seen) (map_append term_of x y) ∙ listed_append seen (map term_of x) (map term_of y)
+sum_terms seen x y = ap (listed seen) (map-append term_of x y) ∙ listed_append seen (map term_of x) (map term_of y)
 
 pub ruleset atom_terms = (sum_terms)
 
@@ -104,12 +101,6 @@ take_one xs i x h = ap (λ n. take n xs) (one_more i) ∙ take_suc xs i x h
     one_more : (n : ℕ) → n + 1 ≡ suc n
     one_more n = omega arith
 
-pub take_whole : {X : Type 0} (xs : List X) (n : ℕ) → length xs ≤ n → take n xs ≡ xs
-take_whole [] zero l = refl
-take_whole [] (suc n) l = refl
-take_whole (x ∷ xs) zero l = absurd (omega (arith, l))
-take_whole (x ∷ xs) (suc n) l = ap (λ ys. x ∷ ys) (take_whole xs n (omega (arith, l)))
-
 -- one fact more
 pub kind_more : (which : Kind) (facts : List Lit) (i : ℕ) (l : Lit) → slice_get facts i ≡ Some l → of_kind which (take (i + 1) facts) ≡ of_kind which (take i facts) ++ of_kind which (l ∷ [])
 kind_more which facts i l h = ap (of_kind which) (take_one facts i l h) ∙ kind_append which (take i facts) (l ∷ [])
@@ -159,7 +150,7 @@ first_not seen [] u h = refl
 first_not seen (s ∷ ss) u h = by (has_term seen s) refl (λ bs. first_not bs ss u)
   where
     differ : has_term seen s ≡ false → one_term u s ≡ false
-    differ e = elim (yes_or_no (one_term u s)) [ inl k ↦ absurd (true≢false (sym h ∙ has_same seen u s k ∙ e)) | inr n ↦ n ]
+    differ e = elim (cases_Bool (one_term u s)) [ inl k ↦ absurd (true≢false (sym h ∙ has_same seen u s k ∙ e)) | inr n ↦ n ]
 
     by : (b : Bool) → has_term seen s ≡ b → ((bs : List Term) → has_term bs u ≡ true → has_term (first_terms bs ss) u ≡ false) → has_term (cond b (first_terms seen ss) (s ∷ first_terms (s ∷ seen) ss)) u ≡ false
     by true e ih = ih seen h
@@ -176,14 +167,14 @@ first_once seen (t ∷ ts) = by (has_term seen t) (λ bs. first_once bs ts)
 -- a term of the list is one term with one that was seen or stands first
 pub first_has : (seen ts : List Term) (u : Term) → has_term ts u ≡ true → has_term seen u ≡ false → has_term (first_terms seen ts) u ≡ true
 first_has seen [] u h n = absurd (true≢false (sym h))
-first_has seen (s ∷ ss) u h n = by (has_term seen s) refl (or_either (one_term u s) (has_term ss u) h) (λ bs. first_has bs ss u)
+first_has seen (s ∷ ss) u h n = by (has_term seen s) refl (or_cases (one_term u s) (has_term ss u) h) (λ bs. first_has bs ss u)
   where
     by : (b : Bool) → has_term seen s ≡ b → (one_term u s ≡ true) ⊎ (has_term ss u ≡ true) → ((bs : List Term) → has_term ss u ≡ true → has_term bs u ≡ false → has_term (first_terms bs ss) u ≡ true)
         → has_term (cond b (first_terms seen ss) (s ∷ first_terms (s ∷ seen) ss)) u ≡ true
     by true e (inl k) ih = absurd (true≢false (sym (has_same seen u s k ∙ e) ∙ n))
     by true e (inr k) ih = ih seen k n
     by false e (inl k) ih = or_left (one_term u s) (has_term (first_terms (s ∷ seen) ss) u) k
-    by false e (inr k) ih = elim (yes_or_no (one_term u s)) [
+    by false e (inr k) ih = elim (cases_Bool (one_term u s)) [
       | inl o ↦ or_left (one_term u s) (has_term (first_terms (s ∷ seen) ss) u) o
       | inr o ↦ or_right (one_term u s) (has_term (first_terms (s ∷ seen) ss) u) (ih (s ∷ seen) k (ap (λ b. b || has_term seen u) o ∙ n))
     ]

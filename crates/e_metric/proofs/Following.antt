@@ -1,9 +1,10 @@
 -- What is told is so.
 use Rattle.std.proofs.Common.{◌≡◌, List, true, Some, None, Result, Ok, Err, IfOk}
+use Rattle.std.proofs.lemmas.Bool.{and_from}
 use Rattle.e_literal.specs.declared.literal.Lit.{Lit}
 use Rattle.e_literal.specs.Facts.{is_metric}
 use Rattle.e_literal.specs.WellFormed.{is_well_formed}
-use Rattle.e_literal.proofs.Terms.{and_left, both}
+use Rattle.e_literal.proofs.Booleans.{and_left}
 use Rattle.e_clause.specs.Laws.{is_good_wanted}
 use Rattle.e_clause.specs.Metric.{MetricConsequence, Unsatisfiable}
 use Rattle.e_clause.specs.MetricCertificate.{sums_refute}
@@ -15,7 +16,7 @@ use Rattle.e_metric.specs.Told.{IsTold, IfYes, IfNo}
 
 pub yes_follows : (facts : List Lit) (l : Lit) (m : Metric) → is_good_wanted (Some l) ≡ true → IsTold facts (Some l) m → IfYes m (MetricConsequence facts l)
 yes_follows facts l (Yes c) g h =
-    metric_certificate facts l c (both (is_metric l) (sums_refute facts (Some l) c.sums) (and_left (is_metric l) (is_well_formed l) g) h.refutes)
+    metric_certificate facts l c (and_from (is_metric l) (sums_refute facts (Some l) c.sums) (and_left (is_metric l) (is_well_formed l) g) h.refutes)
 yes_follows facts l (No v) g h = tt
 yes_follows facts l (TooWide w) g h = tt
 

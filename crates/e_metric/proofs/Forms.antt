@@ -1,10 +1,11 @@
 -- The difference of two sums: each term once, with the coefficient that the sums give it.
-use Rattle.std.proofs.Common.{◌≡◌, ◌≢◌, ℕ, zero, suc, ◌+◌, ◌*◌, ◌^◌, ◌≤◌, List, [], ◌∷◌, ◌++◌, length, refl, sym, ap, ◌∙◌, arith, Bool, true, false, cond, not, ◌||◌, ◌&&◌, true≢false, ◌⊎◌, inl, inr, subst}
+use Rattle.std.proofs.Common.{◌≡◌, ◌≢◌, ℕ, zero, suc, ◌+◌, ◌*◌, ◌^◌, ◌≤◌, List, [], ◌∷◌, ◌++◌, length, refl, sym, ap, ◌∙◌, arith, Bool, true, false, cond, not, ◌||◌, ◌&&◌, true≢false, ◌⊎◌, inl, inr, subst, length-append}
 use Rattle.std.specs.Prelude.{nat_le, unsigned_abs, ◌-ℤ◌}
 use Rattle.std.specs.List.{list_all}
 use Rattle.std.specs.Ordering.{int_eq}
-use Rattle.std.proofs.lemmas.Bool.Decides.{Decides-int_eq, nat_tests}
+use Rattle.std.proofs.lemmas.Bool.Decides.{nat_tests}
 use Rattle.std.proofs.lemmas.List.Folds.{list_any-append}
+use Rattle.std.proofs.lemmas.Bool.{and_from, or_parts, or_left, or_right, not-true}
 use lib.IntN.{ℤ, pos, ◌+ℤ◌}
 use borrow.Author.Differences.{abs_is}
 use Rattle.e_literal.specs.declared.object.Mono.{Mono}
@@ -18,10 +19,11 @@ use Rattle.e_literal.specs.declared.literal.Atom.TheVariants.{MagEq, MagLt}
 use Rattle.e_literal.specs.WellFormed.{same_kind, is_good_coefficient, are_good_sums, is_good_atom}
 use Rattle.e_fraction.specs.Distinct.{have_distinct_terms}
 use Rattle.e_fraction.specs.Limits.{has_small_coefficients}
-use Rattle.e_literal.proofs.Arith.{sums}
-use Rattle.e_literal.proofs.Terms.{term_eq_is, term_eq_same, equal_terms, term_eq_turned, or_left, or_right, and_left, and_right}
+use Rattle.e_literal.proofs.Arith.{sums, zero_is, not_zero}
+use Rattle.e_literal.proofs.Terms.{term_eq_is, term_eq_same, equal_terms, term_eq_turned}
 use Rattle.e_literal.proofs.Canonical.{canonical_twice}
 use Rattle.e_literal.proofs.Valued.{is_normal, normal_coefficient}
+use Rattle.e_literal.proofs.Booleans.{and_left, and_right}
 use Rattle.e_metric.specs.Joined.{difference, stands_in, is_passed, with_term, with_terms, joined}
 use Rattle.e_metric.specs.Agree.{has_no_zero}
 
@@ -31,26 +33,16 @@ pub none_more : {X : Type 0} (xs : List X) → xs ++ [] ≡ xs
 none_more [] = refl
 none_more (x ∷ xs) = ap (λ ys. x ∷ ys) (none_more xs)
 
--- ---- tests
-
-not_true : (b : Bool) → not b ≡ true → b ≡ false
-not_true true h = absurd (true≢false (sym h))
-not_true false h = refl
-
-both : (a b : Bool) → a ≡ true → b ≡ true → (a && b) ≡ true
-both true b h k = k
-both false b h k = absurd (true≢false (sym h))
-
 -- ---- normal terms
 
 normal_is : (t : Term) → is_normal t ≡ true → (canonical t ≡ t) × (is_degenerate t ≡ false)
 normal_is t h = (
   term_eq_is (canonical t) t (and_left (term_eq (canonical t) t) (not (is_degenerate t)) h),
-  not_true (is_degenerate t) (and_right (term_eq (canonical t) t) (not (is_degenerate t)) h),
+  not-true (is_degenerate t) (and_right (term_eq (canonical t) t) (not (is_degenerate t)) h),
 )
 
 is_normal_of : (t : Term) → canonical t ≡ t → is_degenerate t ≡ false → is_normal t ≡ true
-is_normal_of t e d = both (term_eq (canonical t) t) (not (is_degenerate t)) (equal_terms (canonical t) t e) (ap not d)
+is_normal_of t e d = and_from (term_eq (canonical t) t) (not (is_degenerate t)) (equal_terms (canonical t) t e) (ap not d)
 
 -- the value where the term is normal, and 0 elsewhere
 abbrev if_normal : Term → ℤ → ℤ
@@ -83,35 +75,25 @@ nor : (a b : Bool) → a ≡ false → b ≡ false → (a || b) ≡ false
 nor true b h k = absurd (true≢false h)
 nor false b h k = k
 
-or_false : (a b : Bool) → (a || b) ≡ false → (a ≡ false) × (b ≡ false)
-or_false true b h = absurd (true≢false h)
-or_false false b h = (refl, h)
-
 distinct_push : (form : Summands) (n : ℤ) (t : Term) → have_distinct_terms form ≡ true → stands_in form t ≡ false → have_distinct_terms (form ++ (n, t) ∷ []) ≡ true
 distinct_push [] n t h k = refl
 distinct_push (p ∷ ps) n t h k =
-    (let w = or_false (term_eq p.1 t) (stands_in ps t) k in
-    let rest = not_true (stands_in ps p.1) (and_left (not (stands_in ps p.1)) (have_distinct_terms ps) h) in
+    (let w = or_parts (term_eq p.1 t) (stands_in ps t) k in
+    let rest = not-true (stands_in ps p.1) (and_left (not (stands_in ps p.1)) (have_distinct_terms ps) h) in
     let one : stands_in (ps ++ (n, t) ∷ []) p.1 ≡ false = stands_append ps ((n, t) ∷ []) p.1 ∙ nor (stands_in ps p.1) (term_eq t p.1 || false) rest (nor (term_eq t p.1) false (term_eq_turned t p.1 ∙ w.0) refl) in
-    both (not (stands_in (ps ++ (n, t) ∷ []) p.1)) (have_distinct_terms (ps ++ (n, t) ∷ [])) (ap not one)
+    and_from (not (stands_in (ps ++ (n, t) ∷ []) p.1)) (have_distinct_terms (ps ++ (n, t) ∷ [])) (ap not one)
     (distinct_push ps n t (and_right (not (stands_in ps p.1)) (have_distinct_terms ps) h) w.1))
-
-some_of : (z : ℤ) → int_eq z (pos 0) ≡ false → z ≢ pos 0
-some_of z h e = true≢false (sym ((Decides-int_eq z (pos 0)).1 e) ∙ h)
-
-none_of : (z : ℤ) → int_eq z (pos 0) ≡ true → z ≡ pos 0
-none_of z h = (Decides-int_eq z (pos 0)).0 h
 
 joined_term : (x y : List Mono) (form : Summands) (t : Term) → canonical t ≡ t → IsJoined x y form → IsJoined x y (with_term x y form t)
 joined_term x y form t c h = by (is_passed x y form t) refl
   where
     by : (b : Bool) → is_passed x y form t ≡ b → IsJoined x y (cond b form (form ++ (difference x y t, t) ∷ []))
     by true e = h
-    by false e = (let w = or_false (is_degenerate t) (stands_in form t || int_eq (difference x y t) (pos 0)) e in
-        let v = or_false (stands_in form t) (int_eq (difference x y t) (pos 0)) w.1 in
+    by false e = (let w = or_parts (is_degenerate t) (stands_in form t || int_eq (difference x y t) (pos 0)) e in
+        let v = or_parts (stands_in form t) (int_eq (difference x y t) (pos 0)) w.1 in
         record {
           distinct = distinct_push form (difference x y t) t h.distinct v.0;
-          told = told_push x y form (difference x y t, t) h.told (record { coefficient = refl; some = some_of (difference x y t) v.1; normal = is_normal_of t c w.0 });
+          told = told_push x y form (difference x y t, t) h.told (record { coefficient = refl; some = not_zero (difference x y t) v.1; normal = is_normal_of t c w.0 });
         })
 
 joined_terms : (x y : List Mono) (form : Summands) (ms : List Mono) → IsJoined x y form → IsJoined x y (with_terms x y form ms)
@@ -139,7 +121,7 @@ stands_here x y form t d n = by (stands_in form t) (int_eq (difference x y t) (p
   where
     by : (a b : Bool) → stands_in form t ≡ a → int_eq (difference x y t) (pos 0) ≡ b → stands_in (with_term x y form t) t ≡ true
     by true b e f = stands_keep x y form t t e
-    by false true e f = absurd (n (none_of (difference x y t) f))
+    by false true e f = absurd (n (zero_is (difference x y t) f))
     by false false e f =
         ap (λ k. stands_in (cond k form (form ++ (difference x y t, t) ∷ [])) t) (nor (is_degenerate t) (stands_in form t || int_eq (difference x y t) (pos 0)) d (nor (stands_in form t) (int_eq (difference x y t) (pos 0)) e f))
         ∙ stands_append form ((difference x y t, t) ∷ []) t
@@ -158,7 +140,7 @@ stands_met x y form (m ∷ ms) t n d c = by (one_term m.term t) refl (λ k. stan
 
 coefficient_absent : (form : Summands) (t : Term) → stands_in form t ≡ false → coefficient form t ≡ pos 0
 coefficient_absent [] t h = refl
-coefficient_absent (p ∷ ps) t h = (let w = or_false (term_eq p.1 t) (stands_in ps t) h in
+coefficient_absent (p ∷ ps) t h = (let w = or_parts (term_eq p.1 t) (stands_in ps t) h in
     ap (λ b. cond b p.0 (pos 0) +ℤ coefficient ps t) w.0 ∙ omega (arith, sums, coefficient_absent ps t w.1))
 
 coefficient_present : (x y : List Mono) (form : Summands) (t : Term) → have_distinct_terms form ≡ true → AllTold x y form → stands_in form t ≡ true → coefficient form t ≡ if_normal t (difference x y t)
@@ -167,7 +149,7 @@ coefficient_present x y (p ∷ ps) t d h s = by (term_eq p.1 t) refl (λ k. coef
   where
     by : (b : Bool) → term_eq p.1 t ≡ b → (stands_in ps t ≡ true → coefficient ps t ≡ if_normal t (difference x y t)) → cond b p.0 (pos 0) +ℤ coefficient ps t ≡ if_normal t (difference x y t)
     by true e ih = (let same : p.1 ≡ t = term_eq_is p.1 t e in
-        let absent : stands_in ps t ≡ false = ap (stands_in ps) (sym same) ∙ not_true (stands_in ps p.1) (and_left (not (stands_in ps p.1)) (have_distinct_terms ps) d) in
+        let absent : stands_in ps t ≡ false = ap (stands_in ps) (sym same) ∙ not-true (stands_in ps p.1) (and_left (not (stands_in ps p.1)) (have_distinct_terms ps) d) in
         let value : if_normal t (difference x y t) ≡ p.0 = ap (λ u. if_normal u (difference x y u)) (sym same) ∙ ap (λ b. cond b (difference x y p.1) (pos 0)) h.0.normal ∙ sym h.0.coefficient in
         omega (arith, sums, coefficient_absent ps t absent) ∙ sym value)
     by false e ih = omega (arith, sums) ∙ ih (ap (λ k. k || stands_in ps t) (sym e) ∙ s)
@@ -177,8 +159,8 @@ joined_coefficient x y t = by (stands_in (joined x y) t) refl ∙ sym (normal_co
   where
     none : (n d : Bool) → stands_in (joined x y) t ≡ false → is_normal t ≡ n → int_eq (difference x y t) (pos 0) ≡ d → pos 0 ≡ cond n (difference x y t) (pos 0)
     none false d s e f = refl
-    none true true s e f = sym (none_of (difference x y t) f)
-    none true false s e f = (let n = some_of (difference x y t) f in
+    none true true s e f = sym (zero_is (difference x y t) f)
+    none true false s e f = (let n = not_zero (difference x y t) f in
         absurd (true≢false (sym (elim (either (coeff_of x t) (coeff_of y t) n) [
           | inl c ↦ stands_keeps x y (with_terms x y [] x) y t (stands_met x y [] x t e n c)
           | inr c ↦ stands_met x y (with_terms x y [] x) y t e n c
@@ -197,13 +179,13 @@ joined_coefficient x y t = by (stands_in (joined x y) t) refl ∙ sym (normal_co
 
 pub no_zero : (x y : List Mono) (form : Summands) → AllTold x y form → has_no_zero form ≡ true
 no_zero x y [] h = refl
-no_zero x y (p ∷ ps) h = both (not (int_eq p.0 (pos 0))) (has_no_zero ps) (some_is p.0 h.0.some) (no_zero x y ps h.1)
+no_zero x y (p ∷ ps) h = and_from (not (int_eq p.0 (pos 0))) (has_no_zero ps) (some_is p.0 h.0.some) (no_zero x y ps h.1)
   where
     some_is : (z : ℤ) → z ≢ pos 0 → not (int_eq z (pos 0)) ≡ true
     some_is z n = by (int_eq z (pos 0)) refl
       where
         by : (b : Bool) → int_eq z (pos 0) ≡ b → not b ≡ true
-        by true e = absurd (n (none_of z e))
+        by true e = absurd (n (zero_is z e))
         by false e = refl
 
 coefficient_bound : (ms : List Mono) (t : Term) → list_all (λ m. is_good_coefficient m.coeff) ms ≡ true → coeff_of ms t ≤ 1000000 * length ms
@@ -223,7 +205,7 @@ pub all_small : (x y : List Mono) (form : Summands) → length x + length y ≤ 
     → AllTold x y form → has_small_coefficients form ≡ true
 all_small x y [] l a b h = refl
 all_small x y (p ∷ ps) l a b h =
-    both (nat_le (unsigned_abs p.0) (2 ^ 30)) (has_small_coefficients ps) (ap (λ z. nat_le (unsigned_abs z) (2 ^ 30)) h.0.coefficient ∙ within (coeff_of x p.1) (coeff_of y p.1)
+    and_from (nat_le (unsigned_abs p.0) (2 ^ 30)) (has_small_coefficients ps) (ap (λ z. nat_le (unsigned_abs z) (2 ^ 30)) h.0.coefficient ∙ within (coeff_of x p.1) (coeff_of y p.1)
     (omega (arith, coefficient_bound x p.1 a)) (omega (arith, coefficient_bound y p.1 b))) (all_small x y ps l a b h.1)
   where
     le_is : (a b : ℕ) → a ≤ b → nat_le a b ≡ true
@@ -231,10 +213,6 @@ all_small x y (p ∷ ps) l a b h =
 
     within : (a b : ℕ) → a ≤ 32000000 → b ≤ 32000000 → nat_le (unsigned_abs (pos a -ℤ pos b)) (2 ^ 30) ≡ true
     within a b h k = le_is (unsigned_abs (pos a -ℤ pos b)) (2 ^ 30) (omega (arith, sums, abs_is (pos a -ℤ pos b)))
-
-length_append : {X : Type 0} (xs ys : List X) → length (xs ++ ys) ≡ length xs + length ys
-length_append [] ys = omega arith
-length_append (x ∷ xs) ys = omega (arith, length_append xs ys)
 
 terms_length : (x y : List Mono) (form : Summands) (ms : List Mono) → length (with_terms x y form ms) ≤ length form + length ms
 terms_length x y form [] = omega arith
@@ -246,7 +224,7 @@ terms_length x y form (m ∷ ms) = by (is_passed x y form (canonical m.term)) (t
       where
         one : (b : Bool) → length (cond b form (form ++ (difference x y (canonical m.term), canonical m.term) ∷ [])) ≤ suc (length form)
         one true = omega arith
-        one false = omega (arith, length_append form ((difference x y (canonical m.term), canonical m.term) ∷ []))
+        one false = omega (arith, length-append form ((difference x y (canonical m.term), canonical m.term) ∷ []))
 
 pub joined_length : (x y : List Mono) → length (joined x y) ≤ length x + length y
 joined_length x y = omega (arith, terms_length x y (with_terms x y [] x) y, terms_length x y [] x)
@@ -264,7 +242,7 @@ module _ (x y : List Mono) (h : are_good_sums x y ≡ true) where
   after_one = and_right (nat_le 1 (length (x ++ y))) few_good h
 
   pub few_monomials : length x + length y ≤ 32
-  few_monomials = (let e = and_left (nat_le (length (x ++ y)) 32) each_good after_one in omega (arith, length_append x y, le_of (length (x ++ y)) 32 e))
+  few_monomials = (let e = and_left (nat_le (length (x ++ y)) 32) each_good after_one in omega (arith, length-append x y, le_of (length (x ++ y)) 32 e))
     where
       le_of : (a b : ℕ) → nat_le a b ≡ true → a ≤ b
       le_of a b h = grind (arith, nat_tests)
@@ -274,7 +252,7 @@ module _ (x y : List Mono) (h : are_good_sums x y ≡ true) where
   coefficients_of k (m ∷ ms) e =
       (let first = and_left (same_kind (kind_of_term m.term) k && is_good_coefficient m.coeff) (list_all (λ n. same_kind (kind_of_term n.term) k && is_good_coefficient n.coeff) ms) e in
       let rest = and_right (same_kind (kind_of_term m.term) k && is_good_coefficient m.coeff) (list_all (λ n. same_kind (kind_of_term n.term) k && is_good_coefficient n.coeff) ms) e in
-      both (is_good_coefficient m.coeff) (list_all (λ n. is_good_coefficient n.coeff) ms) (and_right (same_kind (kind_of_term m.term) k) (is_good_coefficient m.coeff) first) (coefficients_of k ms rest))
+      and_from (is_good_coefficient m.coeff) (list_all (λ n. is_good_coefficient n.coeff) ms) (and_right (same_kind (kind_of_term m.term) k) (is_good_coefficient m.coeff) first) (coefficients_of k ms rest))
 
   all_coefficients : list_all (λ m. is_good_coefficient m.coeff) (x ++ y) ≡ true
   all_coefficients = coefficients_of (kind_of_sums x y) (x ++ y) (and_right (nat_le (length (x ++ y)) 32) each_good after_one)
@@ -283,7 +261,7 @@ module _ (x y : List Mono) (h : are_good_sums x y ≡ true) where
   parts [] ys e = (refl, e)
   parts (m ∷ ms) ys e =
       (let r = parts ms ys (and_right (is_good_coefficient m.coeff) (list_all (λ n. is_good_coefficient n.coeff) (ms ++ ys)) e) in
-      (both (is_good_coefficient m.coeff) (list_all (λ n. is_good_coefficient n.coeff) ms) (and_left (is_good_coefficient m.coeff) (list_all (λ n. is_good_coefficient n.coeff) (ms ++ ys)) e) r.0, r.1))
+      (and_from (is_good_coefficient m.coeff) (list_all (λ n. is_good_coefficient n.coeff) ms) (and_left (is_good_coefficient m.coeff) (list_all (λ n. is_good_coefficient n.coeff) (ms ++ ys)) e) r.0, r.1))
 
   pub left_coefficients : list_all (λ m. is_good_coefficient m.coeff) x ≡ true
   left_coefficients = (parts x y all_coefficients).0

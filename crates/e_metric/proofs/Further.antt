@@ -14,10 +14,11 @@ use Rattle.e_fraction.specs.declared.row.Row.{Row as GivenRow}
 use Rattle.e_metric.specs.Agree.{AreRows, GrowBy}
 use Rattle.e_metric.specs.Listed.{listed, terms_of_kind}
 use Rattle.e_metric.specs.Further.{fresh_terms, rows_of_goal, further}
-use Rattle.e_metric.proofs.FirstTerms.{listed_first, take_whole, some_wanted, none_wanted}
+use Rattle.e_metric.proofs.FirstTerms.{listed_first, some_wanted, none_wanted}
 use Rattle.e_metric.proofs.Forms.{none_more}
 use Rattle.e_metric.proofs.Growing.{grow_more, flat_append}
 use Rattle.e_metric.proofs.Reordered.{AreReordered, one_order, blocks}
+use Rattle.e_simplex.proofs.Spreading.{take_done}
 
 -- ---- terms
 
@@ -36,7 +37,7 @@ as_long which terms l all e = omega (
 
 pub last_behind : (which : Kind) (terms : List Term) (l : Lit) (all : List Term) → all ≡ listed terms (terms_of_lits (of_kind which (l ∷ []))) → take (length all - length terms) (drop (length terms) all) ≡ fresh_terms which terms l
 last_behind which terms l all e =
-    take_whole (drop (length terms) all) (length all - length terms) (omega (arith, length-drop (length terms) all)) ∙ behind which terms l all e
+    take_done (drop (length terms) all) (length all - length terms) (omega (arith, length-drop (length terms) all)) ∙ behind which terms l all e
 
 -- the terms of the facts, and then the fresh ones
 all_terms : (which : Kind) (facts : List Lit) (l : Lit) → terms_of_kind which facts (Some l) ≡ terms_of_kind which facts None ++ fresh_terms which (terms_of_kind which facts None) l

@@ -1,22 +1,18 @@
 -- Sums that are well formed, part by part.
-use Rattle.std.proofs.Common.{◌≡◌, ℕ, ◌+◌, List, [], ◌∷◌, ◌++◌, length, sym, ap, ap₂, ◌∙◌, arith, Bool, true, false, ◌&&◌, true≢false, inl, inr, take, Some}
+use Rattle.std.proofs.Common.{◌≡◌, ℕ, ◌+◌, List, [], ◌∷◌, ◌++◌, length, sym, ap, ap₂, ◌∙◌, Bool, true, false, ◌&&◌, true≢false, inl, inr, take, Some, length-append}
 use Rattle.std.specs.Prelude.{nat_le, slice_get}
 use Rattle.std.specs.List.{list_all}
 use Rattle.std.proofs.lemmas.List.Folds.{list_all-append}
+use Rattle.std.proofs.lemmas.Bool.{cases_Bool}
 use Rattle.e_literal.specs.declared.object.Kind.{Kind}
 use Rattle.e_literal.specs.declared.object.Mono.{Mono}
 use Rattle.e_literal.specs.declared.literal.Lit.{Lit}
 use Rattle.e_literal.specs.Literal.{kind_of_term, kind_of_sums}
 use Rattle.e_literal.specs.WellFormed.{same_kind, is_good_coefficient, are_good_sums}
-use Rattle.e_literal.proofs.Terms.{yes_or_no}
 use Rattle.e_clause.specs.Assignment.{terms_of_atom, terms_of_lits}
 use Rattle.e_metric.proofs.Forms.{none_more}
 use Rattle.e_metric.proofs.FirstTerms.{take_one, lits_append}
 use Rattle.e_metric.proofs.Growing.{all_at}
-
-length_append : {X : Type 0} (xs ys : List X) → length (xs ++ ys) ≡ length xs + length ys
-length_append [] ys = omega arith
-length_append (x ∷ xs) ys = omega (arith, length_append xs ys)
 
 abbrev good_of : Kind → Mono → Bool
 good_of which m = same_kind (kind_of_term m.term) which && is_good_coefficient m.coeff
@@ -24,7 +20,7 @@ good_of which m = same_kind (kind_of_term m.term) which && is_good_coefficient m
 pub parts : (x y : List Mono) → are_good_sums x y ≡ (nat_le 1 (length x + length y) && (nat_le (length x + length y) 32
     && (list_all (λ m. same_kind (kind_of_term m.term) (kind_of_sums x y) && is_good_coefficient m.coeff) x && list_all (λ m. same_kind (kind_of_term m.term) (kind_of_sums x y) && is_good_coefficient m.coeff) y)))
 parts x y =
-    ap₂ {A = ℕ} {B = Bool} (λ n b. nat_le 1 n && (nat_le n 32 && b)) (length_append x y) (list_all-append (good_of (kind_of_sums x y)) x y)
+    ap₂ {A = ℕ} {B = Bool} (λ n b. nat_le 1 n && (nat_le n 32 && b)) (length-append x y) (list_all-append (good_of (kind_of_sums x y)) x y)
 
 -- one fact more
 pub monomials_more : (facts : List Lit) (i : ℕ) (l : Lit) → slice_get facts i ≡ Some l
@@ -32,13 +28,13 @@ pub monomials_more : (facts : List Lit) (i : ℕ) (l : Lit) → slice_get facts 
 monomials_more facts i l h =
     ap (λ ls. length (terms_of_lits ls)) (take_one facts i l h)
     ∙ ap (λ ts. length ts) (lits_append (take i facts) (l ∷ []))
-    ∙ length_append (terms_of_lits (take i facts)) (terms_of_atom l.atom ++ [])
+    ∙ length-append (terms_of_lits (take i facts)) (terms_of_atom l.atom ++ [])
     ∙ ap (λ ts. length (terms_of_lits (take i facts)) + length ts) (none_more (terms_of_atom l.atom))
 
 -- ---- a test of each
 
 pub not_all : (p : Lit → Bool) (ls : List Lit) (i : ℕ) (l : Lit) → slice_get ls i ≡ Some l → p l ≡ false → false ≡ list_all p ls
-not_all p ls i l h e = elim (yes_or_no (list_all p ls)) [
+not_all p ls i l h e = elim (cases_Bool (list_all p ls)) [
   | inl k ↦ absurd (true≢false (sym (all_at p ls i l k h) ∙ e))
   | inr n ↦ sym n
 ]

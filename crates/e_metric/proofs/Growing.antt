@@ -1,8 +1,9 @@
 -- Lists of named rows that grow.
 use Rattle.std.proofs.Common.{◌≡◌, ℕ, zero, suc, ◌+◌, List, [], ◌∷◌, ◌++◌, take, refl, sym, ap, ◌∙◌, subst, Bool, true, cond, Option, Some, None, append_assoc}
-use Rattle.std.specs.Prelude.{filter_map, flat_map, slice_get}
+use Rattle.std.specs.Prelude.{flat_map, slice_get}
 use Rattle.std.specs.Option.{option_map}
 use Rattle.std.specs.List.{cons_option, list_all}
+use Rattle.std.proofs.lemmas.List.Elements.{filter_map-append}
 use Rattle.e_literal.specs.declared.object.Kind.{Kind}
 use Rattle.e_literal.specs.declared.object.Kind.TheVariants.{Angle}
 use Rattle.e_literal.specs.declared.object.Term.{Term}
@@ -10,7 +11,7 @@ use Rattle.e_literal.specs.declared.object.Term.TheVariants.{Seg, Ang, Right}
 use Rattle.e_literal.specs.declared.literal.Lit.{Lit}
 use Rattle.e_literal.specs.Facts.{are_apart}
 use Rattle.e_literal.specs.Rows.{Row, row_of_lit}
-use Rattle.e_literal.proofs.Terms.{and_left, and_right}
+use Rattle.e_literal.proofs.Booleans.{and_left, and_right}
 use Rattle.e_clause.specs.declared.cert.RowName.{RowName}
 use Rattle.e_clause.specs.declared.cert.RowName.TheVariants.{Fact, Goal, Pos, Top, Right as RightRow}
 use Rattle.e_clause.specs.System.{NamedRow, named, is_of_kind, of_kind, against_goal, system, rows_named, rows_of_term, rows_of_kind, pos_row, top_row, right_row}
@@ -97,20 +98,12 @@ all_at p [] i x h e = absurd (cc)
 all_at p (y ∷ ys) zero x h e = (let s : y ≡ x = cc in ap p (sym s) ∙ and_left (p y) (list_all p ys) h)
 all_at p (y ∷ ys) (suc i) x h e = all_at p ys i x (and_right (p y) (list_all p ys) h) e
 
-map_append : {X Y : Type 0} (f : X → Option Y) (xs ys : List X) → filter_map f (xs ++ ys) ≡ filter_map f xs ++ filter_map f ys
-map_append f [] ys = refl
-map_append {Y = Y} f (x ∷ xs) ys = by (f x) (map_append f xs ys)
-  where
-    by : (o : Option Y) → filter_map f (xs ++ ys) ≡ filter_map f xs ++ filter_map f ys → cons_option o (filter_map f (xs ++ ys)) ≡ cons_option o (filter_map f xs) ++ filter_map f ys
-    by (Some y) h = ap (λ zs. y ∷ zs) h
-    by None h = h
-
 pub facts_grow : (which : Kind) (name : Lit → RowName) (facts : List Lit) (i : ℕ) (l : Lit) (x y z : List (RowName × GivenRow)) → slice_get facts i ≡ Some l
     → GrowBy (rows_named name (of_kind which (take i facts))) x y → GrowBy (rows_named name (of_kind which (l ∷ []))) y z
     → GrowBy (rows_named name (of_kind which (take (i + 1) facts))) x z
 facts_grow which name facts i l x y z e h k =
     subst (λ rs. GrowBy rs x z)
-    (sym (ap (rows_named name) (kind_more which facts i l e) ∙ map_append (λ f. option_map (named (name f)) (row_of_lit f)) (of_kind which (take i facts)) (of_kind which (l ∷ []))))
+    (sym (ap (rows_named name) (kind_more which facts i l e) ∙ filter_map-append (λ f. option_map (named (name f)) (row_of_lit f)) (of_kind which (take i facts)) (of_kind which (l ∷ []))))
     (grow_more (rows_named name (of_kind which (take i facts))) (rows_named name (of_kind which (l ∷ []))) x y z h k)
 
 pub flat_append : (f : Term → List NamedRow) (xs ys : List Term) → flat_map f (xs ++ ys) ≡ flat_map f xs ++ flat_map f ys

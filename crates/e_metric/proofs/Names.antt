@@ -4,11 +4,12 @@ use Rattle.std.specs.Prelude.{set, int_lt, neg_ℤ}
 use Rattle.std.specs.List.{list_all}
 use Rattle.std.specs.Ordering.{int_eq}
 use Rattle.std.proofs.lemmas.List.Folds.{list_all-append}
+use Rattle.std.proofs.lemmas.Bool.{and_from}
 use lib.IntN.{ℤ, pos}
 use Rattle.e_literal.specs.declared.object.Term.{Term}
 use Rattle.e_literal.specs.Same.{canonical}
 use Rattle.e_literal.specs.Absurd.{total}
-use Rattle.e_literal.proofs.Terms.{and_left, and_right, both}
+use Rattle.e_literal.proofs.Booleans.{and_left, and_right}
 use Rattle.e_clause.specs.declared.cert.RowName.{RowName}
 use Rattle.e_clause.specs.declared.cert.RowName.TheVariants.{Goal, Least, Above, Below}
 use Rattle.e_clause.specs.declared.cert.Sums.{Sums}
@@ -38,7 +39,7 @@ module _ (p : RowName → Bool) where
 
   pub each_name : (ns : List NamedRow) → Each (λ n. p n.name ≡ true) ns → list_all p (map (λ (n : NamedRow). n.name) ns) ≡ true
   each_name [] h = refl
-  each_name (n ∷ ns) h = both (p n.name) (list_all p (map (λ (m : NamedRow). m.name) ns)) h.0 (each_name ns h.1)
+  each_name (n ∷ ns) h = and_from (p n.name) (list_all p (map (λ (m : NamedRow). m.name) ns)) h.0 (each_name ns h.1)
 
   kept_in : (ns : List RowName) (ms : List ℤ) → list_all p ns ≡ true → each_in (kept ns ms) ≡ true
   kept_in [] ms h = refl
@@ -47,26 +48,26 @@ module _ (p : RowName → Bool) where
     where
       by : (b : Bool) → each_in (kept ns ms) ≡ true → each_in (cond b (kept ns ms) ((m, n) ∷ kept ns ms)) ≡ true
       by true ih = ih
-      by false ih = both (p n) (each_in (kept ns ms)) (and_left (p n) (list_all p ns) h) ih
+      by false ih = and_from (p n) (each_in (kept ns ms)) (and_left (p n) (list_all p ns) h) ih
 
   leasts_in : (left : Term → ℤ) (ts : List Term) → list_all (λ t. p (Least t)) ts ≡ true → each_in (leasts left ts) ≡ true
   leasts_in left [] h = refl
   leasts_in left (t ∷ ts) h = by (int_lt (left (canonical t)) (pos 0)) (leasts_in left ts (and_right (p (Least t)) (list_all (λ u. p (Least u)) ts) h))
     where
       by : (b : Bool) → each_in (leasts left ts) ≡ true → each_in (cond b ((neg_ℤ (left (canonical t)), Least t) ∷ leasts left ts) (leasts left ts)) ≡ true
-      by true ih = both (p (Least t)) (each_in (leasts left ts)) (and_left (p (Least t)) (list_all (λ u. p (Least u)) ts) h) ih
+      by true ih = and_from (p (Least t)) (each_in (leasts left ts)) (and_left (p (Least t)) (list_all (λ u. p (Least u)) ts) h) ih
       by false ih = ih
 
   sum_has : (ns : List RowName) (gs : List GivenRow) (ms ws : List ℤ) (ts : List Term) → list_all p ns ≡ true → list_all (λ t. p (Least t)) ts ≡ true → each_in (sum_of ns gs ms ws ts) ≡ true
   sum_has ns gs ms ws ts h k =
       list_all-append (λ (x : ℤ × RowName). p x.1) (kept ns ms) (leasts (total (weighed gs ws)) ts)
-      ∙ both (each_in (kept ns ms)) (each_in (leasts (total (weighed gs ws)) ts)) (kept_in ns ms h) (leasts_in (total (weighed gs ws)) ts k)
+      ∙ and_from (each_in (kept ns ms)) (each_in (leasts (total (weighed gs ws)) ts)) (kept_in ns ms h) (leasts_in (total (weighed gs ws)) ts k)
 
   set_in : (ns : List RowName) (k : ℕ) (n : RowName) → p n ≡ true → list_all p ns ≡ true → list_all p (set ns k n) ≡ true
   set_in [] zero n e h = refl
   set_in [] (suc k) n e h = refl
-  set_in (m ∷ ms) zero n e h = both (p n) (list_all p ms) e (and_right (p m) (list_all p ms) h)
-  set_in (m ∷ ms) (suc k) n e h = both (p m) (list_all p (set ms k n)) (and_left (p m) (list_all p ms) h) (set_in ms k n e (and_right (p m) (list_all p ms) h))
+  set_in (m ∷ ms) zero n e h = and_from (p n) (list_all p ms) e (and_right (p m) (list_all p ms) h)
+  set_in (m ∷ ms) (suc k) n e h = and_from (p m) (list_all p (set ms k n)) (and_left (p m) (list_all p ms) h) (set_in ms k n e (and_right (p m) (list_all p ms) h))
 
   get_in : (ns : List RowName) (k : ℕ) → p Goal ≡ true → list_all p ns ≡ true → p (get_or ns k Goal) ≡ true
   get_in [] zero g h = g
@@ -79,7 +80,7 @@ module _ (p : RowName → Bool) where
   sums_have ns gs ts (Two row above below) o h k =
       (let first = sum_of (set ns row Above) gs above.items above.items ts in
       let second = sum_of (set ns row Below) gs below.items (turned below.items row) ts in
-      both (p (get_or ns row Goal)) (each_in first && each_in second) (get_in ns row o.goal h)
-      (both (each_in first) (each_in second)
+      and_from (p (get_or ns row Goal)) (each_in first && each_in second) (get_in ns row o.goal h)
+      (and_from (each_in first) (each_in second)
       (sum_has (set ns row Above) gs above.items above.items ts (set_in ns row Above o.above h) k)
       (sum_has (set ns row Below) gs below.items (turned below.items row) ts (set_in ns row Below o.below h) k)))

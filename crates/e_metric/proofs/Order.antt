@@ -13,6 +13,7 @@ use Rattle.std.proofs.lemmas.Cmp.{on_total, tied_itself}
 use Rattle.std.proofs.lemmas.List.Kept.{IsStrictlySortedBy-dedup, Contains-dedup, Contains-from_dedup}
 use Rattle.std.proofs.lemmas.List.Filters.{dedup_is}
 use Rattle.std.proofs.lemmas.List.Sorted.{Contains-permutation, IsPermutation-sym}
+use Rattle.std.proofs.lemmas.Bool.{and_from, or_left, or_right, or_cases}
 use Rattle.e_literal.specs.declared.object.Term.{Term}
 use Rattle.e_literal.specs.declared.object.Term.TheVariants.{Seg, Ang, Area, Right}
 use Rattle.e_literal.specs.Same.{term_eq}
@@ -20,8 +21,8 @@ use Rattle.e_literal.specs.Width.{is_among}
 use Rattle.e_literal.specs.NormalForm.{numbers_of}
 use Rattle.e_literal.specs.contracts.object.TermOrd.TheImpl as order_impl
 use Rattle.e_literal.specs.contracts.object.TermPartialEq.TheImpl as equality_impl
-use Rattle.e_literal.proofs.Terms.{both, or_either, or_left, or_right, term_eq_is, term_eq_same, term_eq_turned, equal_terms}
-use Rattle.e_literal.proofs.Canonical.{same_bool}
+use Rattle.e_literal.proofs.Terms.{term_eq_is, term_eq_same, term_eq_turned, equal_terms}
+use Rattle.e_literal.proofs.Booleans.{same_bool}
 use Rattle.e_clause.specs.Counterexample.{is_before, are_in_order}
 
 -- ---- the order
@@ -133,12 +134,12 @@ lesser o h = ap is_lt h
 
 all_before : (t : Term) (ts : List Term) → AllByRecursion (λ u. order t u ≡ Less) ts → list_all (is_before t) ts ≡ true
 all_before t [] h = refl
-all_before t (u ∷ us) h = both (is_before t u) (list_all (is_before t) us) (lesser (order t u) h.0) (all_before t us h.1)
+all_before t (u ∷ us) h = and_from (is_before t u) (list_all (is_before t) us) (lesser (order t u) h.0) (all_before t us h.1)
 
 strictly : (ts : List Term) → IsStrictlySortedBy order ts → are_in_order ts ≡ true
 unfolding IsStrictlySortedBy
 strictly [] h = refl
-strictly (t ∷ ts) h = both (list_all (is_before t) ts) (are_in_order ts) (all_before t ts h.0) (strictly ts h.1)
+strictly (t ∷ ts) h = and_from (list_all (is_before t) ts) (are_in_order ts) (all_before t ts h.0) (strictly ts h.1)
 
 sorted_by : (f : Term → Term → Ordering) → ((a b : Term) → f a b ≡ order a b) → (ts : List Term) → IsSorted f ts → IsSorted order ts
 sorted_by f e ts h = λ k d l m. ap is_lt (sym (e (get_or ts (k + 1) d) (get_or ts k d))) ∙ h k d l m
@@ -151,7 +152,7 @@ in_order sorted kept h f = strictly kept (subst (IsStrictlySortedBy order) (sym 
 
 contains_of : (ts : List Term) (t : Term) → is_among ts t ≡ true → Contains ts t
 contains_of [] t h = absurd (true≢false (sym h))
-contains_of (u ∷ us) t h = elim (or_either (term_eq t u) (is_among us t) h) [
+contains_of (u ∷ us) t h = elim (or_cases (term_eq t u) (is_among us t) h) [
   | inl e ↦ (0, omega arith, sym (term_eq_is t u e))
   | inr k ↦ (let w = contains_of us t k in (suc w.0, omega (arith, w.1), w.2))
 ]

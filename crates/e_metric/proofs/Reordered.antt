@@ -1,18 +1,18 @@
 -- Rows in another order: they have the same solutions, and minors of the same sizes.
-use Rattle.std.proofs.Common.{◌≡◌, ℕ, suc, List, [], ◌∷◌, ◌++◌, map, length, get_or, refl, sym, ap, ap₂, ◌∙◌, subst, arith, ◌⊎◌, inl, inr}
+use Rattle.std.proofs.Common.{◌≡◌, ℕ, suc, List, [], ◌∷◌, ◌++◌, map, length, get_or, refl, sym, ap, ap₂, ◌∙◌, subst, arith, inl, inr}
 use Rattle.std.specs.Prelude.{unsigned_abs}
 use Rattle.std.proofs.Common.{length-append}
 use Rattle.std.proofs.lemmas.List.{map-append}
 use lib.IntN.{ℤ, neg_ℤ}
-use borrow.Author.Differences.{abs_is}
 use Rattle.e_literal.specs.Rows.{Row}
 use Rattle.e_literal.specs.Minor.{determinant, Column, Constants, SignedRow, entry, IsWide, IsPart}
 use Rattle.e_literal.proofs.Arith.{sums}
 use Rattle.e_clause.specs.System.{NamedRow}
-use Rattle.e_clause.proofs.Named.{Each}
+use Rattle.e_clause.proofs.Named.{Each, each-append}
 use Rattle.e_fraction.specs.Det.{det}
-use Rattle.e_fraction.proofs.Expand.{expand-same, expand-neg, expand_twice}
+use Rattle.e_fraction.proofs.Expand.{expand_twice}
 use Rattle.e_fraction.proofs.Named.{numbered, det_named}
+use Rattle.e_fraction.proofs.Moved.{UpToSign, up_to_sign-cons, up_to_sign-append, same_size, join_parts, numbered_append}
 
 abbrev row_of : NamedRow → Row
 row_of n = n.row
@@ -37,23 +37,11 @@ one_order ns ms os h k = record {
 
 -- ---- determinants
 
--- equal determinants, or each the negative of the other
-abbrev UpToSign : List (ℕ → ℤ) → List (ℕ → ℤ) → Type 0
-UpToSign rs qs = ((cs : List ℕ) → det rs cs ≡ det qs cs) ⊎ ((cs : List ℕ) → det rs cs ≡ neg_ℤ (det qs cs))
-
 up_to_signs : (ps qs rs : List (ℕ → ℤ)) → UpToSign ps qs → UpToSign qs rs → UpToSign ps rs
 up_to_signs ps qs rs (inl h) (inl k) = inl (λ cs. h cs ∙ k cs)
 up_to_signs ps qs rs (inl h) (inr k) = inr (λ cs. h cs ∙ k cs)
 up_to_signs ps qs rs (inr h) (inl k) = inr (λ cs. h cs ∙ ap neg_ℤ (k cs))
 up_to_signs ps qs rs (inr h) (inr k) = inl (λ cs. omega (arith, sums, h cs, k cs))
-
-up_to_sign-cons : (r : ℕ → ℤ) (rs qs : List (ℕ → ℤ)) → UpToSign rs qs → UpToSign (r ∷ rs) (r ∷ qs)
-up_to_sign-cons r rs qs (inl h) = inl (expand-same r (det rs) (det qs) h)
-up_to_sign-cons r rs qs (inr h) = inr (λ cs. expand-same r (det rs) (λ ds. neg_ℤ (det qs ds)) h cs ∙ expand-neg r (det qs) cs)
-
-up_to_sign-append : (xs rs qs : List (ℕ → ℤ)) → UpToSign rs qs → UpToSign (xs ++ rs) (xs ++ qs)
-up_to_sign-append [] rs qs h = h
-up_to_sign-append (x ∷ xs) rs qs h = up_to_sign-cons x (xs ++ rs) (xs ++ qs) (up_to_sign-append xs rs qs h)
 
 two_rows : (r s : ℕ → ℤ) (qs : List (ℕ → ℤ)) → UpToSign (r ∷ s ∷ qs) (s ∷ r ∷ qs)
 two_rows r s qs = inr (λ cs. omega (arith, sums, expand_twice r s (det qs) cs))
@@ -70,10 +58,6 @@ blocks_swapped [] ys zs = inl (λ cs. refl)
 blocks_swapped (x ∷ xs) ys zs =
     up_to_signs (x ∷ (xs ++ (ys ++ zs))) (x ∷ (ys ++ (xs ++ zs))) (ys ++ x ∷ (xs ++ zs))
     (up_to_sign-cons x (xs ++ (ys ++ zs)) (ys ++ (xs ++ zs)) (blocks_swapped xs ys zs)) (one_behind x ys (xs ++ zs))
-
-same_size : (rs qs : List (ℕ → ℤ)) (cs : List ℕ) → UpToSign rs qs → unsigned_abs (det rs cs) ≡ unsigned_abs (det qs cs)
-same_size rs qs cs (inl h) = ap unsigned_abs (h cs)
-same_size rs qs cs (inr h) = omega (arith, sums, h cs, abs_is (det rs cs), abs_is (det qs cs))
 
 -- ---- the same over terms
 
@@ -101,10 +85,6 @@ places_behind ds (c ∷ cs) =
   where
     more : length (ds ++ c ∷ []) ≡ suc (length ds)
     more = omega (arith, length-append ds (c ∷ []))
-
-numbered_append : (name : ℕ → Column) (xs ys : List (Column → ℤ)) → numbered name (xs ++ ys) ≡ numbered name xs ++ numbered name ys
-numbered_append name [] ys = refl
-numbered_append name (x ∷ xs) ys = ap (λ v. (λ n. x (name n)) ∷ v) (numbered_append name xs ys)
 
 module _ (columns : List Column) where
   abbrev name : ℕ → Column
@@ -161,11 +141,6 @@ split_part (c ∷ cs) (x ∷ xs) zs (inr (qs, e, h)) =
       right_part = s.right_part;
     })
 
-join_parts : (ps qs xs zs : List Row) → IsPart ps xs → IsPart qs zs → IsPart (ps ++ qs) (xs ++ zs)
-join_parts ps qs [] zs h k = subst (λ v. IsPart (v ++ qs) zs) (sym h) k
-join_parts ps qs (x ∷ xs) zs (inl h) k = inl (join_parts ps qs xs zs h k)
-join_parts ps qs (x ∷ xs) zs (inr (rs, e, h)) k = inr (rs ++ qs, ap (λ v. v ++ qs) e, join_parts rs qs xs zs h k)
-
 join_chosen : (ls rs : List SignedRow) (xs zs : List Row) → IsPart (map given ls) xs → IsPart (map given rs) zs → IsPart (map given (ls ++ rs)) (xs ++ zs)
 join_chosen ls rs xs zs h k = subst (λ v. IsPart v (xs ++ zs)) (sym (map-append given ls rs)) (join_parts (map given ls) (map given rs) xs zs h k)
 
@@ -210,18 +185,14 @@ each_right : (P : NamedRow → Type 0) (xs ys : List NamedRow) → Each P (xs ++
 each_right P [] ys h = h
 each_right P (x ∷ xs) ys h = each_right P xs ys h.1
 
-pub each_both : (P : NamedRow → Type 0) (xs ys : List NamedRow) → Each P xs → Each P ys → Each P (xs ++ ys)
-each_both P [] ys h k = k
-each_both P (x ∷ xs) ys h k = (h.0, each_both P xs ys h.1 k)
-
 each_blocks : (P : NamedRow → Type 0) (xs ys zs ws : List NamedRow) → Each P (xs ++ (ys ++ (zs ++ ws))) → Each P (xs ++ (zs ++ (ys ++ ws)))
 each_blocks P xs ys zs ws h =
     let first = each_left P xs (ys ++ (zs ++ ws)) h in
     let later = each_right P xs (ys ++ (zs ++ ws)) h in
     let second = each_left P ys (zs ++ ws) later in
     let rest = each_right P ys (zs ++ ws) later in
-    each_both P xs (zs ++ (ys ++ ws)) first
-    (each_both P zs (ys ++ ws) (each_left P zs ws rest) (each_both P ys ws second (each_right P zs ws rest)))
+    each-append P xs (zs ++ (ys ++ ws)) first
+    (each-append P zs (ys ++ ws) (each_left P zs ws rest) (each-append P ys ws second (each_right P zs ws rest)))
 
 rows_of_four : (xs ys zs ws : List NamedRow) → map row_of (xs ++ (ys ++ (zs ++ ws))) ≡ map row_of xs ++ (map row_of ys ++ (map row_of zs ++ map row_of ws))
 rows_of_four xs ys zs ws =

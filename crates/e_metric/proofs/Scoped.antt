@@ -1,7 +1,8 @@
 -- A certificate names no object but those of the facts and of the wanted literal.
-use Rattle.std.proofs.Common.{◌≡◌, List, [], ◌∷◌, ◌++◌, map, refl, sym, ap, ◌∙◌, cond, Bool, true, false, ◌||◌, true≢false, ◌⊎◌, inl, inr, Option, Some, None, append_assoc}
+use Rattle.std.proofs.Common.{◌≡◌, List, [], ◌∷◌, ◌++◌, map, refl, sym, ap, ◌∙◌, cond, Bool, true, false, true≢false, ◌⊎◌, inl, inr, Option, Some, None, append_assoc}
 use Rattle.std.specs.List.{list_all}
 use Rattle.std.proofs.lemmas.List.Folds.{list_all-append}
+use Rattle.std.proofs.lemmas.Bool.{and_from, or_cases}
 use Rattle.e_literal.specs.declared.object.Kind.{Kind}
 use Rattle.e_literal.specs.declared.object.Kind.TheVariants.{Segment, Angle, Area as AreaKind}
 use Rattle.e_literal.specs.declared.object.Mono.{Mono}
@@ -16,8 +17,9 @@ use Rattle.e_literal.specs.Same.{term_eq}
 use Rattle.e_literal.specs.Width.{is_among}
 use Rattle.e_literal.specs.Facts.{are_apart}
 use Rattle.e_literal.specs.Rows.{first_terms}
-use Rattle.e_literal.proofs.Terms.{and_left, and_right, both, or_either, term_eq_is, among_first, among_rest}
+use Rattle.e_literal.proofs.Terms.{term_eq_is, among_first, among_rest, among_either}
 use Rattle.e_literal.proofs.Valued.{IsMagEq, IsMagLt, IsDiagram, split}
+use Rattle.e_literal.proofs.Booleans.{and_left, and_right}
 use Rattle.e_clause.specs.declared.cert.RowName.{RowName}
 use Rattle.e_clause.specs.declared.cert.RowName.TheVariants.{Fact, Goal, Pos}
 use Rattle.e_clause.specs.declared.cert.Sums.{Sums}
@@ -36,13 +38,6 @@ use Rattle.e_metric.proofs.FirstTerms.{with_right}
 use Rattle.e_metric.proofs.Names.{each_of, each_name, sums_have}
 use Rattle.e_metric.proofs.Reordered.{AreReordered}
 
-among_either : (xs ys : List Term) (t : Term) → is_among (xs ++ ys) t ≡ true → (is_among xs t ≡ true) ⊎ (is_among ys t ≡ true)
-among_either [] ys t h = inr h
-among_either (x ∷ xs) ys t h = elim (or_either (term_eq t x) (is_among (xs ++ ys) t) h) [
-  | inl e ↦ inl (ap (λ b. b || is_among xs t) e)
-  | inr k ↦ elim (among_either xs ys t k) [ inl a ↦ inl (among_rest x xs t a) | inr b ↦ inr b ]
-]
-
 -- a diagram atom has no terms
 no_terms : (a : Atom) → kind_of_atom a ≡ None → terms_of_atom a ≡ []
 no_terms (MagEq x y) h = absurd (cc)
@@ -58,7 +53,7 @@ module _ (s : Scope) where
   sum_terms [] t h k = absurd (true≢false (sym k))
   sum_terms (m ∷ ms) t h k =
       (let parts = sym (list_all-append (is_in_scope s) (objects_of_term m.term) (objects_of_sum ms)) ∙ h in
-      elim (or_either (term_eq t m.term) (is_among (map (λ (n : Mono). n.term) ms) t) k) [
+      elim (or_cases (term_eq t m.term) (is_among (map (λ (n : Mono). n.term) ms) t) k) [
         | inl e ↦ ap term_in (term_eq_is t m.term e) ∙ and_left (term_in m.term) (list_all (is_in_scope s) (objects_of_sum ms)) parts
         | inr r ↦ sum_terms ms t (and_right (term_in m.term) (list_all (is_in_scope s) (objects_of_sum ms)) parts) r
       ])
@@ -90,7 +85,7 @@ module _ (s : Scope) where
     wanted_terms (Some l) t h k = atom_terms l.atom t h k
 
     step_term : (t : Term) → is_among (terms_of_step facts wanted) t ≡ true → term_in t ≡ true
-    step_term t h = elim (or_either (term_eq t Right) (is_among (terms_of_lits facts ++ terms_of_wanted wanted) t) h) [
+    step_term t h = elim (or_cases (term_eq t Right) (is_among (terms_of_lits facts ++ terms_of_wanted wanted) t) h) [
       | inl e ↦ ap term_in (term_eq_is t Right e)
       | inr k ↦ elim (among_either (terms_of_lits facts) (terms_of_wanted wanted) t k) [
         | inl a ↦ lits_terms facts t known a
@@ -141,7 +136,7 @@ module _ (s : Scope) where
 
     all_terms : (ts : List Term) → ((t : Term) → is_among ts t ≡ true → term_in t ≡ true) → list_all term_in ts ≡ true
     all_terms [] h = refl
-    all_terms (t ∷ ts) h = both (term_in t) (list_all term_in ts) (h t (among_first t ts)) (all_terms ts (λ u k. h u (among_rest t ts u k)))
+    all_terms (t ∷ ts) h = and_from (term_in t) (list_all term_in ts) (h t (among_first t ts)) (all_terms ts (λ u k. h u (among_rest t ts u k)))
 
     -- the sums of a system
     pub in_scope : (which : Kind) (ns : List NamedRow) (order : AreReordered ns (system which facts wanted)) (names : List RowName) (gs : List GivenRow) (a : Absurdity) → names ≡ map (λ (n : NamedRow). n.name) ns
@@ -154,5 +149,5 @@ module _ (s : Scope) where
         (ap (list_all term_in) (with_right written)
         ∙ all_terms (first_terms [] (written ++ Right ∷ [])) (λ t k. elim (among_either written (Right ∷ []) t (first_among [] (written ++ Right ∷ []) t k)) [
           | inl m ↦ step_term t (system_among which facts wanted t m)
-          | inr m ↦ elim (or_either (term_eq t Right) false m) [ inl q ↦ ap term_in (term_eq_is t Right q) | inr q ↦ absurd (true≢false (sym q)) ]
+          | inr m ↦ elim (or_cases (term_eq t Right) false m) [ inl q ↦ ap term_in (term_eq_is t Right q) | inr q ↦ absurd (true≢false (sym q)) ]
         ])))

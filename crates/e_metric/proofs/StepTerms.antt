@@ -2,6 +2,8 @@
 use Rattle.std.proofs.Common.{◌≡◌, ℕ, ◌+◌, List, [], ◌∷◌, ◌++◌, map, take, refl, sym, ap, ◌∙◌, Bool, true, false, cond, true≢false, Option, Some, append_assoc, ◌⊎◌, inl, inr}
 use Rattle.std.specs.Prelude.{slice_get}
 use Rattle.std.specs.List.{list_all}
+use Rattle.std.proofs.lemmas.Bool.{or_left, or_right, or_cases}
+use Rattle.std.proofs.lemmas.List.{map-append}
 use Rattle.e_literal.specs.declared.object.Kind.{Kind}
 use Rattle.e_literal.specs.declared.object.Mono.{Mono}
 use Rattle.e_literal.specs.declared.object.Term.{Term}
@@ -12,7 +14,7 @@ use Rattle.e_literal.specs.Width.{is_among}
 use Rattle.e_literal.specs.Rows.{is_degenerate}
 use Rattle.e_literal.specs.WellFormed.{is_well_formed}
 use Rattle.e_literal.specs.Solution.{Satisfy, carried}
-use Rattle.e_literal.proofs.Terms.{or_either, or_left, or_right, term_eq_is, equal_terms}
+use Rattle.e_literal.proofs.Terms.{term_eq_is, equal_terms}
 use Rattle.e_literal.proofs.Canonical.{canonical_twice, degenerate_canonical}
 use Rattle.e_clause.specs.Assignment.{terms_of_atom, terms_of_lits, terms_of_wanted, terms_of_step}
 use Rattle.e_clause.specs.Laws.{is_good_wanted}
@@ -23,17 +25,13 @@ use Rattle.e_metric.specs.Assigned.{values_of, step_value}
 use Rattle.e_metric.proofs.Forms.{none_more}
 use Rattle.e_metric.proofs.FirstTerms.{take_one, lits_append}
 
-map_append : {X Y : Type 0} (f : X → Y) (xs ys : List X) → map f (xs ++ ys) ≡ map f xs ++ map f ys
-map_append f [] ys = refl
-map_append f (x ∷ xs) ys = ap (λ zs. f x ∷ zs) (map_append f xs ys)
-
 canonical_sum : (ms : List Mono) → map canonical (map (λ (m : Mono). m.term) ms) ≡ map (λ (m : Mono). canonical m.term) ms
 canonical_sum [] = refl
 canonical_sum (m ∷ ms) = ap (λ ts. canonical m.term ∷ ts) (canonical_sum ms)
 
 pub atom_terms : (seen : List Term) (x y : List Mono) → seen ++ map canonical (map (λ (m : Mono). m.term) (x ++ y)) ≡ (seen ++ map (λ (m : Mono). canonical m.term) x) ++ map (λ (m : Mono). canonical m.term) y
 atom_terms seen x y =
-    ap (λ ts. seen ++ ts) (canonical_sum (x ++ y) ∙ map_append (λ (m : Mono). canonical m.term) x y)
+    ap (λ ts. seen ++ ts) (canonical_sum (x ++ y) ∙ map-append (λ (m : Mono). canonical m.term) x y)
     ∙ sym (append_assoc seen (map (λ (m : Mono). canonical m.term) x) (map (λ (m : Mono). canonical m.term) y))
 
 pub fact_terms : (facts : List Lit) (i : ℕ) (l : Lit) → slice_get facts i ≡ Some l
@@ -41,10 +39,10 @@ pub fact_terms : (facts : List Lit) (i : ℕ) (l : Lit) → slice_get facts i �
 fact_terms facts i l h =
     ap (λ ls. map canonical (Right ∷ terms_of_lits ls)) (take_one facts i l h)
     ∙ ap (λ ts. map canonical (Right ∷ ts)) (lits_append (take i facts) (l ∷ []) ∙ ap (λ ts. terms_of_lits (take i facts) ++ ts) (none_more (terms_of_atom l.atom)))
-    ∙ map_append canonical (Right ∷ terms_of_lits (take i facts)) (terms_of_atom l.atom)
+    ∙ map-append canonical (Right ∷ terms_of_lits (take i facts)) (terms_of_atom l.atom)
 
 pub step_terms : (facts : List Lit) (wanted : Option Lit) → map canonical (terms_of_step facts wanted) ≡ map canonical (Right ∷ terms_of_lits facts) ++ map canonical (terms_of_wanted wanted)
-step_terms facts wanted = map_append canonical (Right ∷ terms_of_lits facts) (terms_of_wanted wanted)
+step_terms facts wanted = map-append canonical (Right ∷ terms_of_lits facts) (terms_of_wanted wanted)
 
 -- ---- values in a list
 
@@ -54,7 +52,7 @@ listed f (t ∷ ts) = ap (λ us. t ∷ us) (listed f ts)
 
 found : (f : Term → ℕ) (ts : List Term) (t : Term) → is_among ts (canonical t) ≡ true → value_in (map (λ u. (u, f u)) ts) t ≡ f (canonical t)
 found f [] t h = absurd (true≢false (sym h))
-found f (u ∷ us) t h = by (term_eq (canonical t) u) refl (or_either (term_eq (canonical t) u) (is_among us (canonical t)) h) (λ k. found f us t k)
+found f (u ∷ us) t h = by (term_eq (canonical t) u) refl (or_cases (term_eq (canonical t) u) (is_among us (canonical t)) h) (λ k. found f us t k)
   where
     by : (b : Bool) → term_eq (canonical t) u ≡ b → (term_eq (canonical t) u ≡ true) ⊎ (is_among us (canonical t) ≡ true)
         → (is_among us (canonical t) ≡ true → value_in (map (λ v. (v, f v)) us) t ≡ f (canonical t)) → cond b (f u) (value_in (map (λ v. (v, f v)) us) t) ≡ f (canonical t)
@@ -68,7 +66,7 @@ carried_canonical w t =
 
 among_map : (ts : List Term) (t : Term) → is_among ts t ≡ true → is_among (map canonical ts) (canonical t) ≡ true
 among_map [] t h = absurd (true≢false (sym h))
-among_map (u ∷ us) t h = elim (or_either (term_eq t u) (is_among us t) h) [
+among_map (u ∷ us) t h = elim (or_cases (term_eq t u) (is_among us t) h) [
   | inl e ↦ or_left (term_eq (canonical t) (canonical u)) (is_among (map canonical us) (canonical t)) (equal_terms (canonical t) (canonical u) (ap canonical (term_eq_is t u e)))
   | inr k ↦ or_right (term_eq (canonical t) (canonical u)) (is_among (map canonical us) (canonical t)) (among_map us t k)
 ]

@@ -1,24 +1,25 @@
 -- Multipliers of named rows that refute them make a sum that refutes.
-use Rattle.std.proofs.Common.{◌≡◌, ◌≢◌, ℕ, suc, ◌+◌, ◌<◌, ◌≤◌, ◌^◌, List, [], ◌∷◌, ◌++◌, map, length, get_or, refl, sym, ap, ap₂, ◌∙◌, subst, arith, cond, Bool, true, false, not, ◌&&◌, ◌||◌, true≢false, ◌⊎◌, inl, inr, Option, Some, None}
+use Rattle.std.proofs.Common.{◌≡◌, ◌≢◌, ℕ, suc, ◌+◌, ◌<◌, ◌≤◌, ◌^◌, List, [], ◌∷◌, ◌++◌, map, length, get_or, refl, sym, ap, ap₂, ◌∙◌, subst, arith, cond, Bool, true, false, not, ◌&&◌, ◌||◌, ◌⊎◌, inl, inr, Option, Some, None, le-leb, length-append}
 use Rattle.std.specs.Prelude.{unsigned_abs, neg_ℤ, nat_le, int_le, int_lt, option_and_then}
 use Rattle.std.specs.Option.{option_map, option_map_or}
 use Rattle.std.specs.List.{list_any, list_all}
 use Rattle.std.specs.Ordering.{int_eq}
-use Rattle.std.proofs.lemmas.Bool.Decides.{Decides-int_eq, nat_tests}
 use Rattle.std.proofs.lemmas.List.Folds.{list_any-append, list_all-append}
 use Rattle.std.proofs.lemmas.Int.{ints}
+use Rattle.std.proofs.lemmas.Bool.{and_from, or_left, or_right}
 use borrow.Author.Differences.{abs_is}
-use lib.IntN.{ℤ, pos, ◌+ℤ◌, ◌*ℤ◌, ◌-ℤ◌, *ℤ-zero, zero-*ℤ, *ℤ-one, one}
+use lib.IntN.{ℤ, pos, ◌+ℤ◌, ◌*ℤ◌, ◌-ℤ◌, *ℤ-zero, zero-*ℤ, one}
 use lib.Signed.{◌≤ℤ◌, ◌<ℤ◌}
 use Rattle.e_literal.specs.declared.object.Term.{Term}
 use Rattle.e_literal.specs.declared.object.Mono.{Mono}
 use Rattle.e_literal.specs.Same.{canonical, term_eq, one_term}
 use Rattle.e_literal.specs.Rows.{Row, Says, Zero, AtLeast, More, Not, coefficient, terms_of_rows, is_degenerate, has_term}
 use Rattle.e_literal.specs.Absurd.{Weighed, total, is_good_sign, is_strict, is_absurd}
-use Rattle.e_literal.proofs.Arith.{sums}
-use Rattle.e_literal.proofs.Terms.{or_left, or_right, and_left, both, term_eq_is, term_eq_turned}
+use Rattle.e_literal.proofs.Arith.{sums, mul_one, zero_is, is_zero, not_zero}
+use Rattle.e_literal.proofs.Terms.{term_eq_is, term_eq_turned}
 use Rattle.e_literal.proofs.Canonical.{one_term_is}
 use Rattle.e_literal.proofs.Valued.{is_normal, normal_coefficient}
+use Rattle.e_literal.proofs.Booleans.{and_left, all_hold}
 use Rattle.e_clause.specs.declared.cert.RowName.{RowName}
 use Rattle.e_clause.specs.declared.cert.RowName.TheVariants.{Least}
 use Rattle.e_clause.specs.System.{least_row}
@@ -28,12 +29,6 @@ use Rattle.e_metric.specs.Certificate.{kept, leasts}
 use Rattle.e_metric.proofs.FirstTerms.{Once, has_same}
 
 -- ---- numbers
-
-none_of : (z : ℤ) → int_eq z (pos 0) ≡ true → z ≡ pos 0
-none_of z h = (Decides-int_eq z (pos 0)).0 h
-
-is_none : (z : ℤ) → z ≡ pos 0 → int_eq z (pos 0) ≡ true
-is_none z e = (Decides-int_eq z (pos 0)).1 e
 
 below_is : (z : ℤ) → int_lt z (pos 0) ≡ true → z <ℤ pos 0
 below_is z h = grind (arith, ints)
@@ -46,13 +41,6 @@ at_least_is z h = grind (arith, ints)
 
 one_is : (z : ℤ) → pos 1 ≤ℤ z → int_le (pos 1) z ≡ true
 one_is z h = grind (arith, ints)
-
-le_is : (a b : ℕ) → a ≤ b → nat_le a b ≡ true
-le_is a b h = grind (arith, nat_tests)
-
-times_one : (z : ℤ) → z *ℤ pos 1 ≡ z
-unfolding one
-times_one z = *ℤ-one z
 
 -- ---- what brings each term to 0
 
@@ -123,7 +111,7 @@ least_total left (t ∷ ts) u neg once =
     with_one : (b : Bool) → int_lt (left (canonical t)) (pos 0) ≡ b → canonical t ≡ u → coefficient (least_row t).form u ≡ pos 1 → total (least_rows left ts) u ≡ pos 0
         → total (cond b (one_least left t ∷ least_rows left ts) (least_rows left ts)) u ≡ pos 0 -ℤ left u
     with_one true eb c e ih =
-        ap₂ {A = ℤ} {B = ℤ} (λ x y. neg_ℤ (left (canonical t)) *ℤ x +ℤ y) e ih ∙ ap (λ x. x +ℤ pos 0) (times_one (neg_ℤ (left (canonical t)))) ∙ turned (left (canonical t)) (left u) (ap left c)
+        ap₂ {A = ℤ} {B = ℤ} (λ x y. neg_ℤ (left (canonical t)) *ℤ x +ℤ y) e ih ∙ ap (λ x. x +ℤ pos 0) (mul_one (neg_ℤ (left (canonical t)))) ∙ turned (left (canonical t)) (left u) (ap left c)
     with_one false eb c e ih = ih ∙ omega (arith, sums, ap left c, not_below (left (canonical t)) eb, neg (canonical t))
 
     cases : (a o : Bool) → is_normal u ≡ a → one_term u t ≡ o → total (least_rows left ts) u ≡ cond (is_normal u && has_term ts u) (pos 0 -ℤ left u) (pos 0)
@@ -142,10 +130,10 @@ least_total left (t ∷ ts) u neg once =
 -- ---- signs and sizes of what brings each term to 0
 
 good_of : (z : ℤ) → z ≢ pos 0 → unsigned_abs z ≤ 2 ^ 80 → is_good_multiplier z ≡ true
-good_of z n h = both (not (int_eq z (pos 0))) (nat_le (unsigned_abs z) (2 ^ 80)) (by (int_eq z (pos 0)) refl) (le_is (unsigned_abs z) (2 ^ 80) h)
+good_of z n h = and_from (not (int_eq z (pos 0))) (nat_le (unsigned_abs z) (2 ^ 80)) (by (int_eq z (pos 0)) refl) (le-leb (unsigned_abs z) (2 ^ 80) h)
   where
     by : (b : Bool) → int_eq z (pos 0) ≡ b → not b ≡ true
-    by true e = absurd (n (none_of z e))
+    by true e = absurd (n (zero_is z e))
     by false e = refl
 
 least_good : (left : Term → ℤ) (ts : List Term) → ((t : Term) → unsigned_abs (left t) ≤ 2 ^ 80) → list_all (λ (x : ℤ × RowName). is_good_multiplier x.0) (leasts left ts) ≡ true
@@ -155,7 +143,7 @@ least_good left (t ∷ ts) h = by (int_lt (left (canonical t)) (pos 0)) refl (le
     by : (b : Bool) → int_lt (left (canonical t)) (pos 0) ≡ b → list_all (λ (x : ℤ × RowName). is_good_multiplier x.0) (leasts left ts) ≡ true
         → list_all (λ (x : ℤ × RowName). is_good_multiplier x.0) (cond b ((neg_ℤ (left (canonical t)), Least t) ∷ leasts left ts) (leasts left ts)) ≡ true
     by true e ih = (let k = below_is (left (canonical t)) e in
-        both (is_good_multiplier (neg_ℤ (left (canonical t)))) (list_all (λ (x : ℤ × RowName). is_good_multiplier x.0) (leasts left ts))
+        and_from (is_good_multiplier (neg_ℤ (left (canonical t)))) (list_all (λ (x : ℤ × RowName). is_good_multiplier x.0) (leasts left ts))
         (good_of (neg_ℤ (left (canonical t))) (λ z. omega (arith, sums, k, z)) (omega (arith, sums, abs_is (neg_ℤ (left (canonical t))), abs_is (left (canonical t)), h (canonical t)))) ih)
     by false e ih = ih
 
@@ -166,7 +154,7 @@ least_signs left (t ∷ ts) = by (int_lt (left (canonical t)) (pos 0)) refl (lea
     by : (b : Bool) → int_lt (left (canonical t)) (pos 0) ≡ b → list_all (λ (w : Weighed). is_good_sign w.row.says w.multiplier) (least_rows left ts) ≡ true
         → list_all (λ (w : Weighed). is_good_sign w.row.says w.multiplier) (cond b (one_least left t ∷ least_rows left ts) (least_rows left ts)) ≡ true
     by true e ih = (let k = below_is (left (canonical t)) e in
-        both (int_le (pos 0) (neg_ℤ (left (canonical t)))) (list_all (λ (w : Weighed). is_good_sign w.row.says w.multiplier) (least_rows left ts))
+        and_from (int_le (pos 0) (neg_ℤ (left (canonical t)))) (list_all (λ (w : Weighed). is_good_sign w.row.says w.multiplier) (least_rows left ts))
         (at_least_is (neg_ℤ (left (canonical t))) (omega (arith, sums, k))) ih)
     by false e ih = ih
 
@@ -191,9 +179,6 @@ NamedWhere p (n ∷ ns) (r ∷ rs) (m ∷ ms) = ((m ≢ pos 0) → row_named p n
 NamedWhere p [] [] [] = Unit {0}
 NamedWhere p _ _ _ = ⊥
 
-some_of : (z : ℤ) → int_eq z (pos 0) ≡ false → z ≢ pos 0
-some_of z h e = true≢false (sym (is_none z e) ∙ h)
-
 kept_named : (p : Place) (ns : List RowName) (rs : List Row) (ms : List ℤ) → NamedWhere p ns rs ms → weighed_rows p (kept ns ms) ≡ Some (kept_rows rs ms)
 kept_named p [] [] [] h = refl
 kept_named p [] [] (m ∷ ms) h = absurd h
@@ -205,7 +190,7 @@ kept_named p (n ∷ ns) (r ∷ rs) (m ∷ ms) h = by (int_eq m (pos 0)) refl (ke
     by : (b : Bool) → int_eq m (pos 0) ≡ b → weighed_rows p (kept ns ms) ≡ Some (kept_rows rs ms)
         → weighed_rows p (cond b (kept ns ms) ((m, n) ∷ kept ns ms)) ≡ Some (cond b (kept_rows rs ms) (record { multiplier = m; row = r } ∷ kept_rows rs ms))
     by true e ih = ih
-    by false e ih = named_one p m n (kept ns ms) r (kept_rows rs ms) (h.0 (some_of m e)) ih
+    by false e ih = named_one p m n (kept ns ms) r (kept_rows rs ms) (h.0 (not_zero m e)) ih
 
 kept_total : (rs : List Row) (ms : List ℤ) (u : Term) → total (kept_rows rs ms) u ≡ total (each_weighed rs ms) u
 kept_total [] ms u = refl
@@ -214,7 +199,7 @@ kept_total (r ∷ rs) (m ∷ ms) u = by (int_eq m (pos 0)) refl (kept_total rs m
   where
     by : (b : Bool) → int_eq m (pos 0) ≡ b → total (kept_rows rs ms) u ≡ total (each_weighed rs ms) u
         → total (cond b (kept_rows rs ms) (record { multiplier = m; row = r } ∷ kept_rows rs ms)) u ≡ m *ℤ coefficient r.form u +ℤ total (each_weighed rs ms) u
-    by true e ih = omega (arith, sums, ih, ap (λ x. x *ℤ coefficient r.form u) (none_of m e), zero-*ℤ (coefficient r.form u))
+    by true e ih = omega (arith, sums, ih, ap (λ x. x *ℤ coefficient r.form u) (zero_is m e), zero-*ℤ (coefficient r.form u))
     by false e ih = ap (λ z. m *ℤ coefficient r.form u +ℤ z) ih
 
 one_sign : (s : Says) (m : ℤ) → m ≢ pos 0 → MayTake s m → is_good_sign s m ≡ true
@@ -231,7 +216,7 @@ kept_signs (r ∷ rs) (m ∷ ms) h = by (int_eq m (pos 0)) refl (kept_signs rs m
     by : (b : Bool) → int_eq m (pos 0) ≡ b → list_all (λ (w : Weighed). is_good_sign w.row.says w.multiplier) (kept_rows rs ms) ≡ true
         → list_all (λ (w : Weighed). is_good_sign w.row.says w.multiplier) (cond b (kept_rows rs ms) (record { multiplier = m; row = r } ∷ kept_rows rs ms)) ≡ true
     by true e ih = ih
-    by false e ih = both (is_good_sign r.says m) (list_all (λ (w : Weighed). is_good_sign w.row.says w.multiplier) (kept_rows rs ms)) (one_sign r.says m (some_of m e) h.0) ih
+    by false e ih = and_from (is_good_sign r.says m) (list_all (λ (w : Weighed). is_good_sign w.row.says w.multiplier) (kept_rows rs ms)) (one_sign r.says m (not_zero m e) h.0) ih
 
 kept_strict : (rs : List Row) (ms : List ℤ) → TakesMore rs ms → list_any (λ (w : Weighed). is_strict w.row.says w.multiplier) (kept_rows rs ms) ≡ true
 kept_strict [] ms h = absurd h
@@ -240,7 +225,7 @@ kept_strict (r ∷ rs) (m ∷ ms) h = by (int_eq m (pos 0)) refl h (λ k. kept_s
   where
     by : (b : Bool) → int_eq m (pos 0) ≡ b → ((r.says ≡ More) × (pos 1 ≤ℤ m)) ⊎ TakesMore rs ms → (TakesMore rs ms → list_any (λ (w : Weighed). is_strict w.row.says w.multiplier) (kept_rows rs ms) ≡ true)
         → list_any (λ (w : Weighed). is_strict w.row.says w.multiplier) (cond b (kept_rows rs ms) (record { multiplier = m; row = r } ∷ kept_rows rs ms)) ≡ true
-    by true e (inl k) ih = absurd (omega (arith, sums, none_of m e, k.1))
+    by true e (inl k) ih = absurd (omega (arith, sums, zero_is m e, k.1))
     by true e (inr k) ih = ih k
     by false e (inl k) ih = or_left (is_strict r.says m) (list_any (λ (w : Weighed). is_strict w.row.says w.multiplier) (kept_rows rs ms)) (ap (λ s. is_strict s m) k.0 ∙ one_is m k.1)
     by false e (inr k) ih = or_right (is_strict r.says m) (list_any (λ (w : Weighed). is_strict w.row.says w.multiplier) (kept_rows rs ms)) (ih k)
@@ -252,7 +237,7 @@ kept_some [] (r ∷ rs) (m ∷ ms) l h = absurd (omega (arith, l))
 kept_some (n ∷ ns) (r ∷ rs) (m ∷ ms) l h = by (int_eq m (pos 0)) refl h (λ k. kept_some ns rs ms (omega (arith, l)) k)
   where
     by : (b : Bool) → int_eq m (pos 0) ≡ b → ((r.says ≡ More) × (pos 1 ≤ℤ m)) ⊎ TakesMore rs ms → (TakesMore rs ms → 1 ≤ length (kept ns ms)) → 1 ≤ length (cond b (kept ns ms) ((m, n) ∷ kept ns ms))
-    by true e (inl k) ih = absurd (omega (arith, sums, none_of m e, k.1))
+    by true e (inl k) ih = absurd (omega (arith, sums, zero_is m e, k.1))
     by true e (inr k) ih = ih k
     by false e k ih = omega arith
 
@@ -273,7 +258,7 @@ kept_good (n ∷ ns) (m ∷ ms) h = by (int_eq m (pos 0)) refl (kept_good ns ms 
     by : (b : Bool) → int_eq m (pos 0) ≡ b → list_all (λ (x : ℤ × RowName). is_good_multiplier x.0) (kept ns ms) ≡ true
         → list_all (λ (x : ℤ × RowName). is_good_multiplier x.0) (cond b (kept ns ms) ((m, n) ∷ kept ns ms)) ≡ true
     by true e ih = ih
-    by false e ih = both (is_good_multiplier m) (list_all (λ (x : ℤ × RowName). is_good_multiplier x.0) (kept ns ms)) (good_of m (some_of m e) (h 0 (omega arith))) ih
+    by false e ih = and_from (is_good_multiplier m) (list_all (λ (x : ℤ × RowName). is_good_multiplier x.0) (kept ns ms)) (good_of m (not_zero m e) (h 0 (omega arith))) ih
 
 -- ---- both together
 
@@ -294,14 +279,6 @@ total_append : (ws vs : List Weighed) (u : Term) → total (ws ++ vs) u ≡ tota
 total_append [] vs u = omega (arith, sums)
 total_append (w ∷ ws) vs u = omega (arith, sums, total_append ws vs u)
 
-length_both : {X : Type 0} (xs ys : List X) → length (xs ++ ys) ≡ length xs + length ys
-length_both [] ys = omega arith
-length_both (x ∷ xs) ys = omega (arith, length_both xs ys)
-
-every : (f : Term → Bool) (ts : List Term) → ((t : Term) → f t ≡ true) → list_all f ts ≡ true
-every f [] h = refl
-every f (t ∷ ts) h = both (f t) (list_all f ts) (h t) (every f ts h)
-
 -- what a sum is made of: names for rows with multipliers that refute them, and the terms of the rows, each once
 pub record IsMade (p : Place) (names : List RowName) (rows : List Row) (ms : List ℤ) (left : Term → ℤ) (terms : List Term) : Type 0 where
   pub refutes : Refutes rows ms
@@ -315,11 +292,11 @@ pub record IsMade (p : Place) (names : List RowName) (rows : List Row) (ms : Lis
 
 pub sum_refutes : (p : Place) (names : List RowName) (rows : List Row) (ms : List ℤ) (left : Term → ℤ) (terms : List Term) → IsMade p names rows ms left terms → refutes p (kept names ms ++ leasts left terms) ≡ true
 sum_refutes p names rows ms left terms h =
-    both (is_good_size (kept names ms ++ leasts left terms)) (option_map_or is_absurd (weighed_rows p (kept names ms ++ leasts left terms)) false) size
+    and_from (is_good_size (kept names ms ++ leasts left terms)) (option_map_or is_absurd (weighed_rows p (kept names ms ++ leasts left terms)) false) size
     (ap (λ (o : Option (List Weighed)). option_map_or is_absurd o false) (weighed_append p (kept names ms) (leasts left terms) (kept_rows rows ms) (least_rows left terms) (kept_named p names rows ms h.named) (least_named p left terms h.steps))
-    ∙ both (list_all (λ t. int_eq (total ws t) (pos 0)) (terms_of_rows (map (λ (w : Weighed). w.row) ws))) (list_all (λ (w : Weighed). is_good_sign w.row.says w.multiplier) ws && list_any (λ (w : Weighed). is_strict w.row.says w.multiplier) ws)
-    (every (λ t. int_eq (total ws t) (pos 0)) (terms_of_rows (map (λ (w : Weighed). w.row) ws)) (λ t. is_none (total ws t) (cancels t)))
-    (both (list_all (λ (w : Weighed). is_good_sign w.row.says w.multiplier) ws) (list_any (λ (w : Weighed). is_strict w.row.says w.multiplier) ws) signs strict))
+    ∙ and_from (list_all (λ t. int_eq (total ws t) (pos 0)) (terms_of_rows (map (λ (w : Weighed). w.row) ws))) (list_all (λ (w : Weighed). is_good_sign w.row.says w.multiplier) ws && list_any (λ (w : Weighed). is_strict w.row.says w.multiplier) ws)
+    (all_hold (λ t. int_eq (total ws t) (pos 0)) (terms_of_rows (map (λ (w : Weighed). w.row) ws)) (λ t. is_zero (total ws t) (cancels t)))
+    (and_from (list_all (λ (w : Weighed). is_good_sign w.row.says w.multiplier) ws) (list_any (λ (w : Weighed). is_strict w.row.says w.multiplier) ws) signs strict))
   where
     ws : List Weighed
     ws = kept_rows rows ms ++ least_rows left terms
@@ -328,12 +305,12 @@ sum_refutes p names rows ms left terms h =
     size =
         (let xs = kept names ms in
         let ys = leasts left terms in
-        both (nat_le 1 (length (xs ++ ys))) (nat_le (length (xs ++ ys)) 4096 && list_all (λ (x : ℤ × RowName). is_good_multiplier x.0) (xs ++ ys))
-        (le_is 1 (length (xs ++ ys)) (omega (arith, length_both xs ys, kept_some names rows ms h.as_many h.refutes.more)))
-        (both (nat_le (length (xs ++ ys)) 4096) (list_all (λ (x : ℤ × RowName). is_good_multiplier x.0) (xs ++ ys))
-        (le_is (length (xs ++ ys)) 4096 (omega (arith, length_both xs ys, kept_length names ms, least_length left terms, h.few)))
+        and_from (nat_le 1 (length (xs ++ ys))) (nat_le (length (xs ++ ys)) 4096 && list_all (λ (x : ℤ × RowName). is_good_multiplier x.0) (xs ++ ys))
+        (le-leb 1 (length (xs ++ ys)) (omega (arith, length-append xs ys, kept_some names rows ms h.as_many h.refutes.more)))
+        (and_from (nat_le (length (xs ++ ys)) 4096) (list_all (λ (x : ℤ × RowName). is_good_multiplier x.0) (xs ++ ys))
+        (le-leb (length (xs ++ ys)) 4096 (omega (arith, length-append xs ys, kept_length names ms, least_length left terms, h.few)))
         (list_all-append (λ (x : ℤ × RowName). is_good_multiplier x.0) xs ys
-        ∙ both (list_all (λ (x : ℤ × RowName). is_good_multiplier x.0) xs) (list_all (λ (x : ℤ × RowName). is_good_multiplier x.0) ys)
+        ∙ and_from (list_all (λ (x : ℤ × RowName). is_good_multiplier x.0) xs) (list_all (λ (x : ℤ × RowName). is_good_multiplier x.0) ys)
         (kept_good names ms h.refutes.small)
         (least_good left terms (λ t. subst (λ z. unsigned_abs z ≤ 2 ^ 80) (sym (h.left_is t)) (h.refutes.small_sums t))))))
 
@@ -350,7 +327,7 @@ sum_refutes p names rows ms left terms h =
     signs : list_all (λ (w : Weighed). is_good_sign w.row.says w.multiplier) (kept_rows rows ms ++ least_rows left terms) ≡ true
     signs =
         list_all-append (λ (w : Weighed). is_good_sign w.row.says w.multiplier) (kept_rows rows ms) (least_rows left terms)
-        ∙ both (list_all (λ (w : Weighed). is_good_sign w.row.says w.multiplier) (kept_rows rows ms)) (list_all (λ (w : Weighed). is_good_sign w.row.says w.multiplier) (least_rows left terms))
+        ∙ and_from (list_all (λ (w : Weighed). is_good_sign w.row.says w.multiplier) (kept_rows rows ms)) (list_all (λ (w : Weighed). is_good_sign w.row.says w.multiplier) (least_rows left terms))
         (kept_signs rows ms h.refutes.taken) (least_signs left terms)
 
     strict : list_any (λ (w : Weighed). is_strict w.row.says w.multiplier) (kept_rows rows ms ++ least_rows left terms) ≡ true

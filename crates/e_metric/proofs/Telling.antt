@@ -1,8 +1,9 @@
 -- What comes of the decision of a system.
-use Rattle.std.proofs.Common.{◌≡◌, ℕ, ◌+◌, ◌≤◌, ◌^◌, List, [], ◌∷◌, map, length, refl, ap, ◌∙◌, subst, arith, true, Option}
+use Rattle.std.proofs.Common.{◌≡◌, ℕ, ◌+◌, ◌≤◌, ◌^◌, List, [], ◌∷◌, map, length, refl, ap, ◌∙◌, subst, arith, true, Option, le-leb}
 use Rattle.std.specs.Prelude.{nat_le, Contains}
 use Rattle.std.specs.List.{list_all}
-use Rattle.std.proofs.lemmas.Bool.Decides.{nat_tests}
+use Rattle.std.proofs.lemmas.Bool.{and_from}
+use Rattle.std.proofs.lemmas.List.{length-map}
 use Rattle.e_literal.specs.declared.object.Kind.{Kind}
 use Rattle.e_literal.specs.declared.object.Kind.TheVariants.{Segment, Angle, Area as AreaKind}
 use Rattle.e_literal.specs.declared.object.Term.{Term}
@@ -12,7 +13,6 @@ use Rattle.e_literal.specs.Minor.{IsWide}
 use Rattle.e_literal.specs.Width.{width}
 use Rattle.e_literal.specs.Solution.{form_value, IsSo, Satisfy}
 use Rattle.e_literal.specs.WellFormed.{is_well_formed}
-use Rattle.e_literal.proofs.Terms.{both}
 use Rattle.e_clause.specs.declared.cert.RowName.{RowName}
 use Rattle.e_clause.specs.declared.cert.Sums.{Sums}
 use Rattle.e_clause.specs.Assignment.{terms_of_lits}
@@ -35,7 +35,7 @@ use Rattle.e_metric.specs.Told.{IsCertified, IsTooWide}
 use Rattle.e_clause.specs.Written.{is_good_sums}
 use Rattle.e_metric.proofs.Alike.{satisfy_alike, wide_alike, width_alike}
 use Rattle.e_metric.proofs.Bounds.{system_length}
-use Rattle.e_metric.proofs.Certifying.{names_are, rows_alike, length_rows, length_map, certified}
+use Rattle.e_metric.proofs.Certifying.{names_are, rows_alike, length_rows, certified, names_given, rows_given}
 use Rattle.e_metric.proofs.Reordered.{AreReordered}
 use Rattle.e_metric.proofs.Scoped.{in_scope}
 use Rattle.e_metric.proofs.Written.{written_well}
@@ -43,24 +43,15 @@ use Rattle.e_metric.proofs.Written.{written_well}
 abbrev row_of : NamedRow → Row
 row_of n = n.row
 
-abbrev rows_given : List (RowName × GivenRow) → List GivenRow
-rows_given ps = map (λ (p : RowName × GivenRow). p.1) ps
-
-abbrev names_given : List (RowName × GivenRow) → List RowName
-names_given ps = map (λ (p : RowName × GivenRow). p.0) ps
-
 -- ---- the rows are within the limits of the decision
-
-le_is : (a b : ℕ) → a ≤ b → nat_le a b ≡ true
-le_is a b h = grind (arith, nat_tests)
 
 small : (ps : List (RowName × GivenRow)) → AllLimited ps → all_small (rows_given ps) ≡ true
 small [] h = refl
-small (p ∷ ps) h = both (has_small_coefficients p.1.form) (all_small (rows_given ps)) h.0.small (small ps h.1)
+small (p ∷ ps) h = and_from (has_small_coefficients p.1.form) (all_small (rows_given ps)) h.0.small (small ps h.1)
 
 short : (ps : List (RowName × GivenRow)) → AllLimited ps → list_all (λ (r : GivenRow). nat_le (length r.form) (2 ^ 32)) (rows_given ps) ≡ true
 short [] h = refl
-short (p ∷ ps) h = both (nat_le (length p.1.form) (2 ^ 32)) (list_all (λ (r : GivenRow). nat_le (length r.form) (2 ^ 32)) (rows_given ps)) (le_is (length p.1.form) (2 ^ 32) (omega (arith, h.0.short))) (short ps h.1)
+short (p ∷ ps) h = and_from (nat_le (length p.1.form) (2 ^ 32)) (list_all (λ (r : GivenRow). nat_le (length r.form) (2 ^ 32)) (rows_given ps)) (le-leb (length p.1.form) (2 ^ 32) (omega (arith, h.0.short))) (short ps h.1)
 
 satisfy_each : (v : Term → ℕ) (ns : List NamedRow) → Satisfy v (map row_of ns) → Each (λ n. IsSo n.row.says (form_value n.row.form v)) ns
 satisfy_each v [] h = tt
@@ -91,7 +82,7 @@ module _ (which : Kind) (facts : List Lit) (wanted : Option Lit) where
     together = omega (arith, length_rows ns ps are, order.many, system_length which facts wanted good good_wanted few)
 
     pub few_rows : length rows ≤ 4096
-    few_rows = omega (arith, ap (λ (rs : List GivenRow). length rs) rows_are, length_map (λ (p : RowName × GivenRow). p.1) ps, together)
+    few_rows = omega (arith, ap (λ (rs : List GivenRow). length rs) rows_are, length-map ps (λ (p : RowName × GivenRow). p.1), together)
 
     pub small_rows : all_small rows ≡ true
     small_rows = ap all_small rows_are ∙ small ps limited

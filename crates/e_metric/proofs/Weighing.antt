@@ -1,18 +1,18 @@
 -- Multipliers that refute rows may be summed.
-use Rattle.std.proofs.Common.{◌≡◌, ℕ, zero, suc, ◌<◌, ◌≤◌, ◌^◌, List, [], ◌∷◌, length, get_or, refl, sym, ap, ◌∙◌, subst, arith, true}
+use Rattle.std.proofs.Common.{◌≡◌, ℕ, zero, suc, ◌<◌, ◌≤◌, ◌^◌, List, [], ◌∷◌, length, get_or, refl, sym, ap, ◌∙◌, subst, arith, true, le-leb}
 use Rattle.std.specs.Prelude.{neg_ℤ, unsigned_abs, nat_le, set}
-use Rattle.std.proofs.lemmas.Bool.Decides.{nat_tests}
+use Rattle.std.proofs.lemmas.Bool.{and_from}
+use Rattle.std.proofs.lemmas.List.{length-map}
 use borrow.Author.Differences.{abs_is}
 use lib.IntN.{ℤ, pos}
 use Rattle.e_literal.specs.Rows.{Row}
 use Rattle.e_literal.proofs.Arith.{sums}
-use Rattle.e_literal.proofs.Terms.{both}
 use Rattle.e_fraction.specs.declared.row.Row.{Row as GivenRow}
 use Rattle.e_fraction.specs.Limits.{all_small, are_good_multipliers}
 use Rattle.e_fraction.specs.Views.{seen, all_seen}
 use Rattle.e_simplex.specs.Answer.{AreTaken, Refutes, IsNotAt, as_more, as_less, RefutesBoth}
 use Rattle.e_metric.specs.Certificate.{turned, IsWeighable}
-use Rattle.e_metric.proofs.Certifying.{length_map, length_more, length_less, left_given, left_more, left_less}
+use Rattle.e_metric.proofs.Certifying.{length_more, length_less, left_given, left_more, left_less}
 
 taken_length : (rs : List Row) (ms : List ℤ) → AreTaken rs ms → length ms ≡ length rs
 taken_length [] [] h = refl
@@ -20,21 +20,18 @@ taken_length [] (m ∷ ms) h = absurd h
 taken_length (r ∷ rs) [] h = absurd h
 taken_length (r ∷ rs) (m ∷ ms) h = ap suc (taken_length rs ms h.1)
 
-le_is : (a b : ℕ) → a ≤ b → nat_le a b ≡ true
-le_is a b h = grind (arith, nat_tests)
-
 good_given : (ms : List ℤ) → ((i : ℕ) → i < length ms → unsigned_abs (get_or ms i (pos 0)) ≤ 2 ^ 80) → are_good_multipliers ms ≡ true
 good_given [] h = refl
 good_given (m ∷ ms) h =
-    both (nat_le (unsigned_abs m) (2 ^ 80)) (are_good_multipliers ms) (le_is (unsigned_abs m) (2 ^ 80) (h 0 (omega arith))) (good_given ms (λ i l. h (suc i) (omega (arith, l))))
+    and_from (nat_le (unsigned_abs m) (2 ^ 80)) (are_good_multipliers ms) (le-leb (unsigned_abs m) (2 ^ 80) (h 0 (omega arith))) (good_given ms (λ i l. h (suc i) (omega (arith, l))))
 
 good_turned : (ms : List ℤ) (k : ℕ) → ((i : ℕ) → i < length ms → unsigned_abs (get_or ms i (pos 0)) ≤ 2 ^ 80) → are_good_multipliers (turned ms k) ≡ true
 good_turned [] zero h = refl
 good_turned [] (suc k) h = refl
 good_turned (m ∷ ms) zero h =
-    both (nat_le (unsigned_abs (neg_ℤ m)) (2 ^ 80)) (are_good_multipliers ms) (le_is (unsigned_abs (neg_ℤ m)) (2 ^ 80) (omega (arith, sums, abs_is m, abs_is (neg_ℤ m), h 0 (omega arith)))) (good_given ms (λ i l. h (suc i) (omega (arith, l))))
+    and_from (nat_le (unsigned_abs (neg_ℤ m)) (2 ^ 80)) (are_good_multipliers ms) (le-leb (unsigned_abs (neg_ℤ m)) (2 ^ 80) (omega (arith, sums, abs_is m, abs_is (neg_ℤ m), h 0 (omega arith)))) (good_given ms (λ i l. h (suc i) (omega (arith, l))))
 good_turned (m ∷ ms) (suc k) h =
-    both (nat_le (unsigned_abs m) (2 ^ 80)) (are_good_multipliers (turned ms k)) (le_is (unsigned_abs m) (2 ^ 80) (h 0 (omega arith))) (good_turned ms k (λ i l. h (suc i) (omega (arith, l))))
+    and_from (nat_le (unsigned_abs m) (2 ^ 80)) (are_good_multipliers (turned ms k)) (le-leb (unsigned_abs m) (2 ^ 80) (h 0 (omega arith))) (good_turned ms k (λ i l. h (suc i) (omega (arith, l))))
 
 length_turned : (ms : List ℤ) (k : ℕ) → length (turned ms k) ≡ length ms
 length_turned [] zero = refl
@@ -49,11 +46,6 @@ not_below (r ∷ rs) (suc k) h = omega (arith, not_below rs k h)
 
 -- ---- lists
 
-pub any_default : {X : Type 0} (xs : List X) (i : ℕ) (d e : X) → i < length xs → get_or xs i d ≡ get_or xs i e
-any_default [] i d e h = absurd (omega (arith, h))
-any_default (x ∷ xs) zero d e h = refl
-any_default (x ∷ xs) (suc i) d e h = any_default xs i d e (omega (arith, h))
-
 pub set_twice : {X : Type 0} (xs : List X) (i : ℕ) (a b : X) → set (set xs i a) i b ≡ set xs i b
 set_twice [] zero a b = refl
 set_twice [] (suc i) a b = refl
@@ -64,7 +56,7 @@ set_twice (x ∷ xs) (suc i) a b = ap (λ ys. x ∷ ys) (set_twice xs i a b)
 
 module _ (rows : List GivenRow) (few : length rows ≤ 4096) (small : all_small rows ≡ true) where
   pub one_length : (ms : List ℤ) → Refutes (all_seen rows) ms → length ms ≡ length rows
-  one_length ms h = taken_length (all_seen rows) ms h.taken ∙ length_map seen rows
+  one_length ms h = taken_length (all_seen rows) ms h.taken ∙ length-map rows seen
 
   pub one_weighable : (ms : List ℤ) → Refutes (all_seen rows) ms → IsWeighable rows ms
   one_weighable ms h = record {
@@ -77,13 +69,13 @@ module _ (rows : List GivenRow) (few : length rows ≤ 4096) (small : all_small 
 
   module _ (k : ℕ) (above below : List ℤ) (h : RefutesBoth (all_seen rows) k above below) where
     pub both_here : k < length rows
-    both_here = omega (arith, not_below (all_seen rows) k h.is_not, length_map seen rows)
+    both_here = omega (arith, not_below (all_seen rows) k h.is_not, length-map rows seen)
 
     pub above_length : length above ≡ length rows
-    above_length = taken_length (as_more (all_seen rows) k) above h.above_refutes.taken ∙ length_more (all_seen rows) k ∙ length_map seen rows
+    above_length = taken_length (as_more (all_seen rows) k) above h.above_refutes.taken ∙ length_more (all_seen rows) k ∙ length-map rows seen
 
     pub below_length : length below ≡ length rows
-    below_length = taken_length (as_less (all_seen rows) k) below h.below_refutes.taken ∙ length_less (all_seen rows) k ∙ length_map seen rows
+    below_length = taken_length (as_less (all_seen rows) k) below h.below_refutes.taken ∙ length_less (all_seen rows) k ∙ length-map rows seen
 
     pub below_small : unsigned_abs (get_or below k (pos 0)) ≤ 2 ^ 80
     below_small = h.below_refutes.small k (omega (arith, both_here, below_length))

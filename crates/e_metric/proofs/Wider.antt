@@ -2,6 +2,8 @@
 use Rattle.std.proofs.Common.{◌≡◌, List, [], ◌∷◌, ◌++◌, refl, sym, ap, ap₂, ◌∙◌, cond, Bool, true, false, ◌&&◌, true≢false, inl, inr, Option, Some, None}
 use Rattle.std.specs.Prelude.{option_and_then}
 use Rattle.std.specs.Option.{option_map_or, option_map}
+use Rattle.std.proofs.lemmas.Bool.{and_from, or_left, or_right, or_cases}
+use Rattle.std.proofs.lemmas.Option.{none-some}
 use lib.IntN.{ℤ}
 use Rattle.e_literal.specs.declared.object.Term.{Term}
 use Rattle.e_literal.specs.declared.object.Term.TheVariants.{Seg, Ang, Area, Right}
@@ -11,7 +13,7 @@ use Rattle.e_literal.specs.Width.{is_among}
 use Rattle.e_literal.specs.Facts.{are_apart}
 use Rattle.e_literal.specs.Rows.{Row}
 use Rattle.e_literal.specs.Absurd.{Weighed, is_absurd}
-use Rattle.e_literal.proofs.Terms.{and_left, and_right, both, or_either, or_left, or_right}
+use Rattle.e_literal.proofs.Booleans.{and_left, and_right}
 use Rattle.e_clause.specs.declared.cert.MetricCert.{MetricCert}
 use Rattle.e_clause.specs.declared.cert.RowName.{RowName}
 use Rattle.e_clause.specs.declared.cert.RowName.TheVariants.{Fact, Goal, Pos, Top, Right as RightRow, Least, Above, Below}
@@ -23,20 +25,17 @@ use Rattle.e_clause.specs.Sum.{Place, is_step_term, row_named, weighed_rows, is_
 use Rattle.e_clause.specs.MetricCertificate.{differing, above_row, below_row, both_refute, sums_refute}
 use Rattle.e_metric.specs.Told.{IsCertified}
 
-no_row : (r : Row) → None ≡ Some r → ⊥
-no_row r h = absurd (cc)
-
 no_rows : (ws : List Weighed) → None ≡ Some ws → ⊥
 no_rows ws h = absurd (cc)
 
 -- a row that is there under a condition is there where the condition holds
 where_so : (a b : Bool) (q r : Row) → (a ≡ true → b ≡ true) → cond a (Some q) None ≡ Some r → cond b (Some q) None ≡ Some r
 where_so true b q r f h = ap (λ c. cond c (Some q) None) (f refl) ∙ h
-where_so false b q r f h = absurd (no_row r h)
+where_so false b q r f h = absurd (none-some r h)
 
 among_more : (xs ys : List Term) (t : Term) → is_among (xs ++ []) t ≡ true → is_among (xs ++ ys) t ≡ true
 among_more [] ys t h = absurd (true≢false (sym h))
-among_more (x ∷ xs) ys t h = elim (or_either (term_eq t x) (is_among (xs ++ []) t) h) [
+among_more (x ∷ xs) ys t h = elim (or_cases (term_eq t x) (is_among (xs ++ []) t) h) [
   | inl e ↦ or_left (term_eq t x) (is_among (xs ++ ys) t) e
   | inr k ↦ or_right (term_eq t x) (is_among (xs ++ ys) t) (among_more xs ys t k)
 ]
@@ -50,7 +49,7 @@ module _ (facts : List Lit) (wanted : Option Lit) where
     beside = record { facts = facts; wanted = wanted; above = above; below = below }
 
     step_term : (t : Term) → is_step_term alone t ≡ true → is_step_term beside t ≡ true
-    step_term t h = elim (or_either (term_eq t Right) (is_among (terms_of_lits facts ++ []) t) h) [
+    step_term t h = elim (or_cases (term_eq t Right) (is_among (terms_of_lits facts ++ []) t) h) [
       | inl e ↦ or_left (term_eq t Right) (is_among (terms_of_lits facts ++ terms_of_wanted wanted) t) e
       | inr k ↦ or_right (term_eq t Right) (is_among (terms_of_lits facts ++ terms_of_wanted wanted) t) (among_more (terms_of_lits facts) (terms_of_wanted wanted) t k)
     ]
@@ -58,7 +57,7 @@ module _ (facts : List Lit) (wanted : Option Lit) where
     of_pos : (t : Term) (r : Row) → row_named alone (Pos t) ≡ Some r → row_named beside (Pos t) ≡ Some r
     of_pos (Seg a b) r h =
         where_so (is_step_term alone (Seg a b) && are_apart facts a b) (is_step_term beside (Seg a b) && are_apart facts a b) (pos_row (Seg a b)) r
-        (λ e. both (is_step_term beside (Seg a b)) (are_apart facts a b) (step_term (Seg a b) (and_left (is_step_term alone (Seg a b)) (are_apart facts a b) e)) (and_right (is_step_term alone (Seg a b)) (are_apart facts a b) e)) h
+        (λ e. and_from (is_step_term beside (Seg a b)) (are_apart facts a b) (step_term (Seg a b) (and_left (is_step_term alone (Seg a b)) (are_apart facts a b) e)) (and_right (is_step_term alone (Seg a b)) (are_apart facts a b) e)) h
     of_pos (Ang a b c) r h = h
     of_pos (Area a b c) r h = h
     of_pos Right r h = h
@@ -71,7 +70,7 @@ module _ (facts : List Lit) (wanted : Option Lit) where
 
     same_row : (n : RowName) (r : Row) → row_named alone n ≡ Some r → row_named beside n ≡ Some r
     same_row (Fact l) r h = h
-    same_row Goal r h = absurd (no_row r h)
+    same_row Goal r h = absurd (none-some r h)
     same_row (Pos t) r h = of_pos t r h
     same_row (Top t) r h = of_top t r h
     same_row RightRow r h = h
@@ -95,7 +94,7 @@ module _ (facts : List Lit) (wanted : Option Lit) where
 
     sum_wider : (xs : List (ℤ × RowName)) → refutes alone xs ≡ true → refutes beside xs ≡ true
     sum_wider xs h =
-        both (is_good_size xs) (option_map_or is_absurd (weighed_rows beside xs) false)
+        and_from (is_good_size xs) (option_map_or is_absurd (weighed_rows beside xs) false)
         (and_left (is_good_size xs) (option_map_or is_absurd (weighed_rows alone xs) false) h)
         (by (weighed_rows alone xs) refl (and_right (is_good_size xs) (option_map_or is_absurd (weighed_rows alone xs) false) h))
       where
@@ -105,7 +104,7 @@ module _ (facts : List Lit) (wanted : Option Lit) where
 
   same_differing : (n : RowName) (r : Row) → differing facts None n ≡ Some r → differing facts wanted n ≡ Some r
   same_differing (Fact l) r h = h
-  same_differing Goal r h = absurd (no_row r h)
+  same_differing Goal r h = absurd (none-some r h)
   same_differing (Pos t) r h = h
   same_differing (Top t) r h = h
   same_differing RightRow r h = h
@@ -124,7 +123,7 @@ module _ (facts : List Lit) (wanted : Option Lit) where
           (let above_alone : Place = record { facts = facts; wanted = None; above = Some (above_row r); below = None } in
           let below_alone : Place = record { facts = facts; wanted = None; above = None; below = Some (below_row r) } in
           ap (λ (o : Option Row). option_map_or (λ q. both_refute facts wanted q first second) o false) (same_differing differs r e)
-          ∙ both (refutes (beside (Some (above_row r)) None) first) (refutes (beside None (Some (below_row r))) second)
+          ∙ and_from (refutes (beside (Some (above_row r)) None) first) (refutes (beside None (Some (below_row r))) second)
           (sum_wider (Some (above_row r)) None first (and_left (refutes above_alone first) (refutes below_alone second) k))
           (sum_wider None (Some (below_row r)) second (and_right (refutes above_alone first) (refutes below_alone second) k)))
 

@@ -1,6 +1,7 @@
 -- Which stops are right.
 use Rattle.std.proofs.Common.{◌≡◌, ℕ, zero, suc, ◌<◌, List, [], ◌∷◌, Option, refl, sym, ap, ◌∙◌, subst, Bool, true, false, Some, None, inl, inr, arith}
 use Rattle.std.specs.Prelude.{MatchBool, take, slice_get}
+use Rattle.std.proofs.lemmas.Option.{same_Some, none-some}
 use Rattle.e_literal.specs.declared.object.Obj.{Obj}
 use Rattle.e_literal.specs.declared.object.Scope.{Scope}
 use Rattle.e_literal.specs.declared.literal.Lit.{Lit}
@@ -21,7 +22,7 @@ use Rattle.e_deriv.specs.Certified.{Certified, derivation_lines}
 use Rattle.e_deriv.specs.Refused.{IsRefused, IsWideLine, IsTooWide, IsTooWideAt, SomeIsWide}
 use Rattle.e_deriv.specs.Laws.{SamePlace}
 use Rattle.e_deriv.proofs.Agreement.{proof_of_certified, licensed_of_proof}
-use Rattle.e_deriv.proofs.Stops.{no_stop_of_licensed, one_stop, one_context, lacks_not, same_length, Earlier, earlier_line, licensed_line, order, some_same, none_is_not_some}
+use Rattle.e_deriv.proofs.Stops.{no_stop_of_licensed, one_stop, one_context, lacks_not, same_length, Earlier, earlier_line, licensed_line, order}
 use Rattle.e_prove.specs.Stops.{StopIs}
 use Rattle.e_prove.specs.Laws.{NoneWide, IsForWant, IsRefusalAt}
 
@@ -32,13 +33,13 @@ unlicensed_of_refused before t script n w values h = record { line = h.line; con
 
 -- ---- what is too wide is wide
 
-wide_lit : (s : Scope) (facts : List Lit) (l : Lit) (w : ℕ) → IsTooWideLit s facts l w → IsWideLit s facts l
+pub wide_lit : (s : Scope) (facts : List Lit) (l : Lit) (w : ℕ) → IsTooWideLit s facts l w → IsWideLit s facts l
 wide_lit s facts l w h = record { not_plain = h.not_plain; rows = h.rows; is_system = h.is_system; is_wide = h.has_width.is_wide }
 
 wide_contradiction : (facts : List Lit) (w : ℕ) → IsTooWideContradiction facts w → IsWideContradiction facts
 wide_contradiction facts w h = record { no_clash = h.no_clash; rows = h.rows; is_system = h.is_system; is_wide = h.has_width.is_wide }
 
-wide_choice : (t : Stated) (s : Scope) (facts : List Lit) (pattern : List (Option Obj)) (w : ℕ) → SomeChoiceIsTooWide t s facts pattern w → SomeChoiceIsWide t s facts pattern
+pub wide_choice : (t : Stated) (s : Scope) (facts : List Lit) (pattern : List (Option Obj)) (w : ℕ) → SomeChoiceIsTooWide t s facts pattern w → SomeChoiceIsWide t s facts pattern
 wide_choice t s facts pattern w h =
     record { args = h.args; is_choice = h.is_choice; not_above = h.not_above; lit = h.lit; is_given = h.is_given; is_wide = wide_lit s facts h.lit w h.is_wide }
 
@@ -90,8 +91,8 @@ wide_moved before x y e h =
 
 -- where none is wide that at this place is not
 not_wide_at : (before : List Stated) (xs : List Line) (p : ℕ) (x : Line) → NoneWide before xs → slice_get xs p ≡ Some x → ¬ IsWideLine before x
-not_wide_at before [] p x h e = absurd (none_is_not_some x e)
-not_wide_at before (y ∷ ys) zero x h e = subst (λ z. ¬ IsWideLine before z) (some_same y x e) h.0
+not_wide_at before [] p x h e = absurd (none-some x e)
+not_wide_at before (y ∷ ys) zero x h e = subst (λ z. ¬ IsWideLine before z) (same_Some y x e) h.0
 not_wide_at before (y ∷ ys) (suc p) x h e = not_wide_at before ys p x h.1 e
 
 -- ---- where each line is licensed
@@ -127,8 +128,8 @@ memory_of_derived before t d stop certified none is =
 -- ---- where a line is not
 
 none_in_front : (before : List Stated) (xs : List Line) (p q : ℕ) (x : Line) → q < suc p → slice_get xs q ≡ Some x → NoneWide before (take (suc p) xs) → ¬ IsWideLine before x
-none_in_front before [] p q x lt at none = absurd (none_is_not_some x at)
-none_in_front before (y ∷ ys) p zero x lt at none = subst (λ z. ¬ IsWideLine before z) (some_same y x at) none.0
+none_in_front before [] p q x lt at none = absurd (none-some x at)
+none_in_front before (y ∷ ys) p zero x lt at none = subst (λ z. ¬ IsWideLine before z) (same_Some y x at) none.0
 none_in_front before (y ∷ ys) zero (suc q) x lt at none = absurd (omega (arith, lt))
 none_in_front before (y ∷ ys) (suc p) (suc q) x lt at none = none_in_front before ys p q x (omega (arith, lt)) at none.1
 

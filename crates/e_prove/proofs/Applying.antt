@@ -1,8 +1,8 @@
 -- What an application is judged as.
-use Rattle.std.proofs.Common.{◌≡◌, ℕ, ◌+◌, ◌<◌, ◌≤◌, ◌^◌, List, [], ◌∷◌, length, refl, sym, ap, ap₂, ◌∙◌, subst, Bool, true, false, ◌&&◌, true≢false, ltb, Option, Some, None, arith}
-use Rattle.std.specs.Prelude.{IsTrue, IsFalse, IfOk, MatchBool, MatchOption, Result, Ok, Err, nat_le, unwrap_or}
+use Rattle.std.proofs.Common.{◌≡◌, ℕ, ◌+◌, ◌<◌, ◌^◌, List, [], ◌∷◌, length, refl, sym, ap, ap₂, ◌∙◌, subst, Bool, true, false, ◌&&◌, true≢false, ltb, Option, Some, None, arith}
+use Rattle.std.specs.Prelude.{IsTrue, IsFalse, IfOk, MatchBool, MatchOption, Result, Ok, Err, unwrap_or}
 use Rattle.std.specs.List.{list_all}
-use Rattle.std.proofs.lemmas.Bool.Decides.{nat_tests}
+use Rattle.std.proofs.lemmas.Bool.{and_from}
 use Rattle.e_literal.specs.declared.object.Sort.{Sort}
 use Rattle.e_literal.specs.declared.object.Obj.{Obj}
 use Rattle.e_literal.specs.declared.object.Scope.{Scope}
@@ -10,8 +10,9 @@ use Rattle.e_literal.specs.declared.literal.Lit.{Lit}
 use Rattle.e_literal.specs.Literal.{is_in_scope}
 use Rattle.e_literal.specs.Scopes.{same_sort, are_of_sorts, nothing, grown}
 use Rattle.e_literal.specs.Rename.{same_obj}
-use Rattle.e_literal.specs.Use.{Stated, scope_of, is_statement, are_arguments, needs_of_use, gives_of_use}
-use Rattle.e_literal.proofs.Growing.{total_grown}
+use Rattle.e_literal.specs.Use.{Stated, are_arguments, needs_of_use, gives_of_use}
+use Rattle.e_literal.proofs.Sorts.{same_obj_self}
+use Rattle.e_literal.proofs.Booleans.{and_left, and_right}
 use Rattle.e_clause.specs.declared.cert.Cert.{Cert}
 use Rattle.e_clause.specs.Certify.{certify_all}
 use Rattle.e_clause.specs.Judged.{are_good}
@@ -24,8 +25,8 @@ use Rattle.e_deriv.specs.Script.{Apply, step_script, erased}
 use Rattle.e_deriv.specs.Parts.{written, has_no_blank, filled_in, filled_by}
 use Rattle.e_deriv.specs.Lines.{lines, theorem_at}
 use Rattle.e_deriv.specs.Naming.{names_lines}
-use Rattle.e_deriv.specs.Fitting.{all_objects, is_small, is_small_statement}
-use Rattle.e_deriv.proofs.Choices.{same_obj_self, written_again, no_blank_again, fills_again, least_of_good}
+use Rattle.e_deriv.specs.Fitting.{is_small, is_small_statement}
+use Rattle.e_deriv.proofs.Choices.{written_again, no_blank_again, fills_again, least_of_good}
 use Rattle.e_deriv.proofs.Stops.{none_not_allowed}
 use Rattle.e_clause.specs.Written.{is_good_cert}
 use Rattle.e_licence.specs.Contexts.{Basis}
@@ -37,38 +38,9 @@ use Rattle.e_prove.specs.Contexts.{after_apply}
 use Rattle.e_prove.specs.Halts.{HaltsIn, HaltsFilling, HaltsApplying, as_match}
 use Rattle.e_prove.specs.Judging.{IsJudged, StepHalts}
 use Rattle.e_prove.specs.Applying.{CanApply, IsUse}
-use Rattle.e_prove.specs.Written.{has_good_certs}
-use Rattle.e_prove.proofs.Licensing.{and_both, and_left, and_right}
 use Rattle.e_deriv.proofs.Keeping.{stay_all}
-
--- ---- numbers for all objects
-
-at_most : (n m : ℕ) → nat_le n m ≡ true → n ≤ m
-at_most n m h = grind (arith, nat_tests)
-
-pub record Few (s : Scope) : Type 0 where
-  pub points : s.points ≤ 1000
-  pub lines : s.lines ≤ 1000
-  pub circles : s.circles ≤ 1000
-
-pub few_of_small : (s : Scope) → is_small s ≡ true → Few s
-few_of_small s h =
-    let lines = nat_le s.lines 1000 in
-    let circles = nat_le s.circles 1000 in
-    let more = and_right (nat_le s.points 1000) (lines && circles) h in
-    record {
-      points = at_most s.points 1000 (and_left (nat_le s.points 1000) (lines && circles) h);
-      lines = at_most s.lines 1000 (and_left lines circles more);
-      circles = at_most s.circles 1000 (and_right lines circles more);
-    }
-
--- a statement has at most 3,000 objects
-pub few_objects : (t : Stated) → is_small_statement t ≡ true → length t.declared + length t.made ≤ 3000
-few_objects t h =
-    let few = few_of_small (all_objects t) (and_right (is_statement t) (is_small (all_objects t)) h) in
-    let declared = total_grown nothing t.declared in
-    let all = total_grown (scope_of t) t.made in
-    omega (arith, declared, all, few.points, few.lines, few.circles)
+use Rattle.e_deriv.specs.Written.{has_good_certs}
+use Rattle.e_deriv.proofs.Smallness.{few_of_small, few_objects}
 
 -- ---- arguments without blanks
 
@@ -83,8 +55,8 @@ chosen_more s sort sorts o entries h r =
     let b = is_in_scope s o in
     let c = are_entries s sorts entries in
     record {
-      fill = and_both (same_obj o o) (fills entries (written entries)) (same_obj_self o) r.fill;
-      fit = and_both a (b && are_of_sorts s sorts (written entries)) (and_left a (b && c) h) (and_both b (are_of_sorts s sorts (written entries)) (and_left b c (and_right a (b && c) h)) r.fit);
+      fill = and_from (same_obj o o) (fills entries (written entries)) (same_obj_self o) r.fill;
+      fit = and_from a (b && are_of_sorts s sorts (written entries)) (and_left a (b && c) h) (and_from b (are_of_sorts s sorts (written entries)) (and_left b c (and_right a (b && c) h)) r.fit);
     }
 
 chosen : (s : Scope) (sorts : List Sort) (pattern : List (Option Obj)) → has_no_blank pattern ≡ true → are_entries s sorts pattern ≡ true → Chosen s sorts pattern
@@ -102,7 +74,7 @@ chosen s (sort ∷ sorts) (Some o ∷ entries) n h =
 pub written_choice : (t : Stated) (s : Scope) (pattern : List (Option Obj)) → has_no_blank pattern ≡ true → is_pattern t s pattern ≡ true → is_choice t s pattern (written pattern) ≡ true
 written_choice t s pattern n h =
     let c = chosen s t.declared pattern n h in
-    and_both (fills pattern (written pattern)) (are_arguments t s (written pattern)) c.fill c.fit
+    and_from (fills pattern (written pattern)) (are_arguments t s (written pattern)) c.fill c.fit
 
 pub choice_fits : (t : Stated) (s : Scope) (pattern : List (Option Obj)) (args : List Obj) → is_choice t s pattern args ≡ true → are_arguments t s args ≡ true
 choice_fits t s pattern args h = and_right (fills pattern args) (are_arguments t s args) h
@@ -157,17 +129,17 @@ judged_by_choice before theorem pattern entries names old certs x h =
     record {
       licensed = λ rest more goal form.
           record {
-            fits = and_both low (is_choice t s pattern args) (and_left low (is_pattern t s pattern) form) h.least.good.is_choice;
+            fits = and_from low (is_choice t s pattern args) (and_left low (is_pattern t s pattern) form) h.least.good.is_choice;
             allowed = all_allowed_of_certified s x.context.facts (needs_of_use t args s) certs h.certified;
             beside = h.least;
           };
       certified = λ rest more goal form.
-          and_both _ _
-          (and_both low (is_choice t s entries args) (and_left low (is_pattern t s pattern) form)
-          (and_both (fills entries args) (are_arguments t s args) h.fill (choice_fits t s pattern args h.least.good.is_choice)))
-          (and_both _ _ h.certified h.no_blank);
+          and_from _ _
+          (and_from low (is_choice t s entries args) (and_left low (is_pattern t s pattern) form)
+          (and_from (fills entries args) (are_arguments t s args) h.fill (choice_fits t s pattern args h.least.good.is_choice)))
+          (and_from _ _ h.certified h.no_blank);
       erased = λ rest more e. ap₂ (λ es w. Apply theorem es names [] w) (sym h.again) e;
-      written = λ more k. and_both _ _ h.good_certs k;
+      written = λ more k. and_from _ _ h.good_certs k;
       next = λ rest more goal. refl;
       derived_next = λ more goal. refl;
       named = λ rest. refl;

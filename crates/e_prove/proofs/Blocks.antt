@@ -35,6 +35,7 @@ use Rattle.e_prove.specs.Passing.{IsReadyFor, IsReadyStep, IsDerived, KeepsFacts
 use Rattle.e_deriv.proofs.Keeping.{stay_on, stay_joined, stay_all, all_stay, no_fewer}
 use Rattle.e_prove.proofs.Passing.{passed_none, passed_more, passed_as, stops_first, names_kept}
 use Rattle.e_prove.proofs.Inside.{ClaimReady, claim_stops, passed_claim, SuperposedReady, Certifies, superposed_stops, passed_superposed, superposed_halts, SplitReady, split_ready, split_other, split_derives, split_first, split_second}
+use Rattle.e_book.proofs.KeptBlocks.{size_split}
 
 pub on_ok : {A E : Type 0} (p : Type 0) (r : Result A E) → p → OnOk r p
 on_ok p (Ok a) h = h
@@ -227,13 +228,9 @@ pub split_second_ready : (before : List Stated) (close : Close) (lit : Lit) (fir
 split_second_ready before close lit first second derived x goal is d r =
     split_other before lit (script_of first.value) (script_of second.value) derived x goal d (subst (λ w. IsReadyFor before w x goal) (ap close_script is ∙ close_script-Cases lit first second) r)
 
-cases_size : (lit : Lit) (first second : Script) → size (Cases lit first second) ≡ 1 + size first + size second
-unfolding size
-cases_size lit first second = refl
-
 pub split_size : (close : Close) (lit : Lit) (first second : Box Block Global) → close ≡ CasesClose lit first second → size (close_script close) ≡ 1 + size (script_of first.value) + size (script_of second.value)
 split_size close lit first second is =
-    ap size (ap close_script is ∙ close_script-Cases lit first second) ∙ cases_size lit (script_of first.value) (script_of second.value)
+    ap size (ap close_script is ∙ close_script-Cases lit first second) ∙ size_split lit (script_of first.value) (script_of second.value)
 
 pub split_derived : (before : List Stated) (close : Close) (lit : Lit) (first second : Box Block Global) (one other : Block) (x : Standing) (goal : Goal) (r : Result ProvedClose Stop) → close ≡ CasesClose lit first second →
     SplitReady before lit (script_of first.value) x goal → IsDerived before (script_of first.value) (after_literal lit x) goal (script_of one) →

@@ -2,6 +2,7 @@
 use Rattle.std.proofs.Common.{◌≡◌, ℕ, Option, Some, List, [], ◌∷◌, refl, sym, ap, ◌∙◌, subst, true, true≢false, ◌&&◌}
 use Rattle.std.specs.Prelude.{IsTrue, map}
 use Rattle.std.specs.List.{list_all}
+use Rattle.std.proofs.lemmas.Bool.{and_from}
 use Rattle.e_literal.specs.declared.object.Sort.{Sort}
 use Rattle.e_literal.specs.declared.object.Sort.TheVariants.{Point, Line, Circle}
 use Rattle.e_literal.specs.declared.object.Obj.{Obj}
@@ -17,6 +18,7 @@ use Rattle.e_clause.specs.Judged.{are_good}
 use Rattle.e_clause.proofs.Sound.{all_allowed_of_certified, contradictory_of_certified}
 use Rattle.e_clause.specs.Wide.{IsTooWideContradiction}
 use Rattle.e_literal.specs.declared.object.Term.{Term}
+use Rattle.e_literal.proofs.Booleans.{and_left, and_right}
 use Rattle.e_clause.specs.Written.{is_good_cert}
 use Rattle.e_licence.specs.Licences.{IsCertifiedAgainst, IsConsistentBy}
 use Rattle.e_deriv.specs.declared.block.Close.TheVariants.{Qed as QedClose, Contradiction as ContradictionClose}
@@ -27,13 +29,12 @@ use Rattle.e_prove.specs.Passing.{IsReadyFor}
 use Rattle.e_deriv.specs.Goal.{Goal, are_for, goal_with}
 use Rattle.e_deriv.specs.Parts.{filled_by}
 use Rattle.e_deriv.specs.Lines.{lines}
+use Rattle.e_deriv.specs.Written.{has_good_certs}
 use Rattle.e_licence.specs.Contexts.{Basis}
 use Rattle.e_prove.specs.declared.halt.Halt.{Halt}
 use Rattle.e_prove.specs.declared.halt.Halt.TheVariants as halt
 use Rattle.e_prove.specs.Halts.{HaltsIn}
 use Rattle.e_prove.specs.Judging.{IsClosed, CloseHalts}
-use Rattle.e_prove.specs.Written.{has_good_certs}
-use Rattle.e_prove.proofs.Licensing.{and_both, and_left, and_right}
 
 -- what a qed that is ready says
 pub record QedFits (objects : List Obj) (x : Basis) (goal : Goal) : Type 0 where
@@ -56,7 +57,7 @@ unfolding lines erased filled_by close_script has_good_certs
 closed_by before objects written certs x goal form h g =
     record {
       licensed = (record { fits = form; allowed = all_allowed_of_certified x.scope x.facts (goal_with goal objects) certs h; beside = tt }, tt);
-      certified = and_both _ _ (and_both _ _ form (and_both _ _ h refl)) refl;
+      certified = and_from _ _ (and_from _ _ form (and_from _ _ h refl)) refl;
       erased = refl;
       written = g;
     }
@@ -91,7 +92,7 @@ unfolding lines erased filled_by close_script has_good_certs
 closed_by_against before written a x goal h =
     record {
       licensed = (record { fits = refl; allowed = tt; beside = contradictory_of_certified x.scope x.facts a h.certifies }, tt);
-      certified = and_both _ _ h.certifies refl;
+      certified = and_from _ _ h.certifies refl;
       erased = refl;
       written = h.written;
     }

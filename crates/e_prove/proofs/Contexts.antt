@@ -5,6 +5,7 @@ use Rattle.std.proofs.lemmas.Grind.{common_steps, flat_map-append}
 use Rattle.std.proofs.lemmas.List.{length-append}
 use Rattle.std.proofs.lemmas.Bool.Decides.{nat_tests}
 use Rattle.std.proofs.lemmas.List.Folds.{list_all-append}
+use Rattle.std.proofs.lemmas.Bool.{and_from}
 use Rattle.e_literal.specs.declared.object.Scope.{Scope}
 use Rattle.e_literal.specs.declared.object.Sort.{Sort}
 use Rattle.e_literal.specs.declared.object.Term.{Term}
@@ -13,6 +14,7 @@ use Rattle.e_literal.specs.Facts.{has, joined, joined_all}
 use Rattle.e_literal.specs.declared.object.Obj.{Obj}
 use Rattle.e_literal.specs.Scopes.{grown}
 use Rattle.e_literal.specs.Use.{Stated, gives_of_use}
+use Rattle.e_literal.proofs.Booleans.{and_left, and_right}
 use Rattle.e_clause.specs.Assignment.{terms_of_atom, terms_of_lits}
 use Rattle.e_clause.specs.Judged.{is_good, are_good, are_few, most_terms, are_good_facts}
 use Rattle.e_construct.specs.declared.construction.Construction.{Construction}
@@ -22,7 +24,6 @@ use Rattle.e_deriv.specs.Naming.{named}
 use Rattle.e_licence.specs.Contexts.{Basis}
 use Rattle.e_prove.specs.declared.standing.Standing.{Standing}
 use Rattle.e_prove.specs.Contexts.{after_make, after_apply}
-use Rattle.e_prove.proofs.Licensing.{and_both, and_left, and_right}
 
 none_named : (ns : Names) (sorts : List Sort) (new : List (List ℕ)) → min (length sorts) (length new) ≡ 0 → named ns sorts new ≡ ns
 none_named ns [] new h = refl
@@ -62,7 +63,7 @@ good_unpushed : (s : Scope) (facts : List Lit) (l : Lit) → are_good_facts s (f
 good_unpushed s facts l h =
     let good = and_left (are_good s (facts ++ l ∷ [])) (are_few (facts ++ l ∷ [])) h in
     let few = and_right (are_good s (facts ++ l ∷ [])) (are_few (facts ++ l ∷ [])) h in
-    and_both (are_good s facts) (are_few facts)
+    and_from (are_good s facts) (are_few facts)
     (and_left (are_good s facts) (are_good s (l ∷ [])) (sym (list_all-append (is_good s) facts (l ∷ [])) ∙ good))
     (fewer (length (terms_of_lits facts)) (length (terms_of_lits (facts ++ l ∷ []))) most_terms (more_terms facts l) few)
 

@@ -1,8 +1,10 @@
 -- Lists of lines, one behind the other, and where the judging halts in them.
-use Rattle.std.proofs.Common.{◌≡◌, ℕ, zero, suc, ◌+◌, List, [], ◌∷◌, ◌++◌, length, refl, sym, ap, ap₂, ◌∙◌, subst, Bool, true, ◌&&◌, Some, None, arith, length-append}
+use Rattle.std.proofs.Common.{◌≡◌, ℕ, zero, suc, ◌+◌, List, [], ◌∷◌, ◌++◌, length, refl, sym, ap, ap₂, ◌∙◌, subst, Bool, true, ◌&&◌, Some, arith, length-append}
 use Rattle.std.specs.Prelude.{take, slice_get}
 use Rattle.std.specs.List.{list_all}
 use Rattle.std.proofs.lemmas.List.Folds.{list_all-append}
+use Rattle.std.proofs.lemmas.Bool.{and_from}
+use Rattle.std.proofs.lemmas.Option.{none-some}
 use Rattle.e_literal.specs.declared.object.Scope.{Scope}
 use Rattle.e_literal.specs.declared.literal.Lit.{Lit}
 use Rattle.e_literal.specs.Literal.{negation}
@@ -27,15 +29,11 @@ use Rattle.e_prove.specs.declared.halt.Halt.TheVariants as halt
 use Rattle.e_prove.specs.Halts.{HaltsAt, StopOf, stop_of}
 use Rattle.e_prove.specs.Judging.{has_form}
 use Rattle.e_prove.specs.Passing.{HaltIn, StopIn}
-use Rattle.e_prove.proofs.Licensing.{and_both, and_left, and_right}
 
 -- ---- places
 
-none_there : {A : Type 0} (x : A) → None ≡ Some x → ⊥
-none_there x e = cc
-
 at_left : {A : Type 0} (xs ys : List A) (p : ℕ) (x : A) → slice_get xs p ≡ Some x → slice_get (xs ++ ys) p ≡ Some x
-at_left [] ys p x e = absurd (none_there x e)
+at_left [] ys p x e = absurd (none-some x e)
 at_left (a ∷ xs) ys zero x e = e
 at_left (a ∷ xs) ys (suc p) x e = at_left xs ys p x e
 
@@ -45,7 +43,7 @@ at_right (a ∷ xs) ys p zero e = absurd (omega (arith, e))
 at_right (a ∷ xs) ys p (suc q) e = at_right xs ys p q (omega (arith, e))
 
 take_left : {A : Type 0} (xs ys : List A) (p : ℕ) (x : A) → slice_get xs p ≡ Some x → take p (xs ++ ys) ≡ take p xs
-take_left [] ys p x e = absurd (none_there x e)
+take_left [] ys p x e = absurd (none-some x e)
 take_left (a ∷ xs) ys zero x e = refl
 take_left (a ∷ xs) ys (suc p) x e = ap (λ zs. a ∷ zs) (take_left xs ys p x e)
 
@@ -149,14 +147,8 @@ names_length before ns (Cases lit first second) =
 
 -- ---- tests of all lines
 
-pub all_left : (p : Line → Bool) (xs ys : List Line) → list_all p (xs ++ ys) ≡ true → list_all p xs ≡ true
-all_left p xs ys h = and_left _ _ (sym (list_all-append p xs ys) ∙ h)
-
-pub all_right : (p : Line → Bool) (xs ys : List Line) → list_all p (xs ++ ys) ≡ true → list_all p ys ≡ true
-all_right p xs ys h = and_right _ _ (sym (list_all-append p xs ys) ∙ h)
-
 pub all_both : (p : Line → Bool) (xs ys : List Line) → list_all p xs ≡ true → list_all p ys ≡ true → list_all p (xs ++ ys) ≡ true
-all_both p xs ys h k = list_all-append p xs ys ∙ and_both _ _ h k
+all_both p xs ys h k = list_all-append p xs ys ∙ and_from _ _ h k
 
 -- ---- tests that look neither at the facts nor at how blanks are filled
 

@@ -1,12 +1,14 @@
 -- Claims, superpositions and splits, whose blocks are judged.
-use Rattle.std.proofs.Common.{◌≡◌, ℕ, ◌+◌, ◌≤◌, List, [], ◌++◌, length, refl, ap, ap₂, subst, Bool, true, arith}
+use Rattle.std.proofs.Common.{◌≡◌, ℕ, ◌+◌, List, [], ◌++◌, length, refl, ap, ap₂, subst, Bool, true, arith}
 use Rattle.std.specs.Prelude.{IsTrue}
 use Rattle.std.specs.List.{list_all}
+use Rattle.std.proofs.lemmas.Bool.{and_from}
 use Rattle.e_literal.specs.declared.literal.Lit.{Lit}
 use Rattle.e_literal.specs.Literal.{negation, all_in_scope}
 use Rattle.e_literal.specs.Facts.{joined, joined_all}
 use Rattle.e_literal.specs.Scopes.{grown}
 use Rattle.e_literal.specs.Use.{Stated}
+use Rattle.e_literal.proofs.Booleans.{and_left, and_right, all_left, all_right}
 use Rattle.e_clause.specs.declared.cert.Cert.{Cert}
 use Rattle.e_clause.specs.Certify.{certify_all}
 use Rattle.e_clause.specs.Judged.{are_good}
@@ -15,7 +17,7 @@ use Rattle.e_clause.specs.Written.{is_good_cert}
 use Rattle.e_construct.specs.declared.superpose.Superpose.{Superpose}
 use Rattle.e_construct.specs.Superposing as superposing
 use Rattle.e_deriv.specs.declared.stop.Stop.{Stop}
-use Rattle.e_deriv.specs.Script.{Script, Cite, Hence, Make, Apply, Claim, Superposed, Qed, Contradiction as AContradiction, Cases, size, erased}
+use Rattle.e_deriv.specs.Script.{Script, Claim, Superposed, Cases, size, erased}
 use Rattle.e_deriv.specs.Goal.{Goal, goal_of}
 use Rattle.e_deriv.specs.Lines.{Line, line, lines}
 use Rattle.e_deriv.specs.Steps.{fits, needs, are_over}
@@ -34,10 +36,9 @@ use Rattle.e_prove.specs.Contexts.{after_literal, after_superposed, after_block}
 use Rattle.e_prove.specs.Halts.{HaltsAt, HaltsIn}
 use Rattle.e_prove.specs.Judging.{line_at, has_form}
 use Rattle.e_prove.specs.Passing.{IsReadyFor, IsDerived, StopIn, StopsWithin, IsPassed}
-use Rattle.e_prove.specs.Written.{has_good_certs}
-use Rattle.e_prove.proofs.Licensing.{and_both, and_left, and_right}
-use Rattle.e_prove.proofs.Halting.{stop_behind, stop_left, stop_right, names_length, all_left, all_right, all_both, lits_first, lits_second}
+use Rattle.e_prove.proofs.Halting.{stop_behind, stop_left, stop_right, names_length, all_both, lits_first, lits_second}
 use Rattle.e_deriv.proofs.Keeping.{stay_all}
+use Rattle.e_deriv.specs.Written.{has_good_certs}
 
 -- few objects are in scope before the line
 abbrev few_before : Line → Bool
@@ -98,10 +99,10 @@ claim_derives before shown inner derived rest more x goal over d m =
         both_licensed before (lines before inner derived s facts (goal_of shown)) (lines before rest more s (joined_all facts shown) goal) d.licensed m.licensed,
       );
       certified =
-          and_both _ _ (and_both _ _ over refl)
+          and_from _ _ (and_from _ _ over refl)
           (all_both (is_certified before) (lines before derived derived s facts (goal_of shown)) (lines before more more s (joined_all facts shown) goal) d.certified m.certified);
       erased = ap₂ (Claim shown) d.erased m.erased;
-      written = and_both _ _ d.written m.written;
+      written = and_from _ _ d.written m.written;
     }
 
 -- a stop in its block
@@ -166,18 +167,6 @@ pub record SuperposedReady (before : List Stated) (form : Superpose) (names : Li
   pub block : IsReadyFor before inner (after_superposed form names x) (goal_of shown)
   pub scope : is_small x.context.scope ≡ true
 
-pub some_lines : (d : Script) → 1 ≤ size d
-unfolding size
-some_lines (Cite by rest) = omega arith
-some_lines (Hence lit cert rest) = omega arith
-some_lines (Make form names certs rest) = omega arith
-some_lines (Apply theorem args names certs rest) = omega arith
-some_lines (Claim shown inner rest) = omega arith
-some_lines (Superposed form names shown certs inner rest) = omega arith
-some_lines (Qed objects certs) = omega arith
-some_lines (AContradiction against) = omega arith
-some_lines (Cases lit first second) = omega arith
-
 pub superposed_ready : (before : List Stated) (form : Superpose) (names : List (List ℕ)) (shown : List Lit) (certs : List Cert) (inner rest : Script) (x : Standing) (goal : Goal) →
     IsReadyFor before (Superposed form names shown certs inner rest) x goal → SuperposedReady before form names shown inner x
 unfolding lines
@@ -234,7 +223,7 @@ superposed_licensed : (before : List Stated) (form : Superpose) (names : List (L
     superposing.fits form x.context.scope ≡ true → are_over x.context.scope shown ≡ true → Certifies form x certs →
     Licensed before (line_at (Superposed form names shown written inner rest) f x.context goal)
 superposed_licensed before form names shown written certs inner rest f x goal fit over c =
-    record { fits = and_both _ _ fit over; allowed = all_allowed_of_certified x.context.scope x.context.facts (superposing.needs form) certs c.0; beside = tt }
+    record { fits = and_from _ _ fit over; allowed = all_allowed_of_certified x.context.scope x.context.facts (superposing.needs form) certs c.0; beside = tt }
 
 superposed_derives : (before : List Stated) (form : Superpose) (names : List (List ℕ)) (shown : List Lit) (written certs : List Cert) (inner derived rest more : Script) (x : Standing) (goal : Goal) →
     superposing.fits form x.context.scope ≡ true → are_over x.context.scope shown ≡ true → Certifies form x certs → IsDerived before inner (after_superposed form names x) (goal_of shown) derived →
@@ -251,10 +240,10 @@ superposed_derives before form names shown written certs inner derived rest more
         both_licensed before (lines before inner derived t given (goal_of shown)) (lines before rest more s (joined_all facts shown) goal) d.licensed m.licensed,
       );
       certified =
-          and_both _ _ (and_both _ _ (and_both _ _ fit over) (and_both _ _ c.0 refl))
+          and_from _ _ (and_from _ _ (and_from _ _ fit over) (and_from _ _ c.0 refl))
           (all_both (is_certified before) (lines before derived derived t given (goal_of shown)) (lines before more more s (joined_all facts shown) goal) d.certified m.certified);
       erased = ap₂ (Superposed form names shown []) d.erased m.erased;
-      written = and_both _ _ c.1 (and_both _ _ d.written m.written);
+      written = and_from _ _ c.1 (and_from _ _ d.written m.written);
     }
 
 -- a stop in its block
@@ -385,10 +374,10 @@ split_derives before lit first second one other x goal over d e =
         both_licensed before (lines before first one s (joined facts lit) goal) (lines before second other s (joined facts (negation lit)) goal) d.licensed e.licensed,
       );
       certified =
-          and_both _ _ (and_both _ _ over refl)
+          and_from _ _ (and_from _ _ over refl)
           (all_both (is_certified before) (lines before one one s (joined facts lit) goal) (lines before other other s (joined facts (negation lit)) goal) d.certified e.certified);
       erased = ap₂ (Cases lit) d.erased e.erased;
-      written = and_both _ _ d.written e.written;
+      written = and_from _ _ d.written e.written;
     }
 
 -- a stop in the first block

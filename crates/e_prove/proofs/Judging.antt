@@ -2,6 +2,7 @@
 use Rattle.std.proofs.Common.{◌≡◌, ℕ, List, [], ◌∷◌, refl, ap, subst, true, false, Option, Some, None}
 use Rattle.std.specs.Prelude.{IsTrue}
 use Rattle.std.specs.List.{list_all}
+use Rattle.std.proofs.lemmas.Bool.{and_from}
 use Rattle.e_literal.specs.declared.object.Term.{Term}
 use Rattle.e_literal.specs.declared.literal.Lit.{Lit}
 use Rattle.e_literal.specs.Use.{Stated}
@@ -26,9 +27,8 @@ use Rattle.e_prove.specs.declared.standing.Standing.{Standing}
 use Rattle.e_prove.specs.Contexts.{after_literal, after_make}
 use Rattle.e_prove.specs.Halts.{HaltsIn}
 use Rattle.e_prove.specs.Judging.{IsJudged, StepHalts}
-use Rattle.e_prove.specs.Written.{has_good_certs}
-use Rattle.e_prove.proofs.Licensing.{and_both}
 use Rattle.e_deriv.proofs.Keeping.{stay_joined, stay_all}
+use Rattle.e_deriv.specs.Written.{has_good_certs}
 
 -- ---- a citation
 
@@ -37,7 +37,7 @@ unfolding lines erased filled_by names_lines step_script has_good_certs
 judged_by before by x h =
     record {
       licensed = λ rest more goal form. record { fits = form; allowed = tt; beside = h };
-      certified = λ rest more goal form. and_both _ _ form h;
+      certified = λ rest more goal form. and_from _ _ form h;
       erased = λ rest more e. ap (Cite by) e;
       written = λ more k. k;
       next = λ rest more goal. refl;
@@ -64,9 +64,9 @@ unfolding lines erased filled_by names_lines step_script has_good_certs
 judged_by_cert before lit written cert x h g =
     record {
       licensed = λ rest more goal form. record { fits = form; allowed = (allowed_of_certified x.context.scope x.context.facts lit cert h, tt); beside = tt };
-      certified = λ rest more goal form. and_both _ _ form (and_both _ _ (and_both _ _ h refl) refl);
+      certified = λ rest more goal form. and_from _ _ form (and_from _ _ (and_from _ _ h refl) refl);
       erased = λ rest more e. ap (Hence lit None) e;
-      written = λ more k. and_both _ _ g k;
+      written = λ more k. and_from _ _ g k;
       next = λ rest more goal. refl;
       derived_next = λ more goal. refl;
       named = λ rest. refl;
@@ -97,9 +97,9 @@ unfolding lines erased filled_by names_lines step_script has_good_certs
 judged_by_certs before form names written certs x h g =
     record {
       licensed = λ rest more goal fit. record { fits = fit; allowed = all_allowed_of_certified x.context.scope x.context.facts (needs form) certs h; beside = tt };
-      certified = λ rest more goal fit. and_both _ _ fit (and_both _ _ h refl);
+      certified = λ rest more goal fit. and_from _ _ fit (and_from _ _ h refl);
       erased = λ rest more e. ap (Make form names []) e;
-      written = λ more k. and_both _ _ g k;
+      written = λ more k. and_from _ _ g k;
       next = λ rest more goal. refl;
       derived_next = λ more goal. refl;
       named = λ rest. refl;

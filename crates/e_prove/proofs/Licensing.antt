@@ -1,12 +1,14 @@
 -- Certificates one after the other, and the first literal that has none.
-use Rattle.std.proofs.Common.{◌≡◌, ℕ, ◌+◌, ◌<◌, List, [], ◌∷◌, ◌++◌, take, drop, length, get_or, refl, sym, subst, Bool, true, false, ◌&&◌, true≢false, Option, Some, None, arith}
+use Rattle.std.proofs.Common.{◌≡◌, ℕ, ◌+◌, ◌<◌, List, [], ◌∷◌, ◌++◌, take, drop, length, get_or, refl, sym, subst, true, true≢false, Option, Some, None, arith}
 use Rattle.std.proofs.lemmas.Grind.{common_steps}
 use Rattle.std.proofs.lemmas.List.Elements.{Contains-push_cases}
 use Rattle.std.proofs.Common.{⊎_elim}
 use Rattle.std.specs.Prelude.{IfOk, IfErr, Result, Ok, Err, Contains}
+use Rattle.std.proofs.lemmas.Bool.{and_from}
 use Rattle.e_literal.specs.declared.object.Scope.{Scope}
 use Rattle.e_literal.specs.declared.object.Term.{Term}
 use Rattle.e_literal.specs.declared.literal.Lit.{Lit}
+use Rattle.e_literal.proofs.Booleans.{and_left, and_right}
 use Rattle.e_clause.specs.declared.cert.Cert.{Cert}
 use Rattle.e_clause.specs.Certify.{certifies, certify_all}
 use Rattle.e_clause.specs.Judged.{is_good, are_good}
@@ -20,18 +22,6 @@ use Rattle.e_licence.specs.Licences.{IsRefusedBy, IsShownBy}
 use Rattle.e_prove.specs.declared.halt.Halt.{Halt}
 use Rattle.e_prove.specs.declared.halt.Halt.TheVariants as halt
 use Rattle.e_prove.specs.Halts.{HaltsIn}
-
-pub and_both : (a b : Bool) → a ≡ true → b ≡ true → (a && b) ≡ true
-and_both true b h k = k
-and_both false b h k = h
-
-pub and_left : (a b : Bool) → (a && b) ≡ true → a ≡ true
-and_left true b h = refl
-and_left false b h = h
-
-pub and_right : (a b : Bool) → (a && b) ≡ true → b ≡ true
-and_right true b h = h
-and_right false b h = absurd (true≢false (sym h))
 
 -- what gives more of a value gives more of a result
 pub ok_map : {A E : Type 0} (p q : A → Type 0) (r : Result A E) → ((a : A) → p a → q a) → IfOk r p → IfOk r q
@@ -66,13 +56,13 @@ one_too_wide x l w width e h = rw e (contains_first l [], h)
 
 certify_push : (s : Scope) (facts ls : List Lit) (cs : List Cert) (l : Lit) (c : Cert) →
     certify_all s facts ls cs ≡ true → certifies s facts l c ≡ true → certify_all s facts (ls ++ l ∷ []) (cs ++ c ∷ []) ≡ true
-certify_push s facts [] [] l c h k = and_both _ _ k refl
+certify_push s facts [] [] l c h k = and_from _ _ k refl
 certify_push s facts [] (c' ∷ cs) l c h k = absurd (true≢false (sym h))
 certify_push s facts (l' ∷ ls) [] l c h k = absurd (true≢false (sym h))
 certify_push s facts (l' ∷ ls) (c' ∷ cs) l c h k =
     let a = certifies s facts l' c' in
     let b = certify_all s facts ls cs in
-    and_both _ _ (and_left a b h) (certify_push s facts ls cs l c (and_right a b h) k)
+    and_from _ _ (and_left a b h) (certify_push s facts ls cs l c (and_right a b h) k)
 
 -- the literal at this place has its certificate too
 pub certify_next : (x : Basis) (ls : List Lit) (i : ℕ) (cs : List Cert) (l : Lit) (c : Cert) →

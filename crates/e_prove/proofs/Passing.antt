@@ -2,9 +2,11 @@
 use Rattle.std.proofs.Common.{◌≡◌, ℕ, ◌+◌, List, ◌∷◌, refl, sym, ap, ◌∙◌, subst, Bool, true, Result, Ok, Err, arith}
 use Rattle.std.specs.Prelude.{IfOk, IfErr}
 use Rattle.std.specs.List.{list_all}
+use Rattle.std.proofs.lemmas.Bool.{and_from}
 use Rattle.e_literal.specs.declared.object.Scope.{Scope}
 use Rattle.e_literal.specs.declared.literal.Lit.{Lit}
 use Rattle.e_literal.specs.Use.{Stated}
+use Rattle.e_literal.proofs.Booleans.{and_left, and_right}
 use Rattle.e_construct.specs.declared.superpose.Superpose.{Superpose}
 use Rattle.e_deriv.specs.declared.block.Step.{Step}
 use Rattle.e_deriv.specs.declared.block.Close.{Close}
@@ -27,7 +29,6 @@ use Rattle.e_prove.specs.declared.block.ProvedClose.{ProvedClose}
 use Rattle.e_prove.specs.Halts.{HaltsAt, UnlessNoMemory, StopOf, ToldOf}
 use Rattle.e_prove.specs.Judging.{IsJudged, StepHalts, IsClosed, CloseHalts, line_at, lines_at, has_form}
 use Rattle.e_prove.specs.Passing.{IsReadyFor, IsDerived, KeepsFacts, StopIn, StopsWithin, IsPassed, StepStops}
-use Rattle.e_prove.proofs.Licensing.{and_both, and_left, and_right}
 use Rattle.e_prove.proofs.Halting.{stop_behind, stop_first, tests_again, form_is_blind, scope_is_blind}
 
 -- ---- nothing judged yet, and one thing after another
@@ -69,7 +70,7 @@ pub rest_are : (p : Line → Bool) (x : Line) (xs all : List Line) → all ≡ x
 rest_are p x xs all e h = and_right (p x) (list_all p xs) (subst (λ ys. list_all p ys ≡ true) e h)
 
 more_certified : (before : List Stated) (x : Line) (xs all : List Line) → all ≡ x ∷ xs → is_certified before x ≡ true → list_all (is_certified before) xs ≡ true → list_all (is_certified before) all ≡ true
-more_certified before x xs all e h k = subst (λ ys. list_all (is_certified before) ys ≡ true) (sym e) (and_both (is_certified before x) (list_all (is_certified before) xs) h k)
+more_certified before x xs all e h k = subst (λ ys. list_all (is_certified before) ys ≡ true) (sym e) (and_from (is_certified before x) (list_all (is_certified before) xs) h k)
 
 -- a line that is ready has its form, whatever its blanks are filled with
 pub has_form_first : (before : List Stated) (d f : Script) (x : Standing) (goal : Goal) (xs : List Line) → lines_at before d f x.context goal ≡ line_at d f x.context goal ∷ xs → IsReadyFor before d x goal →

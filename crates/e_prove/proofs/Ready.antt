@@ -1,14 +1,15 @@
 -- What the lines that are ready say of a step, of a close, and of the whole.
-use Rattle.std.proofs.Common.{◌≡◌, ℕ, zero, suc, ◌+◌, ◌<◌, ◌^◌, List, [], ◌∷◌, length, refl, sym, ap, subst, true, ltb, Option, arith, Box, Global}
+use Rattle.std.proofs.Common.{◌≡◌, ℕ, zero, suc, ◌+◌, ◌<◌, ◌^◌, List, [], ◌∷◌, length, refl, sym, ap, subst, true, ltb, Option, arith, Box, Global, ltb-true}
 use Rattle.std.proofs.Common.{get_or}
-use Rattle.std.proofs.lemmas.Bool.Decides.{nat_tests}
 use Rattle.std.specs.List.{list_all}
+use Rattle.std.proofs.lemmas.Bool.{and_from}
 use Rattle.e_literal.specs.declared.object.Scope.{Scope}
 use Rattle.e_literal.specs.declared.literal.Lit.{Lit}
 use Rattle.e_literal.specs.Facts.{joined, joined_all}
 use Rattle.e_literal.specs.declared.object.Obj.{Obj}
 use Rattle.e_literal.specs.Scopes.{grown}
 use Rattle.e_literal.specs.Use.{Stated, gives_of_use}
+use Rattle.e_literal.proofs.Booleans.{and_left, and_right}
 use Rattle.e_theorem.specs.Choice.{is_choice}
 use Rattle.e_theorem.specs.Pattern.{is_pattern}
 use Rattle.e_theorem.specs.declared.statement.Statement.{Statement}
@@ -29,14 +30,13 @@ use Rattle.e_deriv.specs.Steps.{fits, needs}
 use Rattle.e_deriv.specs.Fitting.{LitsFit, is_small, is_small_statement}
 use Rattle.e_deriv.proofs.Choices.{written_again}
 use Rattle.e_deriv.proofs.Scripts.{step_script-Claim, step_script-Superposed}
+use Rattle.e_deriv.proofs.Smallness.{few_of_small}
 use Rattle.e_prove.specs.declared.standing.Standing.{Standing}
 use Rattle.e_prove.specs.Contexts.{HasRoom, after_make, after_superposed, after_literal, after_block}
 use Rattle.e_prove.specs.Judging.{lines_at, line_at, has_form}
 use Rattle.e_prove.specs.Passing.{IsReadyFor, IsReadyStep, IsDerived}
 use Rattle.e_prove.specs.Applying.{LitsFitAt, CanApply}
-use Rattle.e_prove.proofs.Licensing.{and_both, and_left, and_right}
 use Rattle.e_prove.proofs.Passing.{lines_begin, first_is}
-use Rattle.e_prove.proofs.Applying.{few_of_small}
 use Rattle.e_prove.proofs.Inside.{ClaimReady, claim_ready, claim_rest, SuperposedReady, superposed_ready, superposed_rest}
 
 -- the facts that a script begins with are good
@@ -116,9 +116,6 @@ small_among [] k h lt = absurd (omega (arith, lt))
 small_among (t ∷ ts) zero h lt = and_left (is_small_statement t) (list_all is_small_statement ts) h
 small_among (t ∷ ts) (suc k) h lt = small_among ts k (and_right (is_small_statement t) (list_all is_small_statement ts) h) (omega (arith, lt))
 
-below : (n m : ℕ) → ltb n m ≡ true → n < m
-below n m h = grind (arith, nat_tests)
-
 -- what the lines of an application say of it
 pub record ApplyReady (before : List Stated) (theorem : ℕ) (pattern : List (Option Obj)) (x : Standing) : Type 0 where
   pub place : theorem < length before
@@ -134,7 +131,7 @@ apply_lits before theorem pattern names certs rest x goal r lt args h =
     let f = Apply theorem (filled_in args) names certs rest in
     let os = written (filled_in args) in
     let low : ltb theorem (length before) ≡ true = and_left (ltb theorem (length before)) (is_pattern t s pattern) (form_first before (Apply theorem pattern names certs rest) x goal r) in
-    let both = (r.lits f).1 (and_both (ltb theorem (length before)) (is_choice t s pattern os) low h) in
+    let both = (r.lits f).1 (and_from (ltb theorem (length before)) (is_choice t s pattern os) low h) in
     record { needs = both.0; after = first_facts before rest rest (grown s t.made) (joined_all x.context.facts (gives_of_use t os s)) goal both.1 }
 
 apply_can : (before : List Stated) (theorem : ℕ) (pattern : List (Option Obj)) (names : List (List ℕ)) (certs : List Cert) (rest : Script) (x : Standing) (goal : Goal) →
@@ -144,7 +141,7 @@ apply_can before theorem pattern names certs rest x goal r =
     let s = x.context.scope in
     let here = Apply theorem pattern names certs rest in
     let form = form_first before here x goal r in
-    let lt = below theorem (length before) (and_left (ltb theorem (length before)) (is_pattern t s pattern) form) in
+    let lt = ltb-true theorem (length before) (and_left (ltb theorem (length before)) (is_pattern t s pattern) form) in
     record {
       place = lt;
       can = record {

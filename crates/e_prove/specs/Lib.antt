@@ -1,4 +1,3 @@
-pub mod Written
 pub mod Halts
 pub mod Contexts
 pub mod Judging

@@ -14,10 +14,10 @@ use Rattle.e_deriv.specs.Naming.{names_lines}
 use Rattle.e_deriv.specs.Licensed.{AllLicensed}
 use Rattle.e_deriv.specs.Certified.{is_certified}
 use Rattle.e_deriv.specs.Fitting.{LitsFit, is_small, is_small_statement}
+use Rattle.e_deriv.specs.Written.{has_good_certs}
 use Rattle.e_prove.specs.declared.halt.Halt.{Halt}
 use Rattle.e_prove.specs.declared.halt.Halt.TheVariants.{Lacks, TooWide}
 use Rattle.e_prove.specs.declared.standing.Standing.{Standing}
-use Rattle.e_prove.specs.Written.{has_good_certs}
 use Rattle.e_prove.specs.Halts.{HaltsAt}
 use Rattle.e_prove.specs.Judging.{lines_at, has_form}
 

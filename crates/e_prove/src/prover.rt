@@ -10,7 +10,7 @@ ghost use Rattle.e_deriv.specs.Certified.{Certified};
 ghost use Rattle.e_book.specs.Fits.{has_good_literals};
 ghost use Rattle.e_prove.specs.Stops.{StopIs, HasNames};
 ghost use Rattle.e_deriv.specs.Written.{is_written_well};
-ghost use Rattle.e_prove.specs.Written.{has_good_certs};
+ghost use Rattle.e_deriv.specs.Written.{has_good_certs};
 
 use crate::block::prove_block;
 use crate::close::Goal;

@@ -1,10 +1,10 @@
 -- A script with certificates is the script without them.
 use Rattle.std.proofs.Common.{◌≡◌, false, true, ltb, ◌&&◌, List, [], ◌∷◌, length, Some, None, refl, ap, ◌∙◌}
 use Rattle.std.specs.List.{list_all}
+use Rattle.std.proofs.lemmas.Bool.{and_parts}
 use Rattle.e_text.specs.Names.{is_name}
 use Rattle.e_deriv.specs.Script.{Script, Cite, Hence, Make, Apply, Claim, Superposed, Qed, Contradiction, Cases, erased}
 use Rattle.e_book.specs.HasSpelling.{is_plain}
-use Rattle.e_book.proofs.Differ.{both}
 use Rattle.e_read.specs.declared.kept.Kept.{Kept}
 use Rattle.e_read.specs.Filled.{behind_next, filled}
 
@@ -37,16 +37,16 @@ unfolding erased is_plain
 erased_plain (Cite by rest) p = ap (λ (x : Script). Cite by x) (erased_plain rest p)
 erased_plain (Hence lit None rest) p = ap (λ (x : Script). Hence lit None x) (erased_plain rest p)
 erased_plain (Hence lit (Some cert) rest) p = absurd (no_cert p)
-erased_plain (Make form names [] rest) p = ap (λ (x : Script). Make form names [] x) (erased_plain rest (both (list_all is_name names) (is_plain rest) p).1)
+erased_plain (Make form names [] rest) p = ap (λ (x : Script). Make form names [] x) (erased_plain rest (and_parts (list_all is_name names) (is_plain rest) p).1)
 erased_plain (Make form names (c ∷ cs) rest) p = absurd (no_cert p)
-erased_plain (Apply theorem args names [] rest) p = ap (λ (x : Script). Apply theorem args names [] x) (erased_plain rest (both (list_all is_name names) (is_plain rest) p).1)
+erased_plain (Apply theorem args names [] rest) p = ap (λ (x : Script). Apply theorem args names [] x) (erased_plain rest (and_parts (list_all is_name names) (is_plain rest) p).1)
 erased_plain (Apply theorem args names (c ∷ cs) rest) p = absurd (no_cert p)
 erased_plain (Claim shown inner rest) p =
-    let q = both (is_plain inner) (is_plain rest) (both (ltb 0 (length shown)) (is_plain inner && is_plain rest) p).1 in
+    let q = and_parts (is_plain inner) (is_plain rest) (and_parts (ltb 0 (length shown)) (is_plain inner && is_plain rest) p).1 in
     ap (λ (x : Script). Claim shown x (erased rest)) (erased_plain inner q.0) ∙ ap (λ (x : Script). Claim shown inner x) (erased_plain rest q.1)
 erased_plain (Superposed form names shown [] inner rest) p =
-    let n = both (list_all is_name names) (ltb 0 (length shown) && (is_plain inner && is_plain rest)) p in
-    let q = both (is_plain inner) (is_plain rest) (both (ltb 0 (length shown)) (is_plain inner && is_plain rest) n.1).1 in
+    let n = and_parts (list_all is_name names) (ltb 0 (length shown) && (is_plain inner && is_plain rest)) p in
+    let q = and_parts (is_plain inner) (is_plain rest) (and_parts (ltb 0 (length shown)) (is_plain inner && is_plain rest) n.1).1 in
     ap (λ (x : Script). Superposed form names shown [] x (erased rest)) (erased_plain inner q.0) ∙ ap (λ (x : Script). Superposed form names shown [] inner x) (erased_plain rest q.1)
 erased_plain (Superposed form names shown (c ∷ cs) inner rest) p = absurd (no_cert p)
 erased_plain (Qed objects []) p = refl
@@ -54,5 +54,5 @@ erased_plain (Qed objects (c ∷ cs)) p = absurd (no_cert p)
 erased_plain (Contradiction None) p = refl
 erased_plain (Contradiction (Some against)) p = absurd (no_cert p)
 erased_plain (Cases lit first second) p =
-    let q = both (is_plain first) (is_plain second) p in
+    let q = and_parts (is_plain first) (is_plain second) p in
     ap (λ (x : Script). Cases lit x (erased second)) (erased_plain first q.0) ∙ ap (λ (x : Script). Cases lit first x) (erased_plain second q.1)

@@ -1,14 +1,14 @@
 -- The objects behind qed have the sorts of the made ones.
 use Rattle.std.proofs.Common.{◌≡◌, ℕ, suc, ◌-◌, ◌<◌, Bool, true, false, List, [], ◌∷◌, ◌++◌, length, map, take, drop, get_or, drop-cons, reverse, Option, Some, None, Ok, refl, sym, ap, ◌∙◌, arith}
-use Rattle.std.specs.Prelude.{◌&&◌, ◌||◌}
+use Rattle.std.specs.Prelude.{◌||◌}
 use Rattle.std.proofs.lemmas.List.{reverse-append, take-append-drop, drop_all}
+use Rattle.std.proofs.lemmas.Bool.{and_parts}
 use Rattle.e_literal.specs.declared.literal.Lit.{Lit}
 use Rattle.e_literal.specs.declared.object.Sort.{Sort}
 use Rattle.e_literal.specs.declared.object.Sort.TheVariants.{Point, Line, Circle}
 use Rattle.e_literal.specs.declared.object.Obj.{Obj}
-use Rattle.e_literal.specs.declared.object.Scope.{Scope}
-use Rattle.e_literal.specs.Literal.{is_in_scope}
-use Rattle.e_literal.specs.Scopes.{same_sort, are_of_sorts}
+use Rattle.e_literal.specs.Scopes.{same_sort}
+use Rattle.e_literal.proofs.Sorts.{sorts_of_objects}
 use Rattle.e_deriv.specs.declared.names.Names.{Names}
 use Rattle.e_book.specs.declared.blocks.Outer.{Outer}
 use Rattle.e_book.specs.declared.blocks.Opened.{Opened}
@@ -16,7 +16,6 @@ use Rattle.e_book.specs.declared.blocks.Opened.TheVariants as opened
 use Rattle.e_book.specs.Blocks.{is_claim, has_claim, made_in}
 use Rattle.e_book.specs.Scope.{scope_of_names, qed_in}
 use Rattle.e_book.proofs.Building.{qed_fits}
-use Rattle.e_book.proofs.Differ.{both}
 use Rattle.e_read.specs.Needs.{shown_inside, claimed}
 
 sorts_equal : (a b : Sort) → same_sort a b ≡ true → b ≡ a
@@ -29,15 +28,6 @@ sorts_equal Line Point e = absurd cc
 sorts_equal Line Circle e = absurd cc
 sorts_equal Circle Point e = absurd cc
 sorts_equal Circle Line e = absurd cc
-
-sorts_of_objects : (s : Scope) (sorts : List Sort) (os : List Obj) → are_of_sorts s sorts os ≡ true → map (λ (o : Obj). o.sort) os ≡ sorts
-sorts_of_objects s [] [] h = refl
-sorts_of_objects s [] (o ∷ os) h = absurd cc
-sorts_of_objects s (sort ∷ sorts) [] h = absurd cc
-sorts_of_objects s (sort ∷ sorts) (o ∷ os) h =
-    let p = both (same_sort sort o.sort) (is_in_scope s o && are_of_sorts s sorts os) h in
-    let q = both (is_in_scope s o) (are_of_sorts s sorts os) p.1 in
-    rw (sorts_equal sort o.sort p.0, sorts_of_objects s sorts os q.1) refl
 
 pub qed_sorts : (ns : Names) (sorts : List Sort) (names : List (List ℕ)) (os : List Obj) → qed_in ns sorts names ≡ Ok os → map (λ (o : Obj). o.sort) os ≡ sorts
 qed_sorts ns sorts names os e = sorts_of_objects (scope_of_names ns) sorts os (qed_fits ns sorts names os e)

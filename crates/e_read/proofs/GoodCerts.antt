@@ -1,27 +1,15 @@
 -- With certificates whose literals are well formed, a script that is filled has such certificates.
-use Rattle.std.proofs.Common.{◌≡◌, Bool, true, ◌&&◌, List, [], ◌∷◌, refl}
+use Rattle.std.proofs.Common.{◌≡◌, Bool, true, List, [], ◌∷◌, refl}
 use Rattle.std.specs.List.{list_all}
 use Rattle.std.specs.Option.{option_map_or}
+use Rattle.std.proofs.lemmas.Bool.{and_parts, and_from}
 use Rattle.e_clause.specs.declared.cert.Cert.{Cert}
 use Rattle.e_deriv.specs.Script.{Script, Cite, Hence, Make, Apply, Claim, Superposed, Qed, Contradiction, Cases}
-use Rattle.e_book.proofs.Answered.{and}
-use Rattle.e_book.proofs.Differ.{both}
+use Rattle.e_deriv.specs.Written.{has_good_certs}
 use Rattle.e_read.specs.declared.kept.Kept.{Kept}
 use Rattle.e_read.specs.declared.kept.Kept.TheVariants as kept
 use Rattle.e_read.specs.Filled.{first_cert, next_certs, next_against, behind_next, filled}
 use Rattle.e_clause.specs.Written.{is_good_cert, is_good_against}
-
--- the literals of the certificates are well formed
-unfoldable pub has_good_certs : Script → Bool
-has_good_certs (Cite by rest) = has_good_certs rest
-has_good_certs (Hence lit cert rest) = option_map_or is_good_cert cert true && has_good_certs rest
-has_good_certs (Make form names certs rest) = list_all is_good_cert certs && has_good_certs rest
-has_good_certs (Apply theorem args names certs rest) = list_all is_good_cert certs && has_good_certs rest
-has_good_certs (Claim shown inner rest) = has_good_certs inner && has_good_certs rest
-has_good_certs (Superposed form names shown certs inner rest) = list_all is_good_cert certs && (has_good_certs inner && has_good_certs rest)
-has_good_certs (Qed objects certs) = list_all is_good_cert certs
-has_good_certs (Contradiction against) = option_map_or is_good_against against true
-has_good_certs (Cases lit first second) = has_good_certs first && has_good_certs second
 
 -- the literals of what was read below a line are well formed
 abbrev pub is_good_kept : Kept → Bool
@@ -33,21 +21,21 @@ AreGood ks = list_all is_good_kept ks ≡ true
 
 first_good : (cs : List Cert) → list_all is_good_cert cs ≡ true → option_map_or is_good_cert (first_cert cs) true ≡ true
 first_good [] h = refl
-first_good (c ∷ cs) h = (both (is_good_cert c) (list_all is_good_cert cs) h).0
+first_good (c ∷ cs) h = (and_parts (is_good_cert c) (list_all is_good_cert cs) h).0
 
 certs_good : (ks : List Kept) → AreGood ks → list_all is_good_cert (next_certs ks) ≡ true
 certs_good [] h = refl
-certs_good (kept.Certs cs ∷ ks) h = (both (list_all is_good_cert cs) (list_all is_good_kept ks) h).0
+certs_good (kept.Certs cs ∷ ks) h = (and_parts (list_all is_good_cert cs) (list_all is_good_kept ks) h).0
 certs_good (kept.Against a ∷ ks) h = refl
 
 against_good : (ks : List Kept) → AreGood ks → option_map_or is_good_against (next_against ks) true ≡ true
 against_good [] h = refl
 against_good (kept.Certs cs ∷ ks) h = refl
-against_good (kept.Against a ∷ ks) h = (both (is_good_against a) (list_all is_good_kept ks) h).0
+against_good (kept.Against a ∷ ks) h = (and_parts (is_good_against a) (list_all is_good_kept ks) h).0
 
 behind_good : (ks : List Kept) → AreGood ks → AreGood (behind_next ks)
 behind_good [] h = refl
-behind_good (k ∷ ks) h = (both (is_good_kept k) (list_all is_good_kept ks) h).1
+behind_good (k ∷ ks) h = (and_parts (is_good_kept k) (list_all is_good_kept ks) h).1
 
 -- with good certificates the script has good ones, and good ones are left
 pub filled_good : (d : Script) (ks : List Kept) → AreGood ks → (has_good_certs (filled d ks).0 ≡ true) × AreGood (filled d ks).1
@@ -55,24 +43,24 @@ unfolding has_good_certs filled
 filled_good (Cite by rest) ks h = filled_good rest ks h
 filled_good (Hence lit cert rest) ks h =
     let r = filled_good rest (behind_next ks) (behind_good ks h) in
-    (and _ _ (first_good (next_certs ks) (certs_good ks h)) r.0, r.1)
+    (and_from _ _ (first_good (next_certs ks) (certs_good ks h)) r.0, r.1)
 filled_good (Make form names certs rest) ks h =
     let r = filled_good rest (behind_next ks) (behind_good ks h) in
-    (and _ _ (certs_good ks h) r.0, r.1)
+    (and_from _ _ (certs_good ks h) r.0, r.1)
 filled_good (Apply theorem args names certs rest) ks h =
     let r = filled_good rest (behind_next ks) (behind_good ks h) in
-    (and _ _ (certs_good ks h) r.0, r.1)
+    (and_from _ _ (certs_good ks h) r.0, r.1)
 filled_good (Claim shown inner rest) ks h =
     let i = filled_good inner ks h in
     let r = filled_good rest (filled inner ks).1 i.1 in
-    (and _ _ i.0 r.0, r.1)
+    (and_from _ _ i.0 r.0, r.1)
 filled_good (Superposed form names shown certs inner rest) ks h =
     let i = filled_good inner (behind_next ks) (behind_good ks h) in
     let r = filled_good rest (filled inner (behind_next ks)).1 i.1 in
-    (and _ _ (certs_good ks h) (and _ _ i.0 r.0), r.1)
+    (and_from _ _ (certs_good ks h) (and_from _ _ i.0 r.0), r.1)
 filled_good (Qed objects certs) ks h = (certs_good ks h, behind_good ks h)
 filled_good (Contradiction against) ks h = (against_good ks h, behind_good ks h)
 filled_good (Cases lit first second) ks h =
     let i = filled_good first ks h in
     let r = filled_good second (filled first ks).1 i.1 in
-    (and _ _ i.0 r.0, r.1)
+    (and_from _ _ i.0 r.0, r.1)

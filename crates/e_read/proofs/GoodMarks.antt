@@ -1,12 +1,14 @@
 -- The literals of certificates that are read are well formed.
 use Rattle.std.proofs.Common.{◌≡◌, ℕ, ◌+◌, Bool, true, false, cond, ◌&&◌, ltb, List, [], ◌∷◌, ◌++◌, length, Option, Some, None, Result, Ok, Err, refl, subst}
-use Rattle.std.specs.Prelude.{ℤ, codes, slice_get, ◌==◌}
+use Rattle.std.specs.Prelude.{ℤ, slice_get, ◌==◌}
 use Rattle.std.specs.List.{list_all}
 use Rattle.std.specs.Str.{bytes_eq}
 use Rattle.std.specs.Option.{option_to_list}
+use Rattle.std.proofs.lemmas.Bool.{and_parts, and_from}
 use Rattle.e_literal.specs.declared.literal.Lit.{Lit}
 use Rattle.e_literal.specs.declared.object.Obj.{Obj}
 use Rattle.e_literal.specs.WellFormed.{is_well_formed}
+use Rattle.e_literal.proofs.Booleans.{all_both}
 use Rattle.e_clause.specs.declared.cert.RowName.{RowName}
 use Rattle.e_clause.specs.declared.cert.RowName.TheVariants as names
 use Rattle.e_clause.specs.declared.cert.Sums.{Sums}
@@ -24,19 +26,14 @@ use Rattle.e_deriv.specs.declared.names.Names.{Names}
 use Rattle.e_book.specs.declared.fault.Kind.{Kind}
 use Rattle.e_book.specs.declared.fault.Kind.TheVariants.{Malformed}
 use Rattle.e_book.specs.declared.literal.RawLit.{RawLit}
-use Rattle.e_book.specs.declared.sum.RawTerm.{RawTerm}
-use Rattle.e_book.specs.Reading.{◌>>=◌, or_malformed, title_at, end_at, names_of}
-use Rattle.e_book.specs.Sums.{term_of}
-use Rattle.e_book.specs.Literals.{lit_of, diagram_lit_of}
-use Rattle.e_book.specs.Scope.{lit_in, lits_in, term_in, args_in, variables_of, right_count}
+use Rattle.e_book.specs.Reading.{◌>>=◌, or_malformed}
+use Rattle.e_book.specs.Scope.{lit_in, term_in, args_in, variables_of, right_count}
 use Rattle.e_book.specs.Steps.{few_monos}
-use Rattle.e_book.proofs.Answered.{and, appended}
-use Rattle.e_book.proofs.Differ.{both}
 use Rattle.e_book.proofs.InScope.{bind_ok, ok_is, read_ok}
-use Rattle.e_book.proofs.KeptSums.{few_ok}
+use Rattle.e_book.proofs.KeptSums.{few_ok, one_lit}
 use Rattle.e_book.proofs.SaidLits.{AtomSaid, lit_said}
 use Rattle.e_book.proofs.WellRead.{good_lits}
-use Rattle.e_book.proofs.Choices.{either}
+use Rattle.e_book.proofs.Choices.{either, passed}
 use Rattle.e_read.specs.declared.mark.RawRow.{RawRow}
 use Rattle.e_read.specs.declared.mark.RawRow.TheVariants as rows
 use Rattle.e_read.specs.declared.mark.Mark.{Mark}
@@ -49,117 +46,35 @@ use Rattle.e_read.specs.declared.owed.Due.TheVariants as due
 use Rattle.e_read.specs.declared.owed.Owed.{Owed}
 use Rattle.e_read.specs.declared.kept.Kept.{Kept}
 use Rattle.e_read.specs.declared.kept.Kept.TheVariants as kept
-use Rattle.e_read.specs.Marks.{multiplier_of, bare_row, row_named, row_of, may_differ, bare, differs_of, transfer_of, row_mark_of, mark_named, mark_of, mark_line}
+use Rattle.e_read.specs.Marks.{mark_of, mark_line}
 use Rattle.e_read.specs.Strict.{is_strict_mark, strict_mark}
 use Rattle.e_read.specs.Owed.{most_rows, fact_in, row_in, with_row, row_put, sum_begun, differs_put, sums_ended, has_more, certificate, transfer_put, part_put, metric_put, takes_metric, clash_put, transfer_rule, count_others, transfer_at, transfer_in, transfer_begun, ended, sums_behind, due_behind, marked, kept_of, settled}
-use Rattle.e_read.proofs.TakenLines.{passed}
 use Rattle.e_clause.specs.Written.{is_good_name, is_good_sum, is_good_sums, is_good_part, is_good_cert, is_good_against}
 use Rattle.e_read.proofs.GoodCerts.{AreGood}
+use Rattle.e_read.proofs.MarkLits.{OfRow, OfMark, mark_lit}
 
 -- ---- what is said: no coefficient of a row's literal is 0
 
+abbrev Said : RawLit → Type 0
+Said l = AtomSaid l.atom
+
+abbrev Anything : RawLit → Type 0
+Anything l = Unit {0}
+
 abbrev RowSaid : RawRow → Type 0
-RowSaid (rows.Fact l) = AtomSaid l.atom
-RowSaid row = Unit {0}
+RowSaid row = OfRow Said row
 
 abbrev MarkSaid : Mark → Type 0
-MarkSaid (marks.Differs r) = RowSaid r
-MarkSaid (marks.Row m r) = RowSaid r
-MarkSaid mark = Unit {0}
-
-bare_said : (ws : List (List ℕ)) (row r : RawRow) → RowSaid row → bare_row ws row ≡ Ok r → RowSaid r
-bare_said ws row r h e = let n = bind_ok (end_at ws) (λ none. read_ok row) r e in subst RowSaid (ok_is row r n.2) h
-
-term_said : (ws : List (List ℕ)) (f : RawTerm → RawRow) (r : RawRow) → ((t : RawTerm) → RowSaid (f t)) → (term_of ws >>= λ t. read_ok (f t)) ≡ Ok r → RowSaid r
-term_said ws f r h e = let t = bind_ok (term_of ws) (λ t. read_ok (f t)) r e in subst RowSaid (ok_is (f t.0) r t.2) (h t.0)
-
-fact_said : (ws : List (List ℕ)) (r : RawRow) → (lit_of ws >>= λ l. read_ok (rows.Fact l)) ≡ Ok r → RowSaid r
-fact_said ws r e = let l = bind_ok (lit_of ws) (λ l. read_ok (rows.Fact l)) r e in subst RowSaid (ok_is (rows.Fact l.0) r l.2) (lit_said ws l.0 l.1)
-
-named_said : (w : List ℕ) (ws : List (List ℕ)) (r : RawRow) → row_named w ws ≡ Ok r → RowSaid r
-unfolding row_named
-named_said w ws r e =
-    let none : Result RawRow Kind = Err Malformed in
-    let r7 : Result RawRow Kind = cond (bytes_eq w (codes "below")) (bare_row ws rows.Below) none in
-    let r6 : Result RawRow Kind = cond (bytes_eq w (codes "above")) (bare_row ws rows.Above) r7 in
-    let r5 : Result RawRow Kind = cond (bytes_eq w (codes "least")) (term_of ws >>= λ t. read_ok (rows.Least t)) r6 in
-    let r4 : Result RawRow Kind = cond (bytes_eq w (codes "right")) (bare_row ws rows.Right) r5 in
-    let r3 : Result RawRow Kind = cond (bytes_eq w (codes "top")) (term_of ws >>= λ t. read_ok (rows.Top t)) r4 in
-    let r2 : Result RawRow Kind = cond (bytes_eq w (codes "pos")) (term_of ws >>= λ t. read_ok (rows.Pos t)) r3 in
-    let r1 : Result RawRow Kind = cond (bytes_eq w (codes "goal")) (bare_row ws rows.Goal) r2 in
-    either RowSaid (bytes_eq w (codes "fact")) (lit_of ws >>= λ l. read_ok (rows.Fact l)) r1 r e (fact_said ws r) (λ e1.
-    either RowSaid (bytes_eq w (codes "goal")) (bare_row ws rows.Goal) r2 r e1 (bare_said ws rows.Goal r tt) (λ e2.
-    either RowSaid (bytes_eq w (codes "pos")) (term_of ws >>= λ t. read_ok (rows.Pos t)) r3 r e2 (term_said ws rows.Pos r (λ t. tt)) (λ e3.
-    either RowSaid (bytes_eq w (codes "top")) (term_of ws >>= λ t. read_ok (rows.Top t)) r4 r e3 (term_said ws rows.Top r (λ t. tt)) (λ e4.
-    either RowSaid (bytes_eq w (codes "right")) (bare_row ws rows.Right) r5 r e4 (bare_said ws rows.Right r tt) (λ e5.
-    either RowSaid (bytes_eq w (codes "least")) (term_of ws >>= λ t. read_ok (rows.Least t)) r6 r e5 (term_said ws rows.Least r (λ t. tt)) (λ e6.
-    either RowSaid (bytes_eq w (codes "above")) (bare_row ws rows.Above) r7 r e6 (bare_said ws rows.Above r tt) (λ e7.
-    either RowSaid (bytes_eq w (codes "below")) (bare_row ws rows.Below) none r e7 (bare_said ws rows.Below r tt) (λ e8. no_row r e8))))))))
-  where
-    no_row : (r : RawRow) → let none : Result RawRow Kind = Err Malformed in none ≡ Ok r → RowSaid r
-    no_row r h = absurd cc
-
-row_said : (ws : List (List ℕ)) (r : RawRow) → row_of ws ≡ Ok r → RowSaid r
-unfolding row_of
-row_said [] r e = absurd cc
-row_said (w ∷ ws) r e = named_said w ws r e
-
-bare_mark_said : (ws : List (List ℕ)) (mark m : Mark) → MarkSaid mark → bare ws mark ≡ Ok m → MarkSaid m
-bare_mark_said ws mark m h e = let n = bind_ok (end_at ws) (λ none. read_ok mark) m e in subst MarkSaid (ok_is mark m n.2) h
-
-differs_said : (ws : List (List ℕ)) (m : Mark) → differs_of ws ≡ Ok m → MarkSaid m
-unfolding differs_of
-differs_said ws m e =
-    let r = bind_ok (row_of ws) (λ r. cond (may_differ r) (read_ok (marks.Differs r)) (Err Malformed)) m e in
-    subst MarkSaid (ok_is (marks.Differs r.0) m (passed (may_differ r.0) (read_ok (marks.Differs r.0)) m r.2).1) (row_said ws r.0 r.1)
-
-row_mark_said : (w : List ℕ) (ws : List (List ℕ)) (m : Mark) → row_mark_of w ws ≡ Ok m → MarkSaid m
-unfolding row_mark_of
-row_mark_said w ws m e =
-    let n = bind_ok (multiplier_of w) (λ n. row_of ws >>= λ r. read_ok (marks.Row n r)) m e in
-    let r = bind_ok (row_of ws) (λ r. read_ok (marks.Row n.0 r)) m n.2 in
-    subst MarkSaid (ok_is (marks.Row n.0 r.0) m r.2) (row_said ws r.0 r.1)
-
-transfer_said : (ws : List (List ℕ)) (m : Mark) → transfer_of ws ≡ Ok m → MarkSaid m
-unfolding transfer_of
-transfer_said ws m e =
-    let t = bind_ok (title_at ws) (λ t. names_of t.1 >>= λ ns. read_ok (marks.Transfer t.0 ns)) m e in
-    let ns = bind_ok (names_of t.0.1) (λ ns. read_ok (marks.Transfer t.0.0 ns)) m t.2 in
-    subst MarkSaid (ok_is (marks.Transfer t.0.0 ns.0) m ns.2) tt
-
-clash_said : (ws : List (List ℕ)) (m : Mark) → (diagram_lit_of ws >>= λ l. read_ok (marks.Clash l)) ≡ Ok m → MarkSaid m
-clash_said ws m e = let l = bind_ok (diagram_lit_of ws) (λ l. read_ok (marks.Clash l)) m e in subst MarkSaid (ok_is (marks.Clash l.0) m l.2) tt
-
-mark_named_said : (w : List ℕ) (ws : List (List ℕ)) (m : Mark) → mark_named w ws ≡ Ok m → MarkSaid m
-unfolding mark_named
-mark_named_said w ws m e =
-    let m5 : Result Mark Kind = cond (bytes_eq w (codes "differs")) (differs_of ws) (row_mark_of w ws) in
-    let m4 : Result Mark Kind = cond (bytes_eq w (codes "sum")) (bare ws marks.Sum) m5 in
-    let m3 : Result Mark Kind = cond (bytes_eq w (codes "clash")) (diagram_lit_of ws >>= λ l. read_ok (marks.Clash l)) m4 in
-    let m2 : Result Mark Kind = cond (bytes_eq w (codes "transfer")) (transfer_of ws) m3 in
-    let m1 : Result Mark Kind = cond (bytes_eq w (codes "metric")) (bare ws marks.Metric) m2 in
-    either MarkSaid (bytes_eq w (codes "fact")) (bare ws marks.Fact) m1 m e (bare_mark_said ws marks.Fact m tt) (λ e1.
-    either MarkSaid (bytes_eq w (codes "metric")) (bare ws marks.Metric) m2 m e1 (bare_mark_said ws marks.Metric m tt) (λ e2.
-    either MarkSaid (bytes_eq w (codes "transfer")) (transfer_of ws) m3 m e2 (transfer_said ws m) (λ e3.
-    either MarkSaid (bytes_eq w (codes "clash")) (diagram_lit_of ws >>= λ l. read_ok (marks.Clash l)) m4 m e3 (clash_said ws m) (λ e4.
-    either MarkSaid (bytes_eq w (codes "sum")) (bare ws marks.Sum) m5 m e4 (bare_mark_said ws marks.Sum m tt) (λ e5.
-    either MarkSaid (bytes_eq w (codes "differs")) (differs_of ws) (row_mark_of w ws) m e5 (differs_said ws m) (row_mark_said w ws m))))))
-
-mark_said : (ws : List (List ℕ)) (m : Mark) → mark_of ws ≡ Ok m → MarkSaid m
-unfolding mark_of
-mark_said [] m e = absurd cc
-mark_said (w ∷ ws) m e = mark_named_said w ws m e
+MarkSaid mark = OfMark Said Anything mark
 
 strict_said : (line : List ℕ) (ws : List (List ℕ)) (m : Mark) → strict_mark line ws ≡ Ok m → MarkSaid m
 unfolding strict_mark
 strict_said line ws m e =
     let x = bind_ok (mark_of ws) (λ m. cond (is_strict_mark m && bytes_eq line (mark_line m)) (read_ok m) (Err Malformed)) m e in
-    subst MarkSaid (ok_is x.0 m (passed (is_strict_mark x.0 && bytes_eq line (mark_line x.0)) (read_ok x.0) m x.2).1) (mark_said ws x.0 x.1)
+    subst MarkSaid (ok_is x.0 m (passed (is_strict_mark x.0 && bytes_eq line (mark_line x.0)) (read_ok x.0) m x.2).1)
+    (mark_lit Said lit_said Anything (λ ws l h. tt) ws x.0 x.1)
 
 -- ---- rows
-
-one_lit : (ns : Names) (raw : RawLit) (l : Lit) → lit_in ns raw ≡ Ok l → lits_in ns (raw ∷ []) ≡ Ok (l ∷ [])
-one_lit ns raw l e = rw e refl
 
 good_fact : (ns : Names) (raw : RawLit) (l : Lit) → AtomSaid raw.atom → fact_in ns raw ≡ Ok l → is_well_formed l ≡ true
 good_fact ns raw l said e =
@@ -167,7 +82,7 @@ good_fact ns raw l said e =
     let f = bind_ok (few_monos (raw ∷ [])) (λ few. read_ok x.0) l x.2 in
     let few = few_ok (raw ∷ []) f.0 f.1 in
     let good = good_lits ns (raw ∷ []) (x.0 ∷ []) (one_lit ns raw x.0 x.1) (said, tt) few.short few.small in
-    subst (λ (y : Lit). is_well_formed y ≡ true) (ok_is x.0 l f.2) (both (is_well_formed x.0) true good).0
+    subst (λ (y : Lit). is_well_formed y ≡ true) (ok_is x.0 l f.2) (and_parts (is_well_formed x.0) true good).0
 
 abbrev GoodName : RowName → Type 0
 GoodName r = is_good_name r ≡ true
@@ -230,7 +145,7 @@ to_owed x o h e = subst GoodOwed (ok_is x o e) h
 with_row_good : (sum new : List (ℤ × RowName)) (m : ℤ) (r : RowName) → is_good_sum sum ≡ true → GoodName r → with_row sum m r ≡ Ok new → is_good_sum new ≡ true
 with_row_good sum new m r h k e =
     let p = passed (ltb (length sum) most_rows) (read_ok (sum ++ (m, r) ∷ [])) new e in
-    subst (λ (x : List (ℤ × RowName)). is_good_sum x ≡ true) (ok_is (sum ++ (m, r) ∷ []) new p.1) (appended (λ (x : ℤ × RowName). is_good_name x.1) sum ((m, r) ∷ []) h (and _ _ k refl))
+    subst (λ (x : List (ℤ × RowName)). is_good_sum x ≡ true) (ok_is (sum ++ (m, r) ∷ []) new p.1) (all_both (λ (x : ℤ × RowName). is_good_name x.1) sum ((m, r) ∷ []) h (and_from _ _ k refl))
 
 row_put_good : (s : Option OpenSums) (m : ℤ) (r : RowName) (new : OpenSums) → GoodOpen s → GoodName r → row_put s m r ≡ Ok new → GoodOpen (Some new)
 row_put_good (Some (sums.One sum)) m r new h k e =
@@ -238,22 +153,22 @@ row_put_good (Some (sums.One sum)) m r new h k e =
     to_open (sums.One x.0) new (with_row_good sum x.0 m r h k x.1) x.2
 row_put_good (Some (sums.Above differs sum)) m r new h k e =
     let x = bind_ok (with_row sum m r) (λ x. read_ok (sums.Above differs x)) new e in
-    let p = both (is_good_name differs) (is_good_sum sum) h in
-    to_open (sums.Above differs x.0) new (and _ _ p.0 (with_row_good sum x.0 m r p.1 k x.1)) x.2
+    let p = and_parts (is_good_name differs) (is_good_sum sum) h in
+    to_open (sums.Above differs x.0) new (and_from _ _ p.0 (with_row_good sum x.0 m r p.1 k x.1)) x.2
 row_put_good (Some (sums.Below differs above sum)) m r new h k e =
     let x = bind_ok (with_row sum m r) (λ x. read_ok (sums.Below differs above x)) new e in
-    let p = both (is_good_name differs) (is_good_sum above && is_good_sum sum) h in
-    let q = both (is_good_sum above) (is_good_sum sum) p.1 in
-    to_open (sums.Below differs above x.0) new (and _ _ p.0 (and _ _ q.0 (with_row_good sum x.0 m r q.1 k x.1))) x.2
+    let p = and_parts (is_good_name differs) (is_good_sum above && is_good_sum sum) h in
+    let q = and_parts (is_good_sum above) (is_good_sum sum) p.1 in
+    to_open (sums.Below differs above x.0) new (and_from _ _ p.0 (and_from _ _ q.0 (with_row_good sum x.0 m r q.1 k x.1))) x.2
 row_put_good s m r new h k e = absurd cc
 
 sum_begun_good : (s : Option OpenSums) (new : OpenSums) → GoodOpen s → sum_begun s ≡ Ok new → GoodOpen (Some new)
 sum_begun_good (Some sums.Begun) new h e = to_open (sums.One []) new refl e
-sum_begun_good (Some (sums.Differs differs)) new h e = to_open (sums.Above differs []) new (and _ _ h refl) e
+sum_begun_good (Some (sums.Differs differs)) new h e = to_open (sums.Above differs []) new (and_from _ _ h refl) e
 sum_begun_good (Some (sums.Above differs sum)) new h e =
-    let p = both (is_good_name differs) (is_good_sum sum) h in
+    let p = and_parts (is_good_name differs) (is_good_sum sum) h in
     let x = passed (ltb 0 (length sum)) (read_ok (sums.Below differs sum [])) new e in
-    to_open (sums.Below differs sum []) new (and _ _ p.0 (and _ _ p.1 refl)) x.1
+    to_open (sums.Below differs sum []) new (and_from _ _ p.0 (and_from _ _ p.1 refl)) x.1
 sum_begun_good s new h e = absurd cc
 
 differs_put_good : (s : Option OpenSums) (r : RowName) (new : OpenSums) → GoodName r → differs_put s r ≡ Ok new → GoodOpen (Some new)
@@ -274,16 +189,16 @@ sums_ended_good s all h e = absurd cc
 transfer_put_good : (wanted : List Lit) (certs : List Cert) (t : OpenTransfer) (new : Due) → are_good_certs certs ≡ true → are_good_parts t.parts ≡ true → transfer_put wanted certs t ≡ Ok new → GoodDue new
 transfer_put_good wanted certs t new h k e =
     either GoodDue (length t.parts == t.owed) (read_ok (due.Literals wanted (certs ++ certificate t ∷ []) None)) (read_ok (due.Literals wanted certs (Some t))) new e
-    (to_due (due.Literals wanted (certs ++ certificate t ∷ []) None) new (appended is_good_cert certs (certificate t ∷ []) h (and _ _ k refl)))
-    (to_due (due.Literals wanted certs (Some t)) new (and _ _ h k))
+    (to_due (due.Literals wanted (certs ++ certificate t ∷ []) None) new (all_both is_good_cert certs (certificate t ∷ []) h (and_from _ _ k refl)))
+    (to_due (due.Literals wanted certs (Some t)) new (and_from _ _ h k))
 
 part_put_good : (d : Due) (p : Part) (new : Due) → GoodDue d → is_good_part p ≡ true → part_put d p ≡ Ok new → GoodDue new
 part_put_good (due.Literals wanted certs None) p new h k e =
     let x = passed (has_more wanted certs) (read_ok (due.Literals wanted (certs ++ Plain p ∷ []) None)) new e in
-    to_due (due.Literals wanted (certs ++ Plain p ∷ []) None) new (appended is_good_cert certs (Plain p ∷ []) h (and _ _ k refl)) x.1
+    to_due (due.Literals wanted (certs ++ Plain p ∷ []) None) new (all_both is_good_cert certs (Plain p ∷ []) h (and_from _ _ k refl)) x.1
 part_put_good (due.Literals wanted certs (Some t)) p new h k e =
-    let q = both (are_good_certs certs) (are_good_parts t.parts) h in
-    transfer_put_good wanted certs (record t { parts = t.parts ++ p ∷ [] }) new q.0 (appended is_good_part t.parts (p ∷ []) q.1 (and _ _ k refl)) e
+    let q = and_parts (are_good_certs certs) (are_good_parts t.parts) h in
+    transfer_put_good wanted certs (record t { parts = t.parts ++ p ∷ [] }) new q.0 (all_both is_good_part t.parts (p ∷ []) q.1 (and_from _ _ k refl)) e
 part_put_good d p new h k e = absurd cc
 
 metric_put_good : (d : Due) (m : MetricCert) (new : Due) → GoodDue d → is_good_sums m.sums ≡ true → metric_put d m ≡ Ok new → GoodDue new
@@ -376,10 +291,10 @@ kept_good (due.Literals wanted certs None) k h e = by (has_more wanted certs) e
   where
     by : (b : Bool) → cond b (Err Malformed) (read_ok (Some (kept.Certs certs))) ≡ Ok k → AreGood (option_to_list k)
     by true x = absurd cc
-    by false x = to_kept (Some (kept.Certs certs)) k (and _ _ h refl) x
+    by false x = to_kept (Some (kept.Certs certs)) k (and_from _ _ h refl) x
 kept_good (due.Literals wanted certs (Some t)) k h e = absurd cc
 kept_good (due.Contradiction None) k h e = absurd cc
-kept_good (due.Contradiction (Some a)) k h e = to_kept (Some (kept.Against a)) k (and _ _ h refl) e
+kept_good (due.Contradiction (Some a)) k h e = to_kept (Some (kept.Against a)) k (and_from _ _ h refl) e
 
 pub settled_good : (o : Owed) (k : Option Kept) → GoodOwed o → settled o ≡ Ok k → AreGood (option_to_list k)
 unfolding settled

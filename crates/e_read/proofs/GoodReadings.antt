@@ -4,6 +4,7 @@ use Rattle.std.specs.Option.{option_to_list}
 use Rattle.e_text.specs.Lines.{Seen}
 use Rattle.e_text.specs.declared.line.LineFault.{LineFault}
 use Rattle.e_literal.specs.declared.literal.Lit.{Lit}
+use Rattle.e_literal.proofs.Booleans.{all_both}
 use Rattle.e_construct.specs.Construct.{needs}
 use Rattle.e_construct.specs.Superposing as superposing
 use Rattle.e_book.specs.declared.fault.Kind.{Kind}
@@ -17,8 +18,8 @@ use Rattle.e_book.specs.Book.{is_done}
 use Rattle.e_book.specs.Steps.{begin, step}
 use Rattle.e_book.specs.Scope.{lit_in, let_in}
 use Rattle.e_book.specs.Superposes.{superpose_in}
-use Rattle.e_book.proofs.Answered.{appended}
 use Rattle.e_book.proofs.InScope.{bind_ok, ok_is, read_ok}
+use Rattle.e_book.proofs.Choices.{passed}
 use Rattle.e_read.specs.declared.owed.Due.{Due}
 use Rattle.e_read.specs.declared.owed.Due.TheVariants as due
 use Rattle.e_read.specs.declared.owed.Owed.{Owed}
@@ -28,9 +29,10 @@ use Rattle.e_read.specs.Strict.{is_apart}
 use Rattle.e_read.specs.Needs.{one_each, needs_of_use, needs_at_qed, due_of}
 use Rattle.e_read.specs.Text.{owes_nothing, at_start, owed_by, gone_on, taken, Derived, Last, derived, garbled_at, finished, or_on, is_end, piece_from}
 use Rattle.e_read.proofs.Bridge.{Answer, derives, no_last, garbled_ok, derived_is, goes_on}
-use Rattle.e_read.proofs.TakenLines.{passed, Stepped, line_taken, either}
-use Rattle.e_read.proofs.GoodCerts.{has_good_certs, is_good_kept, AreGood, filled_good}
+use Rattle.e_read.proofs.TakenLines.{Stepped, line_taken, either}
+use Rattle.e_read.proofs.GoodCerts.{is_good_kept, AreGood, filled_good}
 use Rattle.e_read.proofs.GoodMarks.{GoodDue, GoodOwed, strict_good, settled_good}
+use Rattle.e_deriv.specs.Written.{has_good_certs}
 
 -- ---- what a line owes
 
@@ -87,7 +89,7 @@ taken_good known r next l h e =
     behind : Stepped known r next l.bytes → GoodReading next
     behind s =
         let good : GoodReading (record { draft = Some s.draft; owed = s.owed; kept = r.kept ++ option_to_list s.read }) = record {
-          kept = appended is_good_kept r.kept (option_to_list s.read) h.kept (settled_good r.owed s.read h.owed s.settled_is);
+          kept = all_both is_good_kept r.kept (option_to_list s.read) h.kept (settled_good r.owed s.read h.owed s.settled_is);
           owed = gone_good known r.draft s.form s.draft s.owed s.gone;
         } in
         subst GoodReading (sym s.next_is) good

@@ -7,6 +7,7 @@ pub mod Consequences
 pub mod Rooms
 pub mod GoalSorts
 pub mod GoodCerts
+pub mod MarkLits
 mod GoodMarks
 pub mod GoodReadings
 pub mod MadeNames

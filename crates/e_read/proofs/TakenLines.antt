@@ -17,6 +17,7 @@ use Rattle.e_book.specs.Steps.{begin, step}
 use Rattle.e_book.specs.Book.{starts_with_hash, is_skipped, line_step}
 use Rattle.e_book.specs.Canonical.{line_of}
 use Rattle.e_book.proofs.InScope.{bind_ok, ok_is}
+use Rattle.e_book.proofs.Choices.{passed}
 use Rattle.e_read.specs.declared.mark.Mark.{Mark}
 use Rattle.e_read.specs.declared.owed.Owed.{Owed}
 use Rattle.e_read.specs.declared.kept.Kept.{Kept}
@@ -25,11 +26,6 @@ use Rattle.e_read.specs.Strict.{is_strict, strict_of, strict_form, strict_mark, 
 use Rattle.e_read.specs.Owed.{marked, settled}
 use Rattle.e_read.specs.Laws.{begins_with_bar}
 use Rattle.e_read.specs.Text.{owes_nothing, with_mark, certified, owed_by, gone_on, all_settled, with_form, stepped, is_bar, worded, is_lf_end, spelled, taken}
-
--- a test that was passed
-pub passed : {A : Type 0} (b : Bool) (x : Result A Kind) (y : A) → cond b x (Err Malformed) ≡ Ok y → (b ≡ true) × (x ≡ Ok y)
-passed true x y e = (refl, e)
-passed false x y e = absurd cc
 
 pub either : {A : Type 0} (b : Bool) (x y z : A) → cond b x y ≡ z → ((b ≡ true) × (x ≡ z)) ⊎ ((b ≡ false) × (y ≡ z))
 either true x y z e = inl (refl, e)

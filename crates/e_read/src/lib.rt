@@ -19,5 +19,5 @@ pub use kept::{Certs, Kept, KeptLines, Rows};
 pub use laws::derivations_are_of_books;
 pub use mark::{Mark, RawRow};
 pub use owed::{Due, OpenSums, OpenTransfer, Owed};
-pub use reader::{Piece, TextFault, faulty_line, read};
+pub use reader::{Piece, TextFault, read};
 pub use reading::Reading;

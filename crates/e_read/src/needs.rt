@@ -134,7 +134,7 @@ const NOTHING: Scope = Scope {
 };
 
 /// The literals of the goal of the whole proof with these objects for its made ones.
-#[tactic(auto, using(crate::proofs::Rooms::made_fits, e_book::proofs::Building::sorts_again))]
+#[tactic(auto, using(crate::proofs::Rooms::made_fits, e_literal::proofs::Growing::sorts_next))]
 fn whole_goal_with(alloc: Global, draft: &Draft, objects: &[Obj]) -> Result<Items<Lit>, AllocError>
     requires draft { FitsDraft draft.now }
     requires sorts { map (λ o. o.sort) objects.now ≡ draft.now.made }

@@ -1,7 +1,7 @@
 //! Derivation texts, block by block.
 ghost use Rattle.std.specs.Prelude.{◌≡◌, ◌≤◌, ◌<◌, length, IfOk, OnOk, IsTrue};
 ghost use Rattle.std.specs.List.{list_all};
-ghost use Rattle.e_text.specs.Lines.{fault_line, seen};
+ghost use Rattle.e_text.specs.Lines.{seen};
 ghost use Rattle.e_theorem.specs.Statements.{stated};
 ghost use Rattle.e_deriv.specs.Fitting.{is_small_statement};
 ghost use Rattle.e_book.specs.Limits.{most_theorems};
@@ -13,7 +13,7 @@ ghost use Rattle.e_read.specs.Text.{at_start, garbled_at, taken, LineIs, LineRea
 
 use crate::reading::Reading;
 use e_book::{Known, Theorem, Trouble};
-use e_text::{Line, LineFault, Lines};
+use e_text::{Line, Lines, faulty_line};
 use std::alloc::{AllocError, Global};
 use thiserror::Error;
 
@@ -44,17 +44,6 @@ impl From<AllocError> for TextFault {
 
     fn from(_e: AllocError) -> TextFault {
         TextFault::NoMemory
-    }
-}
-
-/// The line that a fault names. It takes no memory.
-pub fn faulty_line(fault: LineFault) -> u64
-    ensures { result ≡ fault_line fault }
-{
-    match fault {
-        LineFault::Bytes { line } => line,
-        LineFault::LineBytes { line } => line,
-        LineFault::NotAscii { line } => line,
     }
 }
 

@@ -1,11 +1,11 @@
 -- What a script with its blanks filled has of the script: all but the arguments.
 use Rattle.std.proofs.Common.{◌≡◌, ℕ, ◌+◌, Bool, true, leb, ◌&&◌, List, [], ◌∷◌, length, Some, None, refl, ap}
 use Rattle.std.specs.List.{list_all}
+use Rattle.std.proofs.lemmas.Bool.{and_from}
 use Rattle.e_text.specs.Names.{is_name}
 use Rattle.e_literal.specs.declared.object.Obj.{Obj}
 use Rattle.e_literal.specs.declared.object.Scope.{Scope}
 use Rattle.e_literal.specs.Scopes.{grown}
-use Rattle.e_literal.specs.WellFormed.{is_well_formed}
 use Rattle.e_literal.specs.Use.{Stated}
 use Rattle.e_construct.specs.Construct.{made, gives}
 use Rattle.e_construct.specs.Superposing as superposing
@@ -17,9 +17,8 @@ use Rattle.e_deriv.specs.Parts.{rest_of, inner_of, args_of, filled_in, filled_by
 use Rattle.e_book.specs.Limits.{most_facts, most_terms, most_blanks, monomials, count_monomials}
 use Rattle.e_book.specs.Applies.{count_blanks}
 use Rattle.e_book.specs.Headed.{Headed}
-use Rattle.e_book.specs.Fits.{NewNamesFit, few_facts, few_terms, few_blanks, is_diagram_lit, has_good_literals}
+use Rattle.e_book.specs.Fits.{NewNamesFit, few_facts, few_terms, few_blanks}
 use Rattle.e_book.specs.HasSpelling.{is_plain, is_named_by_title, names_theorems}
-use Rattle.e_book.proofs.Answered.{and}
 
 -- ---- two tests, each as good as another
 
@@ -104,23 +103,6 @@ filled_terms before n sc (Cases lit first second) f =
     let more = n + monomials lit.atom in
     then_same (leb more most_terms) _ _ (both_same _ _ _ _ (filled_terms before more sc first (inner_of f)) (filled_terms before more sc second (rest_of f)))
 
--- ---- literals
-
-pub filled_literals : (s f : Script) → has_good_literals (filled_by s f) ≡ has_good_literals s
-unfolding has_good_literals filled_by
-filled_literals (Cite by rest) f = then_same (is_diagram_lit by.lit) _ _ (filled_literals rest (rest_of f))
-filled_literals (Hence lit cert rest) f = then_same (is_well_formed lit) _ _ (filled_literals rest (rest_of f))
-filled_literals (Make form names certs rest) f = filled_literals rest (rest_of f)
-filled_literals (Apply theorem args names certs rest) f = filled_literals rest (rest_of f)
-filled_literals (Claim shown inner rest) f =
-    then_same (list_all is_well_formed shown) _ _ (both_same _ _ _ _ (filled_literals inner (inner_of f)) (filled_literals rest (rest_of f)))
-filled_literals (Superposed form names shown certs inner rest) f =
-    then_same (list_all is_well_formed shown) _ _ (both_same _ _ _ _ (filled_literals inner (inner_of f)) (filled_literals rest (rest_of f)))
-filled_literals (Qed objects certs) f = refl
-filled_literals (Contradiction against) f = refl
-filled_literals (Cases lit first second) f =
-    then_same (is_well_formed lit) _ _ (both_same _ _ _ _ (filled_literals first (inner_of f)) (filled_literals second (rest_of f)))
-
 -- ---- names
 
 pub filled_new_names : (before : List Stated) (ns : Names) (s f : Script) → NewNamesFit before ns s → NewNamesFit before ns (filled_by s f)
@@ -188,9 +170,9 @@ unfolding few_blanks filled_by
 filled_blanks (Cite by rest) f = filled_blanks rest (rest_of f)
 filled_blanks (Hence lit cert rest) f = filled_blanks rest (rest_of f)
 filled_blanks (Make form names certs rest) f = filled_blanks rest (rest_of f)
-filled_blanks (Apply theorem args names certs rest) f = and _ _ (within_blanks (args_of f)) (filled_blanks rest (rest_of f))
-filled_blanks (Claim shown inner rest) f = and _ _ (filled_blanks inner (inner_of f)) (filled_blanks rest (rest_of f))
-filled_blanks (Superposed form names shown certs inner rest) f = and _ _ (filled_blanks inner (inner_of f)) (filled_blanks rest (rest_of f))
+filled_blanks (Apply theorem args names certs rest) f = and_from _ _ (within_blanks (args_of f)) (filled_blanks rest (rest_of f))
+filled_blanks (Claim shown inner rest) f = and_from _ _ (filled_blanks inner (inner_of f)) (filled_blanks rest (rest_of f))
+filled_blanks (Superposed form names shown certs inner rest) f = and_from _ _ (filled_blanks inner (inner_of f)) (filled_blanks rest (rest_of f))
 filled_blanks (Qed objects certs) f = refl
 filled_blanks (Contradiction against) f = refl
-filled_blanks (Cases lit first second) f = and _ _ (filled_blanks first (inner_of f)) (filled_blanks second (rest_of f))
+filled_blanks (Cases lit first second) f = and_from _ _ (filled_blanks first (inner_of f)) (filled_blanks second (rest_of f))

@@ -12,9 +12,10 @@ use Rattle.e_book.specs.Headed.{Headed, stated_by}
 use Rattle.e_book.specs.Entry.{Entry}
 use Rattle.e_book.specs.Fits.{Fits, NewNamesFit, few_facts, few_terms, few_blanks, has_good_literals}
 use Rattle.e_book.specs.HasSpelling.{is_plain, names_theorems}
+use Rattle.e_book.proofs.WrittenScripts.{filled_literals}
 use Rattle.e_read.proofs.Erased.{erased_plain}
 use Rattle.e_reread.specs.Laws.{FilledHasSpelling}
-use Rattle.e_reread.proofs.Filled.{filled_size, filled_depth, filled_facts, filled_terms, filled_literals, filled_new_names, filled_theorems, filled_plain, filled_blanks}
+use Rattle.e_reread.proofs.Filled.{filled_size, filled_depth, filled_facts, filled_terms, filled_new_names, filled_theorems, filled_plain, filled_blanks}
 use Rattle.e_reread.proofs.FilledForms.{forms_of_certified}
 
 -- the derivation without its certificates is the theorem's own script, with the arguments of the derivation

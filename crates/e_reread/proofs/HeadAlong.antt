@@ -24,11 +24,11 @@ use Rattle.e_book.specs.Canonical.{line_of, Group, group, grouped_before, groupe
 use Rattle.e_book.proofs.Respelled.{GoodForm, as_read}
 use Rattle.e_book.proofs.Declared.{Runs}
 use Rattle.e_book.proofs.InScope.{bind_ok, ok_is}
+use Rattle.e_book.proofs.Choices.{passed}
 use Rattle.e_read.specs.declared.owed.Due.TheVariants as due
 use Rattle.e_read.specs.declared.kept.Kept.{Kept}
 use Rattle.e_read.specs.Strict.{is_strict, ends_with, is_apart}
 use Rattle.e_read.specs.Needs.{due_of}
-use Rattle.e_read.proofs.TakenLines.{passed}
 use Rattle.e_reread.proofs.RowsAgain.{lit_direct}
 use Rattle.e_reread.proofs.CertsPut.{nothing_kept}
 use Rattle.e_reread.proofs.LinesTaken.{Stands, Along}

@@ -5,7 +5,7 @@ use Rattle.std.specs.Fmt.{decimal, signed_decimal}
 use Rattle.std.specs.Ordering.{int_eq}
 use Rattle.std.specs.Str.{bytes_eq}
 use Rattle.std.specs.List.{list_all}
-use Rattle.std.proofs.lemmas.Bool.{leb-true, lt-ltb, le-leb, ne_eqb, not-true}
+use Rattle.std.proofs.lemmas.Bool.{leb-true, lt-ltb, le-leb, ne_eqb, not-true, and_parts}
 use Rattle.e_text.specs.Names.{is_digit, is_title}
 use Rattle.e_text.specs.Numerals.{is_numeral}
 use Rattle.e_text.specs.Tokens.{is_blank, has_bytes, is_token, tokens_of, AreTokens}
@@ -19,7 +19,7 @@ use Rattle.e_book.specs.Sums.{term_named, term_of}
 use Rattle.e_book.specs.Literals.{is_diagram_raw}
 use Rattle.e_book.specs.Canonical.{term_words}
 use Rattle.e_book.specs.HasSpelling.{AreNames}
-use Rattle.e_book.proofs.Differ.{both, same_bytes}
+use Rattle.e_book.proofs.Differ.{same_bytes}
 use Rattle.e_book.proofs.NamesAgain.{titled, names_again}
 use Rattle.e_book.proofs.SumsAgain.{TermNamed, two_again, three_again, term_again, term_tokens}
 use Rattle.e_book.proofs.LitsAgain.{LitNamed, lit_again, diagram_again, lit_tokens}
@@ -51,7 +51,7 @@ MarkNamed mark = Unit {0}
 -- ---- multipliers
 
 digits : (b : ℕ) (bs : List ℕ) → is_numeral (b ∷ bs) ≡ true → is_digit b ≡ true
-digits b bs h = (both (is_digit b) (list_all is_digit bs) (both (list_all is_digit (b ∷ bs)) (eqb (length bs) 0 || ltb 48 b) h).0).0
+digits b bs h = (and_parts (is_digit b) (list_all is_digit bs) (and_parts (list_all is_digit (b ∷ bs)) (eqb (length bs) 0 || ltb 48 b) h).0).0
 
 not_minus : (b : ℕ) → is_digit b ≡ true → eqb b 45 ≡ false
 not_minus b h = search (rules, tests)
@@ -77,7 +77,7 @@ record Sized (m : ℤ) : Type 0 where
 
 sized : (m : ℤ) → is_good_multiplier m ≡ true → Sized m
 sized m h =
-    let p = both (not (int_eq m (pos 0))) (leb (unsigned_abs m) (2 ^ 80)) h in
+    let p = and_parts (not (int_eq m (pos 0))) (leb (unsigned_abs m) (2 ^ 80)) h in
     record { some = not-true (int_eq m (pos 0)) p.0; few = leb-true _ _ p.1 }
 
 not_none : (n : ℕ) → int_eq (pos n) (pos 0) ≡ false → 0 < n
@@ -154,7 +154,7 @@ multiplier_token : (m : ℤ) → is_good_multiplier m ≡ true → is_token (sig
 multiplier_token (pos n) h = is_token-numeral (decimal n) (is_numeral-decimal n (small n (sized (pos n) h).few))
 multiplier_token (negsuc n) h =
     let t = is_token-numeral (decimal (suc n)) (is_numeral-decimal (suc n) (small (suc n) (sized (negsuc n) h).few)) in
-    let u : unbroken (decimal (suc n)) ≡ true = (both (has_bytes (decimal (suc n))) (unbroken (decimal (suc n))) t).1 in
+    let u : unbroken (decimal (suc n)) ≡ true = (and_parts (has_bytes (decimal (suc n))) (unbroken (decimal (suc n))) t).1 in
     let s : eqb (length (45 ∷ decimal (suc n))) 0 ≡ false = ne_eqb _ _ (λ e. absurd (omega (arith, e))) in
     rw (s, u) refl
 

@@ -1,6 +1,7 @@
 -- A row of a certificate, with the names of its objects, is read as that row.
 use Rattle.std.proofs.Common.{◌≡◌, Bool, true, false, ◌&&◌, [], ◌∷◌, Ok, refl}
 use Rattle.std.specs.List.{list_all}
+use Rattle.std.proofs.lemmas.Bool.{and_parts}
 use Rattle.e_literal.specs.declared.object.Sort.TheVariants.{Point}
 use Rattle.e_literal.specs.declared.object.Obj.{Obj}
 use Rattle.e_literal.specs.declared.object.Term.{Term}
@@ -16,7 +17,6 @@ use Rattle.e_deriv.specs.declared.names.Names.{Names}
 use Rattle.e_clause.specs.Written.{is_good_name}
 use Rattle.e_book.specs.Scope.{scope_of_names, term_in}
 use Rattle.e_book.specs.Canonical.{raw_term, raw_signed, raw_of}
-use Rattle.e_book.proofs.Differ.{both}
 use Rattle.e_book.proofs.SumsAgain.{TermNamed}
 use Rattle.e_book.proofs.Lookups.{InOrder, Within, number_again, named_at}
 use Rattle.e_book.proofs.LitLookups.{lit_number_again, lit_named, TermWithin, two, three}

@@ -1,7 +1,7 @@
 -- The lines of a script with their certificates are taken.
 use Rattle.std.proofs.Common.{◌≡◌, ℕ, ◌+◌, ◌≤◌, true, leb, List, [], ◌∷◌, ◌++◌, Option, Some, None, refl, subst, ◌∙◌, arith}
 use Rattle.std.specs.List.{list_all, flat_map}
-use Rattle.std.proofs.lemmas.Bool.{leb-true}
+use Rattle.std.proofs.lemmas.Bool.{leb-true, and_parts}
 use Rattle.e_literal.specs.declared.object.Sort.{Sort}
 use Rattle.e_literal.specs.declared.object.Obj.{Obj}
 use Rattle.e_literal.specs.declared.object.Scope.{Scope}
@@ -40,7 +40,6 @@ use Rattle.e_book.specs.Scope.{scope_of_names}
 use Rattle.e_book.specs.Fits.{few_facts, few_terms, is_diagram_lit, has_good_literals, NewNamesFit}
 use Rattle.e_book.specs.Canonical.{line_of, by_form, hence_form, let_form, apply_form, claim_form, superpose_form, qed_form, contradiction_form, cases_form, else_form}
 use Rattle.e_book.specs.HasSpelling.{is_plain}
-use Rattle.e_book.proofs.Differ.{both}
 use Rattle.e_book.proofs.Lookups.{objects_named}
 use Rattle.e_book.proofs.LitLookups.{lit_named}
 use Rattle.e_book.proofs.PlainLits.{PlainLit, lits_named}
@@ -85,9 +84,9 @@ unfolding erased script_lines kepts lines size has_good_literals few_facts due_o
 cite_along known d i b rest given goal s t =
     let r = s.ready in
     let sc = scope_of_names i.in_scope in
-    let fit = (both (is_citation sc b) (list_all (line_fits (stated_by known)) (lines (stated_by known) (erased rest) (erased rest) sc (joined given b.lit) goal)) r.fitting).0 in
-    let good = (both (is_diagram_lit b.lit) (has_good_literals (erased rest)) r.good).0 in
-    let most = leb-true _ _ (both (leb (i.facts + 1) most_facts) (few_facts (stated_by known) (i.facts + 1) sc (erased rest)) r.facts).0 in
+    let fit = (and_parts (is_citation sc b) (list_all (line_fits (stated_by known)) (lines (stated_by known) (erased rest) (erased rest) sc (joined given b.lit) goal)) r.fitting).0 in
+    let good = (and_parts (is_diagram_lit b.lit) (has_good_literals (erased rest)) r.good).0 in
+    let most = leb-true _ _ (and_parts (leb (i.facts + 1) most_facts) (few_facts (stated_by known) (i.facts + 1) sc (erased rest)) r.facts).0 in
     record {
       last = t.last;
       lines = omega (arith, t.lines);
@@ -127,10 +126,10 @@ hence_along known d i l c rest given goal s t =
     let n = i.terms + monomials l.atom in
     let here = line (Hence l (Some c) rest) (Hence l (Some c) rest) sc given goal in
     let one = one_certified before here (first_of (is_certified before) here (lines before rest rest sc (joined given l) goal) s.certified).0 in
-    let good = (both (is_well_formed l) (has_good_literals (erased rest)) r.good).0 in
+    let good = (and_parts (is_well_formed l) (has_good_literals (erased rest)) r.good).0 in
     let plain : PlainLit i.in_scope l = record { within = one.fitting; good = good } in
-    let most = leb-true _ _ (both (leb (i.facts + 1) most_facts) (few_facts before (i.facts + 1) sc (erased rest)) r.facts).0 in
-    let short = leb-true _ _ (both (leb n most_terms) (few_terms before n sc (erased rest)) r.terms).0 in
+    let most = leb-true _ _ (and_parts (leb (i.facts + 1) most_facts) (few_facts before (i.facts + 1) sc (erased rest)) r.facts).0 in
+    let short = leb-true _ _ (and_parts (leb n most_terms) (few_terms before n sc (erased rest)) r.terms).0 in
     let written : list_all is_good_cert (c ∷ []) ≡ true = rw (hence_written l (Some c) rest s.written).1 refl in
     record {
       last = t.last;
@@ -176,14 +175,14 @@ make_along known d i form names certs rest given goal s t =
     let here = line (Make form names certs rest) (Make form names certs rest) sc given goal in
     let one = one_certified before here (first_of (is_certified before) here (lines before rest rest (grown sc (made form)) (joined_all given (gives form sc)) goal) s.certified).0 in
     let good = make_good known d i form names (erased rest) given goal r in
-    let most = leb-true _ _ (both (leb n most_facts) (few_facts before n (grown sc (made form)) (erased rest)) r.facts).0 in
+    let most = leb-true _ _ (and_parts (leb n most_facts) (few_facts before n (grown sc (made form)) (erased rest)) r.facts).0 in
     record {
       last = t.last;
       lines = omega (arith, t.lines);
       along = λ e h done.
           then_along known (proving d i) (proving d (constructed i form names)) e (let_form i.in_scope form names) (one_each (needs form)) (flat_map (cert_lines i.in_scope) certs) (Some (kept.Certs certs))
           (script_lines known (named i.in_scope (made form) names) rest) (kepts rest) (record {
-            good = let_named i.in_scope form names r.order good (list_names names (both (list_all _ names) (is_plain (erased rest)) r.plain).0);
+            good = let_named i.in_scope form names r.order good (list_names names (and_parts (list_all _ names) (is_plain (erased rest)) r.plain).0);
             strict = refl;
             apart = refl;
             owes = let_due known (proving d i) form names r.order good;
@@ -225,8 +224,8 @@ apply_along known d i theorem args names certs rest given goal s u =
     let after = applied_behind i t theorem args names in
     let here = line (Apply theorem args names certs rest) (Apply theorem args names certs rest) sc given goal in
     let one = one_certified before here (first_of (is_certified before) here (lines before rest rest (grown sc t.made) (joined_all given (gives_of_use t (written_args args) sc)) goal) s.certified).0 in
-    let choice = (both _ (is_choice t sc args (written_args args)) one.fitting).1 in
-    let fit = (both (fills args (written_args args)) (are_arguments t sc (written_args args)) choice).1 in
+    let choice = (and_parts _ (is_choice t sc args (written_args args)) one.fitting).1 in
+    let fit = (and_parts (fills args (written_args args)) (are_arguments t sc (written_args args)) choice).1 in
     let wanted = needs_of_use t (written_args args) sc in
     record {
       last = u.last;

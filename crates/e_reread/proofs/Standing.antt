@@ -4,6 +4,7 @@ use Rattle.std.specs.Option.{option_to_list}
 use Rattle.std.specs.List.{list_all}
 use Rattle.std.proofs.lemmas.List.{append-nil}
 use Rattle.std.proofs.lemmas.List.Folds.{list_all-append}
+use Rattle.std.proofs.lemmas.Bool.{and_parts}
 use Rattle.e_text.specs.Tokens.{joined}
 use Rattle.e_literal.specs.declared.literal.Lit.{Lit}
 use Rattle.e_literal.specs.Use.{Stated}
@@ -23,7 +24,6 @@ use Rattle.e_book.specs.Scope.{scope_of_names}
 use Rattle.e_book.specs.Steps.{closed, step}
 use Rattle.e_book.specs.Book.{is_done}
 use Rattle.e_book.specs.Canonical.{line_of}
-use Rattle.e_book.proofs.Differ.{both}
 use Rattle.e_book.proofs.Respelled.{GoodForm, as_read}
 use Rattle.e_book.proofs.LinesRead.{Inside, proving}
 use Rattle.e_book.proofs.ScriptParts.{steps_of, close_of}
@@ -47,10 +47,10 @@ pub record Stood (known : List Headed) (d : Draft) (i : Inside) (script : Script
   pub written : is_written_well script ≡ true
 
 pub first_of : {A : Type 0} (p : A → Bool) (x : A) (xs : List A) → list_all p (x ∷ xs) ≡ true → (p x ≡ true) × (list_all p xs ≡ true)
-first_of p x xs h = both (p x) (list_all p xs) h
+first_of p x xs h = and_parts (p x) (list_all p xs) h
 
 pub both_of : {A : Type 0} (p : A → Bool) (xs ys : List A) → list_all p (xs ++ ys) ≡ true → (list_all p xs ≡ true) × (list_all p ys ≡ true)
-both_of p xs ys h = both (list_all p xs) (list_all p ys) (sym (list_all-append p xs ys) ∙ h)
+both_of p xs ys h = and_parts (list_all p xs) (list_all p ys) (sym (list_all-append p xs ys) ∙ h)
 
 -- what is known of one line
 pub record OneCertified (before : List Stated) (x : Line) : Type 0 where
@@ -60,8 +60,8 @@ pub record OneCertified (before : List Stated) (x : Line) : Type 0 where
 
 pub one_certified : (before : List Stated) (x : Line) → is_certified before x ≡ true → OneCertified before x
 one_certified before x h =
-    let a = both (fits before x) (certify_all x.scope x.facts (needs before x) (certs_of x.here) && certified_beside x.here x.scope x.facts) h in
-    let b = both (certify_all x.scope x.facts (needs before x) (certs_of x.here)) (certified_beside x.here x.scope x.facts) a.1 in
+    let a = and_parts (fits before x) (certify_all x.scope x.facts (needs before x) (certs_of x.here) && certified_beside x.here x.scope x.facts) h in
+    let b = and_parts (certify_all x.scope x.facts (needs before x) (certs_of x.here)) (certified_beside x.here x.scope x.facts) a.1 in
     record { fitting = a.0; certs = b.0; beside = b.1 }
 
 -- ---- what its lines lead to

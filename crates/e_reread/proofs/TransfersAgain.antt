@@ -4,6 +4,7 @@ use Rattle.std.specs.Prelude.{slice_get, option_and_then}
 use Rattle.std.specs.Option.{option_map}
 use Rattle.std.specs.List.{list_all, AllByRecursion}
 use Rattle.std.proofs.lemmas.List.{length-map, drop-drop, take-append-drop, take-map}
+use Rattle.std.proofs.lemmas.Bool.{and_parts}
 use Rattle.e_book.proofs.Cited.{drop_map, sig_of_row}
 use Rattle.e_text.specs.Names.{is_title}
 use Rattle.e_literal.specs.declared.object.Sort.TheVariants.{Point, Line, Circle}
@@ -23,7 +24,6 @@ use Rattle.e_clause.proofs.Names.{found_by_name}
 use Rattle.e_deriv.specs.declared.names.Names.{Names}
 use Rattle.e_book.specs.Scope.{scope_of_names, objects_as, args_in, variables_of}
 use Rattle.e_book.specs.Canonical.{name_of_object, rule_name}
-use Rattle.e_book.proofs.Differ.{both}
 use Rattle.e_book.proofs.Lookups.{InOrder, objects_again}
 use Rattle.e_book.proofs.RuleNames.{title_again, rule_name_is}
 use Rattle.e_read.specs.declared.owed.OpenTransfer.{OpenTransfer}
@@ -60,7 +60,7 @@ all_cut : {A : Type 0} (p : A → Bool) (n : ℕ) (xs : List A) → list_all p x
 all_cut p zero xs h = (refl, h)
 all_cut p (suc n) [] h = (refl, refl)
 all_cut p (suc n) (x ∷ xs) h =
-    let b = both (p x) (list_all p xs) h in
+    let b = and_parts (p x) (list_all p xs) h in
     let c = all_cut p n xs b.1 in
     (rw (b.0, c.0) refl, c.1)
 
@@ -75,9 +75,9 @@ arguments_read ns r args o h w =
     let name = name_of_object ns in
     let within = is_in_scope (scope_of_names ns) in
     let behind = drop r.points args in
-    let a = both (eqb (length args) (r.points + r.lines + r.circles)) _ h in
-    let b = both (all_of Point (take r.points args)) _ a.1 in
-    let c = both (all_of Line (take r.lines behind)) _ b.1 in
+    let a = and_parts (eqb (length args) (r.points + r.lines + r.circles)) _ h in
+    let b = and_parts (all_of Point (take r.points args)) _ a.1 in
+    let c = and_parts (all_of Line (take r.lines behind)) _ b.1 in
     let first = all_cut within r.points args w in
     let second = all_cut within r.lines behind first.1 in
     let behind-is = drop_map name r.points args in

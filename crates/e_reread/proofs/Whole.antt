@@ -10,6 +10,7 @@ use Rattle.e_text.specs.declared.line.LineFault.{LineFault}
 use Rattle.e_literal.specs.declared.object.Scope.{Scope}
 use Rattle.e_literal.specs.declared.literal.Lit.{Lit}
 use Rattle.e_literal.specs.Use.{scope_of}
+use Rattle.e_literal.proofs.Growing.{sorts_next}
 use Rattle.e_theorem.specs.Statements.{stated}
 use Rattle.e_deriv.specs.Script.{Script, erased}
 use Rattle.e_deriv.specs.Goal.{Goal, goal_of_statement, facts_of_statement}
@@ -28,7 +29,7 @@ use Rattle.e_book.specs.Canonical.{line_of, end_form, names_of_proof}
 use Rattle.e_book.specs.HasSpelling.{HasSpelling}
 use Rattle.e_book.proofs.LineWords.{words_again}
 use Rattle.e_book.proofs.Lookups.{InOrder, in_order}
-use Rattle.e_book.proofs.Building.{sorts_again, declared_scope}
+use Rattle.e_book.proofs.Building.{declared_scope}
 use Rattle.e_book.proofs.Growing.{first_in_order}
 use Rattle.e_book.proofs.FittingScripts.{line_fits}
 use Rattle.e_book.proofs.HeadRead.{run_title}
@@ -67,7 +68,7 @@ stood known t d c o =
     let scope : s ≡ scope_of_names (names_of_proof t) = sym (declared_scope (stated t.statement) t.names h.fits.scope) in
     let ready : Ready known (started t) (begins t) (erased d) facts goal = record {
       order = first_in_order s t.names o;
-      goal_sorts = sorts_again s t.statement.made;
+      goal_sorts = sorts_next s t.statement.made;
       plain = h.script;
       fitting = subst (λ (z : Scope). list_all (line_fits before) (lines before (erased d) (erased d) z facts goal) ≡ true) scope h.fits.script;
       new_names = h.fits.new_names;

@@ -8,6 +8,8 @@ use Rattle.e_literal.specs.declared.object.Obj.{Obj}
 use Rattle.e_literal.specs.declared.object.Scope.{Scope}
 use Rattle.e_literal.specs.Literal.{obj, count_of}
 use Rattle.e_literal.specs.Scopes.{same_sort, with_one, grown, next_objects}
+use Rattle.e_literal.proofs.Sorts.{same_sort_self}
+use Rattle.e_literal.proofs.Growing.{count_one}
 use Rattle.e_deriv.specs.declared.names.Names.{Names}
 use Rattle.e_deriv.specs.Naming.{names_of_sort, with_names}
 use Rattle.e_book.specs.Scope.{scope_of_names}
@@ -20,15 +22,6 @@ use Rattle.e_respell.proofs.NamesSpelled.{Holds, Keeps}
 next_append : (s : Scope) (xs ys : List Sort) → next_objects s (xs ++ ys) ≡ next_objects s xs ++ next_objects (grown s xs) ys
 next_append s [] ys = refl
 next_append s (x ∷ xs) ys = ap (λ (l : List Obj). obj x (count_of s x) ∷ l) (next_append (with_one s x) xs ys)
-
-pub grown_append : (s : Scope) (xs ys : List Sort) → grown s (xs ++ ys) ≡ grown (grown s xs) ys
-grown_append s [] ys = refl
-grown_append s (x ∷ xs) ys = grown_append (with_one s x) xs ys
-
-count_one : (s : Scope) (sort : Sort) → count_of (with_one s sort) sort ≡ count_of s sort + 1
-count_one s Point = refl
-count_one s Line = refl
-count_one s Circle = refl
 
 here : (xs ys new : List (List ℕ)) (n : List ℕ) → Holds (xs ++ n ∷ new) ys → name_at ys (length xs) ≡ n
 here xs ys new n h =
@@ -47,13 +40,8 @@ names_next more sort xs (n ∷ new) s c h =
 
 -- ---- groups
 
-same_itself : (s : Sort) → same_sort s s ≡ true
-same_itself Point = refl
-same_itself Line = refl
-same_itself Circle = refl
-
 joins : (sort : Sort) (name : List ℕ) (names : List (List ℕ)) → grouped_before sort name (group sort names ∷ []) ≡ group sort (name ∷ names) ∷ []
-joins sort name names = rw (same_itself sort) refl
+joins sort name names = rw (same_sort_self sort) refl
 
 -- objects of one sort are one group
 one_group : (ns : Names) (sort : Sort) (n : ℕ) (s : Scope) → grouped ns (next_objects s (replicate (suc n) sort)) ≡ group sort (map (name_of_object ns) (next_objects s (replicate (suc n) sort))) ∷ []
@@ -117,7 +105,7 @@ count_is ns Point = refl
 count_is ns Line = refl
 count_is ns Circle = refl
 
-abbrev with_more : Names → Sort → List (List ℕ) → Names
+abbrev pub with_more : Names → Sort → List (List ℕ) → Names
 with_more ns sort new = with_names ns sort (names_of_sort ns sort ++ new)
 
 one_named : (ns : Names) (sort : Sort) (n : List ℕ) → scope_of_names (with_more ns sort (n ∷ [])) ≡ with_one (scope_of_names ns) sort

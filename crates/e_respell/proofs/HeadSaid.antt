@@ -7,6 +7,7 @@ use Rattle.e_literal.specs.declared.literal.Lit.{Lit}
 use Rattle.e_literal.specs.Literal.{count_of}
 use Rattle.e_literal.specs.declared.object.Scope.{Scope}
 use Rattle.e_literal.specs.Scopes.{nothing, grown, next_objects}
+use Rattle.e_literal.proofs.Growing.{grown-append}
 use Rattle.e_deriv.specs.declared.names.Names.{Names}
 use Rattle.e_deriv.specs.Naming.{names_of_sort, with_names}
 use Rattle.e_book.specs.declared.form.Form.{Form}
@@ -15,7 +16,7 @@ use Rattle.e_book.specs.Scope.{scope_of_names}
 use Rattle.e_book.specs.Canonical.{group, grouped, declare_form, made_form, given_form, show_form}
 use Rattle.e_read.specs.Strict.{ends_with}
 use Rattle.e_respell.proofs.NamesSpelled.{Keeps}
-use Rattle.e_respell.proofs.Groups.{grown_append, more_groups, count_is, scope_more, keeps_before, keeps_new}
+use Rattle.e_respell.proofs.Groups.{more_groups, count_is, scope_more, keeps_before, keeps_new}
 
 -- ---- the forms of a head
 
@@ -92,7 +93,7 @@ declared_said ns title declared given made shown said sort new g m s h lt a =
     bare_head more title (declared ++ xs) given made shown g m s ∙ ap (λ (l : List Form). forms.Theorem title ∷ ((l ++ []) ++ [])) part ∙ at_declared (forms.Theorem title) (forms.Declare sort new) (declared_part more declared)
     ∙ ap (λ (l : List Form). l ++ forms.Declare sort new ∷ []) (sym (bare_head more title declared given made shown g m s) ∙ a.forms more (keeps_before ns more sort new k)) in
     record {
-      scope = scope_more ns sort new ∙ ap (λ (x : Scope). grown x xs) scope ∙ sym (grown_append nothing declared xs) ∙ ap (grown (grown nothing (declared ++ xs))) (sym m);
+      scope = scope_more ns sort new ∙ ap (λ (x : Scope). grown x xs) scope ∙ sym (grown-append nothing declared xs) ∙ ap (grown (grown nothing (declared ++ xs))) (sym m);
       forms = line;
     }
 
@@ -124,7 +125,7 @@ made_said ns title declared given made shown said sort new s h lt a =
     none_shown more title declared given (made ++ xs) shown s ∙ ap (λ (l : List Form). forms.Theorem title ∷ (front ++ (l ++ []))) part ∙ at_made (forms.Theorem title) (forms.Made sort new) front (made_part more declared made)
     ∙ ap (λ (l : List Form). l ++ forms.Made sort new ∷ []) (sym (none_shown more title declared given made shown s) ∙ a.forms more (keeps_before ns more sort new k)) in
     record {
-      scope = scope_more ns sort new ∙ ap (λ (x : Scope). grown x xs) a.scope ∙ sym (grown_append from made xs);
+      scope = scope_more ns sort new ∙ ap (λ (x : Scope). grown x xs) a.scope ∙ sym (grown-append from made xs);
       forms = line;
     }
 

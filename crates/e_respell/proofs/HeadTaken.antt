@@ -1,12 +1,12 @@
 -- Each line of a head adds itself to what was said.
 use Rattle.std.proofs.Common.{◌≡◌, ℕ, ◌+◌, ◌<◌, true, not, eqb, List, [], ◌∷◌, ◌++◌, length, map, Ok, refl, sym, ap, subst, ◌∙◌, arith, append_assoc}
 use Rattle.std.specs.Prelude.{replicate}
-use Rattle.std.proofs.lemmas.Bool.{eqb-true, not-true}
+use Rattle.std.proofs.lemmas.Bool.{eqb-true, not-true, and_parts}
 use Rattle.std.proofs.lemmas.List.{append-nil, map-append}
 use Rattle.e_literal.specs.declared.object.Sort.{Sort}
 use Rattle.e_literal.specs.declared.literal.Lit.{Lit}
 use Rattle.e_deriv.specs.declared.names.Names.{Names}
-use Rattle.e_deriv.specs.Naming.{names_of_sort, with_names}
+use Rattle.e_deriv.specs.Naming.{names_of_sort}
 use Rattle.e_deriv.specs.PlainStep.{PlainStep}
 use Rattle.e_book.specs.declared.fault.What.TheVariants as limits
 use Rattle.e_book.specs.declared.literal.RawLit.{RawLit}
@@ -24,7 +24,6 @@ use Rattle.e_book.specs.Steps.{allowed, declared, few_monos, terms_behind, with_
 use Rattle.e_book.specs.Canonical.{line_of, given_form, show_form, head_forms, given_forms, shown_forms}
 use Rattle.e_book.specs.Entry.{statement_of_draft}
 use Rattle.e_book.proofs.Answered.{untaken}
-use Rattle.e_book.proofs.Differ.{both}
 use Rattle.e_book.proofs.InScope.{bind_ok, ok_is, read_ok}
 use Rattle.e_read.specs.declared.kept.Kept.{Kept}
 use Rattle.e_read.specs.Strict.{is_direct, are_direct, ends_with}
@@ -34,6 +33,7 @@ use Rattle.e_respell.proofs.LitsSpelled.{canonical, lit_named}
 use Rattle.e_respell.proofs.HeadSaid.{HeadSaid, title_said, declared_said, given_said, made_said, shown_said}
 use Rattle.e_respell.proofs.ScriptsSaid.{no_steps}
 use Rattle.e_respell.proofs.BlocksSaid.{BlocksSaid, BodySaid, names_first, head_of}
+use Rattle.e_respell.proofs.Groups.{with_more}
 
 -- ---- what is said of a theorem at a place
 
@@ -108,9 +108,6 @@ at_proof known p d ks ls a h = absurd cc
 
 -- ---- objects
 
-abbrev with_more : Names → Sort → List (List ℕ) → Names
-with_more ns sort new = with_names ns sort (names_of_sort ns sort ++ new)
-
 names_are : (ns : Names) (sort : Sort) (new : List (List ℕ)) (now : Names) → declared ns sort new ≡ Ok now → with_more ns sort new ≡ now
 unfolding declared
 names_are ns sort new now e =
@@ -180,7 +177,7 @@ one_lit ns front (r ∷ q ∷ raws) all n d s e = let k : length (r ∷ q ∷ ra
 one_lit ns front (r ∷ []) all n d s e =
     let x = bind_ok (lits_in ns (r ∷ [])) (λ xs. read_ok (front ++ xs)) all e in
     let l = bind_ok (lit_in ns r) (λ l. read_ok (l ∷ [])) x.0 x.1 in
-    let named : (more : Names) → Keeps ns more → _ = λ more k. lit_named ns more r l.0 k (canonical r (both (is_direct r) true d).0 s.0) l.1 in
+    let named : (more : Names) → Keeps ns more → _ = λ more k. lit_named ns more r l.0 k (canonical r (and_parts (is_direct r) true d).0 s.0) l.1 in
     record {
       raw = r;
       lit = l.0;

@@ -3,7 +3,7 @@ use Rattle.std.proofs.Common.{◌≡◌, ℕ, Bool, true, false, cond, not, ◌&
 use Rattle.std.specs.Prelude.{codes}
 use Rattle.std.specs.List.{list_all, AllByRecursion}
 use Rattle.std.specs.Str.{bytes_eq}
-use Rattle.std.proofs.lemmas.Bool.{not-true}
+use Rattle.std.proofs.lemmas.Bool.{not-true, and_parts}
 use Rattle.std.proofs.lemmas.Slice.Eq.{bytes_eq-Decides}
 use Rattle.e_text.specs.Names.{is_name}
 use Rattle.e_construct.specs.declared.construction.Shape.{Shape}
@@ -12,7 +12,6 @@ use Rattle.e_book.specs.declared.lets.RawLet.{RawLet}
 use Rattle.e_book.specs.Reading.{◌>>=◌, cut_at, names_of}
 use Rattle.e_book.specs.Lets.{are_words_of, new_words, argument_words, is_line_of, shapes_of, avoided_of, let_named, let_of}
 use Rattle.e_book.specs.Canonical.{line_pieces}
-use Rattle.e_book.proofs.Differ.{both}
 use Rattle.e_book.proofs.InScope.{bind_ok, ok_is, read_ok}
 use Rattle.e_book.proofs.Pieces.{is_own_word, own_words, own_words_of, similar}
 
@@ -33,7 +32,7 @@ all_same ps qs = false
 no_name : (v w : List ℕ) → is_own_word v ≡ true → is_name w ≡ true → bytes_eq w v ≡ true → ⊥
 no_name v w o n e =
     let is : w ≡ v = (bytes_eq-Decides w v).0 e in
-    true≢false (sym n ∙ ap is_name is ∙ not-true (is_name v) (both _ _ o).0)
+    true≢false (sym n ∙ ap is_name is ∙ not-true (is_name v) (and_parts _ _ o).0)
 
 one_word : (u v w : List ℕ) → bytes_eq u v ≡ true → bytes_eq u w ≡ true → bytes_eq v w ≡ true
 one_word u v w a b =
@@ -48,26 +47,26 @@ shared [] (y ∷ qs) (w ∷ ws) hp hq p q = absurd cc
 shared (x ∷ ps) [] [] hp hq p q = absurd cc
 shared (x ∷ ps) [] (w ∷ ws) hp hq p q = absurd cc
 shared (x ∷ ps) (y ∷ qs) [] hp hq p q = absurd cc
-shared (New ∷ ps) (New ∷ qs) (w ∷ ws) hp hq p q = shared ps qs ws hp hq (both _ _ p).1 (both _ _ q).1
-shared (New ∷ ps) (Argument ∷ qs) (w ∷ ws) hp hq p q = shared ps qs ws hp hq (both _ _ p).1 (both _ _ q).1
-shared (Argument ∷ ps) (New ∷ qs) (w ∷ ws) hp hq p q = shared ps qs ws hp hq (both _ _ p).1 (both _ _ q).1
-shared (Argument ∷ ps) (Argument ∷ qs) (w ∷ ws) hp hq p q = shared ps qs ws hp hq (both _ _ p).1 (both _ _ q).1
-shared (New ∷ ps) (Word v ∷ qs) (w ∷ ws) hp hq p q = absurd (no_name v w (both _ _ hq).0 (both _ _ p).0 (both _ _ q).0)
-shared (Argument ∷ ps) (Word v ∷ qs) (w ∷ ws) hp hq p q = absurd (no_name v w (both _ _ hq).0 (both _ _ p).0 (both _ _ q).0)
-shared (Word v ∷ ps) (New ∷ qs) (w ∷ ws) hp hq p q = absurd (no_name v w (both _ _ hp).0 (both _ _ q).0 (both _ _ p).0)
-shared (Word v ∷ ps) (Argument ∷ qs) (w ∷ ws) hp hq p q = absurd (no_name v w (both _ _ hp).0 (both _ _ q).0 (both _ _ p).0)
+shared (New ∷ ps) (New ∷ qs) (w ∷ ws) hp hq p q = shared ps qs ws hp hq (and_parts _ _ p).1 (and_parts _ _ q).1
+shared (New ∷ ps) (Argument ∷ qs) (w ∷ ws) hp hq p q = shared ps qs ws hp hq (and_parts _ _ p).1 (and_parts _ _ q).1
+shared (Argument ∷ ps) (New ∷ qs) (w ∷ ws) hp hq p q = shared ps qs ws hp hq (and_parts _ _ p).1 (and_parts _ _ q).1
+shared (Argument ∷ ps) (Argument ∷ qs) (w ∷ ws) hp hq p q = shared ps qs ws hp hq (and_parts _ _ p).1 (and_parts _ _ q).1
+shared (New ∷ ps) (Word v ∷ qs) (w ∷ ws) hp hq p q = absurd (no_name v w (and_parts _ _ hq).0 (and_parts _ _ p).0 (and_parts _ _ q).0)
+shared (Argument ∷ ps) (Word v ∷ qs) (w ∷ ws) hp hq p q = absurd (no_name v w (and_parts _ _ hq).0 (and_parts _ _ p).0 (and_parts _ _ q).0)
+shared (Word v ∷ ps) (New ∷ qs) (w ∷ ws) hp hq p q = absurd (no_name v w (and_parts _ _ hp).0 (and_parts _ _ q).0 (and_parts _ _ p).0)
+shared (Word v ∷ ps) (Argument ∷ qs) (w ∷ ws) hp hq p q = absurd (no_name v w (and_parts _ _ hp).0 (and_parts _ _ q).0 (and_parts _ _ p).0)
 shared (Word u ∷ ps) (Word v ∷ qs) (w ∷ ws) hp hq p q =
-    let a = both (bytes_eq w u) (are_words_of ps ws) p in
-    let b = both (bytes_eq w v) (are_words_of qs ws) q in
-    let c = both (is_own_word u) (own_words ps) hp in
-    let d = both (is_own_word v) (own_words qs) hq in
+    let a = and_parts (bytes_eq w u) (are_words_of ps ws) p in
+    let b = and_parts (bytes_eq w v) (are_words_of qs ws) q in
+    let c = and_parts (is_own_word u) (own_words ps) hp in
+    let d = and_parts (is_own_word v) (own_words qs) hq in
     rw (one_word w v u b.0 a.0, shared ps qs ws c.1 d.1 a.1 b.1) refl
 
 pieces_same : (ps qs : List Piece) → all_same ps qs ≡ true → ps ≡ qs
 pieces_same [] [] h = refl
 pieces_same [] (q ∷ qs) h = absurd cc
 pieces_same (p ∷ ps) [] h = absurd cc
-pieces_same (p ∷ ps) (q ∷ qs) h = let b = both (same p q) (all_same ps qs) h in first p q b.0 (pieces_same ps qs b.1)
+pieces_same (p ∷ ps) (q ∷ qs) h = let b = and_parts (same p q) (all_same ps qs) h in first p q b.0 (pieces_same ps qs b.1)
   where
     first : (p q : Piece) → same p q ≡ true → ps ≡ qs → p ∷ ps ≡ q ∷ qs
     first New New h e = ap (λ (l : List Piece). New ∷ l) e
@@ -91,7 +90,7 @@ all_told_apart = refl
 -- what holds of all holds of those that pass a test
 of_these : (p f : Shape → Bool) (xs : List Shape) → list_all p xs ≡ true → list_all p (filter f xs) ≡ true
 of_these p f [] h = refl
-of_these p f (x ∷ xs) h = let b = both (p x) (list_all p xs) h in by_test (f x) b.0 (of_these p f xs b.1)
+of_these p f (x ∷ xs) h = let b = and_parts (p x) (list_all p xs) h in by_test (f x) b.0 (of_these p f xs b.1)
   where
     by_test : (t : Bool) → p x ≡ true → list_all p (filter f xs) ≡ true → list_all p (cond t (x ∷ filter f xs) (filter f xs)) ≡ true
     by_test true a h = rw (a, h) refl
@@ -114,8 +113,8 @@ have_words words ss = list_all (λ s. are_words_of (pieces s) words) ss
 lines_have_words : (avoiding : Bool) (words : List (List ℕ)) (ss : List Shape) → list_all (is_line_of avoiding words) ss ≡ true → have_words words ss ≡ true
 lines_have_words avoiding words [] h = refl
 lines_have_words avoiding words (s ∷ ss) h =
-    let b = both (is_line_of avoiding words s) (list_all (is_line_of avoiding words) ss) h in
-    rw ((both (are_words_of (pieces s) words) (not avoiding || may_avoid s) b.0).0, lines_have_words avoiding words ss b.1) refl
+    let b = and_parts (is_line_of avoiding words s) (list_all (is_line_of avoiding words) ss) h in
+    rw ((and_parts (are_words_of (pieces s) words) (not avoiding || may_avoid s) b.0).0, lines_have_words avoiding words ss b.1) refl
 
 -- each has the pieces of this one
 abbrev pub AllHave : List Piece → List Shape → Type 0
@@ -124,8 +123,8 @@ AllHave ps ss = AllByRecursion (λ s. pieces s ≡ ps) ss
 have_pieces : (words : List (List ℕ)) (s : Shape) (ss : List Shape) → are_words_of (pieces s) words ≡ true → have_words words ss ≡ true → from_all ss s ≡ true → AllHave (pieces s) ss
 have_pieces words s [] h hs d = tt
 have_pieces words s (t ∷ ss) h hs d =
-    let b = both (are_words_of (pieces t) words) (have_words words ss) hs in
-    let c = both (told_apart s t) (from_all ss s) d in
+    let b = and_parts (are_words_of (pieces t) words) (have_words words ss) hs in
+    let c = and_parts (told_apart s t) (from_all ss s) d in
     let near = shared (pieces s) (pieces t) words (own_words_of s) (own_words_of t) h b.0 in
     let one : all_same (pieces s) (pieces t) ≡ true = told (similar (pieces s) (pieces t)) (all_same (pieces s) (pieces t)) near c.0 in
     (sym (pieces_same (pieces s) (pieces t) one), have_pieces words s ss h b.1 c.1)
@@ -141,13 +140,13 @@ paired ss = list_all (from_all ss) ss
 pairs_of_these : (f : Shape → Bool) (xs ys : List Shape) → list_all (from_all xs) ys ≡ true → list_all (from_all (filter f xs)) ys ≡ true
 pairs_of_these f xs [] h = refl
 pairs_of_these f xs (y ∷ ys) h =
-    let b = both (from_all xs y) (list_all (from_all xs) ys) h in
+    let b = and_parts (from_all xs y) (list_all (from_all xs) ys) h in
     rw (of_these (λ t. told_apart y t) f xs b.0, pairs_of_these f xs ys b.1) refl
 
 shapes_alike : (words : List (List ℕ)) (ss : List Shape) → have_words words ss ≡ true → paired ss ≡ true → AllHave (line_pieces ss) ss
 shapes_alike words [] h d = tt
 shapes_alike words (s ∷ ss) h d =
-    have_pieces words s (s ∷ ss) (both (are_words_of (pieces s) words) (have_words words ss) h).0 h (both (from_all (s ∷ ss) s) (list_all (from_all (s ∷ ss)) ss) d).0
+    have_pieces words s (s ∷ ss) (and_parts (are_words_of (pieces s) words) (have_words words ss) h).0 h (and_parts (from_all (s ∷ ss) s) (list_all (from_all (s ∷ ss)) ss) d).0
 
 -- the shapes whose line the words are
 pub shapes_of_line : (avoiding : Bool) (words : List (List ℕ)) → AllHave (line_pieces (shapes_of avoiding words)) (shapes_of avoiding words)

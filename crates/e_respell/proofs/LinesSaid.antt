@@ -2,6 +2,7 @@
 use Rattle.std.proofs.Common.{◌≡◌, ℕ, true, false, eqb, List, [], ◌∷◌, ◌++◌, length, map, Option, Some, None, Ok, refl, sym, ap, subst, ◌∙◌, arith, append_assoc}
 use Rattle.std.specs.Option.{option_to_list}
 use Rattle.std.proofs.lemmas.List.{append-nil}
+use Rattle.std.proofs.lemmas.Bool.{and_parts}
 use Rattle.e_literal.specs.declared.literal.Lit.{Lit}
 use Rattle.e_construct.specs.Construct.{needs}
 use Rattle.e_construct.specs.Superposing as superposing
@@ -25,8 +26,8 @@ use Rattle.e_book.specs.Book.{is_last}
 use Rattle.e_book.specs.Steps.{allowed, stepped, step}
 use Rattle.e_book.specs.Canonical.{line_of, head_forms}
 use Rattle.e_book.proofs.Answered.{passes}
-use Rattle.e_book.proofs.Differ.{both}
 use Rattle.e_book.proofs.InScope.{bind_ok, ok_is, read_ok}
+use Rattle.e_book.proofs.Keeps.{no_title}
 use Rattle.e_read.specs.declared.owed.Due.{Due}
 use Rattle.e_read.specs.declared.owed.Due.TheVariants as due
 use Rattle.e_read.specs.declared.kept.Kept.{Kept}
@@ -161,21 +162,17 @@ puts_end known d e ks ls i h =
       body = (i.said, i.body, refl);
     })
 
-no_title : (known : List Headed) (d e : Draft) (t : List ℕ) → stepped known d (forms.Theorem t) ≡ Ok e → ⊥
-unfolding stepped
-no_title known d e t h = absurd cc
-
 pub line_left : (known : List Headed) (d e : Draft) (f : Form) (owes : Due) (ks : List Kept) (ls : List (List ℕ)) → DraftSaid known d.place d ks ls → Read f → is_strict f ≡ true → is_apart d f ≡ true
     → due_of known d f ≡ Ok owes → allowed d.place f ≡ true → stepped known d f ≡ Ok e → Leaves known d e f owes ks ls
 unfolding due_of
 line_left known d e (forms.Theorem t) owes ks ls g r s n o a h = absurd (no_title known d e t h)
 line_left known d e (forms.Declare sort ns) owes ks ls g r s n o a h = head_left known d e (forms.Declare sort ns) owes ks ls o (puts_declared known d e sort ns ks ls a g r n h)
 line_left known d e (forms.Given raws) owes ks ls g r s n o a h =
-    let b = both (eqb (length raws) 1) (are_direct raws) s in
+    let b = and_parts (eqb (length raws) 1) (are_direct raws) s in
     head_left known d e (forms.Given raws) owes ks ls o (puts_given known d e raws ks ls a g b.0 b.1 r h)
 line_left known d e (forms.Made sort ns) owes ks ls g r s n o a h = head_left known d e (forms.Made sort ns) owes ks ls o (puts_made known d e sort ns ks ls a g r n h)
 line_left known d e (forms.Show raws) owes ks ls g r s n o a h =
-    let b = both (eqb (length raws) 1) (are_direct raws) s in
+    let b = and_parts (eqb (length raws) 1) (are_direct raws) s in
     head_left known d e (forms.Show raws) owes ks ls o (puts_shown known d e raws ks ls a g b.0 b.1 r h)
 line_left known d e forms.Proof owes ks ls g r s n o a h = head_left known d e forms.Proof owes ks ls o (puts_proof known d e ks ls a g h)
 line_left known d e (forms.By rule ns l) owes ks ls g r s n o a h =

@@ -3,6 +3,7 @@ use Rattle.std.proofs.Common.{◌≡◌, ℕ, Bool, true, false, cond, ◌&&◌,
 use Rattle.std.specs.Prelude.{codes}
 use Rattle.std.specs.List.{slice_split, position_or_len, AllByRecursion}
 use Rattle.std.specs.Str.{bytes_eq}
+use Rattle.std.proofs.lemmas.Option.{same_Some}
 use Rattle.e_book.specs.declared.fault.Kind.{Kind}
 use Rattle.e_book.specs.declared.fault.Kind.TheVariants.{Malformed}
 use Rattle.e_book.specs.declared.sum.RawMono.{RawMono}
@@ -48,16 +49,12 @@ unsigned : (a : RawAtom) (neg : Bool) → OtherSign a → (neg && is_at_most a) 
 unsigned a true h = h
 unsigned a false h = refl
 
--- what holds at each sign holds at the sign that a word is
-some_is : {S : Type 0} (x y : S) → Some x ≡ Some y → x ≡ y
-some_is x y e = cc
-
 by_sign : {S : Type 0} (P : S → Type 0) (a b c d : Bool) (equal differ less at_most s : S) → P equal → P differ → P less → P at_most
     → cond a (Some equal) (cond b (Some differ) (cond c (Some less) (cond d (Some at_most) None))) ≡ Some s → P s
-by_sign P true b c d equal differ less at_most s pe pd pl pa e = subst P (some_is equal s e) pe
-by_sign P false true c d equal differ less at_most s pe pd pl pa e = subst P (some_is differ s e) pd
-by_sign P false false true d equal differ less at_most s pe pd pl pa e = subst P (some_is less s e) pl
-by_sign P false false false true equal differ less at_most s pe pd pl pa e = subst P (some_is at_most s e) pa
+by_sign P true b c d equal differ less at_most s pe pd pl pa e = subst P (same_Some equal s e) pe
+by_sign P false true c d equal differ less at_most s pe pd pl pa e = subst P (same_Some differ s e) pd
+by_sign P false false true d equal differ less at_most s pe pd pl pa e = subst P (same_Some less s e) pl
+by_sign P false false false true equal differ less at_most s pe pd pl pa e = subst P (same_Some at_most s e) pa
 by_sign P false false false false equal differ less at_most s pe pd pl pa e = absurd cc
 
 sign_found : {S : Type 0} (o : Option S) (s : S) → or_malformed o ≡ Ok s → o ≡ Some s

@@ -1,5 +1,6 @@
 -- A literal that is read is spelled with the names that it was read with.
 use Rattle.std.proofs.Common.{◌≡◌, ℕ, Bool, true, false, cond, not, ◌&&◌, List, [], ◌∷◌, map, Result, Ok, Err, refl, sym, ap, subst, ◌∙◌}
+use Rattle.std.proofs.lemmas.Bool.{and_parts}
 use Rattle.e_literal.specs.declared.object.Sort.{Sort}
 use Rattle.e_literal.specs.declared.object.Sort.TheVariants.{Point, Line, Circle}
 use Rattle.e_literal.specs.declared.object.Obj.{Obj}
@@ -25,7 +26,6 @@ use Rattle.e_book.specs.Reading.{◌>>=◌, each}
 use Rattle.e_book.specs.Literals.{signed, is_diagram_raw}
 use Rattle.e_book.specs.Scope.{used, number_of, on_sort, line_meets, meets_from, equal_at, term_in, kind_of_raw, first_kind, mono_in, sums_in, atom_in, negated_in, lit_in, lits_in}
 use Rattle.e_book.specs.Canonical.{name_at, name_of_object, raw_term, raw_mono, raw_sum, raw_atom, raw_signed, raw_of}
-use Rattle.e_book.proofs.Differ.{both}
 use Rattle.e_book.proofs.InScope.{bind_ok, ok_is, read_ok}
 use Rattle.e_read.specs.Strict.{is_less, is_direct, are_direct}
 use Rattle.e_respell.proofs.NamesSpelled.{Keeps, used_named, number_named}
@@ -232,7 +232,7 @@ lit_named ns more r l k d e =
 pub lits_named : (ns more : Names) (rs : List RawLit) (ls : List Lit) → Keeps ns more → are_direct rs ≡ true → AllSigned rs → lits_in ns rs ≡ Ok ls → map (raw_of more) ls ≡ rs
 lits_named ns more [] ls k d s e = ap (map (raw_of more)) (sym (ok_is [] ls e))
 lits_named ns more (r ∷ rs) ls k d s e =
-    let q = both (is_direct r) (are_direct rs) d in
+    let q = and_parts (is_direct r) (are_direct rs) d in
     let a = bind_ok (lit_in ns r) (λ y. each (lit_in ns) rs >>= λ ys. read_ok (y ∷ ys)) ls e in
     let b = bind_ok (each (lit_in ns) rs) (λ ys. read_ok (a.0 ∷ ys)) ls a.2 in
     ap (map (raw_of more)) (sym (ok_is (a.0 ∷ b.0) ls b.2)) ∙ rw (lit_named ns more r a.0 k (canonical r q.0 s.0) a.1, lits_named ns more rs b.0 k q.1 s.1 b.1) refl

@@ -1,5 +1,5 @@
 -- A name that is read stands at the place of its object.
-use Rattle.std.proofs.Common.{◌≡◌, ℕ, ◌<◌, List, [], length, Option, Some, None, Ok, refl, ap, subst, ◌∙◌}
+use Rattle.std.proofs.Common.{◌≡◌, ℕ, ◌<◌, List, [], length, Option, Some, None, Ok, refl, subst, ◌∙◌}
 use Rattle.std.specs.List.{position}
 use Rattle.std.specs.Str.{bytes_eq}
 use Rattle.std.proofs.lemmas.List.Quantifiers.{position-Some}
@@ -10,9 +10,9 @@ use Rattle.e_literal.specs.declared.object.Obj.{Obj}
 use Rattle.e_literal.specs.Literal.{obj}
 use Rattle.e_deriv.specs.declared.names.Names.{Names}
 use Rattle.e_deriv.specs.Naming.{names_of_sort}
-use Rattle.e_book.specs.Scope.{object_at, or_else, object_in, object_of, known_object, used, number_at, number_of, object_as}
+use Rattle.e_book.specs.Scope.{object_at, or_else, object_in, object_of, used, number_at, number_of, object_as}
 use Rattle.e_book.specs.Canonical.{name_at, name_of_object}
-use Rattle.e_book.proofs.InScope.{bind_ok, ok_is, read_ok}
+use Rattle.e_book.proofs.InScope.{bind_ok, ok_is, read_ok, known_is}
 
 -- each name of the first list stands at its place in the second, which may be longer
 abbrev pub Holds : List (List ℕ) → List (List ℕ) → Type 0
@@ -52,10 +52,6 @@ in_found ns more Circle name o k e = at_found more name Circle (position (λ n. 
 either_found : (more : Names) (name : List ℕ) (a b : Option Obj) (o : Obj) → (a ≡ Some o → Named more name o) → (b ≡ Some o → Named more name o) → or_else a b ≡ Some o → Named more name o
 either_found more name (Some x) b o ha hb e = ha e
 either_found more name None b o ha hb e = hb e
-
-known_is : (x : Option Obj) (o : Obj) → known_object x ≡ Ok o → x ≡ Some o
-known_is None o e = absurd cc
-known_is (Some x) o e = ap (λ (y : Obj). Some y) (ok_is x o e)
 
 pub used_named : (ns more : Names) (name : List ℕ) (o : Obj) → Keeps ns more → used ns name ≡ Ok o → name_of_object more o ≡ name
 used_named ns more name o k e =

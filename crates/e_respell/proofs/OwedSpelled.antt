@@ -32,6 +32,7 @@ use Rattle.e_book.specs.Scope.{lit_in, term_in, args_in, variables_of, right_cou
 use Rattle.e_book.specs.Steps.{few_monos}
 use Rattle.e_book.specs.Canonical.{lit_words, term_words, raw_of, rule_name, name_of_object}
 use Rattle.e_book.proofs.InScope.{bind_ok, ok_is, read_ok}
+use Rattle.e_book.proofs.Choices.{passed}
 use Rattle.e_read.specs.declared.mark.RawRow.{RawRow}
 use Rattle.e_read.specs.declared.mark.RawRow.TheVariants as rows
 use Rattle.e_read.specs.declared.mark.Mark.{Mark}
@@ -146,15 +147,11 @@ row_spelled ns rows.Below r c e = ap (row_words ns) (sym (ok_is names.Below r e)
 
 -- ---- sums
 
-tested : {A : Type 0} (b : Bool) (x : Result A Kind) (y : A) → cond b x (Err Malformed) ≡ Ok y → (b ≡ true) × (x ≡ Ok y)
-tested true x y e = (refl, e)
-tested false x y e = absurd cc
-
 abbrev pair : ℤ → RowName → ℤ × RowName
 pair m r = (m, r)
 
 one_row : (sum new : List (ℤ × RowName)) (m : ℤ) (r : RowName) → with_row sum m r ≡ Ok new → new ≡ sum ++ (m, r) ∷ []
-one_row sum new m r e = sym (ok_is (sum ++ (m, r) ∷ []) new (tested (ltb (length sum) most_rows) (read_ok (sum ++ (m, r) ∷ [])) new e).1)
+one_row sum new m r e = sym (ok_is (sum ++ (m, r) ∷ []) new (passed (ltb (length sum) most_rows) (read_ok (sum ++ (m, r) ∷ [])) new e).1)
 
 sum_more : (ns : Names) (sum : List (ℤ × RowName)) (m : ℤ) (r : RowName) → sum_lines ns (sum ++ (m, r) ∷ []) ≡ sum_lines ns sum ++ row_line ns (m, r) ∷ []
 sum_more ns sum m r = ap (λ (l : Lines). (codes "|" ∷ codes "sum" ∷ []) ∷ l) (map-append (row_line ns) sum ((m, r) ∷ []))
@@ -182,7 +179,7 @@ sum_begun_spelled : (ns : Names) (o : Option OpenSums) (s : OpenSums) → sum_be
 sum_begun_spelled ns (Some sums.Begun) s e = ap (λ (x : OpenSums). open_lines ns (Some x)) (sym (ok_is (sums.One []) s e))
 sum_begun_spelled ns (Some (sums.Differs d)) s e = ap (λ (x : OpenSums). open_lines ns (Some x)) (sym (ok_is (sums.Above d []) s e))
 sum_begun_spelled ns (Some (sums.Above d sum)) s e =
-    ap (λ (x : OpenSums). open_lines ns (Some x)) (sym (ok_is (sums.Below d sum []) s (tested (ltb 0 (length sum)) (read_ok (sums.Below d sum [])) s e).1))
+    ap (λ (x : OpenSums). open_lines ns (Some x)) (sym (ok_is (sums.Below d sum []) s (passed (ltb 0 (length sum)) (read_ok (sums.Below d sum [])) s e).1))
 sum_begun_spelled ns None s e = absurd cc
 sum_begun_spelled ns (Some (sums.One sum)) s e = absurd cc
 sum_begun_spelled ns (Some (sums.Below d above sum)) s e = absurd cc
@@ -199,9 +196,9 @@ abbrev metric : Sums → MetricCert
 metric s = record { sums = s }
 
 sums_ended_spelled : (ns : Names) (s : OpenSums) (all : Sums) → sums_ended s ≡ Ok all → open_lines ns (Some s) ≡ metric_lines ns (metric all)
-sums_ended_spelled ns (sums.One sum) all e = ap (λ (x : Sums). metric_lines ns (metric x)) (ok_is (One sum) all (tested (ltb 0 (length sum)) (read_ok (One sum)) all e).1)
+sums_ended_spelled ns (sums.One sum) all e = ap (λ (x : Sums). metric_lines ns (metric x)) (ok_is (One sum) all (passed (ltb 0 (length sum)) (read_ok (One sum)) all e).1)
 sums_ended_spelled ns (sums.Below d above sum) all e =
-    ap (λ (x : Sums). metric_lines ns (metric x)) (ok_is (Two d above sum) all (tested (ltb 0 (length sum)) (read_ok (Two d above sum)) all e).1)
+    ap (λ (x : Sums). metric_lines ns (metric x)) (ok_is (Two d above sum) all (passed (ltb 0 (length sum)) (read_ok (Two d above sum)) all e).1)
 sums_ended_spelled ns sums.Begun all e = absurd cc
 sums_ended_spelled ns (sums.Differs d) all e = absurd cc
 sums_ended_spelled ns (sums.Above d sum) all e = absurd cc
@@ -233,7 +230,7 @@ transfer_put_spelled ns wanted cs t new lt e = by_test (eqb (length t.parts) t.o
 
 part_put_spelled : (ns : Names) (d new : Due) (p : Part) → FitsDue d → part_put d p ≡ Ok new → Grows ns d new (part_lines ns p)
 part_put_spelled ns (due.Literals wanted cs None) new p f e =
-    let t = tested (has_more wanted cs) (read_ok (due.Literals wanted (cs ++ Plain p ∷ []) None)) new e in
+    let t = passed (has_more wanted cs) (read_ok (due.Literals wanted (cs ++ Plain p ∷ []) None)) new e in
     subst (λ (x : Due). Grows ns (due.Literals wanted cs None) x (part_lines ns p)) (ok_is (due.Literals wanted (cs ++ Plain p ∷ []) None) new t.1)
     (record { lines = certs_more ns cs (Plain p); first = refl; fits = one_longer cs (Plain p) wanted (ltb-true (length cs) (length wanted) t.0) })
 part_put_spelled ns (due.Literals wanted cs (Some t)) new p f e =
@@ -266,7 +263,7 @@ clash_put_spelled ns (due.Literals wanted cs t) new l e = absurd cc
 
 transfer_rule_is : (o : Option ℕ) (r : ℕ) → transfer_rule o ≡ Ok r → o ≡ Some r
 transfer_rule_is None r e = absurd cc
-transfer_rule_is (Some k) r e = ap Some (ok_is k r (tested (is_transfer k) (read_ok k) r e).1)
+transfer_rule_is (Some k) r e = ap Some (ok_is k r (passed (is_transfer k) (read_ok k) r e).1)
 
 abbrev transfer : ℕ → List Obj → List Part → ℕ → OpenTransfer
 transfer r args ps n = record { rule = r; args = args; parts = ps; owed = n }
@@ -368,7 +365,7 @@ marked_spelled o new marks.Fact f c h =
     subst (λ (x : Owed). Marked o x marks.Fact) (ok_is (due_behind e.0 d.0) new d.2) (due_marked o e.0 d.0 marks.Fact end (part_put_spelled e.0.names e.0.due d.0 parts.Fact end.fits d.1))
 marked_spelled o new marks.Metric f c h =
     let e = bind_ok (ended o o.sums) (λ e. cond (takes_metric e.due) (read_ok (sums_behind e sums.Begun)) (Err Malformed)) new h in
-    let t = tested (takes_metric e.0.due) (read_ok (sums_behind e.0 sums.Begun)) new e.2 in
+    let t = passed (takes_metric e.0.due) (read_ok (sums_behind e.0 sums.Begun)) new e.2 in
     let end = ended_spelled o.names o.due o.sums e.0 f e.1 in
     subst (λ (x : Owed). Marked o x marks.Metric) (ok_is (sums_behind e.0 sums.Begun) new t.1)
     (one_more o (sums_behind e.0 sums.Begun) marks.Metric end.names end.first end.fits

@@ -5,6 +5,7 @@ use Rattle.std.specs.Option.{option_to_list}
 use Rattle.std.specs.Str.{bytes_eq}
 use Rattle.std.proofs.lemmas.List.{append-nil}
 use Rattle.std.proofs.lemmas.Slice.Eq.{bytes_eq-Decides}
+use Rattle.std.proofs.lemmas.Bool.{and_parts}
 use Rattle.e_text.specs.Tokens.{tokens_of}
 use Rattle.e_text.specs.Lines.{Seen}
 use Rattle.e_text.specs.declared.line.LineEnd.{LineEnd}
@@ -21,8 +22,8 @@ use Rattle.e_book.specs.Entry.{Entry, entry_of_draft}
 use Rattle.e_book.specs.Book.{is_last, is_done}
 use Rattle.e_book.specs.Steps.{begin, step}
 use Rattle.e_book.specs.Canonical.{line_of, head_forms, end_form, names_of_proof}
-use Rattle.e_book.proofs.Differ.{both}
 use Rattle.e_book.proofs.InScope.{bind_ok, ok_is, read_ok}
+use Rattle.e_book.proofs.Choices.{passed}
 use Rattle.e_read.specs.declared.owed.Due.{Due}
 use Rattle.e_read.specs.declared.owed.Due.TheVariants as due
 use Rattle.e_read.specs.declared.owed.Owed.{Owed}
@@ -33,7 +34,7 @@ use Rattle.e_read.specs.Strict.{is_strict, is_apart}
 use Rattle.e_read.specs.Needs.{due_of}
 use Rattle.e_read.specs.Filled.{filled}
 use Rattle.e_read.specs.Text.{spelled, Derived, Last, owes_nothing, at_start, owed_by, gone_on, worded, is_lf_end, taken, derived, garbled_at, is_finished, finished, or_on, is_end, piece_from}
-use Rattle.e_read.proofs.TakenLines.{Certified, Stepped, passed, line_taken, form_read, either}
+use Rattle.e_read.proofs.TakenLines.{Certified, Stepped, line_taken, form_read, either}
 use Rattle.e_read.proofs.Bridge.{Answer, derives, no_last, garbled_ok, derived_is, goes_on, unfinished, still, closed_is}
 use Rattle.e_spell.specs.Spelling.{script_lines, spelled_lines}
 use Rattle.e_respell.specs.Laws.{ShowsLf}
@@ -155,7 +156,7 @@ gone_said known (Some d) e f o ks done s r st g =
 stepped_said : (known : List Headed) (r next : Reading) (line : List ℕ) (done : List (List ℕ)) → SaidSoFar known r.draft r.owed r.kept done → (s : Stepped known r next line) → StepSaid known s.draft s.owed (r.kept ++ option_to_list s.read) (done ++ line ∷ [])
 stepped_said known r next line done so s =
     let f = form_read line s.form s.spelled in
-    let b = both (is_strict s.form) (bytes_eq line (line_of s.form)) f.1 in
+    let b = and_parts (is_strict s.form) (bytes_eq line (line_of s.form)) f.1 in
     let is : line ≡ line_of s.form = (bytes_eq-Decides line (line_of s.form)).0 b.1 in
     let set = settled_spelled r.owed s.read so.fits s.settled_is in
     let state = so.said s.read set.answers in

@@ -4,7 +4,7 @@ use Rattle.std.specs.Prelude.{codes, decimal}
 use Rattle.std.specs.Ordering.{int_eq}
 use Rattle.std.specs.Fmt.{signed_decimal}
 use Rattle.std.specs.List.{list_all, flat_map, AllByRecursion}
-use Rattle.std.proofs.lemmas.Bool.{leb-true}
+use Rattle.std.proofs.lemmas.Bool.{leb-true, and_parts}
 use Rattle.e_text.specs.Lines.{is_allowed, AreShort}
 use Rattle.e_text.specs.Tokens.{joined}
 use Rattle.e_literal.specs.declared.literal.Lit.{Lit}
@@ -22,7 +22,6 @@ use Rattle.e_clause.specs.Sum.{is_good_multiplier}
 use Rattle.e_deriv.specs.declared.names.Names.{Names}
 use Rattle.e_clause.specs.Written.{is_good_name}
 use Rattle.e_book.specs.Canonical.{rule_name, name_of_object}
-use Rattle.e_book.proofs.Differ.{both}
 use Rattle.e_book.proofs.Lookups.{InOrder}
 use Rattle.e_book.proofs.LitLookups.{diagram_is_good}
 use Rattle.e_spell.specs.Certificates.{row_words, row_line, sum_lines, sums_lines, part_lines, cert_lines, certs_lines, against_lines, contradiction_lines}
@@ -48,16 +47,16 @@ room_row ns rows.Below o g = room_more 6 2182 _ (omega arith) (room_word 5 0 (co
 -- one more byte
 one_more : (k b : ℕ) (w : List ℕ) → is_allowed b ≡ true → is_short k w ≡ true → is_short (k + 1) (b ∷ w) ≡ true
 one_more k b w h s =
-    let p = both (list_all is_allowed w) (leb (length w) k) s in
+    let p = and_parts (list_all is_allowed w) (leb (length w) k) s in
     short_word (k + 1) (b ∷ w) (rw (h, p.0) refl) (omega (arith, leb-true (length w) k p.1))
 
 -- a multiplier, of size at most 2 ^ 80
 short_multiplier : (z : ℤ) → is_good_multiplier z ≡ true → is_short 26 (signed_decimal z) ≡ true
 short_multiplier (pos n) h =
-    let le = leb-true n (2 ^ 80) (both (not (int_eq (pos n) (pos 0))) (leb n (2 ^ 80)) h).1 in
+    let le = leb-true n (2 ^ 80) (and_parts (not (int_eq (pos n) (pos 0))) (leb n (2 ^ 80)) h).1 in
     short_number 26 n (omega arith) (omega (arith, le)) (omega (arith, le))
 short_multiplier (negsuc n) h =
-    let le = leb-true (suc n) (2 ^ 80) (both (not (int_eq (negsuc n) (pos 0))) (leb (suc n) (2 ^ 80)) h).1 in
+    let le = leb-true (suc n) (2 ^ 80) (and_parts (not (int_eq (negsuc n) (pos 0))) (leb (suc n) (2 ^ 80)) h).1 in
     one_more 25 45 (decimal (suc n)) refl (short_number 25 (suc n) (omega arith) (omega (arith, le)) (omega (arith, le)))
 
 -- ---- lines of certificates

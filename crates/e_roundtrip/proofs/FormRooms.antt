@@ -2,7 +2,7 @@
 use Rattle.std.proofs.Common.{◌≡◌, ℕ, ◌+◌, ◌*◌, ◌≤◌, Bool, true, leb, ◌&&◌, List, [], ◌∷◌, ◌++◌, length, map, Option, Some, None, refl, arith, length-append}
 use Rattle.std.specs.Prelude.{codes}
 use Rattle.std.specs.List.{list_all, AllByRecursion}
-use Rattle.std.proofs.lemmas.Bool.{leb-true}
+use Rattle.std.proofs.lemmas.Bool.{leb-true, and_parts}
 use Rattle.std.proofs.lemmas.List.{length-map}
 use Rattle.e_text.specs.Names.{is_title}
 use Rattle.e_text.specs.Tokens.{joined}
@@ -26,7 +26,6 @@ use Rattle.e_book.specs.Superposes.{superpose_pieces}
 use Rattle.e_book.specs.Headed.{Headed, title_at}
 use Rattle.e_book.specs.Canonical.{filled, avoid_words, argument_word, argument_name, made_words, lit_words, lits_words, name_at, name_of_object, raw_of, rule_name, placed_names, line_of, by_form, hence_form, let_form, apply_form, claim_form, superpose_form, qed_form, contradiction_form, cases_form, else_form, end_form}
 use Rattle.e_book.specs.HasSpelling.{AreNames}
-use Rattle.e_book.proofs.Differ.{both}
 use Rattle.e_book.proofs.Lookups.{InOrder}
 use Rattle.e_roundtrip.proofs.Rooms.{is_short, short_name, short_title, Room, room_none, room_more, room_word, room_append, room_line, IsShortLine}
 use Rattle.e_roundtrip.proofs.LitRooms.{short_at, short_object, room_objects, room_one, room_lits}
@@ -95,7 +94,7 @@ no_word p ps ws r = room_more (17 * length ps) (17 * length (p ∷ ps)) ws (omeg
 room_filled : (ps : List Piece) (new args : List (List ℕ)) → list_all is_short_piece ps ≡ true → AllWords new → AllWords args → Room (17 * length ps) (filled ps new args)
 room_filled [] new args h n a = room_none
 room_filled (Word w ∷ ps) new args h n a =
-    let p = both (is_short 16 w) (list_all is_short_piece ps) h in
+    let p = and_parts (is_short 16 w) (list_all is_short_piece ps) h in
     piece_word (Word w) ps w (filled ps new args) p.0 (room_filled ps new args p.1 n a)
 room_filled (New ∷ ps) (w ∷ new) args h n a = piece_word New ps w (filled ps new args) n.0 (room_filled ps new args h n.1 a)
 room_filled (New ∷ ps) [] args h n a = no_word New ps (filled ps [] args) (room_filled ps [] args h n a)
@@ -180,7 +179,7 @@ short_let ns form names o h few =
     let avoid = map (name_of_object ns) form.avoid in
     let args = map (name_of_object ns) form.args in
     let ps = pieces form.shape in
-    let p = both (list_all is_short_piece ps) (leb (length ps) 16) (short_pieces form.shape) in
+    let p = and_parts (list_all is_short_piece ps) (leb (length ps) 16) (short_pieces form.shape) in
     let n = 17 * length ps in
     let m = 6 + 17 * length avoid in
     room_line (3 + 1 + (n + m)) _ (omega (arith, few, leb-true (length ps) 16 p.1, length-map form.avoid (name_of_object ns)))

@@ -2,6 +2,7 @@
 use Rattle.std.proofs.Common.{◌≡◌, ℕ, suc, ◌+◌, ◌*◌, ◌≤◌, Bool, true, false, cond, List, [], ◌∷◌, ◌++◌, length, map, refl, ap, arith}
 use Rattle.std.specs.Prelude.{codes}
 use Rattle.std.specs.List.{list_all, AllByRecursion}
+use Rattle.std.proofs.lemmas.Bool.{and_parts}
 use Rattle.e_text.specs.Lines.{AreShort}
 use Rattle.e_literal.specs.declared.object.Sort.{Sort}
 use Rattle.e_literal.specs.declared.object.Sort.TheVariants as sorts
@@ -9,8 +10,9 @@ use Rattle.e_literal.specs.declared.object.Obj.{Obj}
 use Rattle.e_literal.specs.declared.object.Scope.{Scope}
 use Rattle.e_literal.specs.declared.literal.Lit.{Lit}
 use Rattle.e_literal.specs.WellFormed.{is_well_formed}
-use Rattle.e_literal.specs.Scopes.{same_sort, nothing, with_one, grown, next_objects}
+use Rattle.e_literal.specs.Scopes.{same_sort, nothing, with_one, next_objects}
 use Rattle.e_literal.specs.Use.{scope_of}
+use Rattle.e_literal.proofs.Growing.{total_grows, total_grown}
 use Rattle.e_theorem.specs.declared.statement.Statement.{Statement}
 use Rattle.e_theorem.specs.Statements.{stated}
 use Rattle.e_deriv.specs.declared.names.Names.{Names}
@@ -20,7 +22,6 @@ use Rattle.e_book.specs.Headed.{Headed}
 use Rattle.e_book.specs.Entry.{Entry}
 use Rattle.e_book.specs.Canonical.{Group, group, grouped_before, grouped, lit_words, raw_of, sort_word, name_of_object, line_of, given_form, show_form, declare_form, made_form, declared_objects, made_objects, given_forms, shown_forms, head_forms}
 use Rattle.e_book.specs.HasSpelling.{HasSpelling}
-use Rattle.e_book.proofs.Differ.{both}
 use Rattle.e_book.proofs.Lookups.{InOrder, in_order}
 use Rattle.e_roundtrip.proofs.Rooms.{is_short, short_title, Room, room_none, room_word, room_append, room_line, IsShortLine}
 use Rattle.e_roundtrip.proofs.LitRooms.{short_object, room_one}
@@ -30,17 +31,6 @@ use Rattle.e_roundtrip.proofs.FormRooms.{AllWords, room_words}
 
 abbrev total : Scope → ℕ
 total s = s.points + s.lines + s.circles
-
--- one object more
-total_one : (s : Scope) (sort : Sort) → total (with_one s sort) ≡ total s + 1
-total_one s sorts.Point = omega arith
-total_one s sorts.Line = omega arith
-total_one s sorts.Circle = omega arith
-
--- one more for each sort
-total_grown : (s : Scope) (sorts : List Sort) → total (grown s sorts) ≡ total s + length sorts
-total_grown s [] = omega arith
-total_grown s (sort ∷ sorts) = omega (arith, total_grown (with_one s sort) sorts, total_one s sort)
 
 -- one object for each sort
 pub length_next : (s : Scope) (sorts : List Sort) → length (next_objects s sorts) ≡ length sorts
@@ -134,14 +124,14 @@ all_made n (g ∷ gs) le h = (short_made n g le h.0, all_made n gs le h.1)
 all_given : (ns : Names) (ls : List Lit) → InOrder ns → list_all is_well_formed ls ≡ true → AreShortForms (map (given_form ns) ls)
 all_given ns [] o g = tt
 all_given ns (l ∷ ls) o g =
-    let p = both (is_well_formed l) (list_all is_well_formed ls) g in
+    let p = and_parts (is_well_formed l) (list_all is_well_formed ls) g in
     (room_line 2194 _ (omega arith) (lit_line (codes "given") ns l refl o p.0), all_given ns ls o p.1)
 
 -- all lines of shown literals
 all_shown : (ns : Names) (ls : List Lit) → InOrder ns → list_all is_well_formed ls ≡ true → AreShortForms (map (show_form ns) ls)
 all_shown ns [] o g = tt
 all_shown ns (l ∷ ls) o g =
-    let p = both (is_well_formed l) (list_all is_well_formed ls) g in
+    let p = and_parts (is_well_formed l) (list_all is_well_formed ls) g in
     (room_line 2194 _ (omega arith) (lit_line (codes "show") ns l refl o p.0), all_shown ns ls o p.1)
 
 -- ---- the whole

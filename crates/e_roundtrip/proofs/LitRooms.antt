@@ -2,7 +2,7 @@
 use Rattle.std.proofs.Common.{◌≡◌, ℕ, zero, suc, ◌+◌, ◌*◌, ◌≤◌, Bool, true, false, cond, leb, eqb, List, [], ◌∷◌, ◌++◌, length, map, refl, arith, length-append}
 use Rattle.std.specs.Prelude.{codes, decimal}
 use Rattle.std.specs.List.{list_all}
-use Rattle.std.proofs.lemmas.Bool.{leb-true}
+use Rattle.std.proofs.lemmas.Bool.{leb-true, and_parts}
 use Rattle.e_literal.specs.declared.object.Sort.{Sort}
 use Rattle.e_literal.specs.declared.object.Sort.TheVariants as sorts
 use Rattle.e_literal.specs.declared.object.Obj.{Obj}
@@ -20,7 +20,6 @@ use Rattle.e_deriv.specs.Naming.{names_of_sort}
 use Rattle.e_book.specs.Limits.{monomials, count_monomials}
 use Rattle.e_book.specs.Canonical.{term_words, coefficient_words, mono_words, more_monos, sum_words, sums_words, atom_words, lit_words, more_words, lits_words, name_at, name_of_object, raw_term, raw_mono, raw_sum, raw_atom, raw_signed, raw_of}
 use Rattle.e_book.specs.HasSpelling.{AreNames}
-use Rattle.e_book.proofs.Differ.{both}
 use Rattle.e_book.proofs.Lookups.{InOrder}
 use Rattle.e_book.proofs.GoodSums.{is_good_mono, AreGood, good_sums}
 use Rattle.e_book.proofs.ShortLits.{count_first}
@@ -81,11 +80,11 @@ room_term ns terms.Right h = room_more 6 56 _ (omega arith) (room_word 5 0 (code
 coefficient_by : (b : Bool) (n : ℕ) → is_good_coefficient n ≡ true → Room 8 (cond b [] (decimal n ∷ []))
 coefficient_by true n h = room_more 0 8 [] (omega arith) room_none
 coefficient_by false n h =
-    let le = leb-true n 1000000 (both (leb 1 n) (leb n 1000000) h).1 in
+    let le = leb-true n 1000000 (and_parts (leb 1 n) (leb n 1000000) h).1 in
     room_word 7 0 (decimal n) [] (short_number 7 n (omega arith) (omega (arith, le)) (omega (arith, le))) room_none
 
 good_coefficient : (k : Magnitude) (m : Mono) → is_good_mono k m ≡ true → is_good_coefficient m.coeff ≡ true
-good_coefficient k m g = (both (same_kind (kind_of_term m.term) k) (is_good_coefficient m.coeff) g).1
+good_coefficient k m g = (and_parts (same_kind (kind_of_term m.term) k) (is_good_coefficient m.coeff) g).1
 
 -- a monomial
 room_mono : (ns : Names) (k : Magnitude) (m : Mono) → InOrder ns → is_good_mono k m ≡ true → Room 64 (mono_words (raw_mono ns m))
@@ -95,7 +94,7 @@ room_mono ns k m h g = room_append 8 56 (coefficient_words m.coeff) (term_words 
 room_monos : (ns : Names) (k : Magnitude) (ms : List Mono) → InOrder ns → AreGood k ms → Room (66 * length ms) (more_monos (raw_sum ns ms))
 room_monos ns k [] h g = room_none
 room_monos ns k (m ∷ ms) h g =
-    let p = both (is_good_mono k m) (list_all (is_good_mono k) ms) g in
+    let p = and_parts (is_good_mono k m) (list_all (is_good_mono k) ms) g in
     let n = 66 * length ms in
     room_more (1 + 1 + (64 + n)) (66 * length (m ∷ ms)) (more_monos (raw_sum ns (m ∷ ms))) (omega arith)
     (room_word 1 (64 + n) (codes "+") _ refl (room_append 64 n (mono_words (raw_mono ns m)) (more_monos (raw_sum ns ms)) (room_mono ns k m h p.0) (room_monos ns k ms h p.1)))
@@ -104,7 +103,7 @@ room_monos ns k (m ∷ ms) h g =
 room_sum : (ns : Names) (k : Magnitude) (ms : List Mono) → InOrder ns → AreGood k ms → Room (2 + 66 * length ms) (sum_words (raw_sum ns ms))
 room_sum ns k [] h g = room_word 1 0 (codes "0") [] refl room_none
 room_sum ns k (m ∷ ms) h g =
-    let p = both (is_good_mono k m) (list_all (is_good_mono k) ms) g in
+    let p = and_parts (is_good_mono k m) (list_all (is_good_mono k) ms) g in
     let n = 66 * length ms in
     room_more (64 + n) (2 + 66 * length (m ∷ ms)) (sum_words (raw_sum ns (m ∷ ms))) (omega arith)
     (room_append 64 n (mono_words (raw_mono ns m)) (more_monos (raw_sum ns ms)) (room_mono ns k m h p.0) (room_monos ns k ms h p.1))
@@ -205,7 +204,7 @@ room_one ns l h g = room_more (65 + 66 * monomials l.atom) 2177 _ (omega (arith,
 more_room : (ns : Names) (ls : List Lit) → InOrder ns → list_all is_well_formed ls ≡ true → Room (67 * length ls + 66 * count_monomials ls) (more_words (map (raw_of ns) ls))
 more_room ns [] h g = room_none
 more_room ns (l ∷ ls) h g =
-    let p = both (is_well_formed l) (list_all is_well_formed ls) g in
+    let p = and_parts (is_well_formed l) (list_all is_well_formed ls) g in
     let n = 67 * length ls + 66 * count_monomials ls in
     let m = 65 + 66 * monomials l.atom in
     room_more (1 + 1 + (m + n)) (67 * length (l ∷ ls) + 66 * count_monomials (l ∷ ls)) _ (omega (arith, count_first l ls))
@@ -215,7 +214,7 @@ more_room ns (l ∷ ls) h g =
 pub room_lits : (ns : Names) (ls : List Lit) → InOrder ns → list_all is_well_formed ls ≡ true → Room (67 * length ls + 66 * count_monomials ls) (lits_words (map (raw_of ns) ls))
 room_lits ns [] h g = room_none
 room_lits ns (l ∷ ls) h g =
-    let p = both (is_well_formed l) (list_all is_well_formed ls) g in
+    let p = and_parts (is_well_formed l) (list_all is_well_formed ls) g in
     let n = 67 * length ls + 66 * count_monomials ls in
     let m = 65 + 66 * monomials l.atom in
     room_more (m + n) (67 * length (l ∷ ls) + 66 * count_monomials (l ∷ ls)) _ (omega (arith, count_first l ls))

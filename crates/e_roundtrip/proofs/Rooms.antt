@@ -2,7 +2,7 @@
 use Rattle.std.proofs.Common.{◌≡◌, ℕ, ◌+◌, ◌*◌, ◌^◌, ◌<◌, ◌≤◌, Bool, true, leb, ltb, eqb, not, ◌&&◌, ◌||◌, List, [], ◌∷◌, ◌++◌, length, refl, ap, ◌∙◌, arith, rules, tests, length-append}
 use Rattle.std.specs.Prelude.{decimal}
 use Rattle.std.specs.List.{list_all}
-use Rattle.std.proofs.lemmas.Bool.{leb-true, le-leb}
+use Rattle.std.proofs.lemmas.Bool.{leb-true, le-leb, and_parts}
 use Rattle.std.proofs.lemmas.Fmt.{length-decimal-le_wide}
 use Rattle.std.proofs.lemmas.List.Folds.{list_all-append}
 use Rattle.e_text.specs.Lines.{is_allowed, AreShort}
@@ -12,7 +12,6 @@ use Rattle.e_text.specs.Tokens.{spaced, joined}
 use Rattle.e_text.proofs.NumeralWords.{is_numeral-decimal}
 use Rattle.e_words.proofs.Spaced.{spaced_append}
 use Rattle.e_book.specs.HasSpelling.{AreNames}
-use Rattle.e_book.proofs.Differ.{both}
 
 -- ---- words
 
@@ -42,7 +41,7 @@ room_more m n ws le r = record { allowed = r.allowed; few = omega (arith, r.few,
 -- one more word
 pub room_word : (k n : ℕ) (w : List ℕ) (ws : List (List ℕ)) → is_short k w ≡ true → Room n ws → Room (k + 1 + n) (w ∷ ws)
 room_word k n w ws h r =
-    let p = both (list_all is_allowed w) (leb (length w) k) h in
+    let p = and_parts (list_all is_allowed w) (leb (length w) k) h in
     record {
       allowed = list_all-append is_allowed w (spaced ws) ∙ rw (p.0, r.allowed) refl;
       few = omega (arith, r.few, leb-true (length w) k p.1, length-append w (spaced ws));
@@ -86,16 +85,16 @@ digit_allowed b e = search (rules, tests)
 -- bytes that pass a test that only allowed ones pass
 all_allowed : (p : ℕ → Bool) → ((b : ℕ) → p b ≡ true → is_allowed b ≡ true) → (w : List ℕ) → list_all p w ≡ true → list_all is_allowed w ≡ true
 all_allowed p f [] e = refl
-all_allowed p f (b ∷ bs) e = let q = both (p b) (list_all p bs) e in rw (f b q.0, all_allowed p f bs q.1) refl
+all_allowed p f (b ∷ bs) e = let q = and_parts (p b) (list_all p bs) e in rw (f b q.0, all_allowed p f bs q.1) refl
 
 -- a name has at most 16 bytes
 pub short_name : (w : List ℕ) → is_name w ≡ true → is_short 16 w ≡ true
 short_name [] e = absurd cc
 short_name (b ∷ bs) e =
     let w : List ℕ = b ∷ bs in
-    let p = both (is_letter b) (leb (length w) 16 && (list_all is_name_byte w && not (is_reserved w))) e in
-    let q = both (leb (length w) 16) (list_all is_name_byte w && not (is_reserved w)) p.1 in
-    let r = both (list_all is_name_byte w) (not (is_reserved w)) q.1 in
+    let p = and_parts (is_letter b) (leb (length w) 16 && (list_all is_name_byte w && not (is_reserved w))) e in
+    let q = and_parts (leb (length w) 16) (list_all is_name_byte w && not (is_reserved w)) p.1 in
+    let r = and_parts (list_all is_name_byte w) (not (is_reserved w)) q.1 in
     short_word 16 w (all_allowed is_name_byte name_byte_allowed w r.0) (leb-true (length w) 16 q.0)
 
 -- a title has at most 24
@@ -103,8 +102,8 @@ pub short_title : (w : List ℕ) → is_title w ≡ true → is_short 24 w ≡ t
 short_title [] e = absurd cc
 short_title (b ∷ bs) e =
     let w : List ℕ = b ∷ bs in
-    let p = both (is_letter b) (leb (length w) 24 && list_all is_title_byte w) e in
-    let q = both (leb (length w) 24) (list_all is_title_byte w) p.1 in
+    let p = and_parts (is_letter b) (leb (length w) 24 && list_all is_title_byte w) e in
+    let q = and_parts (leb (length w) 24) (list_all is_title_byte w) p.1 in
     short_word 24 w (all_allowed is_title_byte title_byte_allowed w q.1) (leb-true (length w) 24 q.0)
 
 -- names, each with its space
@@ -117,7 +116,7 @@ room_names (n ∷ ns) h = room_more (16 + 1 + 17 * length ns) (17 * length (n �
 -- digits are allowed
 numeral_allowed : (w : List ℕ) → is_numeral w ≡ true → list_all is_allowed w ≡ true
 numeral_allowed [] e = absurd cc
-numeral_allowed (b ∷ bs) e = all_allowed is_digit digit_allowed (b ∷ bs) (both (list_all is_digit (b ∷ bs)) (eqb (length bs) 0 || ltb 48 b) e).0
+numeral_allowed (b ∷ bs) e = all_allowed is_digit digit_allowed (b ∷ bs) (and_parts (list_all is_digit (b ∷ bs)) (eqb (length bs) 0 || ltb 48 b) e).0
 
 -- a number below a power of ten
 pub short_number : (k n : ℕ) → 0 < k → n < 10 ^ k → n < 10 ^ 64 → is_short k (decimal n) ≡ true

@@ -3,7 +3,7 @@ use Rattle.std.proofs.Common.{◌≡◌, ℕ, zero, suc, ◌+◌, ◌≤◌, Boo
 use Rattle.std.specs.Prelude.{slice_get, option_and_then}
 use Rattle.std.specs.Option.{option_map, option_map_or}
 use Rattle.std.specs.List.{list_all}
-use Rattle.std.proofs.lemmas.Bool.{leb-true, eqb-true}
+use Rattle.std.proofs.lemmas.Bool.{leb-true, eqb-true, and_parts}
 use Rattle.e_literal.specs.declared.object.Obj.{Obj}
 use Rattle.e_literal.specs.declared.literal.Lit.{Lit}
 use Rattle.e_clause.specs.Rows.{Row}
@@ -16,7 +16,6 @@ use Rattle.e_clause.specs.Table.Lengths.{lengths}
 use Rattle.e_clause.specs.Table.Angles.{angles}
 use Rattle.e_clause.specs.Instance.{fits, lit_at, clause_of, instance_of_row, Inst}
 use Rattle.e_book.specs.Canonical.{rule_name}
-use Rattle.e_book.proofs.Differ.{both}
 use Rattle.e_book.proofs.RuleNames.{title_again, rule_name_is}
 use Rattle.e_roundtrip.proofs.Rooms.{is_short, short_title}
 
@@ -43,8 +42,8 @@ all_few = refl
 
 few_in : (rows : List Row) (n : ℕ) (r : Row) → list_all has_few rows ≡ true → slice_get rows n ≡ Some r → has_few r ≡ true
 few_in [] n r h at = absurd cc
-few_in (x ∷ rows) zero r h at = let same : x ≡ r = cc in ap has_few (sym same) ∙ (both (has_few x) (list_all has_few rows) h).0
-few_in (x ∷ rows) (suc n) r h at = few_in rows n r (both (has_few x) (list_all has_few rows) h).1 at
+few_in (x ∷ rows) zero r h at = let same : x ≡ r = cc in ap has_few (sym same) ∙ (and_parts (has_few x) (list_all has_few rows) h).0
+few_in (x ∷ rows) (suc n) r h at = few_in rows n r (and_parts (has_few x) (list_all has_few rows) h).1 at
 
 fitted : (b : Bool) (x lits : List Lit) → cond b (Some x) None ≡ Some lits → b ≡ true
 fitted true x lits h = refl
@@ -54,7 +53,7 @@ few_by : (o : Option Row) (args : List Obj) (lits : List Lit) → ((r : Row) →
 few_by None args lits h e = absurd cc
 few_by (Some r) args lits h e =
     let fit = fitted (fits r args) (map (lit_at r args) (clause_of r)) lits e in
-    let n = eqb-true (length args) (r.points + r.lines + r.circles) (both (eqb (length args) (r.points + r.lines + r.circles)) _ fit).0 in
+    let n = eqb-true (length args) (r.points + r.lines + r.circles) (and_parts (eqb (length args) (r.points + r.lines + r.circles)) _ fit).0 in
     omega (arith, n, leb-true (r.points + r.lines + r.circles) 16 (h r refl))
 
 -- an instance has few arguments

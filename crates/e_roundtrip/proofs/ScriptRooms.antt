@@ -1,7 +1,7 @@
 -- The lines of a derivation are short.
 use Rattle.std.proofs.Common.{◌≡◌, ℕ, zero, suc, ◌+◌, ◌≤◌, true, leb, ◌&&◌, List, [], ◌∷◌, ◌++◌, length, map, Option, Some, None, is_some, refl, ap, arith}
 use Rattle.std.specs.List.{list_all, AllByRecursion}
-use Rattle.std.proofs.lemmas.Bool.{leb-true}
+use Rattle.std.proofs.lemmas.Bool.{leb-true, and_parts}
 use Rattle.std.proofs.lemmas.List.{length-map}
 use Rattle.e_text.specs.Lines.{AreShort}
 use Rattle.e_text.specs.Names.{is_title}
@@ -41,7 +41,6 @@ use Rattle.e_book.specs.Scope.{scope_of_names}
 use Rattle.e_book.specs.Fits.{few_facts, is_diagram_lit, has_good_literals, NewNamesFit}
 use Rattle.e_book.specs.Canonical.{line_of, else_form}
 use Rattle.e_book.specs.HasSpelling.{is_plain, is_named_by_title, names_theorems}
-use Rattle.e_book.proofs.Differ.{both}
 use Rattle.e_book.proofs.LitLookups.{diagram_is_good}
 use Rattle.e_book.proofs.Built.{of_sorts_length}
 use Rattle.e_book.proofs.LinesRead.{Inside, behind, deep, copied, resume, second, applied_behind}
@@ -87,7 +86,7 @@ as_many [] (o ∷ os) h = absurd cc
 as_many (None ∷ xs) [] h = absurd cc
 as_many (Some x ∷ xs) [] h = absurd cc
 as_many (None ∷ xs) (o ∷ os) h = ap suc (as_many xs os h)
-as_many (Some x ∷ xs) (o ∷ os) h = ap suc (as_many xs os (both (same_obj x o) (fills xs os) h).1)
+as_many (Some x ∷ xs) (o ∷ os) h = ap suc (as_many xs os (and_parts (same_obj x o) (fills xs os) h).1)
 
 -- a citation
 cite_short : (known : List Headed) (d : Draft) (i : Inside) (b : By) (rest : Script) (given : List Lit) (goal : Goal) → Stood known d i (Cite b rest) given goal → AreShortLines known i rest → AreShortLines known i (Cite b rest)
@@ -97,10 +96,10 @@ cite_short known d i b rest given goal s more =
     let sc = scope_of_names i.in_scope in
     let here = line (Cite b rest) (Cite b rest) sc given goal in
     let one = one_certified before here (first_of (is_certified before) here (lines before rest rest sc (joined given b.lit) goal) s.certified).0 in
-    let p = both (is_diagram_rule b.rule) (list_all (is_in_scope sc) b.args && (all_in_scope sc b.lit && is_some (Inst b.rule b.args))) one.fitting in
-    let q = both (list_all (is_in_scope sc) b.args) (all_in_scope sc b.lit && is_some (Inst b.rule b.args)) p.1 in
-    let r = both (all_in_scope sc b.lit) (is_some (Inst b.rule b.args)) q.1 in
-    let good = (both (is_diagram_lit b.lit) (has_good_literals (erased rest)) s.ready.good).0 in
+    let p = and_parts (is_diagram_rule b.rule) (list_all (is_in_scope sc) b.args && (all_in_scope sc b.lit && is_some (Inst b.rule b.args))) one.fitting in
+    let q = and_parts (list_all (is_in_scope sc) b.args) (all_in_scope sc b.lit && is_some (Inst b.rule b.args)) p.1 in
+    let r = and_parts (all_in_scope sc b.lit) (is_some (Inst b.rule b.args)) q.1 in
+    let good = (and_parts (is_diagram_lit b.lit) (has_good_literals (erased rest)) s.ready.good).0 in
     (short_by i.in_scope b s.ready.order (diagram_is_good b.lit good) (few_cited b.rule b.args r.1), more)
 
 -- an inference with its certificate
@@ -112,7 +111,7 @@ hence_short known d i l c rest given goal s more =
     let sc = scope_of_names ns in
     let here = line (Hence l (Some c) rest) (Hence l (Some c) rest) sc given goal in
     let one = one_certified before here (first_of (is_certified before) here (lines before rest rest sc (joined given l) goal) s.certified).0 in
-    let good = (both (is_well_formed l) (has_good_literals (erased rest)) s.ready.good).0 in
+    let good = (and_parts (is_well_formed l) (has_good_literals (erased rest)) s.ready.good).0 in
     let written : list_all is_good_cert (c ∷ []) ≡ true = rw (hence_written l (Some c) rest s.written).1 refl in
     let certs = short_certs ns (l ∷ []) (c ∷ []) s.ready.order (good_certs ns given (l ∷ []) (c ∷ []) one.certs written) in
     (short_hence ns l s.ready.order good, short_append (certs_lines ns (c ∷ [])) (script_lines known ns rest) certs more)
@@ -129,8 +128,8 @@ make_short known d i form names certs rest given goal s more =
     let n = i.facts + length (gives form sc) in
     let here = line (Make form names certs rest) (Make form names certs rest) sc given goal in
     let one = one_certified before here (first_of (is_certified before) here (lines before rest rest (grown sc (made form)) (joined_all given (gives form sc)) goal) s.certified).0 in
-    let most = leb-true _ _ (both (leb n most_facts) (few_facts before n (grown sc (made form)) (erased rest)) r.facts).0 in
-    let words = list_names names (both (list_all _ names) (is_plain (erased rest)) r.plain).0 in
+    let most = leb-true _ _ (and_parts (leb n most_facts) (few_facts before n (grown sc (made form)) (erased rest)) r.facts).0 in
+    let words = list_names names (and_parts (list_all _ names) (is_plain (erased rest)) r.plain).0 in
     let own = short_certs ns (needs form) certs r.order (good_certs ns given (needs form) certs one.certs (make_written form names certs rest s.written).0) in
     (short_let ns form names r.order words (omega (arith, most, avoided_give form sc)), short_append (certs_lines ns certs) (script_lines known (named ns (made form) names) rest) own more)
 
@@ -147,11 +146,11 @@ apply_short known d i theorem args names certs rest given goal k s more =
     let p = apply_parts known d i theorem args names (erased rest) given goal r in
     let here = line (Apply theorem args names certs rest) (Apply theorem args names certs rest) sc given goal in
     let one = one_certified before here (first_of (is_certified before) here (lines before rest rest (grown sc t.made) (joined_all given (gives_of_use t (written_args args) sc)) goal) s.certified).0 in
-    let choice = (both _ (is_choice t sc args (written_args args)) one.fitting).1 in
-    let fit = both (fills args (written_args args)) (are_arguments t sc (written_args args)) choice in
+    let choice = (and_parts _ (is_choice t sc args (written_args args)) one.fitting).1 in
+    let fit = and_parts (fills args (written_args args)) (are_arguments t sc (written_args args)) choice in
     let count = of_sorts_length sc t.declared (written_args args) fit.1 in
     let few = few_at known theorem k in
-    let title = (both (is_title (title_at known theorem)) _ (both (is_named_by_title known theorem) (names_theorems known (erased rest)) r.theorems).0).0 in
+    let title = (and_parts (is_title (title_at known theorem)) _ (and_parts (is_named_by_title known theorem) (names_theorems known (erased rest)) r.theorems).0).0 in
     let wanted = needs_of_use t (written_args args) sc in
     let own = short_certs ns wanted certs r.order (good_certs ns given wanted certs one.certs (apply_written theorem args names certs rest s.written).0) in (
       short_apply known ns theorem args names r.order title p.named (omega (arith, as_many args (written_args args) fit.0, count, few.declared)) (omega (arith, r.new_names.1, few.made)),

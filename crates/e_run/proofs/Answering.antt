@@ -5,7 +5,7 @@ use Rattle.e_run.specs.declared.status.Status.TheVariants as status
 use Rattle.std.specs.Prelude.{Contains, Bool, true, false, MatchBool}
 use Rattle.e_literal.specs.declared.object.Term.{Term}
 use Rattle.e_literal.specs.declared.literal.Lit.{Lit}
-use Rattle.e_clause.specs.Wide.{IsWideLit, IsTooWideLit}
+use Rattle.e_clause.specs.Wide.{IsTooWideLit}
 use Rattle.e_deriv.specs.declared.stop.Wanted.{Wanted}
 use Rattle.e_deriv.specs.declared.stop.Wanted.TheVariants.{Literal, Match, Contradiction as AContradiction}
 use Rattle.e_deriv.specs.declared.names.Names.{Names}
@@ -13,9 +13,7 @@ use Rattle.e_deriv.specs.Script.{Script, Cite, Hence, Make, Apply, Claim, Superp
 use Rattle.e_deriv.specs.Lines.{Line, theorem_at}
 use Rattle.e_deriv.specs.Parts.{has_no_blank}
 use Rattle.e_deriv.specs.Steps.{needs_as_written}
-use Rattle.e_theorem.specs.WideChoice.{SomeChoiceIsWide, SomeChoiceIsTooWide}
-use Rattle.e_literal.specs.declared.object.Obj.{Obj}
-use Rattle.e_literal.specs.declared.object.Scope.{Scope}
+use Rattle.e_theorem.specs.WideChoice.{SomeChoiceIsWide}
 use Rattle.e_literal.specs.Use.{Stated}
 use Rattle.e_deriv.specs.Refused.{SomeIsWide, IsWideAt, IsTooWide}
 use Rattle.e_book.specs.Headed.{Headed, stated_by}
@@ -26,6 +24,7 @@ use Rattle.e_run.specs.Answers.{Checks, ChecksBook, EndsSo, Refuses, Widens, IsA
 use Rattle.e_run.specs.Endings.{Closes}
 use Rattle.e_run.specs.LastLines.{usage_line}
 use Rattle.e_run.proofs.OneOutcome.{outcome_is_one}
+use Rattle.e_prove.proofs.Answering.{wide_choice, wide_lit}
 
 answered_at : (lines : Rest) (end other : End) (answer : Status) → other ≡ end → IsAnswer lines other answer → IsAnswer lines end answer
 answered_at lines end other answer e h = subst (λ (x : End). IsAnswer lines x answer) e h
@@ -47,18 +46,8 @@ pub stops_so : (lines : Rest) (known : List Headed) (rest : Rest) (title : List 
     → Refuses lines title step wanted values names known rest → EndsSo lines (ends.Unlicensed title step wanted names) known rest
 stops_so lines known rest title step wanted values names r = (r.0, r.1, r.2, stop_of_refusal known r.0 title step wanted values names r.3)
 
--- a literal that is too wide is wide
-wide_lit : (scope : Scope) (facts : List Lit) (l : Lit) (w : ℕ) → IsTooWideLit scope facts l w → IsWideLit scope facts l
-wide_lit scope facts l w h =
-    record { not_plain = h.not_plain; rows = h.rows; is_system = h.is_system; is_wide = h.has_width.is_wide }
-
 some_wide : (before : List Stated) (x : Line) (l : Lit) (w : ℕ) → Contains (needs_as_written before x) l × IsTooWideLit x.scope x.facts l w → SomeIsWide before x
 some_wide before x l w h = record { lit = l; is_one = h.0; is_wide = wide_lit x.scope x.facts l w h.1 }
-
-some_choice_wide : (t : Stated) (scope : Scope) (facts : List Lit) (pattern : List (Option Obj)) (w : ℕ)
-    → SomeChoiceIsTooWide t scope facts pattern w → SomeChoiceIsWide t scope facts pattern
-some_choice_wide t scope facts pattern w h =
-    record { args = h.args; is_choice = h.is_choice; not_above = h.not_above; lit = h.lit; is_given = h.is_given; is_wide = wide_lit scope facts h.lit w h.is_wide }
 
 written_wide : (b : Bool) (A B : Type 0) → b ≡ true → A → MatchBool b A B
 written_wide true A B e h = h
@@ -78,7 +67,7 @@ wide_line before x (Apply theorem pattern names certs rest) (Literal l) w h =
     written_wide (has_no_blank pattern) (SomeIsWide before x) (SomeChoiceIsWide (theorem_at before theorem) x.scope x.facts pattern) h.0 (some_wide before x l w (h.1, h.2))
 wide_line before x (Apply theorem pattern names certs rest) Match w h =
     blank_wide (has_no_blank pattern) (SomeIsWide before x) (SomeChoiceIsWide (theorem_at before theorem) x.scope x.facts pattern) h.0
-    (some_choice_wide (theorem_at before theorem) x.scope x.facts pattern w h.1)
+    (wide_choice (theorem_at before theorem) x.scope x.facts pattern w h.1)
 wide_line before x (Cite by rest) (Literal l) w h = some_wide before x l w h
 wide_line before x (Hence lit cert rest) (Literal l) w h = some_wide before x l w h
 wide_line before x (Make form names certs rest) (Literal l) w h = some_wide before x l w h

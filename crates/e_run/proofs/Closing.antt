@@ -3,6 +3,7 @@ use Rattle.std.proofs.Common.{◌≡◌, inl, inr, ℕ, ◌+◌, List, [], ◌++
 use Rattle.std.proofs.lemmas.List.{take-append-le}
 use Rattle.std.proofs.Math.Seq.{take-append-add}
 use Rattle.e_io.specs.Bytes.{Grew, GrewByFront}
+use Rattle.e_io.proofs.Growth.{grown, grown-nothing}
 use Rattle.e_deriv.specs.declared.stop.Stop.TheVariants as stops
 use Rattle.e_run.specs.declared.status.Status.{Status}
 use Rattle.e_run.specs.declared.status.Status.TheVariants as status
@@ -17,7 +18,7 @@ use Rattle.e_run.specs.Answers.{Derived, blocks_of, written_with, Ended, EndsSo,
 use Rattle.e_run.specs.Input.{IsTextOf}
 use Rattle.e_run.specs.Endings.{EndsWith, BreaksOff, BreaksInside, EndingIs, Closes, last_lines, answer_of}
 use Rattle.e_run.proofs.VerifiedText.{verified_text}
-use Rattle.e_run.proofs.History.{grew_more, grew_none, begins, breaks_off}
+use Rattle.e_run.proofs.History.{begins, breaks_off}
 
 -- whatever an answer is, where its bytes were written it is right
 pub checks_all : (lines : Rest) (old new : Option (List ℕ)) (answer : Status) → WroteAll lines old new answer → Checks lines old new answer
@@ -38,7 +39,7 @@ checks_all lines old new status.NoMemory w = w
 
 -- the head line, the blocks and the last lines, one after another
 pub grew_all : (old s0 s1 s2 : Option (List ℕ)) (ds : List Derived) (last : List ℕ) → Grew old s0 head_line → Grew s0 s1 (blocks_of [] ds) → Grew s1 s2 last → Grew old s2 (written_with ds last)
-grew_all old s0 s1 s2 ds last h b l = grew_more old s0 s2 head_line (blocks_of [] ds ++ last) h (grew_more s0 s1 s2 (blocks_of [] ds) last b l)
+grew_all old s0 s1 s2 ds last h b l = grown old s0 s2 head_line (blocks_of [] ds ++ last) h (grown s0 s1 s2 (blocks_of [] ds) last b l)
 
 -- a front of the last lines, behind all that came before
 grew_front : (old s0 s1 s2 : Option (List ℕ)) (ds : List Derived) (last : List ℕ) → Grew old s0 head_line → Grew s0 s1 (blocks_of [] ds) → GrewByFront s1 s2 last
@@ -49,7 +50,7 @@ grew_front old s0 s1 s2 ds last h b l =
       length head_line + (length blocks + n),
       subst (λ (x : List ℕ). Grew old s2 x)
           (sym (take-append-add head_line (blocks ++ last) (length blocks + n) ∙ ap (λ (x : List ℕ). head_line ++ x) (take-append-add blocks last n)))
-          (grew_more old s0 s2 head_line (blocks ++ take n last) h (grew_more s0 s1 s2 blocks (take n last) b l.2)),
+          (grown old s0 s2 head_line (blocks ++ take n last) h (grown s0 s1 s2 blocks (take n last) b l.2)),
     )
 
 -- the answer is right, by what its bytes are
@@ -116,7 +117,7 @@ closed_inside lines old s0 s1 h e =
       count = length head_line + e.count;
       grew = subst (λ (x : List ℕ). Grew old s1 x)
           (sym (take-append-add head_line (blocks ++ no_memory_line) e.count ∙ ap (λ (x : List ℕ). head_line ++ x) (take-append-le e.count blocks no_memory_line e.short)))
-          (grew_more old s0 s1 head_line (take e.count blocks) h e.grew);
+          (grown old s0 s1 head_line (take e.count blocks) h e.grew);
     }
 
 -- before any theorem is read
@@ -146,7 +147,7 @@ pub closed_read : (lines : Rest) (old s0 s1 : Option (List ℕ)) (result : Statu
     → Grew old s0 head_line → Closes s0 s1 read_fault_line status.ReadFault result → Checks lines old s1 result
 closed_read lines old s0 s1 result h c =
     closed lines old s0 s0 s1 [] read_fault_line status.ReadFault result
-    (record { derived = []; sound = tt; front = record { known = []; rest = lines; begins = (refl, refl) }; bytes = refl }) h (grew_none s0) c
+    (record { derived = []; sound = tt; front = record { known = []; rest = lines; begins = (refl, refl) }; bytes = refl }) h (grown-nothing s0) c
 
 -- memory gave out before the source's end
 pub closed_unread : (lines : Rest) (old s0 s1 : Option (List ℕ)) (result : Status)

@@ -3,18 +3,15 @@ use Rattle.std.proofs.Common.{◌≡◌, ℕ, ◌+◌, ◌-◌, ◌≤◌, List,
 use Rattle.std.proofs.lemmas.List.{append-nil}
 use Rattle.std.proofs.Math.Seq.{take-append-add}
 use Rattle.e_io.specs.Bytes.{Grew, GrewByFront}
+use Rattle.e_io.proofs.Growth.{grown, grown-nothing}
 use Rattle.e_theorem.specs.Statements.{stated}
 use Rattle.e_book.specs.Headed.{Headed, stated_by}
 use Rattle.e_book.specs.Entry.{Entry}
 use Rattle.e_book.specs.Book.{read_from}
 use Rattle.e_deriv.specs.Script.{size}
 use Rattle.e_deriv.specs.Naming.{names_lines, declared_names}
-use Rattle.std.specs.Prelude.{slice_get, IsTrue, true, ◌&&◌}
-use Rattle.std.specs.List.{list_all}
-use Rattle.std.proofs.lemmas.List.Folds.{list_all-append}
-use Rattle.std.proofs.lemmas.Bool.{and_from}
+use Rattle.std.specs.Prelude.{slice_get}
 use Rattle.e_literal.specs.Use.{Stated}
-use Rattle.e_deriv.specs.Fitting.{is_small_statement}
 use Rattle.e_run.specs.Outcome.{Rest, with_theorem, IsLicensed, Takes, Begins, number_behind, IsFront}
 use Rattle.e_run.specs.Outcome as ends
 use Rattle.e_run.specs.Answers.{Derived, IsDerived, AllDerived, EndsSo, Refuses, Widens, theorems_of, steps_of, block_of, blocks_of}
@@ -51,14 +48,6 @@ takes_more last known lines [] now rest t after r h l = (
 takes_more last known lines (u ∷ us) now rest t after r h l =
     (r.0, r.1, r.2, takes_more last (with_theorem known u) r.0 us now rest t after r.3 h l)
 
-pub grew_more : (a b c : Option (List ℕ)) (xs ys : List ℕ) → Grew a b xs → Grew b c ys → Grew a c (xs ++ ys)
-grew_more None b c xs ys p q = subst (λ (x : Option (List ℕ)). Grew x c ys) p q
-grew_more (Some old) b c xs ys p q = let r = subst (λ (x : Option (List ℕ)). Grew x c ys) p q in r ∙ ap (λ (l : List ℕ). Some l) (append_assoc old xs ys)
-
-pub grew_none : (a : Option (List ℕ)) → Grew a a []
-grew_none None = refl
-grew_none (Some old) = ap (λ (l : List ℕ). Some l) (sym (append-nil old))
-
 -- one more derivation, by what is known behind the others
 all_more : (last : ℕ) (known : List Headed) (lines : Rest) (ds : List Derived) (now : List Headed) (rest : Rest) (d : Derived)
     → Takes last known lines (theorems_of ds) now rest → AllDerived known ds → IsDerived now d → AllDerived known (ds ++ d ∷ [])
@@ -86,7 +75,7 @@ licensed : (known : List Headed) (d : Derived) → IsDerived known d → IsLicen
 licensed known d h = record { filled = d.derivation; licensed = h.least }
 
 pub begins : (lines : Rest) (old : Option (List ℕ)) → History lines old [] lines old 0
-begins lines old = record { derived = []; sound = tt; begins = (refl, refl); grew = grew_none old; steps_are = refl }
+begins lines old = record { derived = []; sound = tt; begins = (refl, refl); grew = grown-nothing old; steps_are = refl }
 
 begins_more : (lines : Rest) (ds : List Derived) (known : List Headed) (rest after : Rest) (d : Derived)
     → Begins lines (theorems_of ds) known rest → read_from known (number_behind lines) None rest ≡ Ok (Some (d.theorem, after)) → IsDerived known d
@@ -105,7 +94,7 @@ goes_on lines old new newer known rest after steps d h read k w =
       derived = h.derived ++ d ∷ [];
       sound = all_more last [] lines h.derived known rest d h.begins h.sound k;
       begins = begins_more lines h.derived known rest after d h.begins read k;
-      grew = subst (λ (b : List ℕ). Grew old newer b) (sym (blocks_more last [] lines h.derived known rest d h.begins)) (grew_more old new newer (blocks_of [] h.derived) (block_of known d) h.grew w);
+      grew = subst (λ (b : List ℕ). Grew old newer b) (sym (blocks_more last [] lines h.derived known rest d h.begins)) (grown old new newer (blocks_of [] h.derived) (block_of known d) h.grew w);
       steps_are = omega (arith, h.steps_are, steps_more h.derived d);
     }
 
@@ -127,7 +116,7 @@ breaks_off lines old new known rest steps h =
 
 front_more : (a b c : Option (List ℕ)) (xs ys : List ℕ) → Grew a b xs → GrewByFront b c ys → (n : ℕ) × (n ≤ length (xs ++ ys)) × Grew a c (take n (xs ++ ys))
 front_more a b c xs ys p q =
-    (length xs + q.0, omega (arith, length-append xs ys, q.1), subst (λ (l : List ℕ). Grew a c l) (sym (take-append-add xs ys q.0)) (grew_more a b c xs (take q.0 ys) p q.2))
+    (length xs + q.0, omega (arith, length-append xs ys, q.1), subst (λ (l : List ℕ). Grew a c l) (sym (take-append-add xs ys q.0)) (grown a b c xs (take q.0 ys) p q.2))
 
 -- a front of the block of the next theorem was written
 pub breaks_inside : (lines : Rest) (old new newer : Option (List ℕ)) (known : List Headed) (rest after : Rest) (steps : ℕ) (d : Derived)
@@ -150,12 +139,6 @@ breaks_inside lines old new newer known rest after steps d h read k w =
 stated_more : (known : List Headed) (t : Entry) → stated_by (with_theorem known t) ≡ stated_by known ++ stated t.statement ∷ []
 stated_more [] t = refl
 stated_more (k ∷ ks) t = ap (λ (l : List Stated). stated k.statement ∷ l) (stated_more ks t)
-
-pub small_more : (known : List Headed) (t : Entry) → IsTrue (list_all is_small_statement (stated_by known)) → IsTrue (is_small_statement (stated t.statement))
-    → IsTrue (list_all is_small_statement (stated_by (with_theorem known t)))
-small_more known t h s =
-    ap (list_all is_small_statement) (stated_more known t) ∙ list_all-append is_small_statement (stated_by known) (stated t.statement ∷ [])
-    ∙ and_from (list_all is_small_statement (stated_by known)) (is_small_statement (stated t.statement) && true) h (and_from (is_small_statement (stated t.statement)) true s refl)
 
 -- what the grammar gives, where the number behind the last line is that of all lines
 pub at_last : (known : List Headed) (a b : ℕ) (lines : Rest) (e : Result (Option (Entry × Rest)) BookFault) → a ≡ b → read_from known a None lines ≡ e → read_from known b None lines ≡ e

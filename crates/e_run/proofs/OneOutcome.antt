@@ -11,6 +11,7 @@ use Rattle.e_book.specs.Headed.{Headed, stated_by}
 use Rattle.e_book.specs.Entry.{Entry}
 use Rattle.e_book.specs.Book.{read_from}
 use Rattle.e_run.specs.Outcome.{Rest, with_theorem, IsLicensed, Takes, End, Accepted, Unlicensed, Faulty, StopsAt, Ends, IsOutcome, number_behind}
+use Rattle.e_run.proofs.WholeBook.{same_found}
 
 -- what reading gives
 abbrev Answer : Type 0
@@ -27,9 +28,6 @@ faulty f = Err f
 
 abbrev pair : Entry → Rest → Entry × Rest
 pair t rest = (t, rest)
-
-same_found : (t u : Entry) (xs ys : Rest) → found t xs ≡ found u ys → pair t xs ≡ pair u ys
-same_found t u xs ys e = cc
 
 found_not_none : (t : Entry) (xs : Rest) → found t xs ≡ none_left → ⊥
 found_not_none t xs e = cc

@@ -1,5 +1,5 @@
 -- A book that is accepted has no line with a fault, and so no byte past its limit.
-use Rattle.std.proofs.Common.{◌≡◌, ℕ, zero, suc, ◌+◌, ◌<◌, ◌≤◌, Bool, true, false, cond, ltb, List, [], ◌∷◌, length, take, drop, inl, inr, Option, Some, None, Result, Ok, Err, refl, sym, ap, subst, arith, length-drop, length-take-le}
+use Rattle.std.proofs.Common.{◌≡◌, ℕ, zero, suc, ◌+◌, ◌<◌, ◌≤◌, Bool, true, false, cond, ltb, List, [], ◌∷◌, length, take, drop, inl, inr, Option, Some, None, Result, Ok, Err, sym, ap, subst, arith, length-drop, length-take-le}
 use Rattle.std.specs.List.{position_or_len}
 use Rattle.std.proofs.lemmas.Bool.{lt-ltb, cases_lt}
 use Rattle.e_text.specs.declared.line.LineEnd.{LineEnd}
@@ -15,6 +15,7 @@ use Rattle.e_book.specs.Reading.{◌>>=◌}
 use Rattle.e_book.specs.Headed.{Headed}
 use Rattle.e_book.specs.Entry.{Entry, entry_of_draft}
 use Rattle.e_book.specs.Book.{read_from, at_end, is_skipped, is_done, line_step, put_at}
+use Rattle.e_book.proofs.InScope.{bind_ok}
 use Rattle.e_run.specs.Outcome.{Rest, with_theorem, Takes, Accepted, IsOutcome, lines_of_book}
 use Rattle.e_run.specs.declared.status.Status.{Status}
 use Rattle.e_run.specs.declared.status.Status.TheVariants as status
@@ -32,12 +33,8 @@ none_left = Ok None
 abbrev pair : Entry → Rest → Entry × Rest
 pair t rest = (t, rest)
 
-same_found : (t u : Entry) (xs ys : Rest) → found t xs ≡ found u ys → pair t xs ≡ pair u ys
+pub same_found : (t u : Entry) (xs ys : Rest) → found t xs ≡ found u ys → pair t xs ≡ pair u ys
 same_found t u xs ys e = cc
-
-bind_ok : {F A B : Type 0} (r : Result A F) (f : A → Result B F) (y : B) → (r >>= f) ≡ Ok y → (x : A) × (r ≡ Ok x) × (f x ≡ Ok y)
-bind_ok (Ok x) f y e = (x, refl, e)
-bind_ok (Err d) f y e = absurd cc
 
 at_end_found : (last : ℕ) (s : Option Draft) (t : Entry) (rest : Rest) → at_end last s ≡ found t rest → ⊥
 at_end_found last None t rest e = cc

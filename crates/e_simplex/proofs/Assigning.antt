@@ -1,7 +1,7 @@
 -- Values of terms and values of columns: which satisfy rows, and which lines.
 use Rattle.std.proofs.Common.{◌≡◌, ◌≢◌, ℕ, zero, suc, ◌+◌, ◌<◌, List, [], ◌∷◌, ◌++◌, refl, ap, ap₂, arith, sym, ◌∙◌, subst, length, get_or, cond, Bool, true, false, true≢false, ◌⊎◌, inl, inr}
 use Rattle.std.specs.Prelude.{map, unsigned_abs}
-use Rattle.std.proofs.lemmas.Bool.{cases_lt}
+use Rattle.std.proofs.lemmas.Bool.{cases_lt, cases_Bool}
 use Rattle.std.proofs.lemmas.List.{get_or_push, get_or_append_left, length_push}
 use lib.IntN.{ℤ, pos, negsuc, ◌+ℤ◌, ◌*ℤ◌}
 use lib.Signed.{◌≤ℤ◌, ◌<ℤ◌}
@@ -20,7 +20,6 @@ use Rattle.e_simplex.specs.Paired.{PairedTo}
 use Rattle.e_simplex.specs.Apart.{AreApart, IsNeither}
 use Rattle.e_simplex.specs.Tried.{negative_line}
 use Rattle.e_literal.proofs.Arith.{sums}
-use Rattle.e_literal.proofs.Terms.{yes_or_no}
 use Rattle.e_simplex.proofs.Negatives.{negated_value, negative_within}
 use Rattle.e_simplex.proofs.NamedLines.{kept_not, within_lines, more_lines}
 use Rattle.e_simplex.proofs.Deciding.{forms_push}
@@ -45,7 +44,7 @@ assigned_at : (ts : List Term) (pairs : List (Term × ℕ)) (f : ℕ → ℕ) (t
     → IsIn ts t → assigned pairs t ≡ f (place_of ts t)
 assigned_at [] pairs f t n a b h = absurd (omega (arith, h))
 assigned_at (x ∷ xs) [] f t n a b h = absurd (omega (arith, n))
-assigned_at (x ∷ xs) (p ∷ ps) f t n a b h = elim (yes_or_no (term_eq t x)) [
+assigned_at (x ∷ xs) (p ∷ ps) f t n a b h = elim (cases_Bool (term_eq t x)) [
   | inl e ↦ ap (λ k. cond k p.1 (assigned ps t)) (ap (term_eq t) (a 0 (omega arith)) ∙ e) ∙ b 0 (omega arith) ∙ sym (ap (λ k. f (cond k 0 (suc (place_of xs t)))) e)
   | inr m ↦ ap (λ k. cond k p.1 (assigned ps t)) (ap (term_eq t) (a 0 (omega arith)) ∙ m)
       ∙ assigned_at xs ps (λ c. f (suc c)) t (omega (arith, n)) (λ c l. a (suc c) (omega (arith, l))) (λ c l. b (suc c) (omega (arith, l)))

@@ -1,8 +1,7 @@
 -- Lines of rows over terms: what they have in each column, and their values.
-use Rattle.std.proofs.Common.{◌≡◌, ◌≢◌, ℕ, zero, suc, ◌+◌, ◌<◌, ◌≤◌, ◌^◌, List, [], ◌∷◌, refl, ap, ap₂, arith, sym, ◌∙◌, subst, length, get_or, cond, Bool, true, false, true≢false, inl, inr}
+use Rattle.std.proofs.Common.{◌≡◌, ◌≢◌, ℕ, zero, suc, ◌+◌, ◌<◌, ◌≤◌, ◌^◌, List, [], ◌∷◌, refl, ap, ap₂, arith, sym, ◌∙◌, subst, length, get_or, cond, Bool, true, false, true≢false, inl, inr, leb-true}
 use Rattle.std.specs.Prelude.{unsigned_abs, neg_ℤ, nat_le}
-use Rattle.std.proofs.lemmas.Bool.{cases_lt}
-use Rattle.std.proofs.lemmas.Bool.Decides.{nat_tests}
+use Rattle.std.proofs.lemmas.Bool.{cases_lt, cases_Bool}
 use lib.IntN.{ℤ, pos, ◌+ℤ◌, ◌*ℤ◌, *ℤ-zero, *ℤ_comm}
 use Rattle.e_literal.specs.declared.object.Term.{Term}
 use Rattle.e_literal.specs.declared.object.Term.TheVariants.{Right}
@@ -26,7 +25,8 @@ use Rattle.std.proofs.lemmas.List.{length_push}
 use Rattle.e_simplex.specs.Naming.{place_of, IsIn, AreOnce, FormNamed, AllNamed, named_form, named_line, named_lines, kind_of, keeps, have_short_forms}
 use Rattle.e_literal.proofs.Arith.{sums, one_mul}
 use Rattle.e_fraction.proofs.Minors.{unit-same, unit-other}
-use Rattle.e_literal.proofs.Terms.{term_eq_is, equal_terms, yes_or_no, and_left, and_right}
+use Rattle.e_literal.proofs.Terms.{term_eq_is, equal_terms}
+use Rattle.e_literal.proofs.Booleans.{and_left, and_right}
 use Rattle.e_fraction.proofs.Sums.{small_coefficient}
 use Rattle.e_fraction.proofs.Numbering.{column}
 use Rattle.e_simplex.proofs.Places.{term_at}
@@ -34,7 +34,7 @@ use Rattle.e_simplex.proofs.Places.{term_at}
 -- ---- columns
 
 unit_term : (ts : List Term) (t : Term) (c : ℕ) → AreOnce ts → IsIn ts t → c < length ts → unit (suc (place_of ts t)) (suc c) ≡ cond (term_eq t (get_or ts c Right)) (pos 1) (pos 0)
-unit_term ts t c o h l = elim (yes_or_no (term_eq t (get_or ts c Right))) [
+unit_term ts t c o h l = elim (cases_Bool (term_eq t (get_or ts c Right))) [
   | inl e ↦ ap (λ n. unit (suc n) (suc c)) (ap (place_of ts) (term_eq_is t (get_or ts c Right) e) ∙ o c l) ∙ unit-same (suc c) ∙ sym (ap (λ b. cond b (pos 1) (pos 0)) e)
   | inr n ↦ unit-other (suc (place_of ts t)) (suc c)
       (λ q. true≢false (sym (equal_terms t (get_or ts c Right) (sym (term_at ts t h) ∙ ap (λ i. get_or ts i Right) (omega (arith, q)))) ∙ n))
@@ -66,7 +66,7 @@ form_past ts form c l h = form_nothing ts form (suc c) (λ t i q. omega (arith, 
 -- a coefficient of a term that is in no column is 0
 pub absent_term : (ts : List Term) (form : Summands) (t : Term) → FormNamed ts form → length ts ≤ place_of ts t → coefficient form t ≡ pos 0
 absent_term ts [] t h l = refl
-absent_term ts (p ∷ ps) t h l = elim (yes_or_no (term_eq p.1 t)) [
+absent_term ts (p ∷ ps) t h l = elim (cases_Bool (term_eq p.1 t)) [
   | inl e ↦ absurd (omega (arith, h.0, ap (place_of ts) (term_eq_is p.1 t e), l))
   | inr n ↦ omega (arith, sums, ap (λ b. cond b p.0 (pos 0)) n, absent_term ts ps t h.1 l)
 ]
@@ -77,13 +77,10 @@ length-named : (ts : List Term) (form : Summands) → length (named_form ts form
 length-named ts [] = refl
 length-named ts (p ∷ ps) = ap suc (length-named ts ps)
 
-le_of : (a b : ℕ) → nat_le a b ≡ true → a ≤ b
-le_of a b h = grind (arith, nat_tests)
-
 small_named : (ts : List Term) (form : Summands) (k : ℕ) (d : Monomial) → has_small_coefficients form ≡ true → k < length (named_form ts form)
     → unsigned_abs (get_or (named_form ts form) k d).coefficient ≤ 2 ^ 30
 small_named ts [] k d h l = absurd (omega (arith, l))
-small_named ts (p ∷ ps) zero d h l = le_of (unsigned_abs p.0) (2 ^ 30) (and_left (nat_le (unsigned_abs p.0) (2 ^ 30)) (has_small_coefficients ps) h)
+small_named ts (p ∷ ps) zero d h l = leb-true (unsigned_abs p.0) (2 ^ 30) (and_left (nat_le (unsigned_abs p.0) (2 ^ 30)) (has_small_coefficients ps) h)
 small_named ts (p ∷ ps) (suc k) d h l =
     small_named ts ps k d (and_right (nat_le (unsigned_abs p.0) (2 ^ 30)) (has_small_coefficients ps) h) (omega (arith, l))
 
@@ -202,5 +199,5 @@ small_like l m e h = record {
 
 pub short_row : (rows : List GivenRow) (i : ℕ) (d : GivenRow) → i < length rows → have_short_forms rows ≡ true → length (get_or rows i d).form ≤ 2 ^ 32
 short_row [] i d l h = absurd (omega (arith, l))
-short_row (r ∷ rs) zero d l h = le_of (length r.form) (2 ^ 32) (and_left (nat_le (length r.form) (2 ^ 32)) (have_short_forms rs) h)
+short_row (r ∷ rs) zero d l h = leb-true (length r.form) (2 ^ 32) (and_left (nat_le (length r.form) (2 ^ 32)) (have_short_forms rs) h)
 short_row (r ∷ rs) (suc i) d l h = short_row rs i d (omega (arith, l)) (and_right (nat_le (length r.form) (2 ^ 32)) (have_short_forms rs) h)

@@ -3,7 +3,6 @@ use Rattle.std.proofs.Common.{◌≡◌, ℕ, zero, suc, ◌+◌, ◌^◌, ◌<�
 use Rattle.std.specs.Prelude.{unsigned_abs}
 use Rattle.std.proofs.lemmas.List.{take_more, get_or_append_left, get_or_push, length_push}
 use lib.IntN.{ℤ, pos, neg_ℤ}
-use borrow.Author.Differences.{abs_is}
 use Rattle.e_simplex.specs.declared.lines.Monomial.{Monomial}
 use Rattle.e_simplex.specs.declared.lines.Line.{Line}
 use Rattle.e_simplex.specs.declared.lines.Kind.{Kind}
@@ -14,7 +13,7 @@ use Rattle.e_simplex.specs.Entries.{AllSmall}
 use Rattle.e_simplex.specs.Lines.{form_at, form_value, FormWithin, IsSmallLine, AllSmallLines, AllFormsWithin, IsSolution, LineHolds}
 use Rattle.e_simplex.specs.Solved.{IsSolved, IsFit, columns_of, lines_of, AreBelow, WideFurther}
 use Rattle.e_simplex.specs.Tried.{negated, negative_line, IsFound}
-use Rattle.e_literal.proofs.Arith.{sums, neg_mul}
+use Rattle.e_literal.proofs.Arith.{sums, neg_mul, size_negative}
 use Rattle.e_simplex.proofs.Deciding.{forms_push}
 
 negated_push : (xs : List Monomial) (x : Monomial) → negated (xs ++ x ∷ []) ≡ negated xs ++ record { coefficient = neg_ℤ x.coefficient; column = x.column } ∷ []
@@ -47,15 +46,12 @@ pub negated_at : (xs : List Monomial) (c : ℕ) → form_at (negated xs) c ≡ n
 negated_at [] c = refl
 negated_at (x ∷ xs) c = omega (arith, sums, neg_mul x.coefficient (unit x.column c), negated_at xs c)
 
-size_turned : (a : ℤ) → unsigned_abs (neg_ℤ a) ≡ unsigned_abs a
-size_turned a = omega (arith, sums, abs_is a, abs_is (neg_ℤ a))
-
 pub negative_small : (l : Line) → IsSmallLine l → IsSmallLine (negative_line l)
 negative_small l h = record {
   small = λ k d m. (let n : k < length l.form = omega (arith, m, length-negated l.form) in
-      omega (arith, ap (λ x. unsigned_abs x.coefficient) (get_or-negated l.form k d n), size_turned (get_or l.form k d).coefficient, h.small k d n));
+      omega (arith, ap (λ x. unsigned_abs x.coefficient) (get_or-negated l.form k d n), size_negative (get_or l.form k d).coefficient, h.small k d n));
   short = omega (arith, length-negated l.form, h.short);
-  sums = λ c. omega (arith, ap unsigned_abs (negated_at l.form c), size_turned (form_at l.form c), h.sums c);
+  sums = λ c. omega (arith, ap unsigned_abs (negated_at l.form c), size_negative (form_at l.form c), h.sums c);
 }
 
 pub negative_within : (w : ℕ) (l : Line) → FormWithin w l.form → FormWithin w (negated l.form)
@@ -132,7 +128,7 @@ module _ (w : ℕ) (lines : List Line) (l : Line) (s : Solved) (values : List �
     solution = first_lines w lines l values a2;
     small = b;
     unequal = λ z. omega (arith, sums, z, turned, last_holds w lines l values more a2);
-    below = omega (arith, ap unsigned_abs turned, size_turned (form_value k.form values), last_below lines l values c2);
+    below = omega (arith, ap unsigned_abs turned, size_negative (form_value k.form values), last_below lines l values c2);
     further = inr (subst (λ v. WideFurther w (lines ++ v ∷ []) values) e f2);
   }
     where

@@ -1,7 +1,7 @@
 -- Terms and their columns: places of terms, and lines of one row more.
 use Rattle.std.proofs.Common.{◌≡◌, ◌≢◌, ℕ, zero, suc, ◌+◌, ◌<◌, ◌≤◌, List, [], ◌∷◌, ◌++◌, refl, ap, ap₂, arith, sym, ◌∙◌, subst, length, get_or, take, cond, Bool, true, false, true≢false, inl, inr}
 use Rattle.std.proofs.lemmas.List.{take_more, length_push, get_or_push, get_or_append_left}
-use Rattle.std.proofs.lemmas.Bool.{cases_eq}
+use Rattle.std.proofs.lemmas.Bool.{cases_eq, cases_Bool}
 use lib.IntN.{ℤ}
 use Rattle.e_literal.specs.declared.object.Term.{Term}
 use Rattle.e_literal.specs.declared.object.Term.TheVariants.{Right}
@@ -13,7 +13,7 @@ use Rattle.e_simplex.specs.declared.lines.Monomial.{Monomial}
 use Rattle.e_simplex.specs.declared.lines.Line.{Line}
 use Rattle.e_simplex.specs.declared.lines.Kind.{Kind}
 use Rattle.e_simplex.specs.Naming.{place_of, IsIn, AreOnce, Continues, FormNamed, AllNamed, named_form, named_line, named_lines, kind_of, keeps}
-use Rattle.e_literal.proofs.Terms.{term_eq_is, term_eq_same, equal_terms, yes_or_no}
+use Rattle.e_literal.proofs.Terms.{term_eq_is, term_eq_same, equal_terms}
 
 -- ---- places
 
@@ -25,14 +25,14 @@ place_rest x xs t e = ap (λ b. cond b 0 (suc (place_of xs t))) e
 
 pub place_most : (ts : List Term) (t : Term) → place_of ts t ≤ length ts
 place_most [] t = omega arith
-place_most (x ∷ xs) t = elim (yes_or_no (term_eq t x)) [
+place_most (x ∷ xs) t = elim (cases_Bool (term_eq t x)) [
   | inl e ↦ omega (arith, place_head x xs t e)
   | inr n ↦ omega (arith, place_rest x xs t n, place_most xs t)
 ]
 
 pub term_at : (ts : List Term) (t : Term) → IsIn ts t → get_or ts (place_of ts t) Right ≡ t
 term_at [] t h = absurd (omega (arith, h))
-term_at (x ∷ xs) t h = elim (yes_or_no (term_eq t x)) [
+term_at (x ∷ xs) t h = elim (cases_Bool (term_eq t x)) [
   | inl e ↦ ap (λ n. get_or (x ∷ xs) n Right) (place_head x xs t e) ∙ sym (term_eq_is t x e)
   | inr n ↦ ap (λ m. get_or (x ∷ xs) m Right) (place_rest x xs t n) ∙ term_at xs t (omega (arith, h, place_rest x xs t n))
 ]
@@ -46,7 +46,7 @@ place_at (x ∷ xs) t (suc i) d l h e =
     place_rest x xs t (turned_false x t (h 0 (omega arith))) ∙ ap suc (place_at xs t i d (omega (arith, l)) (λ k m. h (suc k) (omega (arith, m))) e)
   where
     turned_false : (a b : Term) → term_eq a b ≡ false → term_eq b a ≡ false
-    turned_false a b f = elim (yes_or_no (term_eq b a)) [
+    turned_false a b f = elim (cases_Bool (term_eq b a)) [
       | inl y ↦ absurd (true≢false (sym (equal_terms a b (sym (term_eq_is b a y))) ∙ f))
       | inr n ↦ n
     ]
@@ -57,21 +57,21 @@ place_none (x ∷ xs) t d h =
     place_rest x xs t (turned_false x t (h 0 (omega arith))) ∙ ap suc (place_none xs t d (λ k m. h (suc k) (omega (arith, m))))
   where
     turned_false : (a b : Term) → term_eq a b ≡ false → term_eq b a ≡ false
-    turned_false a b f = elim (yes_or_no (term_eq b a)) [
+    turned_false a b f = elim (cases_Bool (term_eq b a)) [
       | inl y ↦ absurd (true≢false (sym (equal_terms a b (sym (term_eq_is b a y))) ∙ f))
       | inr n ↦ n
     ]
 
 place_push : (ts : List Term) (u t : Term) → IsIn ts u → place_of (ts ++ t ∷ []) u ≡ place_of ts u
 place_push [] u t h = absurd (omega (arith, h))
-place_push (x ∷ xs) u t h = elim (yes_or_no (term_eq u x)) [
+place_push (x ∷ xs) u t h = elim (cases_Bool (term_eq u x)) [
   | inl e ↦ place_head x (xs ++ t ∷ []) u e ∙ sym (place_head x xs u e)
   | inr n ↦ place_rest x (xs ++ t ∷ []) u n ∙ ap suc (place_push xs u t (omega (arith, h, place_rest x xs u n))) ∙ sym (place_rest x xs u n)
 ]
 
 place_last : (ts : List Term) (t : Term) → place_of ts t ≡ length ts → place_of (ts ++ t ∷ []) t ≡ length ts
 place_last [] t h = place_head t [] t (term_eq_same t)
-place_last (x ∷ xs) t h = elim (yes_or_no (term_eq t x)) [
+place_last (x ∷ xs) t h = elim (cases_Bool (term_eq t x)) [
   | inl e ↦ absurd (omega (arith, h, place_head x xs t e))
   | inr n ↦ place_rest x (xs ++ t ∷ []) t n ∙ ap suc (place_last xs t (omega (arith, h, place_rest x xs t n)))
 ]

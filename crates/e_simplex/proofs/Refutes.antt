@@ -9,7 +9,7 @@ use Rattle.e_simplex.specs.declared.lines.Kind.{Kind}
 use Rattle.e_simplex.specs.declared.lines.Kind.TheVariants.{Zero, AtLeast, More}
 use Rattle.e_fraction.specs.Tableau.{unit}
 use Rattle.e_simplex.specs.Lines.{form_at, form_value, LineHolds, weighed_at, MayWeigh, IsSolution, IsAbsurd, FormWithin, AllFormsWithin}
-use Rattle.e_literal.proofs.Arith.{sums, one_mul, mul_add, add_mul, mul_assoc, mul-not_negative}
+use Rattle.e_literal.proofs.Arith.{sums, one_mul, mul_add, add_mul, mul_assoc, mul-not_negative, mul-positive}
 use Rattle.e_fraction.proofs.Minors.{unit-same, unit-other}
 
 -- the sum over the first n columns of f times the value
@@ -135,13 +135,6 @@ total-not_negative (l ∷ ls) (m ∷ ms) v a b =
       one_line l.kind m (form_value l.form v) (a 0 l (omega arith)) (b 0 l (omega arith)),
       total-not_negative ls ms v (λ i d n. a (suc i) d (omega (arith, n))) (λ i d n. b (suc i) d (omega (arith, n))),
     )
-
-mul-positive : (a b : ℤ) → pos 0 <ℤ a → pos 0 <ℤ b → pos 0 <ℤ (a *ℤ b)
-mul-positive (pos zero) b h g = absurd (omega (arith, sums, h))
-mul-positive (pos (suc n)) (pos zero) h g = absurd (omega (arith, sums, g))
-mul-positive (pos (suc n)) (pos (suc m)) h g = omega (arith, sums)
-mul-positive (pos (suc n)) (negsuc m) h g = absurd (omega (arith, sums, g))
-mul-positive (negsuc n) b h g = absurd (omega (arith, sums, h))
 
 more_holds : (k : Kind) (z : ℤ) → k ≡ More → LineHolds k z → pos 0 <ℤ z
 more_holds k z e h = subst (λ x. LineHolds x z) e h

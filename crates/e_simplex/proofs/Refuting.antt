@@ -8,7 +8,6 @@ use lib.Signed.{◌≤ℤ◌, ◌<ℤ◌}
 use Rattle.e_literal.specs.declared.object.Term.{Term}
 use Rattle.e_literal.specs.Rows.{Row, Says, Zero, AtLeast, More, Not, Summands, coefficient, negative}
 use Rattle.e_literal.specs.Absurd.{total}
-use Rattle.e_literal.specs.Same.{term_eq}
 use Rattle.e_fraction.specs.declared.row.Row.{Row as GivenRow}
 use Rattle.e_fraction.specs.Views.{seen, all_seen}
 use Rattle.e_simplex.specs.declared.lines.Line.{Line}
@@ -31,6 +30,7 @@ use Rattle.e_simplex.specs.declared.decision.Verdict.{Verdict}
 use Rattle.e_simplex.specs.declared.decision.Verdict.TheVariants.{Absurd, Holds, TooWide}
 use Rattle.e_simplex.specs.Tried.{negated, negative_line}
 use Rattle.e_literal.proofs.Arith.{sums}
+use Rattle.e_literal.proofs.Valued.{coefficient_negative}
 use Rattle.e_fraction.proofs.Minors.{unit-other}
 use Rattle.e_simplex.proofs.Negatives.{negated_at, negative_within}
 use Rattle.e_simplex.proofs.Deciding.{forms_push}
@@ -334,14 +334,6 @@ coefficient_is ts form t o h = elim (cases_lt (place_of ts t) (length ts)) [
   | inr l ↦ absent_term ts form t h l ∙ sym (form_past ts form (place_of ts t) l h)
 ]
 
-negative_coefficient : (form : Summands) (t : Term) → coefficient (negative form) t ≡ neg_ℤ (coefficient form t)
-negative_coefficient [] t = refl
-negative_coefficient (p ∷ ps) t = by (term_eq p.1 t) (negative_coefficient ps t)
-  where
-    by : (b : Bool) → coefficient (negative ps) t ≡ neg_ℤ (coefficient ps t) → cond b (neg_ℤ p.0) (pos 0) +ℤ coefficient (negative ps) t ≡ neg_ℤ (cond b p.0 (pos 0) +ℤ coefficient ps t)
-    by true e = omega (arith, sums, e)
-    by false e = omega (arith, sums, e)
-
 -- what the weights leave in each column
 module _ (ts : List Term) (lines : List Line) (ws : List ℤ) (within : AllFormsWithin (length ts + 1) lines) (h : IsAbsurd (length ts + 1) lines ws) (t : Term) where
   no_positive_at : weighed_at lines ws (suc (place_of ts t)) ≤ℤ pos 0
@@ -436,7 +428,7 @@ module _ (ts : List Term) (rows : List GivenRow) (k : ℕ) (above below : List �
         (subst (λ rs. Refutes rs (spread (all_seen rows) below 0 (suc k) (get_or below n (pos 0)))) (sym (as_less_is rows p k i c))
         (refutes_form ts (all_seen rows) below k some_line (negative_line (get_or (named_lines true ts (all_seen rows)) k some_line)) n negative negated o a h.here (omega (arith, f, below_long)) refl
         refl (negative_within (length ts + 1) (get_or (named_lines true ts (all_seen rows)) k some_line) (within_lines true ts (all_seen rows) a k some_line h.here))
-        (λ t s q. negative_coefficient s t ∙ ap neg_ℤ (coefficient_is ts s t o q) ∙ sym (negated_at (named_form ts s) (suc (place_of ts t)))) (h.below_absurd some_line)));
+        (λ t s q. coefficient_negative s t ∙ ap neg_ℤ (coefficient_is ts s t o q) ∙ sym (negated_at (named_form ts s) (suc (place_of ts t)))) (h.below_absurd some_line)));
   }
 
 -- ---- one answer where there is a solution, and another where there is none

@@ -2,12 +2,12 @@
 use Rattle.std.proofs.Common.{◌≡◌, ℕ, Bool, true, false, List, [], ◌∷◌, ◌++◌, map, refl, sym, ap, ◌∙◌, append_assoc}
 use Rattle.std.specs.Prelude.{Some, if◌then◌else◌}
 use Rattle.std.specs.List.{flat_map}
-use Rattle.e_construct.proofs.Moving.{sorts_same}
 use Rattle.e_text.specs.Tokens.{spaced}
 use Rattle.e_literal.specs.declared.object.Sort.{Sort}
 use Rattle.e_literal.specs.declared.object.Sort.TheVariants.{Point, Line, Circle}
 use Rattle.e_literal.specs.declared.object.Obj.{Obj}
 use Rattle.e_literal.specs.Scopes.{same_sort}
+use Rattle.e_literal.proofs.Sorts.{same_sort_is}
 use Rattle.e_deriv.specs.declared.names.Names.{Names}
 use Rattle.e_book.specs.declared.form.Form.{Form}
 use Rattle.e_book.specs.Canonical.{line_of, name_of_object, Group, group, grouped_before, grouped, declare_form, made_form, text_of}
@@ -42,7 +42,7 @@ before_by : (b : Bool) (role : Role) (u : Sort) (name : List ℕ) (g : Group) (g
     → groups_text role (if b then group g.sort (name ∷ g.names) ∷ gs else group u (name ∷ []) ∷ g ∷ gs)
     ≡ (role_words role u ++ 32 ∷ name) ++ (if b then spaced g.names ++ (10 ∷ groups_text role gs) else 10 ∷ groups_text role (g ∷ gs))
 before_by true role u name g gs e =
-    ap (λ (s : Sort). groups_text role (group s (name ∷ g.names) ∷ gs)) (sym (sorts_same u g.sort e)) ∙ group_of_more (role_words role u) name (spaced g.names) (groups_text role gs)
+    ap (λ (s : Sort). groups_text role (group s (name ∷ g.names) ∷ gs)) (sym (same_sort_is u g.sort e)) ∙ group_of_more (role_words role u) name (spaced g.names) (groups_text role gs)
 before_by false role u name g gs e = group_of_one (role_words role u) name (groups_text role (g ∷ gs))
 
 before : (role : Role) (u : Sort) (name : List ℕ) (gs : List Group) → groups_text role (grouped_before u name gs) ≡ (role_words role u ++ 32 ∷ name) ++ rest_after role u gs
@@ -67,7 +67,7 @@ first_by : (b : Bool) (role : Role) (u : Sort) (name : List ℕ) (g : Group) (gs
 first_by true role u name g gs e = record {
   names = g.names;
   rest = gs;
-  is = rw e (ap (λ (s : Sort). group s (name ∷ g.names) ∷ gs) (sym (sorts_same u g.sort e)));
+  is = rw e (ap (λ (s : Sort). group s (name ∷ g.names) ∷ gs) (sym (same_sort_is u g.sort e)));
   behind = rw e refl;
 }
 first_by false role u name g gs e = record { names = []; rest = g ∷ gs; is = rw e refl; behind = rw e refl }

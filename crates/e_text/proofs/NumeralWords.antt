@@ -1,14 +1,16 @@
 -- A number that is printed is read as itself.
-use Rattle.std.proofs.Common.{◌≡◌, ℕ, ◌+◌, ◌-◌, ◌*◌, ◌/◌, ◌%◌, ◌^◌, ◌<◌, ◌≤◌, Bool, true, false, ltb, eqb, not, ◌&&◌, ◌||◌, List, [], ◌∷◌, ◌++◌, length, get_or, Some, refl, ap, ◌∙◌, arith, rules, tests, length-append, inl, inr}
+use Rattle.std.proofs.Common.{◌≡◌, ℕ, ◌+◌, ◌-◌, ◌*◌, ◌/◌, ◌%◌, ◌^◌, ◌<◌, ◌≤◌, true, ltb, eqb, not, ◌||◌, List, [], ◌∷◌, ◌++◌, length, get_or, Some, refl, ap, ◌∙◌, arith, rules, tests, length-append, inl, inr}
 use Rattle.std.specs.Prelude.{decimal}
 use Rattle.std.specs.List.{list_all}
-use Rattle.std.proofs.lemmas.Bool.{lt-ltb, cases_lt}
+use Rattle.std.proofs.lemmas.Bool.{lt-ltb, cases_lt, and_parts}
 use Rattle.std.proofs.lemmas.Fmt.{decimal_by_steps_wide}
 use Rattle.std.proofs.Math.ListN.{get_or-append}
 use Rattle.std.proofs.lemmas.List.Folds.{list_all-append}
+use mathlib.Core.Bool.{or-true}
 use Rattle.e_text.specs.Names.{is_digit}
 use Rattle.e_text.specs.Numerals.{is_numeral, value_from, number_of}
 use Rattle.e_text.specs.Tokens.{is_blank, is_token}
+use Rattle.e_text.proofs.TokenWords.{some_bytes}
 
 digit : (d : ℕ) → d < 10 → is_digit (48 + d) ≡ true
 digit d lt = search (rules, tests)
@@ -49,15 +51,11 @@ digit_more n ds le h =
 spelled : (n : ℕ) → n < 10 ^ 64 → Spells n (decimal n)
 spelled n lt = decimal_by_steps_wide Spells one_digit digit_more n lt
 
-either_true : (a : Bool) → (a || true) ≡ true
-either_true true = refl
-either_true false = refl
-
 numeral_by : (n : ℕ) (ds : List ℕ) → Spells n ds → is_numeral ds ≡ true
 numeral_by n [] h = absurd (omega (arith, h.some))
 numeral_by n (b ∷ bs) h =
     elim (cases_lt 0 n) [
-      | inl lt ↦ let t : ltb 48 b ≡ true = lt-ltb _ _ (h.first lt) in rw (h.digits, t) (either_true (eqb (length bs) 0))
+      | inl lt ↦ let t : ltb 48 b ≡ true = lt-ltb _ _ (h.first lt) in rw (h.digits, t) (or-true (eqb (length bs) 0))
       | inr le ↦ let z : length bs ≡ 0 = omega (arith, h.alone (omega arith)) in rw (h.digits, z) refl
     ]
 
@@ -74,21 +72,14 @@ number_of-decimal n lt =
     let t : ltb n (2 ^ 128) ≡ true = lt-ltb _ _ lt in
     rw (is, value, t) refl
 
-both : (a b : Bool) → (a && b) ≡ true → (a ≡ true) × (b ≡ true)
-both true b e = (refl, e)
-both false b e = absurd cc
-
 digit_is_no_blank : (b : ℕ) → is_digit b ≡ true → not (is_blank b) ≡ true
 digit_is_no_blank b e = search (rules, tests)
 
 digit_bytes : (w : List ℕ) → list_all is_digit w ≡ true → list_all (λ b. not (is_blank b)) w ≡ true
 digit_bytes [] e = refl
-digit_bytes (b ∷ bs) e = let p = both (is_digit b) (list_all is_digit bs) e in rw (digit_is_no_blank b p.0, digit_bytes bs p.1) refl
-
-some_bytes : (b : ℕ) (bs : List ℕ) → list_all (λ b. not (is_blank b)) (b ∷ bs) ≡ true → is_token (b ∷ bs) ≡ true
-some_bytes b bs e = let h : eqb (length (b ∷ bs)) 0 ≡ false = search (rules, tests) in rw (h, e) refl
+digit_bytes (b ∷ bs) e = let p = and_parts (is_digit b) (list_all is_digit bs) e in rw (digit_is_no_blank b p.0, digit_bytes bs p.1) refl
 
 -- no blank cuts a numeral
 pub is_token-numeral : (w : List ℕ) → is_numeral w ≡ true → is_token w ≡ true
 is_token-numeral [] e = absurd cc
-is_token-numeral (b ∷ bs) e = let p = both (list_all is_digit (b ∷ bs)) (eqb (length bs) 0 || ltb 48 b) e in some_bytes b bs (digit_bytes (b ∷ bs) p.0)
+is_token-numeral (b ∷ bs) e = let p = and_parts (list_all is_digit (b ∷ bs)) (eqb (length bs) 0 || ltb 48 b) e in some_bytes b bs (digit_bytes (b ∷ bs) p.0)

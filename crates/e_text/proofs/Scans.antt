@@ -3,20 +3,17 @@ use Rattle.std.proofs.Common.{◌≡◌, ℕ, Bool, true, false, ◌&&◌, List,
 use Rattle.std.specs.List.{fold, list_all, position_or_len}
 use Rattle.std.specs.Option.{unwrap_or}
 use Rattle.std.proofs.lemmas.List.Sums.{position_or_len_is}
+use mathlib.Core.Bool.{and_assoc}
 use Rattle.memchr.specs.Find.{is_byte, IsFirstByte}
 
 and_true : (a : Bool) → a ≡ (a && true)
 and_true true = refl
 and_true false = refl
 
-and_and : (a b c : Bool) → ((a && b) && c) ≡ (a && (b && c))
-and_and true b c = refl
-and_and false b c = refl
-
 -- a test of each element, without an early end
 pub fold_all : {X : Type 0} (p : X → Bool) (a : Bool) (xs : List X) → fold (λ all x. all && p x) a xs ≡ (a && list_all p xs)
 fold_all p a [] = and_true a
-fold_all p a (x ∷ xs) = fold_all p (a && p x) xs ∙ and_and a (p x) (list_all p xs)
+fold_all p a (x ∷ xs) = fold_all p (a && p x) xs ∙ and_assoc a (p x) (list_all p xs)
 
 false_unless_true : (b : Bool) → ¬ (b ≡ true) → b ≡ false
 false_unless_true true never = absurd (never refl)

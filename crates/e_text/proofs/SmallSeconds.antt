@@ -1,24 +1,21 @@
 -- A token without a small letter in the second place is no reserved word.
-use Rattle.std.proofs.Common.{◌≡◌, ℕ, Bool, true, false, ◌&&◌, ◌||◌, List, [], ◌∷◌, refl, sym, ◌∙◌, subst, true≢false}
+use Rattle.std.proofs.Common.{◌≡◌, ℕ, Bool, true, false, ◌||◌, List, [], ◌∷◌, refl, sym, ◌∙◌, subst, true≢false}
 use Rattle.std.specs.Prelude.{codes}
 use Rattle.std.specs.List.{list_all, list_any}
 use Rattle.std.specs.Str.{bytes_eq}
 use Rattle.std.proofs.lemmas.Slice.Eq.{bytes_eq-Decides}
+use Rattle.std.proofs.lemmas.Bool.{and_parts}
 use Rattle.e_text.specs.Names.{is_statement_word, is_steps_word, is_relations_word, is_shapes_word, is_others_word, is_reserved, has_small_second}
 
 either : (a b small : Bool) → (a ≡ true → small ≡ true) → (b ≡ true → small ≡ true) → (a || b) ≡ true → small ≡ true
 either true b small f g h = f refl
 either false b small f g h = g h
 
-both : (a b : Bool) → (a && b) ≡ true → (a ≡ true) × (b ≡ true)
-both true b e = (refl, e)
-both false b e = absurd (true≢false (sym e))
-
 -- a token that is one of some words is as they all are
 one_of : (token : List ℕ) (words : List (List ℕ)) → list_all has_small_second words ≡ true → list_any (bytes_eq token) words ≡ true → has_small_second token ≡ true
 one_of token [] all h = absurd (true≢false (sym h))
 one_of token (word ∷ words) all h =
-    let p = both (has_small_second word) (list_all has_small_second words) all in
+    let p = and_parts (has_small_second word) (list_all has_small_second words) all in
     either (bytes_eq token word) (list_any (bytes_eq token) words) (has_small_second token)
     (λ k. subst (λ w. has_small_second w ≡ true) (sym ((bytes_eq-Decides token word).0 k)) p.0) (one_of token words p.1) h
 

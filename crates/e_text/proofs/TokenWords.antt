@@ -2,26 +2,22 @@
 use Rattle.std.proofs.Common.{◌≡◌, ℕ, Bool, true, false, cond, eqb, leb, not, ◌&&◌, List, [], ◌∷◌, ◌++◌, length, filter, All, refl, ap, ◌∙◌, rules, tests}
 use Rattle.std.specs.List.{slice_split, onto_first, list_all, AllByRecursion}
 use Rattle.std.specs.Str.{bytes_eq}
-use Rattle.std.proofs.lemmas.Bool.{not-true, eqb-true}
+use Rattle.std.proofs.lemmas.Bool.{not-true, eqb-true, and_parts}
 use Rattle.std.proofs.lemmas.List.{append-nil}
 use Rattle.std.proofs.lemmas.List.Elements.{All-from_recursion}
 use Rattle.std.proofs.lemmas.List.Splits.{slice_split_none, slice_split_at}
 use Rattle.e_text.specs.Tokens.{is_blank, has_bytes, tokens_of, is_token, AreTokens, spaced, joined}
 use Rattle.e_text.specs.Names.{is_letter, is_name_byte, is_title_byte, is_reserved, is_name, is_title}
 
-both : (a b : Bool) → (a && b) ≡ true → (a ≡ true) × (b ≡ true)
-both true b e = (refl, e)
-both false b e = absurd cc
-
 no_blank : (w : List ℕ) → list_all (λ b. not (is_blank b)) w ≡ true → AllByRecursion (λ b. is_blank b ≡ false) w
 no_blank [] e = tt
-no_blank (b ∷ bs) e = let p = both (not (is_blank b)) (list_all (λ b. not (is_blank b)) bs) e in (not-true (is_blank b) p.0, no_blank bs p.1)
+no_blank (b ∷ bs) e = let p = and_parts (not (is_blank b)) (list_all (λ b. not (is_blank b)) bs) e in (not-true (is_blank b) p.0, no_blank bs p.1)
 
 all_no_blank : (w : List ℕ) → is_token w ≡ true → All (λ b. is_blank b ≡ false) w
-all_no_blank w e = All-from_recursion (λ b. is_blank b ≡ false) w (no_blank w (both _ _ e).1)
+all_no_blank w e = All-from_recursion (λ b. is_blank b ≡ false) w (no_blank w (and_parts _ _ e).1)
 
 first_kept : (w : List ℕ) (ws : List (List ℕ)) → is_token w ≡ true → filter has_bytes (w ∷ ws) ≡ w ∷ filter has_bytes ws
-first_kept w ws e = let h : has_bytes w ≡ true = (both _ _ e).0 in rw h refl
+first_kept w ws e = let h : has_bytes w ≡ true = (and_parts _ _ e).0 in rw h refl
 
 pub tokens_of-spaced : (w : List ℕ) (ws : List (List ℕ)) → is_token w ≡ true → AreTokens ws → tokens_of (w ++ spaced ws) ≡ w ∷ ws
 tokens_of-spaced w [] e es = ap tokens_of (append-nil w) ∙ ap (filter has_bytes) (slice_split_none is_blank w (all_no_blank w e)) ∙ first_kept w [] e
@@ -76,37 +72,37 @@ title_byte_is_no_blank b e = search (rules, tests)
 
 name_bytes : (w : List ℕ) → list_all is_name_byte w ≡ true → list_all (λ b. not (is_blank b)) w ≡ true
 name_bytes [] e = refl
-name_bytes (b ∷ bs) e = let p = both (is_name_byte b) (list_all is_name_byte bs) e in rw (name_byte_is_no_blank b p.0, name_bytes bs p.1) refl
+name_bytes (b ∷ bs) e = let p = and_parts (is_name_byte b) (list_all is_name_byte bs) e in rw (name_byte_is_no_blank b p.0, name_bytes bs p.1) refl
 
 title_bytes : (w : List ℕ) → list_all is_title_byte w ≡ true → list_all (λ b. not (is_blank b)) w ≡ true
 title_bytes [] e = refl
-title_bytes (b ∷ bs) e = let p = both (is_title_byte b) (list_all is_title_byte bs) e in rw (title_byte_is_no_blank b p.0, title_bytes bs p.1) refl
+title_bytes (b ∷ bs) e = let p = and_parts (is_title_byte b) (list_all is_title_byte bs) e in rw (title_byte_is_no_blank b p.0, title_bytes bs p.1) refl
 
-some_bytes : (b : ℕ) (bs : List ℕ) → list_all (λ b. not (is_blank b)) (b ∷ bs) ≡ true → is_token (b ∷ bs) ≡ true
+pub some_bytes : (b : ℕ) (bs : List ℕ) → list_all (λ b. not (is_blank b)) (b ∷ bs) ≡ true → is_token (b ∷ bs) ≡ true
 some_bytes b bs e = let h : eqb (length (b ∷ bs)) 0 ≡ false = search (rules, tests) in rw (h, e) refl
 
 pub is_token-name : (w : List ℕ) → is_name w ≡ true → is_token w ≡ true
 is_token-name [] e = absurd cc
 is_token-name (b ∷ bs) e =
-    let p = both (is_letter b) (leb (length (b ∷ bs)) 16 && (list_all is_name_byte (b ∷ bs) && not (is_reserved (b ∷ bs)))) e in
-    let q = both (leb (length (b ∷ bs)) 16) (list_all is_name_byte (b ∷ bs) && not (is_reserved (b ∷ bs))) p.1 in
-    let r = both (list_all is_name_byte (b ∷ bs)) (not (is_reserved (b ∷ bs))) q.1 in
+    let p = and_parts (is_letter b) (leb (length (b ∷ bs)) 16 && (list_all is_name_byte (b ∷ bs) && not (is_reserved (b ∷ bs)))) e in
+    let q = and_parts (leb (length (b ∷ bs)) 16) (list_all is_name_byte (b ∷ bs) && not (is_reserved (b ∷ bs))) p.1 in
+    let r = and_parts (list_all is_name_byte (b ∷ bs)) (not (is_reserved (b ∷ bs))) q.1 in
     some_bytes b bs (name_bytes (b ∷ bs) r.0)
 
 pub is_token-title : (w : List ℕ) → is_title w ≡ true → is_token w ≡ true
 is_token-title [] e = absurd cc
 is_token-title (b ∷ bs) e =
-    let p = both (is_letter b) (leb (length (b ∷ bs)) 24 && list_all is_title_byte (b ∷ bs)) e in
-    let q = both (leb (length (b ∷ bs)) 24) (list_all is_title_byte (b ∷ bs)) p.1 in
+    let p = and_parts (is_letter b) (leb (length (b ∷ bs)) 24 && list_all is_title_byte (b ∷ bs)) e in
+    let q = and_parts (leb (length (b ∷ bs)) 24) (list_all is_title_byte (b ∷ bs)) p.1 in
     some_bytes b bs (title_bytes (b ∷ bs) q.1)
 
 -- a name is no reserved word
 pub is_reserved-name : (w : List ℕ) → is_name w ≡ true → is_reserved w ≡ false
 is_reserved-name [] e = absurd cc
 is_reserved-name (b ∷ bs) e =
-    let p = both (is_letter b) (leb (length (b ∷ bs)) 16 && (list_all is_name_byte (b ∷ bs) && not (is_reserved (b ∷ bs)))) e in
-    let q = both (leb (length (b ∷ bs)) 16) (list_all is_name_byte (b ∷ bs) && not (is_reserved (b ∷ bs))) p.1 in
-    not-true (is_reserved (b ∷ bs)) (both (list_all is_name_byte (b ∷ bs)) (not (is_reserved (b ∷ bs))) q.1).1
+    let p = and_parts (is_letter b) (leb (length (b ∷ bs)) 16 && (list_all is_name_byte (b ∷ bs) && not (is_reserved (b ∷ bs)))) e in
+    let q = and_parts (leb (length (b ∷ bs)) 16) (list_all is_name_byte (b ∷ bs) && not (is_reserved (b ∷ bs))) p.1 in
+    not-true (is_reserved (b ∷ bs)) (and_parts (list_all is_name_byte (b ∷ bs)) (not (is_reserved (b ∷ bs))) q.1).1
 
 by_test : (t : Bool) (b mark : ℕ) (bs : List ℕ) → eqb b mark ≡ t → is_letter b ≡ true → is_letter mark ≡ false → bytes_eq (b ∷ bs) (mark ∷ []) ≡ false
 by_test true b mark bs e letter other = let s = ap is_letter (eqb-true b mark e) in absurd cc
@@ -116,5 +112,5 @@ by_test false b mark bs e letter other = rw e refl
 pub name_is_not : (w : List ℕ) (mark : ℕ) → is_letter mark ≡ false → is_name w ≡ true → bytes_eq w (mark ∷ []) ≡ false
 name_is_not [] mark other e = absurd cc
 name_is_not (b ∷ bs) mark other e =
-    let p = both (is_letter b) (leb (length (b ∷ bs)) 16 && (list_all is_name_byte (b ∷ bs) && not (is_reserved (b ∷ bs)))) e in
+    let p = and_parts (is_letter b) (leb (length (b ∷ bs)) 16 && (list_all is_name_byte (b ∷ bs) && not (is_reserved (b ∷ bs)))) e in
     by_test (eqb b mark) b mark bs refl p.0 other

@@ -1,7 +1,7 @@
 -- Lines put together are the text, and lines that are written are read.
-use Rattle.std.proofs.Common.{◌≡◌, ℕ, zero, suc, ◌+◌, ◌-◌, ◌≤◌, Bool, true, false, ltb, eqb, ◌&&◌, List, [], ◌∷◌, ◌++◌, length, take, drop, get_or, inl, inr, Result, Ok, Err, refl, sym, ap, subst, ◌∙◌, arith, append_assoc, length-append, length-drop}
+use Rattle.std.proofs.Common.{◌≡◌, ℕ, zero, suc, ◌+◌, ◌-◌, ◌≤◌, Bool, true, false, ltb, eqb, List, [], ◌∷◌, ◌++◌, length, take, drop, get_or, inl, inr, Result, Ok, Err, refl, sym, ap, subst, ◌∙◌, arith, append_assoc, length-append, length-drop}
 use Rattle.std.specs.List.{slice_split, position_or_len, list_all, AllByRecursion}
-use Rattle.std.proofs.lemmas.Bool.{le-ltb, cases_lt, eqb-true}
+use Rattle.std.proofs.lemmas.Bool.{le-ltb, cases_lt, eqb-true, and_parts}
 use Rattle.std.proofs.lemmas.List.{append-nil, take_all}
 use Rattle.std.proofs.Math.Seq.{take-suc}
 use Rattle.std.proofs.lemmas.List.Elements.{All-from_recursion}
@@ -72,26 +72,22 @@ text_of_lines-lines_of w at text good = whole_by_size (length text) w at text (o
 
 -- ---- written and read
 
-both : (a b : Bool) → (a && b) ≡ true → (a ≡ true) × (b ≡ true)
-both true b e = (refl, e)
-both false b e = absurd cc
-
 by_mark : (t : Bool) (b mark : ℕ) → eqb b mark ≡ t → is_allowed b ≡ true → is_allowed mark ≡ false → t ≡ false
 by_mark true b mark e good bad = let s = ap is_allowed (eqb-true b mark e) in absurd cc
 by_mark false b mark e good bad = refl
 
 no_feeds : (bytes : List ℕ) → list_all is_allowed bytes ≡ true → AllByRecursion (λ b. is_lf b ≡ false) bytes
 no_feeds [] e = tt
-no_feeds (b ∷ bs) e = let p = both (is_allowed b) (list_all is_allowed bs) e in (by_mark (eqb b 10) b 10 refl p.0 refl, no_feeds bs p.1)
+no_feeds (b ∷ bs) e = let p = and_parts (is_allowed b) (list_all is_allowed bs) e in (by_mark (eqb b 10) b 10 refl p.0 refl, no_feeds bs p.1)
 
 last_allowed : (b : ℕ) (bs : List ℕ) → is_allowed b ≡ true → list_all is_allowed bs ≡ true → is_allowed (get_or (b ∷ bs) (length bs) 0) ≡ true
 last_allowed b [] h e = h
-last_allowed b (c ∷ cs) h e = let p = both (is_allowed c) (list_all is_allowed cs) e in last_allowed c cs p.0 p.1
+last_allowed b (c ∷ cs) h e = let p = and_parts (is_allowed c) (list_all is_allowed cs) e in last_allowed c cs p.0 p.1
 
 no_cr : (bytes : List ℕ) → list_all is_allowed bytes ≡ true → ends_in_cr bytes ≡ false
 no_cr [] e = refl
 no_cr (b ∷ bs) e =
-    let p = both (is_allowed b) (list_all is_allowed bs) e in
+    let p = and_parts (is_allowed b) (list_all is_allowed bs) e in
     let at : length (b ∷ bs) - 1 ≡ length bs = omega arith in
     let last : is_allowed (get_or (b ∷ bs) (length (b ∷ bs) - 1) 0) ≡ true = ap (λ i. is_allowed (get_or (b ∷ bs) i 0)) at ∙ last_allowed b bs p.0 p.1 in
     by_mark (ends_in_cr (b ∷ bs)) (get_or (b ∷ bs) (length (b ∷ bs) - 1) 0) 13 refl last refl

@@ -1,7 +1,7 @@
 -- The images of a statement's objects.
 use Rattle.std.proofs.Common.{◌≡◌, ℕ, zero, suc, ◌+◌, ◌<◌, ◌≤◌, List, [], ◌∷◌, ◌++◌, length, map, refl, sym, ap, ◌∙◌, subst, arith, Bool, true, false, cond, eqb, ◌&&◌, true≢false, inl, inr, Option, Some, None}
 use Rattle.std.specs.Prelude.{◌-◌, ◌^◌, nat_lt, slice_get, filter}
-use Rattle.std.proofs.lemmas.Bool.{lt-ltb, le-ltb, cases_lt}
+use Rattle.std.proofs.lemmas.Bool.{lt-ltb, le-ltb, cases_lt, cases_Bool}
 use Rattle.std.proofs.lemmas.Bool.Decides.{nat_tests}
 use Rattle.std.proofs.lemmas.Grind.{common_steps}
 use Rattle.std.proofs.lemmas.List.{map-append}
@@ -15,21 +15,10 @@ use Rattle.e_literal.specs.Literal.{obj, count_of, is_in_scope}
 use Rattle.e_literal.specs.Scopes.{same_sort, nothing, with_one, grown, next_objects, are_of_sorts}
 use Rattle.e_literal.specs.Rename.{same_obj, image_in, paired, renamed}
 use Rattle.e_literal.specs.Use.{Stated, scope_of, nth_of_sort, image, are_arguments}
-use Rattle.e_literal.proofs.Growing.{grown_bounds}
-use Rattle.e_literal.proofs.Terms.{and_left, and_right, yes_or_no}
-
--- ---- sorts
-
-pub same_sort_is : (a b : Sort) → same_sort a b ≡ true → a ≡ b
-same_sort_is Point Point h = refl
-same_sort_is Line Line h = refl
-same_sort_is Circle Circle h = refl
-same_sort_is a b h = absurd cc
-
-pub same_sort_self : (a : Sort) → same_sort a a ≡ true
-same_sort_self Point = refl
-same_sort_self Line = refl
-same_sort_self Circle = refl
+use Rattle.e_literal.proofs.Growing.{grown_bounds, counts_nothing, sorts_next}
+use Rattle.e_literal.proofs.Renamed.{image_in_second}
+use Rattle.e_literal.proofs.Sorts.{same_sort_is, sorts_of_objects}
+use Rattle.e_literal.proofs.Booleans.{and_left, and_right}
 
 -- ---- counts
 
@@ -106,7 +95,7 @@ nth_there s b (sort ∷ sorts) [] o d fit is = absurd (true≢false (sym fit))
 nth_there s b (sort ∷ sorts) (a ∷ args) o d fit is =
     let sorted = same_sort_is sort a.sort (and_left (same_sort sort a.sort) _ fit) in
     let rest = and_right (is_in_scope s a) _ (and_right (same_sort sort a.sort) _ fit) in
-    elim (yes_or_no (same_sort sort o.sort)) [
+    elim (cases_Bool (same_sort sort o.sort)) [
       | inl same ↦ here (λ n k. nth_there s (with_one b sort) sorts args o n rest k) d same (subst (λ x. same_sort x o.sort ≡ true) sorted same) is
       | inr other ↦ next_head o a _ _ (other_sort b sort o other)
           ∙ nth_there s (with_one b sort) sorts args o d rest (is ∙ ap (λ n. n + d) (sym (counted_other b sort o.sort other)))
@@ -129,7 +118,7 @@ pub new_there : (s b : Scope) (sorts : List Sort) (o : Obj) (d : ℕ) → o.num 
     → image_in (paired (next_objects b sorts) (next_objects s sorts)) o ≡ Some (obj o.sort (count_of s o.sort + d))
 new_there s b [] o d is less = absurd (omega (arith, is, less))
 new_there s b (sort ∷ sorts) o d is less =
-    elim (yes_or_no (same_sort sort o.sort)) [
+    elim (cases_Bool (same_sort sort o.sort)) [
       | inl same ↦ here (λ n k. new_there (with_one s sort) (with_one b sort) sorts o n k less) d same is
       | inr other ↦ next_head o (obj sort (count_of s sort)) _ _ (other_sort b sort o other)
           ∙ new_there (with_one s sort) (with_one b sort) sorts o d (is ∙ ap (λ n. n + d) (sym (counted_other b sort o.sort other))) less
@@ -151,18 +140,6 @@ new_there s b (sort ∷ sorts) o d is less =
         ∙ ap (λ n. Some (obj o.sort n)) (omega (arith, counted_here s sort o.sort same))
 
 -- ---- one list of pairs behind another
-
-pub or_next : (x y : List Entry) (o : Obj) → image_in x o ≡ None → image_in (x ++ y) o ≡ image_in y o
-or_next [] y o h = refl
-or_next (e ∷ x) y o h = step (or_next x y o) (same_obj e.source o) h
-  where
-    some_none : Some e.target ≡ None → ⊥
-    some_none is = cc
-
-    step : (image_in x o ≡ None → image_in (x ++ y) o ≡ image_in y o) → (b : Bool) → cond b (Some e.target) (image_in x o) ≡ None
-        → cond b (Some e.target) (image_in (x ++ y) o) ≡ image_in y o
-    step later true h = absurd (some_none h)
-    step later false h = later h
 
 pub only_first : (x y : List Entry) (o : Obj) → image_in y o ≡ None → image_in (x ++ y) o ≡ image_in x o
 only_first [] y o h = h
@@ -191,21 +168,16 @@ abbrev pub made_image : Stated → Scope → Obj → Option Obj
 made_image t s o =
     cond (nat_lt o.num (count_of (grown (scope_of t) t.made) o.sort)) (Some (obj o.sort (count_of s o.sort + (o.num - count_of (scope_of t) o.sort)))) None
 
-no_first : (x : Sort) → count_of nothing x ≡ 0
-no_first Point = refl
-no_first Line = refl
-no_first Circle = refl
-
 pub imaged : (t : Stated) (args : List Obj) (s : Scope) (o : Obj) → are_arguments t s args ≡ true → image_in (paired (sources t) (targets t args s)) o ≡ image t args s o
 imaged t args s o fit =
     ap (λ es. image_in es o) (paired_behind s nothing t.declared args (next_objects (scope_of t) t.made) (next_objects s t.made) fit) ∙
     elim (cases_lt o.num (count_of (scope_of t) o.sort)) [
       | inl less ↦
           only_first (paired (next_objects nothing t.declared) args) _ o (none_before (scope_of t) t.made (next_objects s t.made) o less)
-          ∙ nth_there s nothing t.declared args o o.num fit (omega (arith, no_first o.sort))
+          ∙ nth_there s nothing t.declared args o o.num fit (omega (arith, counts_nothing o.sort))
           ∙ sym (ap (λ b. cond b (nth_of_sort o.sort o.num args) (made_image t s o)) (lt-ltb o.num (count_of (scope_of t) o.sort) less))
       | inr more ↦
-          or_next (paired (next_objects nothing t.declared) args) _ o (none_after nothing t.declared args o more)
+          image_in_second (paired (next_objects nothing t.declared) args) _ o (none_after nothing t.declared args o more)
           ∙ made_part t s o more
           ∙ sym (ap (λ b. cond b (nth_of_sort o.sort o.num args) (made_image t s o)) (le-ltb o.num (count_of (scope_of t) o.sort) more))
     ]
@@ -221,24 +193,11 @@ imaged t args s o fit =
 
 -- ---- sorts of the pairs
 
-sorts_next : (s : Scope) (sorts : List Sort) → map (λ (o : Obj). o.sort) (next_objects s sorts) ≡ sorts
-sorts_next s [] = refl
-sorts_next s (sort ∷ sorts) = ap (λ xs. sort ∷ xs) (sorts_next (with_one s sort) sorts)
-
-sorts_args : (s : Scope) (sorts : List Sort) (args : List Obj) → are_of_sorts s sorts args ≡ true → map (λ (o : Obj). o.sort) args ≡ sorts
-sorts_args s [] [] fit = refl
-sorts_args s [] (a ∷ args) fit = absurd (true≢false (sym fit))
-sorts_args s (sort ∷ sorts) [] fit = absurd (true≢false (sym fit))
-sorts_args s (sort ∷ sorts) (a ∷ args) fit =
-    let sorted = same_sort_is sort a.sort (and_left (same_sort sort a.sort) _ fit) in
-    let rest = sorts_args s sorts args (and_right (is_in_scope s a) _ (and_right (same_sort sort a.sort) _ fit)) in
-    cc
-
 pub sorts_agree : (t : Stated) (args : List Obj) (s : Scope) → are_arguments t s args ≡ true
     → map (λ (o : Obj). o.sort) (sources t) ≡ map (λ (o : Obj). o.sort) (targets t args s)
 sorts_agree t args s fit =
     map-append (λ (o : Obj). o.sort) (next_objects nothing t.declared) (next_objects (scope_of t) t.made)
-    ∙ ap (λ xs. xs ++ map (λ (o : Obj). o.sort) (next_objects (scope_of t) t.made)) (sorts_next nothing t.declared ∙ sym (sorts_args s t.declared args fit))
+    ∙ ap (λ xs. xs ++ map (λ (o : Obj). o.sort) (next_objects (scope_of t) t.made)) (sorts_next nothing t.declared ∙ sym (sorts_of_objects s t.declared args fit))
     ∙ ap (λ xs. map (λ (o : Obj). o.sort) args ++ xs) (sorts_next (scope_of t) t.made ∙ sym (sorts_next s t.made))
     ∙ sym (map-append (λ (o : Obj). o.sort) args (next_objects s t.made))
 

@@ -1,23 +1,17 @@
 -- Literals with the images of their objects: which are equal, in scope, and well formed.
-use Rattle.std.proofs.Common.{◌≡◌, ℕ, Bool, true, ◌&&◌, List, [], ◌∷◌, ◌++◌, map, length, Option, refl, sym, ap, ◌∙◌}
-use Rattle.std.specs.Prelude.{nat_le}
+use Rattle.std.proofs.Common.{◌≡◌, ℕ, Bool, true, ◌&&◌, List, [], ◌∷◌, ◌++◌, map, Option, refl, ap, ◌∙◌}
 use Rattle.std.specs.List.{list_all}
-use Rattle.std.proofs.lemmas.List.{map-append, length-map}
-use Rattle.std.proofs.lemmas.List.Folds.{list_all-append}
-use Rattle.e_literal.specs.declared.object.Kind.{Kind}
 use Rattle.e_literal.specs.declared.object.Sort.TheVariants.{Point, Line, Circle}
 use Rattle.e_literal.specs.declared.object.Obj.{Obj}
-use Rattle.e_literal.specs.declared.object.Scope.{Scope}
 use Rattle.e_literal.specs.declared.object.Term.{Term}
 use Rattle.e_literal.specs.declared.object.Term.TheVariants as terms
 use Rattle.e_literal.specs.declared.object.Mono.{Mono}
 use Rattle.e_literal.specs.declared.literal.Atom.{Atom}
 use Rattle.e_literal.specs.declared.literal.Atom.TheVariants as atoms
 use Rattle.e_literal.specs.declared.literal.Lit.{Lit}
-use Rattle.e_literal.specs.Literal.{obj, is_in_scope, objects_of_term, objects_of_sum, objects_of_atom, all_in_scope, kind_of_term, kind_of_sums}
-use Rattle.e_literal.specs.WellFormed.{same_kind, is_good_coefficient, are_good_sums, is_good_atom, is_well_formed}
+use Rattle.e_literal.specs.Literal.{obj, objects_of_term, objects_of_sum, objects_of_atom}
 use Rattle.e_literal.specs.Rename.{term_at, mono_at, atom_at, number_at, renamed}
-use Rattle.e_literal.proofs.Terms.{and_left, and_right}
+use Rattle.e_literal.proofs.Booleans.{and_left, and_right, all_left, all_right}
 
 -- an object has the same image by both
 abbrev pub Same : (Obj → Option Obj) → (Obj → Option Obj) → Obj → Type 0
@@ -61,18 +55,12 @@ same_term f g p h (terms.Area x y z) k =
     cc
 same_term f g p h terms.Right k = refl
 
-all_of_first : (p : Obj → Bool) (xs ys : List Obj) → list_all p (xs ++ ys) ≡ true → list_all p xs ≡ true
-all_of_first p xs ys h = and_left (list_all p xs) (list_all p ys) (sym (list_all-append p xs ys) ∙ h)
-
-all_of_second : (p : Obj → Bool) (xs ys : List Obj) → list_all p (xs ++ ys) ≡ true → list_all p ys ≡ true
-all_of_second p xs ys h = and_right (list_all p xs) (list_all p ys) (sym (list_all-append p xs ys) ∙ h)
-
 same_sum : (f g : Obj → Option Obj) (p : Obj → Bool) → ((o : Obj) → p o ≡ true → Same f g o) → (ms : List Mono) → list_all p (objects_of_sum ms) ≡ true
     → map (mono_at (number_at f Point)) ms ≡ map (mono_at (number_at g Point)) ms
 same_sum f g p h [] k = refl
 same_sum f g p h (m ∷ ms) k =
-    let first = same_term f g p h m.term (all_of_first p (objects_of_term m.term) (objects_of_sum ms) k) in
-    let rest = same_sum f g p h ms (all_of_second p (objects_of_term m.term) (objects_of_sum ms) k) in
+    let first = same_term f g p h m.term (all_left p (objects_of_term m.term) (objects_of_sum ms) k) in
+    let rest = same_sum f g p h ms (all_right p (objects_of_term m.term) (objects_of_sum ms) k) in
     ap (λ t. record { coeff = m.coeff; term = t } ∷ map (mono_at (number_at f Point)) ms) first
     ∙ ap (λ xs. record { coeff = m.coeff; term = term_at (number_at g Point) m.term } ∷ xs) rest
 
@@ -80,8 +68,8 @@ same_sums : (f g : Obj → Option Obj) (p : Obj → Bool) → ((o : Obj) → p o
     → list_all p (objects_of_sum x ++ objects_of_sum y) ≡ true
     → make (map (mono_at (number_at f Point)) x) (map (mono_at (number_at f Point)) y) ≡ make (map (mono_at (number_at g Point)) x) (map (mono_at (number_at g Point)) y)
 same_sums f g p h make x y k =
-    let first = same_sum f g p h x (all_of_first p (objects_of_sum x) (objects_of_sum y) k) in
-    let second = same_sum f g p h y (all_of_second p (objects_of_sum x) (objects_of_sum y) k) in
+    let first = same_sum f g p h x (all_left p (objects_of_sum x) (objects_of_sum y) k) in
+    let second = same_sum f g p h y (all_right p (objects_of_sum x) (objects_of_sum y) k) in
     ap (λ l. make l (map (mono_at (number_at f Point)) y)) first ∙ ap (λ l. make (map (mono_at (number_at g Point)) x) l) second
 
 same_atom : (f g : Obj → Option Obj) (p : Obj → Bool) → ((o : Obj) → p o ≡ true → Same f g o) → (a : Atom) → list_all p (objects_of_atom a) ≡ true
@@ -104,86 +92,3 @@ same_atom f g p h (atoms.MagLt x y) k = same_sums f g p h (λ l m. atoms.MagLt l
 -- where each object of the literal has the same image by both, it becomes the same literal
 pub same_renamed : (f g : Obj → Option Obj) (p : Obj → Bool) → ((o : Obj) → p o ≡ true → Same f g o) → (l : Lit) → list_all p (objects_of_atom l.atom) ≡ true → renamed f l ≡ renamed g l
 same_renamed f g p h l k = ap (λ a. record { neg = l.neg; atom = a }) (same_atom f g p h l.atom k)
-
--- ---- in scope
-
--- what stands for the object is in scope
-abbrev pub is_moved_in : Scope → (Obj → Option Obj) → Obj → Bool
-is_moved_in s f o = is_in_scope s (obj o.sort (number_at f o.sort o.num))
-
-term_scope : (s : Scope) (f : Obj → Option Obj) (t : Term) → list_all (is_in_scope s) (objects_of_term (term_at (number_at f Point) t)) ≡ list_all (is_moved_in s f) (objects_of_term t)
-term_scope s f (terms.Seg a b) = refl
-term_scope s f (terms.Ang a b c) = refl
-term_scope s f (terms.Area a b c) = refl
-term_scope s f terms.Right = refl
-
-sum_scope : (s : Scope) (f : Obj → Option Obj) (ms : List Mono) → list_all (is_in_scope s) (objects_of_sum (map (mono_at (number_at f Point)) ms)) ≡ list_all (is_moved_in s f) (objects_of_sum ms)
-sum_scope s f [] = refl
-sum_scope s f (m ∷ ms) =
-    list_all-append (is_in_scope s) (objects_of_term (term_at (number_at f Point) m.term)) (objects_of_sum (map (mono_at (number_at f Point)) ms))
-    ∙ ap (λ b. b && list_all (is_in_scope s) (objects_of_sum (map (mono_at (number_at f Point)) ms))) (term_scope s f m.term)
-    ∙ ap (λ b. list_all (is_moved_in s f) (objects_of_term m.term) && b) (sum_scope s f ms)
-    ∙ sym (list_all-append (is_moved_in s f) (objects_of_term m.term) (objects_of_sum ms))
-
-sums_scope : (s : Scope) (f : Obj → Option Obj) (x y : List Mono)
-    → list_all (is_in_scope s) (objects_of_sum (map (mono_at (number_at f Point)) x) ++ objects_of_sum (map (mono_at (number_at f Point)) y))
-    ≡ list_all (is_moved_in s f) (objects_of_sum x ++ objects_of_sum y)
-sums_scope s f x y =
-    list_all-append (is_in_scope s) (objects_of_sum (map (mono_at (number_at f Point)) x)) (objects_of_sum (map (mono_at (number_at f Point)) y))
-    ∙ ap (λ b. b && list_all (is_in_scope s) (objects_of_sum (map (mono_at (number_at f Point)) y))) (sum_scope s f x)
-    ∙ ap (λ b. list_all (is_moved_in s f) (objects_of_sum x) && b) (sum_scope s f y)
-    ∙ sym (list_all-append (is_moved_in s f) (objects_of_sum x) (objects_of_sum y))
-
-atom_scope : (s : Scope) (f : Obj → Option Obj) (a : Atom)
-    → list_all (is_in_scope s) (objects_of_atom (atom_at (number_at f Point) (number_at f Line) (number_at f Circle) a)) ≡ list_all (is_moved_in s f) (objects_of_atom a)
-atom_scope s f (atoms.MagEq x y) = sums_scope s f x y
-atom_scope s f (atoms.MagLt x y) = sums_scope s f x y
-atom_scope s f a = refl
-
-pub renamed_scope : (s : Scope) (f : Obj → Option Obj) (l : Lit) → all_in_scope s (renamed f l) ≡ list_all (is_moved_in s f) (objects_of_atom l.atom)
-renamed_scope s f l = atom_scope s f l.atom
-
--- ---- well formed
-
-kind_stays : (p : ℕ → ℕ) (t : Term) → kind_of_term (term_at p t) ≡ kind_of_term t
-kind_stays p (terms.Seg a b) = refl
-kind_stays p (terms.Ang a b c) = refl
-kind_stays p (terms.Area a b c) = refl
-kind_stays p terms.Right = refl
-
-kinds_stay : (p : ℕ → ℕ) (x y : List Mono) → kind_of_sums (map (mono_at p) x) (map (mono_at p) y) ≡ kind_of_sums x y
-kinds_stay p (m ∷ x) y = kind_stays p m.term
-kinds_stay p [] (m ∷ y) = kind_stays p m.term
-kinds_stay p [] [] = refl
-
--- monomials of this kind, with good coefficients
-abbrev fits_kind : Kind → Mono → Bool
-fits_kind k m = same_kind (kind_of_term m.term) k && is_good_coefficient m.coeff
-
-each_fits : (p : ℕ → ℕ) (k : Kind) (ms : List Mono) → list_all (fits_kind k) (map (mono_at p) ms) ≡ list_all (fits_kind k) ms
-each_fits p k [] = refl
-each_fits p k (m ∷ ms) =
-    ap (λ t. (same_kind t k && is_good_coefficient m.coeff) && list_all (fits_kind k) (map (mono_at p) ms)) (kind_stays p m.term)
-    ∙ ap (λ b. fits_kind k m && b) (each_fits p k ms)
-
-abbrev good_list : Kind → List Mono → Bool
-good_list k ms = nat_le 1 (length ms) && (nat_le (length ms) 32 && list_all (fits_kind k) ms)
-
-good_list_stays : (p : ℕ → ℕ) (k : Kind) (ms : List Mono) → good_list k (map (mono_at p) ms) ≡ good_list k ms
-good_list_stays p k ms =
-    ap (λ n. nat_le 1 n && (nat_le n 32 && list_all (fits_kind k) (map (mono_at p) ms))) (length-map ms (mono_at p))
-    ∙ ap (λ b. nat_le 1 (length ms) && (nat_le (length ms) 32 && b)) (each_fits p k ms)
-
-good_sums_stay : (p : ℕ → ℕ) (x y : List Mono) → are_good_sums (map (mono_at p) x) (map (mono_at p) y) ≡ are_good_sums x y
-good_sums_stay p x y =
-    ap (λ k. good_list k (map (mono_at p) x ++ map (mono_at p) y)) (kinds_stay p x y)
-    ∙ ap (good_list (kind_of_sums x y)) (sym (map-append (mono_at p) x y))
-    ∙ good_list_stays p (kind_of_sums x y) (x ++ y)
-
-good_atom_stays : (p l c : ℕ → ℕ) (a : Atom) → is_good_atom (atom_at p l c a) ≡ is_good_atom a
-good_atom_stays p l c (atoms.MagEq x y) = good_sums_stay p x y
-good_atom_stays p l c (atoms.MagLt x y) = good_sums_stay p x y
-good_atom_stays p l c a = refl
-
-pub renamed_well_formed : (f : Obj → Option Obj) (l : Lit) → is_well_formed (renamed f l) ≡ is_well_formed l
-renamed_well_formed f l = good_atom_stays (number_at f Point) (number_at f Line) (number_at f Circle) l.atom

@@ -2,7 +2,7 @@
 use Rattle.std.proofs.Common.{◌≡◌, ℕ, ◌+◌, ◌-◌, ◌<◌, ◌≤◌, List, [], ◌∷◌, map, refl, sym, ap, ◌∙◌, subst, arith, Bool, true, false, cond, ltb, ◌&&◌, true≢false, inl, inr, Option, Some, None}
 use Rattle.std.specs.Option.{option_map_or}
 use Rattle.std.specs.List.{list_all}
-use Rattle.std.proofs.lemmas.Bool.{ltb-true, lt-ltb, le-ltb, cases_lt}
+use Rattle.std.proofs.lemmas.Bool.{ltb-true, lt-ltb, le-ltb, cases_lt, cases_Bool}
 use Rattle.e_literal.specs.declared.object.Obj.{Obj}
 use Rattle.e_literal.specs.declared.object.Scope.{Scope}
 use Rattle.e_literal.specs.declared.object.Sort.{Sort}
@@ -13,10 +13,12 @@ use Rattle.e_literal.specs.WellFormed.{is_well_formed}
 use Rattle.e_literal.specs.Scopes.{same_sort, nothing, with_one, grown, next_objects, are_of_sorts}
 use Rattle.e_literal.specs.Rename.{same_obj, image_in, paired, renamed}
 use Rattle.e_literal.specs.Use.{Stated, scope_of, image, are_arguments, needs_of_use, gives_of_use, nth_of_sort, is_statement}
-use Rattle.e_literal.proofs.Terms.{and_left, and_right, yes_or_no}
+use Rattle.e_literal.proofs.Renamed.{is_moved_in, renamed_scope, renamed_well_formed}
+use Rattle.e_literal.proofs.Sorts.{same_sort_is}
+use Rattle.e_literal.proofs.Booleans.{and_left, and_right}
 use Rattle.e_clause.specs.Judged.{is_good, are_good}
-use Rattle.e_theorem.proofs.Imaging.{counted, counts_grow, made_image, same_sort_is, counted_here, counted_other, this_one, none_before, imaged, only_first, paired_behind}
-use Rattle.e_theorem.proofs.Renaming.{is_moved_in, same_renamed, renamed_scope, renamed_well_formed}
+use Rattle.e_theorem.proofs.Imaging.{counted, counts_grow, made_image, counted_here, counted_other, this_one, none_before, imaged, only_first, paired_behind}
+use Rattle.e_theorem.proofs.Renaming.{same_renamed}
 
 -- ---- the argument for a declared object is in scope
 
@@ -25,7 +27,7 @@ number_of v n = option_map_or (λ (x : Obj). x.num) v n
 
 later : (b : Scope) (sort : Sort) (o : Obj) → same_obj (obj sort (count_of b sort)) o ≡ false → count_of b o.sort ≤ o.num → count_of (with_one b sort) o.sort ≤ o.num
 later b sort o differs more =
-    elim (yes_or_no (same_sort sort o.sort)) [
+    elim (cases_Bool (same_sort sort o.sort)) [
       | inl same ↦ elim (cases_lt (count_of b o.sort) o.num) [
         | inl less ↦ omega (arith, less, counted_here b sort o.sort same)
         | inr most ↦ absurd (true≢false (sym (this_one b sort o same (omega (arith, more, most))) ∙ differs))
@@ -39,7 +41,7 @@ lands s b [] args o fit more less = absurd (omega (arith, more, less))
 lands s b (sort ∷ sorts) [] o fit more less = absurd (true≢false (sym fit))
 lands s b (sort ∷ sorts) (a ∷ args) o fit more less =
     let rest = and_right (same_sort sort a.sort) _ fit in
-    elim (yes_or_no (same_obj (obj sort (count_of b sort)) o)) [
+    elim (cases_Bool (same_obj (obj sort (count_of b sort)) o)) [
       | inl is ↦
           let sorted : a.sort ≡ o.sort = sym (same_sort_is sort a.sort (and_left (same_sort sort a.sort) _ fit)) ∙ same_sort_is sort o.sort (and_left (same_sort sort o.sort) _ is) in
           ap (λ c. ltb (number_of (cond c (Some a) (image_in (paired (next_objects (with_one b sort) sorts) args) o)) o.num) (count_of s o.sort)) is

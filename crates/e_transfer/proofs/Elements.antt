@@ -1,9 +1,9 @@
 -- Tests of the elements of lists.
 use Rattle.std.proofs.Common.{◌≡◌, List, [], ◌∷◌, ◌++◌, refl, ap, ◌∙◌, Bool, true, ◌||◌, inl, inr, map}
 use Rattle.std.specs.Prelude.{flat_map}
-use Rattle.std.specs.List.{list_any, list_all}
-use Rattle.std.proofs.lemmas.List.Folds.{list_any-append, list_all-append}
-use Rattle.e_literal.proofs.Terms.{or_either, or_left, or_right, both}
+use Rattle.std.specs.List.{list_any}
+use Rattle.std.proofs.lemmas.List.Folds.{list_any-append}
+use Rattle.std.proofs.lemmas.Bool.{and_from, or_left, or_right, or_cases}
 
 pub list_any-map : {X Y : Type 0} (p : Y → Bool) (h : X → Y) (xs : List X) → list_any p (map h xs) ≡ list_any (λ x. p (h x)) xs
 list_any-map p h [] = refl
@@ -16,7 +16,7 @@ list_any-flat_map p g (x ∷ xs) = list_any-append p (g x) (flat_map g xs) ∙ a
 -- a weaker test is passed too
 pub weaker : {X : Type 0} (p q : X → Bool) → ((x : X) → p x ≡ true → q x ≡ true) → (xs : List X) → list_any p xs ≡ true → list_any q xs ≡ true
 weaker p q h [] e = e
-weaker p q h (x ∷ xs) e = elim (or_either (p x) (list_any p xs) e) [
+weaker p q h (x ∷ xs) e = elim (or_cases (p x) (list_any p xs) e) [
   | inl here ↦ or_left (q x) (list_any q xs) (h x here)
   | inr later ↦ or_right (q x) (list_any q xs) (weaker p q h xs later)
 ]
@@ -30,6 +30,3 @@ any_right p xs ys e = list_any-append p xs ys ∙ or_right (list_any p xs) (list
 -- what an element that passes gives: found by its place in the list
 pub Passing : {X : Type 0} → (X → Bool) → List X → Type 0
 Passing p xs = list_any p xs ≡ true
-
-pub all-append : {X : Type 0} (p : X → Bool) (xs ys : List X) → list_all p xs ≡ true → list_all p ys ≡ true → list_all p (xs ++ ys) ≡ true
-all-append p xs ys a b = list_all-append p xs ys ∙ both (list_all p xs) (list_all p ys) a b

@@ -1,11 +1,10 @@
 -- The literals of an instance over a scope are in scope and well formed.
-use Rattle.std.proofs.Common.{◌≡◌, ℕ, zero, suc, ◌+◌, ◌<◌, ◌≤◌, List, [], ◌∷◌, ◌++◌, refl, sym, ap, ◌∙◌, subst, arith, Bool, true, false, cond, not, ◌&&◌, true≢false, length, map, ◌⊎◌, inl, inr, Option, Some, None}
+use Rattle.std.proofs.Common.{◌≡◌, ℕ, zero, suc, ◌+◌, ◌<◌, ◌≤◌, List, [], ◌∷◌, ◌++◌, refl, sym, ap, ◌∙◌, subst, arith, Bool, true, false, cond, not, ◌&&◌, true≢false, map, ◌⊎◌, inl, inr, Option, Some, None}
 use Rattle.std.specs.Prelude.{◌-◌, slice_get, filter, nat_le, nat_lt, option_and_then}
 use Rattle.std.specs.List.{list_all}
-use Rattle.std.proofs.lemmas.Bool.{ltb-true, lt-ltb, le-ltb, cases_lt}
-use Rattle.std.proofs.lemmas.List.{map-append}
+use Rattle.std.proofs.lemmas.Bool.{ltb-true, lt-ltb, le-ltb, cases_lt, and_from}
 use Rattle.std.proofs.lemmas.List.Folds.{list_all-append}
-use Rattle.e_literal.specs.declared.object.Kind.{Kind}
+use Rattle.std.proofs.lemmas.Option.{same_Some, none-some}
 use Rattle.e_literal.specs.declared.object.Obj.{Obj}
 use Rattle.e_literal.specs.declared.object.Scope.{Scope}
 use Rattle.e_literal.specs.declared.object.Sort.{Sort}
@@ -16,17 +15,18 @@ use Rattle.e_literal.specs.declared.object.Term.TheVariants.{Seg, Ang, Area, Rig
 use Rattle.e_literal.specs.declared.literal.Lit.{Lit}
 use Rattle.e_literal.specs.declared.literal.Atom.{Atom}
 use Rattle.e_literal.specs.declared.literal.Atom.TheVariants.{On, OnC, Inside, Center, Between, Same, MeetLL, MeetLC, MeetCC, EqP, EqL, EqC, MagEq, MagLt}
-use Rattle.e_literal.specs.Literal.{negation, obj, is_in_scope, count_of, objects_of_term, objects_of_sum, objects_of_atom, all_in_scope, kind_of_term, kind_of_sums}
+use Rattle.e_literal.specs.Literal.{negation, obj, is_in_scope, count_of, objects_of_term, objects_of_sum, objects_of_atom, all_in_scope}
 use Rattle.e_literal.specs.Rename.{term_at, mono_at, atom_at}
-use Rattle.e_literal.specs.WellFormed.{same_kind, is_good_coefficient, are_good_sums, is_good_atom, is_well_formed}
-use Rattle.e_literal.proofs.Terms.{both, and_left, and_right}
+use Rattle.e_literal.specs.WellFormed.{is_good_atom, is_well_formed}
+use Rattle.e_literal.proofs.Renamed.{good_atom_stays}
+use Rattle.e_literal.proofs.Booleans.{and_left, and_right}
 use Rattle.e_clause.specs.Rows.{Row}
 use Rattle.e_clause.specs.Instance.{Inst, instance_of_row, fits, number, line, circle, lit_at, clause_of}
 use Rattle.e_clause.specs.RuleKinds.{is_transfer}
 use Rattle.e_clause.specs.Table.{table}
 use Rattle.e_clause.specs.Table.Lengths.{lengths}
 use Rattle.e_clause.specs.Table.Angles.{angles}
-use Rattle.e_clause.proofs.Refuted.{option_split, some_is, none_is}
+use Rattle.e_clause.proofs.Refuted.{option_split}
 use Rattle.e_clause.proofs.Tables.{at_lengths, at_angles}
 use Rattle.e_transfer.specs.Giving.{needs}
 use Rattle.e_transfer.specs.Part.{sort_of}
@@ -75,8 +75,8 @@ unfolding angles
 angles_ok = refl
 
 one_ok : (rows : List Row) (n : ℕ) (r : Row) → list_all row_ok rows ≡ true → slice_get rows n ≡ Some r → row_ok r ≡ true
-one_ok [] n r all at = absurd (none_is r at)
-one_ok (x ∷ xs) zero r all at = subst (λ y. row_ok y ≡ true) (some_is x r at) (and_left (row_ok x) (list_all row_ok xs) all)
+one_ok [] n r all at = absurd (none-some r at)
+one_ok (x ∷ xs) zero r all at = subst (λ y. row_ok y ≡ true) (same_Some x r at) (and_left (row_ok x) (list_all row_ok xs) all)
 one_ok (x ∷ xs) (suc n) r all at = one_ok xs n r (and_right (row_ok x) (list_all row_ok xs) all) at
 
 transfer_ok : (rule : ℕ) (r : Row) → is_transfer rule ≡ true → slice_get table rule ≡ Some r → row_ok r ≡ true
@@ -115,10 +115,10 @@ circle_in r scope args c are ok =
     number_in r scope args Circle (r.points + r.lines + c) are (omega (arith, less)) (sort_of_circle r (r.points + r.lines + c) (omega arith))
 
 two_in : (a b : Bool) → a ≡ true → b ≡ true → (a && (b && true)) ≡ true
-two_in a b h k = both a (b && true) h (both b true k refl)
+two_in a b h k = and_from a (b && true) h (and_from b true k refl)
 
 three_in : (a b c : Bool) → a ≡ true → b ≡ true → c ≡ true → (a && (b && (c && true))) ≡ true
-three_in a b c h k l = both a (b && (c && true)) h (two_in b c k l)
+three_in a b c h k l = and_from a (b && (c && true)) h (two_in b c k l)
 
 three_left : (a b c : Bool) → (a && (b && c)) ≡ true → (a ≡ true) × (b ≡ true) × (c ≡ true)
 three_left a b c h = let rest = and_right a (b && c) h in (and_left a (b && c) h, and_left b c rest, and_right b c rest)
@@ -139,13 +139,13 @@ sum_in : (r : Row) (scope : Scope) (args : List Obj) → AreOver r scope args �
 sum_in r scope args are [] ok = refl
 sum_in r scope args are (m ∷ ms) ok =
     list_all-append (is_in_scope scope) (objects_of_term (term_at (number args) m.term)) (objects_of_sum (map (mono_at (number args)) ms))
-    ∙ both _ _ (term_in r scope args are m.term (and_left (term_ok r m.term) (sum_ok r ms) ok)) (sum_in r scope args are ms (and_right (term_ok r m.term) (sum_ok r ms) ok))
+    ∙ and_from _ _ (term_in r scope args are m.term (and_left (term_ok r m.term) (sum_ok r ms) ok)) (sum_in r scope args are ms (and_right (term_ok r m.term) (sum_ok r ms) ok))
 
 sums_in : (r : Row) (scope : Scope) (args : List Obj) → AreOver r scope args → (x y : List Mono) → (sum_ok r x && sum_ok r y) ≡ true
     → Within scope (objects_of_sum (map (mono_at (number args)) x) ++ objects_of_sum (map (mono_at (number args)) y))
 sums_in r scope args are x y ok =
     list_all-append (is_in_scope scope) (objects_of_sum (map (mono_at (number args)) x)) (objects_of_sum (map (mono_at (number args)) y))
-    ∙ both _ _ (sum_in r scope args are x (and_left (sum_ok r x) (sum_ok r y) ok)) (sum_in r scope args are y (and_right (sum_ok r x) (sum_ok r y) ok))
+    ∙ and_from _ _ (sum_in r scope args are x (and_left (sum_ok r x) (sum_ok r y) ok)) (sum_in r scope args are y (and_right (sum_ok r x) (sum_ok r y) ok))
 
 atom_in : (r : Row) (scope : Scope) (args : List Obj) → AreOver r scope args → (a : Atom) → atom_ok r a ≡ true
     → Within scope (objects_of_atom (atom_at (number args) (line r args) (circle r args) a))
@@ -166,61 +166,6 @@ atom_in r scope args are (EqC c d) ok = two_in _ _ (circle_in r scope args c are
 atom_in r scope args are (MagEq x y) ok = sums_in r scope args are x y ok
 atom_in r scope args are (MagLt x y) ok = sums_in r scope args are x y ok
 
--- ---- well formed
-
-kind_kept : (f : ℕ → ℕ) (t : Term) → kind_of_term (term_at f t) ≡ kind_of_term t
-kind_kept f (Seg x y) = refl
-kind_kept f (Ang x y z) = refl
-kind_kept f (Area x y z) = refl
-kind_kept f Right = refl
-
-kinds_kept : (f : ℕ → ℕ) (x y : List Mono) → kind_of_sums (map (mono_at f) x) (map (mono_at f) y) ≡ kind_of_sums x y
-kinds_kept f (m ∷ ms) y = kind_kept f m.term
-kinds_kept f [] (m ∷ ms) = kind_kept f m.term
-kinds_kept f [] [] = refl
-
-abbrev good_mono : Kind → Mono → Bool
-good_mono k m = same_kind (kind_of_term m.term) k && is_good_coefficient m.coeff
-
-abbrev good_sum : Kind → List Mono → Bool
-good_sum k zs = nat_le 1 (length zs) && (nat_le (length zs) 32 && list_all (good_mono k) zs)
-
-length_map : {X Y : Type 0} (h : X → Y) (xs : List X) → length (map h xs) ≡ length xs
-length_map h [] = refl
-length_map h (x ∷ xs) = ap (λ n. suc n) (length_map h xs)
-
-monos_kept : (f : ℕ → ℕ) (k : Kind) (zs : List Mono) → list_all (good_mono k) (map (mono_at f) zs) ≡ list_all (good_mono k) zs
-monos_kept f k [] = refl
-monos_kept f k (m ∷ ms) =
-    ap (λ x. (same_kind x k && is_good_coefficient m.coeff) && list_all (good_mono k) (map (mono_at f) ms)) (kind_kept f m.term)
-    ∙ ap (λ b. good_mono k m && b) (monos_kept f k ms)
-
-sum_kept : (f : ℕ → ℕ) (k : Kind) (zs : List Mono) → good_sum k (map (mono_at f) zs) ≡ good_sum k zs
-sum_kept f k zs =
-    ap (λ n. nat_le 1 n && (nat_le n 32 && list_all (good_mono k) (map (mono_at f) zs))) (length_map (mono_at f) zs)
-    ∙ ap (λ b. nat_le 1 (length zs) && (nat_le (length zs) 32 && b)) (monos_kept f k zs)
-
-sums_kept : (f : ℕ → ℕ) (x y : List Mono) → are_good_sums (map (mono_at f) x) (map (mono_at f) y) ≡ are_good_sums x y
-sums_kept f x y =
-    ap (λ k. good_sum k (map (mono_at f) x ++ map (mono_at f) y)) (kinds_kept f x y)
-    ∙ ap (good_sum (kind_of_sums x y)) (sym (map-append (mono_at f) x y)) ∙ sum_kept f (kind_of_sums x y) (x ++ y)
-
-atom_kept : (p l c : ℕ → ℕ) (a : Atom) → is_good_atom (atom_at p l c a) ≡ is_good_atom a
-atom_kept p l c (On x y) = refl
-atom_kept p l c (OnC x y) = refl
-atom_kept p l c (Inside x y) = refl
-atom_kept p l c (Center x y) = refl
-atom_kept p l c (Between x y z) = refl
-atom_kept p l c (Same x y z) = refl
-atom_kept p l c (MeetLL x y) = refl
-atom_kept p l c (MeetLC x y) = refl
-atom_kept p l c (MeetCC x y) = refl
-atom_kept p l c (EqP x y) = refl
-atom_kept p l c (EqL x y) = refl
-atom_kept p l c (EqC x y) = refl
-atom_kept p l c (MagEq x y) = sums_kept p x y
-atom_kept p l c (MagLt x y) = sums_kept p x y
-
 -- ---- what an instance needs
 
 all_in : (r : Row) (scope : Scope) (args : List Obj) → AreOver r scope args → (ls : List Lit) → list_all (lit_ok r) ls ≡ true
@@ -228,19 +173,19 @@ all_in : (r : Row) (scope : Scope) (args : List Obj) → AreOver r scope args �
 all_in r scope args are [] ok = refl
 all_in r scope args are (l ∷ ls) ok =
     let here = and_left (lit_ok r l) (list_all (lit_ok r) ls) ok in
-    both _ _ (atom_in r scope args are l.atom (and_left (atom_ok r l.atom) (is_good_atom l.atom) here))
+    and_from _ _ (atom_in r scope args are l.atom (and_left (atom_ok r l.atom) (is_good_atom l.atom) here))
     (all_in r scope args are ls (and_right (lit_ok r l) (list_all (lit_ok r) ls) ok))
 
 all_well : (r : Row) (args : List Obj) (ls : List Lit) → list_all (lit_ok r) ls ≡ true → list_all is_well_formed (map (lit_at r args) ls) ≡ true
 all_well r args [] ok = refl
 all_well r args (l ∷ ls) ok =
     let here = and_left (lit_ok r l) (list_all (lit_ok r) ls) ok in
-    both _ _ (atom_kept (number args) (line r args) (circle r args) l.atom ∙ and_right (atom_ok r l.atom) (is_good_atom l.atom) here)
+    and_from _ _ (good_atom_stays (number args) (line r args) (circle r args) l.atom ∙ and_right (atom_ok r l.atom) (is_good_atom l.atom) here)
     (all_well r args ls (and_right (lit_ok r l) (list_all (lit_ok r) ls) ok))
 
 with_one : (q : Lit → Bool) (l : Lit) (rest : List Lit) (b : Bool) → q (negation l) ≡ true → list_all q (map negation rest) ≡ true
     → list_all q (map negation (cond b (l ∷ rest) rest)) ≡ true
-with_one q l rest true here all = both (q (negation l)) (list_all q (map negation rest)) here all
+with_one q l rest true here all = and_from (q (negation l)) (list_all q (map negation rest)) here all
 with_one q l rest false here all = all
 
 -- what holds of a literal and its negation alike holds of the needs where it holds of the instance
@@ -269,7 +214,7 @@ good_needs_of rule r scope args lits goal at transfer instance over =
 
 some_row : (rule : ℕ) (args : List Obj) (lits : List Lit) → slice_get table rule ≡ None → Inst rule args ≡ Some lits → ⊥
 unfolding Inst
-some_row rule args lits none instance = none_is lits (sym (ap (option_and_then (λ x. instance_of_row x args)) none) ∙ instance)
+some_row rule args lits none instance = none-some lits (sym (ap (option_and_then (λ x. instance_of_row x args)) none) ∙ instance)
 
 -- what an instance of a transfer clause over a scope needs is in scope and well formed
 pub good_needs : (rule : ℕ) (scope : Scope) (args : List Obj) (lits : List Lit) (goal : Lit) → is_transfer rule ≡ true → Inst rule args ≡ Some lits

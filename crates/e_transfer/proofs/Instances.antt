@@ -3,7 +3,7 @@ use Rattle.std.proofs.Common.{◌≡◌, ℕ, zero, suc, ◌+◌, ◌<◌, ◌�
 use Rattle.std.specs.Prelude.{slice_get, option_and_then, max}
 use Rattle.std.proofs.lemmas.Bool.{cases_lt}
 use Rattle.std.proofs.lemmas.List.{map-append, get_or_append_left}
-use Rattle.std.proofs.lemmas.Option.{slice_get-map, get_or_from_slice_get}
+use Rattle.std.proofs.lemmas.Option.{slice_get-map, get_or_from_slice_get, same_Some, none-some}
 use Rattle.e_literal.specs.declared.object.Obj.{Obj}
 use Rattle.e_literal.specs.declared.object.Mono.{Mono}
 use Rattle.e_literal.specs.declared.object.Term.{Term}
@@ -16,15 +16,14 @@ use Rattle.e_literal.specs.Rename.{term_at, mono_at, atom_at}
 use Rattle.e_clause.specs.Rows.{Row}
 use Rattle.e_clause.specs.Table.{table}
 use Rattle.e_clause.specs.Instance.{Inst, instance_of_row, fits, number, lit_at, clause_of}
-use Rattle.e_clause.proofs.Refuted.{some_is, none_is}
 use Rattle.e_transfer.specs.Binding.{line, circle}
 use Rattle.e_transfer.specs.Part.{arguments_from, arguments, last_of_term, last_of_sum, last_of_atom, lasts_of}
 
 -- ---- the literals of an instance
 
 by_fit : (b : Bool) (xs lits : List Lit) → cond b (Some xs) None ≡ Some lits → (b ≡ true) × (lits ≡ xs)
-by_fit true xs lits e = (refl, sym (some_is xs lits e))
-by_fit false xs lits e = absurd (none_is lits e)
+by_fit true xs lits e = (refl, sym (same_Some xs lits e))
+by_fit false xs lits e = absurd (none-some lits e)
 
 -- an instance has arguments of the row's sorts, and its literals are those of the clause
 pub of_instance : (rule : ℕ) (args : List Obj) (r : Row) (lits : List Lit) → slice_get table rule ≡ Some r → Inst rule args ≡ Some lits
@@ -34,13 +33,13 @@ of_instance rule args r lits at h =
     by_fit (fits r args) (map (lit_at r args) (clause_of r)) lits (sym (ap (option_and_then (λ x. instance_of_row x args)) at) ∙ h)
 
 map_at : {X Y : Type 0} (h : X → Y) (xs : List X) (j : ℕ) (y : Y) → slice_get (map h xs) j ≡ Some y → (x : X) × (slice_get xs j ≡ Some x) × (y ≡ h x)
-map_at h [] j y e = absurd (none_is y e)
-map_at h (x ∷ xs) zero y e = (x, refl, sym (some_is (h x) y e))
+map_at h [] j y e = absurd (none-some y e)
+map_at h (x ∷ xs) zero y e = (x, refl, sym (same_Some (h x) y e))
 map_at h (x ∷ xs) (suc j) y e = map_at h xs j y e
 
 pub at_map : {X Y : Type 0} (h : X → Y) (xs : List X) (j : ℕ) (x : X) → slice_get xs j ≡ Some x → slice_get (map h xs) j ≡ Some (h x)
-at_map h [] j x e = absurd (none_is x e)
-at_map h (y ∷ ys) zero x e = ap (λ z. Some (h z)) (some_is y x e)
+at_map h [] j x e = absurd (none-some x e)
+at_map h (y ∷ ys) zero x e = ap (λ z. Some (h z)) (same_Some y x e)
 at_map h (y ∷ ys) (suc j) x e = at_map h ys j x e
 
 -- ---- the numbers of the arguments
@@ -146,7 +145,7 @@ lasts_are r places =
 last_at : (r : Row) (places : List ℕ) (j last : ℕ) (l : Lit) → slice_get (lasts_of r places) j ≡ Some last → slice_get (clause_of r) j ≡ Some l → last ≡ last_of r places l
 last_at r places j last l h k =
     let e : Some last ≡ Some (last_of r places l) = sym h ∙ ap (λ ns. slice_get ns j) (lasts_are r places) ∙ at_map (last_of r places) (clause_of r) j l k in
-    some_is last (last_of r places l) e
+    same_Some last (last_of r places l) e
 
 -- a literal whose last variable is chosen stays the same
 pub literal_kept : (r : Row) (places part rest : List ℕ) (j last : ℕ) (lit : Lit) → slice_get (lasts_of r places) j ≡ Some last → last < length part

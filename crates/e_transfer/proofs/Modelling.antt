@@ -4,18 +4,19 @@ use Rattle.std.specs.Prelude.{MatchBool}
 use Rattle.std.proofs.lemmas.List.{take_all}
 use Rattle.std.specs.List.{list_all}
 use Rattle.std.proofs.lemmas.List.Folds.{list_all-append}
+use Rattle.std.proofs.lemmas.Bool.{and_from, cases_Bool}
 use Rattle.e_literal.specs.declared.object.Term.{Term}
 use Rattle.e_literal.specs.declared.object.Term.TheVariants.{Seg, Ang, Area, Right}
 use Rattle.e_literal.specs.declared.literal.Lit.{Lit}
-use Rattle.e_literal.specs.Rows.{is_degenerate}
 use Rattle.e_literal.specs.Facts.{has, is_metric}
 use Rattle.e_literal.specs.Same.{canonical, one_term}
 use Rattle.e_literal.specs.Solution.{carried}
 use Rattle.e_literal.specs.Truth.{holds, all_hold}
-use Rattle.e_literal.proofs.Terms.{both, and_left, and_right, term_eq_is, yes_or_no, eqb_self}
-use Rattle.e_literal.proofs.Canonical.{same_degenerate}
+use Rattle.e_literal.proofs.Terms.{term_eq_is}
+use Rattle.e_literal.proofs.Booleans.{eqb_self, and_left, and_right}
 use Rattle.e_clause.specs.Assignment.{terms_of_atom, terms_of_lits, terms_of_step, is_within, is_zero_if_degenerate, is_positive_if_apart, agrees_with, is_admissible}
 use Rattle.e_clause.specs.Metric.{MetricConsequence, IsCounterexample}
+use Rattle.e_clause.proofs.Carried.{carried_same, zero_so}
 use Rattle.e_transfer.specs.declared.sought.Means.{Means}
 use Rattle.e_transfer.specs.declared.sought.Means.TheVariants as means
 use Rattle.e_transfer.specs.Giving.{Suffices}
@@ -25,20 +26,13 @@ by_flat : (b : Bool) (n : ℕ) → cond b (eqb (cond b 0 n) 0) true ≡ true
 by_flat true n = refl
 by_flat false n = refl
 
-zero : (w : Term → ℕ) (t : Term) → is_zero_if_degenerate (carried w) t ≡ true
-zero w t = by_flat (is_degenerate t) (w (canonical t))
-
-one_value : (w : Term → ℕ) (s t : Term) → canonical s ≡ canonical t → carried w s ≡ carried w t
-one_value w s t e =
-    ap (λ b. cond b 0 (w (canonical s))) (same_degenerate s t e) ∙ ap (λ u. cond (is_degenerate t) 0 (w u)) e
-
 by_one : (w : Term → ℕ) (t u : Term) (b : Bool) → one_term t u ≡ b → cond b (eqb (carried w t) (carried w u)) true ≡ true
-by_one w t u true e = eq-eqb (carried w t) (carried w u) (one_value w t u (term_eq_is (canonical t) (canonical u) e))
+by_one w t u true e = eq-eqb (carried w t) (carried w u) (carried_same w t u (term_eq_is (canonical t) (canonical u) e))
 by_one w t u false e = refl
 
 agrees : (w : Term → ℕ) (ts : List Term) (t : Term) → agrees_with (carried w) ts t ≡ true
 agrees w [] t = refl
-agrees w (u ∷ us) t = both (cond (one_term t u) (eqb (carried w t) (carried w u)) true) (agrees_with (carried w) us t) (by_one w t u (one_term t u) refl) (agrees w us t)
+agrees w (u ∷ us) t = and_from (cond (one_term t u) (eqb (carried w t) (carried w u)) true) (agrees_with (carried w) us t) (by_one w t u (one_term t u) refl) (agrees w us t)
 
 all_admissible : (facts : List Lit) (w : Term → ℕ) (all ts : List Term) → fits_terms facts (carried w) ts ≡ true
     → list_all (λ t. is_within (carried w) t && (is_zero_if_degenerate (carried w) t && (is_positive_if_apart facts (carried w) t && agrees_with (carried w) all t))) ts ≡ true
@@ -48,11 +42,11 @@ all_admissible facts w all (t ∷ ts) fit =
     let here = and_left (fits_term facts v t) (fits_terms facts v ts) fit in
     let within = and_left (is_within v t) (is_positive_if_apart facts v t) here in
     let positive = and_right (is_within v t) (is_positive_if_apart facts v t) here in
-    both (is_within v t && (is_zero_if_degenerate v t && (is_positive_if_apart facts v t && agrees_with v all t)))
+    and_from (is_within v t && (is_zero_if_degenerate v t && (is_positive_if_apart facts v t && agrees_with v all t)))
     (list_all (λ u. is_within v u && (is_zero_if_degenerate v u && (is_positive_if_apart facts v u && agrees_with v all u))) ts)
-    (both (is_within v t) (is_zero_if_degenerate v t && (is_positive_if_apart facts v t && agrees_with v all t)) within
-    (both (is_zero_if_degenerate v t) (is_positive_if_apart facts v t && agrees_with v all t) (zero w t)
-    (both (is_positive_if_apart facts v t) (agrees_with v all t) positive (agrees w all t))))
+    (and_from (is_within v t) (is_zero_if_degenerate v t && (is_positive_if_apart facts v t && agrees_with v all t)) within
+    (and_from (is_zero_if_degenerate v t) (is_positive_if_apart facts v t && agrees_with v all t) (zero_so w t)
+    (and_from (is_positive_if_apart facts v t) (agrees_with v all t) positive (agrees w all t))))
     (all_admissible facts w all ts (and_right (fits_term facts v t) (fits_terms facts v ts) fit))
 
 -- a literal that is false in a model, with values that its terms may have, does not follow
@@ -66,9 +60,9 @@ refuted facts l w model fit fails follows =
     let true_facts = and_right (fits_terms facts v (terms_of_lits facts)) (all_hold v facts) rest in
     let ts = terms_of_step facts (Some l) in
     let fit_all : fits_terms facts v ts ≡ true =
-    both (fits_term facts v Right) (fits_terms facts v (terms_of_lits facts ++ terms_of_atom l.atom)) right
+    and_from (fits_term facts v Right) (fits_terms facts v (terms_of_lits facts ++ terms_of_atom l.atom)) right
     (list_all-append (fits_term facts v) (terms_of_lits facts) (terms_of_atom l.atom)
-    ∙ both (fits_terms facts v (terms_of_lits facts)) (fits_terms facts v (terms_of_atom l.atom)) terms fit) in
+    ∙ and_from (fits_terms facts v (terms_of_lits facts)) (fits_terms facts v (terms_of_atom l.atom)) terms fit) in
     let admissible : is_admissible facts (Some l) v ≡ true = all_admissible facts w ts ts fit_all in
     true≢false (sym (follows.follows v admissible true_facts) ∙ fails)
 
@@ -79,7 +73,7 @@ fits_all facts (l ∷ ls) v each =
     let here = fits_terms facts v (terms_of_atom l.atom) in
     let rest = list_all (λ k. fits_terms facts v (terms_of_atom k.atom)) ls in
     list_all-append (fits_term facts v) (terms_of_atom l.atom) (terms_of_lits ls)
-    ∙ both here (fits_terms facts v (terms_of_lits ls)) (and_left here rest each) (fits_all facts ls v (and_right here rest each))
+    ∙ and_from here (fits_terms facts v (terms_of_lits ls)) (and_left here rest each) (fits_all facts ls v (and_right here rest each))
 
 pub all_fit : (facts : List Lit) (v : Term → ℕ) (n : ℕ) → length facts ≤ n → list_all (λ l. fits_terms facts v (terms_of_atom l.atom)) (take n facts) ≡ true
     → fits_terms facts v (terms_of_lits facts) ≡ true

@@ -1,10 +1,12 @@
 -- What an instance needs: which literals stand, which parts are good, and what is wide.
-use Rattle.std.proofs.Common.{◌≡◌, ℕ, zero, suc, ◌<◌, ◌≤◌, List, [], ◌∷◌, refl, sym, ap, ◌∙◌, subst, arith, Bool, true, false, cond, not, ◌&&◌, ◌||◌, true≢false, eqb, get_or, length, map, take, ◌+◌, ◌++◌, ◌⊎◌, inl, inr, Option, Some, None}
-use Rattle.std.specs.Prelude.{nat_le, slice_get, filter, All, Contains, IsTrue, MatchBool}
+use Rattle.std.proofs.Common.{◌≡◌, ℕ, zero, suc, ◌<◌, ◌≤◌, List, [], ◌∷◌, refl, sym, ap, ◌∙◌, subst, arith, Bool, true, false, cond, not, ◌&&◌, ◌||◌, true≢false, eqb, get_or, length, map, take, ◌+◌, ◌++◌, ◌⊎◌, inl, inr, Option, Some, None, leb-true, eqb-true}
+use Rattle.std.specs.Prelude.{slice_get, filter, All, Contains, IsTrue, MatchBool}
 use Rattle.std.specs.Option.{option_map_or}
 use Rattle.std.specs.List.{list_all, list_any, AllZip}
-use Rattle.std.proofs.lemmas.Bool.Decides.{nat_tests}
 use Rattle.std.proofs.lemmas.List.Elements.{All-cons, All-head, All-tail, All-nil, Contains-get_or}
+use Rattle.std.proofs.lemmas.Bool.{and_from, or_left, or_right, or_cases, cases_Bool}
+use Rattle.std.proofs.lemmas.Option.{same_Some, none-some}
+use Rattle.std.proofs.lemmas.List.{map-append}
 use Rattle.e_literal.specs.declared.object.Obj.{Obj}
 use Rattle.e_literal.specs.declared.object.Scope.{Scope}
 use Rattle.e_literal.specs.declared.literal.Lit.{Lit}
@@ -14,7 +16,7 @@ use Rattle.e_clause.specs.Assignment.{terms_of_lits}
 use Rattle.e_clause.specs.Judged.{is_good, are_good, are_few, are_good_facts}
 use Rattle.e_literal.specs.Same.{same_lit}
 use Rattle.e_literal.specs.Facts.{has, has_all, others, is_metric}
-use Rattle.e_literal.proofs.Terms.{eqb_is, both, and_left, and_right, or_left, or_right, or_either, yes_or_no}
+use Rattle.e_literal.proofs.Booleans.{and_left, and_right}
 use Rattle.e_clause.specs.declared.cert.Part.{Part}
 use Rattle.e_clause.specs.declared.cert.TransferCert.{TransferCert}
 use Rattle.e_clause.specs.Instance.{Inst}
@@ -24,7 +26,6 @@ use Rattle.e_clause.specs.Transfer.{Stands, TransferOf}
 use Rattle.e_clause.specs.PartCertificate.{part_certifies, part_in}
 use Rattle.e_clause.specs.TransferCertificate.{parts_certify, instance_certifies, transfer_certifies}
 use Rattle.e_clause.specs.Wide.{IsMetricSystem, IsTransferSystem, HasWidth}
-use Rattle.e_clause.proofs.Refuted.{some_is, none_is}
 use Rattle.e_metric.specs.Told.{IsTooWide, IsTold, IsCertified}
 use Rattle.e_clause.specs.Written.{is_good_part}
 use Rattle.e_metric.specs.declared.consequence.Metric.{Metric}
@@ -51,9 +52,9 @@ of_tail P p x xs false all = all
 -- what holds of the negations of those that pass holds of that of the literal at the place
 each_negation : (P : Lit → Type 0) (p : Lit → Bool) (ls : List Lit) (j : ℕ) (l : Lit) → All P (map negation (filter p ls)) → slice_get ls j ≡ Some l → p l ≡ true
     → P (negation l)
-each_negation P p [] j l all at passes = absurd (none_is l at)
+each_negation P p [] j l all at passes = absurd (none-some l at)
 each_negation P p (x ∷ xs) zero l all at passes =
-    let e = some_is x l at in of_head P p x l xs (p x) all e (ap p e ∙ passes)
+    let e = same_Some x l at in of_head P p x l xs (p x) all e (ap p e ∙ passes)
 each_negation P p (x ∷ xs) (suc j) l all at passes = each_negation P p xs j l (of_tail P p x xs (p x) all) at passes
 
 at_goal : (ls : List Lit) (place j : ℕ) (goal l : Lit) → is_at ls place goal ≡ true → slice_get ls j ≡ Some l → j ≡ place → same_lit l goal ≡ true
@@ -69,7 +70,7 @@ elsewhere m facts ls goal l j all at false e = inr (each_negation (Suffices m fa
 -- each literal of an instance that gives the goal is what it has to be
 fitting_by : (m : Means) (facts ls : List Lit) (goal l : Lit) (place j : ℕ) → is_at ls place goal ≡ true → All (Suffices m facts) (needs ls goal)
     → slice_get ls j ≡ Some l → (b : Bool) → eqb j place ≡ b → IsFitting m facts goal b l
-fitting_by m facts ls goal l place j here all at true e = at_goal ls place j goal l here at (eqb_is j place e)
+fitting_by m facts ls goal l place j here all at true e = at_goal ls place j goal l here at (eqb-true j place e)
 fitting_by m facts ls goal l place j here all at false e = elsewhere m facts ls goal l j all at (same_lit l goal) refl
 
 pub fitting : (m : Means) (facts ls : List Lit) (goal l : Lit) (place j : ℕ) → is_at ls place goal ≡ true → All (Suffices m facts) (needs ls goal)
@@ -85,7 +86,7 @@ one_at (l ∷ ls) (suc place) goal here = or_right (same_lit l goal) (has ls goa
 -- and one of the instance is at some place
 pub some_place : (ls : List Lit) (goal : Lit) → has ls goal ≡ true → (place : ℕ) × (is_at ls place goal ≡ true)
 some_place [] goal one = absurd (true≢false (sym one))
-some_place (l ∷ ls) goal one = elim (or_either (same_lit l goal) (has ls goal) one) [
+some_place (l ∷ ls) goal one = elim (or_cases (same_lit l goal) (has ls goal) one) [
   | inl here ↦ (0, here)
   | inr later ↦ (let p = some_place ls goal later in (suc p.0, p.1))
 ]
@@ -112,13 +113,13 @@ diagram_stands means.NarrowSums facts l enough = elim enough [
 pub diagrams_of : (m : Means) (facts ls : List Lit) → All (Suffices m facts) ls → diagrams_stand facts ls ≡ true
 diagrams_of m facts [] all = refl
 diagrams_of m facts (l ∷ ls) all =
-    both (is_metric l || has facts l) (diagrams_stand facts ls) (diagram_stands m facts l (All-head (Suffices m facts) l ls all))
+    and_from (is_metric l || has facts l) (diagrams_stand facts ls) (diagram_stands m facts l (All-head (Suffices m facts) l ls all))
     (diagrams_of m facts ls (All-tail (Suffices m facts) l ls all))
 
 with_diagram : (b : Bool) (facts : List Lit) (l : Lit) (rest : List Lit) → (b || has facts (negation l)) ≡ true → has_all facts (map negation rest) ≡ true
     → has_all facts (map negation (cond (not b) (l ∷ rest) rest)) ≡ true
 with_diagram true facts l rest stands all = all
-with_diagram false facts l rest stands all = both (has facts (negation l)) (has_all facts (map negation rest)) stands all
+with_diagram false facts l rest stands all = and_from (has facts (negation l)) (has_all facts (map negation rest)) stands all
 
 diagrams_among : (facts ls : List Lit) → diagrams_stand facts (map negation ls) ≡ true
     → has_all facts (map negation (filter (λ l. not (is_metric l)) ls)) ≡ true
@@ -168,9 +169,9 @@ parts_good scope facts (l ∷ ls) [] good = absurd good
 parts_good scope facts (l ∷ ls) (p ∷ ps) good =
     let here = good.0 in
     let rest = parts_good scope facts ls ps good.1 in (
-      both (part_certifies facts (negation l) p) (parts_certify facts ls ps) here.certifies rest.0,
-      both (part_in scope p) (list_all (part_in scope) ps) here.over rest.1,
-      both (is_good_part p) (list_all is_good_part ps) here.written rest.2,
+      and_from (part_certifies facts (negation l) p) (parts_certify facts ls ps) here.certifies rest.0,
+      and_from (part_in scope p) (list_all (part_in scope) ps) here.over rest.1,
+      and_from (is_good_part p) (list_all is_good_part ps) here.written rest.2,
     )
 
 pub good_cert : (scope : Scope) (facts lits : List Lit) (goal : Lit) (cert : TransferCert) → is_transfer cert.rule ≡ true → list_all (is_in_scope scope) cert.args ≡ true
@@ -178,21 +179,21 @@ pub good_cert : (scope : Scope) (facts lits : List Lit) (goal : Lit) (cert : Tra
 good_cert scope facts lits goal cert transfer over instance one good =
     let parts = parts_good scope facts (others lits goal) cert.parts good in
     record {
-      over = both (list_all (is_in_scope scope) cert.args) (list_all (part_in scope) cert.parts) over parts.1;
-      certifies = both (is_transfer cert.rule) (option_map_or (instance_certifies facts goal cert.parts) (Inst cert.rule cert.args) false) transfer
+      over = and_from (list_all (is_in_scope scope) cert.args) (list_all (part_in scope) cert.parts) over parts.1;
+      certifies = and_from (is_transfer cert.rule) (option_map_or (instance_certifies facts goal cert.parts) (Inst cert.rule cert.args) false) transfer
           (ap (λ o. option_map_or (instance_certifies facts goal cert.parts) o false) instance
-          ∙ both (has lits goal) (parts_certify facts (others lits goal) cert.parts) one parts.0);
+          ∙ and_from (has lits goal) (parts_certify facts (others lits goal) cert.parts) one parts.0);
       written = parts.2;
     }
 
 -- ---- refusals of one instance
 
 pub same_lits : (rule : ℕ) (args : List Obj) (a b : List Lit) → Inst rule args ≡ Some a → Inst rule args ≡ Some b → a ≡ b
-same_lits rule args a b h k = some_is a b (sym h ∙ k)
+same_lits rule args a b h k = same_Some a b (sym h ∙ k)
 
 pub refused_no_instance : (m : Means) (scope : Scope) (facts : List Lit) (goal : Lit) (rule : ℕ) (args : List Obj) → Inst rule args ≡ None → (place : ℕ)
     → Gives m scope facts goal rule place args → ⊥
-refused_no_instance m scope facts goal rule args none place gives = none_is gives.lits (sym none ∙ gives.instance)
+refused_no_instance m scope facts goal rule args none place gives = none-some gives.lits (sym none ∙ gives.instance)
 
 pub refused_over : (m : Means) (scope : Scope) (facts : List Lit) (goal : Lit) (rule : ℕ) (args : List Obj) → list_all (is_in_scope scope) args ≡ false → (place : ℕ)
     → Gives m scope facts goal rule place args → ⊥
@@ -216,10 +217,6 @@ refused_part m scope facts goal rule args lits instance fails place gives =
 
 -- ---- the needs, literal by literal
 
-map_joined : {X Y : Type 0} (h : X → Y) (xs ys : List X) → map h (xs ++ ys) ≡ map h xs ++ map h ys
-map_joined h [] ys = refl
-map_joined h (x ∷ xs) ys = ap (λ zs. h x ∷ zs) (map_joined h xs ys)
-
 with_rest : (b : Bool) (x : Lit) (xs ys zs : List Lit) → zs ≡ xs ++ ys → cond b (x ∷ zs) zs ≡ cond b (x ∷ xs) xs ++ ys
 with_rest true x xs ys zs is = ap (λ ls. x ∷ ls) is
 with_rest false x xs ys zs is = is
@@ -231,7 +228,7 @@ filter_joined p (x ∷ xs) ys = with_rest (p x) x (filter p xs) (filter p ys) (f
 pub needs_joined : (xs ys : List Lit) (goal : Lit) → needs (xs ++ ys) goal ≡ needs xs goal ++ needs ys goal
 needs_joined xs ys goal =
     let p = λ (l : Lit). not (same_lit l goal) in
-    ap (map negation) (filter_joined p xs ys) ∙ map_joined negation (filter p xs) (filter p ys)
+    ap (map negation) (filter_joined p xs ys) ∙ map-append negation (filter p xs) (filter p ys)
 
 one_part_more : (R : Lit → Part → Type 0) (xs : List Lit) (ps : List Part) (i : ℕ) (d : Lit) (p : Part) → i < length xs → AllZip R (take i xs) ps → R (get_or xs i d) p
     → AllZip R (take (suc i) xs) (ps ++ p ∷ [])
@@ -253,23 +250,20 @@ one_more_part R xs ps i d p less all here =
 
 -- ---- good facts
 
-le_is : (a b : ℕ) → nat_le a b ≡ true → a ≤ b
-le_is a b h = grind (arith, nat_tests)
-
 pub facts_few : (s : Scope) (facts : List Lit) → are_good_facts s facts ≡ true → length (terms_of_lits facts) ≤ 1100
-facts_few s facts h = le_is (length (terms_of_lits facts)) 1100 (and_right (are_good s facts) (are_few facts) h)
+facts_few s facts h = leb-true (length (terms_of_lits facts)) 1100 (and_right (are_good s facts) (are_few facts) h)
 
 pub facts_well : (scope : Scope) (facts : List Lit) → are_good scope facts ≡ true → list_all is_well_formed facts ≡ true
 facts_well scope [] good = refl
 facts_well scope (l ∷ ls) good =
     let here = and_left (is_good scope l) (are_good scope ls) good in
-    both (is_well_formed l) (list_all is_well_formed ls) (and_right (all_in_scope scope l) (is_well_formed l) here) (facts_well scope ls (and_right (is_good scope l) (are_good scope ls) good))
+    and_from (is_well_formed l) (list_all is_well_formed ls) (and_right (all_in_scope scope l) (is_well_formed l) here) (facts_well scope ls (and_right (is_good scope l) (are_good scope ls) good))
 
 pub facts_over : (scope : Scope) (facts : List Lit) → are_good scope facts ≡ true → list_all (all_in_scope scope) facts ≡ true
 facts_over scope [] good = refl
 facts_over scope (l ∷ ls) good =
     let here = and_left (is_good scope l) (are_good scope ls) good in
-    both (all_in_scope scope l) (list_all (all_in_scope scope) ls) (and_left (all_in_scope scope l) (is_well_formed l) here) (facts_over scope ls (and_right (is_good scope l) (are_good scope ls) good))
+    and_from (all_in_scope scope l) (list_all (all_in_scope scope) ls) (and_left (all_in_scope scope l) (is_well_formed l) here) (facts_over scope ls (and_right (is_good scope l) (are_good scope ls) good))
 
 -- ---- parts, one by one
 

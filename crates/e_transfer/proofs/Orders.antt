@@ -1,12 +1,12 @@
 -- Terms that are one term are written alike in one of the orders.
-use Rattle.std.proofs.Common.{◌≡◌, ℕ, refl, sym, ap, ◌∙◌, subst, arith, ◌<◌, ◌≤◌, Bool, true, eqb, eq-eqb, true≢false, ◌⊎◌, inl, inr, min, max}
+use Rattle.std.proofs.Common.{◌≡◌, ℕ, refl, sym, ap, ◌∙◌, subst, arith, ◌<◌, ◌≤◌, Bool, true, true≢false, ◌⊎◌, inl, inr, min, max, eqb-true}
 use Rattle.std.specs.List.{list_any}
 use Rattle.std.proofs.lemmas.Bool.{cases_eq, cases_lt}
 use Rattle.std.proofs.lemmas.Bool.Decides.{nat_tests}
 use Rattle.e_literal.specs.declared.object.Term.{Term}
 use Rattle.e_literal.specs.declared.object.Term.TheVariants.{Seg, Ang, Area, Right}
 use Rattle.e_literal.specs.Same.{canonical, term_eq, one_term}
-use Rattle.e_literal.proofs.Terms.{eqb_is, and_left, and_right}
+use Rattle.e_literal.proofs.Booleans.{and_left, and_right}
 use Rattle.e_transfer.specs.Seeds.{orders}
 
 -- two numbers that are two others, in some order
@@ -167,13 +167,10 @@ with_first a b c d e f same alike = rest_of a b c e f (subst (λ n. AreAlike a b
 
 alike_of : (a b c d e f : ℕ) → term_eq (canonical (Area a b c)) (canonical (Area d e f)) ≡ true → AreAlike a b c d e f
 alike_of a b c d e f h = record {
-  low = eqb_is _ _ (and_left _ _ h);
-  mid = eqb_is _ _ (and_left _ _ (and_right _ _ h));
-  high = eqb_is _ _ (and_right _ _ (and_right _ _ h));
+  low = eqb-true _ _ (and_left _ _ h);
+  mid = eqb-true _ _ (and_left _ _ (and_right _ _ h));
+  high = eqb-true _ _ (and_right _ _ (and_right _ _ h));
 }
-
-eqb_of : (a b : ℕ) → a ≡ b → eqb a b ≡ true
-eqb_of a b e = eq-eqb a b e
 
 -- one of the orders is the term, where it is at one of these places
 abbrev among : Term → Term → Bool
@@ -201,10 +198,10 @@ angle_one a b c d e f z (inr (x, y)) = grind (arith, nat_tests, x, y, z)
 
 -- a term that is one with another is the other in one of its orders
 pub one_order : (s t : Term) → one_term s t ≡ true → list_any (λ o. term_eq s o) (orders t) ≡ true
-one_order (Seg a b) (Seg c d) h = pair_one a b c d (two_of a b c d (eqb_is _ _ (and_left _ _ h)) (eqb_is _ _ (and_right _ _ h)))
+one_order (Seg a b) (Seg c d) h = pair_one a b c d (two_of a b c d (eqb-true _ _ (and_left _ _ h)) (eqb-true _ _ (and_right _ _ h)))
 one_order (Ang a b c) (Ang d e f) h =
-    angle_one a b c d e f (eqb_is _ _ (and_left _ _ (and_right _ _ h)))
-    (two_of a c d f (eqb_is _ _ (and_left _ _ h)) (eqb_is _ _ (and_right _ _ (and_right _ _ h))))
+    angle_one a b c d e f (eqb-true _ _ (and_left _ _ (and_right _ _ h)))
+    (two_of a c d f (eqb-true _ _ (and_left _ _ h)) (eqb-true _ _ (and_right _ _ (and_right _ _ h))))
 one_order (Area a b c) (Area d e f) h =
     let alike = alike_of a b c d e f h in
     elim (first_one a b c d e f alike) [

@@ -1,8 +1,9 @@
 -- The search at one place of a clause: what is refused.
-use Rattle.std.proofs.Common.{◌≡◌, ℕ, zero, suc, ◌<◌, ◌≤◌, List, [], ◌∷◌, ◌++◌, refl, sym, ap, ◌∙◌, subst, arith, ◌+◌, Bool, true, false, not, ◌||◌, eqb, true≢false, get_or, length, map, take, ◌⊎◌, inl, inr, Some, None}
+use Rattle.std.proofs.Common.{◌≡◌, ℕ, zero, suc, ◌<◌, ◌≤◌, List, [], ◌∷◌, ◌++◌, refl, sym, ap, ◌∙◌, subst, arith, ◌+◌, Bool, true, false, ◌||◌, eqb, true≢false, get_or, length, map, take, ◌⊎◌, inl, inr, Some, None}
 use Rattle.std.specs.Prelude.{slice_get, nat_lt}
 use Rattle.std.specs.List.{list_all}
 use Rattle.std.proofs.lemmas.Bool.{ltb-true}
+use Rattle.std.proofs.lemmas.Option.{same_Some}
 use Rattle.e_literal.specs.declared.object.Obj.{Obj}
 use Rattle.e_literal.specs.declared.object.Scope.{Scope}
 use Rattle.e_literal.specs.declared.object.Sort.{Sort}
@@ -10,11 +11,10 @@ use Rattle.e_literal.specs.declared.literal.Lit.{Lit}
 use Rattle.e_literal.specs.Literal.{negation, obj}
 use Rattle.e_literal.specs.Same.{same_lit}
 use Rattle.e_literal.specs.Facts.{has, is_metric}
-use Rattle.e_literal.proofs.Terms.{and_left, and_right}
+use Rattle.e_literal.proofs.Booleans.{and_left, and_right}
 use Rattle.e_clause.specs.Rows.{Row}
 use Rattle.e_clause.specs.Table.{table}
 use Rattle.e_clause.specs.Instance.{lit_at, clause_of}
-use Rattle.e_clause.proofs.Refuted.{some_is}
 use Rattle.e_transfer.specs.declared.plan.Plan.{Plan}
 use Rattle.e_transfer.specs.declared.sought.Means.{Means}
 use Rattle.e_transfer.specs.declared.sought.Means.TheVariants as means
@@ -56,11 +56,6 @@ argument_added r c places v args new s n less pushed sort num before =
     pushed ∙ ap (λ x. args ++ obj x n ∷ []) sort ∙ ap (λ k. args ++ obj (sort_of r v) k ∷ []) num
     ∙ ap (λ os. os ++ obj (sort_of r v) (get_or c (get_or places v 0) 0) ∷ []) before ∙ sym (arguments_more r c places v less)
 
--- a negated answer
-pub not_true : (b : Bool) → not b ≡ true → b ≡ false
-not_true true e = absurd (true≢false (sym e))
-not_true false e = refl
-
 -- ---- one literal
 
 not_of : (m : Means) (facts : List Lit) (l : Lit) → is_metric l ≡ false → has facts l ≡ false → Suffices m facts l → ⊥
@@ -98,7 +93,7 @@ with_row : (m : Means) (scope : Scope) (facts : List Lit) (goal : Lit) (rule pla
     → Wanted m scope facts goal rule place plan c
     → (plan.lasts.items ≡ lasts_of r plan.places.items) × Gives m scope facts goal rule place (arguments r plan.places.items c)
 with_row m scope facts goal rule place plan r c at wanted =
-    let is : wanted.row ≡ r = some_is wanted.row r (sym wanted.of_table ∙ at) in (
+    let is : wanted.row ≡ r = same_Some wanted.row r (sym wanted.of_table ∙ at) in (
       subst (λ (x : Row). plan.lasts.items ≡ lasts_of x plan.places.items) is wanted.lasts,
       subst (λ (x : Row). Gives m scope facts goal rule place (arguments x plan.places.items c)) is wanted.gives,
     )

@@ -1,15 +1,17 @@
 -- A plan reaches each instance whose arguments agree with the ties.
-use Rattle.std.proofs.Common.{◌≡◌, ℕ, zero, suc, ◌+◌, ◌-◌, ◌<◌, ◌≤◌, List, [], ◌∷◌, ◌++◌, refl, sym, ap, ◌∙◌, subst, arith, Bool, true, false, ◌&&◌, eqb, true≢false, get_or, length, map, take, drop, ◌⊎◌, inl, inr, Option}
+use Rattle.std.proofs.Common.{◌≡◌, ℕ, zero, suc, ◌+◌, ◌-◌, ◌<◌, ◌≤◌, List, [], ◌∷◌, ◌++◌, refl, sym, ap, ◌∙◌, subst, arith, Bool, true, false, ◌&&◌, eqb, get_or, length, map, take, drop, ◌⊎◌, inl, inr, Option, eqb-true}
 use Rattle.std.specs.Prelude.{IsTrue, nat_lt, slice_get}
 use Rattle.std.specs.Option.{option_map_or}
 use Rattle.std.specs.List.{list_all, list_any}
-use Rattle.std.proofs.lemmas.Bool.{ltb-true, lt-ltb, le-ltb, cases_lt}
+use Rattle.std.proofs.lemmas.Bool.{ltb-true, lt-ltb, le-ltb, cases_lt, and_from}
+use Rattle.std.proofs.lemmas.List.{length-map}
 use Rattle.e_literal.specs.declared.object.Obj.{Obj}
 use Rattle.e_literal.specs.declared.object.Scope.{Scope}
 use Rattle.e_literal.specs.declared.object.Sort.{Sort}
 use Rattle.e_literal.specs.declared.object.Sort.TheVariants.{Point, Line, Circle}
 use Rattle.e_literal.specs.Literal.{obj, count_of, is_in_scope}
-use Rattle.e_literal.proofs.Terms.{eqb_is, both, and_left, and_right}
+use Rattle.e_literal.proofs.Sorts.{same_sort_is}
+use Rattle.e_literal.proofs.Booleans.{and_left, and_right}
 use Rattle.e_clause.specs.Rows.{Row}
 use Rattle.e_clause.specs.Instance.{same_sort, all_of, fits, number}
 use Rattle.e_transfer.specs.declared.plan.Plan.{Plan}
@@ -47,17 +49,6 @@ length_dropped zero xs v less = omega (arith, less)
 length_dropped (suc n) [] v less = absurd (omega (arith, less))
 length_dropped (suc n) (x ∷ xs) v less = length_dropped n xs v (omega (arith, less))
 
-sort_is : (a b : Sort) → same_sort a b ≡ true → a ≡ b
-sort_is Point Point h = refl
-sort_is Line Line h = refl
-sort_is Circle Circle h = refl
-sort_is Point Line h = absurd (true≢false (sym h))
-sort_is Point Circle h = absurd (true≢false (sym h))
-sort_is Line Point h = absurd (true≢false (sym h))
-sort_is Line Circle h = absurd (true≢false (sym h))
-sort_is Circle Point h = absurd (true≢false (sym h))
-sort_is Circle Line h = absurd (true≢false (sym h))
-
 -- the sorts of the arguments of an instance are those of the variables
 pub record AreOfRow (r : Row) (args : List Obj) : Type 0 where
   pub many : length args ≡ total_of r
@@ -73,7 +64,7 @@ of_row r args h =
     let d = all_of Circle (drop (r.points + r.lines) args) in
     let rest = and_right a (b && (c && d)) h in
     let last = and_right b (c && d) rest in
-    record { many = eqb_is _ _ (and_left a (b && (c && d)) h); front = and_left b (c && d) rest; middle = and_left c d last; back = and_right c d last }
+    record { many = eqb-true _ _ (and_left a (b && (c && d)) h); front = and_left b (c && d) rest; middle = and_left c d last; back = and_right c d last }
 
 pub sort_of_point : (r : Row) (v : ℕ) → v < r.points → sort_of r v ≡ Point
 sort_of_point r v less = rw (lt-ltb v r.points less) refl
@@ -86,19 +77,19 @@ sort_of_circle r v over = let points : r.points ≤ v = omega (arith, over) in r
 
 sort_at : (r : Row) (args : List Obj) (v : ℕ) → AreOfRow r args → v < length args → (get_or args v nothing).sort ≡ sort_of r v
 sort_at r args v of less = elim (cases_lt v r.points) [
-  | inl point ↦ sort_is _ Point (at_front (λ o. same_sort o.sort Point) r.points args v of.front point less) ∙ sym (sort_of_point r v point)
+  | inl point ↦ same_sort_is _ Point (at_front (λ o. same_sort o.sort Point) r.points args v of.front point less) ∙ sym (sort_of_point r v point)
   | inr over ↦ elim (cases_lt v (r.points + r.lines)) [
     | inl line ↦ (let k = v - r.points in
         let at : r.points + k ≡ v = omega (arith, over) in
         let here : k < length (drop r.points args) = length_dropped r.points args k (omega (arith, at, less)) in
         let passes = at_front (λ o. same_sort o.sort Line) r.lines (drop r.points args) k of.middle (omega (arith, at, line)) here in
-        sort_is _ Line (subst (λ o. same_sort o.sort Line ≡ true) (dropped r.points args k ∙ ap (λ n. get_or args n nothing) at) passes) ∙ sym (sort_of_line r v over line))
+        same_sort_is _ Line (subst (λ o. same_sort o.sort Line ≡ true) (dropped r.points args k ∙ ap (λ n. get_or args n nothing) at) passes) ∙ sym (sort_of_line r v over line))
     | inr beyond ↦ (let n = r.points + r.lines in
         let k = v - n in
         let at : n + k ≡ v = omega (arith, beyond) in
         let here : k < length (drop n args) = length_dropped n args k (omega (arith, at, less)) in
         let passes = at_any (λ o. same_sort o.sort Circle) (drop n args) k of.back here in
-        sort_is _ Circle (subst (λ o. same_sort o.sort Circle ≡ true) (dropped n args k ∙ ap (λ m. get_or args m nothing) at) passes) ∙ sym (sort_of_circle r v beyond))
+        same_sort_is _ Circle (subst (λ o. same_sort o.sort Circle ≡ true) (dropped n args k ∙ ap (λ m. get_or args m nothing) at) passes) ∙ sym (sort_of_circle r v beyond))
   ]
 ]
 
@@ -119,7 +110,7 @@ in_span : (count n v : ℕ) (f : ℕ → ℕ) (t : Tie) → f v ≡ n → n < co
 in_span count n v f tie.Free is less agree = (omega arith, less)
 in_span count n v f (tie.As w) is less agree = (omega arith, less)
 in_span count n v f (tie.Is m) is less agree =
-    let e : m ≡ n = sym (eqb_is (f v) m agree) ∙ is in
+    let e : m ≡ n = sym (eqb-true (f v) m agree) ∙ is in
     let known : nat_lt m count ≡ true = lt-ltb m count (omega (arith, e, less)) in
     rw known (omega (arith, e), omega (arith, e))
 
@@ -176,19 +167,15 @@ reaches r scope ties roots order places total are ordered placed args fit over a
           object_is (get_or args i nothing) (sort_of r (0 + i)) (get_or c (get_or places i 0) 0) (ap (sort_of r) first ∙ sym (sort_at r args i of less)) num)),
     )
 
-length_map : {X Y : Type 0} (f : X → Y) (xs : List X) → length (map f xs) ≡ length xs
-length_map f [] = refl
-length_map f (x ∷ xs) = ap (λ n. suc n) (length_map f xs)
-
 all_below : (n : ℕ) (ps : List ℕ) → ((i : ℕ) → i < length ps → get_or ps i 0 < n) → list_all (λ p. nat_lt p n) ps ≡ true
 all_below n [] each = refl
 all_below n (p ∷ ps) each =
-    both (nat_lt p n) (list_all (λ q. nat_lt q n) ps) (lt-ltb p n (each 0 (omega arith))) (all_below n ps (λ i less. each (suc i) (omega (arith, less))))
+    and_from (nat_lt p n) (list_all (λ q. nat_lt q n) ps) (lt-ltb p n (each 0 (omega arith))) (all_below n ps (λ i less. each (suc i) (omega (arith, less))))
 
 pub plan_is : (r : Row) (scope : Scope) (ties : List Tie) (roots order : List ℕ) (plan : Plan) → length ties ≡ total_of r → RootsAre ties roots → OrderIs (length ties) roots order
     → PlacesAre roots order plan.places.items → plan.spans.items ≡ spans_of r scope ties order → plan.lasts.items ≡ lasts_of r plan.places.items → PlanIs r scope ties plan
 plan_is r scope ties roots order plan total are ordered placed spans lasts =
-    let many : length order ≡ length plan.spans.items = sym (ap length spans ∙ length_map (λ v. span_for (count_of scope (sort_of r v)) (tie_of ties v)) order) in
+    let many : length order ≡ length plan.spans.items = sym (ap length spans ∙ length-map order (λ v. span_for (count_of scope (sort_of r v)) (tie_of ties v))) in
     record {
       lasts = lasts;
       below = all_below (length plan.spans.items) plan.places.items (λ i less. subst (λ n. get_or plan.places.items i 0 < n) many (placed.below i (omega (arith, less, placed.many))));

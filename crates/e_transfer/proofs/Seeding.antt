@@ -1,22 +1,23 @@
 -- The ways in which a goal at a place of a clause binds the variables are all ways.
-use Rattle.std.proofs.Common.{◌≡◌, ℕ, ◌+◌, List, [], ◌∷◌, ◌++◌, refl, sym, ap, ◌∙◌, arith, append-nil, Bool, true, false, cond, not, eq-eqb, ◌&&◌, ◌||◌, eqb, true≢false, ◌⊎◌, inl, inr, map, ◌<◌, length, take, get_or}
+use Rattle.std.proofs.Common.{◌≡◌, ℕ, ◌+◌, List, [], ◌∷◌, ◌++◌, refl, sym, ap, ◌∙◌, arith, append-nil, Bool, true, false, cond, not, eq-eqb, ◌&&◌, ◌||◌, eqb, true≢false, ◌⊎◌, inl, inr, map, ◌<◌, length, take, get_or, eqb-true}
 use Rattle.std.specs.Prelude.{flat_map, option_to_list}
 use Rattle.std.specs.List.{list_any}
 use Rattle.std.proofs.lemmas.Grind.{common_steps, flat_map-append}
 use Rattle.std.proofs.lemmas.List.{take_more}
 use Rattle.std.proofs.lemmas.List.Folds.{list_all_at}
+use Rattle.std.proofs.lemmas.Bool.{and_from, or_cases, cases_Bool}
 use Rattle.e_literal.specs.declared.object.Mono.{Mono}
 use Rattle.e_literal.specs.declared.object.Term.{Term}
 use Rattle.e_literal.specs.declared.object.Term.TheVariants.{Seg, Ang, Area, Right}
 use Rattle.e_literal.specs.Same.{term_eq, one_term, coeff_of, agree_at, agree_on, agree, EqualNormal}
 use Rattle.e_literal.specs.Rename.{term_at, mono_at}
 use Rattle.e_literal.proofs.Agreeing.{agree_equal}
-use Rattle.e_literal.proofs.Terms.{eqb_is, and_left, and_right, or_either, both, yes_or_no}
 use Rattle.e_literal.proofs.Canonical.{one_term_is, one_term_of}
+use Rattle.e_literal.proofs.Booleans.{and_left, and_right, all_both}
 use Rattle.e_transfer.specs.declared.bind.Bind.{Bind}
 use Rattle.e_transfer.specs.Binding.{agrees, all_agree, some_agree, binds_of_term, binds_of_terms}
 use Rattle.e_transfer.specs.Seeds.{orders, ways_of_term, ways_of_sum, merges_of_terms, merges_of_sum, merges, product, cancels, none_cancels, all_cancel, sum_under, CoverSums}
-use Rattle.e_transfer.proofs.Elements.{list_any-map, list_any-flat_map, weaker, any_left, any_right, all-append}
+use Rattle.e_transfer.proofs.Elements.{list_any-map, list_any-flat_map, weaker, any_left, any_right}
 use Rattle.e_transfer.proofs.Orders.{one_order}
 
 -- ---- terms
@@ -134,7 +135,7 @@ ways_cover x y z w t differ f equal = elim (seeded (sum_under f x) (sum_under f 
 -- ---- both at once
 
 all_joined : (f : ℕ → ℕ) (a b : List Bind) → all_agree f a ≡ true → all_agree f b ≡ true → all_agree f (a ++ b) ≡ true
-all_joined f a b h k = all-append (agrees f) a b h k
+all_joined f a b h k = all_both (agrees f) a b h k
 
 with_each : (f : ℕ → ℕ) (a : List Bind) (bs : List (List Bind)) → all_agree f a ≡ true → some_agree f bs ≡ true → some_agree f (map (λ b. a ++ b) bs) ≡ true
 with_each f a bs h k =
@@ -154,21 +155,21 @@ product_more as' bs i d less =
 -- ---- sums of which all cancels
 
 cancels_at : (z w : List Mono) (t : Term) → cancels z w t ≡ true → (coeff_of z t + coeff_of [] t ≡ coeff_of [] t + coeff_of w t)
-cancels_at z w t h = let e = eqb_is (coeff_of z t) (coeff_of w t) h in omega (arith, e)
+cancels_at z w t h = let e = eqb-true (coeff_of z t) (coeff_of w t) h in omega (arith, e)
 
 agree_nothing : (z w ms : List Mono) → all_cancel z w ms ≡ true → agree_on z w [] [] ms ≡ true
 agree_nothing z w [] h = refl
 agree_nothing z w (m ∷ ms) h =
     let rest = all_cancel z w ms in
-    both (agree_at z w [] [] m.term) (agree_on z w [] [] ms)
+    and_from (agree_at z w [] [] m.term) (agree_on z w [] [] ms)
     (eq-eqb _ _ (cancels_at z w m.term (and_left (cancels z w m.term) rest h))) (agree_nothing z w ms (and_right (cancels z w m.term) rest h))
 
 -- where all terms that are written cancel, all do
 all_equal : (z w : List Mono) → all_cancel z w z ≡ true → all_cancel z w w ≡ true → (t : Term) → coeff_of z t ≡ coeff_of w t
 all_equal z w h k t =
     let e : coeff_of z t + 0 ≡ 0 + coeff_of w t =
-    (agree_equal z w [] []).0 (both (agree_on z w [] [] z) (agree_on z w [] [] w && (agree_on z w [] [] [] && agree_on z w [] [] [])) (agree_nothing z w z h)
-    (both (agree_on z w [] [] w) (agree_on z w [] [] [] && agree_on z w [] [] []) (agree_nothing z w w k) refl)) t in
+    (agree_equal z w [] []).0 (and_from (agree_on z w [] [] z) (agree_on z w [] [] w && (agree_on z w [] [] [] && agree_on z w [] [] [])) (agree_nothing z w z h)
+    (and_from (agree_on z w [] [] w) (agree_on z w [] [] [] && agree_on z w [] [] []) (agree_nothing z w w k) refl)) t in
     omega (arith, e)
 
 first_stands : (m : Mono) (ms : List Mono) (n : ℕ) → eqb m.coeff 0 ≡ false → coeff_of (m ∷ ms) m.term ≡ n → n ≡ 0 → ⊥
@@ -194,7 +195,7 @@ merges_cover f (m ∷ ms) y equal = merges_by f m ms y equal (eqb m.coeff 0) ref
 -- one of the two equations of normal forms
 either_equal : (f : ℕ → ℕ) (x y z w : List Mono) → (agree (sum_under f x) (sum_under f y) z w || agree (sum_under f x) (sum_under f y) w z) ≡ true
     → EqualNormal (sum_under f x) (sum_under f y) z w ⊎ EqualNormal (sum_under f x) (sum_under f y) w z
-either_equal f x y z w h = elim (or_either (agree (sum_under f x) (sum_under f y) z w) (agree (sum_under f x) (sum_under f y) w z) h) [
+either_equal f x y z w h = elim (or_cases (agree (sum_under f x) (sum_under f y) z w) (agree (sum_under f x) (sum_under f y) w z) h) [
   | inl a ↦ inl ((agree_equal (sum_under f x) (sum_under f y) z w).0 a)
   | inr b ↦ inr ((agree_equal (sum_under f x) (sum_under f y) w z).0 b)
 ]
@@ -222,7 +223,7 @@ sums_bind_both x y z w as' bs h k f e = product_agrees f as' bs (h f e) (k f e)
 -- ---- the terms that are left
 
 pub left_at : (z w : List Mono) (ts : List Term) (i : ℕ) (d : Term) → none_cancels z w ts ≡ true → i < length ts → not (cancels z w (get_or ts i d)) ≡ true
-left_at z w ts i d h less = elim (yes_or_no (not (cancels z w (get_or ts i d)))) [
+left_at z w ts i d h less = elim (cases_Bool (not (cancels z w (get_or ts i d)))) [
   | inl e ↦ e
   | inr e ↦ absurd (true≢false (sym h ∙ list_all_at (λ t. not (cancels z w t)) ts i d less e))
 ]

@@ -3,15 +3,16 @@ use Rattle.std.proofs.Common.{◌≡◌, ℕ, zero, suc, ◌+◌, ◌-◌, ◌<�
 use Rattle.std.specs.Prelude.{slice_get, nat_le, nat_lt, All, IsTrue}
 use Rattle.std.specs.Option.{option_map_or}
 use Rattle.std.specs.List.{list_all, list_any}
-use Rattle.std.proofs.lemmas.Bool.{ltb-true}
+use Rattle.std.proofs.lemmas.Bool.{ltb-true, or_cases}
 use Rattle.std.proofs.lemmas.List.Elements.{All-nil, All-cons}
+use Rattle.std.proofs.lemmas.List.{length-map}
 use Rattle.e_literal.specs.declared.object.Obj.{Obj}
 use Rattle.e_literal.specs.declared.object.Scope.{Scope}
 use Rattle.e_literal.specs.declared.literal.Lit.{Lit}
 use Rattle.e_literal.specs.Literal.{negation}
 use Rattle.e_literal.specs.Same.{same_lit}
 use Rattle.e_literal.specs.Facts.{has, has_all, others}
-use Rattle.e_literal.proofs.Terms.{and_left, and_right, or_either}
+use Rattle.e_literal.proofs.Booleans.{and_left, and_right}
 use Rattle.e_clause.specs.declared.cert.TransferCert.{TransferCert}
 use Rattle.e_clause.specs.Rows.{Row}
 use Rattle.e_clause.specs.Table.{table}
@@ -113,7 +114,7 @@ sweep_nothing m scope facts goal A o is said = subst (λ (x : Outcome TransferCe
 
 way_that_agrees : (f : ℕ → ℕ) (ways : List (List Bind)) → some_agree f ways ≡ true → (k : ℕ) × (k < length ways) × (all_agree f (get_or ways k []) ≡ true)
 way_that_agrees f [] some = absurd (true≢false (sym some))
-way_that_agrees f (w ∷ ws) some = elim (or_either (all_agree f w) (some_agree f ws) some) [
+way_that_agrees f (w ∷ ws) some = elim (or_cases (all_agree f w) (some_agree f ws) some) [
   | inl here ↦ (0, omega arith, here)
   | inr later ↦ (let found = way_that_agrees f ws later in let below = found.1 in (suc found.0, omega (arith, below), found.2))
 ]
@@ -131,17 +132,13 @@ none_at m scope facts goal rule place r l ways at one cover none args gives =
 
 -- ---- places and rules
 
-length_map : {X Y : Type 0} (h : X → Y) (xs : List X) → length (map h xs) ≡ length xs
-length_map h [] = refl
-length_map h (x ∷ xs) = ap (λ n. suc n) (length_map h xs)
-
 -- where none has it at a place of the clause, none has it
 pub none_of : (m : Means) (scope : Scope) (facts : List Lit) (goal : Lit) (rule : ℕ) (r : Row) (n : ℕ) → slice_get table rule ≡ Some r → length (clause_of r) ≤ n
     → ((p : ℕ) → p < n → NoneAt m scope facts goal rule p) → NoneOf m scope facts goal rule
 none_of m scope facts goal rule r n at most none place args gives =
     let of = of_instance rule args r gives.lits at gives.instance in
     let below = place_below gives.lits place goal gives.here in
-    let many = ap length of.1 ∙ length_map (lit_at r args) (clause_of r) in
+    let many = ap length of.1 ∙ length-map (clause_of r) (lit_at r args) in
     none place (omega (arith, below, many, most)) args gives
 
 -- where none of the 29 clauses gives it, no transfer clause does

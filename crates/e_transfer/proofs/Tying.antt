@@ -2,7 +2,8 @@
 use Rattle.std.proofs.Common.{◌≡◌, ℕ, zero, suc, List, [], ◌∷◌, refl, sym, ap, ◌∙◌, arith, Bool, true, false, true≢false, get_or, length, take, drop, ◌++◌, append-nil, ◌<◌, ◌+◌}
 use Rattle.std.proofs.lemmas.List.{take_all, drop_all}
 use Rattle.std.proofs.lemmas.List.Folds.{list_all_more}
-use Rattle.e_literal.proofs.Terms.{both, and_left, and_right}
+use Rattle.std.proofs.lemmas.Bool.{and_from}
+use Rattle.e_literal.proofs.Booleans.{and_left, and_right}
 use Rattle.e_transfer.specs.declared.bind.Bind.{Bind}
 use Rattle.e_transfer.specs.declared.ties.Tie.{Tie}
 use Rattle.e_transfer.specs.Binding.{agrees, all_agree}
@@ -14,7 +15,7 @@ all_taken : (f : ℕ → ℕ) (bs : List Bind) (i : ℕ) → all_agree f bs ≡ 
 all_taken f [] zero h = refl
 all_taken f [] (suc i) h = refl
 all_taken f (b ∷ bs) zero h = refl
-all_taken f (b ∷ bs) (suc i) h = both (agrees f b) (all_agree f (take i bs)) (and_left (agrees f b) (all_agree f bs) h) (all_taken f bs i (and_right (agrees f b) (all_agree f bs) h))
+all_taken f (b ∷ bs) (suc i) h = and_from (agrees f b) (all_agree f (take i bs)) (and_left (agrees f b) (all_agree f bs) h) (all_taken f bs i (and_right (agrees f b) (all_agree f bs) h))
 
 one_taken : (f : ℕ → ℕ) (bs : List Bind) (i : ℕ) (d : Bind) → i < length bs → all_agree f (take (i + 1) bs) ≡ true
     → (all_agree f (take i bs) ≡ true) × (agrees f (get_or bs i d) ≡ true)

@@ -1,21 +1,18 @@
 -- Coefficients of sums, and how large they are.
-use Rattle.std.proofs.Common.{◌≡◌, ℕ, ◌+◌, ◌*◌, ◌<◌, ◌≤◌, ◌^◌, List, [], ◌∷◌, ◌++◌, map, take, length, get_or, refl, sym, ap, ◌∙◌, arith, Bool, true, false, cond, not, ◌&&◌, SFits, filter, zero, suc, Result, Ok, Err}
+use Rattle.std.proofs.Common.{◌≡◌, ℕ, ◌+◌, ◌*◌, ◌<◌, ◌≤◌, ◌^◌, List, [], ◌∷◌, ◌++◌, map, take, length, get_or, refl, sym, ap, ◌∙◌, arith, Bool, true, false, cond, not, ◌&&◌, filter, zero, suc, Result, Ok, Err, leb-true}
 use Rattle.std.specs.Prelude.{ℤ, pos, neg_ℤ, ◌+ℤ◌, ◌*ℤ◌, unsigned_abs, nat_le, OnOk, if◌then◌else◌}
 use Rattle.std.specs.List.{list_all}
 use Rattle.std.proofs.lemmas.List.{take_more, length-take, map-append}
-use Rattle.std.proofs.lemmas.Int.{unsigned_abs-mul, fits_signed_from_abs}
-use Rattle.std.proofs.lemmas.Nat.{mul-le}
 use borrow.Author.Differences.{abs_is}
-use lib.IntN.{*ℤ_comm}
-use mir.Syntax.{w128}
 use denote.Bor.{Bor}
 use Rattle.e_literal.specs.declared.object.Term.{Term}
 use Rattle.e_literal.specs.declared.object.Term.TheVariants.{Right}
 use Rattle.e_literal.specs.declared.object.Mono.{Mono}
 use Rattle.e_literal.specs.Same.{canonical, term_eq}
-use Rattle.e_literal.specs.Rows.{Summands, coefficient, normal_summands, times, plus, minus, negative, is_degenerate}
-use Rattle.e_literal.proofs.Terms.{and_left, and_right}
-use Rattle.e_literal.proofs.Arith.{sums, mul_add, mul_neg, neg_mul, one_mul}
+use Rattle.e_literal.specs.Rows.{Summands, coefficient, normal_summands, times, plus, minus, is_degenerate}
+use Rattle.e_literal.proofs.Arith.{sums, mul_add, mul_neg, neg_mul, mul_one, size_negative, product_size}
+use Rattle.e_literal.proofs.Booleans.{and_left, and_right}
+use Rattle.e_literal.proofs.Valued.{coefficient_negative}
 use Rattle.e_verify.specs.Small.{are_small, is_small}
 use Rattle.e_verify.specs.Views.{row_said}
 use Rattle.e_verify.specs.declared.rows.Row.{Row}
@@ -80,21 +77,10 @@ less [] t = refl
 less (m ∷ ms) t =
     omega (arith, sums, single_and (neg_ℤ (pos m.coeff)) m.term t (minus ms), single_and (pos m.coeff) m.term t (plus ms), single_negative (pos m.coeff) m.term t, less ms t)
 
-pub opposite : (f : Summands) (t : Term) → coefficient (negative f) t ≡ neg_ℤ (coefficient f t)
-opposite [] t = refl
-opposite (p ∷ f) t = by (term_eq p.1 t) (opposite f t)
-  where
-    by : (b : Bool) → coefficient (negative f) t ≡ neg_ℤ (coefficient f t) → cond b (neg_ℤ p.0) (pos 0) +ℤ coefficient (negative f) t ≡ neg_ℤ (cond b p.0 (pos 0) +ℤ coefficient f t)
-    by true e = omega (arith, sums, e)
-    by false e = omega (arith, sums, e)
-
 -- ---- sizes
 
 pub abs_sum : (a b : ℤ) → unsigned_abs (a +ℤ b) ≤ unsigned_abs a + unsigned_abs b
 abs_sum a b = omega (arith, sums, abs_is a, abs_is b, abs_is (a +ℤ b))
-
-abs_neg : (a : ℤ) → unsigned_abs (neg_ℤ a) ≡ unsigned_abs a
-abs_neg a = omega (arith, sums, abs_is a, abs_is (neg_ℤ a))
 
 single_size : (n : ℕ) (u t : Term) → unsigned_abs (single (pos n) u t) ≤ n
 single_size n u t = by (is_degenerate u)
@@ -110,13 +96,10 @@ single_size n u t = by (is_degenerate u)
 abbrev has_low : List Mono → Bool
 has_low ms = list_all (λ m. nat_le m.coeff 1000000) ms
 
-nat_le_is : (a b : ℕ) → nat_le a b ≡ true → a ≤ b
-nat_le_is a b h = grind (arith)
-
 sum_size : (ms : List Mono) (t : Term) → has_low ms ≡ true → unsigned_abs (coefficient (normal_summands (plus ms)) t) ≤ length ms * 1000000
 sum_size [] t h = omega arith
 sum_size (m ∷ ms) t h =
-    let low = nat_le_is m.coeff 1000000 (and_left (nat_le m.coeff 1000000) (has_low ms) h) in
+    let low = leb-true m.coeff 1000000 (and_left (nat_le m.coeff 1000000) (has_low ms) h) in
     let rest = sum_size ms t (and_right (nat_le m.coeff 1000000) (has_low ms) h) in
     let one = single_size m.coeff m.term t in
     let both = abs_sum (single (pos m.coeff) m.term t) (coefficient (normal_summands (plus ms)) t) in
@@ -129,20 +112,14 @@ low_front (m ∷ ms) (suc i) h = ap (λ b. b && has_low (take i ms)) (and_left (
 
 pub front_size : (ms : List Mono) (i : ℕ) (t : Term) → are_small ms ≡ true → unsigned_abs (coefficient (normal_summands (plus (take i ms))) t) ≤ 32000000
 front_size ms i t h =
-    let few = nat_le_is (length ms) 32 (and_left (nat_le (length ms) 32) (has_low ms) h) in
+    let few = leb-true (length ms) 32 (and_left (nat_le (length ms) 32) (has_low ms) h) in
     omega (arith, few, length-take i ms, sum_size (take i ms) t (low_front ms i (and_right (nat_le (length ms) 32) (has_low ms) h)))
-
-pub product_size : (m c : ℤ) (a b : ℕ) → unsigned_abs m ≤ a → unsigned_abs c ≤ b → unsigned_abs (m *ℤ c) ≤ a * b
-product_size m c a b h k = omega (arith, unsigned_abs-mul m c, mul-le (unsigned_abs m) (unsigned_abs c) a b h k)
 
 pub room_for_one : (a m c p x : ℤ) → x ≡ a +ℤ m *ℤ c → unsigned_abs a ≤ 2 ^ 121 → unsigned_abs m ≤ 2 ^ 80 → unsigned_abs c ≤ 32000000 → unsigned_abs p ≤ 2 ^ 112 → unsigned_abs x + unsigned_abs p < 2 ^ 127
 room_for_one a m c p x e h k l s = omega (arith, ap unsigned_abs e, abs_sum a (m *ℤ c), product_size m c (2 ^ 80) 32000000 k l, h, s)
 
 pub room_after : (a m c x : ℤ) → x ≡ a +ℤ m *ℤ c → unsigned_abs a ≤ 2 ^ 120 → unsigned_abs m ≤ 2 ^ 80 → unsigned_abs c ≤ 32000000 → unsigned_abs x ≤ 2 ^ 121
 room_after a m c x e h k l = omega (arith, ap unsigned_abs e, abs_sum a (m *ℤ c), product_size m c (2 ^ 80) 32000000 k l, h)
-
-pub fits_wide : (z : ℤ) → unsigned_abs z < 2 ^ 127 → SFits w128 z
-fits_wide z h = fits_signed_from_abs w128 z h
 
 -- ---- what is added
 
@@ -165,9 +142,6 @@ added_both a m x y p q t e f =
 pub on_ok : {X E A B : Type 0} (r : Result X E) → OnOk r A → (A → B) → OnOk r B
 on_ok (Ok x) h f = f h
 on_ok (Err e) h f = h
-
-mul_one : (m : ℤ) → m *ℤ pos 1 ≡ m
-mul_one m = *ℤ_comm m (pos 1) ∙ one_mul m
 
 pub once : (m : ℤ) (u t : Term) → single m u t ≡ m *ℤ single (pos 1) u t
 once m u t = sym (scaled_one m (pos 1) u t ∙ ap (λ n. single n u t) (mul_one m))
@@ -209,12 +183,12 @@ added_sums row says x y turned t a m n z is e f = by turned e ∙ ap (λ r. a +�
     form = normal_summands (plus x.now ++ minus y.now)
 
     by : (b : Bool) → n ≡ (if b then neg_ℤ m else m) → z ≡ a +ℤ m *ℤ coefficient (row_said (Sums says x y b)).form t
-    by true e = f ∙ ap (λ k. a +ℤ k *ℤ coefficient form t) e ∙ ap (λ k. a +ℤ k) (neg_mul m (coefficient form t) ∙ sym (mul_neg m (coefficient form t)) ∙ ap (λ k. m *ℤ k) (sym (opposite form t)))
+    by true e = f ∙ ap (λ k. a +ℤ k *ℤ coefficient form t) e ∙ ap (λ k. a +ℤ k) (neg_mul m (coefficient form t) ∙ sym (mul_neg m (coefficient form t)) ∙ ap (λ k. m *ℤ k) (sym (coefficient_negative form t)))
     by false e = f ∙ ap (λ k. a +ℤ k *ℤ coefficient form t) e
 
 pub sum_bound : (ms : List Mono) (t : Term) → are_small ms ≡ true → unsigned_abs (coefficient (normal_summands (plus ms)) t) ≤ 32000000
 sum_bound ms t h =
-    let few = nat_le_is (length ms) 32 (and_left (nat_le (length ms) 32) (has_low ms) h) in
+    let few = leb-true (length ms) 32 (and_left (nat_le (length ms) 32) (has_low ms) h) in
     omega (arith, few, sum_size ms t (and_right (nat_le (length ms) 32) (has_low ms) h))
 
 pub row_size : (row : Row) (t : Term) → is_small row ≡ true → unsigned_abs (coefficient (row_said row).form t) ≤ 64000000
@@ -231,13 +205,13 @@ row_size (Sums says x y turned) t h = by turned
           arith,
           ap unsigned_abs (both_forms (plus x.now) (minus y.now) t ∙ ap (λ z. c +ℤ z) (less y.now t)),
           abs_sum c (neg_ℤ d),
-          abs_neg d,
+          size_negative d,
           sum_bound x.now t (and_left (are_small x.now) (are_small y.now) h),
           sum_bound y.now t (and_right (are_small x.now) (are_small y.now) h),
         )
 
     by : (b : Bool) → unsigned_abs (coefficient (row_said (Sums says x y b)).form t) ≤ 64000000
-    by true = omega (arith, ap unsigned_abs (opposite form t), abs_neg (coefficient form t), inside)
+    by true = omega (arith, ap unsigned_abs (coefficient_negative form t), size_negative (coefficient form t), inside)
     by false = inside
 row_size (Pos u) t h = omega (arith, single_size 1 u t)
 row_size (Top u) t h =
@@ -245,7 +219,7 @@ row_size (Top u) t h =
       arith,
       ap unsigned_abs (single_and (pos 2) Right t (times (neg_ℤ (pos 1)) u ∷ []) ∙ ap (λ z. single (pos 2) Right t +ℤ z) (single_negative (pos 1) u t)),
       abs_sum (single (pos 2) Right t) (neg_ℤ (single (pos 1) u t)),
-      abs_neg (single (pos 1) u t),
+      size_negative (single (pos 1) u t),
       single_size 2 Right t,
       single_size 1 u t,
     )

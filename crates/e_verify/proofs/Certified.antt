@@ -1,6 +1,6 @@
 -- When a line is certified, by the tests of its parts.
-use Rattle.std.proofs.Common.{◌≡◌, ℕ, zero, suc, ◌+◌, ◌<◌, ◌≤◌, ◌^◌, List, [], ◌∷◌, length, map, get_or, refl, sym, ap, subst, ◌∙◌, arith, Bool, true, false, ◌&&◌, Option, Some, None, true≢false, eq-eqb}
-use Rattle.std.specs.Prelude.{slice_get, option_and_then, nat_le, nat_lt, unwrap_or, if◌then◌else◌, ◌==◌}
+use Rattle.std.proofs.Common.{◌≡◌, ℕ, zero, suc, ◌+◌, ◌<◌, ◌≤◌, ◌^◌, List, [], ◌∷◌, length, map, get_or, refl, sym, ap, subst, ◌∙◌, arith, Bool, true, false, ◌&&◌, Option, Some, None, true≢false, lt-ltb, le-ltb}
+use Rattle.std.specs.Prelude.{slice_get, option_and_then, nat_lt, unwrap_or, if◌then◌else◌}
 use Rattle.std.specs.List.{list_all}
 use Rattle.e_literal.specs.declared.object.Obj.{Obj}
 use Rattle.e_literal.specs.declared.object.Scope.{Scope}
@@ -9,7 +9,6 @@ use Rattle.e_literal.specs.Literal.{negation, is_in_scope, all_in_scope}
 use Rattle.e_literal.specs.Facts.{has, has_all, others, joined}
 use Rattle.e_literal.specs.Use.{Stated}
 use Rattle.e_literal.specs.WellFormed.{is_well_formed}
-use Rattle.e_literal.proofs.Terms.{and_left, and_right}
 use Rattle.e_clause.specs.declared.cert.By.{By}
 use Rattle.e_clause.specs.declared.cert.Cert.{Cert}
 use Rattle.e_clause.specs.Certify.{certifies, certify_all}
@@ -34,18 +33,16 @@ use Rattle.e_deriv.specs.Goal.{Goal}
 use Rattle.e_deriv.specs.Fitting.{is_small}
 use Rattle.e_deriv.specs.Steps.{is_citation, is_cited}
 use Rattle.std.specs.Option.{option_map}
-use Rattle.std.proofs.lemmas.Option.{slice_get-map}
+use Rattle.std.proofs.lemmas.Option.{slice_get-map, same_Some, none-some, slice_get-get_or}
+use mathlib.Core.Bool.{and-false}
 use Rattle.e_theorem.specs.declared.statement.Statement.{Statement}
 use Rattle.e_theorem.specs.Statements.{stated, all_stated}
 use Rattle.e_verify.specs.declared.standing.Standing.{Standing}
 use Rattle.e_verify.specs.Standing.{with_facts}
 use Rattle.e_verify.specs.Checking.{IsChecked}
-use Rattle.e_literal.specs.declared.object.Sort.{Sort}
-use Rattle.e_literal.specs.declared.object.Sort.TheVariants.{Point, Line, Circle}
-use Rattle.e_literal.specs.Scopes.{same_sort, nothing}
-use Rattle.e_literal.specs.Rename.{same_obj}
-use Rattle.e_literal.specs.Use.{are_arguments, needs_of_use, gives_of_use, is_statement, scope_of}
-use Rattle.e_literal.proofs.Growing.{total_grown}
+use Rattle.e_literal.specs.Use.{are_arguments, needs_of_use, gives_of_use, is_statement}
+use Rattle.e_literal.proofs.Sorts.{same_obj_self}
+use Rattle.e_literal.proofs.Booleans.{and_left, and_right}
 use Rattle.e_theorem.specs.Choice.{fills}
 use Rattle.e_theorem.proofs.Uses.{needs_good as use_needs_good}
 use Rattle.e_deriv.specs.Fitting.{is_small_statement, all_objects}
@@ -55,34 +52,23 @@ use Rattle.e_deriv.specs.Steps.{is_applied, are_over}
 use Rattle.e_deriv.specs.Certified.{is_certified}
 use Rattle.e_verify.specs.Checking.{line_at}
 use Rattle.e_deriv.proofs.Keeping.{stay_joined, stay_all}
+use Rattle.e_deriv.proofs.Smallness.{few_of_small, few_objects}
 use Rattle.e_verify.proofs.FirstLines.{checked, cite_lines, hence_lines, make_lines, after_make, apply_lines, after_apply}
 
 -- ---- a citation
 
-none_is_not_some : {A : Type 0} (x : A) → None ≡ Some x → ⊥
-none_is_not_some x e = cc
-
-some_same : {A : Type 0} (x y : A) → Some x ≡ Some y → x ≡ y
-some_same x y e = cc
-
 in_range : {A : Type 0} (xs : List A) (k : ℕ) (x : A) → slice_get xs k ≡ Some x → k < length xs
-in_range [] k x e = absurd (none_is_not_some x e)
+in_range [] k x e = absurd (none-some x e)
 in_range (y ∷ xs) zero x e = omega arith
 in_range (y ∷ xs) (suc k) x e = omega (arith, in_range xs k x e)
 
-is_nat_lt : (a b : ℕ) → a < b → nat_lt a b ≡ true
-is_nat_lt a b h = grind (arith)
-
 none_there : {A : Type 0} (xs : List A) (k : ℕ) → slice_get xs k ≡ None → length xs ≤ k
 none_there [] k e = omega arith
-none_there (x ∷ xs) zero e = absurd (none_is_not_some x (sym e))
+none_there (x ∷ xs) zero e = absurd (none-some x (sym e))
 none_there (x ∷ xs) (suc k) e = omega (arith, none_there xs k e)
 
-not_nat_lt : (a b : ℕ) → b ≤ a → nat_lt a b ≡ false
-not_nat_lt a b h = grind (arith)
-
 out_of_range : {A : Type 0} (xs : List A) (k : ℕ) → slice_get xs k ≡ None → nat_lt k (length xs) ≡ false
-out_of_range xs k e = not_nat_lt k (length xs) (none_there xs k e)
+out_of_range xs k e = le-ltb k (length xs) (none_there xs k e)
 
 rules : length table ≡ 105
 unfolding table incidence sides circles equality lengths angles
@@ -93,7 +79,7 @@ unfolding Inst
 rule_of_instance rule args lits e = by (slice_get table rule) refl e
   where
     by : (o : Option Row) → slice_get table rule ≡ o → option_and_then (λ r. instance_of_row r args) o ≡ Some lits → rule < 105
-    by None at e = absurd (none_is_not_some lits e)
+    by None at e = absurd (none-some lits e)
     by (Some r) at e = omega (arith, in_range table rule r at, rules)
 
 diagram_rule : (rule : ℕ) → rule < 105 → is_transfer rule ≡ false → is_diagram_rule rule ≡ true
@@ -126,26 +112,6 @@ each p q f (x ∷ xs) h =
 pub make_formed : (form : Construction) (s : Scope) → fits form s ≡ true → list_all is_well_formed (needs form) ≡ true
 make_formed form s h = each (all_in_scope s) is_well_formed (λ l k. and_right (all_in_scope s l) (is_well_formed l) k) (needs form) (needs_good form s h)
 
-nat_le_is : (a b : ℕ) → nat_le a b ≡ true → a ≤ b
-nat_le_is a b h = grind (arith)
-
--- at most 1,000 objects of each sort
-pub record Few (s : Scope) : Type 0 where
-  pub points : s.points ≤ 1000
-  pub lines : s.lines ≤ 1000
-  pub circles : s.circles ≤ 1000
-
-pub few_of_small : (s : Scope) → is_small s ≡ true → Few s
-few_of_small s h =
-    let p = nat_le s.points 1000 in
-    let l = nat_le s.lines 1000 in
-    let c = nat_le s.circles 1000 in
-    record {
-      points = nat_le_is s.points 1000 (and_left p (l && c) h);
-      lines = nat_le_is s.lines 1000 (and_left l c (and_right p (l && c) h));
-      circles = nat_le_is s.circles 1000 (and_right l c (and_right p (l && c) h));
-    }
-
 pub checked_make : (before : List Stated) (form : Construction) (names : List (List ℕ)) (certs : List Cert) (x after : Standing) → fits form x.scope ≡ true → certify_all x.scope x.facts (needs form) certs ≡ true
     → after ≡ after_make form x → IsChecked before (Make form names certs) x after true
 checked_make before form names certs x after h k e = checked before (Make form names certs) x (after_make form x) after true (λ rest goal. rw (h, k) refl) (make_lines before form names certs x) (stay_all x.facts (gives form x.scope)) e
@@ -158,29 +124,17 @@ few_new s form n h e = let f = few_of_small s h in (omega (arith, f.points, e, f
 pub refused : (before : List Stated) (whole : Script → Script) (x after : Standing) → ((rest : Script) (goal : Goal) → is_certified before (line_at (whole rest) x goal) ≡ false) → IsChecked before whole x after false
 refused before whole x after h = record { test = λ rest goal. sym (h rest goal); next = λ t. absurd (true≢false (sym t)); kept = λ t. absurd (true≢false (sym t)) }
 
-and_none : (b : Bool) → (b && false) ≡ false
-and_none true = refl
-and_none false = refl
-
-same_object : (o : Obj) → same_obj o o ≡ true
-same_object o = by o.sort
-  where
-    by : (s : Sort) → (same_sort s s && o.num == o.num) ≡ true
-    by Point = eq-eqb o.num o.num refl
-    by Line = eq-eqb o.num o.num refl
-    by Circle = eq-eqb o.num o.num refl
-
 fills_written : (args : List (Option Obj)) → has_no_blank args ≡ true → fills args (written args) ≡ true
 fills_written [] h = refl
 fills_written (None ∷ args) h = absurd (true≢false (sym h))
-fills_written (Some o ∷ args) h = ap (λ b. b && fills args (written args)) (same_object o) ∙ fills_written args h
+fills_written (Some o ∷ args) h = ap (λ b. b && fills args (written args)) (same_obj_self o) ∙ fills_written args h
 
 pub checked_apply : (before : List Stated) (theorem : ℕ) (args : List (Option Obj)) (names : List (List ℕ)) (certs : List Cert) (t : Stated) (x after : Standing) → slice_get before theorem ≡ Some t → has_no_blank args ≡ true
     → are_arguments t x.scope (written args) ≡ true → certify_all x.scope x.facts (needs_of_use t (written args) x.scope) certs ≡ true → after ≡ after_apply t (written args) x
     → IsChecked before (Apply theorem args names certs) x after true
 checked_apply before theorem args names certs t x after at blank fit k e =
     let is : theorem_at before theorem ≡ t = ap (λ o. unwrap_or o no_statement) at in
-    let low = is_nat_lt theorem (length before) (in_range before theorem t at) in
+    let low = lt-ltb theorem (length before) (in_range before theorem t at) in
     let fit' = ap (λ u. are_arguments u x.scope (written args)) is ∙ fit in
     let k' = ap (λ u. certify_all x.scope x.facts (needs_of_use u (written args) x.scope) certs) is ∙ k in
     checked before (Apply theorem args names certs) x (after_apply (theorem_at before theorem) (written args) x) after true
@@ -194,8 +148,8 @@ pub some_blank : (before : List Stated) (theorem : ℕ) (args : List (Option Obj
 some_blank before theorem args names certs x after h =
     refused before (Apply theorem args names certs) x after
     (λ rest goal. ap (λ b. is_applied before theorem x.scope args (written args) && (certify_all x.scope x.facts (needs_of_use (theorem_at before theorem) (written args) x.scope) certs && b)) h
-    ∙ ap (λ b. is_applied before theorem x.scope args (written args) && b) (and_none (certify_all x.scope x.facts (needs_of_use (theorem_at before theorem) (written args) x.scope) certs))
-    ∙ and_none (is_applied before theorem x.scope args (written args)))
+    ∙ ap (λ b. is_applied before theorem x.scope args (written args) && b) (and-false (certify_all x.scope x.facts (needs_of_use (theorem_at before theorem) (written args) x.scope) certs))
+    ∙ and-false (is_applied before theorem x.scope args (written args)))
 
 pub no_arguments : (before : List Stated) (theorem : ℕ) (args : List (Option Obj)) (names : List (List ℕ)) (certs : List Cert) (t : Stated) (x after : Standing) → slice_get before theorem ≡ Some t
     → are_arguments t x.scope (written args) ≡ false → IsChecked before (Apply theorem args names certs) x after false
@@ -205,7 +159,7 @@ no_arguments before theorem args names certs t x after at h =
     let k = certify_all x.scope x.facts (needs_of_use (theorem_at before theorem) (written args) x.scope) certs && has_no_blank args in
     refused before (Apply theorem args names certs) x after
     (λ rest goal. ap (λ b. (low && (fills args (written args) && b)) && k) (ap (λ u. are_arguments u x.scope (written args)) is ∙ h)
-    ∙ ap (λ b. (low && b) && k) (and_none (fills args (written args))) ∙ ap (λ b. b && k) (and_none low))
+    ∙ ap (λ b. (low && b) && k) (and-false (fills args (written args))) ∙ ap (λ b. b && k) (and-false low))
 
 pub not_certified : (before : List Stated) (theorem : ℕ) (args : List (Option Obj)) (names : List (List ℕ)) (certs : List Cert) (t : Stated) (x after : Standing) → slice_get before theorem ≡ Some t
     → certify_all x.scope x.facts (needs_of_use t (written args) x.scope) certs ≡ false → IsChecked before (Apply theorem args names certs) x after false
@@ -213,39 +167,28 @@ not_certified before theorem args names certs t x after at h =
     let is : theorem_at before theorem ≡ t = ap (λ o. unwrap_or o no_statement) at in
     let form = is_applied before theorem x.scope args (written args) in
     refused before (Apply theorem args names certs) x after
-    (λ rest goal. ap (λ b. form && (b && has_no_blank args)) (ap (λ u. certify_all x.scope x.facts (needs_of_use u (written args) x.scope) certs) is ∙ h) ∙ and_none form)
+    (λ rest goal. ap (λ b. form && (b && has_no_blank args)) (ap (λ u. certify_all x.scope x.facts (needs_of_use u (written args) x.scope) certs) is ∙ h) ∙ and-false form)
 
 -- what the table of arguments answers
 pub all_are_written : (v w : List Obj) (b : Bool) → Some v ≡ (if b then Some w else None) → (b ≡ true) × (v ≡ w)
-all_are_written v w true e = (refl, some_same v w e)
-all_are_written v w false e = absurd (none_is_not_some v (sym e))
+all_are_written v w true e = (refl, same_Some v w e)
+all_are_written v w false e = absurd (none-some v (sym e))
 
 pub one_is_blank : (w : List Obj) (b : Bool) → None ≡ (if b then Some w else None) → b ≡ false
-one_is_blank w true e = absurd (none_is_not_some w e)
+one_is_blank w true e = absurd (none-some w e)
 one_is_blank w false e = refl
 
 pub small_theorem : (before : List Stated) (k : ℕ) (t : Stated) → list_all is_small_statement before ≡ true → slice_get before k ≡ Some t → is_small_statement t ≡ true
-small_theorem [] k t h e = absurd (none_is_not_some t e)
-small_theorem (u ∷ before) zero t h e = ap is_small_statement (sym (some_same u t e)) ∙ and_left (is_small_statement u) (list_all is_small_statement before) h
+small_theorem [] k t h e = absurd (none-some t e)
+small_theorem (u ∷ before) zero t h e = ap is_small_statement (sym (same_Some u t e)) ∙ and_left (is_small_statement u) (list_all is_small_statement before) h
 small_theorem (u ∷ before) (suc k) t h e = small_theorem before k t (and_right (is_small_statement u) (list_all is_small_statement before) h) e
-
--- how many objects a statement has
-pub few_objects : (t : Stated) → is_small_statement t ≡ true → length t.declared + length t.made ≤ 3000
-few_objects t h =
-    let f = few_of_small (all_objects t) (and_right (is_statement t) (is_small (all_objects t)) h) in
-    omega (arith, f.points, f.lines, f.circles, total_grown (scope_of t) t.made, total_grown nothing t.declared)
 
 pub use_formed : (t : Stated) (args : List Obj) (s : Scope) → is_small_statement t ≡ true → are_arguments t s args ≡ true → list_all is_well_formed (needs_of_use t args s) ≡ true
 use_formed t args s h k =
     each (all_in_scope s) is_well_formed (λ l m. and_right (all_in_scope s l) (is_well_formed l) m) (needs_of_use t args s) (use_needs_good t args s (and_left (is_statement t) (is_small (all_objects t)) h) k)
 
-there : {A : Type 0} (xs : List A) (k : ℕ) (d : A) → k < length xs → slice_get xs k ≡ Some (get_or xs k d)
-there [] k d h = absurd (omega (arith, h))
-there (x ∷ xs) zero d h = refl
-there (x ∷ xs) (suc k) d h = there xs k d (omega (arith, h))
-
 pub theorem_there : (before : List Statement) (theorem : ℕ) (t : Statement) → theorem < length before → t ≡ get_or before theorem t → slice_get (all_stated before) theorem ≡ Some (stated t)
-theorem_there before theorem t low at = slice_get-map stated before theorem ∙ ap (option_map stated) (there before theorem t low ∙ ap Some (sym at))
+theorem_there before theorem t low at = slice_get-map stated before theorem ∙ ap (option_map stated) (slice_get-get_or before theorem t low ∙ ap Some (sym at))
 
 -- the arguments and the theorem of an application that fits
 pub record Fits (before : List Stated) (theorem : ℕ) (args : List (Option Obj)) (t : Stated) : Type 0 where
@@ -256,8 +199,8 @@ pub record Fits (before : List Stated) (theorem : ℕ) (args : List (Option Obj)
 pub fits_of : (before : List Statement) (theorem : ℕ) (args : List (Option Obj)) (t : Statement) (objects : List Obj) → list_all is_small_statement (all_stated before) ≡ true → theorem < length before → t ≡ get_or before theorem t
     → Some objects ≡ (if has_no_blank args then Some (written args) else None) → Fits (all_stated before) theorem args (stated t)
 fits_of before theorem args t objects h low at e =
-    let there = theorem_there before theorem t low at in
-    record { at = there; small = small_theorem (all_stated before) theorem (stated t) h there; blank = (all_are_written objects (written args) (has_no_blank args) e).0 }
+    let slice_get-get_or = theorem_there before theorem t low at in
+    record { at = slice_get-get_or; small = small_theorem (all_stated before) theorem (stated t) h slice_get-get_or; blank = (all_are_written objects (written args) (has_no_blank args) e).0 }
 
 pub few_new_of : (s : Scope) (t : Stated) → is_small s ≡ true → is_small_statement t ≡ true
     → (length t.declared + length t.made < 2 ^ 16) × (s.points + length t.made < 2 ^ 16) × (s.lines + length t.made < 2 ^ 16) × (s.circles + length t.made < 2 ^ 16)

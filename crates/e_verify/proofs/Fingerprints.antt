@@ -1,13 +1,14 @@
 -- Literals that are the same have one fingerprint.
-use Rattle.std.proofs.Common.{◌≡◌, ℕ, ◌+◌, List, refl, sym, ap, ap₂, ◌∙◌, true, false, true≢false, ◌&&◌, ◌||◌, Bool, eqb, eq-eqb, inl, inr, arith}
+use Rattle.std.proofs.Common.{◌≡◌, ℕ, ◌+◌, List, refl, sym, ap, ap₂, ◌∙◌, true, false, true≢false, ◌&&◌, ◌||◌, Bool, eqb, inl, inr, arith, eqb-true}
 use Rattle.std.specs.Int.{abs_diff}
+use Rattle.std.proofs.lemmas.Bool.{or_cases}
 use Rattle.e_literal.specs.declared.object.Mono.{Mono}
 use Rattle.e_literal.specs.declared.literal.Lit.{Lit}
 use Rattle.e_literal.specs.declared.literal.Atom.{Atom}
 use Rattle.e_literal.specs.declared.literal.Atom.TheVariants.{On, OnC, Inside, Center, Between, Same, MeetLL, MeetLC, MeetCC, EqP, EqL, EqC, MagEq, MagLt}
 use Rattle.e_literal.specs.Same.{agree, same_atom, same_neg, same_lit}
-use Rattle.e_literal.proofs.Terms.{eqb_is, and_left, and_right, or_either}
 use Rattle.e_literal.proofs.Valued.{same_difference}
+use Rattle.e_literal.proofs.Booleans.{and_left, and_right, eqb_self}
 use Rattle.e_verify.specs.Fingerprint.{number_of, weight_of, placed, fingerprint_of}
 
 apart_moved : (a b c d : ℕ) → a + d ≡ c + b → abs_diff a b ≡ abs_diff c d
@@ -17,13 +18,13 @@ apart_turned : (a b c d : ℕ) → a + c ≡ d + b → abs_diff a b ≡ abs_diff
 apart_turned a b c d e = omega (arith, e)
 
 two : (kind a b c d : ℕ) → (eqb a c && eqb b d) ≡ true → placed kind a b 0 ≡ placed kind c d 0
-two kind a b c d h = ap₂ (λ x y. placed kind x y 0) (eqb_is a c (and_left (eqb a c) (eqb b d) h)) (eqb_is b d (and_right (eqb a c) (eqb b d) h))
+two kind a b c d h = ap₂ (λ x y. placed kind x y 0) (eqb-true a c (and_left (eqb a c) (eqb b d) h)) (eqb-true b d (and_right (eqb a c) (eqb b d) h))
 
 three : (kind a b c d e f : ℕ) → (eqb a d && (eqb b e && eqb c f)) ≡ true → placed kind a b c ≡ placed kind d e f
 three kind a b c d e f h =
     let rest = and_right (eqb a d) (eqb b e && eqb c f) h in
-    ap (λ x. placed kind x b c) (eqb_is a d (and_left (eqb a d) (eqb b e && eqb c f) h))
-    ∙ ap₂ (λ y z. placed kind d y z) (eqb_is b e (and_left (eqb b e) (eqb c f) rest)) (eqb_is c f (and_right (eqb b e) (eqb c f) rest))
+    ap (λ x. placed kind x b c) (eqb-true a d (and_left (eqb a d) (eqb b e && eqb c f) h))
+    ∙ ap₂ (λ y z. placed kind d y z) (eqb-true b e (and_left (eqb b e) (eqb c f) rest)) (eqb-true c f (and_right (eqb b e) (eqb c f) rest))
 
 one_fingerprint : (a b : Atom) → same_atom a b ≡ true → fingerprint_of a ≡ fingerprint_of b
 unfolding fingerprint_of
@@ -39,15 +40,12 @@ one_fingerprint (MeetCC a b) (MeetCC c d) h = two 9 a b c d h
 one_fingerprint (EqP a b) (EqP c d) h = two 10 a b c d h
 one_fingerprint (EqL a b) (EqL c d) h = two 11 a b c d h
 one_fingerprint (EqC a b) (EqC c d) h = two 12 a b c d h
-one_fingerprint (MagEq x y) (MagEq z w) h = elim (or_either (agree x y z w) (agree x y w z) h) [
+one_fingerprint (MagEq x y) (MagEq z w) h = elim (or_cases (agree x y z w) (agree x y w z) h) [
   | inl c ↦ apart_moved (weight_of x) (weight_of y) (weight_of z) (weight_of w) (same_difference x y z w number_of c)
   | inr c ↦ apart_turned (weight_of x) (weight_of y) (weight_of z) (weight_of w) (same_difference x y w z number_of c)
 ]
 one_fingerprint (MagLt x y) (MagLt z w) h = apart_moved (weight_of x) (weight_of y) (weight_of z) (weight_of w) (same_difference x y z w number_of h)
 one_fingerprint a b h = absurd (true≢false (sym h))
-
-eqb_self : (n : ℕ) → eqb n n ≡ true
-eqb_self n = eq-eqb n n refl
 
 -- literals with two fingerprints are not the same
 not_same : (f l : Lit) → eqb (fingerprint_of f.atom) (fingerprint_of l.atom) ≡ false → same_lit f l ≡ false
@@ -64,5 +62,5 @@ pub told_apart : (fact inside l : Lit) (m n : ℕ) → inside ≡ fact → m ≡
 told_apart fact inside l m n is one other apart = by (eqb m n) refl
   where
     by : (equal : Bool) → eqb m n ≡ equal → eqb m n ≡ same_lit fact l
-    by true e = absurd (apart (eqb_is m n e))
+    by true e = absurd (apart (eqb-true m n e))
     by false e = e ∙ sym (ap (λ f. same_lit f l) (sym is) ∙ not_same inside l (ap₂ eqb (sym one) (sym other) ∙ e))

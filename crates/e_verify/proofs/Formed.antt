@@ -2,6 +2,7 @@
 use Rattle.std.proofs.Common.{◌≡◌, ℕ, zero, suc, List, [], ◌∷◌, map, refl, sym, ap, subst, ◌∙◌, Bool, true, false, ◌&&◌, Option, Some, None}
 use Rattle.std.specs.Prelude.{slice_get, option_and_then, if◌then◌else◌, not}
 use Rattle.std.specs.List.{list_all}
+use Rattle.std.proofs.lemmas.Option.{same_Some}
 use Rattle.e_literal.specs.declared.object.Sort.{Sort}
 use Rattle.e_literal.specs.declared.object.Sort.TheVariants.{Point, Line, Circle}
 use Rattle.e_literal.specs.declared.object.Obj.{Obj}
@@ -10,8 +11,8 @@ use Rattle.e_literal.specs.Literal.{obj, negation}
 use Rattle.e_literal.specs.Facts.{others}
 use Rattle.e_literal.specs.Same.{same_lit}
 use Rattle.e_literal.specs.WellFormed.{is_well_formed}
-use Rattle.e_literal.proofs.Terms.{and_left, and_right}
-use Rattle.e_theorem.proofs.Renaming.{renamed_well_formed}
+use Rattle.e_literal.proofs.Renamed.{renamed_well_formed}
+use Rattle.e_literal.proofs.Booleans.{and_left, and_right}
 use Rattle.e_clause.specs.Rows.{Row}
 use Rattle.e_clause.specs.Table.{table}
 use Rattle.e_clause.specs.Table.Incidence.{incidence}
@@ -29,15 +30,12 @@ rows_formed : list_all (λ r. all_formed (clause_of r)) table ≡ true
 unfolding table incidence sides circles equality lengths angles
 rows_formed = refl
 
-some_is : {X : Type 0} (x y : X) → Some x ≡ Some y → x ≡ y
-some_is x y e = cc
-
 at_place : (f : Row → Bool) (rs : List Row) (k : ℕ) (r : Row) → list_all f rs ≡ true → slice_get rs k ≡ Some r → f r ≡ true
 at_place f [] k r h e = absurd (none_some e)
   where
     none_some : None ≡ Some r → ⊥
     none_some e = cc
-at_place f (x ∷ rs) zero r h e = ap f (sym (some_is x r e)) ∙ and_left (f x) (list_all f rs) h
+at_place f (x ∷ rs) zero r h e = ap f (sym (same_Some x r e)) ∙ and_left (f x) (list_all f rs) h
 at_place f (x ∷ rs) (suc k) r h e = at_place f rs k r (and_right (f x) (list_all f rs) h) e
 
 -- the object with the number of the argument for a variable
@@ -63,7 +61,7 @@ unfolding Inst
 instance_formed rule args lits e = by (slice_get table rule) refl e
   where
     inside : (r : Row) → all_formed (clause_of r) ≡ true → (b : Bool) → (if b then Some (map (lit_at r args) (clause_of r)) else None) ≡ Some lits → all_formed lits ≡ true
-    inside r h true e = subst (λ ls. all_formed ls ≡ true) (some_is _ _ e) (row_formed r args (clause_of r) h)
+    inside r h true e = subst (λ ls. all_formed ls ≡ true) (same_Some _ _ e) (row_formed r args (clause_of r) h)
     inside r h false e = absurd (none_some e)
       where
         none_some : None ≡ Some lits → ⊥

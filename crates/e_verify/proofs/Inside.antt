@@ -1,6 +1,6 @@
 -- Steps and closes as the code has them, with the blocks inside.
 use Rattle.std.proofs.Common.{◌≡◌, ℕ, zero, suc, ◌+◌, ◌≤◌, ◌<◌, ◌^◌, List, [], ◌∷◌, length, drop, get_or, refl, sym, ap, ◌∙◌, subst, arith, Bool, true, false, Option, Result, Ok, Err, Box, Global}
-use Rattle.std.specs.Prelude.{IsTrue, IsFalse, IfOk, IfErr, OnOk}
+use Rattle.std.specs.Prelude.{IsTrue, IsFalse, IfOk, IfErr}
 use Rattle.std.specs.List.{list_all}
 use Rattle.std.specs.Option.{option_map_or}
 use Rattle.e_literal.specs.declared.object.Obj.{Obj}
@@ -81,10 +81,6 @@ ok_as (Err k) v w e h = tt
 pub err_as : (r : Result ℕ Reject) (v w : Result ℕ ℕ) → v ≡ w → IfErr r (RejectIs w) → IfErr r (RejectIs v)
 err_as (Ok n) v w e h = tt
 err_as (Err k) v w e h = reject_as v w k e h
-
-pub on_ok : {A E P Q : Type 0} (r : Result A E) → OnOk r P → (P → Q) → OnOk r Q
-on_ok (Ok a) h f = f h
-on_ok (Err e) h f = tt
 
 -- ---- numbers
 

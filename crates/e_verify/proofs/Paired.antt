@@ -1,8 +1,9 @@
 -- Certificates and the literals that they are for, one by one.
-use Rattle.std.proofs.Common.{◌≡◌, ◌≤◌, List, [], ◌∷◌, length, map, refl, sym, ap, ◌∙◌, arith, Bool, true, false, not, ◌&&◌, Some, Result, Ok, Err}
+use Rattle.std.proofs.Common.{◌≡◌, ◌≤◌, List, [], ◌∷◌, length, map, refl, sym, ap, ◌∙◌, arith, Bool, true, false, ◌&&◌, Some, Result, Ok, Err}
 use Rattle.std.specs.Prelude.{IfOk}
 use Rattle.std.specs.Option.{option_map_or}
 use Rattle.std.proofs.lemmas.Grind.{common_steps}
+use mathlib.Core.Bool.{not-not}
 use Rattle.e_literal.specs.declared.object.Scope.{Scope}
 use Rattle.e_literal.specs.declared.literal.Lit.{Lit}
 use Rattle.e_literal.specs.Literal.{negation}
@@ -27,12 +28,8 @@ no_certs s facts (l ∷ ls) (c ∷ cs) h k = absurd (omega (arith, k))
 
 pub ruleset literals = (common_steps, no_literals, no_certs)
 
-twice : (b : Bool) → not (not b) ≡ b
-twice true = refl
-twice false = refl
-
 pub negation_twice : (l : Lit) → negation (negation l) ≡ l
-negation_twice l = ap (λ b. record { neg = b; atom = l.atom }) (twice l.neg)
+negation_twice l = ap (λ b. record { neg = b; atom = l.atom }) (not-not l.neg)
 
 pub negations_twice : (ls : List Lit) → map negation (map negation ls) ≡ ls
 negations_twice [] = refl

@@ -10,7 +10,7 @@ use Rattle.e_literal.specs.Literal.{negation, all_in_scope}
 use Rattle.e_literal.specs.Facts.{joined, joined_all}
 use Rattle.e_literal.specs.Use.{Stated}
 use Rattle.e_literal.specs.WellFormed.{is_well_formed}
-use Rattle.e_literal.proofs.Terms.{and_left, and_right}
+use Rattle.e_literal.proofs.Booleans.{and_left, and_right}
 use Rattle.e_clause.specs.declared.cert.Against.{Against}
 use Rattle.e_clause.specs.declared.cert.By.{By}
 use Rattle.e_clause.specs.declared.cert.Cert.{Cert}

@@ -1,27 +1,27 @@
 -- How the rows of a sum are added up one after another.
-use Rattle.std.proofs.Common.{◌≡◌, ℕ, zero, suc, ◌+◌, ◌*◌, ◌<◌, ◌≤◌, ◌^◌, List, [], ◌∷◌, ◌++◌, map, take, length, get_or, refl, sym, ap, ◌∙◌, arith, Bool, true, false, ◌&&◌, ◌||◌, not, Option, Some, None, true≢false, inl, inr}
+use Rattle.std.proofs.Common.{◌≡◌, ℕ, zero, suc, ◌+◌, ◌*◌, ◌<◌, ◌≤◌, ◌^◌, List, [], ◌∷◌, ◌++◌, map, take, length, get_or, refl, sym, ap, ◌∙◌, arith, Bool, true, false, ◌&&◌, ◌||◌, not, Option, Some, None, true≢false, inl, inr, leb-true}
 use Rattle.std.specs.Prelude.{ℤ, pos, ◌+ℤ◌, ◌*ℤ◌, unsigned_abs, nat_le, option_and_then, IsTrue, ◌↔◌, if◌then◌else◌}
 use Rattle.std.specs.Option.{option_map, option_map_or}
 use Rattle.std.specs.List.{list_all, list_any}
 use Rattle.std.specs.Ordering.{int_eq}
-use Rattle.std.specs.Bool.{Decides}
-use Rattle.std.proofs.lemmas.Bool.Decides.{Decides-int_eq}
 use Rattle.std.proofs.lemmas.List.{take_more}
 use Rattle.std.proofs.lemmas.List.Folds.{list_all-append, list_any-append}
+use Rattle.std.proofs.lemmas.Bool.{cases_Bool}
+use mathlib.Core.Bool.{or-false, and_comm, and-true}
 use Rattle.e_literal.specs.declared.object.Term.{Term}
 use Rattle.e_literal.specs.Same.{term_eq}
 use Rattle.e_literal.specs.Rows.{Row, Summands, coefficient, terms_of_rows}
 use Rattle.e_literal.specs.Absurd.{Weighed, total, is_good_sign, is_strict, is_absurd}
-use Rattle.e_literal.proofs.Terms.{and_left, and_right, yes_or_no, term_eq_is}
-use Rattle.e_literal.proofs.Arith.{sums}
-use Rattle.e_literal.proofs.Canonical.{same_bool}
+use Rattle.e_literal.proofs.Terms.{term_eq_is}
+use Rattle.e_literal.proofs.Arith.{sums, zero_is, product_size}
+use Rattle.e_literal.proofs.Booleans.{or_not_left, or_not_right, and_left, and_right, same_bool, all_hold}
 use Rattle.e_clause.specs.declared.cert.RowName.{RowName}
 use Rattle.e_clause.specs.Sum.{Place, row_named, weighed_rows, is_good_multiplier, is_good_size, refutes}
 use Rattle.e_verify.specs.Totals.{at}
 use Rattle.e_verify.specs.Small.{is_small}
 use Rattle.e_verify.specs.Views.{row_said}
 use Rattle.e_verify.specs.declared.rows.Row.{Row as CodeRow}
-use Rattle.e_verify.proofs.Added.{product_size, abs_sum, times_none, row_size}
+use Rattle.e_verify.proofs.Added.{abs_sum, times_none, row_size}
 
 abbrev pub weigh : ℤ → Row → Weighed
 weigh m r = record { multiplier = m; row = r }
@@ -77,22 +77,14 @@ bad_signs p (x ∷ xs) (suc i) d r h e k = by (row_named p x.1) (weighed_rows p 
 
 -- ---- terms that cancel
 
-or_first : (a b : Bool) → (a || b) ≡ false → a ≡ false
-or_first true b h = h
-or_first false b h = refl
-
-or_second : (a b : Bool) → (a || b) ≡ false → b ≡ false
-or_second true b h = absurd (true≢false h)
-or_second false b h = h
-
 abbrev stands : Term → List Term → Bool
 stands t ts = list_any (λ u. term_eq u t) ts
 
 coefficient_absent : (form : Summands) (t : Term) → stands t (map (λ p. p.1) form) ≡ false → coefficient form t ≡ pos 0
 coefficient_absent [] t h = refl
 coefficient_absent (p ∷ form) t h =
-    ap (λ b. (if b then p.0 else pos 0) +ℤ coefficient form t) (or_first (term_eq p.1 t) (stands t (map (λ p. p.1) form)) h)
-    ∙ ap (λ z. pos 0 +ℤ z) (coefficient_absent form t (or_second (term_eq p.1 t) (stands t (map (λ p. p.1) form)) h))
+    ap (λ b. (if b then p.0 else pos 0) +ℤ coefficient form t) (or_not_left (term_eq p.1 t) (stands t (map (λ p. p.1) form)) h)
+    ∙ ap (λ z. pos 0 +ℤ z) (coefficient_absent form t (or_not_right (term_eq p.1 t) (stands t (map (λ p. p.1) form)) h))
 
 abbrev terms_of : List Weighed → List Term
 terms_of ws = terms_of_rows (map (λ w. w.row) ws)
@@ -102,9 +94,9 @@ total_absent [] t h = refl
 total_absent (w ∷ ws) t h =
     let here = stands t (map (λ p. p.1) w.row.form) in
     let k : (here || stands t (terms_of ws)) ≡ false = sym (list_any-append (λ u. term_eq u t) (map (λ p. p.1) w.row.form) (terms_of ws)) ∙ h in
-    ap (λ z. w.multiplier *ℤ z +ℤ total ws t) (coefficient_absent w.row.form t (or_first here (stands t (terms_of ws)) k))
+    ap (λ z. w.multiplier *ℤ z +ℤ total ws t) (coefficient_absent w.row.form t (or_not_left here (stands t (terms_of ws)) k))
     ∙ ap (λ z. z +ℤ total ws t) (times_none w.multiplier)
-    ∙ ap (λ z. pos 0 +ℤ z) (total_absent ws t (or_second here (stands t (terms_of ws)) k))
+    ∙ ap (λ z. pos 0 +ℤ z) (total_absent ws t (or_not_right here (stands t (terms_of ws)) k))
 
 all_at : (f : Term → Bool) (ts : List Term) (t : Term) → list_all f ts ≡ true → stands t ts ≡ true → f t ≡ true
 all_at f [] t h k = absurd (true≢false (sym k))
@@ -114,28 +106,17 @@ all_at f (u ∷ ts) t h k = by (term_eq u t) refl k (all_at f ts t (and_right (f
     by true e k later = ap f (sym (term_eq_is u t e)) ∙ and_left (f u) (list_all f ts) h
     by false e k later = later k
 
-all_of : (f : Term → Bool) (ts : List Term) → ((t : Term) → f t ≡ true) → list_all f ts ≡ true
-all_of f [] h = refl
-all_of f (t ∷ ts) h = ap (λ b. b && list_all f ts) (h t) ∙ all_of f ts h
-
-zero_is : (v : ℤ) → int_eq v (pos 0) ≡ true → v ≡ pos 0
-zero_is v h = by (int_eq v (pos 0)) (Decides-int_eq v (pos 0)) h
-  where
-    by : (b : Bool) → Decides b (v ≡ pos 0) → b ≡ true → v ≡ pos 0
-    by true d h = d.0 refl
-    by false d h = absurd (true≢false (sym h))
-
 abbrev cancel : List Weighed → Bool
 cancel ws = list_all (λ t. int_eq (total ws t) (pos 0)) (terms_of ws)
 
 all_cancel : (ws : List Weighed) → cancel ws ≡ true → (t : Term) → total ws t ≡ pos 0
-all_cancel ws h t = elim (yes_or_no (stands t (terms_of ws))) [
+all_cancel ws h t = elim (cases_Bool (stands t (terms_of ws))) [
   | inl k ↦ zero_is (total ws t) (all_at (λ u. int_eq (total ws u) (pos 0)) (terms_of ws) t h k)
   | inr k ↦ total_absent ws t k
 ]
 
 cancelled : (ws : List Weighed) → ((t : Term) → total ws t ≡ pos 0) → cancel ws ≡ true
-cancelled ws h = all_of (λ t. int_eq (total ws t) (pos 0)) (terms_of ws) (λ t. ap (λ z. int_eq z (pos 0)) (h t))
+cancelled ws h = all_hold (λ t. int_eq (total ws t) (pos 0)) (terms_of ws) (λ t. ap (λ z. int_eq z (pos 0)) (h t))
 
 -- ---- rows that are added up
 
@@ -155,14 +136,6 @@ total_more : (ws : List Weighed) (w : Weighed) (t : Term) → total (ws ++ w ∷
 total_more [] w t = omega (arith, sums)
 total_more (v ∷ ws) w t = omega (arith, sums, total_more ws w t)
 
-or_false : (b : Bool) → (b || false) ≡ b
-or_false true = refl
-or_false false = refl
-
-and_true : (b : Bool) → (b && true) ≡ b
-and_true true = refl
-and_true false = refl
-
 pub one_added : (p : Place) (xs : List (ℤ × RowName)) (i : ℕ) (x : ℤ × RowName) (es after : List (Term × ℤ)) (strict now new : Bool) (row : CodeRow) → i < length xs → x ≡ get_or xs i x → IsAdded p (take i xs) i es strict
     → row_named p x.1 ≡ Some (row_said row) → ((t : Term) → at after t ≡ at es t +ℤ x.0 *ℤ coefficient (row_said row).form t) → is_good_sign (row_said row).says x.0 ≡ true
     → now ≡ is_strict (row_said row).says x.0 → new ≡ (strict || now) → is_small row ≡ true → unsigned_abs x.0 ≤ 2 ^ 80 → IsAdded p (take (i + 1) xs) (i + 1) after new
@@ -173,8 +146,8 @@ one_added p xs i x es after strict now new row h is a e f g k n small m =
       named = ap (weighed_rows p) (take_more xs i x h ∙ ap (λ y. take i xs ++ y ∷ []) (sym is)) ∙ named_more p (take i xs) x r e ∙ ap (option_map (λ ws. ws ++ weigh x.0 r ∷ [])) a.named;
       sum = λ t. f t ∙ ap (λ z. z +ℤ x.0 *ℤ coefficient r.form t) (a.sum t) ∙ sym (total_more a.rows (weigh x.0 r) t);
       size = λ t. omega (arith, ap unsigned_abs (f t), a.size t, abs_sum (at es t) (x.0 *ℤ coefficient r.form t), product_size x.0 (coefficient r.form t) (2 ^ 80) 64000000 m (row_size row t small));
-      signs = list_all-append (λ (w : Weighed). is_good_sign w.row.says w.multiplier) a.rows (weigh x.0 r ∷ []) ∙ ap (λ b. b && (is_good_sign r.says x.0 && true)) a.signs ∙ and_true (is_good_sign r.says x.0) ∙ g;
-      has_strict = n ∙ ap (λ b. b || now) a.has_strict ∙ ap (λ b. some_strict a.rows || b) (k ∙ sym (or_false (is_strict r.says x.0)))
+      signs = list_all-append (λ (w : Weighed). is_good_sign w.row.says w.multiplier) a.rows (weigh x.0 r ∷ []) ∙ ap (λ b. b && (is_good_sign r.says x.0 && true)) a.signs ∙ and-true (is_good_sign r.says x.0) ∙ g;
+      has_strict = n ∙ ap (λ b. b || now) a.has_strict ∙ ap (λ b. some_strict a.rows || b) (k ∙ sym (or-false (is_strict r.says x.0)))
           ∙ sym (list_any-append (λ (w : Weighed). is_strict w.row.says w.multiplier) a.rows (weigh x.0 r ∷ []));
     }
 
@@ -192,16 +165,10 @@ bad_sign p xs i x r h is e k =
     by None h = refl
     by (Some ws) h = and_false (cancel ws) (good_signs ws && some_strict ws) (ap (λ b. b && some_strict ws) h)
 
-turned : (a b : Bool) → (a && b) ≡ (b && a)
-turned true true = refl
-turned true false = refl
-turned false true = refl
-turned false false = refl
-
 pub whole : (p : Place) (xs ys : List (ℤ × RowName)) (n : ℕ) (es : List (Term × ℤ)) (strict none : Bool) → is_good_size xs ≡ true → ys ≡ xs → IsAdded p ys n es strict
     → IsTrue none ↔ ((t : Term) → at es t ≡ pos 0) → (strict && none) ≡ refutes p xs
 whole p xs ys n es strict none size all a z =
-    turned strict none ∙ ap (λ b. b && strict) same ∙ ap (λ b. cancel a.rows && b) (a.has_strict ∙ sym (ap (λ b. b && some_strict a.rows) a.signs))
+    and_comm strict none ∙ ap (λ b. b && strict) same ∙ ap (λ b. cancel a.rows && b) (a.has_strict ∙ sym (ap (λ b. b && some_strict a.rows) a.signs))
     ∙ sym (ap (λ o. option_map_or is_absurd o false) (ap (weighed_rows p) (sym all) ∙ a.named)) ∙ sym (ap (λ b. b && option_map_or is_absurd (weighed_rows p xs) false) size)
   where
     same : none ≡ cancel a.rows
@@ -215,20 +182,17 @@ all_get f [] i d h k = absurd (omega (arith, k))
 all_get f (x ∷ xs) zero d h k = and_left (f x) (list_all f xs) h
 all_get f (x ∷ xs) (suc i) d h k = all_get f xs i d (and_right (f x) (list_all f xs) h) (omega (arith, k))
 
-nat_le_is : (a b : ℕ) → nat_le a b ≡ true → a ≤ b
-nat_le_is a b h = grind (arith)
-
 pub good_multiplier : (xs : List (ℤ × RowName)) (i : ℕ) (x : ℤ × RowName) → is_good_size xs ≡ true → i < length xs → x ≡ get_or xs i x → unsigned_abs x.0 ≤ 2 ^ 80
 good_multiplier xs i x h k is =
     let all = list_all (λ (x : ℤ × RowName). is_good_multiplier x.0) xs in
     let m = x.0 in
-    nat_le_is (unsigned_abs m) (2 ^ 80) (and_right (not (int_eq m (pos 0))) (nat_le (unsigned_abs m) (2 ^ 80))
+    leb-true (unsigned_abs m) (2 ^ 80) (and_right (not (int_eq m (pos 0))) (nat_le (unsigned_abs m) (2 ^ 80))
     (ap (λ (y : ℤ × RowName). is_good_multiplier y.0) is ∙ all_get (λ (x : ℤ × RowName). is_good_multiplier x.0) xs i x (and_right (nat_le (length xs) 4096) all (and_right (nat_le 1 (length xs)) (nat_le (length xs) 4096 && all) h)) k))
 
 pub room_for : (p : Place) (xs : List (ℤ × RowName)) (i : ℕ) (es : List (Term × ℤ)) (strict : Bool) (t : Term) → is_good_size xs ≡ true → i < length xs → IsAdded p (take i xs) i es strict → unsigned_abs (at es t) ≤ 2 ^ 120
 room_for p xs i es strict t h k a =
     let all = list_all (λ (x : ℤ × RowName). is_good_multiplier x.0) xs in
-    let few = nat_le_is (length xs) 4096 (and_left (nat_le (length xs) 4096) all (and_right (nat_le 1 (length xs)) (nat_le (length xs) 4096 && all) h)) in
+    let few = leb-true (length xs) 4096 (and_left (nat_le (length xs) 4096) all (and_right (nat_le 1 (length xs)) (nat_le (length xs) 4096 && all) h)) in
     omega (arith, few, k, a.size t)
 
 pub all_taken : {X : Type 0} (xs : List X) (i : ℕ) → length xs ≤ i → take i xs ≡ xs

@@ -2,8 +2,6 @@
 use Rattle.std.proofs.Common.{◌≡◌, ◌+◌, ◌<◌, ◌^◌, ◌↔◌, List, [], ◌∷◌, refl, sym, ap, subst, ◌∙◌, arith, Bool, true, false, cond, not, map, Some, ◌&&◌, true≢false, SFits}
 use Rattle.std.specs.Prelude.{ℤ, pos, ◌+ℤ◌, unwrap_or, unsigned_abs, IsTrue}
 use Rattle.std.specs.List.{list_all, All}
-use Rattle.std.specs.Bool.{Decides}
-use Rattle.std.proofs.lemmas.Bool.Decides.{Decides-int_eq}
 use Rattle.std.proofs.lemmas.Map.Views.{All-found}
 use Rattle.std.proofs.lemmas.List.Elements.{All-head, All-tail}
 use Rattle.std.proofs.lemmas.Int.{fits_signed_from_abs}
@@ -19,26 +17,17 @@ use Rattle.e_literal.specs.contracts.object.TermOrd.TheImpl.{cmp-value}
 use Rattle.e_literal.specs.Same.{canonical, term_eq}
 use Rattle.e_literal.specs.NormalForm.{term_cmp}
 use Rattle.e_literal.specs.Rows.{coefficient, normal_summands, times, is_degenerate}
-use Rattle.e_literal.proofs.Terms.{and_left, and_right, term_eq_is, term_eq_same}
-use Rattle.e_literal.proofs.Arith.{sums}
+use Rattle.e_literal.proofs.Terms.{term_eq_is, term_eq_same}
+use Rattle.e_literal.proofs.Arith.{sums, zero_is, is_zero}
 use Rattle.e_literal.proofs.NormalForms.{term_cmp_total, term_cmp_exact}
 use Rattle.e_literal.proofs.Kept.{same_order}
+use Rattle.e_literal.proofs.Booleans.{and_left, and_right}
 use Rattle.e_verify.specs.Totals.{at}
 
 order_is : cmp-value.it ≡ term_cmp
 order_is i s t = same_order s t i
 
 -- ---- what is zero
-
-zero_is : (v : ℤ) → int_eq v (pos 0) ≡ true → v ≡ pos 0
-zero_is v h = by (int_eq v (pos 0)) (Decides-int_eq v (pos 0)) h
-  where
-    by : (b : Bool) → Decides b (v ≡ pos 0) → b ≡ true → v ≡ pos 0
-    by true d h = d.0 refl
-    by false d h = absurd (true≢false (sym h))
-
-is_zero : (v : ℤ) → v ≡ pos 0 → int_eq v (pos 0) ≡ true
-is_zero v e = ap (λ z. int_eq z (pos 0)) e
 
 abbrev are_zero : List ℤ → Bool
 are_zero vs = list_all (λ n. int_eq n (pos 0)) vs

@@ -8,16 +8,16 @@ use Rattle.e_literal.specs.Scopes.{grown, nothing}
 use Rattle.e_literal.specs.Use.{Stated, scope_of, is_statement}
 use Rattle.e_literal.specs.WellFormed.{is_well_formed}
 use Rattle.e_literal.proofs.Growing.{total_grown}
-use Rattle.e_literal.proofs.Terms.{and_left, and_right}
+use Rattle.e_literal.proofs.Booleans.{and_left, and_right}
 use Rattle.e_deriv.specs.Script.{Script}
 use Rattle.e_deriv.specs.Goal.{Goal, goal_of_statement}
 use Rattle.e_deriv.specs.Certified.{Certified, derivation_lines, is_certified, verdict}
 use Rattle.e_deriv.specs.Fitting.{is_small, is_small_statement, all_objects}
+use Rattle.e_deriv.proofs.Smallness.{few_objects}
 use Rattle.e_verify.specs.declared.standing.Standing.{Standing}
 use Rattle.e_verify.specs.Standing.{start_of}
 use Rattle.e_verify.specs.Checking.{verdict_at, IsReadyFor}
 use Rattle.e_verify.specs.Verdicts.{IsVerifiable}
-use Rattle.e_verify.proofs.Certified.{few_objects}
 use Rattle.e_verify.proofs.Passing.{all_pass}
 
 pub same_verdict : (before : List Stated) (t : Stated) (d : Script) (x : Standing) (g : Goal) → x ≡ start_of t → g ≡ goal_of_statement t → verdict before t d ≡ verdict_at before d x g 1

@@ -3,7 +3,8 @@ use Rattle.std.proofs.Common.{◌<◌, ◌≤◌, ◌+◌, ◌*◌, ◌^◌, ◌
 use Rattle.std.specs.Prelude.{unsigned_abs}
 use mir.Syntax.{w64, w128}
 use Rattle.e_literal.specs.Rows.{coefficient}
-use Rattle.e_fraction.proofs.Sums.{small_coefficient, small_row, good_multiplier, total_step, sum_size, fits_wide}
+use Rattle.e_literal.proofs.Arith.{fits_wide}
+use Rattle.e_fraction.proofs.Sums.{small_coefficient, small_row, good_multiplier, total_step, sum_size}
 use Rattle.e_fraction.proofs.sum.total.Goals as goal
 
 pub weighed-sum-requires-clause-coefficient : goal.weighed-sum-requires-clause-coefficient

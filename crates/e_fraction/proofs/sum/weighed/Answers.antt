@@ -2,8 +2,9 @@
 use Rattle.std.proofs.Common.{◌≡◌, ◌≤◌, ◌^◌, ◌*ℤ◌, to_z-of_z, SFits, arith}
 use Rattle.std.specs.Prelude.{unsigned_abs}
 use mir.Syntax.{w64, w128}
-use Rattle.e_fraction.proofs.Sums.{product_size, fits_wide}
+use Rattle.e_fraction.proofs.Sums.{product_size}
 use Rattle.e_fraction.proofs.sum.weighed.Goals as goal
+use Rattle.e_literal.proofs.Arith.{fits_wide}
 
 pub returns-clause-value : goal.returns-clause-value
 returns-clause-value c =

@@ -1,8 +1,9 @@
 use Rattle.std.proofs.Common.{arith, subst}
 use Rattle.e_theorem.specs.Statements.{stated}
 use Rattle.e_licence.specs.Fills.{FilledIs}
-use Rattle.e_prove.proofs.Applying.{few_objects, match_halts_so}
+use Rattle.e_prove.proofs.Applying.{match_halts_so}
 use Rattle.e_prove.proofs.application.filled.Goals as goal
+use Rattle.e_deriv.proofs.Smallness.{few_objects}
 
 pub match_blanks-requires-clause-few : goal.match_blanks-requires-clause-few
 match_blanks-requires-clause-few c = let few = few_objects (stated c.args.statement.now) c.requires.statement in omega (arith, few)

@@ -15,10 +15,10 @@ use Rattle.e_prove.specs.Passing.{IsReadyFor, IsReadyStep, IsDerived, IsPassed, 
 use Rattle.e_prove.proofs.Licensing.{ok_map, err_map}
 use Rattle.e_prove.proofs.Closing.{qed_fits}
 use Rattle.e_prove.proofs.Passing.{told_passed, told_stops, told_close_stops, stops_as_memory}
-use Rattle.e_prove.proofs.Inside.{some_lines}
 use Rattle.e_prove.proofs.Ready.{cite_good, hence_good, one_good, make_good, make_room, claim_parts, claim_lines, claim_after, superposed_parts, superposed_lines, superposed_after, block_facts, room_of_small, apply_good, as_many, theorem_is}
 use Rattle.e_prove.proofs.Blocks.{on_ok, passed_start, step_ready, step_stops, step_passed, close_ready, close_few, close_derived, close_stops, kept_on, kept_literal, kept_superposed, few_left, good_left_for, good_behind, left_is, claim_passed, claim_stopped, superposed_passed, superposed_stopped, superposed_refused, split_parts, split_second_ready, split_size, split_derived, split_stops_first, split_stops_second, cite_one, hence_one, make_one, apply_one, qed_one, contradiction_one}
 use Rattle.e_prove.proofs.block.+block.Goals as goal
+use Rattle.e_book.proofs.ScriptParts.{at_least}
 
 -- ---- a block
 
@@ -112,10 +112,10 @@ prove_close-qed-judged-requires-clause-lits t c =
     subst (λ os. are_good x.context.scope (goal_with goal os) ≡ true) (sym c.items.ensures) fit.lits
 
 pub prove_close-told_close-requires : goal.prove_close-told_close-requires
-prove_close-told_close-requires t c = let one = some_lines (close_script c.args.close.now) in omega (arith, one, c.requires.few)
+prove_close-told_close-requires t c = let one = at_least (close_script c.args.close.now) in omega (arith, one, c.requires.few)
 
 pub prove_close-told_close-requires-in-Contradiction : goal.prove_close-told_close-requires-in-Contradiction
-prove_close-told_close-requires-in-Contradiction t c = let one = some_lines (close_script c.args.close.now) in omega (arith, one, c.requires.few)
+prove_close-told_close-requires-in-Contradiction t c = let one = at_least (close_script c.args.close.now) in omega (arith, one, c.requires.few)
 
 pub prove_close-suppose-requires : goal.prove_close-suppose-requires
 prove_close-suppose-requires t c =
@@ -125,7 +125,7 @@ prove_close-suppose-requires t c =
     block_facts (all_stated c.args.before.now) (script_of c.in-Cases.first.value) (after_literal c.in-Cases.lit x) goal parts.one
 
 pub prove_close-overflow_add-number : goal.prove_close-overflow_add-number
-prove_close-overflow_add-number t c = let one = some_lines (close_script c.args.close.now) in omega (arith, one, c.requires.few)
+prove_close-overflow_add-number t c = let one = at_least (close_script c.args.close.now) in omega (arith, one, c.requires.few)
 
 pub prove_close-prove_block-requires : goal.prove_close-prove_block-requires
 prove_close-prove_block-requires t c =
@@ -294,7 +294,7 @@ pub prove_step-cite-judged-requires : goal.prove_step-cite-judged-requires
 prove_step-cite-judged-requires t c = cite_good (all_stated c.args.before.now) c.in-Cite.by c.args.standing.now c.args.number (subst (λ s. IsReadyStep (all_stated c.args.before.now) s c.args.standing.now c.args.number) c.in-Cite.is c.requires)
 
 pub prove_step-told-requires : goal.prove_step-told-requires
-prove_step-told-requires t c = let one = some_lines (step_script c.args.step.now c.requires.rest) in omega (arith, one, c.requires.few)
+prove_step-told-requires t c = let one = at_least (step_script c.args.step.now c.requires.rest) in omega (arith, one, c.requires.few)
 
 pub prove_step-hence-judged-requires-clause-lit : goal.prove_step-hence-judged-requires-clause-lit
 prove_step-hence-judged-requires-clause-lit t c =
@@ -306,7 +306,7 @@ prove_step-hence-judged-requires-clause-after t c =
     (hence_good (all_stated c.args.before.now) c.in-Hence.lit c.in-Hence.cert c.args.standing.now c.args.number (subst (λ s. IsReadyStep (all_stated c.args.before.now) s c.args.standing.now c.args.number) c.in-Hence.is c.requires)).after
 
 pub prove_step-told-requires-in-Hence : goal.prove_step-told-requires-in-Hence
-prove_step-told-requires-in-Hence t c = let one = some_lines (step_script c.args.step.now c.requires.rest) in omega (arith, one, c.requires.few)
+prove_step-told-requires-in-Hence t c = let one = at_least (step_script c.args.step.now c.requires.rest) in omega (arith, one, c.requires.few)
 
 pub prove_step-make-judged-requires-clause-room : goal.prove_step-make-judged-requires-clause-room
 prove_step-make-judged-requires-clause-room t c =
@@ -321,7 +321,7 @@ prove_step-make-judged-requires-clause-after t c =
     (make_good (all_stated c.args.before.now) c.in-Make.form c.in-Make.names c.in-Make.certs c.args.standing.now c.args.number (subst (λ s. IsReadyStep (all_stated c.args.before.now) s c.args.standing.now c.args.number) c.in-Make.is c.requires)).after
 
 pub prove_step-told-requires-in-Make : goal.prove_step-told-requires-in-Make
-prove_step-told-requires-in-Make t c = let one = some_lines (step_script c.args.step.now c.requires.rest) in omega (arith, one, c.requires.few)
+prove_step-told-requires-in-Make t c = let one = at_least (step_script c.args.step.now c.requires.rest) in omega (arith, one, c.requires.few)
 
 pub prove_step-returns-in-Cite-clause-ok : goal.prove_step-returns-in-Cite-clause-ok
 prove_step-returns-in-Cite-clause-ok t c =
@@ -375,7 +375,7 @@ prove_step-bounds-before-theorem t c =
     omega (arith, many, ready.place)
 
 pub prove_step-told-requires-in-Apply : goal.prove_step-told-requires-in-Apply
-prove_step-told-requires-in-Apply t c = let one = some_lines (step_script c.args.step.now c.requires.rest) in omega (arith, one, c.requires.few)
+prove_step-told-requires-in-Apply t c = let one = at_least (step_script c.args.step.now c.requires.rest) in omega (arith, one, c.requires.few)
 
 pub prove_step-apply-judged-requires : goal.prove_step-apply-judged-requires
 prove_step-apply-judged-requires t c =
@@ -423,7 +423,7 @@ prove_step-returns-in-Apply-clause-err t c =
 -- ---- a claim
 
 pub prove_step-overflow_add-number : goal.prove_step-overflow_add-number
-prove_step-overflow_add-number t c = let one = some_lines (step_script c.args.step.now c.requires.rest) in omega (arith, one, c.requires.few)
+prove_step-overflow_add-number t c = let one = at_least (step_script c.args.step.now c.requires.rest) in omega (arith, one, c.requires.few)
 
 pub prove_step-prove_block-requires : goal.prove_step-prove_block-requires
 prove_step-prove_block-requires t c =
@@ -497,7 +497,7 @@ prove_step-returns-in-Err-superpose-clause-err t c =
     c.in-Err-superpose.ensures.kept c.stop_at.ensures
 
 pub prove_step-overflow_add-number-in-Superposed : goal.prove_step-overflow_add-number-in-Superposed
-prove_step-overflow_add-number-in-Superposed t c = let one = some_lines (step_script c.args.step.now c.requires.rest) in omega (arith, one, c.requires.few)
+prove_step-overflow_add-number-in-Superposed t c = let one = at_least (step_script c.args.step.now c.requires.rest) in omega (arith, one, c.requires.few)
 
 pub prove_step-prove_block-requires-in-Superposed : goal.prove_step-prove_block-requires-in-Superposed
 prove_step-prove_block-requires-in-Superposed t c =

@@ -5,8 +5,9 @@ use Rattle.e_book.specs.Book.{last_line}
 use Rattle.e_book.proofs.ReadSpelled.{read_is_spelled}
 use Rattle.e_run.specs.Outcome.{number_behind}
 use Rattle.e_run.specs.Answers.{Derived}
-use Rattle.e_run.proofs.History.{at_last, ends_counted, small_more, goes_on, breaks_off, breaks_inside, stopped, spelled_as, front_spelled_as}
+use Rattle.e_run.proofs.History.{at_last, ends_counted, goes_on, breaks_off, breaks_inside, stopped, spelled_as, front_spelled_as}
 use Rattle.e_run.proofs.blocks.blocks.Goals as goal
+use Rattle.e_judgement.proofs.Passing.{small_more}
 
 pub returns-in_default-clause-ending : goal.returns-in_default-clause-ending
 returns-in_default-clause-ending g c =

@@ -2,12 +2,12 @@ use Rattle.std.proofs.Common.{◌-◌, arith, length, get_or, pos, SFits, to_z-o
 use mir.Syntax.{w128}
 use Rattle.e_fraction.specs.Views.{all_seen}
 use Rattle.e_simplex.proofs.Spreading.{nots_most}
-use Rattle.e_simplex.proofs.Forms.{fits_wide}
 use Rattle.e_simplex.specs.declared.lines.Line.{Line}
 use Rattle.e_simplex.specs.declared.lines.Kind.TheVariants.{More}
 use Rattle.e_simplex.proofs.Assigning.{none_two}
 use Rattle.e_simplex.proofs.Refuting.{small_anywhere, is_below, above_long, below_long, both_refute}
 use Rattle.e_simplex.proofs.decision.refuted_both.Goals as goal
+use Rattle.e_literal.proofs.Arith.{fits_wide}
 
 some : Line
 some = record { kind = More; form = [] }

@@ -1,8 +1,9 @@
 use Rattle.std.proofs.Common.{◌≤◌, ◌^◌, ◌+ℤ◌, ◌+◌, ◌*◌, to_z, SFits, to_z-of_z, arith}
 use Rattle.std.specs.Prelude.{unsigned_abs}
 use mir.Syntax.{w128}
-use Rattle.e_simplex.proofs.Forms.{form_value_more, sum_size, fits_wide, part_size}
+use Rattle.e_simplex.proofs.Forms.{form_value_more, sum_size, part_size}
 use Rattle.e_simplex.proofs.lines.value_of.Goals as goal
+use Rattle.e_literal.proofs.Arith.{fits_wide}
 
 pub overflow_add-sum : goal.overflow_add-sum
 overflow_add-sum c =

@@ -1,7 +1,7 @@
 use Rattle.std.proofs.Common.{ap, ◌∙◌}
 use Rattle.std.specs.List.{list_all}
 use Rattle.e_literal.specs.WellFormed.{is_well_formed}
-use Rattle.e_literal.proofs.Terms.{and_left}
+use Rattle.e_literal.proofs.Booleans.{and_left}
 use Rattle.e_clause.specs.Judged.{are_good, are_few}
 use Rattle.e_transfer.proofs.Needing.{facts_well}
 use Rattle.e_transfer.proofs.finding.find_by_sums.Goals as goal

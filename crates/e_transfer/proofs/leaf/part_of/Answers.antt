@@ -1,7 +1,8 @@
 use Rattle.std.proofs.Common.{◌≡◌, ◌∙◌, ap, sym}
 use Rattle.std.specs.Prelude.{is_some, Some}
+use Rattle.std.proofs.lemmas.Bool.{and_from}
 use Rattle.e_literal.specs.Facts.{is_metric}
-use Rattle.e_literal.proofs.Terms.{both, and_left}
+use Rattle.e_literal.proofs.Booleans.{and_left}
 use Rattle.e_clause.specs.Judged.{are_good, are_few}
 use Rattle.e_clause.specs.MetricCertificate.{sums_refute}
 use Rattle.e_transfer.proofs.Needing.{facts_over, told_yes}
@@ -14,7 +15,7 @@ returns-in-Yes c =
     let need = c.args.need.now in
     let yes = told_yes s.facts.now need _ c.in-Yes.cert c.in-Yes.is c.in_ok-cert.ensures.told in
     record {
-      certifies = both (is_metric need) (sums_refute s.facts.now (Some need) c.in-Yes.cert.sums) (ap is_some (sym c.kind.ensures) ∙ c.if-is_none.ensures) yes.refutes;
+      certifies = and_from (is_metric need) (sums_refute s.facts.now (Some need) c.in-Yes.cert.sums) (ap is_some (sym c.kind.ensures) ∙ c.if-is_none.ensures) yes.refutes;
       over = yes.scoped s.scope (facts_over s.scope s.facts.now (and_left (are_good s.scope s.facts.now) (are_few s.facts.now) s.good)) c.requires.in_scope;
       written = yes.written;
     }

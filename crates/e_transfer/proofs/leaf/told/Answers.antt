@@ -3,7 +3,7 @@ use Rattle.std.specs.Prelude.{option_copied}
 use Rattle.std.specs.List.{list_all}
 use Rattle.e_literal.specs.declared.literal.Lit.{Lit}
 use Rattle.e_literal.specs.WellFormed.{is_well_formed}
-use Rattle.e_literal.proofs.Terms.{and_left}
+use Rattle.e_literal.proofs.Booleans.{and_left}
 use Rattle.e_clause.specs.Assignment.{terms_of_lits}
 use Rattle.e_clause.specs.Judged.{are_good, are_few}
 use Rattle.e_clause.specs.Metric.{MetricConsequence}

@@ -7,8 +7,9 @@ use Rattle.e_verify.specs.Standing.{goal_said}
 use Rattle.e_verify.specs.Checking.{verdict_at, IsReadyFor, IsChecked}
 use Rattle.e_deriv.proofs.Keeping.{all_stay}
 use Rattle.e_verify.proofs.Passing.{cite_line, hence_line, make_line, apply_line, told_passed, told_bad}
-use Rattle.e_verify.proofs.Inside.{step_ready, step_rejects, step_same, step_next, steps_end, kept_on, ok_as, err_as, on_ok, few_one, few_step, small_step, cite_is, hence_is, make_is, apply_is, hence_parts, make_parts, apply_parts, claim_ready, claim_fails, claim_stops, claim_done, superposed_parts, superposed_ready, superposed_fails, superposed_stops, superposed_done, qed_parts, contradiction_parts, qed_ok, qed_bad, contradiction_ok, contradiction_bad, split_fails, first_ready, first_stops, behind_first, second_ready, split_same, kept_behind}
+use Rattle.e_verify.proofs.Inside.{step_ready, step_rejects, step_same, step_next, steps_end, kept_on, ok_as, err_as, few_one, few_step, small_step, cite_is, hence_is, make_is, apply_is, hence_parts, make_parts, apply_parts, claim_ready, claim_fails, claim_stops, claim_done, superposed_parts, superposed_ready, superposed_fails, superposed_stops, superposed_done, qed_parts, contradiction_parts, qed_ok, qed_bad, contradiction_ok, contradiction_bad, split_fails, first_ready, first_stops, behind_first, second_ready, split_same, kept_behind}
 use Rattle.e_verify.proofs.block.+block.Goals as goal
+use Rattle.e_verify.proofs.Added.{on_ok}
 
 -- ---- a block
 

@@ -1,7 +1,8 @@
 use Rattle.std.proofs.Common.{◌≡◌, ap, ◌∙◌, sym, get_or, Some, ◌<◌, length, List, ℕ, subst}
 use Rattle.std.specs.Prelude.{slice_get}
+use Rattle.std.proofs.lemmas.Bool.{not-true}
 use Rattle.e_clause.specs.Views.{row_of}
-use Rattle.e_transfer.proofs.Placed.{excluded, not_true}
+use Rattle.e_transfer.proofs.Placed.{excluded}
 use Rattle.e_transfer.proofs.place.Place.is_excluded.Goals as goal
 
 pub returns : goal.returns
@@ -14,4 +15,4 @@ returns c = λ e.
     (c.is_completed.ensures.below c.if-not-is_completed.false) in
     excluded s.sought.means s.sought.scope s.sought.facts.now s.sought.goal.now s.rule s.place s.plan.now (row_of c.args.row.now) c.args.part.now c.args.args.now c.args.j
     (get_or s.plan.now.lasts.items c.args.j 0) c.in_ok-lit.lit
-    c.requires.of_table c.requires.arguments known below c.in_ok-lit.ensures (c.may_stand.ensures (not_true c.may_stand.result e))
+    c.requires.of_table c.requires.arguments known below c.in_ok-lit.ensures (c.may_stand.ensures (not-true c.may_stand.result e))

@@ -1,0 +1,117 @@
+-- What holds of each literal that is read as the words say holds of the literal in a line of a certificate.
+use Rattle.std.proofs.Common.{◌≡◌, ℕ, cond, List, [], ◌∷◌, Result, Ok, Err, subst}
+use Rattle.std.specs.Prelude.{codes}
+use Rattle.std.specs.Str.{bytes_eq}
+use Rattle.e_book.specs.declared.fault.Kind.{Kind}
+use Rattle.e_book.specs.declared.fault.Kind.TheVariants.{Malformed}
+use Rattle.e_book.specs.declared.literal.RawLit.{RawLit}
+use Rattle.e_book.specs.declared.sum.RawTerm.{RawTerm}
+use Rattle.e_book.specs.Reading.{◌>>=◌, title_at, end_at, names_of}
+use Rattle.e_book.specs.Sums.{term_of}
+use Rattle.e_book.specs.Literals.{lit_of, diagram_lit_of}
+use Rattle.e_book.proofs.InScope.{bind_ok, ok_is, read_ok}
+use Rattle.e_book.proofs.Choices.{either, passed}
+use Rattle.e_read.specs.declared.mark.RawRow.{RawRow}
+use Rattle.e_read.specs.declared.mark.RawRow.TheVariants as rows
+use Rattle.e_read.specs.declared.mark.Mark.{Mark}
+use Rattle.e_read.specs.declared.mark.Mark.TheVariants as marks
+use Rattle.e_read.specs.Marks.{multiplier_of, bare_row, row_named, row_of, may_differ, bare, differs_of, transfer_of, row_mark_of, mark_named, mark_of}
+
+-- what is said of a row's literal, where the row is a fact
+abbrev pub OfRow : (RawLit → Type 0) → RawRow → Type 0
+OfRow P (rows.Fact l) = P l
+OfRow P row = Unit {0}
+
+-- what is said of the literal of a row, and what of that of a clash
+abbrev pub OfMark : (RawLit → Type 0) → (RawLit → Type 0) → Mark → Type 0
+OfMark P Q (marks.Differs r) = OfRow P r
+OfMark P Q (marks.Row m r) = OfRow P r
+OfMark P Q (marks.Clash l) = Q l
+OfMark P Q mark = Unit {0}
+
+module _ (P : RawLit → Type 0) (literal : (ws : List (List ℕ)) (l : RawLit) → lit_of ws ≡ Ok l → P l) where
+  bare_row_lit : (ws : List (List ℕ)) (row r : RawRow) → OfRow P row → bare_row ws row ≡ Ok r → OfRow P r
+  bare_row_lit ws row r h e = let n = bind_ok (end_at ws) (λ none. read_ok row) r e in subst (OfRow P) (ok_is row r n.2) h
+
+  term_row_lit : (ws : List (List ℕ)) (f : RawTerm → RawRow) (r : RawRow) → ((t : RawTerm) → OfRow P (f t)) → (term_of ws >>= λ t. read_ok (f t)) ≡ Ok r → OfRow P r
+  term_row_lit ws f r h e = let t = bind_ok (term_of ws) (λ t. read_ok (f t)) r e in subst (OfRow P) (ok_is (f t.0) r t.2) (h t.0)
+
+  fact_lit : (ws : List (List ℕ)) (r : RawRow) → (lit_of ws >>= λ l. read_ok (rows.Fact l)) ≡ Ok r → OfRow P r
+  fact_lit ws r e = let l = bind_ok (lit_of ws) (λ l. read_ok (rows.Fact l)) r e in subst (OfRow P) (ok_is (rows.Fact l.0) r l.2) (literal ws l.0 l.1)
+
+  no_row : (r : RawRow) → let none : Result RawRow Kind = Err Malformed in none ≡ Ok r → OfRow P r
+  no_row r h = absurd cc
+
+  row_named_lit : (w : List ℕ) (ws : List (List ℕ)) (r : RawRow) → row_named w ws ≡ Ok r → OfRow P r
+  unfolding row_named
+  row_named_lit w ws r e =
+      let none : Result RawRow Kind = Err Malformed in
+      let r7 : Result RawRow Kind = cond (bytes_eq w (codes "below")) (bare_row ws rows.Below) none in
+      let r6 : Result RawRow Kind = cond (bytes_eq w (codes "above")) (bare_row ws rows.Above) r7 in
+      let r5 : Result RawRow Kind = cond (bytes_eq w (codes "least")) (term_of ws >>= λ t. read_ok (rows.Least t)) r6 in
+      let r4 : Result RawRow Kind = cond (bytes_eq w (codes "right")) (bare_row ws rows.Right) r5 in
+      let r3 : Result RawRow Kind = cond (bytes_eq w (codes "top")) (term_of ws >>= λ t. read_ok (rows.Top t)) r4 in
+      let r2 : Result RawRow Kind = cond (bytes_eq w (codes "pos")) (term_of ws >>= λ t. read_ok (rows.Pos t)) r3 in
+      let r1 : Result RawRow Kind = cond (bytes_eq w (codes "goal")) (bare_row ws rows.Goal) r2 in
+      either (OfRow P) (bytes_eq w (codes "fact")) (lit_of ws >>= λ l. read_ok (rows.Fact l)) r1 r e (fact_lit ws r) (λ e1.
+      either (OfRow P) (bytes_eq w (codes "goal")) (bare_row ws rows.Goal) r2 r e1 (bare_row_lit ws rows.Goal r tt) (λ e2.
+      either (OfRow P) (bytes_eq w (codes "pos")) (term_of ws >>= λ t. read_ok (rows.Pos t)) r3 r e2 (term_row_lit ws rows.Pos r (λ t. tt)) (λ e3.
+      either (OfRow P) (bytes_eq w (codes "top")) (term_of ws >>= λ t. read_ok (rows.Top t)) r4 r e3 (term_row_lit ws rows.Top r (λ t. tt)) (λ e4.
+      either (OfRow P) (bytes_eq w (codes "right")) (bare_row ws rows.Right) r5 r e4 (bare_row_lit ws rows.Right r tt) (λ e5.
+      either (OfRow P) (bytes_eq w (codes "least")) (term_of ws >>= λ t. read_ok (rows.Least t)) r6 r e5 (term_row_lit ws rows.Least r (λ t. tt)) (λ e6.
+      either (OfRow P) (bytes_eq w (codes "above")) (bare_row ws rows.Above) r7 r e6 (bare_row_lit ws rows.Above r tt) (λ e7.
+      either (OfRow P) (bytes_eq w (codes "below")) (bare_row ws rows.Below) none r e7 (bare_row_lit ws rows.Below r tt) (no_row r))))))))
+
+  row_lit : (ws : List (List ℕ)) (r : RawRow) → row_of ws ≡ Ok r → OfRow P r
+  unfolding row_of
+  row_lit [] r e = absurd cc
+  row_lit (w ∷ ws) r e = row_named_lit w ws r e
+
+  module _ (Q : RawLit → Type 0) (clashing : (ws : List (List ℕ)) (l : RawLit) → diagram_lit_of ws ≡ Ok l → Q l) where
+    bare_lit : (ws : List (List ℕ)) (mark m : Mark) → OfMark P Q mark → bare ws mark ≡ Ok m → OfMark P Q m
+    bare_lit ws mark m h e = let n = bind_ok (end_at ws) (λ none. read_ok mark) m e in subst (OfMark P Q) (ok_is mark m n.2) h
+
+    differs_lit : (ws : List (List ℕ)) (m : Mark) → differs_of ws ≡ Ok m → OfMark P Q m
+    unfolding differs_of
+    differs_lit ws m e =
+        let r = bind_ok (row_of ws) (λ r. cond (may_differ r) (read_ok (marks.Differs r)) (Err Malformed)) m e in
+        subst (OfMark P Q) (ok_is (marks.Differs r.0) m (passed (may_differ r.0) (read_ok (marks.Differs r.0)) m r.2).1) (row_lit ws r.0 r.1)
+
+    row_mark_lit : (w : List ℕ) (ws : List (List ℕ)) (m : Mark) → row_mark_of w ws ≡ Ok m → OfMark P Q m
+    unfolding row_mark_of
+    row_mark_lit w ws m e =
+        let n = bind_ok (multiplier_of w) (λ n. row_of ws >>= λ r. read_ok (marks.Row n r)) m e in
+        let r = bind_ok (row_of ws) (λ r. read_ok (marks.Row n.0 r)) m n.2 in
+        subst (OfMark P Q) (ok_is (marks.Row n.0 r.0) m r.2) (row_lit ws r.0 r.1)
+
+    transfer_lit : (ws : List (List ℕ)) (m : Mark) → transfer_of ws ≡ Ok m → OfMark P Q m
+    unfolding transfer_of
+    transfer_lit ws m e =
+        let t = bind_ok (title_at ws) (λ t. names_of t.1 >>= λ ns. read_ok (marks.Transfer t.0 ns)) m e in
+        let ns = bind_ok (names_of t.0.1) (λ ns. read_ok (marks.Transfer t.0.0 ns)) m t.2 in
+        subst (OfMark P Q) (ok_is (marks.Transfer t.0.0 ns.0) m ns.2) tt
+
+    clash_lit : (ws : List (List ℕ)) (m : Mark) → (diagram_lit_of ws >>= λ l. read_ok (marks.Clash l)) ≡ Ok m → OfMark P Q m
+    clash_lit ws m e =
+        let l = bind_ok (diagram_lit_of ws) (λ l. read_ok (marks.Clash l)) m e in
+        subst (OfMark P Q) (ok_is (marks.Clash l.0) m l.2) (clashing ws l.0 l.1)
+
+    mark_named_lit : (w : List ℕ) (ws : List (List ℕ)) (m : Mark) → mark_named w ws ≡ Ok m → OfMark P Q m
+    unfolding mark_named
+    mark_named_lit w ws m e =
+        let m5 : Result Mark Kind = cond (bytes_eq w (codes "differs")) (differs_of ws) (row_mark_of w ws) in
+        let m4 : Result Mark Kind = cond (bytes_eq w (codes "sum")) (bare ws marks.Sum) m5 in
+        let m3 : Result Mark Kind = cond (bytes_eq w (codes "clash")) (diagram_lit_of ws >>= λ l. read_ok (marks.Clash l)) m4 in
+        let m2 : Result Mark Kind = cond (bytes_eq w (codes "transfer")) (transfer_of ws) m3 in
+        let m1 : Result Mark Kind = cond (bytes_eq w (codes "metric")) (bare ws marks.Metric) m2 in
+        either (OfMark P Q) (bytes_eq w (codes "fact")) (bare ws marks.Fact) m1 m e (bare_lit ws marks.Fact m tt) (λ e1.
+        either (OfMark P Q) (bytes_eq w (codes "metric")) (bare ws marks.Metric) m2 m e1 (bare_lit ws marks.Metric m tt) (λ e2.
+        either (OfMark P Q) (bytes_eq w (codes "transfer")) (transfer_of ws) m3 m e2 (transfer_lit ws m) (λ e3.
+        either (OfMark P Q) (bytes_eq w (codes "clash")) (diagram_lit_of ws >>= λ l. read_ok (marks.Clash l)) m4 m e3 (clash_lit ws m) (λ e4.
+        either (OfMark P Q) (bytes_eq w (codes "sum")) (bare ws marks.Sum) m5 m e4 (bare_lit ws marks.Sum m tt) (λ e5.
+        either (OfMark P Q) (bytes_eq w (codes "differs")) (differs_of ws) (row_mark_of w ws) m e5 (differs_lit ws m) (row_mark_lit w ws m))))))
+
+    pub mark_lit : (ws : List (List ℕ)) (m : Mark) → mark_of ws ≡ Ok m → OfMark P Q m
+    unfolding mark_of
+    mark_lit [] m e = absurd cc
+    mark_lit (w ∷ ws) m e = mark_named_lit w ws m e
