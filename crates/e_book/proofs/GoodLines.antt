@@ -22,7 +22,7 @@ use Rattle.e_literal.specs.WellFormed.{is_well_formed}
 use Rattle.e_literal.specs.Facts.{has, joined, joined_all}
 use Rattle.e_literal.specs.Rename.{mono_at, atom_at, number_at, renamed, image_in, paired}
 use Rattle.e_literal.specs.Use.{Stated, is_statement, are_arguments, image, gives_of_use}
-use Rattle.e_literal.proofs.Renaming.{is_moved_in}
+use Rattle.e_literal.proofs.WithImages.{is_moved_in}
 use Rattle.e_literal.proofs.Growing.{sorts_next}
 use Rattle.e_literal.proofs.Booleans.{all_both}
 use Rattle.e_clause.specs.declared.cert.By.{By}

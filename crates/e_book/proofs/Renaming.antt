@@ -13,7 +13,7 @@ use Rattle.e_literal.specs.Literal.{obj, count_of, is_in_scope}
 use Rattle.e_literal.specs.Scopes.{same_sort, with_one, grown, next_objects, are_of_sorts}
 use Rattle.e_literal.specs.WellFormed.{is_well_formed}
 use Rattle.e_literal.specs.Rename.{renamed, same_obj, image_in, paired}
-use Rattle.e_literal.proofs.Renaming.{is_moved_in, renamed_well_formed}
+use Rattle.e_literal.proofs.WithImages.{is_moved_in, renamed_well_formed}
 use Rattle.e_literal.proofs.Sorts.{same_sort_is}
 
 -- ---- well formed

@@ -9,7 +9,7 @@ use Rattle.e_construct.specs.Shapes.{ShapeRow}
 use Rattle.e_construct.specs.Construct.{of_sort, sorts_of, needs_of_avoided, argument, needs_of_row}
 use Rattle.e_literal.specs.declared.object.Scope.{Scope}
 use Rattle.e_literal.specs.declared.object.Sort.{Sort}
-use Rattle.e_literal.proofs.Renaming.{image_in_first, image_in_second}
+use Rattle.e_literal.proofs.WithImages.{image_in_first, image_in_second}
 use Rattle.std.proofs.lemmas.List.{append-nil}
 use Rattle.std.proofs.lemmas.Grind.{common_steps}
 

@@ -14,7 +14,7 @@ use Rattle.e_literal.specs.Literal.{count_of, is_in_scope, objects_of_atom, all_
 use Rattle.e_literal.specs.Facts.{is_metric}
 use Rattle.e_literal.specs.Scopes.{same_sort, with_one, grown, are_of_sorts}
 use Rattle.e_literal.specs.Rename.{atom_at, number_at, renamed}
-use Rattle.e_literal.proofs.Renaming.{is_moved_in, renamed_scope}
+use Rattle.e_literal.proofs.WithImages.{is_moved_in, renamed_scope}
 
 -- ---- tests that hold together
 

@@ -19,7 +19,7 @@ use Rattle.e_theorem.proofs.Renaming.{same_renamed}
 use Rattle.e_transfer.specs.Choice.{EachKept}
 use Rattle.e_transfer.specs.Outcome.{VerdictIs}
 use Rattle.e_literal.specs.declared.values.Values.{Values}
-use Rattle.e_literal.proofs.Renaming.{is_moved_in, renamed_scope}
+use Rattle.e_literal.proofs.WithImages.{is_moved_in, renamed_scope}
 use Rattle.e_literal.proofs.Sorts.{same_sort_is}
 use Rattle.e_literal.proofs.Booleans.{and_left, and_right}
 use Rattle.e_clause.specs.declared.cert.Cert.{Cert}

@@ -16,7 +16,7 @@ use Rattle.e_literal.specs.Scopes.{same_sort, nothing, with_one, grown, next_obj
 use Rattle.e_literal.specs.Rename.{same_obj, image_in, paired, renamed}
 use Rattle.e_literal.specs.Use.{Stated, scope_of, nth_of_sort, image, are_arguments}
 use Rattle.e_literal.proofs.Growing.{grown_bounds, counts_nothing, sorts_next}
-use Rattle.e_literal.proofs.Renaming.{image_in_second}
+use Rattle.e_literal.proofs.WithImages.{image_in_second}
 use Rattle.e_literal.proofs.Sorts.{same_sort_is, sorts_of_objects}
 use Rattle.e_literal.proofs.Booleans.{and_left, and_right}
 

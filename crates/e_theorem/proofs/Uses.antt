@@ -13,7 +13,7 @@ use Rattle.e_literal.specs.WellFormed.{is_well_formed}
 use Rattle.e_literal.specs.Scopes.{same_sort, nothing, with_one, grown, next_objects, are_of_sorts}
 use Rattle.e_literal.specs.Rename.{same_obj, image_in, paired, renamed}
 use Rattle.e_literal.specs.Use.{Stated, scope_of, image, are_arguments, needs_of_use, gives_of_use, nth_of_sort, is_statement}
-use Rattle.e_literal.proofs.Renaming.{is_moved_in, renamed_scope, renamed_well_formed}
+use Rattle.e_literal.proofs.WithImages.{is_moved_in, renamed_scope, renamed_well_formed}
 use Rattle.e_literal.proofs.Sorts.{same_sort_is}
 use Rattle.e_literal.proofs.Booleans.{and_left, and_right}
 use Rattle.e_clause.specs.Judged.{is_good, are_good}

@@ -18,7 +18,7 @@ use Rattle.e_literal.specs.declared.literal.Atom.TheVariants.{On, OnC, Inside, C
 use Rattle.e_literal.specs.Literal.{negation, obj, is_in_scope, count_of, objects_of_term, objects_of_sum, objects_of_atom, all_in_scope}
 use Rattle.e_literal.specs.Rename.{term_at, mono_at, atom_at}
 use Rattle.e_literal.specs.WellFormed.{is_good_atom, is_well_formed}
-use Rattle.e_literal.proofs.Renaming.{good_atom_stays}
+use Rattle.e_literal.proofs.WithImages.{good_atom_stays}
 use Rattle.e_literal.proofs.Booleans.{and_left, and_right}
 use Rattle.e_clause.specs.Rows.{Row}
 use Rattle.e_clause.specs.Instance.{Inst, instance_of_row, fits, number, line, circle, lit_at, clause_of}

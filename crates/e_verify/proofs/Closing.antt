@@ -12,7 +12,7 @@ use Rattle.e_literal.specs.Scopes.{are_of_sorts}
 use Rattle.e_literal.specs.Rename.{renamed, image_in, paired}
 use Rattle.e_literal.specs.Use.{Stated}
 use Rattle.e_literal.specs.WellFormed.{is_well_formed}
-use Rattle.e_literal.proofs.Renaming.{renamed_well_formed}
+use Rattle.e_literal.proofs.WithImages.{renamed_well_formed}
 use Rattle.e_literal.proofs.Booleans.{and_left, and_right}
 use Rattle.e_clause.specs.declared.cert.Cert.{Cert}
 use Rattle.e_clause.specs.Certify.{certify_all}

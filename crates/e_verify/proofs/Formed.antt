@@ -11,7 +11,7 @@ use Rattle.e_literal.specs.Literal.{obj, negation}
 use Rattle.e_literal.specs.Facts.{others}
 use Rattle.e_literal.specs.Same.{same_lit}
 use Rattle.e_literal.specs.WellFormed.{is_well_formed}
-use Rattle.e_literal.proofs.Renaming.{renamed_well_formed}
+use Rattle.e_literal.proofs.WithImages.{renamed_well_formed}
 use Rattle.e_literal.proofs.Booleans.{and_left, and_right}
 use Rattle.e_clause.specs.Rows.{Row}
 use Rattle.e_clause.specs.Table.{table}
