@@ -1,5 +1,5 @@
 -- The literals of a script: certificates and blanks are no part of them, and with good certificates it is written well.
-use Rattle.std.proofs.Common.{◌≡◌, List, [], ◌∷◌, ◌++◌, refl, ap, ap₂, ◌∙◌, Bool, true, ◌&&◌, true≢false, sym}
+use Rattle.std.proofs.Common.{◌≡◌, refl, ap, ap₂, Bool, true, ◌&&◌, true≢false, sym}
 use Rattle.std.specs.Option.{option_map_or}
 use Rattle.std.specs.List.{list_all}
 use Rattle.std.proofs.lemmas.Bool.{and_from, and_parts}

@@ -1,7 +1,7 @@
 -- A literal that clashes among the facts is the same as one that is a fact and clashes itself.
-use Rattle.std.proofs.Common.{◌≡◌, ℕ, ◌==◌, is_some, List, [], ◌∷◌, sym, ap, ◌∙◌, subst, Bool, true, false, not, ◌&&◌, ◌||◌, true≢false, ◌⊎◌, inl, inr, eqb-true}
+use Rattle.std.proofs.Common.{◌≡◌, ℕ, ◌==◌, is_some, List, [], ◌∷◌, sym, ap, ◌∙◌, Bool, true, false, not, ◌&&◌, true≢false, inl, inr, eqb-true}
 use Rattle.std.specs.List.{list_any}
-use Rattle.std.proofs.lemmas.Bool.{and_from, or_left, or_right, or_cases, not-true}
+use Rattle.std.proofs.lemmas.Bool.{or_left, or_right, or_cases, not-true}
 use Rattle.e_literal.specs.declared.literal.Lit.{Lit}
 use Rattle.e_literal.specs.declared.literal.Atom.{Atom}
 use Rattle.e_literal.specs.declared.literal.Atom.TheVariants.{On, OnC, Inside, Center, Between, Same, MeetLL, MeetLC, MeetCC, EqP, EqL, EqC, MagEq, MagLt}

@@ -1,5 +1,5 @@
 -- Assignments that agree on the terms of a step, and an admissible one spread over all terms.
-use Rattle.std.proofs.Common.{◌≡◌, ℕ, ◌+◌, ◌*◌, ◌≤◌, List, [], ◌∷◌, ◌++◌, map, refl, sym, ap, ap₂, ◌∙◌, subst, Option, Some, None, Bool, true, false, not, cond, ◌&&◌, ◌==◌, eqb, true≢false, ◌⊎◌, inl, inr, leb-true, eqb-true}
+use Rattle.std.proofs.Common.{◌≡◌, ℕ, ◌+◌, ◌*◌, ◌≤◌, List, [], ◌∷◌, ◌++◌, map, refl, sym, ap, ap₂, ◌∙◌, subst, Option, Some, None, Bool, true, not, cond, ◌&&◌, ◌==◌, eqb, true≢false, ◌⊎◌, inl, inr, leb-true, eqb-true}
 use Rattle.std.specs.Prelude.{nat_le, nat_lt}
 use Rattle.std.specs.List.{list_all}
 use Rattle.std.proofs.lemmas.List.{map-append}

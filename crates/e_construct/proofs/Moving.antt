@@ -6,7 +6,6 @@ use Rattle.e_literal.specs.declared.object.Sort.{Sort}
 use Rattle.e_literal.specs.declared.object.Sort.TheVariants.{Point, Line, Circle}
 use Rattle.e_literal.specs.declared.object.Obj.{Obj}
 use Rattle.e_literal.specs.declared.object.Scope.{Scope}
-use Rattle.e_literal.specs.declared.object.Term.TheVariants as terms
 use Rattle.e_literal.specs.declared.literal.Atom.{Atom}
 use Rattle.e_literal.specs.declared.literal.Atom.TheVariants as atoms
 use Rattle.e_literal.specs.declared.literal.Lit.{Lit}

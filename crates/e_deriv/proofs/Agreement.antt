@@ -1,5 +1,5 @@
 -- Lines that are certified, lines that are licensed, and proofs: what each gives of the others.
-use Rattle.std.proofs.Common.{◌≡◌, ℕ, List, [], ◌∷◌, ◌++◌, refl, sym, ap, subst, true, Option, Some, None, ◌&&◌, ltb, length, true≢false}
+use Rattle.std.proofs.Common.{◌≡◌, ℕ, List, [], ◌∷◌, ◌++◌, refl, sym, subst, true, Option, Some, None, ◌&&◌, ltb, length, true≢false}
 use Rattle.std.specs.Prelude.{IsTrue}
 use Rattle.std.specs.List.{list_all}
 use Rattle.std.proofs.lemmas.Bool.{and_from}
@@ -11,19 +11,19 @@ use Rattle.e_literal.specs.Facts.{joined, joined_all}
 use Rattle.e_literal.specs.Scopes.{grown}
 use Rattle.e_literal.specs.Use.{Stated, are_arguments, needs_of_use, gives_of_use, scope_of}
 use Rattle.e_literal.proofs.Booleans.{and_left, and_right, all_left, all_right}
-use Rattle.e_clause.specs.Allowed.{Allowed, AllAllowed}
+use Rattle.e_clause.specs.Allowed.{AllAllowed}
 use Rattle.e_clause.specs.Certify.{certify_all}
 use Rattle.e_clause.proofs.Sound.{all_allowed_of_certified, contradictory_of_certified}
 use Rattle.e_construct.specs.Construct.{made, gives}
 use Rattle.e_construct.specs.Superposing as superposing
 use Rattle.e_theorem.specs.Choice.{fills, is_choice, IsGood}
 use Rattle.e_deriv.specs.Script.{Script, Cite, Hence, Make, Apply, Claim, Superposed, Qed, Contradiction, Cases}
-use Rattle.e_deriv.specs.Parts.{rest_of, inner_of, args_of, written, has_no_blank, filled_in, filled_by}
+use Rattle.e_deriv.specs.Parts.{rest_of, inner_of, args_of, written, filled_in, filled_by}
 use Rattle.e_deriv.specs.Goal.{Goal, goal_of, facts_of_statement, goal_of_statement}
 use Rattle.e_deriv.specs.Lines.{Line, line, lines, theorem_at, proof_lines}
 use Rattle.e_deriv.specs.Steps.{fits, needs, are_over, is_applied}
 use Rattle.e_deriv.specs.Proves.{Proves, IsProof}
-use Rattle.e_deriv.specs.Licensed.{Licensed, AllLicensed}
+use Rattle.e_deriv.specs.Licensed.{AllLicensed}
 use Rattle.e_deriv.specs.Certified.{is_certified, certs_of, certified_beside, Certified}
 use Rattle.e_deriv.proofs.Choices.{written_again, no_blank_again, fills_again, least_of_good}
 

@@ -1,7 +1,5 @@
 -- Choices for patterns: where no argument is a blank there is one, and the least good choice is one.
-use Rattle.std.proofs.Common.{◌≡◌, ℕ, List, [], ◌∷◌, map, refl, sym, ap, ◌∙◌, Bool, true, false, Some, None, Option, ◌&&◌, true≢false, eqb, ltb, arith, subst}
-use Rattle.std.specs.Prelude.{IsTrue, is_some}
-use Rattle.std.specs.List.{list_all}
+use Rattle.std.proofs.Common.{◌≡◌, ℕ, List, [], ◌∷◌, refl, sym, ap, ◌∙◌, Bool, true, false, Some, None, Option, ◌&&◌, true≢false, eqb, ltb, arith}
 use Rattle.std.proofs.lemmas.Bool.{eq-eqb}
 use Rattle.std.proofs.lemmas.Bool.Decides.{nat_tests}
 use Rattle.e_literal.specs.declared.object.Sort.{Sort}

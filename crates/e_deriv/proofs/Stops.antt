@@ -1,6 +1,6 @@
 -- What holds before a line, the first line that is not licensed, and what it lacks, are one; and where each line is licensed there
 -- is no such line.
-use Rattle.std.proofs.Common.{◌≡◌, ℕ, zero, suc, ◌+◌, ◌<◌, List, [], ◌∷◌, ◌++◌, length, refl, sym, ap, ◌∙◌, subst, true≢false, Option, Some, inl, inr, ◌⊎◌, length-append}
+use Rattle.std.proofs.Common.{◌≡◌, ℕ, zero, suc, ◌+◌, ◌<◌, List, [], ◌∷◌, ◌++◌, length, refl, sym, ap, ◌∙◌, subst, true≢false, Some, inl, inr, ◌⊎◌, length-append}
 use Rattle.std.specs.Prelude.{take, slice_get}
 use Rattle.std.proofs.Common.{arith}
 use Rattle.std.proofs.lemmas.Option.{same_Some, none-some}
@@ -19,10 +19,10 @@ use Rattle.e_theorem.specs.Choice.{fills, is_choice}
 use Rattle.e_deriv.specs.declared.stop.Wanted.{Wanted}
 use Rattle.e_deriv.specs.declared.stop.Wanted.TheVariants.{Literal, Match, Contradiction as AContradiction}
 use Rattle.e_deriv.specs.Script.{Script, Cite, Hence, Make, Apply, Claim, Superposed, Qed, Contradiction, Cases, size}
-use Rattle.e_deriv.specs.Parts.{rest_of, inner_of, args_of, written, has_no_blank}
+use Rattle.e_deriv.specs.Parts.{rest_of, inner_of, args_of, written}
 use Rattle.e_deriv.specs.Goal.{Goal, goal_of, facts_of_statement, goal_of_statement}
 use Rattle.e_deriv.specs.Lines.{Line, line, lines, theorem_at, proof_lines}
-use Rattle.e_deriv.specs.Steps.{fits, needs_at, needs_as_written, is_applied}
+use Rattle.e_deriv.specs.Steps.{fits, needs_at}
 use Rattle.e_deriv.specs.Licensed.{Licensed, AllLicensed, IsFirstNotAllowed, Lacks, IsContext, IsFirstUnlicensed}
 use Rattle.e_deriv.specs.Laws.{SamePlace}
 use Rattle.e_deriv.proofs.Choices.{only_choice, least_is_one}

@@ -1,5 +1,5 @@
 -- What each name of a list has, the names of the sums that are made of them have too.
-use Rattle.std.proofs.Common.{◌≡◌, ℕ, zero, suc, List, [], ◌∷◌, ◌++◌, map, get_or, refl, ◌∙◌, cond, Bool, true, false, ◌&&◌}
+use Rattle.std.proofs.Common.{◌≡◌, ℕ, zero, suc, List, [], ◌∷◌, map, get_or, refl, ◌∙◌, cond, Bool, true, false, ◌&&◌}
 use Rattle.std.specs.Prelude.{set, int_lt, neg_ℤ}
 use Rattle.std.specs.List.{list_all}
 use Rattle.std.specs.Ordering.{int_eq}

@@ -1,5 +1,5 @@
 -- Which stops are right.
-use Rattle.std.proofs.Common.{◌≡◌, ℕ, zero, suc, ◌<◌, List, [], ◌∷◌, Option, refl, sym, ap, ◌∙◌, subst, Bool, true, false, Some, None, inl, inr, arith}
+use Rattle.std.proofs.Common.{◌≡◌, ℕ, zero, suc, ◌<◌, List, [], ◌∷◌, Option, refl, sym, ap, ◌∙◌, subst, Bool, true, false, Some, inl, inr, arith}
 use Rattle.std.specs.Prelude.{MatchBool, take, slice_get}
 use Rattle.std.proofs.lemmas.Option.{same_Some, none-some}
 use Rattle.e_literal.specs.declared.object.Obj.{Obj}

@@ -6,9 +6,8 @@ use Rattle.std.proofs.lemmas.Bool.{and_from}
 use Rattle.e_literal.specs.declared.object.Sort.{Sort}
 use Rattle.e_literal.specs.declared.object.Obj.{Obj}
 use Rattle.e_literal.specs.declared.object.Scope.{Scope}
-use Rattle.e_literal.specs.declared.literal.Lit.{Lit}
 use Rattle.e_literal.specs.Literal.{is_in_scope}
-use Rattle.e_literal.specs.Scopes.{same_sort, are_of_sorts, nothing, grown}
+use Rattle.e_literal.specs.Scopes.{same_sort, are_of_sorts, nothing}
 use Rattle.e_literal.specs.Rename.{same_obj}
 use Rattle.e_literal.specs.Use.{Stated, are_arguments, needs_of_use, gives_of_use}
 use Rattle.e_literal.proofs.Sorts.{same_obj_self}

@@ -1,15 +1,10 @@
 -- What a qed is judged as.
-use Rattle.std.proofs.Common.{◌≡◌, ℕ, Option, Some, List, [], ◌∷◌, refl, sym, ap, ◌∙◌, subst, true, true≢false, ◌&&◌}
-use Rattle.std.specs.Prelude.{IsTrue, map}
+use Rattle.std.proofs.Common.{◌≡◌, ℕ, Option, Some, List, refl, subst, true}
+use Rattle.std.specs.Prelude.{IsTrue}
 use Rattle.std.specs.List.{list_all}
 use Rattle.std.proofs.lemmas.Bool.{and_from}
-use Rattle.e_literal.specs.declared.object.Sort.{Sort}
-use Rattle.e_literal.specs.declared.object.Sort.TheVariants.{Point, Line, Circle}
 use Rattle.e_literal.specs.declared.object.Obj.{Obj}
-use Rattle.e_literal.specs.declared.object.Scope.{Scope}
 use Rattle.e_literal.specs.declared.literal.Lit.{Lit}
-use Rattle.e_literal.specs.Literal.{is_in_scope}
-use Rattle.e_literal.specs.Scopes.{same_sort, are_of_sorts}
 use Rattle.e_literal.specs.Use.{Stated}
 use Rattle.e_clause.specs.declared.cert.Cert.{Cert}
 use Rattle.e_clause.specs.declared.cert.Against.{Against}
@@ -18,7 +13,7 @@ use Rattle.e_clause.specs.Judged.{are_good}
 use Rattle.e_clause.proofs.Sound.{all_allowed_of_certified, contradictory_of_certified}
 use Rattle.e_clause.specs.Wide.{IsTooWideContradiction}
 use Rattle.e_literal.specs.declared.object.Term.{Term}
-use Rattle.e_literal.proofs.Booleans.{and_left, and_right}
+use Rattle.e_literal.proofs.Booleans.{and_left}
 use Rattle.e_clause.specs.Written.{is_good_cert}
 use Rattle.e_licence.specs.Licences.{IsCertifiedAgainst, IsConsistentBy}
 use Rattle.e_deriv.specs.declared.block.Close.TheVariants.{Qed as QedClose, Contradiction as ContradictionClose}

@@ -1,5 +1,5 @@
 -- Claims, superpositions and splits, whose blocks are judged.
-use Rattle.std.proofs.Common.{◌≡◌, ℕ, ◌+◌, List, [], ◌++◌, length, refl, ap, ap₂, subst, Bool, true, arith}
+use Rattle.std.proofs.Common.{◌≡◌, ℕ, ◌+◌, List, [], ◌++◌, refl, ap₂, subst, Bool, true, arith}
 use Rattle.std.specs.Prelude.{IsTrue}
 use Rattle.std.specs.List.{list_all}
 use Rattle.std.proofs.lemmas.Bool.{and_from}
@@ -19,7 +19,7 @@ use Rattle.e_construct.specs.Superposing as superposing
 use Rattle.e_deriv.specs.declared.stop.Stop.{Stop}
 use Rattle.e_deriv.specs.Script.{Script, Claim, Superposed, Cases, size, erased}
 use Rattle.e_deriv.specs.Goal.{Goal, goal_of}
-use Rattle.e_deriv.specs.Lines.{Line, line, lines}
+use Rattle.e_deriv.specs.Lines.{Line, lines}
 use Rattle.e_deriv.specs.Steps.{fits, needs, are_over}
 use Rattle.e_deriv.specs.Naming.{named, names_lines}
 use Rattle.e_deriv.specs.Licensed.{Licensed}

@@ -7,7 +7,6 @@ use Rattle.e_literal.specs.declared.object.Scope.{Scope}
 use Rattle.e_literal.specs.declared.literal.Lit.{Lit}
 use Rattle.e_literal.specs.Use.{Stated}
 use Rattle.e_literal.proofs.Booleans.{and_left, and_right}
-use Rattle.e_construct.specs.declared.superpose.Superpose.{Superpose}
 use Rattle.e_deriv.specs.declared.block.Step.{Step}
 use Rattle.e_deriv.specs.declared.block.Close.{Close}
 use Rattle.e_deriv.specs.declared.names.Names.{Names}
@@ -18,7 +17,7 @@ use Rattle.e_deriv.specs.Goal.{Goal}
 use Rattle.e_deriv.specs.Lines.{Line, line, lines}
 use Rattle.e_deriv.specs.Steps.{fits}
 use Rattle.e_deriv.specs.Naming.{named, names_lines}
-use Rattle.e_deriv.specs.Licensed.{Licensed, AllLicensed}
+use Rattle.e_deriv.specs.Licensed.{AllLicensed}
 use Rattle.e_deriv.specs.Certified.{is_certified}
 use Rattle.e_deriv.specs.Fitting.{LitsFit, is_small}
 use Rattle.e_prove.specs.declared.halt.Halt.{Halt}

@@ -5,7 +5,7 @@ use Rattle.e_literal.specs.declared.literal.Lit.{Lit}
 use Rattle.e_literal.specs.declared.object.Scope.{Scope}
 use Rattle.e_literal.specs.declared.object.Sort.{Sort}
 use Rattle.e_literal.specs.declared.object.Obj.{Obj}
-use Rattle.e_literal.specs.Scopes.{nothing, grown, next_objects}
+use Rattle.e_literal.specs.Scopes.{nothing, next_objects}
 use Rattle.e_literal.specs.Use.{Stated, scope_of}
 use Rattle.e_literal.proofs.Growing.{total_grown, grown_bounds}
 use Rattle.e_clause.specs.Judged.{are_good_facts}

@@ -25,7 +25,7 @@ use Rattle.e_deriv.specs.declared.block.Step.TheVariants.{Cite as CiteStep, Henc
 use Rattle.e_deriv.specs.Script.{Script, Cite, Hence, Make, Apply, Claim, Superposed, script_of, step_script, size}
 use Rattle.e_deriv.specs.Goal.{Goal, goal_of}
 use Rattle.e_deriv.specs.Parts.{written, filled_in}
-use Rattle.e_deriv.specs.Lines.{Line, line, lines, theorem_at}
+use Rattle.e_deriv.specs.Lines.{lines, theorem_at}
 use Rattle.e_deriv.specs.Steps.{fits, needs}
 use Rattle.e_deriv.specs.Fitting.{LitsFit, is_small, is_small_statement}
 use Rattle.e_deriv.proofs.Choices.{written_again}

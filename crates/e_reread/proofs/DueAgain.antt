@@ -1,17 +1,14 @@
 -- What the lines of a script owe, as they are spelled.
-use Rattle.std.proofs.Common.{◌≡◌, ℕ, true, eqb, ◌&&◌, List, [], ◌∷◌, length, map, Option, Some, None, is_some, Ok, refl, sym, ap, subst, ◌∙◌}
+use Rattle.std.proofs.Common.{◌≡◌, ℕ, true, eqb, List, [], ◌∷◌, length, map, Option, Some, None, is_some, Ok, refl, ap, ◌∙◌}
 use Rattle.std.specs.List.{list_all}
-use Rattle.std.proofs.lemmas.Bool.{eq-eqb, and_parts}
+use Rattle.std.proofs.lemmas.Bool.{eq-eqb}
 use Rattle.std.proofs.lemmas.List.{length-map}
 use Rattle.e_book.proofs.LinesRead.{objects_read}
-use Rattle.e_literal.specs.declared.object.Sort.{Sort}
 use Rattle.e_literal.specs.declared.object.Obj.{Obj}
 use Rattle.e_literal.specs.declared.object.Scope.{Scope}
 use Rattle.e_literal.specs.declared.literal.Lit.{Lit}
-use Rattle.e_literal.specs.Literal.{is_in_scope}
-use Rattle.e_literal.specs.Scopes.{same_sort, are_of_sorts}
+use Rattle.e_literal.specs.Scopes.{are_of_sorts}
 use Rattle.e_literal.specs.Use.{Stated, are_arguments, needs_of_use}
-use Rattle.e_literal.proofs.Sorts.{same_sort_is}
 use Rattle.e_construct.specs.declared.construction.Construction.{Construction}
 use Rattle.e_construct.specs.declared.superpose.Superpose.{Superpose}
 use Rattle.e_construct.specs.Construct.{needs}
@@ -23,10 +20,10 @@ use Rattle.e_book.specs.declared.draft.Draft.{Draft}
 use Rattle.e_book.specs.Reading.{each, or_malformed}
 use Rattle.e_book.specs.Headed.{Headed, theorem_of}
 use Rattle.e_book.specs.Blocks.{made_in}
-use Rattle.e_book.specs.Scope.{scope_of_names, object_as, objects_of_sorts, qed_in}
+use Rattle.e_book.specs.Scope.{scope_of_names, qed_in}
 use Rattle.e_book.specs.Canonical.{raw_of, name_of_object, argument_name, hence_form, let_form, apply_form, superpose_form, qed_form}
 use Rattle.e_book.proofs.Respelled.{as_read}
-use Rattle.e_book.proofs.Lookups.{InOrder, object_again}
+use Rattle.e_book.proofs.Lookups.{InOrder}
 use Rattle.e_book.proofs.LitLookups.{lit_number_again}
 use Rattle.e_book.proofs.PlainLits.{PlainLit}
 use Rattle.e_book.proofs.Building.{GoodLet}

@@ -10,18 +10,15 @@ use Rattle.e_text.specs.Names.{is_digit, is_title}
 use Rattle.e_text.specs.Numerals.{is_numeral}
 use Rattle.e_text.specs.Tokens.{is_blank, has_bytes, is_token, tokens_of, AreTokens}
 use Rattle.e_text.proofs.NumeralWords.{is_numeral-decimal, number_of-decimal, is_token-numeral}
-use Rattle.e_text.proofs.TokenWords.{tokens_of-joined, is_token-name, is_token-title}
+use Rattle.e_text.proofs.TokenWords.{tokens_of-joined, is_token-title}
 use Rattle.e_clause.specs.Sum.{is_good_multiplier}
-use Rattle.e_book.specs.declared.sum.RawTerm.{RawTerm}
-use Rattle.e_book.specs.declared.sum.RawTerm.TheVariants.{Seg, Ang, Area, Right}
+use Rattle.e_book.specs.declared.sum.RawTerm.TheVariants.{Right}
 use Rattle.e_book.specs.Reading.{title_at, word_at, end_at}
-use Rattle.e_book.specs.Sums.{term_named, term_of}
 use Rattle.e_book.specs.Literals.{is_diagram_raw}
-use Rattle.e_book.specs.Canonical.{term_words}
 use Rattle.e_book.specs.HasSpelling.{AreNames}
 use Rattle.e_book.proofs.Differ.{same_bytes}
 use Rattle.e_book.proofs.NamesAgain.{titled, names_again}
-use Rattle.e_book.proofs.SumsAgain.{TermNamed, two_again, three_again, term_again, term_tokens}
+use Rattle.e_book.proofs.SumsAgain.{TermNamed, term_again, term_tokens}
 use Rattle.e_book.proofs.LitsAgain.{LitNamed, lit_again, diagram_again, lit_tokens}
 use Rattle.e_book.proofs.LetsAgain.{names_tokens}
 use Rattle.e_read.specs.declared.mark.RawRow.{RawRow}

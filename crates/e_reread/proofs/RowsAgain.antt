@@ -1,15 +1,12 @@
 -- A row of a certificate, with the names of its objects, is read as that row.
-use Rattle.std.proofs.Common.{◌≡◌, Bool, true, false, ◌&&◌, [], ◌∷◌, Ok, refl}
-use Rattle.std.specs.List.{list_all}
-use Rattle.std.proofs.lemmas.Bool.{and_parts}
+use Rattle.std.proofs.Common.{◌≡◌, Bool, true, false, Ok, refl}
 use Rattle.e_literal.specs.declared.object.Sort.TheVariants.{Point}
-use Rattle.e_literal.specs.declared.object.Obj.{Obj}
 use Rattle.e_literal.specs.declared.object.Term.{Term}
 use Rattle.e_literal.specs.declared.object.Term.TheVariants as terms
 use Rattle.e_literal.specs.declared.literal.Atom.{Atom}
 use Rattle.e_literal.specs.declared.literal.Atom.TheVariants as atoms
 use Rattle.e_literal.specs.declared.literal.Lit.{Lit}
-use Rattle.e_literal.specs.Literal.{obj, is_in_scope, objects_of_term}
+use Rattle.e_literal.specs.Literal.{obj}
 use Rattle.e_clause.specs.declared.cert.RowName.{RowName}
 use Rattle.e_clause.specs.declared.cert.RowName.TheVariants as names
 use Rattle.e_clause.specs.MetricCertificate.{row_name_in}
@@ -18,7 +15,7 @@ use Rattle.e_clause.specs.Written.{is_good_name}
 use Rattle.e_book.specs.Scope.{scope_of_names, term_in}
 use Rattle.e_book.specs.Canonical.{raw_term, raw_signed, raw_of}
 use Rattle.e_book.proofs.SumsAgain.{TermNamed}
-use Rattle.e_book.proofs.Lookups.{InOrder, Within, number_again, named_at}
+use Rattle.e_book.proofs.Lookups.{InOrder, number_again, named_at}
 use Rattle.e_book.proofs.LitLookups.{lit_number_again, lit_named, TermWithin, two, three}
 use Rattle.e_book.proofs.ShortLits.{few_again}
 use Rattle.e_read.specs.declared.mark.RawRow.{RawRow}

@@ -1,22 +1,19 @@
 -- Where a script with its certificates stands, and what leads behind its lines.
-use Rattle.std.proofs.Common.{◌≡◌, ℕ, ◌+◌, Bool, true, false, ◌&&◌, List, [], ◌∷◌, ◌++◌, map, Option, Ok, sym, ap, ◌∙◌, append_assoc}
+use Rattle.std.proofs.Common.{◌≡◌, ℕ, ◌+◌, Bool, true, false, ◌&&◌, List, ◌∷◌, ◌++◌, map, Option, Ok, sym, ◌∙◌}
 use Rattle.std.specs.Option.{option_to_list}
 use Rattle.std.specs.List.{list_all}
-use Rattle.std.proofs.lemmas.List.{append-nil}
 use Rattle.std.proofs.lemmas.List.Folds.{list_all-append}
 use Rattle.std.proofs.lemmas.Bool.{and_parts}
 use Rattle.e_text.specs.Tokens.{joined}
 use Rattle.e_literal.specs.declared.literal.Lit.{Lit}
 use Rattle.e_literal.specs.Use.{Stated}
 use Rattle.e_clause.specs.Certify.{certify_all}
-use Rattle.e_deriv.specs.PlainStep.{PlainStep}
 use Rattle.e_deriv.specs.Script.{Script, size, erased}
 use Rattle.e_deriv.specs.Goal.{Goal}
 use Rattle.e_deriv.specs.Lines.{Line, lines}
 use Rattle.e_deriv.specs.Steps.{fits, needs}
 use Rattle.e_deriv.specs.Certified.{certs_of, certified_beside, is_certified}
 use Rattle.e_deriv.specs.Written.{is_written_well}
-use Rattle.e_book.specs.declared.steps.CloseLine.{CloseLine}
 use Rattle.e_book.specs.declared.form.Form.{Form}
 use Rattle.e_book.specs.declared.draft.Draft.{Draft}
 use Rattle.e_book.specs.Headed.{Headed, stated_by}
@@ -27,7 +24,7 @@ use Rattle.e_book.specs.Canonical.{line_of}
 use Rattle.e_book.proofs.Respelled.{GoodForm, as_read}
 use Rattle.e_book.proofs.LinesRead.{Inside, proving}
 use Rattle.e_book.proofs.ScriptParts.{steps_of, close_of}
-use Rattle.e_book.proofs.ScriptRead.{Ready, one_more, no_more}
+use Rattle.e_book.proofs.ScriptRead.{Ready}
 use Rattle.e_read.specs.declared.owed.Due.{Due}
 use Rattle.e_read.specs.declared.kept.Kept.{Kept}
 use Rattle.e_read.specs.Strict.{is_strict, is_apart}

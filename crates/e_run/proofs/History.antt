@@ -12,7 +12,7 @@ use Rattle.e_deriv.specs.Script.{size}
 use Rattle.e_deriv.specs.Naming.{names_lines, declared_names}
 use Rattle.std.specs.Prelude.{slice_get}
 use Rattle.e_literal.specs.Use.{Stated}
-use Rattle.e_run.specs.Outcome.{Rest, with_theorem, IsLicensed, Takes, Begins, number_behind, IsFront}
+use Rattle.e_run.specs.Outcome.{Rest, with_theorem, IsLicensed, Takes, Begins, number_behind}
 use Rattle.e_run.specs.Outcome as ends
 use Rattle.e_run.specs.Answers.{Derived, IsDerived, AllDerived, EndsSo, Refuses, Widens, theorems_of, steps_of, block_of, blocks_of}
 use Rattle.e_run.specs.Endings.{EndsWith, EndingIs, BreaksOff, BreaksInside, BlocksAre, stop_ending}

@@ -15,7 +15,7 @@ use Rattle.e_run.specs.declared.blocks.Ending.{Ending}
 use Rattle.e_run.specs.declared.blocks.Ending.TheVariants.{All, Stopped, Faulty}
 use Rattle.e_run.specs.Input.{IsTextOf}
 use Rattle.e_run.specs.LastLines.{head_line, accepted_line, tried_line}
-use Rattle.e_run.specs.Outcome.{Rest, End, EndsBook, Begins, lines_of_book}
+use Rattle.e_run.specs.Outcome.{Rest, End, EndsBook, lines_of_book}
 use Rattle.e_run.specs.Outcome as ends
 use Rattle.e_run.specs.Answers.{IsAnswer, IsReadFault, IsWriteFault, theorems_of, written_with}
 use Rattle.e_run.specs.Endings.{Closes, EndsWith, EndingIs, answer_of, last_lines}

@@ -4,7 +4,6 @@ use Rattle.std.specs.Prelude.{Some, if◌then◌else◌}
 use Rattle.std.specs.List.{flat_map}
 use Rattle.e_text.specs.Tokens.{spaced}
 use Rattle.e_literal.specs.declared.object.Sort.{Sort}
-use Rattle.e_literal.specs.declared.object.Sort.TheVariants.{Point, Line, Circle}
 use Rattle.e_literal.specs.declared.object.Obj.{Obj}
 use Rattle.e_literal.specs.Scopes.{same_sort}
 use Rattle.e_literal.proofs.Sorts.{same_sort_is}

@@ -1,8 +1,8 @@
 -- The literals of an instance over a scope are in scope and well formed.
-use Rattle.std.proofs.Common.{◌≡◌, ℕ, zero, suc, ◌+◌, ◌<◌, ◌≤◌, List, [], ◌∷◌, ◌++◌, refl, sym, ap, ◌∙◌, subst, arith, Bool, true, false, cond, not, ◌&&◌, true≢false, map, ◌⊎◌, inl, inr, Option, Some, None}
+use Rattle.std.proofs.Common.{◌≡◌, ℕ, zero, suc, ◌+◌, ◌<◌, ◌≤◌, List, [], ◌∷◌, ◌++◌, refl, sym, ap, ◌∙◌, subst, arith, Bool, true, false, cond, ◌&&◌, map, inl, inr, Some, None}
 use Rattle.std.specs.Prelude.{◌-◌, slice_get, filter, nat_le, nat_lt, option_and_then}
 use Rattle.std.specs.List.{list_all}
-use Rattle.std.proofs.lemmas.Bool.{ltb-true, lt-ltb, le-ltb, cases_lt, and_from}
+use Rattle.std.proofs.lemmas.Bool.{ltb-true, lt-ltb, cases_lt, and_from}
 use Rattle.std.proofs.lemmas.List.Folds.{list_all-append}
 use Rattle.std.proofs.lemmas.Option.{same_Some, none-some}
 use Rattle.e_literal.specs.declared.object.Obj.{Obj}
@@ -21,7 +21,7 @@ use Rattle.e_literal.specs.WellFormed.{is_good_atom, is_well_formed}
 use Rattle.e_literal.proofs.WithImages.{good_atom_stays}
 use Rattle.e_literal.proofs.Booleans.{and_left, and_right}
 use Rattle.e_clause.specs.Rows.{Row}
-use Rattle.e_clause.specs.Instance.{Inst, instance_of_row, fits, number, line, circle, lit_at, clause_of}
+use Rattle.e_clause.specs.Instance.{Inst, instance_of_row, number, line, circle, lit_at, clause_of}
 use Rattle.e_clause.specs.RuleKinds.{is_transfer}
 use Rattle.e_clause.specs.Table.{table}
 use Rattle.e_clause.specs.Table.Lengths.{lengths}

@@ -1,21 +1,21 @@
 -- Values that carry over to all terms refute a literal where they are a model of the facts.
-use Rattle.std.proofs.Common.{◌≡◌, ℕ, List, [], ◌∷◌, ◌++◌, refl, sym, ap, ◌∙◌, arith, Bool, true, false, cond, not, ◌&&◌, ◌||◌, eqb, eq-eqb, true≢false, map, length, take, ◌≤◌, ◌⊎◌, inl, inr, Some}
+use Rattle.std.proofs.Common.{◌≡◌, ℕ, List, [], ◌∷◌, ◌++◌, refl, sym, ap, ◌∙◌, Bool, true, false, cond, not, ◌&&◌, ◌||◌, eqb, eq-eqb, true≢false, length, take, ◌≤◌, inl, inr, Some}
 use Rattle.std.specs.Prelude.{MatchBool}
 use Rattle.std.proofs.lemmas.List.{take_all}
 use Rattle.std.specs.List.{list_all}
 use Rattle.std.proofs.lemmas.List.Folds.{list_all-append}
-use Rattle.std.proofs.lemmas.Bool.{and_from, cases_Bool}
+use Rattle.std.proofs.lemmas.Bool.{and_from}
 use Rattle.e_literal.specs.declared.object.Term.{Term}
-use Rattle.e_literal.specs.declared.object.Term.TheVariants.{Seg, Ang, Area, Right}
+use Rattle.e_literal.specs.declared.object.Term.TheVariants.{Right}
 use Rattle.e_literal.specs.declared.literal.Lit.{Lit}
 use Rattle.e_literal.specs.Facts.{has, is_metric}
 use Rattle.e_literal.specs.Same.{canonical, one_term}
 use Rattle.e_literal.specs.Solution.{carried}
 use Rattle.e_literal.specs.Truth.{holds, all_hold}
 use Rattle.e_literal.proofs.Terms.{term_eq_is}
-use Rattle.e_literal.proofs.Booleans.{eqb_self, and_left, and_right}
+use Rattle.e_literal.proofs.Booleans.{and_left, and_right}
 use Rattle.e_clause.specs.Assignment.{terms_of_atom, terms_of_lits, terms_of_step, is_within, is_zero_if_degenerate, is_positive_if_apart, agrees_with, is_admissible}
-use Rattle.e_clause.specs.Metric.{MetricConsequence, IsCounterexample}
+use Rattle.e_clause.specs.Metric.{MetricConsequence}
 use Rattle.e_clause.proofs.Carried.{carried_same, zero_so}
 use Rattle.e_transfer.specs.declared.sought.Means.{Means}
 use Rattle.e_transfer.specs.declared.sought.Means.TheVariants as means

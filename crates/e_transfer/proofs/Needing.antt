@@ -1,10 +1,10 @@
 -- What an instance needs: which literals stand, which parts are good, and what is wide.
-use Rattle.std.proofs.Common.{◌≡◌, ℕ, zero, suc, ◌<◌, ◌≤◌, List, [], ◌∷◌, refl, sym, ap, ◌∙◌, subst, arith, Bool, true, false, cond, not, ◌&&◌, ◌||◌, true≢false, eqb, get_or, length, map, take, ◌+◌, ◌++◌, ◌⊎◌, inl, inr, Option, Some, None, leb-true, eqb-true}
-use Rattle.std.specs.Prelude.{slice_get, filter, All, Contains, IsTrue, MatchBool}
+use Rattle.std.proofs.Common.{◌≡◌, ℕ, zero, suc, ◌<◌, ◌≤◌, List, [], ◌∷◌, refl, sym, ap, ◌∙◌, subst, arith, Bool, true, false, cond, not, ◌||◌, true≢false, eqb, get_or, length, map, take, ◌+◌, ◌++◌, ◌⊎◌, inl, inr, Some, None, leb-true, eqb-true}
+use Rattle.std.specs.Prelude.{slice_get, filter, All, Contains, MatchBool}
 use Rattle.std.specs.Option.{option_map_or}
-use Rattle.std.specs.List.{list_all, list_any, AllZip}
-use Rattle.std.proofs.lemmas.List.Elements.{All-cons, All-head, All-tail, All-nil, Contains-get_or}
-use Rattle.std.proofs.lemmas.Bool.{and_from, or_left, or_right, or_cases, cases_Bool}
+use Rattle.std.specs.List.{list_all, AllZip}
+use Rattle.std.proofs.lemmas.List.Elements.{All-head, All-tail, Contains-get_or}
+use Rattle.std.proofs.lemmas.Bool.{and_from, or_left, or_right, or_cases}
 use Rattle.std.proofs.lemmas.Option.{same_Some, none-some}
 use Rattle.std.proofs.lemmas.List.{map-append}
 use Rattle.e_literal.specs.declared.object.Obj.{Obj}
@@ -22,11 +22,10 @@ use Rattle.e_clause.specs.declared.cert.TransferCert.{TransferCert}
 use Rattle.e_clause.specs.Instance.{Inst}
 use Rattle.e_clause.specs.Metric.{MetricConsequence}
 use Rattle.e_clause.specs.RuleKinds.{is_transfer}
-use Rattle.e_clause.specs.Transfer.{Stands, TransferOf}
 use Rattle.e_clause.specs.PartCertificate.{part_certifies, part_in}
-use Rattle.e_clause.specs.TransferCertificate.{parts_certify, instance_certifies, transfer_certifies}
-use Rattle.e_clause.specs.Wide.{IsMetricSystem, IsTransferSystem, HasWidth}
-use Rattle.e_metric.specs.Told.{IsTooWide, IsTold, IsCertified}
+use Rattle.e_clause.specs.TransferCertificate.{parts_certify, instance_certifies}
+use Rattle.e_clause.specs.Wide.{IsMetricSystem}
+use Rattle.e_metric.specs.Told.{IsTold, IsCertified}
 use Rattle.e_clause.specs.Written.{is_good_part}
 use Rattle.e_metric.specs.declared.consequence.Metric.{Metric}
 use Rattle.e_metric.specs.declared.consequence.Metric.TheVariants as metric
@@ -35,7 +34,7 @@ use Rattle.e_transfer.specs.declared.sought.Means.{Means}
 use Rattle.e_transfer.specs.declared.sought.Means.TheVariants as means
 use Rattle.e_transfer.specs.declared.walk.Verdict.{Verdict}
 use Rattle.e_transfer.specs.declared.walk.Verdict.TheVariants as verdict
-use Rattle.e_transfer.specs.Giving.{PartIs, PartsAre, needs, Suffices, StandsNarrowly, is_at, Gives, IsFitting, IsWideNeed, IsGoodPart, AreGoodParts, diagrams_stand, IsGood, IsWideTransfer}
+use Rattle.e_transfer.specs.Giving.{PartIs, PartsAre, needs, Suffices, is_at, Gives, IsFitting, IsWideNeed, IsGoodPart, AreGoodParts, diagrams_stand, IsGood, IsWideTransfer}
 
 -- ---- the literal at a place
 

@@ -1,8 +1,7 @@
 -- A plan reaches each instance whose arguments agree with the ties.
-use Rattle.std.proofs.Common.{◌≡◌, ℕ, zero, suc, ◌+◌, ◌-◌, ◌<◌, ◌≤◌, List, [], ◌∷◌, ◌++◌, refl, sym, ap, ◌∙◌, subst, arith, Bool, true, false, ◌&&◌, eqb, get_or, length, map, take, drop, ◌⊎◌, inl, inr, Option, eqb-true}
-use Rattle.std.specs.Prelude.{IsTrue, nat_lt, slice_get}
-use Rattle.std.specs.Option.{option_map_or}
-use Rattle.std.specs.List.{list_all, list_any}
+use Rattle.std.proofs.Common.{◌≡◌, ℕ, zero, suc, ◌+◌, ◌-◌, ◌<◌, ◌≤◌, List, [], ◌∷◌, refl, sym, ap, ◌∙◌, subst, arith, Bool, true, ◌&&◌, eqb, get_or, length, map, take, drop, inl, inr, eqb-true}
+use Rattle.std.specs.Prelude.{IsTrue, nat_lt}
+use Rattle.std.specs.List.{list_all}
 use Rattle.std.proofs.lemmas.Bool.{ltb-true, lt-ltb, le-ltb, cases_lt, and_from}
 use Rattle.std.proofs.lemmas.List.{length-map}
 use Rattle.e_literal.specs.declared.object.Obj.{Obj}
@@ -21,7 +20,7 @@ use Rattle.e_transfer.specs.declared.walk.Span.{Span}
 use Rattle.e_transfer.specs.Choice.{Fits}
 use Rattle.e_transfer.specs.Ties.{tie_agrees, tie_of, TiesAgree}
 use Rattle.e_transfer.specs.Part.{sort_of, arguments_from, arguments, lasts_of}
-use Rattle.e_transfer.specs.Planning.{total_of, has, RootsAre, OrderIs, PlacesAre, span_for, spans_of, PlanIs}
+use Rattle.e_transfer.specs.Planning.{total_of, RootsAre, OrderIs, PlacesAre, span_for, spans_of, PlanIs}
 
 -- ---- the arguments, one by one
 

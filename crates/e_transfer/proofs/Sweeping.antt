@@ -1,8 +1,7 @@
 -- The search through ways to bind, places, rules.
-use Rattle.std.proofs.Common.{◌≡◌, ℕ, zero, suc, ◌+◌, ◌-◌, ◌<◌, ◌≤◌, List, [], ◌∷◌, ◌++◌, refl, sym, ap, ◌∙◌, subst, arith, Bool, true, false, true≢false, get_or, length, map, ◌⊎◌, inl, inr, Option, Some, None}
-use Rattle.std.specs.Prelude.{slice_get, nat_le, nat_lt, All, IsTrue}
+use Rattle.std.proofs.Common.{◌≡◌, ℕ, suc, ◌+◌, ◌-◌, ◌<◌, ◌≤◌, List, [], ◌∷◌, ◌++◌, refl, sym, ap, ◌∙◌, subst, arith, true, false, true≢false, get_or, length, map, inl, inr, Option, Some, None}
+use Rattle.std.specs.Prelude.{slice_get, nat_le, nat_lt, All}
 use Rattle.std.specs.Option.{option_map_or}
-use Rattle.std.specs.List.{list_all, list_any}
 use Rattle.std.proofs.lemmas.Bool.{ltb-true, or_cases}
 use Rattle.std.proofs.lemmas.List.Elements.{All-nil, All-cons}
 use Rattle.std.proofs.lemmas.List.{length-map}
@@ -18,7 +17,7 @@ use Rattle.e_clause.specs.Rows.{Row}
 use Rattle.e_clause.specs.Table.{table}
 use Rattle.e_clause.specs.Instance.{number, lit_at, clause_of}
 use Rattle.e_clause.specs.RuleKinds.{is_transfer}
-use Rattle.e_clause.specs.Transfer.{Stands, NegationsStand, TransferOf, TransferConsequence}
+use Rattle.e_clause.specs.Transfer.{NegationsStand, TransferOf, TransferConsequence}
 use Rattle.e_clause.specs.Wide.{TransferFromFacts}
 use Rattle.e_transfer.specs.declared.bind.Bind.{Bind}
 use Rattle.e_transfer.specs.declared.plan.Plan.{Plan}
@@ -30,11 +29,10 @@ use Rattle.e_transfer.specs.declared.walk.Outcome.{Outcome}
 use Rattle.e_transfer.specs.declared.walk.Outcome.TheVariants as outcome
 use Rattle.e_transfer.specs.Binding.{all_agree, some_agree}
 use Rattle.e_transfer.specs.Choice.{Fits, NoneWanted}
-use Rattle.e_transfer.specs.Part.{arguments}
 use Rattle.e_transfer.specs.Planning.{PlanIs}
 use Rattle.e_transfer.specs.Seeds.{Cover}
 use Rattle.e_transfer.specs.Ties.{TiesAgree, TiesAre}
-use Rattle.e_transfer.specs.Giving.{SweepIs, needs, Suffices, is_at, Gives, NoneTied, NoneBound, NoneAt, NoneOf, NoneGives, NarrowTransfer}
+use Rattle.e_transfer.specs.Giving.{SweepIs, needs, Suffices, Gives, NoneTied, NoneBound, NoneAt, NoneOf, NoneGives, NarrowTransfer}
 use Rattle.e_transfer.specs.Outcome.{OutcomeIs}
 use Rattle.e_transfer.specs.Placing.{Wanted, Shown}
 use Rattle.e_transfer.proofs.Instances.{of_instance, at_map}
