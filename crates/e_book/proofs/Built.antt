@@ -113,12 +113,6 @@ second_differs s sort xs ys (o ∷ os) h =
     let q = and_parts (is_in_scope s o) (are_of_sorts s (Circle ∷ xs) os) p.1 in
     rw (first_differs s xs ys os q.1, and-false (is_in_scope s o)) (and-false (same_sort sort o.sort))
 
-abbrev by_line : Construction → Scope → List Obj → Bool
-by_line form s args = are_of_sorts s (sorts_of (shape_row form.shape).args) args
-
-unfit : (x y : Bool) → x ≡ false → (x && y) ≡ false
-unfit x y e = rw e refl
-
 first_read : (sh : Shape) (s : Scope) (args avoid : List Obj) → fits (construction sh args avoid) s ≡ true → first_fitting s args avoid (alike sh) ≡ Ok (construction sh args avoid)
 unfolding shape_row
 first_read OnLine s args avoid h = rw h refl

@@ -3,7 +3,7 @@ use Rattle.std.proofs.Common.{◌≡◌, ℕ, ◌+◌, true, cond, List, [], ◌
 use Rattle.std.specs.List.{list_all}
 use Rattle.std.proofs.lemmas.Bool.{and_parts}
 use Rattle.e_text.specs.Tokens.{tokens_of}
-use Rattle.e_text.specs.Lines.{Seen, numbered}
+use Rattle.e_text.specs.Lines.{Seen}
 use Rattle.e_text.specs.declared.line.LineFault.{LineFault}
 use Rattle.e_literal.specs.declared.object.Scope.{Scope}
 use Rattle.e_literal.specs.declared.literal.Lit.{Lit}
@@ -201,13 +201,3 @@ canonical_lines_read known last t all rest h sh =
     let shown : Shows all (map line_of (front known t ++ forms.End ∷ [])) rest = subst (λ (fs : List Form). Shows all (map line_of fs) rest) whole sh in
     let l = reads_runs known last None (Some d) (front known t) (forms.End ∷ []) all rest runs shown in
     l.same ∙ end_read known last t proof.last l.ahead rest (same_script t.script h.script) l.shown
-
--- lines with their numbers, as they stand in a text
-shows_numbered : (first : ℕ) (texts : List (List ℕ)) (rest : List (Result Seen LineFault)) → Shows (numbered first texts ++ rest) texts rest
-shows_numbered first [] rest = refl
-shows_numbered first (text ∷ texts) rest = (refl, shows_numbered (first + 1) texts rest)
-
-pub numbered_lines_read : (known : List Headed) (last : ℕ) (t : Entry) (first : ℕ) (rest : List (Result Seen LineFault)) → HasSpelling known t
-    → read_from known last None (numbered first (map line_of (forms_of known t)) ++ rest) ≡ Ok (Some (t, rest))
-numbered_lines_read known last t first rest h =
-    canonical_lines_read known last t (numbered first (map line_of (forms_of known t)) ++ rest) rest h (shows_numbered first (map line_of (forms_of known t)) rest)

@@ -1,5 +1,5 @@
 -- The blocks that are interrupted.
-use Rattle.std.proofs.Common.{◌≡◌, ℕ, ◌+◌, ◌≤◌, Bool, List, [], ◌∷◌, ◌++◌, length, reverse, Some, None, Result, Ok, Err, refl, sym, ap, subst, ◌∙◌, arith}
+use Rattle.std.proofs.Common.{◌≡◌, ℕ, ◌+◌, ◌≤◌, Bool, List, [], ◌∷◌, ◌++◌, length, reverse, Some, None, Result, Ok, Err, refl, sym, ap, subst, ◌∙◌}
 use Rattle.std.specs.List.{list_any}
 use Rattle.std.proofs.lemmas.List.Sorted.{list_any-IsPermutation, IsPermutation-reverse}
 use Rattle.e_literal.specs.declared.literal.Lit.{Lit}
@@ -17,7 +17,7 @@ use Rattle.e_book.specs.declared.steps.CloseLine.TheVariants as closes
 use Rattle.e_book.specs.Reading.{◌>>=◌, Fails, Moves}
 use Rattle.e_book.specs.Entry.{script_of_close}
 use Rattle.e_book.specs.Limits.{most_facts, most_depth, within}
-use Rattle.e_book.specs.Steps.{terms_after, counted_from, resumed, closed_inside, closed, ClosesInside, FitsOuter, AllFit, FitsScope}
+use Rattle.e_book.specs.Steps.{terms_after, counted_from, resumed, closed_inside, closed, ClosesInside, FitsOuter, FitsScope}
 
 -- a test finds something in a list whichever way it goes
 pub any_reversed : {X : Type 0} (p : X → Bool) (xs : List X) → list_any p (reverse xs) ≡ list_any p xs
@@ -92,25 +92,12 @@ pub top_fails : (d q : Draft) (o : Outer) (os : List Outer) (close : CloseLine) 
     → Fails e (closed d d.outers d.steps close)
 top_fails d q o os close e is inside = subst (Fails e) (top_alike d o os close is) (inside (λ c. closed d os o.steps c))
 
-pub bottom_closes : (d : Draft) (close : CloseLine) → d.outers ≡ [] → closed d d.outers d.steps close ≡ closed d [] d.steps close
-bottom_closes d close is = ap (λ (xs : List Outer). closed d xs d.steps close) is
-
 -- ---- what fits
 
 pub record TopFits (d : Draft) (o : Outer) (os : List Outer) : Type 0 where
   pub draft : FitsScope (record d { outers = os })
   pub room : length os + 2 ≤ most_depth
   pub outer : FitsOuter o
-
-pub top_fits : (d : Draft) (o : Outer) (os : List Outer) → d.outers ≡ o ∷ os → FitsScope d → TopFits d o os
-top_fits d o os is f =
-    let all = subst AllFit is f.outers in
-    let deep : length (o ∷ os) + 1 ≤ most_depth = subst (λ (xs : List Outer). length xs + 1 ≤ most_depth) is f.shallow in
-    record {
-      draft = record { names = f.names; in_scope = f.in_scope; declared = f.declared; lines = f.lines; facts = f.facts; terms = f.terms; outers = all.1; shallow = omega (arith, deep) };
-      room = omega (arith, deep);
-      outer = all.0;
-    }
 
 -- ---- what a block shows is too much
 

@@ -116,10 +116,6 @@ one_more known ss s h p = all_both (is_plain_step known) ss (s ∷ []) h (rw p r
 Sayable : List Headed → Script → Type 0
 Sayable known x = (is_plain x ≡ true) × (names_theorems known x ≡ true)
 
-parts_of : (known : List Headed) (x : Script) → is_said known x ≡ true → Sayable known x
-unfolding Sayable
-parts_of known x h = and_parts (is_plain x) (names_theorems known x) h
-
 plain_close : (known : List Headed) (close : CloseLine) → is_plain_close known close ≡ true → Sayable known (script_of_close close)
 unfolding Sayable is_plain names_theorems
 plain_close known (closes.Qed os) h = (refl, refl)

@@ -140,9 +140,6 @@ pub record Stands (before : List Stated) (xs : List Line) (p : ℕ) (x : Line) :
   pub at : slice_get xs p ≡ Some x
   pub earlier : AllLicensed before (take p xs)
 
-same_line : (x y : Line) → x ≡ y → SamePlace x y
-same_line x y e = record { scope = ap (λ z. z.scope) e; facts = ap (λ z. z.facts) e; goal = ap (λ z. z.goal) e; here = ap (λ z. z.here) e }
-
 -- in two lists that begin alike
 first_place : (before : List Stated) (a b : Line) (xs ys : List Line) (x y : Line) → SamePlace a b → Stands before (a ∷ xs) zero x → Stands before (b ∷ ys) zero y → SamePlace x y
 first_place before a b xs ys x y e p q =

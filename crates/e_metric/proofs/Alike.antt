@@ -10,7 +10,7 @@ use Rattle.e_literal.specs.Same.{term_eq}
 use Rattle.e_literal.specs.Rows.{Row, coefficient, terms_of_rows}
 use Rattle.e_literal.specs.Minor.{determinant, constant, Column, Constants, Of, SignedRow, entry, IsWide, IsPart}
 use Rattle.e_literal.specs.Width.{has_constant, is_among, new_terms, weight, product, width}
-use Rattle.e_literal.specs.Solution.{form_value, IsSo, Satisfy, HasSolution}
+use Rattle.e_literal.specs.Solution.{form_value, IsSo, Satisfy}
 use Rattle.e_literal.proofs.Terms.{term_eq_is, term_eq_turned, among_first, among_rest, among_new}
 use Rattle.e_literal.proofs.Refutes.{form_value_same}
 use Rattle.e_literal.proofs.Booleans.{or_not_left, or_not_right}
@@ -25,12 +25,6 @@ Alike [] [] = Unit {0}
 Alike (a ∷ as') (b ∷ bs) = IsAlike a b × Alike as' bs
 Alike _ _ = ⊥
 
-pub alike_turned : (rs ss : List Row) → Alike rs ss → Alike ss rs
-alike_turned [] [] h = tt
-alike_turned [] (s ∷ ss) h = absurd h
-alike_turned (r ∷ rs) [] h = absurd h
-alike_turned (r ∷ rs) (s ∷ ss) h = (record { says = sym h.0.says; coefficients = λ t. sym (h.0.coefficients t) }, alike_turned rs ss h.1)
-
 -- ---- solutions
 
 pub satisfy_alike : (rs ss : List Row) (v : Term → ℕ) → Alike rs ss → Satisfy v rs → Satisfy v ss
@@ -41,9 +35,6 @@ satisfy_alike (r ∷ rs) (q ∷ ss) v h s = (
   subst (λ z. IsSo q.says z) (form_value_same r.form q.form v h.0.coefficients) (subst (λ k. IsSo k (form_value r.form v)) h.0.says s.0),
   satisfy_alike rs ss v h.1 s.1,
 )
-
-pub solution_alike : (rs ss : List Row) → Alike rs ss → HasSolution rs → HasSolution ss
-solution_alike rs ss h s = record { values = s.values; satisfy = satisfy_alike rs ss s.values h s.satisfy }
 
 -- ---- minors
 
@@ -198,18 +189,6 @@ product_same w (n ∷ ns) ms a b f g = by (one_or_not (w n)) (λ ms b f g. produ
         ∙ sym (product_without w ms n b (f n (among_first n ns) e))
 
 -- ---- the terms of rows, each once
-
-among_of_new : (before ts : List Term) (u : Term) → is_among (new_terms before ts) u ≡ true → is_among ts u ≡ true
-among_of_new before [] u h = h
-among_of_new before (t ∷ ts) u h = by (is_among before t) h (λ bs k. among_of_new bs ts u k)
-  where
-    by : (b : Bool) → is_among (cond b (new_terms before ts) (t ∷ new_terms (t ∷ before) ts)) u ≡ true → ((bs : List Term) → is_among (new_terms bs ts) u ≡ true → is_among ts u ≡ true)
-        → (term_eq u t || is_among ts u) ≡ true
-    by true k ih = or_right (term_eq u t) (is_among ts u) (ih before k)
-    by false k ih = elim (or_cases (term_eq u t) (is_among (new_terms (t ∷ before) ts) u) k) [
-      | inl e ↦ or_left (term_eq u t) (is_among ts u) e
-      | inr m ↦ or_right (term_eq u t) (is_among ts u) (ih (t ∷ before) m)
-    ]
 
 new_not : (before ts : List Term) (u : Term) → is_among before u ≡ true → is_among (new_terms before ts) u ≡ false
 new_not before [] u h = refl

@@ -18,8 +18,7 @@ use Rattle.e_clause.specs.System.{NamedRow, named, is_of_kind, of_kind, against_
 use Rattle.e_fraction.specs.declared.row.Row.{Row as GivenRow}
 use Rattle.e_metric.specs.Agree.{IsRow, IsRowOrNone, IsLimited, IsLimitedOrNone, AreRows, AllLimited, GrowBy}
 use Rattle.e_metric.specs.Listed.{terms_of_kind}
-use Rattle.e_metric.proofs.Forms.{none_more}
-use Rattle.e_metric.proofs.FirstTerms.{take_one, kind_one, kind_more}
+use Rattle.e_metric.proofs.FirstTerms.{kind_one, kind_more}
 
 -- ---- growing
 
@@ -39,9 +38,6 @@ grow_one r old new n g e k l is = record {
   rows = λ rs h. subst (AreRows (rs ++ r ∷ [])) (sym is) (rows_push rs old r n g h e k);
   limited = λ h. subst AllLimited (sym is) (limited_push old n g h l);
 }
-
-pub grow_none : (old : List (RowName × GivenRow)) → GrowBy [] old old
-grow_none old = record { rows = λ rs h. subst (λ qs. AreRows qs old) (sym (none_more rs)) h; limited = λ h. h }
 
 pub grow_more : (a b : List NamedRow) (x y z : List (RowName × GivenRow)) → GrowBy a x y → GrowBy b y z → GrowBy (a ++ b) x z
 grow_more a b x y z h k = record {
@@ -109,13 +105,6 @@ facts_grow which name facts i l x y z e h k =
 pub flat_append : (f : Term → List NamedRow) (xs ys : List Term) → flat_map f (xs ++ ys) ≡ flat_map f xs ++ flat_map f ys
 flat_append f [] ys = refl
 flat_append f (x ∷ xs) ys = ap (λ zs. f x ++ zs) (flat_append f xs ys) ∙ sym (append_assoc (f x) (flat_map f xs) (flat_map f ys))
-
-pub terms_grow : (facts : List Lit) (ts : List Term) (i : ℕ) (t : Term) (x y z : List (RowName × GivenRow)) → slice_get ts i ≡ Some t
-    → GrowBy (flat_map (rows_of_term facts) (take i ts)) x y → GrowBy (rows_of_term facts t) y z → GrowBy (flat_map (rows_of_term facts) (take (i + 1) ts)) x z
-terms_grow facts ts i t x y z e h k =
-    subst (λ rs. GrowBy rs x z)
-    (sym (ap (flat_map (rows_of_term facts)) (take_one ts i t e) ∙ flat_append (rows_of_term facts) (take i ts) (t ∷ []) ∙ ap (λ rs. flat_map (rows_of_term facts) (take i ts) ++ rs) (none_more (rows_of_term facts t))))
-    (grow_more (flat_map (rows_of_term facts) (take i ts)) (rows_of_term facts t) x y z h k)
 
 -- ---- the whole system
 

@@ -66,9 +66,6 @@ abbrev pub AllStepTerms : Place → List Term → Type 0
 AllStepTerms p [] = Unit {0}
 AllStepTerms p (t ∷ ts) = (is_step_term p t ≡ true) × AllStepTerms p ts
 
-abbrev joined : List Weighed → Row → ℤ → Option (List Weighed)
-joined ws r m = Some (record { multiplier = m; row = r } ∷ ws)
-
 named_one : (p : Place) (m : ℤ) (n : RowName) (xs : List (ℤ × RowName)) (r : Row) (ws : List Weighed) → row_named p n ≡ Some r → weighed_rows p xs ≡ Some ws
     → weighed_rows p ((m, n) ∷ xs) ≡ Some (record { multiplier = m; row = r } ∷ ws)
 named_one p m n xs r ws e h =

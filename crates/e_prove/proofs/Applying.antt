@@ -95,17 +95,6 @@ use_written t pattern x u args n h is same c good g =
       gives = g ∙ ap (λ os. gives_of_use t os x.scope) (sym same);
     }
 
--- and so are the least good ones
-pub use_least : (t : Stated) (pattern : List (Option Obj)) (x : Basis) (u : Use) (args : List Obj) → IsLeast t x.scope x.facts pattern args → u.args ≡ args →
-    certify_all x.scope x.facts (needs_of_use t args x.scope) u.certs.items ≡ true → list_all is_good_cert u.certs.items ≡ true → u.gives ≡ gives_of_use t args x.scope → IsUse t pattern x u
-use_least t pattern x u args least same c good g =
-    record {
-      least = subst (IsLeast t x.scope x.facts pattern) (sym same) least;
-      certified = subst (λ os. certify_all x.scope x.facts (needs_of_use t os x.scope) u.certs.items ≡ true) (sym same) c;
-      written = good;
-      gives = g ∙ ap (λ os. gives_of_use t os x.scope) (sym same);
-    }
-
 -- ---- a step
 
 -- the entries are the least good choice, none of them a blank; the certificates name literals that are well formed

@@ -17,7 +17,7 @@ use Rattle.e_literal.proofs.Booleans.{and_left}
 use Rattle.e_clause.specs.Written.{is_good_cert}
 use Rattle.e_licence.specs.Licences.{IsCertifiedAgainst, IsConsistentBy}
 use Rattle.e_deriv.specs.declared.block.Close.TheVariants.{Qed as QedClose, Contradiction as ContradictionClose}
-use Rattle.e_deriv.specs.declared.stop.Wanted.TheVariants.{Literal, Match, Contradiction as AContradiction}
+use Rattle.e_deriv.specs.declared.stop.Wanted.TheVariants.{Contradiction as AContradiction}
 use Rattle.e_deriv.specs.Script.{Qed, close_script, erased}
 use Rattle.e_prove.specs.declared.standing.Standing.{Standing}
 use Rattle.e_prove.specs.Passing.{IsReadyFor}
@@ -26,9 +26,7 @@ use Rattle.e_deriv.specs.Parts.{filled_by}
 use Rattle.e_deriv.specs.Lines.{lines}
 use Rattle.e_deriv.specs.Written.{has_good_certs}
 use Rattle.e_licence.specs.Contexts.{Basis}
-use Rattle.e_prove.specs.declared.halt.Halt.{Halt}
 use Rattle.e_prove.specs.declared.halt.Halt.TheVariants as halt
-use Rattle.e_prove.specs.Halts.{HaltsIn}
 use Rattle.e_prove.specs.Judging.{IsClosed, CloseHalts}
 
 -- what a qed that is ready says
@@ -63,22 +61,6 @@ pub closed_qed : (before : List Stated) (objects kept : List Obj) (written certs
     IsTrue (list_all is_good_cert certs) → IsClosed before (QedClose objects written) x goal (QedClose kept given)
 closed_qed before objects kept written certs given wanted x goal same these all form h g =
     rw (same, these) (closed_by before objects written certs x goal form (subst (λ ls. certify_all x.scope x.facts ls certs ≡ true) all h) g)
-
--- what halts at the literals of the goal
-qed_halts_at : (before : List Stated) (objects : List Obj) (written : List Cert) (x : Basis) (goal : Goal) (h : Halt) → HaltsIn x (goal_with goal objects) h →
-    CloseHalts before (QedClose objects written) x goal h
-unfolding close_script
-qed_halts_at before objects written x goal (halt.Lacks (Literal l) values) k filled = k
-qed_halts_at before objects written x goal (halt.Lacks Match values) k filled = absurd k
-qed_halts_at before objects written x goal (halt.Lacks AContradiction values) k filled = absurd k
-qed_halts_at before objects written x goal (halt.TooWide (Literal l) width) k filled = k
-qed_halts_at before objects written x goal (halt.TooWide Match width) k filled = absurd k
-qed_halts_at before objects written x goal (halt.TooWide AContradiction width) k filled = absurd k
-qed_halts_at before objects written x goal halt.NoMemory k filled = tt
-
-pub qed_halts : (before : List Stated) (objects : List Obj) (written : List Cert) (wanted : List Lit) (x : Basis) (goal : Goal) (h : Halt) → wanted ≡ goal_with goal objects →
-    HaltsIn x wanted h → CloseHalts before (QedClose objects written) x goal h
-qed_halts before objects written wanted x goal h all k = qed_halts_at before objects written x goal h (subst (λ ls. HaltsIn x ls h) all k)
 
 -- a contradiction with its certificate
 closed_by_against : (before : List Stated) (written : Option Against) (a : Against) (x : Basis) (goal : Goal) → IsCertifiedAgainst x a →

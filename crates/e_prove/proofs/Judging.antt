@@ -1,9 +1,8 @@
 -- What a step is judged as.
-use Rattle.std.proofs.Common.{◌≡◌, ℕ, List, [], ◌∷◌, refl, ap, subst, true, false, Option, Some, None}
+use Rattle.std.proofs.Common.{◌≡◌, ℕ, List, [], refl, ap, subst, true, Option, Some, None}
 use Rattle.std.specs.Prelude.{IsTrue}
 use Rattle.std.specs.List.{list_all}
 use Rattle.std.proofs.lemmas.Bool.{and_from}
-use Rattle.e_literal.specs.declared.object.Term.{Term}
 use Rattle.e_literal.specs.declared.literal.Lit.{Lit}
 use Rattle.e_literal.specs.Use.{Stated}
 use Rattle.e_construct.specs.declared.construction.Construction.{Construction}
@@ -13,20 +12,16 @@ use Rattle.e_clause.specs.declared.cert.Cert.{Cert}
 use Rattle.e_clause.specs.Certify.{certifies, certify_all}
 use Rattle.e_clause.proofs.Sound.{allowed_of_certified, all_allowed_of_certified}
 use Rattle.e_deriv.specs.declared.block.Step.TheVariants.{Cite as CiteStep, Hence as HenceStep, Make as MakeStep}
-use Rattle.e_deriv.specs.declared.stop.Wanted.{Wanted}
-use Rattle.e_deriv.specs.declared.stop.Wanted.TheVariants.{Literal, Match, Contradiction}
 use Rattle.e_deriv.specs.Script.{Cite, Hence, Make, step_script, erased}
 use Rattle.e_deriv.specs.Parts.{filled_by}
 use Rattle.e_deriv.specs.Lines.{lines}
 use Rattle.e_deriv.specs.Steps.{is_cited}
 use Rattle.e_deriv.specs.Naming.{names_lines}
 use Rattle.e_clause.specs.Written.{is_good_cert}
-use Rattle.e_prove.specs.declared.halt.Halt.{Halt}
 use Rattle.e_prove.specs.declared.halt.Halt.TheVariants as halt
 use Rattle.e_prove.specs.declared.standing.Standing.{Standing}
 use Rattle.e_prove.specs.Contexts.{after_literal, after_make}
-use Rattle.e_prove.specs.Halts.{HaltsIn}
-use Rattle.e_prove.specs.Judging.{IsJudged, StepHalts}
+use Rattle.e_prove.specs.Judging.{IsJudged}
 use Rattle.e_deriv.proofs.Keeping.{stay_joined, stay_all}
 use Rattle.e_deriv.specs.Written.{has_good_certs}
 
@@ -50,12 +45,6 @@ pub judged_cite : (before : List Stated) (by derived : By) (x after : Standing) 
     IsJudged before (CiteStep by) x (CiteStep derived) after
 judged_cite before by derived x after same h gives = rw (same, gives) (judged_by before by x h)
 
--- one that is not good lacks its literal, and has no values
-pub cite_halts : (before : List Stated) (by : By) (x : Standing) (w : Wanted) (values : Option (List (Term × ℕ))) → is_cited x.context.facts by ≡ false → w ≡ Literal by.lit → values ≡ None →
-    StepHalts before (CiteStep by) x (halt.Lacks w values)
-unfolding step_script
-cite_halts before by x w values h e none rest filled goal = rw (e, none) ((h, refl), refl)
-
 -- ---- a hence
 
 judged_by_cert : (before : List Stated) (lit : Lit) (written : Option Cert) (cert : Cert) (x : Standing) → IsTrue (certifies x.context.scope x.context.facts lit cert) → IsTrue (is_good_cert cert) →
@@ -77,17 +66,6 @@ pub judged_hence : (before : List Stated) (lit derived : Lit) (written : Option 
     IsTrue (certifies x.context.scope x.context.facts lit cert) → IsTrue (is_good_cert cert) → after ≡ after_literal lit x →
     IsJudged before (HenceStep lit written) x (HenceStep derived (Some cert)) after
 judged_hence before lit derived written cert x after same h g gives = rw (same, gives) (judged_by_cert before lit written cert x h g)
-
--- what halts at its literal
-pub hence_halts : (before : List Stated) (lit : Lit) (written : Option Cert) (x : Standing) (h : Halt) → HaltsIn x.context (lit ∷ []) h → StepHalts before (HenceStep lit written) x h
-unfolding step_script
-hence_halts before lit written x (halt.Lacks (Literal l) values) k rest filled goal = k
-hence_halts before lit written x (halt.Lacks Match values) k rest filled goal = absurd k
-hence_halts before lit written x (halt.Lacks Contradiction values) k rest filled goal = absurd k
-hence_halts before lit written x (halt.TooWide (Literal l) width) k rest filled goal = k
-hence_halts before lit written x (halt.TooWide Match width) k rest filled goal = absurd k
-hence_halts before lit written x (halt.TooWide Contradiction width) k rest filled goal = absurd k
-hence_halts before lit written x halt.NoMemory k rest filled goal = tt
 
 -- ---- a construction
 
@@ -111,19 +89,3 @@ pub judged_make : (before : List Stated) (form derived : Construction) (names ke
     IsJudged before (MakeStep form names written) x (MakeStep derived kept given) after
 judged_make before form derived names kept written certs given needed x after same these those all h g gives =
     rw (same, these, those, gives) (judged_by_certs before form names written certs x (subst (λ ls. certify_all x.context.scope x.context.facts ls certs ≡ true) all h) g)
-
--- what halts at its needs
-make_halts_at : (before : List Stated) (form : Construction) (names : List (List ℕ)) (written : List Cert) (x : Standing) (h : Halt) → HaltsIn x.context (needs form) h →
-    StepHalts before (MakeStep form names written) x h
-unfolding step_script
-make_halts_at before form names written x (halt.Lacks (Literal l) values) k rest filled goal = k
-make_halts_at before form names written x (halt.Lacks Match values) k rest filled goal = absurd k
-make_halts_at before form names written x (halt.Lacks Contradiction values) k rest filled goal = absurd k
-make_halts_at before form names written x (halt.TooWide (Literal l) width) k rest filled goal = k
-make_halts_at before form names written x (halt.TooWide Match width) k rest filled goal = absurd k
-make_halts_at before form names written x (halt.TooWide Contradiction width) k rest filled goal = absurd k
-make_halts_at before form names written x halt.NoMemory k rest filled goal = tt
-
-pub make_halts : (before : List Stated) (form : Construction) (names : List (List ℕ)) (written : List Cert) (needed : List Lit) (x : Standing) (h : Halt) → needed ≡ needs form →
-    HaltsIn x.context needed h → StepHalts before (MakeStep form names written) x h
-make_halts before form names written needed x h all k = make_halts_at before form names written x h (subst (λ ls. HaltsIn x.context ls h) all k)

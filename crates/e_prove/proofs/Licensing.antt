@@ -11,7 +11,6 @@ use Rattle.e_literal.specs.declared.literal.Lit.{Lit}
 use Rattle.e_literal.proofs.Booleans.{and_left, and_right}
 use Rattle.e_clause.specs.declared.cert.Cert.{Cert}
 use Rattle.e_clause.specs.Certify.{certifies, certify_all}
-use Rattle.e_clause.specs.Judged.{is_good, are_good}
 use Rattle.e_clause.specs.Wide.{IsTooWideLit}
 use Rattle.e_clause.proofs.Sound.{all_allowed_of_certified}
 use Rattle.e_deriv.specs.declared.stop.Wanted.{Wanted}
@@ -71,16 +70,6 @@ pub certify_next : (x : Basis) (ls : List Lit) (i : ℕ) (cs : List Cert) (l : L
 certify_next x ls i cs l c lt is h k =
     let e : take i ls ++ l ∷ [] ≡ take (i + 1) ls = grind (arith, common_steps) in
     subst (λ xs. certify_all x.scope x.facts xs (cs ++ c ∷ []) ≡ true) e (certify_push x.scope x.facts (take i ls) cs l c h k)
-
-good_among : (s : Scope) (earlier : List Lit) (l : Lit) (later : List Lit) → are_good s (earlier ++ l ∷ later) ≡ true → is_good s l ≡ true
-good_among s [] l later h = and_left (is_good s l) (are_good s later) h
-good_among s (e ∷ es) l later h = good_among s es l later (and_right (is_good s e) (are_good s (es ++ l ∷ later)) h)
-
--- the literal at this place is good
-pub good_at : (s : Scope) (ls : List Lit) (i : ℕ) (l : Lit) → i < length ls → l ≡ get_or ls i l → are_good s ls ≡ true → is_good s l ≡ true
-good_at s ls i l lt is h =
-    let split : ls ≡ take i ls ++ l ∷ drop (i + 1) ls = grind (arith, common_steps) in
-    good_among s (take i ls) l (drop (i + 1) ls) (subst (λ xs. are_good s xs ≡ true) split h)
 
 only_one : (l m : Lit) (earlier later : List Lit) → l ∷ [] ≡ earlier ++ m ∷ later → m ≡ l
 only_one l m [] later e = sym (same_head l m [] later e)

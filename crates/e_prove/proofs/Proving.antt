@@ -15,13 +15,11 @@ use Rattle.e_deriv.specs.declared.stop.Stop.TheVariants as stop
 use Rattle.e_deriv.specs.Script.{Script}
 use Rattle.e_deriv.specs.Goal.{Goal, goal_of_statement, facts_of_statement}
 use Rattle.e_deriv.specs.Naming.{names_lines, declared_names}
-use Rattle.e_deriv.specs.Lines.{proof_lines}
-use Rattle.e_deriv.specs.Licensed.{AllLicensed}
 use Rattle.e_deriv.specs.Certified.{Certified}
 use Rattle.e_deriv.specs.Fitting.{IsFitting}
 use Rattle.e_prove.specs.Contexts.{start_of}
 use Rattle.e_prove.specs.Passing.{IsReadyFor, IsDerived, StopsWithin}
-use Rattle.e_prove.specs.Stops.{StopIs, HasNames}
+use Rattle.e_prove.specs.Stops.{HasNames}
 use Rattle.e_prove.proofs.Ready.{first_facts}
 
 -- ---- how many objects there are
@@ -67,17 +65,6 @@ pub goal_is : (t : Stated) (sorts : List Sort) (s : Scope) (kept made : List Obj
     made ≡ next_objects s sorts → kept ≡ made → shown ≡ t.shown → let goal : Goal = record { made = kept; shown = shown } in goal ≡ goal_of_statement t
 goal_is t sorts s kept made shown a b c d e = rw (d, c, a, b, e) refl
 
-stop_at : (before : List Stated) (t : Stated) (names : Names) (script : Script) (s : Stop) → StopsWithin before script (start_of t names) (goal_of_statement t) 1 s → StopIs before t script s
-stop_at before t names script (stop.Unlicensed n wanted values seen) k =
-    record { line = k.stops.line; context = record { filled = k.filled; place = k.stops.place; number = omega (arith, k.stops.number); at = k.stops.at; earlier = k.stops.earlier }; lacks = k.stops.halts.0; shown = k.stops.halts.1 }
-stop_at before t names script (stop.TooWide n wanted width seen) k =
-    record { line = k.stops.line; context = record { filled = k.filled; place = k.stops.place; number = omega (arith, k.stops.number); at = k.stops.at; earlier = k.stops.earlier }; too_wide = k.stops.halts }
-stop_at before t names script stop.NoMemory k = tt
-
-pub stop_is : (before : List Stated) (t : Stated) (names : Names) (script : Script) (x : _) (goal : Goal) (s : Stop) → x ≡ start_of t names → goal ≡ goal_of_statement t → StopsWithin before script x goal 1 s → StopIs before t script s
-stop_is before t names script x goal s is same k =
-    stop_at before t names script s (subst (λ y. StopsWithin before script y (goal_of_statement t) 1 s) is (subst (λ g. StopsWithin before script x g 1 s) same k))
-
 names_at : (before : List Stated) (t : Stated) (names : Names) (script : Script) (s : Stop) → StopsWithin before script (start_of t names) (goal_of_statement t) 1 s → HasNames before t names script s
 names_at before t names script (stop.Unlicensed n wanted values seen) k = sym (ap (slice_get (names_lines before (declared_names t names) script)) (omega (arith, k.stops.number)) ∙ k.stops.named)
 names_at before t names script (stop.TooWide n wanted width seen) k = sym (ap (slice_get (names_lines before (declared_names t names) script)) (omega (arith, k.stops.number)) ∙ k.stops.named)
@@ -96,7 +83,3 @@ derived_at before t names script derived x goal is same d =
 
 pub is_certified : (before : List Stated) (t : Stated) (names : Names) (script derived : Script) (x : _) (goal : Goal) → x ≡ start_of t names → goal ≡ goal_of_statement t → IsDerived before script x goal derived → Certified before t derived
 is_certified before t names script derived x goal is same d = (derived_at before t names script derived x goal is same d).certified
-
-pub is_licensed : (before : List Stated) (t : Stated) (names : Names) (script derived : Script) (x : _) (goal : Goal) → x ≡ start_of t names → goal ≡ goal_of_statement t → IsDerived before script x goal derived →
-    AllLicensed before (proof_lines before t script derived)
-is_licensed before t names script derived x goal is same d = (derived_at before t names script derived x goal is same d).licensed

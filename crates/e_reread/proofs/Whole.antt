@@ -43,7 +43,7 @@ use Rattle.e_read.specs.declared.reading.Reading.{Reading}
 use Rattle.e_read.specs.Filled.{filled}
 use Rattle.e_read.specs.Owed.{settled}
 use Rattle.e_read.specs.Needs.{due_of}
-use Rattle.e_read.specs.Text.{stepped as line_stepped, spelled, with_form, Piece, Derived, owes_nothing, at_start, worded, taken, derived, finished, is_end, piece_from}
+use Rattle.e_read.specs.Text.{stepped as line_stepped, spelled, with_form, Derived, owes_nothing, at_start, worded, taken, derived, finished, is_end, piece_from}
 use Rattle.e_spell.specs.Spelling.{script_lines}
 use Rattle.e_reread.specs.Laws.{ShowsEnded, CanBeSpelled, SpelledIsRead}
 use Rattle.e_reread.proofs.FilledBack.{kepts, filled_back}
@@ -115,9 +115,6 @@ middle_along known t d c o =
     }
 
 -- ---- lines that are read
-
-abbrev Answer : Type 0
-Answer = Piece × List (Result Seen LineFault)
 
 record Left (known : List Headed) (number : ℕ) (r next : Reading) (all : List (Result Seen LineFault)) (more : List (List ℕ)) (rest : List (Result Seen LineFault)) : Type 0 where
   ahead : List (Result Seen LineFault)

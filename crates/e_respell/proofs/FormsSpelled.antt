@@ -31,7 +31,7 @@ use Rattle.e_book.specs.Literals.{is_diagram_raw}
 use Rattle.e_book.specs.Superposes.{placed_in, superpose_in}
 use Rattle.e_book.specs.Scope.{scope_of_names, used, fresh, lit_in, lits_in, object_as, known_rule, variables_of, right_count, args_in, by_in, right_sort, arguments_in, construction, first_fitting, let_in, objects_of_sorts, qed_in}
 use Rattle.e_book.specs.Applies.{known_place, entry_in, entries_in, apply_in}
-use Rattle.e_book.specs.Canonical.{name_of_object, line_pieces, filled, avoid_words, line_of, placed_names, by_form, hence_form, let_form, argument_name, apply_form, claim_form, superpose_form, cases_form, qed_form}
+use Rattle.e_book.specs.Canonical.{name_of_object, line_pieces, line_of, placed_names, by_form, hence_form, let_form, argument_name, apply_form, claim_form, superpose_form, cases_form, qed_form}
 use Rattle.e_book.proofs.Citations.{counted}
 use Rattle.e_book.proofs.InScope.{bind_ok, ok_is, read_ok}
 use Rattle.e_book.proofs.Building.{placed_behind}
@@ -107,9 +107,6 @@ chosen ps s args avoid (x ∷ shapes) form h e = by_test (fits (construction x a
     by_test : (b : Bool) → (first_fitting s args avoid shapes ≡ Ok form → Chosen ps args avoid form) → cond b (read_ok (construction x args avoid)) (first_fitting s args avoid shapes) ≡ Ok form → Chosen ps args avoid form
     by_test true more k = subst (λ (f : Construction). Chosen ps args avoid f) (ok_is (construction x args avoid) form k) (record { line = h.0; args_are = refl; avoid_are = refl })
     by_test false more k = more k
-
-same_line : (ps qs : List Piece) (new args bs avoid cs : List (List ℕ)) → ps ≡ qs → args ≡ bs → avoid ≡ cs → filled ps new args ++ avoid_words avoid ≡ filled qs new bs ++ avoid_words cs
-same_line ps qs new args bs avoid cs p q r = rw (p, q, r) refl
 
 pub let_spelled : (ns : Names) (l : RawLet) (form : Construction) → OneLine l → let_in ns l ≡ Ok form → line_of (let_form ns form l.new) ≡ line_of (forms.Let l)
 unfolding let_in

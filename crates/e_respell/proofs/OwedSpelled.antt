@@ -147,9 +147,6 @@ row_spelled ns rows.Below r c e = ap (row_words ns) (sym (ok_is names.Below r e)
 
 -- ---- sums
 
-abbrev pair : ℤ → RowName → ℤ × RowName
-pair m r = (m, r)
-
 one_row : (sum new : List (ℤ × RowName)) (m : ℤ) (r : RowName) → with_row sum m r ≡ Ok new → new ≡ sum ++ (m, r) ∷ []
 one_row sum new m r e = sym (ok_is (sum ++ (m, r) ∷ []) new (passed (ltb (length sum) most_rows) (read_ok (sum ++ (m, r) ∷ [])) new e).1)
 

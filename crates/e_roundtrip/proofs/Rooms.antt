@@ -1,5 +1,5 @@
 -- Words of allowed bytes, and how many bytes they take on a line.
-use Rattle.std.proofs.Common.{◌≡◌, ℕ, ◌+◌, ◌*◌, ◌^◌, ◌<◌, ◌≤◌, Bool, true, leb, ltb, eqb, not, ◌&&◌, ◌||◌, List, [], ◌∷◌, ◌++◌, length, refl, ap, ◌∙◌, arith, rules, tests, length-append}
+use Rattle.std.proofs.Common.{◌≡◌, ℕ, ◌+◌, ◌^◌, ◌<◌, ◌≤◌, Bool, true, leb, ltb, eqb, not, ◌&&◌, ◌||◌, List, [], ◌∷◌, ◌++◌, length, refl, ap, ◌∙◌, arith, rules, tests, length-append}
 use Rattle.std.specs.Prelude.{decimal}
 use Rattle.std.specs.List.{list_all}
 use Rattle.std.proofs.lemmas.Bool.{leb-true, le-leb, and_parts}
@@ -11,7 +11,6 @@ use Rattle.e_text.specs.Numerals.{is_numeral}
 use Rattle.e_text.specs.Tokens.{spaced, joined}
 use Rattle.e_text.proofs.NumeralWords.{is_numeral-decimal}
 use Rattle.e_words.proofs.Spaced.{spaced_append}
-use Rattle.e_book.specs.HasSpelling.{AreNames}
 
 -- ---- words
 
@@ -105,11 +104,6 @@ short_title (b ∷ bs) e =
     let p = and_parts (is_letter b) (leb (length w) 24 && list_all is_title_byte w) e in
     let q = and_parts (leb (length w) 24) (list_all is_title_byte w) p.1 in
     short_word 24 w (all_allowed is_title_byte title_byte_allowed w q.1) (leb-true (length w) 24 q.0)
-
--- names, each with its space
-pub room_names : (ns : List (List ℕ)) → AreNames ns → Room (17 * length ns) ns
-room_names [] h = room_none
-room_names (n ∷ ns) h = room_more (16 + 1 + 17 * length ns) (17 * length (n ∷ ns)) (n ∷ ns) (omega arith) (room_word 16 (17 * length ns) n ns (short_name n h.0) (room_names ns h.1))
 
 -- ---- numbers
 

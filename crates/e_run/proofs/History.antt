@@ -11,7 +11,6 @@ use Rattle.e_book.specs.Book.{read_from}
 use Rattle.e_deriv.specs.Script.{size}
 use Rattle.e_deriv.specs.Naming.{names_lines, declared_names}
 use Rattle.std.specs.Prelude.{slice_get}
-use Rattle.e_literal.specs.Use.{Stated}
 use Rattle.e_run.specs.Outcome.{Rest, with_theorem, IsLicensed, Takes, Begins, number_behind}
 use Rattle.e_run.specs.Outcome as ends
 use Rattle.e_run.specs.Answers.{Derived, IsDerived, AllDerived, EndsSo, Refuses, Widens, theorems_of, steps_of, block_of, blocks_of}
@@ -134,11 +133,6 @@ breaks_inside lines old new newer known rest after steps d h read k w =
       short = subst (λ (b : List ℕ). f.0 ≤ length b) blocks f.1;
       grew = subst (λ (b : List ℕ). Grew old newer (take f.0 b)) blocks f.2;
     }
-
--- one more statement stands behind those that are known
-stated_more : (known : List Headed) (t : Entry) → stated_by (with_theorem known t) ≡ stated_by known ++ stated t.statement ∷ []
-stated_more [] t = refl
-stated_more (k ∷ ks) t = ap (λ (l : List Stated). stated k.statement ∷ l) (stated_more ks t)
 
 -- what the grammar gives, where the number behind the last line is that of all lines
 pub at_last : (known : List Headed) (a b : ℕ) (lines : Rest) (e : Result (Option (Entry × Rest)) BookFault) → a ≡ b → read_from known a None lines ≡ e → read_from known b None lines ≡ e

@@ -26,9 +26,6 @@ none_left = Ok None
 abbrev faulty : BookFault → Answer
 faulty f = Err f
 
-abbrev pair : Entry → Rest → Entry × Rest
-pair t rest = (t, rest)
-
 found_not_none : (t : Entry) (xs : Rest) → found t xs ≡ none_left → ⊥
 found_not_none t xs e = cc
 

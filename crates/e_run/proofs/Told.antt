@@ -1,5 +1,5 @@
 -- What a source gave so far, and what it still has.
-use Rattle.std.proofs.Common.{◌≡◌, ℕ, ◌≤◌, List, [], ◌++◌, length, Option, Some, None, Result, Ok, refl, sym, ap, subst, ◌∙◌, append_assoc, take, drop, take-append-drop}
+use Rattle.std.proofs.Common.{◌≡◌, ℕ, ◌≤◌, List, ◌++◌, length, Option, Some, None, Result, Ok, refl, sym, ap, subst, ◌∙◌, take}
 use Rattle.std.proofs.lemmas.List.{append-nil, take_all}
 use Rattle.std.proofs.Math.Seq.{take-append_seam}
 use Rattle.e_io.specs.Bytes.{Reads}
@@ -8,17 +8,6 @@ use Rattle.e_run.specs.Input.{IsTextOf, IsAtEnd}
 abbrev pub Told : Option (List ℕ) → Option (List ℕ) → List ℕ → Type 0
 Told None now read = now ≡ None
 Told (Some text) now read = (rest : List ℕ) × (now ≡ Some rest) × (text ≡ read ++ rest)
-
-pub told_none : (a : Option (List ℕ)) → Told a a []
-told_none None = refl
-told_none (Some text) = (text, refl, refl)
-
--- some more bytes were given
-pub told_more : (E : Type 0) (a b c : Option (List ℕ)) (text to : List ℕ) (n : ℕ) → Told a b text → Reads {E = E} b c (Ok n) to → Told a c (text ++ take n to)
-told_more E None b c text to n h r = subst (λ (x : Option (List ℕ)). Reads {E = E} x c (Ok n) to) h r
-told_more E (Some all) b c text to n h r =
-    let s = subst (λ (x : Option (List ℕ)). Reads {E = E} x c (Ok n) to) h.1 r in
-    (drop n h.0, s.2, h.2 ∙ ap (λ (l : List ℕ). text ++ l) (sym (take-append-drop n h.0)) ∙ sym (append_assoc text (take n h.0) (drop n h.0)) ∙ ap (λ (l : List ℕ). (text ++ l) ++ drop n h.0) (sym s.1))
 
 -- the source was at its end
 pub told_all : (E : Type 0) (most : ℕ) (a b c : Option (List ℕ)) (text to : List ℕ) (r : Result ℕ E) → r ≡ Ok 0 → length text ≤ most → Told a b text → Reads {E = E} b c r to → IsTextOf most a text

@@ -1,5 +1,5 @@
 -- What is told of a generated book.
-use Rattle.std.proofs.Common.{◌≡◌, ◌⊎◌, inl, inr, ℕ, ◌≤◌, ◌^◌, length, List, [], Option, Some, refl, sym, ap, subst, ◌∙◌, arith}
+use Rattle.std.proofs.Common.{◌≡◌, inl, inr, ℕ, ◌≤◌, ◌^◌, length, List, [], Option, Some, refl, sym, ap, subst, ◌∙◌, arith}
 use Rattle.e_io.specs.Bytes.{Grew, GrewByFront}
 use Rattle.e_text.proofs.WholeLines.{lines_of-take}
 use Rattle.e_deriv.specs.declared.stop.Stop.TheVariants as stops
@@ -17,7 +17,7 @@ use Rattle.e_run.specs.Input.{IsTextOf}
 use Rattle.e_run.specs.LastLines.{head_line, accepted_line, tried_line}
 use Rattle.e_run.specs.Outcome.{Rest, End, EndsBook, lines_of_book}
 use Rattle.e_run.specs.Outcome as ends
-use Rattle.e_run.specs.Answers.{IsAnswer, IsReadFault, IsWriteFault, theorems_of, written_with}
+use Rattle.e_run.specs.Answers.{IsAnswer, theorems_of, written_with}
 use Rattle.e_run.specs.Endings.{Closes, EndsWith, EndingIs, answer_of, last_lines}
 use Rattle.e_run.specs.Trying.{IsStopped, IsTried, Told, TriesLines, Tries, IsTrialAnswer, AnswersTrial}
 use Rattle.e_run.proofs.Answering.{answered_so, stops_so, widens_so, is_answer_wide}
@@ -32,28 +32,6 @@ closed_told lines old new last line answer result t e (inl c) =
     subst (TriesLines lines old new) (sym c.0) (inl (record { last = line; told = t; grew = subst (Grew old new) e c.1 }))
 closed_told lines old new last line answer result t e (inr c) =
     inr (c.0, record { answer = answer; last = line; told = t; grew = subst (GrewByFront old new) e c.1 })
-
--- what is told is no fault of the source or the sink
-pub no_fault_told : (lines : Rest) (line : List ℕ) (answer : Status) → Told lines answer line → IsReadFault answer ⊎ IsWriteFault answer → ⊥
-no_fault_told lines line status.ReadFault t h = t
-no_fault_told lines line status.WriteFault t h = t
-no_fault_told lines line (status.Accepted n) t h = t
-no_fault_told lines line status.Usage t h = t
-no_fault_told lines line status.TextLimit t h = t
-no_fault_told lines line (status.Made n) t h = t
-no_fault_told lines line (status.Tried n s) t (inl h) = h
-no_fault_told lines line (status.Tried n s) t (inr h) = h
-no_fault_told lines line (status.Unlicensed title step wanted values) t (inl h) = h
-no_fault_told lines line (status.Unlicensed title step wanted values) t (inr h) = h
-no_fault_told lines line (status.TooWide title step wanted width) t (inl h) = h
-no_fault_told lines line (status.TooWide title step wanted width) t (inr h) = h
-no_fault_told lines line (status.Fault f) t (inl h) = h
-no_fault_told lines line (status.Fault f) t (inr h) = h
-no_fault_told lines line (status.Verified n) t h = t
-no_fault_told lines line (status.Bad title step) t h = t
-no_fault_told lines line (status.Garbled at) t h = t
-no_fault_told lines line status.NoMemory t (inl h) = h
-no_fault_told lines line status.NoMemory t (inr h) = h
 
 no_memory_answers : (lines : Rest) (end : End) → IsAnswer lines end status.NoMemory
 no_memory_answers lines (ends.Accepted n) = tt
@@ -211,6 +189,3 @@ answers_trial n old new answer (inr w) end k =
 
 pub trial_number : (k : Command) (n m : ℕ) → k ≡ commands.Trial n → k ≡ commands.Trial m → n ≡ m
 trial_number k n m a b = cc
-
-pub make_number : (k : Command) (n m : ℕ) → k ≡ commands.Make n → k ≡ commands.Make m → n ≡ m
-make_number k n m a b = cc

@@ -29,12 +29,3 @@ conclusion_at (p ∷ ps) cs zero d over less = absurd (omega (arith, over))
 conclusion_at (p ∷ ps) cs (suc at) d over less =
     let e : at - length ps ≡ suc at - suc (length ps) = omega arith in
     conclusion_at ps cs at d (omega (arith, over)) (omega (arith, less)) ∙ ap (λ k. Some (lit_of (get_or cs k d))) e
-
-clause_length : (ps cs : List Pattern) → length (clause ps cs) ≡ length ps + length cs
-clause_length [] [] = refl
-clause_length [] (c ∷ cs) = let e = clause_length [] cs in omega (arith, e)
-clause_length (p ∷ ps) cs = let e = clause_length ps cs in omega (arith, e)
-
--- the place of a conclusion among the conclusions
-pub conclusion_below : (ps cs : List Pattern) (at : ℕ) → length ps ≤ at → at < length (clause ps cs) → at - length ps < length cs
-conclusion_below ps cs at over less = let e = clause_length ps cs in omega (arith, e, over, less)

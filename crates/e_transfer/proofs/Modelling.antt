@@ -22,10 +22,6 @@ use Rattle.e_transfer.specs.declared.sought.Means.TheVariants as means
 use Rattle.e_transfer.specs.Giving.{Suffices}
 use Rattle.e_transfer.specs.Models.{fits_term, fits_terms, is_model}
 
-by_flat : (b : Bool) (n : ℕ) → cond b (eqb (cond b 0 n) 0) true ≡ true
-by_flat true n = refl
-by_flat false n = refl
-
 by_one : (w : Term → ℕ) (t u : Term) (b : Bool) → one_term t u ≡ b → cond b (eqb (carried w t) (carried w u)) true ≡ true
 by_one w t u true e = eq-eqb (carried w t) (carried w u) (carried_same w t u (term_eq_is (canonical t) (canonical u) e))
 by_one w t u false e = refl

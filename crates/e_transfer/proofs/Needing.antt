@@ -1,5 +1,5 @@
 -- What an instance needs: which literals stand, which parts are good, and what is wide.
-use Rattle.std.proofs.Common.{◌≡◌, ℕ, zero, suc, ◌<◌, ◌≤◌, List, [], ◌∷◌, refl, sym, ap, ◌∙◌, subst, arith, Bool, true, false, cond, not, ◌||◌, true≢false, eqb, get_or, length, map, take, ◌+◌, ◌++◌, ◌⊎◌, inl, inr, Some, None, leb-true, eqb-true}
+use Rattle.std.proofs.Common.{◌≡◌, ℕ, zero, suc, ◌<◌, ◌≤◌, List, [], ◌∷◌, refl, sym, ap, ◌∙◌, subst, arith, Bool, true, false, cond, not, ◌||◌, true≢false, eqb, get_or, length, map, take, ◌+◌, ◌++◌, ◌⊎◌, inl, inr, Some, leb-true, eqb-true}
 use Rattle.std.specs.Prelude.{slice_get, filter, All, Contains, MatchBool}
 use Rattle.std.specs.Option.{option_map_or}
 use Rattle.std.specs.List.{list_all, AllZip}
@@ -190,14 +190,6 @@ good_cert scope facts lits goal cert transfer over instance one good =
 pub same_lits : (rule : ℕ) (args : List Obj) (a b : List Lit) → Inst rule args ≡ Some a → Inst rule args ≡ Some b → a ≡ b
 same_lits rule args a b h k = same_Some a b (sym h ∙ k)
 
-pub refused_no_instance : (m : Means) (scope : Scope) (facts : List Lit) (goal : Lit) (rule : ℕ) (args : List Obj) → Inst rule args ≡ None → (place : ℕ)
-    → Gives m scope facts goal rule place args → ⊥
-refused_no_instance m scope facts goal rule args none place gives = none-some gives.lits (sym none ∙ gives.instance)
-
-pub refused_over : (m : Means) (scope : Scope) (facts : List Lit) (goal : Lit) (rule : ℕ) (args : List Obj) → list_all (is_in_scope scope) args ≡ false → (place : ℕ)
-    → Gives m scope facts goal rule place args → ⊥
-refused_over m scope facts goal rule args beyond place gives = true≢false (sym gives.over ∙ beyond)
-
 pub refused_not_one : (m : Means) (scope : Scope) (facts : List Lit) (goal : Lit) (rule : ℕ) (args : List Obj) (lits : List Lit) → Inst rule args ≡ Some lits
     → has lits goal ≡ false → (place : ℕ) → Gives m scope facts goal rule place args → ⊥
 refused_not_one m scope facts goal rule args lits instance not_one place gives =
@@ -208,11 +200,6 @@ pub refused_diagram : (m : Means) (scope : Scope) (facts : List Lit) (goal : Lit
 refused_diagram m scope facts goal rule args lits instance fails place gives =
     true≢false (sym (diagrams_of m facts (needs gives.lits goal) gives.suffice)
     ∙ ap (λ ls. diagrams_stand facts (needs ls goal)) (same_lits rule args gives.lits lits gives.instance instance) ∙ fails)
-
-pub refused_part : (m : Means) (scope : Scope) (facts : List Lit) (goal : Lit) (rule : ℕ) (args : List Obj) (lits : List Lit) → Inst rule args ≡ Some lits
-    → (All (Suffices m facts) (needs lits goal) → ⊥) → (place : ℕ) → Gives m scope facts goal rule place args → ⊥
-refused_part m scope facts goal rule args lits instance fails place gives =
-    fails (subst (λ ls. All (Suffices m facts) (needs ls goal)) (same_lits rule args gives.lits lits gives.instance instance) gives.suffice)
 
 -- ---- the needs, literal by literal
 
@@ -294,10 +281,6 @@ parts_at m scope facts ls ms v u is same said =
 pub parts_kept : (m : Means) (scope : Scope) (facts ls ms : List Lit) (v : Verdict (List Part)) (ps : List Part) → ms ≡ ls → v ≡ verdict.Keep ps → PartsAre m scope facts ms v
     → AreGoodParts scope facts ls ps
 parts_kept m scope facts ls ms v ps is same said = parts_at m scope facts ls ms v (verdict.Keep ps) is same said
-
-pub parts_refused : (m : Means) (scope : Scope) (facts ls ms : List Lit) (v : Verdict (List Part)) → ms ≡ ls → v ≡ verdict.Refuse → PartsAre m scope facts ms v
-    → All (Suffices m facts) ls → ⊥
-parts_refused m scope facts ls ms v is same said = parts_at m scope facts ls ms v verdict.Refuse is same said
 
 pub parts_stopped : (m : Means) (scope : Scope) (facts ls ms : List Lit) (v : Verdict (List Part)) (w : ℕ) → ms ≡ ls → v ≡ verdict.Stop w → PartsAre m scope facts ms v
     → (m ≡ means.Sums) × IsWideNeed facts ls w

@@ -1,5 +1,5 @@
 -- The search at one place of a clause: what is refused.
-use Rattle.std.proofs.Common.{◌≡◌, ℕ, zero, suc, ◌<◌, ◌≤◌, List, [], ◌∷◌, ◌++◌, refl, sym, ap, ◌∙◌, subst, arith, ◌+◌, Bool, true, false, ◌||◌, eqb, true≢false, get_or, length, map, take, ◌⊎◌, inl, inr, Some}
+use Rattle.std.proofs.Common.{◌≡◌, ℕ, zero, suc, ◌<◌, ◌≤◌, List, [], ◌∷◌, ◌++◌, refl, sym, ap, ◌∙◌, subst, arith, ◌+◌, Bool, true, false, eqb, true≢false, get_or, length, map, take, ◌⊎◌, inl, inr, Some}
 use Rattle.std.specs.Prelude.{slice_get, nat_lt}
 use Rattle.std.specs.List.{list_all}
 use Rattle.std.proofs.lemmas.Bool.{ltb-true}
@@ -10,7 +10,7 @@ use Rattle.e_literal.specs.declared.object.Sort.{Sort}
 use Rattle.e_literal.specs.declared.literal.Lit.{Lit}
 use Rattle.e_literal.specs.Literal.{negation, obj}
 use Rattle.e_literal.specs.Same.{same_lit}
-use Rattle.e_literal.specs.Facts.{has, is_metric}
+use Rattle.e_literal.specs.Facts.{is_metric}
 use Rattle.e_literal.proofs.Booleans.{and_left, and_right}
 use Rattle.e_clause.specs.Rows.{Row}
 use Rattle.e_clause.specs.Table.{table}
@@ -25,7 +25,7 @@ use Rattle.e_transfer.specs.declared.walk.Verdict.TheVariants as verdict
 use Rattle.e_transfer.specs.Giving.{Gives, IsFitting, Suffices, InstanceIs}
 use Rattle.e_transfer.specs.Placing.{Wanted, NoneFrom}
 use Rattle.e_transfer.proofs.Instances.{of_instance, literal_kept, arguments_kept}
-use Rattle.e_transfer.proofs.Needing.{fitting, diagram_stands}
+use Rattle.e_transfer.proofs.Needing.{fitting}
 
 -- ---- arguments, one by one
 
@@ -58,19 +58,8 @@ argument_added r c places v args new s n less pushed sort num before =
 
 -- ---- one literal
 
-not_of : (m : Means) (facts : List Lit) (l : Lit) → is_metric l ≡ false → has facts l ≡ false → Suffices m facts l → ⊥
-not_of m facts l diagram missing enough =
-    true≢false (sym (diagram_stands m facts l enough) ∙ ap (λ b. b || has facts l) diagram ∙ missing)
-
 abbrev pub IsAsked : Means → Lit → Type 0
 IsAsked m l = (m ≡ means.Facts) ⊎ (is_metric l ≡ false)
-
-facts_only : (m : Means) (facts : List Lit) (l : Lit) → m ≡ means.Facts → has facts l ≡ false → Suffices m facts l → ⊥
-facts_only m facts l is missing enough = true≢false (sym (subst (λ x. Suffices x facts l) is enough) ∙ missing)
-
-not_enough : (m : Means) (facts : List Lit) (l : Lit) → IsAsked m l → has facts l ≡ false → Suffices m facts l → ⊥
-not_enough m facts l (inl is) missing enough = facts_only m facts l is missing enough
-not_enough m facts l (inr diagram) missing enough = not_of m facts l diagram missing enough
 
 unfit : (m : Means) (facts : List Lit) (goal l : Lit) (b : Bool) → same_lit l goal ≡ false → (b ≡ false → Suffices m facts (negation l) → ⊥)
     → IsFitting m facts goal b l → ⊥
@@ -81,11 +70,6 @@ unfit m facts goal l false differs fails (inr enough) = fails refl enough
 -- at the goal's place only the goal may stand
 pub unfit_here : (m : Means) (facts : List Lit) (goal l : Lit) (b : Bool) → same_lit l goal ≡ false → b ≡ true → IsFitting m facts goal b l → ⊥
 unfit_here m facts goal l b differs here = unfit m facts goal l b differs (λ no enough. true≢false (sym here ∙ no))
-
--- elsewhere a literal may not stand whose negation is asked to be a fact and is none
-pub unfit_elsewhere : (m : Means) (facts : List Lit) (goal l : Lit) (b : Bool) → same_lit l goal ≡ false → IsAsked m (negation l) → has facts (negation l) ≡ false
-    → IsFitting m facts goal b l → ⊥
-unfit_elsewhere m facts goal l b differs asked missing = unfit m facts goal l b differs (λ no enough. not_enough m facts (negation l) asked missing enough)
 
 -- ---- a part
 

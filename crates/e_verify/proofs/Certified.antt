@@ -1,5 +1,5 @@
 -- When a line is certified, by the tests of its parts.
-use Rattle.std.proofs.Common.{◌≡◌, ℕ, zero, suc, ◌+◌, ◌<◌, ◌≤◌, ◌^◌, List, [], ◌∷◌, length, map, get_or, refl, sym, ap, subst, ◌∙◌, arith, Bool, true, false, ◌&&◌, Option, Some, None, true≢false, lt-ltb, le-ltb}
+use Rattle.std.proofs.Common.{◌≡◌, ℕ, zero, suc, ◌+◌, ◌<◌, ◌^◌, List, [], ◌∷◌, length, map, get_or, refl, sym, ap, subst, ◌∙◌, arith, Bool, true, false, ◌&&◌, Option, Some, None, true≢false, lt-ltb}
 use Rattle.std.specs.Prelude.{slice_get, option_and_then, nat_lt, unwrap_or, if◌then◌else◌}
 use Rattle.std.specs.List.{list_all}
 use Rattle.e_literal.specs.declared.object.Obj.{Obj}
@@ -61,14 +61,6 @@ in_range : {A : Type 0} (xs : List A) (k : ℕ) (x : A) → slice_get xs k ≡ S
 in_range [] k x e = absurd (none-some x e)
 in_range (y ∷ xs) zero x e = omega arith
 in_range (y ∷ xs) (suc k) x e = omega (arith, in_range xs k x e)
-
-none_there : {A : Type 0} (xs : List A) (k : ℕ) → slice_get xs k ≡ None → length xs ≤ k
-none_there [] k e = omega arith
-none_there (x ∷ xs) zero e = absurd (none-some x (sym e))
-none_there (x ∷ xs) (suc k) e = omega (arith, none_there xs k e)
-
-out_of_range : {A : Type 0} (xs : List A) (k : ℕ) → slice_get xs k ≡ None → nat_lt k (length xs) ≡ false
-out_of_range xs k e = le-ltb k (length xs) (none_there xs k e)
 
 rules : length table ≡ 105
 unfolding table incidence sides circles equality lengths angles
@@ -141,16 +133,6 @@ checked_apply before theorem args names certs t x after at blank fit k e =
     (λ rest goal. rw (low, fills_written args blank, fit', k', blank) refl) (apply_lines before theorem args names certs x)
     (stay_all x.facts (gives_of_use (theorem_at before theorem) (written args) x.scope)) (e ∙ ap (λ u. after_apply u (written args) x) (sym is))
 
-pub no_theorem : (before : List Stated) (theorem : ℕ) (args : List (Option Obj)) (names : List (List ℕ)) (certs : List Cert) (x after : Standing) → slice_get before theorem ≡ None → IsChecked before (Apply theorem args names certs) x after false
-no_theorem before theorem args names certs x after at = refused before (Apply theorem args names certs) x after (λ rest goal. rw (out_of_range before theorem at) refl)
-
-pub some_blank : (before : List Stated) (theorem : ℕ) (args : List (Option Obj)) (names : List (List ℕ)) (certs : List Cert) (x after : Standing) → has_no_blank args ≡ false → IsChecked before (Apply theorem args names certs) x after false
-some_blank before theorem args names certs x after h =
-    refused before (Apply theorem args names certs) x after
-    (λ rest goal. ap (λ b. is_applied before theorem x.scope args (written args) && (certify_all x.scope x.facts (needs_of_use (theorem_at before theorem) (written args) x.scope) certs && b)) h
-    ∙ ap (λ b. is_applied before theorem x.scope args (written args) && b) (and-false (certify_all x.scope x.facts (needs_of_use (theorem_at before theorem) (written args) x.scope) certs))
-    ∙ and-false (is_applied before theorem x.scope args (written args)))
-
 pub no_arguments : (before : List Stated) (theorem : ℕ) (args : List (Option Obj)) (names : List (List ℕ)) (certs : List Cert) (t : Stated) (x after : Standing) → slice_get before theorem ≡ Some t
     → are_arguments t x.scope (written args) ≡ false → IsChecked before (Apply theorem args names certs) x after false
 no_arguments before theorem args names certs t x after at h =
@@ -173,10 +155,6 @@ not_certified before theorem args names certs t x after at h =
 pub all_are_written : (v w : List Obj) (b : Bool) → Some v ≡ (if b then Some w else None) → (b ≡ true) × (v ≡ w)
 all_are_written v w true e = (refl, same_Some v w e)
 all_are_written v w false e = absurd (none-some v (sym e))
-
-pub one_is_blank : (w : List Obj) (b : Bool) → None ≡ (if b then Some w else None) → b ≡ false
-one_is_blank w true e = absurd (none-some w e)
-one_is_blank w false e = refl
 
 pub small_theorem : (before : List Stated) (k : ℕ) (t : Stated) → list_all is_small_statement before ≡ true → slice_get before k ≡ Some t → is_small_statement t ≡ true
 small_theorem [] k t h e = absurd (none-some t e)

@@ -129,9 +129,6 @@ pub record IsAdded (p : Place) (xs : List (ℤ × RowName)) (n : ℕ) (es : List
   pub signs : good_signs rows ≡ true
   pub has_strict : strict ≡ some_strict rows
 
-pub none_added : (p : Place) → IsAdded p [] 0 [] false
-none_added p = record { rows = []; named = refl; sum = λ t. refl; size = λ t. omega arith; signs = refl; has_strict = refl }
-
 total_more : (ws : List Weighed) (w : Weighed) (t : Term) → total (ws ++ w ∷ []) t ≡ total ws t +ℤ w.multiplier *ℤ coefficient w.row.form t
 total_more [] w t = omega (arith, sums)
 total_more (v ∷ ws) w t = omega (arith, sums, total_more ws w t)
@@ -173,9 +170,6 @@ whole p xs ys n es strict none size all a z =
   where
     same : none ≡ cancel a.rows
     same = same_bool none (cancel a.rows) (λ h. cancelled a.rows (λ t. sym (a.sum t) ∙ z.0 h t)) (λ h. z.1 (λ t. a.sum t ∙ all_cancel a.rows h t))
-
-pub not_whole : (p : Place) (xs : List (ℤ × RowName)) → is_good_size xs ≡ false → refutes p xs ≡ false
-not_whole p xs h = ap (λ b. b && option_map_or is_absurd (weighed_rows p xs) false) h
 
 pub all_get : {X : Type 0} (f : X → Bool) (xs : List X) (i : ℕ) (d : X) → list_all f xs ≡ true → i < length xs → f (get_or xs i d) ≡ true
 all_get f [] i d h k = absurd (omega (arith, k))
