@@ -2,12 +2,12 @@ use Rattle.std.proofs.Common.{None, Some, Ok, [], ◌∷◌, length, length-appe
 use Rattle.e_book.specs.Headed.{headed}
 use Rattle.e_book.specs.Entry.{entry_of}
 use Rattle.e_book.specs.Book.{last_line}
+use Rattle.e_book.proofs.Fitting.{one_more_stated}
 use Rattle.e_book.proofs.ReadSpelled.{read_is_spelled}
 use Rattle.e_run.specs.Outcome.{number_behind}
 use Rattle.e_run.specs.Answers.{Derived}
 use Rattle.e_run.proofs.History.{at_last, ends_counted, goes_on, breaks_off, breaks_inside, stopped, spelled_as, front_spelled_as}
 use Rattle.e_run.proofs.blocks.blocks.Goals as goal
-use Rattle.e_judgement.proofs.Passing.{small_more}
 
 pub returns-in_default-clause-ending : goal.returns-in_default-clause-ending
 returns-in_default-clause-ending g c =
@@ -33,7 +33,7 @@ loop-theorem-preserved g c =
     let d : Derived = record { theorem = entry_of c.in-Ok-Some.theorem; derivation = made.derivation } in
     let fewer = rw c.in-Ok-Some.field-0-is at c.in-Ok-Some.ensures.shorter in
     record {
-      small = rw c.in-Ok-keep.ensures (small_more c.loop-theorem.known (entry_of c.in-Ok-Some.theorem) c.loop-theorem.invariant.small (rw c.in-Ok-Some.field-0-is at c.in-Ok-Some.ensures.states));
+      small = rw c.in-Ok-keep.ensures (one_more_stated c.loop-theorem.known (entry_of c.in-Ok-Some.theorem).title (entry_of c.in-Ok-Some.theorem).statement c.loop-theorem.invariant.small (rw c.in-Ok-Some.field-0-is at c.in-Ok-Some.ensures.states));
       history = rw (c.in-Ok-keep.ensures, c.size-count.ensures) (goes_on c.args.lines.now.lines (g.K.Sink.written c.args.sink.now) (g.K.Sink.written c.loop-theorem.sink) (g.K.Sink.written c.write_all.new.sink) c.loop-theorem.known c.loop-theorem.lines.lines c.next_theorem.new.lines.lines c.loop-theorem.steps d c.loop-theorem.invariant.history read made.sound
           (spelled_as (g.K.Sink.written c.loop-theorem.sink) (g.K.Sink.written c.write_all.new.sink) c.deref.result.now c.in-Ok.block.items c.loop-theorem.known d c.deref.ensures.value made.spells c.in-Ok-write_all.ensures.ok));
       last = c.in-Ok-Some.ensures.last ∙ c.loop-theorem.invariant.last;
