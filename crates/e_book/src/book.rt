@@ -20,6 +20,7 @@ use crate::theorem::Theorem;
 use crate::words::collected;
 use e_text::Lines;
 use std::alloc::Global;
+use std::mem;
 
 fn starts_with_hash(word: &[u8]) -> bool
     ensures { result ≡ starts_with_hash word.now }
@@ -59,11 +60,19 @@ fn line_step(
     ensures fits { IfOk result FitsScope }
     ensures few { OnOk result (length known.now ≤ most_theorems) }
 {
-    let form = form_of(alloc, words)?;
-    match draft {
+    let form = match form_of(alloc, words) {
+        Ok(form) => form,
+        Err(trouble) => {
+            mem::drop(draft);
+            return Err(trouble);
+        }
+    };
+    let next = match draft {
         None => Draft::begin(alloc, known, &form),
         Some(draft) => draft.taking(alloc, known, &form),
-    }
+    };
+    mem::drop(form);
+    next
 }
 
 /// Reads line by line, up to the end of a theorem.

@@ -198,8 +198,13 @@ impl Draft {
         ensures value { Gives (λ d. d) result (step known.now self form.now) }
         ensures fits { IfOk result FitsScope }
     {
-        self.step(alloc, known, form)?;
-        Ok(self)
+        match self.step(alloc, known, form) {
+            Ok(()) => Ok(self),
+            Err(trouble) => {
+                mem::drop(self);
+                Err(trouble)
+            }
+        }
     }
 
     /// The next line: its form at this place, its names from left to right, then the limits.
@@ -490,12 +495,31 @@ impl Draft {
         ensures value { Moves result self.new (copies_begun self.old opened after given.now shown.now) }
         ensures fits { OnOk result (FitsScope self.new) }
     {
-        self.room_inside(given.len())?;
-        few_monos(shown)?;
-        let terms = terms_of(self.terms, given)?;
-        self.interrupt(alloc, opened, given.len())?;
+        if let Err(trouble) = self.room_inside(given.len()) {
+            mem::drop(opened);
+            mem::drop(after);
+            return Err(trouble);
+        }
+        if let Err(trouble) = few_monos(shown) {
+            mem::drop(opened);
+            mem::drop(after);
+            return Err(trouble);
+        }
+        let terms = match terms_of(self.terms, given) {
+            Ok(terms) => terms,
+            Err(trouble) => {
+                mem::drop(opened);
+                mem::drop(after);
+                return Err(trouble);
+            }
+        };
+        if let Err(trouble) = self.interrupt(alloc, opened, given.len()) {
+            mem::drop(after);
+            return Err(trouble.into());
+        }
         self.terms = terms;
-        self.in_scope = after;
+        let before = mem::replace(&mut self.in_scope, after);
+        mem::drop(before);
         Ok(())
     }
 
@@ -640,8 +664,24 @@ impl Draft {
         ensures value { Moves result self.new (resumed self.old (outer_with around (Opened.Claim shown)) self.old.outers shown (Claimed shown inner)) }
         ensures fits { OnOk result (FitsScope self.new) }
     {
-        let facts = facts_of(around.facts, shown.items())?;
-        let terms = terms_of(around.terms, shown.items())?;
+        let facts = match facts_of(around.facts, shown.items()) {
+            Ok(facts) => facts,
+            Err(trouble) => {
+                mem::drop(around);
+                mem::drop(shown);
+                mem::drop(inner);
+                return Err(trouble);
+            }
+        };
+        let terms = match terms_of(around.terms, shown.items()) {
+            Ok(terms) => terms,
+            Err(trouble) => {
+                mem::drop(around);
+                mem::drop(shown);
+                mem::drop(inner);
+                return Err(trouble);
+            }
+        };
         let inner = inner.into_box();
         let step = Step::Claim { shown, inner };
         self.resume(around, facts, terms, step)?;
@@ -694,9 +734,12 @@ impl Draft {
             in_scope,
             ..
         } = around;
-        self.steps = steps;
-        self.steps.push(step)?;
-        self.in_scope = in_scope;
+        mem::drop(mem::replace(&mut self.steps, steps));
+        if let Err(error) = self.steps.push(step) {
+            mem::drop(in_scope);
+            return Err(error);
+        }
+        mem::drop(mem::replace(&mut self.in_scope, in_scope));
         self.facts = facts;
         self.terms = terms;
         Ok(())
@@ -722,7 +765,17 @@ impl Draft {
             facts,
             terms,
         } = around;
-        self.in_scope = in_scope.copy(alloc)?;
+        let copied = match in_scope.copy(alloc) {
+            Ok(copied) => copied,
+            Err(error) => {
+                mem::drop(steps);
+                mem::drop(in_scope);
+                mem::drop(lit);
+                mem::drop(first);
+                return Err(error);
+            }
+        };
+        mem::drop(mem::replace(&mut self.in_scope, copied));
         self.facts = facts + 1;
         self.terms = terms + monomials(&lit);
         let opened = Opened::Second { lit, first };
@@ -744,8 +797,12 @@ impl Draft {
         ensures value { Moves result self.new (with_step self.old (plain_step step) given) }
         ensures fits { OnOk result (FitsScope self.new) }
     {
-        within(self.lines + 1, MAX_STEPS, What::Steps)?;
+        if let Err(trouble) = within(self.lines + 1, MAX_STEPS, What::Steps) {
+            mem::drop(step);
+            return Err(trouble);
+        }
         if given > MAX_FACTS - self.facts {
+            mem::drop(step);
             return Err(Trouble::Fault(Kind::Limit(What::Facts)));
         }
         self.steps.push(step)?;

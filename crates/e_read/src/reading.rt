@@ -111,11 +111,23 @@ fn next_line(alloc: Global, known: &Known, draft: Draft, form: &Form) -> Result<
     ensures fits { IfOk result (λ b. FitsBegun b.draft b.owed) }
 {
     if !is_apart(&draft, form) {
+        mem::drop(draft);
         return Err(Trouble::Fault(Kind::Malformed));
     }
-    let owed = owed_by(alloc, known, &draft, form)?;
-    let draft = draft.taking(alloc, known, form)?;
-    Ok(Begun { draft, owed })
+    let owed = match owed_by(alloc, known, &draft, form) {
+        Ok(owed) => owed,
+        Err(trouble) => {
+            mem::drop(draft);
+            return Err(trouble);
+        }
+    };
+    match draft.taking(alloc, known, form) {
+        Ok(draft) => Ok(Begun { draft, owed }),
+        Err(trouble) => {
+            mem::drop(owed);
+            Err(trouble)
+        }
+    }
 }
 
 impl Reading {
@@ -193,8 +205,8 @@ impl Reading {
         self.settle(alloc)?;
         let draft = self.draft.take();
         let Begun { draft, owed } = gone_on(alloc, known, draft, form)?;
-        self.draft = Some(draft);
-        self.owed = owed;
+        mem::drop(mem::replace(&mut self.draft, Some(draft)));
+        mem::drop(mem::replace(&mut self.owed, owed));
         Ok(())
     }
 
