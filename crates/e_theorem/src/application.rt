@@ -15,7 +15,7 @@ use std::alloc::{AllocError, Global};
 use thiserror::Error;
 
 /// What a use of a statement needs and gives, each in the statement's order.
-#[derive(Debug, Drop)]
+#[derive(Drop)]
 pub struct Applied {
     pub needs: Items<Lit>,
     pub gives: Items<Lit>,
