@@ -19,7 +19,7 @@ use e_transfer::{Outcome, Span, Task, Verdict, search};
 use std::alloc::{AllocError, Global};
 
 /// What is answered on the blanks of an application.
-#[derive(Debug, Drop)]
+#[derive(Drop)]
 pub enum Filled {
     /// All arguments, with the least good choice for the blanks.
     Found(Items<Obj>),

@@ -19,7 +19,7 @@ use std::alloc::{AllocError, Global};
 use std::marker::Model;
 
 /// What is answered on a literal.
-#[derive(Debug, Drop)]
+#[derive(Drop)]
 pub enum Licensed {
     /// It is allowed, by this certificate: as a fact where it is one.
     Yes(Cert),

@@ -21,7 +21,7 @@ use e_simplex::{Verdict, decide, width};
 use std::alloc::{AllocError, Global};
 
 /// What is told of a metric literal, or of the facts alone.
-#[derive(Debug, Drop)]
+#[derive(Drop)]
 pub enum Metric {
     /// The literal follows from the facts, or the facts contradict each other, by this certificate.
     Yes(MetricCert),

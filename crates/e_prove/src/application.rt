@@ -29,7 +29,7 @@ use e_theorem::{Applied, Statement, UseFault, use_of};
 use std::alloc::{AllocError, Global};
 
 /// An application as it is written.
-#[derive(Clone, Copy, Debug)]
+#[derive(Clone, Copy)]
 pub struct Application<'a> {
     /// The theorem's place among those before.
     pub theorem: u32,
@@ -38,7 +38,7 @@ pub struct Application<'a> {
 }
 
 /// An application with all its arguments: a certificate for each given literal there, and the shown literals.
-#[derive(Debug, Drop)]
+#[derive(Drop)]
 pub struct Use {
     pub args: Items<Obj>,
     pub certs: Vec<Cert>,

@@ -10,7 +10,7 @@ use e_literal::Values;
 use std::alloc::{AllocError, AllocFailed, Global};
 
 /// What the line lacks, with the values that show it; or what is too wide there, with its width; or want of memory.
-#[derive(Debug, Drop)]
+#[derive(Drop)]
 pub enum Halt {
     Lacks {
         wanted: Wanted,

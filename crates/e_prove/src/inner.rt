@@ -16,7 +16,7 @@ use e_text::Name;
 use std::alloc::Global;
 
 /// A superposition with its certificates, without its block.
-#[derive(Debug, Drop)]
+#[derive(Drop)]
 pub struct Head<'a> {
     pub form: &'a Superpose,
     pub names: &'a [Name],

@@ -19,14 +19,14 @@ use e_theorem::Statement;
 use std::alloc::{AllocError, Global};
 
 /// The objects in scope and the facts, and the names of the objects.
-#[derive(Debug, Drop)]
+#[derive(Drop)]
 pub struct Standing {
     pub context: Context,
     pub names: Names,
 }
 
 /// What an inner block is entered from.
-#[derive(Debug, Drop)]
+#[derive(Drop)]
 pub struct Outer {
     pub mark: Mark,
     pub names: Names,

@@ -18,7 +18,7 @@ use e_metric::{Known, Metric};
 use std::alloc::{AllocError, Global};
 
 /// What is said of a goal.
-#[derive(Debug, Drop)]
+#[derive(Drop)]
 pub enum Found {
     /// An instance of a transfer clause gives it, for these reasons.
     Yes(TransferCert),
