@@ -14,7 +14,7 @@ use e_text::{Name, Title, is};
 use std::alloc::Global;
 
 /// A line, by its first word.
-#[derive(Debug, Drop)]
+#[derive(Drop)]
 pub enum Form {
     /// `theorem TITLE`
     Theorem(Title),

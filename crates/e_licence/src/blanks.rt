@@ -23,7 +23,7 @@ use std::alloc::{AllocError, Global};
 use std::mem;
 
 /// What is answered on the blanks of an application.
-#[derive(Debug, Drop)]
+#[derive(Drop)]
 pub enum Filled {
     /// All arguments, with the least good choice for the blanks.
     Found(Items<Obj>),

@@ -20,7 +20,7 @@ use std::marker::Model;
 use std::mem;
 
 /// What is answered on a literal.
-#[derive(Debug, Drop)]
+#[derive(Drop)]
 pub enum Licensed {
     /// It is allowed, by this certificate: as a fact where it is one.
     Yes(Cert),

@@ -26,7 +26,7 @@ use std::alloc::{AllocError, Global};
 use std::mem;
 
 /// What is told of a metric literal, or of the facts alone.
-#[derive(Debug, Drop)]
+#[derive(Drop)]
 pub enum Metric {
     /// The literal follows from the facts, or the facts contradict each other, by this certificate.
     Yes(MetricCert),

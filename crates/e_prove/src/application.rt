@@ -30,7 +30,7 @@ use std::alloc::{AllocError, Global};
 use std::mem;
 
 /// An application as it is written.
-#[derive(Clone, Copy, Debug)]
+#[derive(Clone, Copy)]
 pub struct Application<'a> {
     /// The theorem's place among those before.
     pub theorem: u32,
@@ -39,7 +39,7 @@ pub struct Application<'a> {
 }
 
 /// An application with all its arguments: a certificate for each given literal there, and the shown literals.
-#[derive(Debug, Drop)]
+#[derive(Drop)]
 pub struct Use {
     pub args: Items<Obj>,
     pub certs: Vec<Cert>,

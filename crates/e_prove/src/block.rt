@@ -17,21 +17,21 @@ use std::alloc::Global;
 use std::mem;
 
 /// A block with its certificates, and the number of the line behind it.
-#[derive(Debug, Drop)]
+#[derive(Drop)]
 pub struct ProvedBlock {
     pub block: Block,
     pub next: u32,
 }
 
 /// A step with its certificates, and the number of the line behind it.
-#[derive(Debug, Drop)]
+#[derive(Drop)]
 pub struct ProvedStep {
     pub step: Step,
     pub next: u32,
 }
 
 /// A close with its certificates, and the number of the line behind it.
-#[derive(Debug, Drop)]
+#[derive(Drop)]
 pub struct ProvedClose {
     pub close: Close,
     pub next: u32,

@@ -11,7 +11,7 @@ use std::alloc::{AllocError, AllocFailed, Global};
 use std::mem;
 
 /// What the line lacks, with the values that show it; or what is too wide there, with its width; or want of memory.
-#[derive(Debug, Drop)]
+#[derive(Drop)]
 pub enum Halt {
     Lacks {
         wanted: Wanted,

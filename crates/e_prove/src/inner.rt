@@ -17,7 +17,7 @@ use std::alloc::{AllocError, Global};
 use std::mem;
 
 /// A superposition with its certificates, without its block.
-#[derive(Debug, Drop)]
+#[derive(Drop)]
 pub struct Head<'a> {
     pub form: &'a Superpose,
     pub names: &'a [Name],

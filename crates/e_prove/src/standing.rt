@@ -20,14 +20,14 @@ use std::alloc::{AllocError, Global};
 use std::mem;
 
 /// The objects in scope and the facts, and the names of the objects.
-#[derive(Debug, Drop)]
+#[derive(Drop)]
 pub struct Standing {
     pub context: Context,
     pub names: Names,
 }
 
 /// What an inner block is entered from.
-#[derive(Debug, Drop)]
+#[derive(Drop)]
 pub struct Outer {
     pub mark: Mark,
     pub names: Names,

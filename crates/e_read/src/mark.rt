@@ -9,7 +9,7 @@ use e_text::{Name, Title, is, number};
 use std::alloc::Global;
 
 /// A row of a sum with its names as they are spelled.
-#[derive(Debug, Drop)]
+#[derive(Drop)]
 pub enum RawRow {
     /// `fact LITERAL`
     Fact(RawLit),
@@ -30,7 +30,7 @@ pub enum RawRow {
 }
 
 /// A line of a certificate, behind its sign.
-#[derive(Debug, Drop)]
+#[derive(Drop)]
 pub enum Mark {
     /// `fact`
     Fact,

@@ -18,7 +18,7 @@ use std::alloc::{AllocError, Global};
 use thiserror::Error;
 
 /// What stands in a derivation text.
-#[derive(Debug, Drop)]
+#[derive(Drop)]
 pub enum Piece {
     /// A theorem with its derivation.
     Theorem(Theorem),

@@ -20,7 +20,7 @@ use e_text::{Lines, Title};
 use std::alloc::{AllocError, Global};
 
 /// How the blocks of a book end.
-#[derive(Debug, Drop)]
+#[derive(Drop)]
 pub enum Ending {
     /// All theorems are taken; they have so many step and close lines.
     All { theorems: u32, steps: u32 },
@@ -31,7 +31,7 @@ pub enum Ending {
 }
 
 /// Why the blocks break off.
-#[derive(Clone, Copy, Debug, PartialEq, Eq)]
+#[derive(Clone, Copy, PartialEq, Eq)]
 pub enum Broken {
     NoMemory,
     WriteFault,

@@ -10,7 +10,7 @@ use e_literal::{Atom, Items, Term};
 use std::alloc::{AllocError, Global};
 
 /// What is known of one variable, or of two. Variables are named by their places among the rule's arguments.
-#[derive(Clone, Copy, PartialEq, Eq, Debug)]
+#[derive(Clone, Copy, PartialEq, Eq)]
 pub enum Bind {
     /// The variable stands for the object with this number.
     Is(usize, u16),

@@ -19,7 +19,7 @@ use std::alloc::{AllocError, Global};
 use std::mem;
 
 /// What is said of a goal.
-#[derive(Debug, Drop)]
+#[derive(Drop)]
 pub enum Found {
     /// An instance of a transfer clause gives it, for these reasons.
     Yes(TransferCert),

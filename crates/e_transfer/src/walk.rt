@@ -7,14 +7,14 @@ use std::alloc::{AllocError, Global};
 use std::mem;
 
 /// The numbers from one up to another, which is not one of them.
-#[derive(Clone, Copy, PartialEq, Eq, Debug)]
+#[derive(Clone, Copy, PartialEq, Eq)]
 pub struct Span {
     pub from: u16,
     pub to: u16,
 }
 
 /// What a judge says of the first numbers of a choice.
-#[derive(Debug, Drop)]
+#[derive(Drop)]
 pub enum Verdict<P> {
     /// Go on; if the choice is whole, it is good.
     Keep(P),
@@ -25,7 +25,7 @@ pub enum Verdict<P> {
 }
 
 /// What a search says.
-#[derive(Debug, Drop)]
+#[derive(Drop)]
 pub enum Outcome<P> {
     Found(P),
     Nothing,

@@ -15,7 +15,7 @@ use std::alloc::{AllocError, Global};
 use std::marker::Model;
 
 /// A fact with its fingerprint, by which most literals that are not the same are told from it at once. Contracts see the literal.
-#[derive(Debug, Drop)]
+#[derive(Drop)]
 struct Fact {
     lit: Lit,
     fingerprint: u128,
@@ -51,7 +51,7 @@ impl Fact {
 }
 
 /// The facts before a line, which contracts see as their list. No two that are put in are the same.
-#[derive(Debug, Drop)]
+#[derive(Drop)]
 pub struct Facts {
     lits: Vec<Fact>,
 }

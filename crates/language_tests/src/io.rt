@@ -1,4 +1,4 @@
-use crate::{
+use e_io::{
     Failed, MemSink, MemSource, NullSink, Sink, Source, StdSink, StdSource, SureSource, write_all,
 };
 use std::alloc::Global;

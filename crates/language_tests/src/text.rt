@@ -1,5 +1,5 @@
-use crate::laws::{name_read_again, title_read_again};
-use crate::{Line, LineEnd, LineFault, Lines, Name, Title, number, numeral, reserved, tokens};
+use e_text::laws::{name_read_again, title_read_again};
+use e_text::{Line, LineEnd, LineFault, Lines, Name, Title, number, numeral, reserved, tokens};
 use std::process::Abort;
 use std::test::Fail;
 

@@ -1,6 +1,6 @@
 //! The book of one theorem, and where the second uses the first.
 
-use crate::generated;
+use e_generate::generated;
 use std::test::Fail;
 
 const FIRST: &str = "theorem G1

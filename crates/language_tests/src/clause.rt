@@ -1,6 +1,6 @@
 // Names and instances, against the rules as docs/rules.md tells them.
 
-use super::*;
+use e_clause::{InstanceFault, RowName, Rule, Sig, Sum, instance};
 use e_literal::{Atom, Obj, Sort, Term};
 use std::test::Fail;
 

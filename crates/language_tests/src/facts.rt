@@ -1,6 +1,6 @@
 // What no clause can say: that a call succeeds, and values from outside.
 
-use crate::{Added, Facts};
+use e_facts::{Added, Facts};
 use e_literal::{Atom, Form, Lit, Mono, Term, negate, normal, same};
 use std::alloc::Global;
 use std::test::Fail;

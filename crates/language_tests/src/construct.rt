@@ -1,6 +1,6 @@
 // Each shape at objects of its own, against docs/rules.md.
 
-use super::*;
+use e_construct::{Construction, Piece, Shape, Superpose, all_shapes, may_avoid, pieces, takes};
 use e_literal::{Items, Lit, Obj, Scope, Sort};
 use std::test::Fail;
 

@@ -1,6 +1,6 @@
 // What no clause can say: that a call succeeds, and values from outside.
 
-use crate::{
+use e_literal::{
     Atom, Form, Items, Kind, Lit, Map, Mono, Obj, Scope, Sort, Term, Values, copy, in_scope, kind,
     negate, normal, rename, same,
 };
@@ -62,8 +62,8 @@ fn less(alloc: Global, text: &str) -> Result<Lit, Fail> {
 // Whether `same`, in both directions, and the normal forms answer what is wanted.
 fn agrees(alloc: Global, a: &Lit, b: &Lit, want: bool) -> Result<bool, Fail> {
     let (left, right) = (normal(alloc, a)?, normal(alloc, b)?);
-    let equal = left == right && left.is_equal(&right) && left.cmp(&right).is_eq();
-    let differ = left != right && !left.is_equal(&right) && left.cmp(&right).is_ne();
+    let equal = left == right && left.is_equal(&right);
+    let differ = left != right && !left.is_equal(&right);
     let forms = if want { equal } else { differ };
     Ok(forms && same(a, b) == want && same(b, a) == want)
 }

@@ -1,10 +1,10 @@
 // Worked values.
 
-use crate::entry::{Wide, cross};
-use crate::row::{Row, RowKind, have_small_coefficients};
-use crate::signed::{Signed, are_distinct};
-use crate::sum::{are_good_multipliers, check_sum};
-use crate::widths::width;
+use e_fraction::entry::{Wide, cross};
+use e_fraction::row::{Row, RowKind, have_small_coefficients};
+use e_fraction::signed::{Signed, are_distinct};
+use e_fraction::sum::{are_good_multipliers, check_sum};
+use e_fraction::widths::width;
 use e_literal::Term;
 use std::alloc::{AllocError, Global};
 use std::process::Abort;
