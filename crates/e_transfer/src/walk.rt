@@ -4,6 +4,7 @@ ghost use Rattle.std.specs.Prelude.{◌≡◌, ℕ, List, IfOk, ◌<◌, length}
 ghost use Rattle.e_transfer.specs.Outcome.{VerdictIs, OutcomeIs};
 
 use std::alloc::{AllocError, Global};
+use std::mem;
 
 /// The numbers from one up to another, which is not one of them.
 #[derive(Clone, Copy, PartialEq, Eq)]
@@ -72,6 +73,7 @@ pub fn search<T: Task>(
     match spans {
         [] => Ok(Outcome::Found(proof)),
         [span, rest @ ..] => {
+            mem::drop(proof);
             for value in span.from..span.to {
                 chosen.push(value)?;
                 match search(alloc, task, rest, chosen)? {
