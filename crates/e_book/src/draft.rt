@@ -177,9 +177,7 @@ fn count_given(alloc: Global, form: &Construction, scope: Scope) -> Result<usize
     ensures { IfOk result (λ n. n ≡ length (gives form.now scope)) }
 {
     let given = form.gives(alloc, scope)?;
-    let count = given.len();
-    mem::drop(given);
-    Ok(count)
+    Ok(given.len())
 }
 
 impl Draft {
@@ -389,20 +387,8 @@ impl Draft {
         ensures fits { OnOk result (FitsScope self.new) }
     {
         let form = let_in(alloc, &self.in_scope, raw)?;
-        let given = match count_given(alloc, &form, scope_of_names(&self.in_scope)) {
-            Ok(given) => given,
-            Err(error) => {
-                mem::drop(form);
-                return Err(error.into());
-            }
-        };
-        let names = match self.bring_in(alloc, form.made(), raw.new.items()) {
-            Ok(names) => names,
-            Err(trouble) => {
-                mem::drop(form);
-                return Err(trouble);
-            }
-        };
+        let given = count_given(alloc, &form, scope_of_names(&self.in_scope))?;
+        let names = self.bring_in(alloc, form.made(), raw.new.items())?;
         let step = Step::Make {
             form,
             names,
@@ -458,13 +444,7 @@ impl Draft {
     {
         let Application { theorem, args } = application;
         let blanks = count_blanks(args.items());
-        let names = match self.bring_in(alloc, statement.made.items(), new) {
-            Ok(names) => names,
-            Err(trouble) => {
-                mem::drop(args);
-                return Err(trouble);
-            }
-        };
+        let names = self.bring_in(alloc, statement.made.items(), new)?;
         let step = Step::Apply {
             theorem,
             args,
@@ -528,18 +508,9 @@ impl Draft {
         ensures fits { OnOk result (FitsScope self.new) }
     {
         let mut shown = Items::empty(alloc);
-        if let Err(trouble) = put_lits(alloc, &self.in_scope, raw, &mut shown) {
-            mem::drop(shown);
-            return Err(trouble);
-        }
-        if let Err(trouble) = self.room_inside(0) {
-            mem::drop(shown);
-            return Err(trouble);
-        }
-        if let Err(trouble) = few_monos(raw) {
-            mem::drop(shown);
-            return Err(trouble);
-        }
+        put_lits(alloc, &self.in_scope, raw, &mut shown)?;
+        self.room_inside(0)?;
+        few_monos(raw)?;
         self.interrupt(alloc, Opened::Claim { shown }, 0)?;
         Ok(())
     }
@@ -552,34 +523,11 @@ impl Draft {
         ensures fits { OnOk result (FitsScope self.new) }
     {
         let Placement { form, shown } = superpose_in(alloc, &self.in_scope, raw)?;
-        let after = match names_with(alloc, &self.in_scope, form.made(), raw.new.items()) {
-            Ok(after) => after,
-            Err(trouble) => {
-                mem::drop(shown);
-                return Err(trouble);
-            }
-        };
-        let given = match form.gives(alloc, scope_of_names(&self.in_scope)) {
-            Ok(given) => given,
-            Err(error) => {
-                mem::drop(shown);
-                mem::drop(after);
-                return Err(error.into());
-            }
-        };
-        let names = match Vec::from_slice(alloc, raw.new.items()) {
-            Ok(names) => Items::new(names),
-            Err(error) => {
-                mem::drop(shown);
-                mem::drop(after);
-                mem::drop(given);
-                return Err(error.into());
-            }
-        };
+        let given = form.gives(alloc, scope_of_names(&self.in_scope))?;
+        let names = Items::new(Vec::from_slice(alloc, raw.new.items())?);
+        let after = names_with(alloc, &self.in_scope, form.made(), raw.new.items())?;
         let opened = Opened::Superpose { form, names, shown };
-        let begun = self.begin_copies(alloc, opened, after, &given, raw.shown.items());
-        mem::drop(given);
-        begun
+        self.begin_copies(alloc, opened, after, &given, raw.shown.items())
     }
 
     /// The block of a superposition begins with these names and facts: the limits of steps, of depth and of facts, those

@@ -20,7 +20,6 @@ use e_deriv::Names;
 use e_literal::{Atom, Items, Lit, Obj, Scope, Sort};
 use e_text::{Name, Title, contains, place_of};
 use std::alloc::{AllocError, Global};
-use std::mem;
 
 /// How many objects of each sort have names.
 pub fn scope_of_names(names: &Names) -> Scope
@@ -417,7 +416,6 @@ fn first_fitting(
             return Ok(form);
         }
     }
-    mem::drop(form);
     Err(Trouble::Fault(Kind::Malformed))
 }
 
@@ -432,7 +430,6 @@ pub fn let_in(alloc: Global, names: &Names, raw: &RawLet) -> Result<Construction
     let avoid = objects_used(alloc, names, raw.avoid.items())?;
     let form = first_fitting(scope_of_names(names), args, avoid, raw.shapes.items())?;
     if raw.new.len() != form.made().len() {
-        mem::drop(form);
         return Err(Trouble::Fault(Kind::Malformed));
     }
     Ok(form)
