@@ -20,7 +20,7 @@ use e_words::{put, put_names};
 use std::alloc::{AllocError, Global};
 
 /// The use of an earlier theorem with its names as they are spelled, from left to right.
-#[derive(Debug, Drop)]
+#[derive(Drop)]
 pub struct RawApply {
     pub title: Title,
     /// The names of the arguments, and blanks.
@@ -143,7 +143,7 @@ pub(crate) fn count_blanks(pattern: &[Option<Obj>]) -> usize
 }
 
 /// The place of an earlier theorem, and what stands for its declared objects.
-#[derive(Debug, Drop)]
+#[derive(Drop)]
 pub struct Application {
     pub theorem: u32,
     pub args: Items<Option<Obj>>,

@@ -12,7 +12,7 @@ use std::alloc::{AllocError, Global};
 use std::marker::Model;
 
 /// A block that is closed, seen as its script.
-#[derive(Debug, Drop)]
+#[derive(Drop)]
 pub struct Closed {
     block: Box<Block>,
 }
@@ -47,7 +47,7 @@ impl Closed {
 }
 
 /// What began a block inside another.
-#[derive(Debug, Drop)]
+#[derive(Drop)]
 pub enum Opened {
     /// `claim`, with the literals that the block shows.
     Claim {
@@ -71,7 +71,7 @@ pub enum Opened {
 }
 
 /// A block that another one inside it interrupts.
-#[derive(Debug, Drop)]
+#[derive(Drop)]
 pub struct Outer {
     /// Its steps so far.
     pub steps: Steps,
@@ -86,7 +86,7 @@ pub struct Outer {
 }
 
 /// The blocks that are interrupted, seen as a list with the innermost first.
-#[derive(Debug, Drop)]
+#[derive(Drop)]
 pub struct Outers {
     outers: Vec<Outer>,
 }

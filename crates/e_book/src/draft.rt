@@ -30,7 +30,7 @@ use std::alloc::{AllocError, Global};
 use std::{mem, slice};
 
 /// Which lines may come.
-#[derive(Clone, Copy, Debug, PartialEq, Eq)]
+#[derive(Clone, Copy, PartialEq, Eq)]
 pub enum Place {
     Declaring,
     Giving,
@@ -44,7 +44,7 @@ pub enum Place {
 }
 
 /// What the lines of a theorem have said so far.
-#[derive(Debug, Drop)]
+#[derive(Drop)]
 pub struct Draft {
     pub title: Title,
     /// The names of the statement's objects: of the declared ones and, behind them, of the made ones.
@@ -71,7 +71,7 @@ pub struct Draft {
 }
 
 /// A block as it was when an inner one interrupted it.
-#[derive(Debug, Drop)]
+#[derive(Drop)]
 struct Around {
     steps: Steps,
     in_scope: Names,

@@ -9,7 +9,7 @@ use std::alloc::{AllocError, AllocFailed};
 use thiserror::Error;
 
 /// What is wrong with a line.
-#[derive(Clone, Copy, Debug, PartialEq, Eq)]
+#[derive(Clone, Copy, PartialEq, Eq)]
 pub enum Kind {
     Malformed,
     UnknownName,
@@ -51,7 +51,7 @@ pub enum What {
 }
 
 /// What is wrong with a line, or want of memory.
-#[derive(Debug, Drop)]
+#[derive(Drop)]
 pub enum Trouble {
     NoMemory,
     Fault(Kind),

@@ -15,7 +15,7 @@ use std::alloc::Global;
 use std::mem;
 
 /// A line, by its first word.
-#[derive(Debug, Drop)]
+#[derive(Drop)]
 pub enum Form {
     /// `theorem TITLE`
     Theorem(Title),

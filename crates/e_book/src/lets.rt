@@ -13,7 +13,7 @@ use e_text::{Name, is};
 use std::alloc::{AllocError, Global};
 
 /// A construction with its names as they are spelled, each list from left to right.
-#[derive(Debug, Drop)]
+#[derive(Drop)]
 pub struct RawLet {
     /// The shapes whose line it is, in the order of their table: which one is told by the sorts of the arguments.
     pub shapes: Items<Shape>,

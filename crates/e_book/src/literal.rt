@@ -13,7 +13,7 @@ use std::alloc::Global;
 use std::mem;
 
 /// An atom with its names as they are spelled.
-#[derive(Debug, Drop)]
+#[derive(Drop)]
 pub enum RawAtom {
     /// A point on a line or a circle.
     On(Name, Name),
@@ -38,14 +38,14 @@ pub enum RawAtom {
 }
 
 /// An atom with or without negation. `x != y` and `not x = y` are read alike.
-#[derive(Debug, Drop)]
+#[derive(Drop)]
 pub struct RawLit {
     pub neg: bool,
     pub atom: RawAtom,
 }
 
 /// The sign of a comparison.
-#[derive(Clone, Copy, Debug)]
+#[derive(Clone, Copy)]
 pub(crate) enum Sign {
     /// `=`
     Equal,

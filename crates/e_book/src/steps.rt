@@ -11,7 +11,7 @@ use std::alloc::{AllocError, Global};
 use std::marker::Model;
 
 /// What the close line of a proof says.
-#[derive(Debug, Drop)]
+#[derive(Drop)]
 pub enum CloseLine {
     /// `qed`, with the objects for the made ones.
     Qed(Items<Obj>),
@@ -47,7 +47,7 @@ impl CloseLine {
 }
 
 /// The steps of a block read so far, seen as their list.
-#[derive(Debug, Drop)]
+#[derive(Drop)]
 pub struct Steps {
     steps: Vec<Step>,
 }

@@ -15,7 +15,7 @@ use std::alloc::Global;
 pub const MAX_COEFFICIENT: u32 = 1_000_000;
 
 /// A term with its points as they are spelled.
-#[derive(Debug, Drop)]
+#[derive(Drop)]
 pub enum RawTerm {
     /// A segment.
     Seg(Name, Name),
@@ -28,7 +28,7 @@ pub enum RawTerm {
 }
 
 /// A term with its coefficient.
-#[derive(Debug, Drop)]
+#[derive(Drop)]
 pub struct RawMono {
     /// The coefficient as it is written, or 1; one more than a coefficient may be where it is larger.
     pub coeff: u32,

@@ -16,7 +16,7 @@ use e_text::Name;
 use std::alloc::Global;
 
 /// A superposition with its names as they are spelled, from left to right.
-#[derive(Debug, Drop)]
+#[derive(Drop)]
 pub struct RawSuperpose {
     /// The triangle and its line, and then the place and its line.
     pub args: Items<Name>,
@@ -124,7 +124,7 @@ fn placed_in(names: &Names, args: &[Name]) -> Result<Superpose, Trouble>
 }
 
 /// A superposition, and the literals that its block shows.
-#[derive(Debug, Drop)]
+#[derive(Drop)]
 pub struct Placement {
     pub form: Superpose,
     pub shown: Items<Lit>,

@@ -5,7 +5,7 @@ use e_text::Title;
 use e_theorem::Statement;
 
 /// A theorem with its script.
-#[derive(Debug, Drop)]
+#[derive(Drop)]
 pub struct Theorem {
     pub title: Title,
     /// The names of the declared objects and, behind them, of the made ones.

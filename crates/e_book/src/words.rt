@@ -88,7 +88,7 @@ pub(crate) fn some_names(alloc: Global, words: &[&[u8]]) -> Result<Items<Name>, 
 }
 
 /// The words of a line that are still to be read, seen as their texts.
-#[derive(Debug, Drop)]
+#[derive(Drop)]
 pub struct Words<'b, 'a> {
     rest: &'b [&'a [u8]],
 }

@@ -13,7 +13,7 @@ use crate::shapes::row;
 use e_literal::Obj;
 
 /// A piece of a line behind the word `let`: the name of a new object, the name of the next argument, or a word.
-#[derive(Clone, Copy, Debug)]
+#[derive(Clone, Copy)]
 pub enum Piece {
     New,
     Argument,

@@ -13,7 +13,7 @@ use e_literal::{Atom, Lit, Obj, Scope, Sort, count, with_one};
 use std::alloc::{AllocError, Global};
 
 /// The arguments in the places of their variables, and the new objects in the places of theirs.
-#[derive(Clone, Copy, Debug)]
+#[derive(Clone, Copy)]
 pub struct Naming<'a> {
     pub letters: &'a [Obj],
     pub objects: &'a [Obj],

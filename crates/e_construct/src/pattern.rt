@@ -3,7 +3,7 @@
 use e_literal::{Obj, Sort};
 
 /// A diagram relation between variables.
-#[derive(Clone, Copy, Debug)]
+#[derive(Clone, Copy)]
 pub enum Relation {
     On(Obj, Obj),
     OnC(Obj, Obj),
@@ -18,7 +18,7 @@ pub enum Relation {
 }
 
 /// A relation, or its negation.
-#[derive(Clone, Copy, Debug)]
+#[derive(Clone, Copy)]
 pub enum Pattern {
     Is(Relation),
     Not(Relation),
@@ -26,7 +26,7 @@ pub enum Pattern {
 
 /// What a construction may avoid: nothing, any objects, or any objects where those of the variable's
 /// sort have to differ from its argument.
-#[derive(Clone, Copy, Debug)]
+#[derive(Clone, Copy)]
 pub enum Avoids {
     NoObject,
     AnyObject,
@@ -35,7 +35,7 @@ pub enum Avoids {
 
 /// A shape: its arguments in the order of the line, what it needs, what it makes, with the sorts of
 /// that, what it gives, and what it may avoid.
-#[derive(Clone, Copy, Debug)]
+#[derive(Clone, Copy)]
 pub struct Row {
     pub args: &'static [Obj],
     pub needs: &'static [Pattern],

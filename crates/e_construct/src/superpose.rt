@@ -1,6 +1,6 @@
 // Superposition: a triangle is put onto a point, along a line.
 
-ghost use Rattle.std.specs.Prelude.{◌≡◌, ◌∷◌, [], ◌<◌, ◌+◌, ◌^◌, ◌++◌, IfOk, OnOk, false, true};
+ghost use Rattle.std.specs.Prelude.{◌≡◌, ◌∷◌, [], ◌<◌, ◌+◌, ◌^◌, ◌++◌, map, IfOk, OnOk, false, true};
 ghost use Rattle.std.specs.Prelude.{nat_lt};
 ghost use Rattle.std.specs.List.{list_all};
 ghost use Rattle.e_construct.specs.Shapes;
@@ -64,13 +64,16 @@ impl Superpose {
         let [_, l] = self.lines;
         let p = scope.points;
         let q = p + 1;
+        let equals = [
+            (Term::Seg(a, b), Term::Seg(d, p)),
+            (Term::Seg(b, c), Term::Seg(p, q)),
+            (Term::Seg(c, a), Term::Seg(q, d)),
+            (Term::Ang(a, b, c), Term::Ang(d, p, q)),
+            (Term::Ang(b, c, a), Term::Ang(p, q, d)),
+            (Term::Ang(c, a, b), Term::Ang(q, d, p)),
+        ];
         let mut lits = Vec::new(alloc);
-        lits.push(equal(alloc, Term::Seg(a, b), Term::Seg(d, p))?)?;
-        lits.push(equal(alloc, Term::Seg(b, c), Term::Seg(p, q))?)?;
-        lits.push(equal(alloc, Term::Seg(c, a), Term::Seg(q, d))?)?;
-        lits.push(equal(alloc, Term::Ang(a, b, c), Term::Ang(d, p, q))?)?;
-        lits.push(equal(alloc, Term::Ang(b, c, a), Term::Ang(p, q, d))?)?;
-        lits.push(equal(alloc, Term::Ang(c, a, b), Term::Ang(q, d, p))?)?;
+        extend(alloc, &mut lits, &equals)?;
         lits.push(is(Atom::On(p, l)))?;
         lits.push(isnt(Atom::Between(p, d, g)))?;
         lits.push(is(Atom::Same(q, h, l)))?;
@@ -94,6 +97,16 @@ fn isnt(atom: Atom) -> Lit
     ensures { result ≡ Shapes.isnt (Shapes.is atom) }
 {
     Lit { neg: true, atom }
+}
+
+/// Adds that the magnitudes of each pair are equal.
+fn extend(alloc: Global, lits: &mut Vec<Lit>, equals: &[(Term, Term)]) -> Result<(), AllocError>
+    ensures { OnOk result (lits.new.items ≡ lits.old.items ++ map (λ x. Superposing.equal x.0 x.1) equals.now) }
+{
+    for pair in equals {
+        lits.push(equal(alloc, pair.0, pair.1)?)?;
+    }
+    Ok(())
 }
 
 /// That two magnitudes are equal.

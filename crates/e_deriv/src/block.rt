@@ -9,7 +9,7 @@ use e_text::Name;
 ///
 /// A script has no certificates; a derivation has one for each literal that a line needs.
 #[cycle(block)]
-#[derive(Debug, Drop)]
+#[derive(Drop)]
 pub struct Block {
     pub steps: Vec<Step>,
     pub close: Close,
@@ -17,7 +17,7 @@ pub struct Block {
 
 /// A step, after which what it gives are facts.
 #[cycle(block)]
-#[derive(Debug, Drop)]
+#[derive(Drop)]
 pub enum Step {
     /// The literal is one of an instance of the rule, and the negation of each other one is a fact.
     Cite(By),
@@ -61,7 +61,7 @@ pub enum Step {
 
 /// The end of a block.
 #[cycle(block)]
-#[derive(Debug, Drop)]
+#[derive(Drop)]
 pub enum Close {
     /// Each literal of the goal is allowed, with these objects for its made ones.
     Qed {

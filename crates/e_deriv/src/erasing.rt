@@ -1,11 +1,13 @@
 //! Blocks without their certificates.
-ghost use Rattle.std.specs.Prelude.{◌≡◌, IfOk};
+ghost use Rattle.std.specs.Prelude.{◌≡◌, [], IfOk};
+ghost use Rattle.e_deriv.specs.declared.block.Step.TheVariants.{Make as MakeStep, Apply as ApplyStep};
 ghost use Rattle.e_deriv.specs.Script.{Script, script_of, step_script, close_script, erased};
 
 use crate::block::{Block, Close, Step};
 use e_clause::By;
 use e_construct::Construction;
 use e_literal::{Items, Lit, Obj, copy};
+use e_text::Name;
 use std::alloc::{AllocError, Global};
 
 /// The script of a block: the same lines without their certificates.
@@ -30,38 +32,20 @@ fn erase_step(alloc: Global, step: &Step) -> Result<Step, AllocError>
 {
     match step {
         Step::Cite(by) => Ok(Step::Cite(copy_by(alloc, by)?)),
-        Step::Hence { lit, .. } => {
-            let lit = copy(alloc, lit)?;
-            Ok(Step::Hence { lit, cert: None })
-        }
-        Step::Make { form, names, .. } => {
-            let form = copy_construction(alloc, form)?;
-            let names = Vec::from_slice(alloc, names.items())?;
-            Ok(Step::Make {
-                form,
-                names: Items::new(names),
-                certs: Items::empty(alloc),
-            })
-        }
+        Step::Hence { lit, .. } => Ok(Step::Hence {
+            lit: copy(alloc, lit)?,
+            cert: None,
+        }),
+        Step::Make { form, names, .. } => bare_make(alloc, form, names.items()),
         Step::Apply {
             theorem,
             args,
             names,
             ..
-        } => {
-            let args = Vec::from_slice(alloc, args.items())?;
-            let new = Vec::from_slice(alloc, names.items())?;
-            Ok(Step::Apply {
-                theorem: *theorem,
-                args: Items::new(args),
-                names: Items::new(new),
-                certs: Items::empty(alloc),
-            })
-        }
+        } => bare_apply(alloc, *theorem, args.items(), names.items()),
         Step::Claim { shown, inner } => {
+            let inner = Box::new(alloc, erase(alloc, inner)?)?;
             let shown = copy_lits(alloc, shown.items())?;
-            let inner = erase(alloc, inner)?;
-            let inner = Box::new(alloc, inner)?;
             Ok(Step::Claim { shown, inner })
         }
         Step::Superposed {
@@ -71,13 +55,12 @@ fn erase_step(alloc: Global, step: &Step) -> Result<Step, AllocError>
             inner,
             ..
         } => {
-            let copied = Vec::from_slice(alloc, names.items())?;
+            let inner = Box::new(alloc, erase(alloc, inner)?)?;
             let shown = copy_lits(alloc, shown.items())?;
-            let inner = erase(alloc, inner)?;
-            let inner = Box::new(alloc, inner)?;
+            let names = copy_names(alloc, names.items())?;
             Ok(Step::Superposed {
                 form: *form,
-                names: Items::new(copied),
+                names,
                 shown,
                 certs: Items::empty(alloc),
                 inner,
@@ -101,12 +84,44 @@ fn erase_close(alloc: Global, close: &Close) -> Result<Close, AllocError>
         }
         Close::Contradiction { .. } => Ok(Close::Contradiction { against: None }),
         Close::Cases { lit, first, second } => {
-            let lit = copy(alloc, lit)?;
             let first = Box::new(alloc, erase(alloc, first)?)?;
             let second = Box::new(alloc, erase(alloc, second)?)?;
+            let lit = copy(alloc, lit)?;
             Ok(Close::Cases { lit, first, second })
         }
     }
+}
+
+/// The step of a construction, without certificates.
+fn bare_make(alloc: Global, form: &Construction, names: &[Name]) -> Result<Step, AllocError>
+    ensures { IfOk result (λ s. s ≡ MakeStep form.now names.now []) }
+{
+    let names = copy_names(alloc, names)?;
+    let form = copy_construction(alloc, form)?;
+    Ok(Step::Make {
+        form,
+        names,
+        certs: Items::empty(alloc),
+    })
+}
+
+/// The step of an application, without certificates.
+fn bare_apply(
+    alloc: Global,
+    theorem: u32,
+    args: &[Option<Obj>],
+    names: &[Name],
+) -> Result<Step, AllocError>
+    ensures { IfOk result (λ s. s ≡ ApplyStep theorem args.now names.now []) }
+{
+    let args = Vec::from_slice(alloc, args)?;
+    let names = copy_names(alloc, names)?;
+    Ok(Step::Apply {
+        theorem,
+        args: Items::new(args),
+        names,
+        certs: Items::empty(alloc),
+    })
 }
 
 /// Equal literals.
@@ -147,4 +162,10 @@ fn copy_objects(alloc: Global, objects: &[Obj]) -> Result<Items<Obj>, AllocError
     ensures { IfOk result (λ o. o ≡ objects.now) }
 {
     Ok(Items::new(Vec::from_slice(alloc, objects)?))
+}
+
+fn copy_names(alloc: Global, names: &[Name]) -> Result<Items<Name>, AllocError>
+    ensures { IfOk result (λ n. n ≡ names.now) }
+{
+    Ok(Items::new(Vec::from_slice(alloc, names)?))
 }

@@ -7,7 +7,7 @@ use e_text::Name;
 use std::alloc::{AllocError, Global};
 
 /// The names of the objects of each sort, in the order of their numbers.
-#[derive(Debug, Drop)]
+#[derive(Drop)]
 pub struct Names {
     pub points: Items<Name>,
     pub lines: Items<Name>,

@@ -7,7 +7,7 @@ use e_literal::{Lit, Values};
 use std::alloc::{AllocError, AllocFailed};
 
 /// What an unlicensed line lacks.
-#[derive(Debug, Drop)]
+#[derive(Drop)]
 pub enum Wanted {
     /// The first literal that is not allowed; the cited one of a citation.
     Literal(Lit),
@@ -18,7 +18,7 @@ pub enum Wanted {
 }
 
 /// The first line that is not licensed, or one that is too wide to be judged, or want of memory.
-#[derive(Debug, Drop)]
+#[derive(Drop)]
 pub enum Stop {
     Unlicensed {
         /// The line's number among the step and close lines, from 1.

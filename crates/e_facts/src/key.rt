@@ -6,7 +6,7 @@ ghost use Rattle.e_facts.specs.Key.{key_of_lit, parts_of_atom};
 use e_literal::{Atom, Lit};
 
 /// The relation of a diagram literal.
-#[derive(Clone, Copy, PartialEq, Eq, Hash, Debug)]
+#[derive(Clone, Copy, PartialEq, Eq, Hash)]
 pub enum Relation {
     OnLine,
     OnCircle,
@@ -23,7 +23,7 @@ pub enum Relation {
 }
 
 /// A diagram literal as a small value: its sign, its relation, and its numbers, with 0 for the third of two.
-#[derive(Clone, Copy, PartialEq, Eq, Hash, Debug)]
+#[derive(Clone, Copy, PartialEq, Eq, Hash)]
 pub struct Key {
     pub negated: bool,
     pub relation: Relation,

@@ -5,8 +5,6 @@ pub mod entry;
 pub mod row;
 pub mod signed;
 pub mod sum;
-#[cfg(test)]
-mod tests;
 pub mod widths;
 
 pub use entry::{Wide, cross};

@@ -9,7 +9,7 @@ use crate::signed::Signed;
 use e_literal::Term;
 
 /// What a row says of its form: that it is 0, at least 0, more than 0, or not 0.
-#[derive(Clone, Copy, PartialEq, Eq, Debug)]
+#[derive(Clone, Copy, PartialEq, Eq)]
 pub enum RowKind {
     Zero,
     AtLeast,
@@ -18,7 +18,7 @@ pub enum RowKind {
 }
 
 /// A row: a form, and what is said of it.
-#[derive(Debug, Drop)]
+#[derive(Drop)]
 pub struct Row {
     pub kind: RowKind,
     pub form: Signed,

@@ -11,7 +11,7 @@ use std::alloc::Global;
 use std::marker::Model;
 
 /// A sum of terms with coefficients, no term twice, which contracts see as the list of its pairs.
-#[derive(Debug, Drop)]
+#[derive(Drop)]
 pub struct Signed {
     summands: Vec<(i64, Term)>,
 }

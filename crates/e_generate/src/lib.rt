@@ -2,7 +2,5 @@
 #![tactic(auto)]
 
 mod generating;
-#[cfg(test)]
-mod tests;
 
 pub use generating::generated;

@@ -11,7 +11,7 @@ use std::alloc::AllocError;
 use std::marker::Model;
 
 /// The objects in scope and the facts, which are in scope, well formed and not too many.
-#[derive(Debug, Drop)]
+#[derive(Drop)]
 pub struct Context {
     scope: Scope,
     facts: Facts,
@@ -30,7 +30,7 @@ impl Model for Context {
 }
 
 /// Where a block begins: the objects in scope, and how many facts there are.
-#[derive(Clone, Copy, Debug)]
+#[derive(Clone, Copy)]
 pub struct Mark {
     pub scope: Scope,
     pub facts: usize,

@@ -14,7 +14,7 @@ use e_metric::{Metric, absurd};
 use std::alloc::{AllocError, Global};
 
 /// What is answered on whether the facts contradict each other.
-#[derive(Debug, Drop)]
+#[derive(Drop)]
 pub enum Refuted {
     /// They do, by this certificate.
     Yes(Against),

@@ -17,9 +17,10 @@ use e_metric::{Known, Metric};
 use e_transfer::{Found, find, find_by_facts, find_by_sums};
 use std::alloc::{AllocError, Global};
 use std::marker::Model;
+use std::mem;
 
 /// What is answered on a literal.
-#[derive(Debug, Drop)]
+#[derive(Drop)]
 pub enum Licensed {
     /// It is allowed, by this certificate: as a fact where it is one.
     Yes(Cert),
@@ -85,7 +86,9 @@ pub fn licence(alloc: Global, context: &Context, lit: &Lit) -> Result<Licensed, 
     ensures { IfOk result (IsLicence context.now lit.now) }
 {
     let mut judge = Judge::new(context);
-    judge.licence(alloc, lit)
+    let licensed = judge.licence(alloc, lit);
+    mem::drop(judge);
+    licensed
 }
 
 // What is known of the facts, which is taken out, or asked where nothing is known yet.
@@ -127,7 +130,7 @@ fn diagram<'a>(
     }
     let knowledge = knowledge(alloc, facts, known)?;
     let licensed = diagram_by(alloc, scope, facts, &knowledge, lit);
-    *known = Some(knowledge);
+    mem::drop(mem::replace(known, Some(knowledge)));
     licensed
 }
 
@@ -171,7 +174,7 @@ fn metric<'a>(
 {
     let knowledge = knowledge(alloc, facts, known)?;
     let licensed = metric_by(alloc, scope, facts, &knowledge, lit);
-    *known = Some(knowledge);
+    mem::drop(mem::replace(known, Some(knowledge)));
     licensed
 }
 

@@ -10,7 +10,7 @@ use std::alloc::{AllocError, Global};
 use std::marker::Model;
 
 /// An object and its image.
-#[derive(Clone, Copy, PartialEq, Eq, Debug)]
+#[derive(Clone, Copy, PartialEq, Eq)]
 pub struct Entry {
     pub source: Obj,
     pub target: Obj,
@@ -19,7 +19,7 @@ pub struct Entry {
 /// A finite map from objects to objects of their sorts.
 ///
 /// Contracts see the list of what was set, the last first; the image of an object is that of the first entry with it.
-#[derive(Debug, Drop)]
+#[derive(Drop)]
 pub struct Map {
     entries: Vec<Entry>,
 }

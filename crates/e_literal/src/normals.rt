@@ -12,16 +12,15 @@ use std::collections::BTreeMap;
 /// The normal form of a literal. Those of two literals are equal exactly where the literals are the same.
 ///
 /// A diagram literal is its own normal form. Of a metric one all terms stand on one side, each in its normal order and once,
-/// and those with coefficient 0 are dropped; an equation has one normal form for both signs. The order of normal forms means
-/// nothing else: it is for maps and sorted lists.
-#[derive(PartialEq, Eq, PartialOrd, Ord, Hash, Debug, Drop)]
+/// and those with coefficient 0 are dropped; an equation has one normal form for both signs.
+#[derive(PartialEq, Eq, Drop)]
 pub struct Normal {
     pub(crate) negated: bool,
     pub(crate) atom: NormalAtom,
 }
 
 // An atom with its two sums in one.
-#[derive(PartialEq, Eq, PartialOrd, Ord, Hash, Debug, Drop)]
+#[derive(PartialEq, Eq, Drop)]
 pub(crate) enum NormalAtom {
     On(u16, u16),
     OnC(u16, u16),

@@ -17,6 +17,7 @@ use e_literal::compare::canonical;
 use e_literal::{Term, copy};
 use e_simplex::Absurdity;
 use std::alloc::{AllocError, Global};
+use std::mem;
 
 /// An equal name.
 pub fn copied(alloc: Global, name: &RowName) -> Result<RowName, AllocError>
@@ -113,12 +114,13 @@ fn turned(alloc: Global, multipliers: &[i128], place: usize) -> Result<Vec<i128>
     Ok(weights)
 }
 
-// Gives the row another name.
-fn name_row(names: &mut Vec<RowName>, row: usize, name: RowName)
+// Gives the row another name, and hands out the one that it had.
+fn name_row(names: &mut Vec<RowName>, row: usize, now: RowName) -> RowName
     requires { row < length names.old.items }
-    ensures { names.new.items ≡ set names.old.items row name }
+    ensures before { result ≡ get_or names.old.items row name.Goal }
+    ensures after { names.new.items ≡ set names.old.items row now }
 {
-    names[row] = name;
+    mem::replace(&mut names[row], now)
 }
 
 // The two sums where the row at `row` says that its form is not 0.
@@ -140,16 +142,26 @@ fn two_sums(
     ensures { IfOk result (λ s. s ≡ TwoSums (get_or names.items row name.Goal) (Certificate.sum_of (set names.items row name.Above) rows.now above.now above.now terms.now) (Certificate.sum_of (set names.items row name.Below) rows.now below.now (Certificate.turned below.now row) terms.now)) }
 {
     let weights = turned(alloc, below, row)?;
-    let differs = copied(alloc, &names[row])?;
-    name_row(&mut names, row, RowName::Above);
-    let above = sum_of(alloc, &names, rows, above, above, terms)?;
-    name_row(&mut names, row, RowName::Below);
-    let below = sum_of(alloc, &names, rows, below, &weights, terms)?;
-    Ok(Sums::Two {
-        differs,
-        above,
-        below,
-    })
+    let differs = name_row(&mut names, row, RowName::Above);
+    let above = match sum_of(alloc, &names, rows, above, above, terms) {
+        Ok(above) => above,
+        Err(error) => {
+            mem::drop(differs);
+            return Err(error);
+        }
+    };
+    mem::drop(name_row(&mut names, row, RowName::Below));
+    match sum_of(alloc, &names, rows, below, &weights, terms) {
+        Ok(below) => Ok(Sums::Two {
+            differs,
+            above,
+            below,
+        }),
+        Err(error) => {
+            mem::drop(differs);
+            Err(error)
+        }
+    }
 }
 
 // Puts equal rows of a sum last.
@@ -185,11 +197,15 @@ pub fn copied_certificate(alloc: Global, cert: &MetricCert) -> Result<MetricCert
             differs,
             above,
             below,
-        } => Sums::Two {
-            differs: copied(alloc, differs)?,
-            above: copied_sum(alloc, above)?,
-            below: copied_sum(alloc, below)?,
-        },
+        } => {
+            let above = copied_sum(alloc, above)?;
+            let below = copied_sum(alloc, below)?;
+            Sums::Two {
+                differs: copied(alloc, differs)?,
+                above,
+                below,
+            }
+        }
     };
     Ok(MetricCert { sums })
 }

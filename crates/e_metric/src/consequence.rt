@@ -6,6 +6,10 @@ ghost use Rattle.e_literal.specs.WellFormed.{is_well_formed};
 ghost use Rattle.e_clause.specs.Assignment.{terms_of_lits};
 ghost use Rattle.e_clause.specs.Metric.{MetricConsequence, Unsatisfiable};
 ghost use Rattle.e_clause.specs.Laws.{is_good_wanted};
+ghost use Rattle.e_fraction.specs.Limits.{all_small};
+ghost use Rattle.e_fraction.specs.Views.{all_seen};
+ghost use Rattle.e_simplex.specs.Answer.{IsAbsurdity};
+ghost use Rattle.e_metric.specs.Certificate;
 ghost use Rattle.e_metric.specs.Listed.{listed};
 ghost use Rattle.e_metric.specs.Told.{IsTold, IsToldOf, IsYes, IfYes, IfNo};
 
@@ -17,11 +21,12 @@ use e_clause::{MetricCert, RowName};
 use e_facts::Facts;
 use e_fraction::Row;
 use e_literal::{Kind, Lit, Term, Values, kind};
-use e_simplex::{Verdict, decide, width};
+use e_simplex::{Absurdity, Verdict, decide, width};
 use std::alloc::{AllocError, Global};
+use std::mem;
 
 /// What is told of a metric literal, or of the facts alone.
-#[derive(Debug, Drop)]
+#[derive(Drop)]
 pub enum Metric {
     /// The literal follows from the facts, or the facts contradict each other, by this certificate.
     Yes(MetricCert),
@@ -64,6 +69,27 @@ pub fn summed_terms(
     Ok(terms)
 }
 
+/// The certificate that multipliers of the rows of a kind make.
+pub fn certificate_of(
+    alloc: Global,
+    which: Kind,
+    facts: &Facts,
+    wanted: Option<&Lit>,
+    names: Vec<RowName>,
+    rows: &[Row],
+    absurdity: &Absurdity,
+) -> Result<MetricCert, AllocError>
+    requires names { length names.items ≡ length rows.now }
+    requires few { length rows.now ≤ 4096 }
+    requires coefficients { IsTrue (all_small rows.now) }
+    requires refuted { IsAbsurdity (all_seen rows.now) absurdity.now }
+    ensures { IfOk result (λ m. m.sums ≡ Certificate.sums_of names.items rows.now (listed (Rattle.e_metric.specs.Listed.terms_of_kind which facts.now (option_copied wanted.entry)) (Term.Right ∷ [])) absurdity.now) }
+{
+    let terms = summed_terms(alloc, which, facts, wanted)?;
+    let sums = sums_of(alloc, names, rows, &terms, absurdity)?;
+    Ok(MetricCert { sums })
+}
+
 /// What the system of one kind tells.
 pub fn told_of(
     alloc: Global,
@@ -82,9 +108,33 @@ pub fn told_of(
         Verdict::Holds(values) => Ok(Metric::No(values)),
         Verdict::TooWide => Ok(Metric::TooWide(width(&rows))),
         Verdict::Absurd(absurdity) => {
-            let terms = summed_terms(alloc, which, facts, wanted)?;
-            let sums = sums_of(alloc, names, &rows, &terms, &absurdity)?;
-            Ok(Metric::Yes(MetricCert { sums }))
+            let certified = certificate_of(alloc, which, facts, wanted, names, &rows, &absurdity);
+            mem::drop(absurdity);
+            Ok(Metric::Yes(certified?))
+        }
+    }
+}
+
+// What the systems of two kinds tell.
+fn told_of_both(
+    alloc: Global,
+    one: Kind,
+    other: Kind,
+    facts: &Facts,
+    wanted: Option<&Lit>,
+) -> Result<(Metric, Metric), AllocError>
+    requires facts { IsTrue (list_all is_well_formed facts.now) }
+    requires few { length (terms_of_lits facts.now) ≤ 1100 }
+    requires wanted { IsTrue (is_good_wanted (option_copied wanted)) }
+    ensures one { IfOk result (λ p. IsToldOf one facts.now (option_copied wanted.entry) p.0) }
+    ensures other { IfOk result (λ p. IsToldOf other facts.now (option_copied wanted.entry) p.1) }
+{
+    let first = told_of(alloc, one, facts, wanted)?;
+    match told_of(alloc, other, facts, wanted) {
+        Ok(second) => Ok((first, second)),
+        Err(error) => {
+            mem::drop(first);
+            Err(error)
         }
     }
 }
@@ -106,21 +156,27 @@ fn told_from(
     ensures areas { IfOk result (λ p. IsToldOf Kind.Area facts.now (option_copied wanted.entry) p.2) }
 {
     match which {
-        Kind::Segment => {
-            let angles = told_of(alloc, Kind::Angle, facts, wanted)?;
-            let areas = told_of(alloc, Kind::Area, facts, wanted)?;
-            Ok((own, angles, areas))
-        }
-        Kind::Angle => {
-            let segments = told_of(alloc, Kind::Segment, facts, wanted)?;
-            let areas = told_of(alloc, Kind::Area, facts, wanted)?;
-            Ok((segments, own, areas))
-        }
-        Kind::Area => {
-            let segments = told_of(alloc, Kind::Segment, facts, wanted)?;
-            let angles = told_of(alloc, Kind::Angle, facts, wanted)?;
-            Ok((segments, angles, own))
-        }
+        Kind::Segment => match told_of_both(alloc, Kind::Angle, Kind::Area, facts, wanted) {
+            Ok((angles, areas)) => Ok((own, angles, areas)),
+            Err(error) => {
+                mem::drop(own);
+                Err(error)
+            }
+        },
+        Kind::Angle => match told_of_both(alloc, Kind::Segment, Kind::Area, facts, wanted) {
+            Ok((segments, areas)) => Ok((segments, own, areas)),
+            Err(error) => {
+                mem::drop(own);
+                Err(error)
+            }
+        },
+        Kind::Area => match told_of_both(alloc, Kind::Segment, Kind::Angle, facts, wanted) {
+            Ok((segments, angles)) => Ok((segments, angles, own)),
+            Err(error) => {
+                mem::drop(own);
+                Err(error)
+            }
+        },
     }
 }
 
@@ -129,8 +185,11 @@ fn sooner(first: Metric, second: Metric) -> Metric
     ensures { (result ≡ first) ⊎ (IsYes second × (result ≡ second)) }
 {
     match second {
-        Metric::Yes(cert) => Metric::Yes(cert),
-        _ => first,
+        Metric::Yes(cert) => {
+            mem::drop(first);
+            Metric::Yes(cert)
+        }
+        Metric::No(_) | Metric::TooWide(_) => first,
     }
 }
 

@@ -9,14 +9,14 @@ ghost use Rattle.e_clause.specs.Laws.{is_good_wanted};
 ghost use Rattle.e_clause.specs.System;
 ghost use Rattle.e_clause.specs.System.{system, rows_of_system};
 ghost use Rattle.e_fraction.specs.Views.{all_seen};
-ghost use Rattle.e_simplex.specs.Answer.{AreValuesOf};
+ghost use Rattle.e_simplex.specs.Answer.{AreValuesOf, IsRefuted};
 ghost use Rattle.e_metric.specs.Further.{further, extended};
 ghost use Rattle.e_metric.specs.Kept.{AreNamed, IsGround};
 ghost use Rattle.e_metric.specs.Listed;
-ghost use Rattle.e_metric.specs.Told.{IsToldOf};
+ghost use Rattle.e_metric.specs.Told.{IsCertified, IsToldOf};
 
-use crate::certificates::{copied, sums_of};
-use crate::consequence::{Metric, split, summed_terms};
+use crate::certificates::copied;
+use crate::consequence::{Metric, certificate_of, split};
 use crate::evaluating::{are_so, extended};
 use crate::listing::fresh_terms;
 use crate::systems::{rows_of_goal, system};
@@ -24,8 +24,9 @@ use e_clause::{MetricCert, RowName};
 use e_facts::Facts;
 use e_fraction::{Row, Signed};
 use e_literal::{Kind, Lit, Term, Values};
-use e_simplex::{Settled, Verdict, width};
+use e_simplex::{Absurdity, Settled, Verdict, width};
 use std::alloc::{AllocError, Global};
+use std::mem;
 
 /// The rows of the facts of one kind with their names and their terms, and what is settled of them.
 #[derive(Drop)]
@@ -112,6 +113,30 @@ impl Ground {
         Ok(rows)
     }
 
+    // The certificate that multipliers of the rows, and of those of the goal, make.
+    fn certified(
+        &self,
+        alloc: Global,
+        which: Kind,
+        facts: &Facts,
+        goal: &Lit,
+        names: &[RowName],
+        rows: &[Row],
+        absurdity: &Absurdity,
+    ) -> Result<MetricCert, AllocError>
+        requires ground { IsGround which facts.now self.now }
+        requires facts { IsTrue (list_all is_well_formed facts.now) }
+        requires few { length (terms_of_lits facts.now) ≤ 1100 }
+        requires goal { IsTrue (is_good_wanted (Some goal.now)) }
+        requires more { AreNamed (further which facts.now goal.now) names.now rows.now }
+        requires refuted { IsRefuted (all_seen (self.now.settled ++ rows.now)) absurdity.now }
+        ensures { IfOk result (IsCertified facts.now (Some goal.now)) }
+    {
+        let names = self.names_with(alloc, names)?;
+        let rows = self.rows_with(alloc, rows)?;
+        certificate_of(alloc, which, facts, Some(goal), names, &rows, absurdity)
+    }
+
     // What is told where the goal has these rows, by what is settled.
     fn decided(
         &self,
@@ -136,11 +161,9 @@ impl Ground {
                 Ok(Metric::TooWide(width))
             }
             Verdict::Absurd(absurdity) => {
-                let names = self.names_with(alloc, names)?;
-                let rows = self.rows_with(alloc, rows)?;
-                let terms = summed_terms(alloc, which, facts, Some(goal))?;
-                let sums = sums_of(alloc, names, &rows, &terms, &absurdity)?;
-                Ok(Metric::Yes(MetricCert { sums }))
+                let certified = self.certified(alloc, which, facts, goal, names, rows, &absurdity);
+                mem::drop(absurdity);
+                Ok(Metric::Yes(certified?))
             }
         }
     }

@@ -10,8 +10,8 @@ ghost use Rattle.e_clause.specs.Metric.{MetricConsequence, Unsatisfiable};
 ghost use Rattle.e_metric.specs.Kept.{IsSide, AreSides, IsToldBeside};
 ghost use Rattle.e_metric.specs.Told.{IsTold, IsToldOf, IfYes, IfNo};
 
-use crate::certificates::{copied_certificate, sums_of};
-use crate::consequence::{Metric, joined, split, summed_terms, told_of};
+use crate::certificates::copied_certificate;
+use crate::consequence::{Metric, certificate_of, joined, split, told_of};
 use crate::ground::{Ground, copied_rows};
 use crate::listing::terms_of_kind;
 use crate::systems::system;
@@ -21,6 +21,7 @@ use e_literal::{Kind, Lit, kind};
 use e_simplex::{Settling, settle, width};
 use std::alloc::{AllocError, Global};
 use std::marker::Model;
+use std::mem;
 
 /// What the facts of one kind tell.
 #[derive(Drop)]
@@ -50,21 +51,19 @@ fn side_of(alloc: Global, which: Kind, facts: &Facts) -> Result<Side, AllocError
     let named = system(alloc, which, facts, None)?;
     let (names, rows) = split(alloc, named)?;
     let kept = copied_rows(alloc, &rows)?;
+    let terms = terms_of_kind(alloc, which, facts, None)?;
     match settle(alloc, rows)? {
         Settling::TooWide => Ok(Side::TooWide(width(&kept))),
-        Settling::Settled(settled) => {
-            let terms = terms_of_kind(alloc, which, facts, None)?;
-            Ok(Side::Solved(Ground {
-                names,
-                rows: kept,
-                terms,
-                settled,
-            }))
-        }
+        Settling::Settled(settled) => Ok(Side::Solved(Ground {
+            names,
+            rows: kept,
+            terms,
+            settled,
+        })),
         Settling::Absurd(absurdity) => {
-            let terms = summed_terms(alloc, which, facts, None)?;
-            let sums = sums_of(alloc, names, &kept, &terms, &absurdity)?;
-            Ok(Side::Absurd(MetricCert { sums }))
+            let certified = certificate_of(alloc, which, facts, None, names, &kept, &absurdity);
+            mem::drop(absurdity);
+            Ok(Side::Absurd(certified?))
         }
     }
 }
@@ -112,6 +111,21 @@ impl Side {
     }
 }
 
+// What is told of two kinds where no literal of them is wanted.
+fn both_beside(alloc: Global, one: &Side, other: &Side) -> Result<(Metric, Metric), AllocError>
+    ensures one { IfOk result (λ p. IsToldBeside one.now p.0) }
+    ensures other { IfOk result (λ p. IsToldBeside other.now p.1) }
+{
+    let first = one.beside(alloc)?;
+    match other.beside(alloc) {
+        Ok(second) => Ok((first, second)),
+        Err(error) => {
+            mem::drop(first);
+            Err(error)
+        }
+    }
+}
+
 impl Sides {
     // What the systems of the facts alone tell.
     fn told_alone(&self, alloc: Global, facts: &Facts) -> Result<Metric, AllocError>
@@ -119,10 +133,15 @@ impl Sides {
         requires facts { IsTrue (list_all is_well_formed facts.now) }
         ensures { IfOk result (IsTold facts.now None) }
     {
-        let segments = self.segments.beside(alloc)?;
-        let angles = self.angles.beside(alloc)?;
-        let areas = self.areas.beside(alloc)?;
-        joined(alloc, facts, None, segments, angles, areas)
+        let (segments, angles) = both_beside(alloc, &self.segments, &self.angles)?;
+        match self.areas.beside(alloc) {
+            Ok(areas) => joined(alloc, facts, None, segments, angles, areas),
+            Err(error) => {
+                mem::drop(segments);
+                mem::drop(angles);
+                Err(error)
+            }
+        }
     }
 
     // What the facts of each kind tell: the system of each is asked once.
@@ -132,13 +151,25 @@ impl Sides {
         ensures { IfOk result (AreSides facts.now) }
     {
         let segments = side_of(alloc, Kind::Segment, facts)?;
-        let angles = side_of(alloc, Kind::Angle, facts)?;
-        let areas = side_of(alloc, Kind::Area, facts)?;
-        Ok(Sides {
-            segments,
-            angles,
-            areas,
-        })
+        let angles = match side_of(alloc, Kind::Angle, facts) {
+            Ok(angles) => angles,
+            Err(error) => {
+                mem::drop(segments);
+                return Err(error);
+            }
+        };
+        match side_of(alloc, Kind::Area, facts) {
+            Ok(areas) => Ok(Sides {
+                segments,
+                angles,
+                areas,
+            }),
+            Err(error) => {
+                mem::drop(segments);
+                mem::drop(angles);
+                Err(error)
+            }
+        }
     }
 
     // What the system of the goal's kind tells.
@@ -181,21 +212,27 @@ impl Sides {
         let _ = facts;
         let _ = goal;
         match which {
-            Kind::Segment => {
-                let angles = self.angles.beside(alloc)?;
-                let areas = self.areas.beside(alloc)?;
-                Ok((own, angles, areas))
-            }
-            Kind::Angle => {
-                let segments = self.segments.beside(alloc)?;
-                let areas = self.areas.beside(alloc)?;
-                Ok((segments, own, areas))
-            }
-            Kind::Area => {
-                let segments = self.segments.beside(alloc)?;
-                let angles = self.angles.beside(alloc)?;
-                Ok((segments, angles, own))
-            }
+            Kind::Segment => match both_beside(alloc, &self.angles, &self.areas) {
+                Ok((angles, areas)) => Ok((own, angles, areas)),
+                Err(error) => {
+                    mem::drop(own);
+                    Err(error)
+                }
+            },
+            Kind::Angle => match both_beside(alloc, &self.segments, &self.areas) {
+                Ok((segments, areas)) => Ok((segments, own, areas)),
+                Err(error) => {
+                    mem::drop(own);
+                    Err(error)
+                }
+            },
+            Kind::Area => match both_beside(alloc, &self.segments, &self.angles) {
+                Ok((segments, angles)) => Ok((segments, angles, own)),
+                Err(error) => {
+                    mem::drop(own);
+                    Err(error)
+                }
+            },
         }
     }
 

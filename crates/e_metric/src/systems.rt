@@ -77,11 +77,13 @@ fn add_term_row(
     match term {
         Term::Seg(a, b) => {
             if are_apart(facts, a, b) {
-                rows.push((RowName::Pos(term), positive(alloc, term)?))?;
+                let row = positive(alloc, term)?;
+                rows.push((RowName::Pos(term), row))?;
             }
         }
         Term::Ang(a, b, c) => {
-            rows.push((RowName::Top(term), at_most_two_right(alloc, a, b, c)?))?;
+            let row = at_most_two_right(alloc, a, b, c)?;
+            rows.push((RowName::Top(term), row))?;
         }
         Term::Area(_, _, _) | Term::Right => {}
     }
@@ -112,7 +114,10 @@ fn add_right_row(
     ensures { OnOk result (GrowBy (rows_of_kind which) rows.old.items rows.new.items) }
 {
     match which {
-        Kind::Angle => rows.push((RowName::Right, positive(alloc, Term::Right)?))?,
+        Kind::Angle => {
+            let row = positive(alloc, Term::Right)?;
+            rows.push((RowName::Right, row))?;
+        }
         Kind::Segment | Kind::Area => {}
     }
     Ok(())

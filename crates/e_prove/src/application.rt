@@ -27,9 +27,10 @@ use e_literal::{Items, Lit, Obj};
 use e_text::Name;
 use e_theorem::{Applied, Statement, UseFault, use_of};
 use std::alloc::{AllocError, Global};
+use std::mem;
 
 /// An application as it is written.
-#[derive(Clone, Copy, Debug)]
+#[derive(Clone, Copy)]
 pub struct Application<'a> {
     /// The theorem's place among those before.
     pub theorem: u32,
@@ -38,7 +39,7 @@ pub struct Application<'a> {
 }
 
 /// An application with all its arguments: a certificate for each given literal there, and the shown literals.
-#[derive(Debug, Drop)]
+#[derive(Drop)]
 pub struct Use {
     pub args: Items<Obj>,
     pub certs: Vec<Cert>,
@@ -60,15 +61,16 @@ pub fn apply(
     ensures kept { IfErr result (UnlessNoMemory (standing.new ≡ standing.old)) }
 {
     let used = used(alloc, statement, application.args, &standing.context)?;
-    let derived = Step::Apply {
-        theorem: application.theorem,
-        args: without_blanks(alloc, used.args.items())?,
-        names: Items::new(Vec::from_slice(alloc, application.names)?),
-        certs: Items::new(used.certs),
-    };
+    let args = without_blanks(alloc, used.args.items())?;
+    let names = Vec::from_slice(alloc, application.names)?;
     standing.grow(statement.made.items(), application.names)?;
     standing.join_equal(alloc, used.gives.items())?;
-    Ok(derived)
+    Ok(Step::Apply {
+        theorem: application.theorem,
+        args,
+        names: Items::new(names),
+        certs: Items::new(used.certs),
+    })
 }
 
 /// The application of a statement, where it is good.
@@ -120,10 +122,13 @@ fn as_match(halt: Halt) -> Halt
     ensures { result ≡ Halts.as_match halt }
 {
     match halt {
-        Halt::TooWide { width, .. } => Halt::TooWide {
-            wanted: Wanted::Match,
-            width,
-        },
+        Halt::TooWide { wanted, width } => {
+            mem::drop(wanted);
+            Halt::TooWide {
+                wanted: Wanted::Match,
+                width,
+            }
+        }
         halt => halt,
     }
 }

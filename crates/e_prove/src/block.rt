@@ -14,23 +14,24 @@ use crate::step::{cite, hence, make, superpose};
 use e_deriv::{Block, Close, Step, Stop};
 use e_theorem::Statement;
 use std::alloc::Global;
+use std::mem;
 
 /// A block with its certificates, and the number of the line behind it.
-#[derive(Debug, Drop)]
+#[derive(Drop)]
 pub struct ProvedBlock {
     pub block: Block,
     pub next: u32,
 }
 
 /// A step with its certificates, and the number of the line behind it.
-#[derive(Debug, Drop)]
+#[derive(Drop)]
 pub struct ProvedStep {
     pub step: Step,
     pub next: u32,
 }
 
 /// A close with its certificates, and the number of the line behind it.
-#[derive(Debug, Drop)]
+#[derive(Drop)]
 pub struct ProvedClose {
     pub close: Close,
     pub next: u32,
@@ -125,7 +126,10 @@ fn prove_step(
             };
             match prove_block(alloc, before, inner, &goal, standing, number + 1) {
                 Ok(proved) => claimed(alloc, shown.items(), proved, outer, standing),
-                Err(stop) => Err(stop),
+                Err(stop) => {
+                    mem::drop(outer);
+                    Err(stop)
+                }
             }
         }
         Step::Superposed {
@@ -138,7 +142,10 @@ fn prove_step(
             let outer = standing.enter(alloc)?;
             let certs = match superpose(alloc, form, names.items(), standing) {
                 Ok(certs) => certs,
-                Err(halt) => return Err(stop_at(alloc, halt, standing, number)),
+                Err(halt) => {
+                    mem::drop(outer);
+                    return Err(stop_at(alloc, halt, standing, number));
+                }
             };
             let goal = Goal {
                 made: &[],
@@ -153,7 +160,10 @@ fn prove_step(
                     };
                     superposed(alloc, head, shown.items(), proved, outer, standing)
                 }
-                Err(stop) => Err(stop),
+                Err(stop) => {
+                    mem::drop(outer);
+                    Err(stop)
+                }
             }
         }
     }
@@ -190,13 +200,22 @@ fn prove_close(
             standing.suppose(alloc, lit)?;
             let one = match prove_block(alloc, before, first, goal, standing, number + 1) {
                 Ok(one) => one,
-                Err(stop) => return Err(stop),
+                Err(stop) => {
+                    mem::drop(outer);
+                    return Err(stop);
+                }
             };
             standing.leave(outer);
-            standing.suppose_not(alloc, lit)?;
+            if let Err(error) = standing.suppose_not(alloc, lit) {
+                mem::drop(one);
+                return Err(Stop::from(error));
+            }
             match prove_block(alloc, before, second, goal, standing, one.next) {
                 Ok(other) => split(alloc, lit, one, other),
-                Err(stop) => Err(stop),
+                Err(stop) => {
+                    mem::drop(one);
+                    Err(stop)
+                }
             }
         }
     }

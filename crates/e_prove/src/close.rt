@@ -18,7 +18,7 @@ use e_theorem::all_renamed;
 use std::alloc::{AllocError, Global};
 
 /// What a block has to show: literals, and the made objects in them.
-#[derive(Clone, Copy, Debug)]
+#[derive(Clone, Copy)]
 pub struct Goal<'a> {
     pub made: &'a [Obj],
     pub shown: &'a [Lit],

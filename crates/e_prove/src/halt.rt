@@ -8,9 +8,10 @@ use crate::standing::Standing;
 use e_deriv::{Close, Names, Step, Stop, Wanted};
 use e_literal::Values;
 use std::alloc::{AllocError, AllocFailed, Global};
+use std::mem;
 
 /// What the line lacks, with the values that show it; or what is too wide there, with its width; or want of memory.
-#[derive(Debug, Drop)]
+#[derive(Drop)]
 pub enum Halt {
     Lacks {
         wanted: Wanted,
@@ -66,7 +67,10 @@ pub fn stop_at(alloc: Global, halt: Halt, standing: &Standing, number: u32) -> S
 {
     match standing.names.copy(alloc) {
         Ok(names) => stop(number, halt, names),
-        Err(_) => Stop::NoMemory,
+        Err(_) => {
+            mem::drop(halt);
+            Stop::NoMemory
+        }
     }
 }
 

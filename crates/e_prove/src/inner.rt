@@ -10,17 +10,35 @@ use crate::block::{ProvedBlock, ProvedClose, ProvedStep};
 use crate::standing::{Outer, Standing};
 use e_clause::Cert;
 use e_construct::Superpose;
-use e_deriv::{Close, Step, Stop, copy_lits};
+use e_deriv::{Block, Close, Step, Stop, copy_lits};
 use e_literal::{Items, Lit, copy};
 use e_text::Name;
-use std::alloc::Global;
+use std::alloc::{AllocError, Global};
+use std::mem;
 
 /// A superposition with its certificates, without its block.
-#[derive(Debug, Drop)]
+#[derive(Drop)]
 pub struct Head<'a> {
     pub form: &'a Superpose,
     pub names: &'a [Name],
     pub certs: Vec<Cert>,
+}
+
+/// The block ends, and what it shows are facts where it was entered; hands out equal literals. It fails only for want of
+/// memory; nothing is said of what holds then.
+fn shown_behind(
+    alloc: Global,
+    shown: &[Lit],
+    outer: Outer,
+    standing: &mut Standing,
+) -> Result<Items<Lit>, AllocError>
+    requires few { outer.mark.facts ≤ length standing.old.context.facts }
+    requires good { IsTrue (are_good_facts outer.mark.scope (joined_all (take outer.mark.facts standing.old.context.facts) shown.now)) }
+    ensures shown { IfOk result (λ ls. ls ≡ shown.now) }
+    ensures after { OnOk result (standing.new ≡ after_inner outer shown.now standing.old) }
+{
+    standing.leave_with(alloc, outer, shown)?;
+    copy_lits(alloc, shown)
 }
 
 /// A claim whose block is proved: what it shows are facts where the block was entered.
@@ -39,12 +57,16 @@ pub fn claimed(
     ensures after { OnOk result (standing.new ≡ after_inner outer shown.now standing.old) }
     ensures err { IfErr result (λ s. s ≡ NoMemory) }
 {
-    standing.leave_with(alloc, outer, shown)?;
     let ProvedBlock { block, next } = proved;
-    let step = Step::Claim {
-        shown: copy_lits(alloc, shown)?,
-        inner: Box::new(alloc, block)?,
+    let shown = match shown_behind(alloc, shown, outer, standing) {
+        Ok(shown) => shown,
+        Err(_) => {
+            mem::drop(block);
+            return Err(Stop::NoMemory);
+        }
     };
+    let inner = Box::new(alloc, block)?;
+    let step = Step::Claim { shown, inner };
     Ok(ProvedStep { step, next })
 }
 
@@ -65,15 +87,29 @@ pub fn superposed(
     ensures after { OnOk result (standing.new ≡ after_inner outer shown.now standing.old) }
     ensures err { IfErr result (λ s. s ≡ NoMemory) }
 {
-    standing.leave_with(alloc, outer, shown)?;
     let Head { form, names, certs } = head;
     let ProvedBlock { block, next } = proved;
+    let shown = match shown_behind(alloc, shown, outer, standing) {
+        Ok(shown) => shown,
+        Err(_) => {
+            mem::drop(block);
+            return Err(Stop::NoMemory);
+        }
+    };
+    let names = match Vec::from_slice(alloc, names) {
+        Ok(names) => names,
+        Err(_) => {
+            mem::drop(block);
+            return Err(Stop::NoMemory);
+        }
+    };
+    let inner = Box::new(alloc, block)?;
     let step = Step::Superposed {
         form: *form,
-        names: Items::new(Vec::from_slice(alloc, names)?),
-        shown: copy_lits(alloc, shown)?,
+        names: Items::new(names),
+        shown,
         certs: Items::new(certs),
-        inner: Box::new(alloc, block)?,
+        inner,
     };
     Ok(ProvedStep { step, next })
 }
@@ -91,10 +127,39 @@ pub fn split(
     ensures err { IfErr result (λ s. s ≡ NoMemory) }
 {
     let next = second.next;
-    let close = Close::Cases {
-        lit: copy(alloc, lit)?,
-        first: Box::new(alloc, first.block)?,
-        second: Box::new(alloc, second.block)?,
+    let (first, second) = boxed(alloc, first.block, second.block)?;
+    match copy(alloc, lit) {
+        Ok(lit) => {
+            let close = Close::Cases { lit, first, second };
+            Ok(ProvedClose { close, next })
+        }
+        Err(_) => {
+            mem::drop(first);
+            mem::drop(second);
+            Err(Stop::NoMemory)
+        }
+    }
+}
+
+/// Two blocks, boxed.
+fn boxed(alloc: Global, first: Block, second: Block) -> Result<(Box<Block>, Box<Block>), AllocError>
+    ensures first { IfOk result (λ p. p.0.value ≡ first) }
+    ensures second { IfOk result (λ p. p.1.value ≡ second) }
+{
+    let first = match Box::new(alloc, first) {
+        Ok(first) => first,
+        Err(failed) => {
+            mem::drop(failed);
+            mem::drop(second);
+            return Err(AllocError);
+        }
     };
-    Ok(ProvedClose { close, next })
+    match Box::new(alloc, second) {
+        Ok(second) => Ok((first, second)),
+        Err(failed) => {
+            mem::drop(failed);
+            mem::drop(first);
+            Err(AllocError)
+        }
+    }
 }

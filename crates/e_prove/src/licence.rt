@@ -17,6 +17,7 @@ use e_facts::Facts;
 use e_licence::{Context, Judge, Licensed, licence};
 use e_literal::{Lit, copy, negate, same};
 use std::alloc::{AllocError, Global};
+use std::mem;
 
 /// A certificate of the literal, where it is allowed. The literals that it names are well formed.
 pub fn licensed(alloc: Global, context: &Context, lit: &Lit) -> Result<Cert, Halt>
@@ -38,7 +39,9 @@ pub fn licences(alloc: Global, context: &Context, lits: &[Lit]) -> Result<Vec<Ce
     ensures err { IfErr result (HaltsIn context.now lits.now) }
 {
     let mut judge = Judge::new(context);
-    judged(alloc, context, &mut judge, lits)
+    let certs = judged(alloc, context, &mut judge, lits);
+    mem::drop(judge);
+    certs
 }
 
 /// The same, by a judge of the context.

@@ -20,6 +20,7 @@ use e_deriv::{Block, Names, Stop};
 use e_literal::next_objects;
 use e_theorem::Statement;
 use std::alloc::Global;
+use std::mem;
 
 /// The derivation of a theorem by its own script, from the statements before it: each line judged in order,
 /// with a certificate for each literal that it needs. Without its certificates it is the script, with the blanks of each
@@ -65,13 +66,25 @@ pub(crate) fn prove_parts(
     ensures names { IfErr result (HasNames (all_stated before.now) (stated statement.now) names.now (script_of block.now)) }
 {
     let mut standing = Standing::first(alloc, statement, names)?;
-    let made = next_objects(alloc, standing.context.scope(), statement.made.items())?;
+    let made = match next_objects(alloc, standing.context.scope(), statement.made.items()) {
+        Ok(made) => made,
+        Err(_) => {
+            mem::drop(standing);
+            return Err(Stop::NoMemory);
+        }
+    };
     let goal = Goal {
         made: &made,
         shown: statement.shown.items(),
     };
     match prove_block(alloc, before, block, &goal, &mut standing, 1) {
-        Ok(proved) => Ok(proved.block),
-        Err(stop) => Err(stop),
+        Ok(proved) => {
+            mem::drop(standing);
+            Ok(proved.block)
+        }
+        Err(stop) => {
+            mem::drop(standing);
+            Err(stop)
+        }
     }
 }

@@ -17,16 +17,17 @@ use e_literal::{Lit, Scope, Sort, copy, grown, negate};
 use e_text::Name;
 use e_theorem::Statement;
 use std::alloc::{AllocError, Global};
+use std::mem;
 
 /// The objects in scope and the facts, and the names of the objects.
-#[derive(Debug, Drop)]
+#[derive(Drop)]
 pub struct Standing {
     pub context: Context,
     pub names: Names,
 }
 
 /// What an inner block is entered from.
-#[derive(Debug, Drop)]
+#[derive(Drop)]
 pub struct Outer {
     pub mark: Mark,
     pub names: Names,
@@ -49,10 +50,11 @@ impl Standing {
             circles: 0,
         };
         let scope = grown(nothing, statement.declared.items());
+        let names = names.first(alloc, scope)?;
         let facts = facts_of(alloc, statement.given.items())?;
         Ok(Standing {
             context: Context::new(scope, facts),
-            names: names.first(alloc, scope)?,
+            names,
         })
     }
 
@@ -179,8 +181,21 @@ fn facts_of(alloc: Global, lits: &[Lit]) -> Result<Facts, AllocError>
     ensures { IfOk result (λ f. f ≡ joined_all [] lits.now) }
 {
     let mut facts = Facts::new(alloc);
+    match add_copies(alloc, &mut facts, lits) {
+        Ok(()) => Ok(facts),
+        Err(error) => {
+            mem::drop(facts);
+            Err(error)
+        }
+    }
+}
+
+/// Puts an equal literal last for each, unless one the same is there.
+fn add_copies(alloc: Global, facts: &mut Facts, lits: &[Lit]) -> Result<(), AllocError>
+    ensures { OnOk result (facts.new ≡ joined_all facts.old lits.now) }
+{
     for lit in lits {
         facts.add(copy(alloc, lit)?)?;
     }
-    Ok(facts)
+    Ok(())
 }

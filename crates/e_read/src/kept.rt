@@ -10,7 +10,7 @@ use std::marker::Model;
 use std::vec::IntoIter;
 
 /// The rows of a sum, seen as their list.
-#[derive(Debug, Drop)]
+#[derive(Drop)]
 pub struct Rows {
     rows: Vec<(i128, RowName)>,
 }
@@ -59,7 +59,7 @@ impl Rows {
 }
 
 /// The certificates of a line, seen as their list.
-#[derive(Debug, Drop)]
+#[derive(Drop)]
 pub struct Certs {
     certs: Vec<Cert>,
 }
@@ -116,14 +116,14 @@ impl Certs {
 }
 
 /// What was read below a step or a close line that has certificates.
-#[derive(Debug, Drop)]
+#[derive(Drop)]
 pub enum Kept {
     Certs(Certs),
     Against(Against),
 }
 
 /// What was read below the lines of a block, in their order, seen as its list.
-#[derive(Debug, Drop)]
+#[derive(Drop)]
 pub struct KeptLines {
     lines: Vec<Kept>,
 }

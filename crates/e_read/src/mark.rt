@@ -10,7 +10,7 @@ use std::alloc::Global;
 use std::mem;
 
 /// A row of a sum with its names as they are spelled.
-#[derive(Debug, Drop)]
+#[derive(Drop)]
 pub enum RawRow {
     /// `fact LITERAL`
     Fact(RawLit),
@@ -31,7 +31,7 @@ pub enum RawRow {
 }
 
 /// A line of a certificate, behind its sign.
-#[derive(Debug, Drop)]
+#[derive(Drop)]
 pub enum Mark {
     /// `fact`
     Fact,

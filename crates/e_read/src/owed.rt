@@ -23,7 +23,7 @@ use std::{mem, slice};
 const MAX_ROWS: usize = 4_096;
 
 /// The sums of a metric certificate while they come.
-#[derive(Debug, Drop)]
+#[derive(Drop)]
 pub enum OpenSums {
     /// Behind the head.
     Begun,
@@ -38,7 +38,7 @@ pub enum OpenSums {
 }
 
 /// A transfer while its parts come.
-#[derive(Debug, Drop)]
+#[derive(Drop)]
 pub struct OpenTransfer {
     pub rule: Rule,
     pub args: Items<Obj>,
@@ -48,7 +48,7 @@ pub struct OpenTransfer {
 }
 
 /// What certificates a line has.
-#[derive(Debug, Drop)]
+#[derive(Drop)]
 pub enum Due {
     /// None.
     Nothing,
@@ -65,7 +65,7 @@ pub enum Due {
 }
 
 /// What a line owes, and what of it was read.
-#[derive(Debug, Drop)]
+#[derive(Drop)]
 pub struct Owed {
     /// The names in scope before the line.
     pub names: Names,

@@ -19,7 +19,7 @@ use std::mem;
 use thiserror::Error;
 
 /// What stands in a derivation text.
-#[derive(Debug, Drop)]
+#[derive(Drop)]
 pub enum Piece {
     /// A theorem with its derivation.
     Theorem(Theorem),

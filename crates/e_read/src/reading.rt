@@ -27,7 +27,7 @@ use std::alloc::{AllocError, Global};
 use std::mem;
 
 /// What the lines of a block have said so far.
-#[derive(Debug, Drop)]
+#[derive(Drop)]
 pub struct Reading {
     /// The theorem, once its first line has come.
     pub draft: Option<Draft>,

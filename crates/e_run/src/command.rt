@@ -8,7 +8,7 @@ use e_text::number;
 const MOST_THEOREMS: u128 = 500;
 
 /// What a run is asked for.
-#[derive(Clone, Copy, Debug, PartialEq, Eq)]
+#[derive(Clone, Copy, PartialEq, Eq)]
 pub enum Command {
     Check,
     Verify,

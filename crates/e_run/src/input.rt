@@ -17,7 +17,7 @@ pub const LONGEST_LINE: usize = 1600;
 pub const MOST_TEXT: usize = 1 << 60;
 
 /// Why no bytes came.
-#[derive(Debug, Drop)]
+#[derive(Drop)]
 pub enum InputFault {
     NoMemory,
     ReadFault,

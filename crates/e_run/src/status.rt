@@ -8,7 +8,7 @@ use e_literal::Values;
 use e_text::Title;
 
 /// What a run answers.
-#[derive(Debug, Drop)]
+#[derive(Drop)]
 pub enum Status {
     /// Each theorem of the book has a derivation, and the derivations are written.
     Accepted {

@@ -10,14 +10,14 @@ use crate::number::times;
 use e_literal::Items;
 
 /// A coefficient and its column.
-#[derive(Clone, Copy, Debug)]
+#[derive(Clone, Copy)]
 pub struct Monomial {
     pub coefficient: i64,
     pub column: usize,
 }
 
 /// What a line says of its form.
-#[derive(Clone, Copy, PartialEq, Eq, Debug)]
+#[derive(Clone, Copy, PartialEq, Eq)]
 pub enum Kind {
     Zero,
     AtLeast,
@@ -25,7 +25,7 @@ pub enum Kind {
 }
 
 /// A form that is 0, at least 0, or more than 0.
-#[derive(Debug, Drop)]
+#[derive(Drop)]
 pub struct Line {
     pub kind: Kind,
     pub form: Items<Monomial>,

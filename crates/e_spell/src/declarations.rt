@@ -14,14 +14,14 @@ use e_words::{end_line, put};
 use std::alloc::AllocError;
 
 /// What a line says of its objects.
-#[derive(Clone, Copy, Debug)]
+#[derive(Clone, Copy)]
 pub(crate) enum Role {
     Declared,
     Made,
 }
 
 /// How many objects of each sort stand before.
-#[derive(Clone, Copy, Debug)]
+#[derive(Clone, Copy)]
 pub(crate) struct Counts {
     pub(crate) points: usize,
     pub(crate) lines: usize,

@@ -15,7 +15,7 @@ use std::alloc::{AllocError, Global};
 use thiserror::Error;
 
 /// What a use of a statement needs and gives, each in the statement's order.
-#[derive(Debug, Drop)]
+#[derive(Drop)]
 pub struct Applied {
     pub needs: Items<Lit>,
     pub gives: Items<Lit>,
@@ -90,10 +90,26 @@ fn images(
     ensures { IfOk result (λ m. (o : Object) → image_in m o ≡ image (stated statement.now) args.now scope o) }
 {
     let sources = objects(alloc, statement)?;
-    let mut targets = Vec::from_slice(alloc, args)?;
-    targets.extend_from_slice(&next_objects(alloc, scope, statement.made.items())?)?;
+    let targets = targets(alloc, statement, args, scope)?;
     let images = Map::paired(alloc, &sources, &targets)?;
     Ok(images)
+}
+
+// The arguments, and the next objects of the scope.
+fn targets(
+    alloc: Global,
+    statement: &Statement,
+    args: &[Obj],
+    scope: Scope,
+) -> Result<Vec<Obj>, AllocError>
+    requires points { scope.points + length statement.now.made < 2 ^ 16 }
+    requires lines { scope.lines + length statement.now.made < 2 ^ 16 }
+    requires circles { scope.circles + length statement.now.made < 2 ^ 16 }
+    ensures { IfOk result (λ os. os.items ≡ args.now ++ Scopes.next_objects scope statement.now.made) }
+{
+    let mut targets = Vec::from_slice(alloc, args)?;
+    targets.extend_from_slice(&next_objects(alloc, scope, statement.made.items())?)?;
+    Ok(targets)
 }
 
 // The declared and the made objects.

@@ -4,8 +4,6 @@
 mod application;
 mod pattern;
 mod statement;
-#[cfg(test)]
-mod tests;
 
 pub use application::{Applied, UseFault, all_renamed, use_of};
 pub use pattern::is_pattern;

@@ -6,7 +6,7 @@ use e_literal::{Items, Lit, Sort};
 ///
 /// The objects are numbered by sort, from 0, the declared ones first. A given literal names declared objects
 /// alone, a shown one declared and made ones (System E 2009, section 3.2).
-#[derive(Debug, Drop)]
+#[derive(Drop)]
 pub struct Statement {
     pub declared: Items<Sort>,
     pub given: Items<Lit>,

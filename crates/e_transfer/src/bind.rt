@@ -10,7 +10,7 @@ use e_literal::{Atom, Items, Term};
 use std::alloc::{AllocError, Global};
 
 /// What is known of one variable, or of two. Variables are named by their places among the rule's arguments.
-#[derive(Clone, Copy, PartialEq, Eq, Debug)]
+#[derive(Clone, Copy, PartialEq, Eq)]
 pub enum Bind {
     /// The variable stands for the object with this number.
     Is(usize, u16),
@@ -74,31 +74,31 @@ pub fn binds_of_atom(
     ensures { IfOk result (λ o. o ≡ Binding.binds_of_atom (row_of row.now) (atom_of shape.now) goal.now) }
 {
     let binds = match (shape, goal) {
-        (Shape::On(x, l), Atom::On(a, b)) => two(alloc, point(*x, *a), line(row, *l, *b))?,
+        (Shape::On(x, l), Atom::On(a, b)) => two(alloc, point(*x, *a), line(row, *l, *b)),
         (Shape::OnC(x, c), Atom::OnC(a, b))
         | (Shape::Inside(x, c), Atom::Inside(a, b))
         | (Shape::Center(x, c), Atom::Center(a, b)) => {
-            two(alloc, point(*x, *a), circle(row, *c, *b))?
+            two(alloc, point(*x, *a), circle(row, *c, *b))
         }
         (Shape::Between(x, y, z), Atom::Between(a, b, c)) => {
-            three(alloc, point(*x, *a), point(*y, *b), point(*z, *c))?
+            three(alloc, point(*x, *a), point(*y, *b), point(*z, *c))
         }
         (Shape::Same(x, y, l), Atom::Same(a, b, c)) => {
-            three(alloc, point(*x, *a), point(*y, *b), line(row, *l, *c))?
+            three(alloc, point(*x, *a), point(*y, *b), line(row, *l, *c))
         }
         (Shape::MeetLL(l, m), Atom::MeetLL(a, b)) | (Shape::EqL(l, m), Atom::EqL(a, b)) => {
-            two(alloc, line(row, *l, *a), line(row, *m, *b))?
+            two(alloc, line(row, *l, *a), line(row, *m, *b))
         }
         (Shape::MeetLC(l, c), Atom::MeetLC(a, b)) => {
-            two(alloc, line(row, *l, *a), circle(row, *c, *b))?
+            two(alloc, line(row, *l, *a), circle(row, *c, *b))
         }
         (Shape::MeetCC(c, d), Atom::MeetCC(a, b)) | (Shape::EqC(c, d), Atom::EqC(a, b)) => {
-            two(alloc, circle(row, *c, *a), circle(row, *d, *b))?
+            two(alloc, circle(row, *c, *a), circle(row, *d, *b))
         }
-        (Shape::EqP(x, y), Atom::EqP(a, b)) => two(alloc, point(*x, *a), point(*y, *b))?,
+        (Shape::EqP(x, y), Atom::EqP(a, b)) => two(alloc, point(*x, *a), point(*y, *b)),
         _ => return Ok(None),
     };
-    Ok(Some(binds))
+    Ok(Some(binds?))
 }
 
 /// What a term of points says of the variables of a term, place by place, or none where they are of different kinds.

@@ -16,9 +16,10 @@ use e_facts::Facts;
 use e_literal::{Lit, Scope, Term};
 use e_metric::{Known, Metric};
 use std::alloc::{AllocError, Global};
+use std::mem;
 
 /// What is said of a goal.
-#[derive(Debug, Drop)]
+#[derive(Drop)]
 pub enum Found {
     /// An instance of a transfer clause gives it, for these reasons.
     Yes(TransferCert),
@@ -81,6 +82,14 @@ pub fn find_by_facts<'a>(
     }
 }
 
+/// The values with which all metric facts are true, if there are any. What they are is a matter of speed alone.
+fn values_of(told: &Metric) -> &[(Term, u128)] {
+    match told {
+        Metric::No(values) => values.items(),
+        Metric::Yes(_) | Metric::TooWide(_) => &[],
+    }
+}
+
 /// [`find`], where facts alone do not give the goal. Values with which all metric facts are true, if there are any, show
 /// of most metric literals that they do not follow.
 pub fn find_by_sums(
@@ -95,10 +104,10 @@ pub fn find_by_sums(
     requires not_plain { ¬ TransferFromFacts scope facts.now goal.now }
     ensures { IfOk result (IsFound scope facts.now goal.now) }
 {
-    match known.absurd(alloc)? {
-        Metric::No(values) => find_by_values(alloc, scope, facts, known, goal, values.items()),
-        _ => find_by_values(alloc, scope, facts, known, goal, &[]),
-    }
+    let told = known.absurd(alloc)?;
+    let found = find_by_values(alloc, scope, facts, known, goal, values_of(&told));
+    mem::drop(told);
+    found
 }
 
 /// The same, with values of terms.

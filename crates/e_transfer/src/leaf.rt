@@ -21,6 +21,7 @@ use e_facts::Facts;
 use e_literal::{Items, Lit, Obj, Scope, kind, negate, same};
 use e_metric::{Metric, follows};
 use std::alloc::{AllocError, Global};
+use std::mem;
 
 /// What is said of a literal that has a wide system: where only narrow ones are sought it is passed over.
 fn too_wide(means: Means, width: u128) -> Verdict<Part>
@@ -111,6 +112,8 @@ fn add_need(needs: &mut Vec<Lit>, lit: Lit, goal: &Lit) -> Result<(), AllocError
 {
     if !same(&lit, goal) {
         needs.push(negate(lit))?;
+    } else {
+        mem::drop(lit);
     }
     Ok(())
 }

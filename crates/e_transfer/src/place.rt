@@ -19,6 +19,7 @@ use e_clause::pattern::Row;
 use e_clause::{Rule, TransferCert};
 use e_literal::{Items, Lit, Obj, kind, negate, same};
 use std::alloc::{AllocError, Global};
+use std::mem;
 
 /// The instances of a transfer clause that have the goal at one place, with the variables chosen by a plan.
 #[derive(Drop)]
@@ -77,17 +78,21 @@ fn may_stand(sought: &Sought, here: bool, lit: Lit) -> bool
     ensures { result ≡ false → IsFitting sought.now.means sought.now.facts.now sought.now.goal.now here lit → ⊥ }
 {
     if same(&lit, sought.goal) {
+        mem::drop(lit);
         return true;
     }
     if here {
+        mem::drop(lit);
         return false;
     }
     let need = negate(lit);
-    if sought.means == Means::Facts || kind(&need).is_none() {
+    let stands = if sought.means == Means::Facts || kind(&need).is_none() {
         sought.facts.has(&need)
     } else {
         true
-    }
+    };
+    mem::drop(need);
+    stands
 }
 
 impl<'a> Place<'a> {

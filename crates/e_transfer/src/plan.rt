@@ -18,7 +18,7 @@ use e_literal::{Mono, Scope, Sort, Term};
 use std::alloc::{AllocError, Global};
 
 /// The order of a search.
-#[derive(Debug, Drop)]
+#[derive(Drop)]
 pub struct Plan {
     /// For each variable, the place in the order of the one that stands for it.
     pub places: Vec<usize>,

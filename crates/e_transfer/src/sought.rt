@@ -10,7 +10,7 @@ use e_literal::{Lit, Scope, Term};
 use e_metric::Known;
 
 /// How the literals may stand that an instance needs.
-#[derive(Clone, Copy, PartialEq, Eq, Debug)]
+#[derive(Clone, Copy, PartialEq, Eq)]
 pub enum Means {
     /// Each has to be a fact.
     Facts,

@@ -10,7 +10,7 @@ use e_literal::Items;
 use std::alloc::{AllocError, Global};
 
 /// What stands for a variable.
-#[derive(Clone, Copy, PartialEq, Eq, Debug)]
+#[derive(Clone, Copy, PartialEq, Eq)]
 pub enum Tie {
     /// It is chosen.
     Free,

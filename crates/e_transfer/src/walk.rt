@@ -4,16 +4,17 @@ ghost use Rattle.std.specs.Prelude.{◌≡◌, ℕ, List, IfOk, ◌<◌, length}
 ghost use Rattle.e_transfer.specs.Outcome.{VerdictIs, OutcomeIs};
 
 use std::alloc::{AllocError, Global};
+use std::mem;
 
 /// The numbers from one up to another, which is not one of them.
-#[derive(Clone, Copy, PartialEq, Eq, Debug)]
+#[derive(Clone, Copy, PartialEq, Eq)]
 pub struct Span {
     pub from: u16,
     pub to: u16,
 }
 
 /// What a judge says of the first numbers of a choice.
-#[derive(Debug, Drop)]
+#[derive(Drop)]
 pub enum Verdict<P> {
     /// Go on; if the choice is whole, it is good.
     Keep(P),
@@ -24,7 +25,7 @@ pub enum Verdict<P> {
 }
 
 /// What a search says.
-#[derive(Debug, Drop)]
+#[derive(Drop)]
 pub enum Outcome<P> {
     Found(P),
     Nothing,
@@ -72,6 +73,7 @@ pub fn search<T: Task>(
     match spans {
         [] => Ok(Outcome::Found(proof)),
         [span, rest @ ..] => {
+            mem::drop(proof);
             for value in span.from..span.to {
                 chosen.push(value)?;
                 match search(alloc, task, rest, chosen)? {

@@ -17,7 +17,7 @@ use e_clause::RowName;
 use e_literal::{Atom, Lit, Mono, Term};
 
 /// What a row says of its form: that it is 0, at least 0, more than 0, or not 0.
-#[derive(Clone, Copy, PartialEq, Eq, Debug)]
+#[derive(Clone, Copy, PartialEq, Eq)]
 pub enum Says {
     Zero,
     AtLeast,
@@ -26,7 +26,7 @@ pub enum Says {
 }
 
 /// A row of a step.
-#[derive(Clone, Copy, Debug)]
+#[derive(Clone, Copy)]
 pub enum Row<'a> {
     /// The form is the one sum less the other, or minus that.
     Sums {
@@ -46,7 +46,7 @@ pub enum Row<'a> {
 }
 
 /// The row of a literal: what it says of the one sum less the other.
-#[derive(Clone, Copy, Debug)]
+#[derive(Clone, Copy)]
 pub struct Comparison<'a> {
     pub says: Says,
     pub plus: &'a [Mono],
@@ -55,7 +55,7 @@ pub struct Comparison<'a> {
 
 /// What the names of rows are read at: the facts, the literal that is wanted, none where a contradiction is, and the rows
 /// that `above` and `below` name.
-#[derive(Clone, Copy, Debug)]
+#[derive(Clone, Copy)]
 pub struct Place<'a> {
     pub facts: &'a Facts,
     pub wanted: Option<&'a Lit>,

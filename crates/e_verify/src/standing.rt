@@ -10,21 +10,21 @@ use e_literal::{Lit, Obj, Scope, copy, negate};
 use std::alloc::{AllocError, Global};
 
 /// The scope and the facts before a line.
-#[derive(Debug, Drop)]
+#[derive(Drop)]
 pub struct Standing {
     pub scope: Scope,
     pub facts: Facts,
 }
 
 /// What an inner block is entered from.
-#[derive(Clone, Copy, Debug)]
+#[derive(Clone, Copy)]
 pub struct Outer {
     pub scope: Scope,
     pub facts: usize,
 }
 
 /// What a block has to show: literals, and the made objects in them.
-#[derive(Clone, Copy, Debug)]
+#[derive(Clone, Copy)]
 pub struct Goal<'a> {
     pub made: &'a [Obj],
     pub shown: &'a [Lit],

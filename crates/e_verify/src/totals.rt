@@ -19,7 +19,7 @@ use std::collections::BTreeMap;
 use std::marker::Model;
 
 /// The coefficient of each term in a sum.
-#[derive(Debug, Drop)]
+#[derive(Drop)]
 pub struct Totals {
     of: BTreeMap<Term, i128>,
 }

@@ -2,11 +2,7 @@
 #![tactic(auto)]
 
 #[cfg(test)]
-mod book_tests;
-#[cfg(test)]
 mod let_tests;
-#[cfg(test)]
-mod limit_tests;
 #[cfg(test)]
 mod refusal_tests;
 #[cfg(test)]
@@ -15,5 +11,3 @@ mod rule_tests;
 mod runs;
 #[cfg(test)]
 mod tests;
-#[cfg(test)]
-mod verify_tests;

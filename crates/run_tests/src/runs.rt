@@ -21,35 +21,11 @@ struct Answered {
     out: Vec<u8>,
 }
 
-/// The call that fails, if one does.
-fn failing(alloc: Global, call: Option<u64>) -> Result<Vec<u64>, AllocError> {
-    let mut calls = Vec::new(alloc);
-    if let Some(call) = call {
-        calls.push(call)?;
-    }
-    Ok(calls)
-}
-
-/// The words of a command, with one space between two.
-fn words_of(alloc: Global, command: &str) -> Result<Vec<String>, AllocError> {
-    let mut words = Vec::new(alloc);
-    for word in command.split(' ') {
-        words.push(String::from_str(alloc, word)?)?;
-    }
-    Ok(words)
-}
-
-/// Runs the program with a command on a text, with the call of the source and that of the sink that fail.
-fn ran(
-    alloc: Global,
-    command: &str,
-    text: Vec<u8>,
-    unread: Option<u64>,
-    unwritten: Option<u64>,
-) -> Result<Answered, AllocError> {
-    let words = words_of(alloc, command)?;
-    let mut source = MemSource::new(text, failing(alloc, unread)?, READ);
-    let mut sink = MemSink::new(alloc, ROOM, failing(alloc, unwritten)?, WRITTEN)?;
+/// Runs `check` on a book.
+fn ran(alloc: Global, book: Vec<u8>) -> Result<Answered, AllocError> {
+    let words = vec![in alloc; String::from_str(alloc, "check")?]?;
+    let mut source = MemSource::new(book, Vec::new(alloc), READ);
+    let mut sink = MemSink::new(alloc, ROOM, Vec::new(alloc), WRITTEN)?;
     let status = run(alloc, &words, &mut source, &mut sink);
     Ok(Answered {
         exit: exit_code(&status),
@@ -70,15 +46,9 @@ fn unfolded(alloc: Global, text: &str) -> Result<Vec<u8>, AllocError> {
     Ok(out)
 }
 
-/// What the program answers to a command and a book, where these calls fail: the lines that it writes, and the exit status.
-pub fn told(
-    alloc: Global,
-    command: &str,
-    book: &str,
-    unread: Option<u64>,
-    unwritten: Option<u64>,
-) -> Result<String, AllocError> {
-    let ran = ran(alloc, command, unfolded(alloc, book)?, unread, unwritten)?;
+/// What `check` answers to a book: the lines that it writes, and the exit status.
+pub fn answer(alloc: Global, book: &str) -> Result<String, AllocError> {
+    let ran = ran(alloc, unfolded(alloc, book)?)?;
     let mut text = String::new(alloc);
     for line in str::from_utf8(&ran.out).unwrap_or("").lines() {
         text.push_str(line)?;
@@ -86,11 +56,6 @@ pub fn told(
     }
     text.push_str(format!(in alloc; "exit {}", ran.exit)?.as_str())?;
     Ok(text)
-}
-
-/// What `check` answers to a book: the lines that it writes, and the exit status.
-pub fn answer(alloc: Global, book: &str) -> Result<String, AllocError> {
-    told(alloc, "check", book, None, None)
 }
 
 /// The part of a row of a test that stands there between its marks ` => `.

@@ -58,6 +58,6 @@ returns-clause-ok c before old e =
     let t = stated c.args.statement.now in
     let u = c.in_ok-used.used in
     let h = c.in_ok-used.ensures.ok in
-    judged_apply before y.theorem y.args.now c.in_ok-without_blanks.field-0 y.names.now c.new.result old c.new-2.result t x c.join_equal.new.self u e h
-    (c.in_ok-without_blanks.ensures ∙ ap (map Some) c.items.ensures) (c.new.ensures ∙ c.in_ok-from_slice.ensures.items) c.new-2.ensures
+    judged_apply before y.theorem y.args.now c.in_ok-args.args y.names.now c.new.result old c.new-2.result t x c.join_equal.new.self u e h
+    (c.in_ok-args.ensures ∙ ap (map Some) c.items.ensures) (c.new.ensures ∙ c.in_ok-names.ensures.items) c.new-2.ensures
     (applied_after t u.args y.names.now x c.grow.new.self c.join_equal.new.self c.items-2.result.now c.items-3.result.now c.items-2.ensures (c.items-3.ensures ∙ h.gives) c.in_ok-grow.ensures.scope c.in_ok-grow.ensures.names c.in_ok-join_equal.ensures)

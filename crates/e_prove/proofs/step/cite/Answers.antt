@@ -1,5 +1,4 @@
 use Rattle.std.proofs.Common.{sym, ap, ◌∙◌}
-use Rattle.e_literal.specs.Facts.{joined}
 use Rattle.e_deriv.specs.Steps.{is_cited}
 use Rattle.e_prove.proofs.Judging.{judged_cite}
 use Rattle.e_prove.proofs.step.cite.Goals as goal
@@ -10,4 +9,4 @@ returns-clause-ok c before =
     let by = c.args.by.now in
     judged_cite before by c.in_ok-derived.derived x _ c.in_ok-derived.ensures
     (sym (c.in_ok-is_cited.ensures ∙ ap (λ facts. is_cited facts by) c.facts.ensures) ∙ c.if-not-branch.false)
-    (ap (λ k. record x { context = k }) (c.in_ok-add.ensures.joined ∙ ap (λ l. record x.context { facts = joined x.context.facts l }) c.in_ok-copy-2.ensures))
+    c.in_ok-suppose.ensures

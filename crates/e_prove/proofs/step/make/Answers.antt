@@ -38,8 +38,8 @@ pub returns-clause-ok : goal.returns-clause-ok
 returns-clause-ok c before written =
     let x = c.args.standing.now in
     let certs = c.in_ok-certs.certs.items in
-    judged_make before c.args.form.now c.in_ok-copy_construction.field-0 c.args.names.now c.new.result written certs c.new-2.result c.in_ok-needs.needs.items x c.join.new.self
-    c.in_ok-copy_construction.ensures (c.new.ensures ∙ c.in_ok-from_slice.ensures.items) c.new-2.ensures c.in_ok-needs.ensures
+    judged_make before c.args.form.now c.in_ok-derived.derived c.args.names.now c.new.result written certs c.new-2.result c.in_ok-needs.needs.items x c.join.new.self
+    c.in_ok-derived.ensures (c.new.ensures ∙ c.in_ok-copied.ensures.items) c.new-2.ensures c.in_ok-needs.ensures
     (subst (λ ls. IsTrue (certify_all x.context.scope x.context.facts ls certs)) c.deref.ensures.value c.in_ok-certs.ensures.ok) c.in_ok-certs.ensures.written
     (made_after c.args.form.now c.args.names.now x c.grow.new.self c.join.new.self c.made.result.now c.in_ok-given.given.items c.made.ensures
     (c.in_ok-given.ensures ∙ ap (gives c.args.form.now) c.scope.ensures) c.in_ok-grow.ensures.scope c.in_ok-grow.ensures.names c.in_ok-join.ensures)

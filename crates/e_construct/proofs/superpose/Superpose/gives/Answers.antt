@@ -6,5 +6,5 @@ pub returns : goal.returns
 returns c =
     let e : length c.args.self.now.points ≡ 6 = omega arith in
     let f : length c.args.self.now.lines ≡ 2 = omega arith in
-    let g : c.push-9.new.self.items ≡ gives_at c.args.self.now.points c.args.self.now.lines c.args.scope.points (c.args.scope.points + 1) = search rules in
+    let g : c.push-3.new.self.items ≡ gives_at c.args.self.now.points c.args.self.now.lines c.args.scope.points (c.args.scope.points + 1) = search rules in
     g ∙ gives_of c.args.self.now c.args.scope e f
