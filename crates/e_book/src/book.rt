@@ -90,9 +90,18 @@ fn read_theorem(
     while let Some(line) = lines.next() {
         let line = match line {
             Ok(line) => line,
-            Err(fault) => return Err(of_line(fault)),
+            Err(fault) => {
+                mem::drop(draft);
+                return Err(of_line(fault));
+            }
         };
-        let words = collected(alloc, line.bytes)?;
+        let words = match collected(alloc, line.bytes) {
+            Ok(words) => words,
+            Err(error) => {
+                mem::drop(draft);
+                return Err(error.into());
+            }
+        };
         if is_skipped(&words) {
             continue;
         }
@@ -107,9 +116,12 @@ fn read_theorem(
     }
     match draft {
         None => Ok(None),
-        Some(_) => Err(BookFault::Unended {
-            line: lines.line() as u32,
-        }),
+        Some(draft) => {
+            mem::drop(draft);
+            Err(BookFault::Unended {
+                line: lines.line() as u32,
+            })
+        }
     }
 }
 

@@ -1,8 +1,10 @@
 //! A theorem while its lines come.
 ghost use Rattle.std.specs.Prelude.{◌≡◌, ◌≤◌, ◌<◌, ◌+◌, ◌^◌, ◌++◌, ◌∷◌, List, [], length, replicate, IfOk, OnOk, Ok, Err};
 ghost use Rattle.e_book.specs.Reading.{Gives, Moves};
+ghost use Rattle.e_construct.specs.Construct.{gives};
 ghost use Rattle.e_book.specs.Scope.{names_of_sort, with_names};
-ghost use Rattle.e_book.specs.Steps.{allowed, declared, no_names, count_names, FewNamed};
+ghost use Rattle.e_deriv.specs.Naming.{named};
+ghost use Rattle.e_book.specs.Steps.{allowed, declared, no_names, count_names, few_objects, FewNamed};
 
 use crate::applies::{Application, RawApply, apply_in, count_blanks};
 use crate::blocks::{Closed, Opened, Outer, Outers};
@@ -19,7 +21,7 @@ use crate::scope::{by_in, fresh, let_in, lit_in, put_lits, put_names, qed_in, sc
 use crate::steps::{CloseLine, Steps};
 use crate::superposes::{Placement, RawSuperpose, superpose_in};
 use crate::theorem::Theorem;
-use e_construct::Superpose;
+use e_construct::{Construction, Superpose};
 use e_deriv::{Names, Step};
 use e_literal::{Items, Lit, Scope, Sort, grown};
 use e_text::{Name, Title};
@@ -149,11 +151,41 @@ fn repeated(alloc: Global, sort: Sort, count: usize) -> Result<Items<Sort>, Allo
     Ok(Items::new(Vec::from_elem(alloc, sort, count)?))
 }
 
+/// The names with new ones, each behind those of its sort: the limits of objects.
+fn names_with(alloc: Global, names: &Names, sorts: &[Sort], new: &[Name]) -> Result<Names, Trouble>
+    ensures value { Gives (λ n. tt) result (few_objects (named names.now sorts.now new.now)) }
+    ensures names { IfOk result (λ n. n ≡ named names.now sorts.now new.now) }
+    ensures few { IfOk result FewNamed }
+{
+    let mut after = names.copy(alloc)?;
+    if let Err(error) = put_names(&mut after, sorts, new) {
+        mem::drop(after);
+        return Err(error.into());
+    }
+    if let Err(trouble) = few_objects(&after) {
+        mem::drop(after);
+        return Err(trouble);
+    }
+    Ok(after)
+}
+
+/// How many literals a construction gives.
+fn count_given(alloc: Global, form: &Construction, scope: Scope) -> Result<usize, AllocError>
+    requires points { scope.points + 2 < 2 ^ 16 }
+    requires lines { scope.lines + 2 < 2 ^ 16 }
+    requires circles { scope.circles + 2 < 2 ^ 16 }
+    ensures { IfOk result (λ n. n ≡ length (gives form.now scope)) }
+{
+    let given = form.gives(alloc, scope)?;
+    Ok(given.len())
+}
+
 impl Draft {
+    ghost use Rattle.e_deriv.specs.Naming.{named};
     ghost use Rattle.e_deriv.specs.PlainStep.{plain_step, Claimed, Copied, all_before};
     ghost use Rattle.e_theorem.specs.Statements.{stated};
     ghost use Rattle.e_book.specs.Limits.{most_depth, most_terms, most_theorems};
-    ghost use Rattle.e_book.specs.Steps.{FitsScope, FitsOuter, HasRoom, ClosesInside, begin, step, stepped, declares, supposes, makes, proof_begun, cited, inferred, concluded, with_step, with_terms, built, used_by, applied, room_inside, interrupted, begun_with, begun_terms, claimed, superposed, copies_begun, split, outer_with, resumed, second_begun, closed, shut};
+    ghost use Rattle.e_book.specs.Steps.{FitsScope, FitsOuter, HasRoom, ClosesInside, begin, step, stepped, declares, supposes, makes, few_objects, proof_begun, cited, inferred, concluded, with_step, with_terms, built, used_by, applied, room_inside, interrupted, begun_with, begun_terms, claimed, superposed, copies_begun, split, outer_with, resumed, second_begun, closed, shut};
     ghost use Rattle.e_book.specs.Blocks.{made_in};
     ghost use Rattle.e_book.specs.Entry.{entry_of, entry_of_draft, script_of_close};
 
@@ -297,7 +329,8 @@ impl Draft {
             circles: 0,
         };
         let scope = grown(nothing, self.declared.items());
-        self.in_scope = self.names.first(alloc, scope)?;
+        let first = self.names.first(alloc, scope)?;
+        mem::drop(mem::replace(&mut self.in_scope, first));
         self.place = Place::Proving;
         Ok(())
     }
@@ -354,15 +387,32 @@ impl Draft {
         ensures fits { OnOk result (FitsScope self.new) }
     {
         let form = let_in(alloc, &self.in_scope, raw)?;
-        let given = form.gives(alloc, scope_of_names(&self.in_scope))?;
-        put_names(&mut self.in_scope, form.made(), raw.new.items())?;
-        few_objects(&self.in_scope)?;
+        let given = count_given(alloc, &form, scope_of_names(&self.in_scope))?;
+        let names = self.bring_in(alloc, form.made(), raw.new.items())?;
         let step = Step::Make {
             form,
-            names: Items::new(Vec::from_slice(alloc, raw.new.items())?),
+            names,
             certs: Items::empty(alloc),
         };
-        self.add_step(step, given.len())
+        self.add_step(step, given)
+    }
+
+    /// New names come into scope, each behind those of its sort: the limits of objects. It gives a copy of the names.
+    fn bring_in(
+        &mut self,
+        alloc: Global,
+        sorts: &[Sort],
+        new: &[Name],
+    ) -> Result<Items<Name>, Trouble>
+        ensures value { Gives (λ n. tt) result (few_objects (named self.old.in_scope sorts.now new.now)) }
+        ensures names { IfOk result (λ n. n ≡ new.now) }
+        ensures scope { OnOk result (self.new ≡ record self.old { in_scope = named self.old.in_scope sorts.now new.now }) }
+        ensures few { OnOk result (FewNamed (named self.old.in_scope sorts.now new.now)) }
+    {
+        put_names(&mut self.in_scope, sorts, new)?;
+        few_objects(&self.in_scope)?;
+        let names = Vec::from_slice(alloc, new)?;
+        Ok(Items::new(names))
     }
 
     /// The use of an earlier theorem: its title and the names, and then the limits.
@@ -393,13 +443,12 @@ impl Draft {
         ensures fits { OnOk result (FitsScope self.new) }
     {
         let Application { theorem, args } = application;
-        put_names(&mut self.in_scope, statement.made.items(), new)?;
-        few_objects(&self.in_scope)?;
         let blanks = count_blanks(args.items());
+        let names = self.bring_in(alloc, statement.made.items(), new)?;
         let step = Step::Apply {
             theorem,
             args,
-            names: Items::new(Vec::from_slice(alloc, new)?),
+            names,
             certs: Items::empty(alloc),
         };
         self.add_step(step, statement.shown.len())?;
@@ -431,7 +480,13 @@ impl Draft {
         ensures value { OnOk result (self.new ≡ interrupted self.old opened given) }
         ensures fits { OnOk result (FitsScope self.new) }
     {
-        let in_scope = self.in_scope.copy(alloc)?;
+        let in_scope = match self.in_scope.copy(alloc) {
+            Ok(in_scope) => in_scope,
+            Err(error) => {
+                mem::drop(opened);
+                return Err(error);
+            }
+        };
         let outer = Outer {
             steps: mem::replace(&mut self.steps, Steps::new(alloc)),
             in_scope,
@@ -469,10 +524,8 @@ impl Draft {
     {
         let Placement { form, shown } = superpose_in(alloc, &self.in_scope, raw)?;
         let given = form.gives(alloc, scope_of_names(&self.in_scope))?;
-        let mut after = self.in_scope.copy(alloc)?;
-        put_names(&mut after, form.made(), raw.new.items())?;
-        few_objects(&after)?;
         let names = Items::new(Vec::from_slice(alloc, raw.new.items())?);
+        let after = names_with(alloc, &self.in_scope, form.made(), raw.new.items())?;
         let opened = Opened::Superpose { form, names, shown };
         self.begin_copies(alloc, opened, after, &given, raw.shown.items())
     }
@@ -531,9 +584,21 @@ impl Draft {
         ensures fits { OnOk result (FitsScope self.new) }
     {
         let lit = lit_in(alloc, &self.in_scope, raw)?;
-        self.room_inside(1)?;
-        few_monos(slice::from_ref(raw))?;
-        let terms = terms_with(self.terms, slice::from_ref(raw))?;
+        if let Err(trouble) = self.room_inside(1) {
+            mem::drop(lit);
+            return Err(trouble);
+        }
+        if let Err(trouble) = few_monos(slice::from_ref(raw)) {
+            mem::drop(lit);
+            return Err(trouble);
+        }
+        let terms = match terms_with(self.terms, slice::from_ref(raw)) {
+            Ok(terms) => terms,
+            Err(trouble) => {
+                mem::drop(lit);
+                return Err(trouble);
+            }
+        };
         self.interrupt(alloc, Opened::First { lit }, 1)?;
         self.terms = terms;
         Ok(())
@@ -566,7 +631,10 @@ impl Draft {
         ensures value { Moves result self.new (shut self.old close) }
         ensures fits { OnOk result (FitsScope self.new) }
     {
-        within(self.lines + 1, MAX_STEPS, What::Steps)?;
+        if let Err(trouble) = within(self.lines + 1, MAX_STEPS, What::Steps) {
+            mem::drop(close);
+            return Err(trouble);
+        }
         self.lines += 1;
         self.close_block(alloc, close)
     }
@@ -579,7 +647,7 @@ impl Draft {
         ensures fits { OnOk result (FitsScope self.new) }
     {
         let Some(outer) = self.outers.pop() else {
-            self.close = close;
+            mem::drop(mem::replace(&mut self.close, close));
             self.place = Place::Closed;
             return Ok(());
         };
@@ -603,7 +671,13 @@ impl Draft {
         ensures value { ClosesInside self.old outer close result self.new }
         ensures fits { OnOk result (FitsScope self.new) }
     {
-        let inner = self.take_block(alloc, close)?;
+        let inner = match self.take_block(alloc, close) {
+            Ok(inner) => inner,
+            Err(error) => {
+                mem::drop(outer);
+                return Err(error.into());
+            }
+        };
         let Outer {
             steps,
             in_scope,
@@ -631,7 +705,13 @@ impl Draft {
                 Ok(None)
             }
             Opened::Second { lit, first } => {
-                self.steps = around.steps;
+                let Around {
+                    steps,
+                    in_scope,
+                    ..
+                } = around;
+                mem::drop(in_scope);
+                mem::drop(mem::replace(&mut self.steps, steps));
                 Ok(Some(CloseLine::Cases {
                     lit,
                     first,
@@ -705,8 +785,26 @@ impl Draft {
         ensures value { Moves result self.new (resumed self.old (outer_with around (Opened.Superpose form names shown)) self.old.outers shown (Copied form names shown [] inner)) }
         ensures fits { OnOk result (FitsScope self.new) }
     {
-        let facts = facts_of(around.facts, shown.items())?;
-        let terms = terms_of(around.terms, shown.items())?;
+        let facts = match facts_of(around.facts, shown.items()) {
+            Ok(facts) => facts,
+            Err(trouble) => {
+                mem::drop(around);
+                mem::drop(names);
+                mem::drop(shown);
+                mem::drop(inner);
+                return Err(trouble);
+            }
+        };
+        let terms = match terms_of(around.terms, shown.items()) {
+            Ok(terms) => terms,
+            Err(trouble) => {
+                mem::drop(around);
+                mem::drop(names);
+                mem::drop(shown);
+                mem::drop(inner);
+                return Err(trouble);
+            }
+        };
         let inner = inner.into_box();
         let step = Step::Superposed {
             form,
@@ -836,8 +934,12 @@ impl Draft {
             shown,
             steps,
             close,
+            in_scope,
+            outers,
             ..
         } = self;
+        mem::drop(in_scope);
+        mem::drop(outers);
         Theorem {
             title,
             names,

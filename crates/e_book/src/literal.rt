@@ -10,6 +10,7 @@ use crate::words::{place_of, three_names, two_names};
 use e_literal::Items;
 use e_text::{Name, is};
 use std::alloc::Global;
+use std::mem;
 
 /// An atom with its names as they are spelled.
 #[derive(Drop)]
@@ -280,6 +281,7 @@ pub fn diagram_lit_of(alloc: Global, words: &[&[u8]]) -> Result<RawLit, Trouble>
 {
     let lit = lit_of(alloc, words)?;
     if !is_diagram_raw(&lit.atom) {
+        mem::drop(lit);
         return Err(Trouble::Fault(Kind::Malformed));
     }
     Ok(lit)

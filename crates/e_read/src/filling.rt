@@ -8,6 +8,7 @@ use e_clause::{Against, Cert};
 use e_deriv::{Block, Close, Step, copy_by, copy_construction, copy_lits};
 use e_literal::{Items, copy};
 use std::alloc::{AllocError, Global};
+use std::mem;
 
 /// The certificates of the next line that has some.
 fn next_certs(alloc: Global, queue: &mut Queue) -> Certs
@@ -16,7 +17,11 @@ fn next_certs(alloc: Global, queue: &mut Queue) -> Certs
 {
     match queue.pop() {
         Some(Kept::Certs(certs)) => certs,
-        Some(Kept::Against(_)) | None => Certs::new(alloc),
+        Some(Kept::Against(against)) => {
+            mem::drop(against);
+            Certs::new(alloc)
+        }
+        None => Certs::new(alloc),
     }
 }
 
@@ -27,7 +32,11 @@ fn next_against(queue: &mut Queue) -> Option<Against>
 {
     match queue.pop() {
         Some(Kept::Against(against)) => Some(against),
-        Some(Kept::Certs(_)) | None => None,
+        Some(Kept::Certs(certs)) => {
+            mem::drop(certs);
+            None
+        }
+        None => None,
     }
 }
 
@@ -67,8 +76,8 @@ fn fill_step(alloc: Global, step: &Step, queue: &mut Queue) -> Result<Step, Allo
             Ok(Step::Hence { lit, cert })
         }
         Step::Make { form, names, .. } => {
-            let form = copy_construction(alloc, form)?;
             let names = Vec::from_slice(alloc, names.items())?;
+            let form = copy_construction(alloc, form)?;
             let certs = next_certs(alloc, queue).into_items();
             Ok(Step::Make {
                 form,
@@ -140,11 +149,11 @@ fn fill_close(alloc: Global, close: &Close, queue: &mut Queue) -> Result<Close, 
             Ok(Close::Contradiction { against })
         }
         Close::Cases { lit, first, second } => {
-            let lit = copy(alloc, lit)?;
             let first = fill(alloc, first, queue)?;
             let first = Box::new(alloc, first)?;
             let second = fill(alloc, second, queue)?;
             let second = Box::new(alloc, second)?;
+            let lit = copy(alloc, lit)?;
             Ok(Close::Cases { lit, first, second })
         }
     }

@@ -2,14 +2,16 @@
 ghost use Rattle.std.specs.Prelude.{◌≡◌, ◌++◌, ◌∷◌, [], codes, map, OnOk};
 ghost use Rattle.e_text.specs.Tokens.{spaced};
 ghost use Rattle.e_construct.specs.Views.{piece_said};
+ghost use Rattle.e_book.specs.declared.form.Form.TheVariants as forms;
 ghost use Rattle.e_book.specs.Superposes.{superpose_pieces};
-ghost use Rattle.e_book.specs.Canonical.{lit_words, lits_words, filled, line_pieces, avoid_words, let_words, superpose_words, argument_word, made_words, apply_words, line_of};
+ghost use Rattle.e_book.specs.Canonical.{lit_words, lits_words, filled, line_pieces, avoid_words, argument_word, made_words, line_of};
 
 use crate::literals::{put_literal, put_literals};
 use e_book::{
     Form, RawApply, RawLet, RawLit, RawSuperpose, put_made_names, sort_word, superposition_pieces,
 };
 use e_construct::{Piece, Shape, pieces};
+use e_literal::Sort;
 use e_text::{Name, Title};
 use e_words::{put, put_names};
 use std::alloc::AllocError;
@@ -101,8 +103,9 @@ fn put_construction(
 }
 
 fn put_let(out: &mut Vec<u8>, raw: &RawLet) -> Result<(), AllocError>
-    ensures { OnOk result (out.new.items ≡ out.old.items ++ spaced (let_words raw.now)) }
+    ensures { OnOk result (out.new.items ≡ out.old.items ++ line_of (forms.Let raw.now)) }
 {
+    out.extend_from_slice(b"let")?;
     put_construction(
         out,
         raw.shapes.items(),
@@ -147,8 +150,9 @@ fn put_use(
 }
 
 fn put_apply(out: &mut Vec<u8>, raw: &RawApply) -> Result<(), AllocError>
-    ensures { OnOk result (out.new.items ≡ out.old.items ++ spaced (apply_words raw.now)) }
+    ensures { OnOk result (out.new.items ≡ out.old.items ++ line_of (forms.Apply raw.now)) }
 {
+    out.extend_from_slice(b"apply")?;
     put_use(out, raw.title, raw.args.items(), raw.new.items())
 }
 
@@ -168,8 +172,9 @@ fn put_superposition(
 }
 
 fn put_superpose(out: &mut Vec<u8>, raw: &RawSuperpose) -> Result<(), AllocError>
-    ensures { OnOk result (out.new.items ≡ out.old.items ++ spaced (superpose_words raw.now)) }
+    ensures { OnOk result (out.new.items ≡ out.old.items ++ line_of (forms.Superpose raw.now)) }
 {
+    out.extend_from_slice(b"superpose")?;
     put_superposition(out, raw.new.items(), raw.args.items(), raw.shown.items())
 }
 
@@ -197,44 +202,55 @@ fn put_said(out: &mut Vec<u8>, word: &[u8], lit: &RawLit) -> Result<(), AllocErr
     put_literal(out, lit)
 }
 
+/// The first line of a theorem.
+fn put_title(out: &mut Vec<u8>, title: Title) -> Result<(), AllocError>
+    ensures { OnOk result (out.new.items ≡ out.old.items ++ line_of (forms.Theorem title)) }
+{
+    out.extend_from_slice(b"theorem")?;
+    put(out, title.bytes())
+}
+
+/// A line of made objects.
+fn put_made(out: &mut Vec<u8>, sort: Sort, names: &[Name]) -> Result<(), AllocError>
+    ensures { OnOk result (out.new.items ≡ out.old.items ++ line_of (forms.Made sort names.now)) }
+{
+    out.extend_from_slice(b"made")?;
+    put(out, sort_word(sort))?;
+    put_names(out, names)
+}
+
+/// A citation.
+fn put_citation(
+    out: &mut Vec<u8>,
+    rule: Title,
+    names: &[Name],
+    lit: &RawLit,
+) -> Result<(), AllocError>
+    ensures { OnOk result (out.new.items ≡ out.old.items ++ line_of (forms.By rule names.now lit.now)) }
+{
+    out.extend_from_slice(b"by")?;
+    put_by(out, rule, names, lit)
+}
+
 /// The line of a form, without its end.
 pub(crate) fn put_form(out: &mut Vec<u8>, form: &Form) -> Result<(), AllocError>
     ensures { OnOk result (out.new.items ≡ out.old.items ++ line_of form.now) }
 {
     match form {
-        Form::Theorem(title) => {
-            out.extend_from_slice(b"theorem")?;
-            put(out, title.bytes())
-        }
+        Form::Theorem(title) => put_title(out, *title),
         Form::Declare(sort, names) => put_named(out, sort_word(*sort), names.items()),
         Form::Given(lits) => put_stated(out, b"given", lits.items()),
-        Form::Made(sort, names) => {
-            out.extend_from_slice(b"made")?;
-            put(out, sort_word(*sort))?;
-            put_names(out, names.items())
-        }
+        Form::Made(sort, names) => put_made(out, *sort, names.items()),
         Form::Show(lits) => put_stated(out, b"show", lits.items()),
         Form::Proof => out.extend_from_slice(b"proof"),
-        Form::By(rule, names, lit) => {
-            out.extend_from_slice(b"by")?;
-            put_by(out, *rule, names.items(), lit)
-        }
+        Form::By(rule, names, lit) => put_citation(out, *rule, names.items(), lit),
         Form::Hence(lit) => put_said(out, b"hence", lit),
-        Form::Let(raw) => {
-            out.extend_from_slice(b"let")?;
-            put_let(out, raw)
-        }
-        Form::Apply(raw) => {
-            out.extend_from_slice(b"apply")?;
-            put_apply(out, raw)
-        }
+        Form::Let(raw) => put_let(out, raw),
+        Form::Apply(raw) => put_apply(out, raw),
         Form::Qed(names) => put_named(out, b"qed", names.items()),
         Form::Contradiction => out.extend_from_slice(b"contradiction"),
         Form::Claim(lits) => put_stated(out, b"claim", lits.items()),
-        Form::Superpose(raw) => {
-            out.extend_from_slice(b"superpose")?;
-            put_superpose(out, raw)
-        }
+        Form::Superpose(raw) => put_superpose(out, raw),
         Form::Cases(lit) => put_said(out, b"cases", lit),
         Form::Else => out.extend_from_slice(b"else"),
         Form::End => out.extend_from_slice(b"end"),

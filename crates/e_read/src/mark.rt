@@ -7,6 +7,7 @@ use e_book::{Kind, RawLit, RawTerm, Trouble, Words, diagram_lit_of, lit_of, name
 use e_literal::Items;
 use e_text::{Name, Title, is, number};
 use std::alloc::Global;
+use std::mem;
 
 /// A row of a sum with its names as they are spelled.
 #[derive(Drop)]
@@ -78,8 +79,13 @@ fn multiplier_of(word: &[u8]) -> Result<i128, Trouble>
 fn bare_row(words: Words, row: RawRow) -> Result<RawRow, Trouble>
     ensures { Gives (λ r. r) result (bare_row words.entry row) }
 {
-    words.end()?;
-    Ok(row)
+    match words.end() {
+        Ok(()) => Ok(row),
+        Err(trouble) => {
+            mem::drop(row);
+            Err(trouble)
+        }
+    }
 }
 
 /// A row, by its first word.
@@ -135,8 +141,13 @@ fn may_differ(row: &RawRow) -> bool
 fn bare(words: Words, mark: Mark) -> Result<Mark, Trouble>
     ensures { Gives (λ m. m) result (bare words.entry mark) }
 {
-    words.end()?;
-    Ok(mark)
+    match words.end() {
+        Ok(()) => Ok(mark),
+        Err(trouble) => {
+            mem::drop(mark);
+            Err(trouble)
+        }
+    }
 }
 
 #[tactic(auto, unfolding(crate::specs::Marks::differs_of))]
@@ -147,6 +158,7 @@ fn differs_of(alloc: Global, words: &[&[u8]]) -> Result<Mark, Trouble>
     if may_differ(&row) {
         Ok(Mark::Differs(row))
     } else {
+        mem::drop(row);
         Err(Trouble::Fault(Kind::Malformed))
     }
 }

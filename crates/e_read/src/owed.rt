@@ -3,6 +3,7 @@ ghost use Rattle.std.specs.Prelude.{◌≡◌, ◌+◌, ◌++◌, ◌∷◌, [],
 ghost use Rattle.e_clause.specs.Instance.{place_of};
 ghost use Rattle.e_clause.specs.declared.cert.Part.TheVariants as parts;
 ghost use Rattle.e_book.specs.Reading.{Gives};
+ghost use Rattle.e_read.specs.declared.mark.Mark.TheVariants as marks;
 ghost use Rattle.e_book.specs.Scope.{FewNames};
 ghost use Rattle.e_read.specs.Owed.{fact_in, row_in, with_row, row_put, sum_begun, differs_put, sums_ended, has_more, transfer_put, part_put, metric_put, takes_metric, clash_put, transfer_rule, count_others, transfer_at, transfer_in, transfer_begun, ended, marked, kept_of, settled};
 
@@ -16,7 +17,7 @@ use e_deriv::Names;
 use e_literal::{Items, Lit, Obj, same};
 use e_text::{Name, Title};
 use std::alloc::Global;
-use std::slice;
+use std::{mem, slice};
 
 /// How many rows a sum may have.
 const MAX_ROWS: usize = 4_096;
@@ -85,8 +86,13 @@ fn fact_in(alloc: Global, names: &Names, raw: &RawLit) -> Result<Lit, Trouble>
     ensures { Gives (λ l. l) result (fact_in names.now raw.now) }
 {
     let lit = lit_in(alloc, names, raw)?;
-    few_monos(slice::from_ref(raw))?;
-    Ok(lit)
+    match few_monos(slice::from_ref(raw)) {
+        Ok(()) => Ok(lit),
+        Err(trouble) => {
+            mem::drop(lit);
+            Err(trouble)
+        }
+    }
 }
 
 #[tactic(auto, unfolding(crate::specs::Owed::row_in))]
@@ -112,6 +118,7 @@ fn with_row(sum: Rows, multiplier: i128, row: RowName) -> Result<Rows, Trouble>
 {
     let mut sum = sum;
     if sum.len() >= MAX_ROWS {
+        mem::drop(row);
         return Err(malformed());
     }
     sum.push(multiplier, row)?;
@@ -124,7 +131,10 @@ fn row_put(sums: Option<OpenSums>, multiplier: i128, row: RowName) -> Result<Ope
 {
     match sums {
         Some(sums) => row_behind(sums, multiplier, row),
-        None => Err(malformed()),
+        None => {
+            mem::drop(row);
+            Err(malformed())
+        }
     }
 }
 
@@ -134,14 +144,30 @@ fn row_behind(sums: OpenSums, multiplier: i128, row: RowName) -> Result<OpenSums
 {
     match sums {
         OpenSums::One(sum) => Ok(OpenSums::One(with_row(sum, multiplier, row)?)),
-        OpenSums::Above(differs, sum) => {
-            Ok(OpenSums::Above(differs, with_row(sum, multiplier, row)?))
+        OpenSums::Above(differs, sum) => match with_row(sum, multiplier, row) {
+            Ok(sum) => Ok(OpenSums::Above(differs, sum)),
+            Err(trouble) => {
+                mem::drop(differs);
+                Err(trouble)
+            }
+        },
+        OpenSums::Below(differs, above, sum) => match with_row(sum, multiplier, row) {
+            Ok(sum) => Ok(OpenSums::Below(differs, above, sum)),
+            Err(trouble) => {
+                mem::drop(differs);
+                mem::drop(above);
+                Err(trouble)
+            }
+        },
+        OpenSums::Begun => {
+            mem::drop(row);
+            Err(malformed())
         }
-        OpenSums::Below(differs, above, sum) => {
-            Ok(OpenSums::Below(differs, above, with_row(sum, multiplier, row)?))
+        OpenSums::Differs(differs) => {
+            mem::drop(differs);
+            mem::drop(row);
+            Err(malformed())
         }
-        OpenSums::Begun => Err(malformed()),
-        OpenSums::Differs(_) => Err(malformed()),
     }
 }
 
@@ -164,12 +190,15 @@ fn sum_behind(alloc: Global, sums: OpenSums) -> Result<OpenSums, Trouble>
         OpenSums::Differs(differs) => Ok(OpenSums::Above(differs, Rows::new(alloc))),
         OpenSums::Above(differs, sum) => {
             if sum.len() == 0 {
+                mem::drop(differs);
                 return Err(malformed());
             }
             Ok(OpenSums::Below(differs, sum, Rows::new(alloc)))
         }
-        OpenSums::One(_) => Err(malformed()),
-        OpenSums::Below(_, _, _) => Err(malformed()),
+        other => {
+            mem::drop(other);
+            Err(malformed())
+        }
     }
 }
 
@@ -177,9 +206,13 @@ fn sum_behind(alloc: Global, sums: OpenSums) -> Result<OpenSums, Trouble>
 fn differs_put(sums: Option<OpenSums>, differs: RowName) -> Result<OpenSums, Trouble>
     ensures { Gives (λ s. s) result (differs_put sums differs) }
 {
-    match sums {
-        Some(OpenSums::Begun) => Ok(OpenSums::Differs(differs)),
-        _ => Err(malformed()),
+    let is_begun = matches!(&sums, Some(OpenSums::Begun));
+    mem::drop(sums);
+    if is_begun {
+        Ok(OpenSums::Differs(differs))
+    } else {
+        mem::drop(differs);
+        Err(malformed())
     }
 }
 
@@ -196,6 +229,7 @@ fn sums_ended(sums: OpenSums) -> Result<Sums, Trouble>
         }
         OpenSums::Below(differs, above, sum) => {
             if sum.len() == 0 {
+                mem::drop(differs);
                 return Err(malformed());
             }
             Ok(Sums::Two {
@@ -204,7 +238,10 @@ fn sums_ended(sums: OpenSums) -> Result<Sums, Trouble>
                 below: sum.into_sum(),
             })
         }
-        _ => Err(malformed()),
+        other => {
+            mem::drop(other);
+            Err(malformed())
+        }
     }
 }
 
@@ -238,20 +275,23 @@ fn transfer_put(wanted: Items<Lit>, certs: Certs, transfer: OpenTransfer) -> Res
 fn part_put(due: Due, part: Part) -> Result<Due, Trouble>
     ensures { Gives (λ d. d) result (part_put due part) }
 {
-    let Due::Literals {
-        wanted,
-        certs,
-        transfer,
-    } = due
-    else {
-        return Err(malformed());
-    };
-    match transfer {
-        None => literal_put(wanted, certs, part),
-        Some(transfer) => {
-            let mut transfer = transfer;
-            transfer.parts.push(part)?;
-            transfer_put(wanted, certs, transfer)
+    match due {
+        Due::Literals {
+            wanted,
+            certs,
+            transfer,
+        } => match transfer {
+            None => literal_put(wanted, certs, part),
+            Some(transfer) => {
+                let mut transfer = transfer;
+                transfer.parts.push(part)?;
+                transfer_put(wanted, certs, transfer)
+            }
+        },
+        other => {
+            mem::drop(other);
+            mem::drop(part);
+            Err(malformed())
         }
     }
 }
@@ -262,6 +302,7 @@ fn literal_put(wanted: Items<Lit>, certs: Certs, part: Part) -> Result<Due, Trou
 {
     let mut certs = certs;
     if certs.len() >= wanted.len() {
+        mem::drop(part);
         return Err(malformed());
     }
     certs.push(Cert::Plain(part))?;
@@ -301,11 +342,15 @@ fn takes_metric(due: &Due) -> bool
 fn clash_put(due: Due, lit: Lit) -> Result<Due, Trouble>
     ensures { Gives (λ d. d) result (clash_put due lit) }
 {
-    match due {
-        Due::Contradiction { against: None } => Ok(Due::Contradiction {
+    let is_open = matches!(&due, Due::Contradiction { against: None });
+    mem::drop(due);
+    if is_open {
+        Ok(Due::Contradiction {
             against: Some(Against::Clash { lit }),
-        }),
-        _ => Err(malformed()),
+        })
+    } else {
+        mem::drop(lit);
+        Err(malformed())
     }
 }
 
@@ -390,19 +435,23 @@ fn transfer_begun(
     requires { FewNames names.now }
     ensures { Gives (λ d. d) result (transfer_begun names.now due title raws.now) }
 {
-    let Due::Literals {
-        wanted,
-        certs,
-        transfer: None,
-    } = due
-    else {
-        return Err(malformed());
-    };
-    let Some(next) = wanted.items().get(certs.len()) else {
-        return Err(malformed());
-    };
-    let transfer = transfer_in(alloc, names, next, title, raws)?;
-    transfer_put(wanted, certs, transfer)
+    match due {
+        Due::Literals {
+            wanted,
+            certs,
+            transfer: None,
+        } => {
+            let Some(next) = wanted.items().get(certs.len()) else {
+                return Err(malformed());
+            };
+            let transfer = transfer_in(alloc, names, next, title, raws)?;
+            transfer_put(wanted, certs, transfer)
+        }
+        other => {
+            mem::drop(other);
+            Err(malformed())
+        }
+    }
 }
 
 impl Owed {
@@ -420,63 +469,198 @@ impl Owed {
                 sums: None,
             });
         };
-        let sums = sums_ended(sums)?;
-        let due = metric_put(due, MetricCert { sums })?;
-        Ok(Owed {
-            names,
-            due,
-            sums: None,
-        })
+        let sums = match sums_ended(sums) {
+            Ok(sums) => sums,
+            Err(trouble) => {
+                mem::drop(names);
+                mem::drop(due);
+                return Err(trouble);
+            }
+        };
+        match metric_put(due, MetricCert { sums }) {
+            Ok(due) => Ok(Owed {
+                names,
+                due,
+                sums: None,
+            }),
+            Err(trouble) => {
+                mem::drop(names);
+                Err(trouble)
+            }
+        }
     }
 
     /// What is owed behind a line of a certificate.
-    #[tactic(auto, unfolding(crate::specs::Owed::marked))]
     pub(crate) fn marked(self, alloc: Global, mark: &Mark) -> Result<Owed, Trouble>
         requires { FewNames self.names }
         ensures value { Gives (λ o. o) result (marked self mark.now) }
         ensures names { IfOk result (λ o. o.names ≡ self.names) }
     {
         match mark {
-            Mark::Fact => {
-                let Owed { names, due, sums } = self.ended()?;
-                let due = part_put(due, Part::Fact)?;
-                Ok(Owed { names, due, sums })
+            Mark::Fact => self.behind_fact(),
+            Mark::Metric => self.behind_metric(),
+            Mark::Transfer(title, raws) => self.behind_transfer(alloc, *title, raws.items()),
+            Mark::Clash(raw) => self.behind_clash(alloc, raw),
+            Mark::Sum => self.behind_sum(alloc),
+            Mark::Differs(raw) => self.behind_differs(alloc, raw),
+            Mark::Row(multiplier, raw) => self.behind_row(alloc, *multiplier, raw),
+        }
+    }
+
+    /// What is owed behind a fact.
+    #[tactic(auto, unfolding(crate::specs::Owed::marked))]
+    fn behind_fact(self) -> Result<Owed, Trouble>
+        requires { FewNames self.names }
+        ensures value { Gives (λ o. o) result (marked self marks.Fact) }
+        ensures names { IfOk result (λ o. o.names ≡ self.names) }
+    {
+        let Owed { names, due, sums } = self.ended()?;
+        match part_put(due, Part::Fact) {
+            Ok(due) => Ok(Owed { names, due, sums }),
+            Err(trouble) => {
+                mem::drop(names);
+                mem::drop(sums);
+                Err(trouble)
             }
-            Mark::Metric => {
-                let Owed { names, due, .. } = self.ended()?;
-                if !takes_metric(&due) {
-                    return Err(malformed());
-                }
-                let sums = Some(OpenSums::Begun);
-                Ok(Owed { names, due, sums })
+        }
+    }
+
+    /// What is owed behind the head of a metric certificate.
+    #[tactic(auto, unfolding(crate::specs::Owed::marked))]
+    fn behind_metric(self) -> Result<Owed, Trouble>
+        requires { FewNames self.names }
+        ensures value { Gives (λ o. o) result (marked self marks.Metric) }
+        ensures names { IfOk result (λ o. o.names ≡ self.names) }
+    {
+        let mut owed = self.ended()?;
+        if !takes_metric(&owed.due) {
+            mem::drop(owed);
+            return Err(malformed());
+        }
+        mem::drop(mem::replace(&mut owed.sums, Some(OpenSums::Begun)));
+        Ok(owed)
+    }
+
+    /// What is owed behind the head of a transfer.
+    #[tactic(auto, unfolding(crate::specs::Owed::marked))]
+    fn behind_transfer(self, alloc: Global, title: Title, raws: &[Name]) -> Result<Owed, Trouble>
+        requires { FewNames self.names }
+        ensures value { Gives (λ o. o) result (marked self (marks.Transfer title raws.now)) }
+        ensures names { IfOk result (λ o. o.names ≡ self.names) }
+    {
+        let Owed { names, due, sums } = self.ended()?;
+        match transfer_begun(alloc, &names, due, title, raws) {
+            Ok(due) => Ok(Owed { names, due, sums }),
+            Err(trouble) => {
+                mem::drop(names);
+                mem::drop(sums);
+                Err(trouble)
             }
-            Mark::Transfer(title, raws) => {
-                let Owed { names, due, sums } = self.ended()?;
-                let due = transfer_begun(alloc, &names, due, *title, raws.items())?;
-                Ok(Owed { names, due, sums })
+        }
+    }
+
+    /// What is owed behind a clash.
+    #[tactic(auto, unfolding(crate::specs::Owed::marked))]
+    fn behind_clash(self, alloc: Global, raw: &RawLit) -> Result<Owed, Trouble>
+        requires { FewNames self.names }
+        ensures value { Gives (λ o. o) result (marked self (marks.Clash raw.now)) }
+        ensures names { IfOk result (λ o. o.names ≡ self.names) }
+    {
+        let owed = self.ended()?;
+        let lit = match lit_in(alloc, &owed.names, raw) {
+            Ok(lit) => lit,
+            Err(trouble) => {
+                mem::drop(owed);
+                return Err(trouble);
             }
-            Mark::Clash(raw) => {
-                let Owed { names, due, sums } = self.ended()?;
-                let lit = lit_in(alloc, &names, raw)?;
-                let due = clash_put(due, lit)?;
-                Ok(Owed { names, due, sums })
+        };
+        let Owed { names, due, sums } = owed;
+        match clash_put(due, lit) {
+            Ok(due) => Ok(Owed { names, due, sums }),
+            Err(trouble) => {
+                mem::drop(names);
+                mem::drop(sums);
+                Err(trouble)
             }
-            Mark::Sum => {
-                let Owed { names, due, sums } = self;
-                let sums = Some(sum_begun(alloc, sums)?);
-                Ok(Owed { names, due, sums })
+        }
+    }
+
+    /// What is owed behind the head of a sum.
+    #[tactic(auto, unfolding(crate::specs::Owed::marked))]
+    fn behind_sum(self, alloc: Global) -> Result<Owed, Trouble>
+        requires { FewNames self.names }
+        ensures value { Gives (λ o. o) result (marked self marks.Sum) }
+        ensures names { IfOk result (λ o. o.names ≡ self.names) }
+    {
+        let Owed { names, due, sums } = self;
+        match sum_begun(alloc, sums) {
+            Ok(sums) => Ok(Owed {
+                names,
+                due,
+                sums: Some(sums),
+            }),
+            Err(trouble) => {
+                mem::drop(names);
+                mem::drop(due);
+                Err(trouble)
             }
-            Mark::Differs(raw) => {
-                let Owed { names, due, sums } = self;
-                let differs = row_in(alloc, &names, raw)?;
-                let sums = Some(differs_put(sums, differs)?);
-                Ok(Owed { names, due, sums })
+        }
+    }
+
+    /// What is owed behind a row that differs.
+    #[tactic(auto, unfolding(crate::specs::Owed::marked))]
+    fn behind_differs(self, alloc: Global, raw: &RawRow) -> Result<Owed, Trouble>
+        requires { FewNames self.names }
+        ensures value { Gives (λ o. o) result (marked self (marks.Differs raw.now)) }
+        ensures names { IfOk result (λ o. o.names ≡ self.names) }
+    {
+        let differs = match row_in(alloc, &self.names, raw) {
+            Ok(differs) => differs,
+            Err(trouble) => {
+                mem::drop(self);
+                return Err(trouble);
             }
-            Mark::Row(multiplier, raw) => {
-                let Owed { names, due, sums } = self;
-                let row = row_in(alloc, &names, raw)?;
-                let sums = Some(row_put(sums, *multiplier, row)?);
-                Ok(Owed { names, due, sums })
+        };
+        let Owed { names, due, sums } = self;
+        match differs_put(sums, differs) {
+            Ok(sums) => Ok(Owed {
+                names,
+                due,
+                sums: Some(sums),
+            }),
+            Err(trouble) => {
+                mem::drop(names);
+                mem::drop(due);
+                Err(trouble)
+            }
+        }
+    }
+
+    /// What is owed behind a row of a sum.
+    #[tactic(auto, unfolding(crate::specs::Owed::marked))]
+    fn behind_row(self, alloc: Global, multiplier: i128, raw: &RawRow) -> Result<Owed, Trouble>
+        requires { FewNames self.names }
+        ensures value { Gives (λ o. o) result (marked self (marks.Row multiplier raw.now)) }
+        ensures names { IfOk result (λ o. o.names ≡ self.names) }
+    {
+        let row = match row_in(alloc, &self.names, raw) {
+            Ok(row) => row,
+            Err(trouble) => {
+                mem::drop(self);
+                return Err(trouble);
+            }
+        };
+        let Owed { names, due, sums } = self;
+        match row_put(sums, multiplier, row) {
+            Ok(sums) => Ok(Owed {
+                names,
+                due,
+                sums: Some(sums),
+            }),
+            Err(trouble) => {
+                mem::drop(names);
+                mem::drop(due);
+                Err(trouble)
             }
         }
     }
@@ -487,7 +671,9 @@ impl Owed {
         requires { FewNames self.names }
         ensures { Gives (λ k. k) result (settled self) }
     {
-        let Owed { due, .. } = self.ended()?;
+        let Owed { names, due, sums } = self.ended()?;
+        mem::drop(names);
+        mem::drop(sums);
         kept_of(due)
     }
 }
@@ -507,13 +693,12 @@ fn kept_of(due: Due) -> Result<Option<Kept>, Trouble>
             }
             Ok(Some(Kept::Certs(certs)))
         }
-        Due::Literals {
-            transfer: Some(_),
-            ..
-        } => Err(malformed()),
-        Due::Contradiction { against: None } => Err(malformed()),
         Due::Contradiction {
             against: Some(against),
         } => Ok(Some(Kept::Against(against))),
+        other => {
+            mem::drop(other);
+            Err(malformed())
+        }
     }
 }

@@ -93,12 +93,17 @@ fn owed_by(alloc: Global, known: &Known, draft: &Draft, form: &Form) -> Result<O
     ensures fits { IfOk result (λ o. FewNames o.names) }
 {
     let names = draft.in_scope.copy(alloc)?;
-    let due = due_of(alloc, known, draft, form)?;
-    Ok(Owed {
-        names,
-        due,
-        sums: None,
-    })
+    match due_of(alloc, known, draft, form) {
+        Ok(due) => Ok(Owed {
+            names,
+            due,
+            sums: None,
+        }),
+        Err(trouble) => {
+            mem::drop(names);
+            Err(trouble)
+        }
+    }
 }
 
 /// A line goes on with a theorem.
@@ -157,7 +162,9 @@ impl Reading {
         ensures names { OnOk result (self.new.owed.names ≡ self.old.owed.names) }
     {
         let mark = strict_mark(alloc, line, words)?;
-        self.take_mark(alloc, &mark)
+        let taken = self.take_mark(alloc, &mark);
+        mem::drop(mark);
+        taken
     }
 
     /// Takes what a line of a certificate says.
@@ -169,7 +176,8 @@ impl Reading {
         ensures names { OnOk result (self.new.owed.names ≡ self.old.owed.names) }
     {
         let owed = mem::replace(&mut self.owed, owes_nothing(alloc));
-        self.owed = owed.marked(alloc, mark)?;
+        let owed = owed.marked(alloc, mark)?;
+        mem::drop(mem::replace(&mut self.owed, owed));
         Ok(())
     }
 
@@ -190,7 +198,9 @@ impl Reading {
         ensures fits { OnOk result (FitsReading self.new) }
     {
         let form = strict_of(alloc, line, words)?;
-        self.take_form(alloc, known, &form)
+        let taken = self.take_form(alloc, known, &form);
+        mem::drop(form);
+        taken
     }
 
     /// Nothing is owed any more, and the theorem goes on with this form.
@@ -312,7 +322,8 @@ impl Reading {
         requires { IsTrue (is_finished self.draft) }
         ensures { IfOk result (λ t. finished self.draft self.kept ≡ Some (entry_of t)) }
     {
-        let Reading { draft, kept, .. } = self;
+        let Reading { draft, owed, kept } = self;
+        mem::drop(owed);
         match draft {
             Some(draft) => derived(alloc, draft, kept),
             None => unreachable!(),
@@ -343,18 +354,16 @@ fn is_last_line(alloc: Global, known: &Known, line: Line<'_>) -> Result<bool, Al
 fn derived(alloc: Global, draft: Draft, kept: KeptLines) -> Result<Theorem, AllocError>
     ensures { IfOk result (λ t. entry_of t ≡ derived draft kept) }
 {
-    let Theorem {
-        title,
-        names,
-        statement,
-        block,
-    } = draft.into_theorem(alloc);
+    let mut theorem = draft.into_theorem(alloc);
     let mut queue = kept.into_queue();
-    let block = fill(alloc, &block, &mut queue)?;
-    Ok(Theorem {
-        title,
-        names,
-        statement,
-        block,
-    })
+    match fill(alloc, &theorem.block, &mut queue) {
+        Ok(block) => {
+            mem::drop(mem::replace(&mut theorem.block, block));
+            Ok(theorem)
+        }
+        Err(error) => {
+            mem::drop(theorem);
+            Err(error)
+        }
+    }
 }

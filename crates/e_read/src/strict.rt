@@ -14,6 +14,7 @@ use e_construct::naming::same_sort;
 use e_literal::Sort;
 use e_text::Name;
 use std::alloc::{AllocError, Global};
+use std::mem;
 
 fn is_less(atom: &RawAtom) -> bool
     ensures { result ≡ is_less atom.now }
@@ -71,10 +72,17 @@ pub(crate) fn strict_of(alloc: Global, line: &[u8], words: &[&[u8]]) -> Result<F
     ensures { Gives (λ f. f) result (strict_of line.now (texts words.now)) }
 {
     let form = form_of(alloc, words)?;
-    let again = line_of(alloc, &form, line.len())?;
+    let again = match line_of(alloc, &form, line.len()) {
+        Ok(again) => again,
+        Err(error) => {
+            mem::drop(form);
+            return Err(error.into());
+        }
+    };
     if is_strict(&form) && line == again.as_slice() {
         Ok(form)
     } else {
+        mem::drop(form);
         Err(Trouble::Fault(Kind::Malformed))
     }
 }
@@ -113,10 +121,17 @@ pub(crate) fn strict_mark(alloc: Global, line: &[u8], words: &[&[u8]]) -> Result
     ensures { Gives (λ m. m) result (strict_mark line.now (texts words.now)) }
 {
     let mark = mark_of(alloc, words)?;
-    let again = mark_line(alloc, &mark, line.len())?;
+    let again = match mark_line(alloc, &mark, line.len()) {
+        Ok(again) => again,
+        Err(error) => {
+            mem::drop(mark);
+            return Err(error.into());
+        }
+    };
     if is_strict_mark(&mark) && line == again.as_slice() {
         Ok(mark)
     } else {
+        mem::drop(mark);
         Err(Trouble::Fault(Kind::Malformed))
     }
 }

@@ -1,10 +1,11 @@
 //! The lines of a proof, each with its certificates below it, and then the blocks inside it.
 ghost use Rattle.std.specs.Prelude.{◌≡◌, ◌++◌, ◌∷◌, [], codes, map, OnOk};
+ghost use Rattle.std.specs.Option.{option_to_list};
 ghost use Rattle.e_text.specs.Tokens.{spaced};
 ghost use Rattle.e_deriv.specs.PlainStep.{plain_step};
 ghost use Rattle.e_deriv.specs.Script.{script_of, close_script};
 ghost use Rattle.e_book.specs.Canonical.{name_of_object};
-ghost use Rattle.e_spell.specs.Parts.{citation_words, construction_words, application_text, certs_text, claim_text, superposition_text, step_text, steps_text, names_after, script_text, contradicted_text, proof_text};
+ghost use Rattle.e_spell.specs.Parts.{citation_words, construction_words, application_text, certs_text, claim_text, superposition_text, lit_text, qed_text, step_text, steps_text, names_after, script_text, contradicted_text, proof_text};
 
 use crate::applications::put_apply;
 use crate::certificates::{put_against_of, put_cert_of, put_certs};
@@ -20,6 +21,7 @@ use e_literal::{Lit, Obj};
 use e_text::Name;
 use e_words::{end_line, put, put_line};
 use std::alloc::{AllocError, Global};
+use std::mem;
 
 /// A rule, its objects and the literal that it gives.
 #[tactic(auto, using(e_words::proofs::Spaced::spaced_append))]
@@ -38,6 +40,19 @@ fn put_by(out: &mut Vec<u8>, names: &Names, by: &By) -> Result<(), AllocError>
     out.extend_from_slice(b"by")?;
     put_citation(out, names, by)?;
     end_line(out)
+}
+
+/// The line of a hence, and its certificate if it has one.
+fn put_hence(
+    out: &mut Vec<u8>,
+    names: &Names,
+    lit: &Lit,
+    cert: &Option<Cert>,
+) -> Result<(), AllocError>
+    ensures { OnOk result (out.new.items ≡ out.old.items ++ (lit_text (codes "hence") names.now lit.now ++ certs_text names.now (option_to_list cert.now))) }
+{
+    put_literal_line(out, b"hence", names, lit)?;
+    put_cert_of(out, names, cert)
 }
 
 /// A construction, and a certificate for each literal that it needs, with the names in scope before it.
@@ -109,10 +124,7 @@ fn put_step(
 {
     match step {
         Step::Cite(by) => put_by(out, names, by),
-        Step::Hence { lit, cert } => {
-            put_literal_line(out, b"hence", names, lit)?;
-            put_cert_of(out, names, cert)
-        }
+        Step::Hence { lit, cert } => put_hence(out, names, lit, cert),
         Step::Make {
             form,
             names: new,
@@ -134,8 +146,7 @@ fn put_step(
         ),
         Step::Claim { shown, inner } => {
             put_claim(out, names, shown.items())?;
-            let inside = names.copy(alloc)?;
-            put_block(alloc, out, known, inside, inner)
+            put_block(alloc, out, known, names, inner)
         }
         Step::Superposed {
             form,
@@ -146,7 +157,9 @@ fn put_step(
         } => {
             put_superposed(out, names, *form, new.items(), shown.items(), certs.items())?;
             let inside = with_copies(alloc, names, *form, new.items())?;
-            put_block(alloc, out, known, inside, inner)
+            let put = put_block(alloc, out, known, &inside, inner);
+            mem::drop(inside);
+            put
         }
     }
 }
@@ -170,12 +183,25 @@ fn put_steps(
     Ok(())
 }
 
-fn put_qed(out: &mut Vec<u8>, names: &Names, objects: &[Obj]) -> Result<(), AllocError>
+fn put_qed_line(out: &mut Vec<u8>, names: &Names, objects: &[Obj]) -> Result<(), AllocError>
     ensures { OnOk result (out.new.items ≡ out.old.items ++ (codes "qed" ++ (spaced (map (name_of_object names.now) objects.now) ++ 10 ∷ []))) }
 {
     out.extend_from_slice(b"qed")?;
     put_objects(out, names, objects)?;
     end_line(out)
+}
+
+/// The line of a qed, and a certificate for each literal of the goal.
+fn put_qed(
+    out: &mut Vec<u8>,
+    names: &Names,
+    objects: &[Obj],
+    certs: &[Cert],
+) -> Result<(), AllocError>
+    ensures { OnOk result (out.new.items ≡ out.old.items ++ qed_text names.now objects.now certs.now) }
+{
+    put_qed_line(out, names, objects)?;
+    put_certs(out, names, certs)
 }
 
 /// A contradiction, and its certificate if it has one.
@@ -203,16 +229,13 @@ fn put_close(
     ensures { OnOk result (out.new.items ≡ out.old.items ++ script_text known.now names.now (close_script close.now)) }
 {
     match close {
-        Close::Qed { objects, certs } => {
-            put_qed(out, names, objects.items())?;
-            put_certs(out, names, certs.items())
-        }
+        Close::Qed { objects, certs } => put_qed(out, names, objects.items(), certs.items()),
         Close::Contradiction { against } => put_contradiction(out, names, against),
         Close::Cases { lit, first, second } => {
             put_literal_line(out, b"cases", names, lit)?;
-            put_block(alloc, out, known, names.copy(alloc)?, first)?;
+            put_block(alloc, out, known, names, first)?;
             put_line(out, b"else")?;
-            put_block(alloc, out, known, names.copy(alloc)?, second)
+            put_block(alloc, out, known, names, second)
         }
     }
 }
@@ -224,14 +247,19 @@ fn put_block(
     alloc: Global,
     out: &mut Vec<u8>,
     known: &Known,
-    names: Names,
+    names: &Names,
     block: &Block,
 ) -> Result<(), AllocError>
-    ensures { OnOk result (out.new.items ≡ out.old.items ++ script_text known.now names (script_of block.now)) }
+    ensures { OnOk result (out.new.items ≡ out.old.items ++ script_text known.now names.now (script_of block.now)) }
 {
-    let mut names = names;
-    put_steps(alloc, out, known, &mut names, &block.steps)?;
-    put_close(alloc, out, known, &names, &block.close)
+    let mut names = names.copy(alloc)?;
+    if let Err(error) = put_steps(alloc, out, known, &mut names, &block.steps) {
+        mem::drop(names);
+        return Err(error);
+    }
+    let put = put_close(alloc, out, known, &names, &block.close);
+    mem::drop(names);
+    put
 }
 
 /// The lines from behind the word proof to the theorem's end, where these names are in scope before the first.
@@ -239,10 +267,10 @@ pub(crate) fn put_proof(
     alloc: Global,
     out: &mut Vec<u8>,
     known: &Known,
-    names: Names,
+    names: &Names,
     block: &Block,
 ) -> Result<(), AllocError>
-    ensures { OnOk result (out.new.items ≡ out.old.items ++ proof_text known.now names (script_of block.now)) }
+    ensures { OnOk result (out.new.items ≡ out.old.items ++ proof_text known.now names.now (script_of block.now)) }
 {
     put_block(alloc, out, known, names, block)?;
     put_line(out, b"end")?;

@@ -14,6 +14,7 @@ use e_deriv::{Names, Step};
 use e_literal::{Items, Sort};
 use e_text::Name;
 use std::alloc::{AllocError, Global};
+use std::mem;
 
 fn first_of(alloc: Global, names: &[Name], count: usize) -> Result<Items<Name>, AllocError>
     ensures { IfOk result (λ n. n ≡ take count names.now) }
@@ -53,8 +54,13 @@ pub(crate) fn with_copies(
     ensures { IfOk result (λ n. n ≡ named names.now made copies.now) }
 {
     let mut inside = names.copy(alloc)?;
-    name_all(&mut inside, form.made(), copies)?;
-    Ok(inside)
+    match name_all(&mut inside, form.made(), copies) {
+        Ok(()) => Ok(inside),
+        Err(error) => {
+            mem::drop(inside);
+            Err(error)
+        }
+    }
 }
 
 /// The names of the made objects of an earlier theorem come into scope.

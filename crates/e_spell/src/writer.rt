@@ -11,6 +11,7 @@ use crate::scope::first_names;
 use e_book::{Known, Theorem};
 use e_deriv::Block;
 use std::alloc::{AllocError, Global};
+use std::mem;
 
 fn put_theorem(
     alloc: Global,
@@ -23,7 +24,9 @@ fn put_theorem(
 {
     let declared = put_head(out, theorem.title, &theorem.names, &theorem.statement)?;
     let names = first_names(alloc, &theorem.names, declared)?;
-    put_proof(alloc, out, known, names, deriv)?;
+    let put = put_proof(alloc, out, known, &names, deriv);
+    mem::drop(names);
+    put?;
     Ok(())
 }
 

@@ -14,6 +14,7 @@ use crate::transfer::transfer_certifies;
 use e_clause::{Against, Cert, Part};
 use e_literal::{Lit, Scope, copy, in_scope, kind, negate};
 use std::alloc::{AllocError, Global};
+use std::mem;
 
 /// Whether there are as many certificates as literals, and each certifies its literal in this scope, by these facts.
 #[tactic(auto, using(crate::proofs::Paired::literals))]
@@ -77,7 +78,10 @@ pub fn certifies_against(
             if !in_scope(lit, scope) || kind(lit).is_some() || !facts.has(lit) {
                 return Ok(false);
             }
-            Ok(facts.has(&negate(copy(alloc, lit)?)))
+            let negation = negate(copy(alloc, lit)?);
+            let clash = facts.has(&negation);
+            mem::drop(negation);
+            Ok(clash)
         }
         Against::Metric(cert) => {
             if !sums_in(scope, &cert.sums) {

@@ -13,6 +13,7 @@ use crate::fingerprint::fingerprint_of;
 use e_literal::{Atom, Lit, Mono, Term, same};
 use std::alloc::{AllocError, Global};
 use std::marker::Model;
+use std::mem;
 
 /// A fact with its fingerprint, by which most literals that are not the same are told from it at once. Contracts see the literal.
 #[derive(Drop)]
@@ -93,7 +94,17 @@ impl Facts {
     pub fn are_apart(&self, a: u16, b: u16) -> bool
         ensures { result ≡ Rattle.e_literal.specs.Facts.are_apart self.now a b }
     {
-        self.has(&differ(a, b)) || self.has(&differ(b, a))
+        self.say_differ(a, b) || self.say_differ(b, a)
+    }
+
+    /// Whether the facts say that two points differ, in this order.
+    fn say_differ(&self, a: u16, b: u16) -> bool
+        ensures { result ≡ Rattle.e_literal.specs.Facts.has self.now (negation (are_equal_points a b)) }
+    {
+        let lit = differ(a, b);
+        let is_there = self.has(&lit);
+        mem::drop(lit);
+        is_there
     }
 
     /// Whether the term stands in a fact, as it is written.
@@ -111,6 +122,7 @@ impl Facts {
     {
         let fingerprint = fingerprint_of(&lit);
         if has_same(&self.lits, &lit, fingerprint) {
+            mem::drop(lit);
             return Ok(());
         }
         self.lits.push(Fact { lit, fingerprint })?;

@@ -9,6 +9,7 @@ ghost use Rattle.std.specs.Option.{option_map};
 use e_clause::{InstanceFault, Rule, instance};
 use e_literal::{Lit, Obj, negate, same};
 use std::alloc::{AllocError, Global};
+use std::mem;
 
 /// The literals of the rule's clause at the arguments, or none where they do not fit.
 pub fn instance_of(alloc: Global, rule: Rule, args: &[Obj]) -> Result<Option<Vec<Lit>>, AllocError>
@@ -34,7 +35,9 @@ pub fn negated_others(alloc: Global, lits: Vec<Lit>, lit: &Lit) -> Result<Vec<Li
 {
     let mut others = Vec::new(alloc);
     for other in lits {
-        if !same(&other, lit) {
+        if same(&other, lit) {
+            mem::drop(other);
+        } else {
             others.push(negate(other))?;
         }
     }
