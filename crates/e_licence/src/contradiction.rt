@@ -12,6 +12,7 @@ use e_facts::Facts;
 use e_literal::{Lit, Values, copy, kind, negate};
 use e_metric::{Metric, absurd};
 use std::alloc::{AllocError, Global};
+use std::mem;
 
 /// What is answered on whether the facts contradict each other.
 #[derive(Drop)]
@@ -61,5 +62,8 @@ fn is_denied(alloc: Global, facts: &Facts, lit: &Lit) -> Result<bool, AllocError
     if kind(lit).is_some() {
         return Ok(false);
     }
-    Ok(facts.has(&negate(copy(alloc, lit)?)))
+    let opposite = negate(copy(alloc, lit)?);
+    let denied = facts.has(&opposite);
+    mem::drop(opposite);
+    Ok(denied)
 }

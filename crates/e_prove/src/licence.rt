@@ -117,8 +117,13 @@ fn others_fail(alloc: Global, facts: &Facts, lit: &Lit, lits: &[Lit]) -> Result<
     ensures { IfOk result (λ b. b ≡ has_all facts.now (map negation (others lits.now lit.now))) }
 {
     for m in lits {
-        if !same(m, lit) && !facts.has(&negate(copy(alloc, m)?)) {
-            return Ok(false);
+        if !same(m, lit) {
+            let opposite = negate(copy(alloc, m)?);
+            let fails = facts.has(&opposite);
+            mem::drop(opposite);
+            if !fails {
+                return Ok(false);
+            }
         }
     }
     Ok(true)
