@@ -8,10 +8,10 @@ use Rattle.e_book.proofs.draft.Draft.close_inside.Goals as goal
 pub returns-in_err-end_claim-in-Claim-clause-value :
     goal.returns-in_err-end_claim-in-Claim-clause-value
 returns-in_err-end_claim-in-Claim-clause-value c =
-    let p = err_from_is_err_and c.from_residual-in_err-end_claim-in-Claim.result c.from_residual-in_err-end_claim-in-Claim.ensures.1 in
-    let block = c.in_ok-inner.inner in
+    let p = err_from_is_err_and c.from_residual.result c.from_residual.ensures.1 in
+    let block = c.in-Ok.inner in
     let shown = c.in-Claim.shown in
-    let made = c.in_ok-inner.ensures in
+    let made = c.in-Ok.ensures in
     let bad = c.in_err-end_claim-in-Claim.ensures in
     rw (p.1, p.2) (resumed_fails c.args.self.now c.take_block.new.self c.end_claim.new.self c.args.outer c.args.close shown (Claimed shown block) block (opened.Claim shown)
     c.in_err-end_claim-in-Claim.field-0.0 c.in-Claim.is made.taken made.closed (λ again. refl) bad.value)
@@ -20,11 +20,11 @@ pub returns-in_err-end_superposition-in-Superpose-clause-value :
     goal.returns-in_err-end_superposition-in-Superpose-clause-value
 returns-in_err-end_superposition-in-Superpose-clause-value c =
     let p = err_from_is_err_and c.from_residual-in_err-end_superposition-in-Superpose.result c.from_residual-in_err-end_superposition-in-Superpose.ensures.1 in
-    let block = c.in_ok-inner.inner in
+    let block = c.in-Ok.inner in
     let form = c.in-Superpose.form in
     let names = c.in-Superpose.names in
     let shown = c.in-Superpose.shown in
-    let made = c.in_ok-inner.ensures in
+    let made = c.in-Ok.ensures in
     let bad = (c.in_err-end_superposition-in-Superpose).ensures in
     rw (p.1, p.2) (resumed_fails c.args.self.now c.take_block.new.self c.end_superposition.new.self c.args.outer c.args.close shown (Copied form names shown [] block) block (opened.Superpose form names shown)
     (c.in_err-end_superposition-in-Superpose).field-0.0 c.in-Superpose.is made.taken made.closed (λ again. refl) bad.value)

@@ -12,5 +12,5 @@ returns-clause-value c =
     let raw = c.args.raw.now in
     let form = c.in_ok-form.field-0.form in
     let shown = c.in_ok-form.field-0.shown in
-    let is = superposed_is d raw form shown c.in_ok-few_objects.field-0 c.in_ok-form.ensures (grind arith) in
+    let is = superposed_is d raw form shown tt c.in_ok-form.ensures (grind arith) in
     subst (λ (r : Result Draft Kind). Moves c.begin_copies.result c.begin_copies.new.self r) (grind (arith, is)) c.begin_copies.ensures.value
