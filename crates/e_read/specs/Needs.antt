@@ -13,9 +13,6 @@ use Rattle.e_book.specs.declared.blocks.Outer.{Outer}
 use Rattle.e_book.specs.declared.blocks.Opened.{Opened}
 use Rattle.e_book.specs.declared.blocks.Opened.TheVariants as opened
 use Rattle.e_book.specs.declared.applies.RawApply.{RawApply}
-use Rattle.e_book.specs.declared.lets.RawLet.{RawLet}
-use Rattle.e_book.specs.declared.literal.RawLit.{RawLit}
-use Rattle.e_book.specs.declared.superposes.RawSuperpose.{RawSuperpose}
 use Rattle.e_book.specs.declared.form.Form.{Form}
 use Rattle.e_book.specs.declared.form.Form.TheVariants as forms
 use Rattle.e_book.specs.declared.draft.Draft.{Draft}
@@ -64,25 +61,13 @@ needs_of_use known d raw = apply_in known d.in_scope raw >>= λ a. needs_in (sco
 unfoldable pub needs_at_qed : Draft → List (List ℕ) → Result (List Lit) Kind
 needs_at_qed d ns = qed_in d.in_scope (made_in d.outers d.made) ns >>= λ objects. Ok (goal_with (open_goal d) objects)
 
--- what hence owes: one certificate for its literal
-abbrev pub due_of_hence : Draft → RawLit → Result Due Kind
-due_of_hence d raw = lit_in d.in_scope raw >>= λ l. Ok (one_each (l ∷ []))
-
--- what a construction owes
-abbrev pub due_of_let : Draft → RawLet → Result Due Kind
-due_of_let d raw = let_in d.in_scope raw >>= λ form. Ok (one_each (needs form))
-
--- what a superposition owes
-abbrev pub due_of_superposition : Draft → RawSuperpose → Result Due Kind
-due_of_superposition d raw = superpose_in d.in_scope raw >>= λ p. Ok (one_each (superposing.needs p.0))
-
 -- what a line owes: one certificate for the literal of hence, for each literal that a construction, an application or a
 -- superposition needs, for each literal of the goal at qed, and one of a contradiction; no other line owes any
 unfoldable pub due_of : List Headed → Draft → Form → Result Due Kind
-due_of known d (forms.Hence raw) = due_of_hence d raw
-due_of known d (forms.Let raw) = due_of_let d raw
+due_of known d (forms.Hence raw) = lit_in d.in_scope raw >>= λ l. Ok (one_each (l ∷ []))
+due_of known d (forms.Let raw) = let_in d.in_scope raw >>= λ form. Ok (one_each (needs form))
 due_of known d (forms.Apply raw) = needs_of_use known d raw >>= λ ls. Ok (one_each ls)
-due_of known d (forms.Superpose raw) = due_of_superposition d raw
+due_of known d (forms.Superpose raw) = superpose_in d.in_scope raw >>= λ p. Ok (one_each (superposing.needs p.0))
 due_of known d (forms.Qed ns) = needs_at_qed d ns >>= λ ls. Ok (one_each ls)
 due_of known d forms.Contradiction = Ok (due.Contradiction None)
 due_of known d form = Ok due.Nothing

@@ -11,7 +11,6 @@ use e_book::{
     Form, RawApply, RawLet, RawLit, RawSuperpose, put_made_names, sort_word, superposition_pieces,
 };
 use e_construct::{Piece, Shape, pieces};
-use e_literal::Sort;
 use e_text::{Name, Title};
 use e_words::{put, put_names};
 use std::alloc::AllocError;
@@ -202,48 +201,28 @@ fn put_said(out: &mut Vec<u8>, word: &[u8], lit: &RawLit) -> Result<(), AllocErr
     put_literal(out, lit)
 }
 
-/// The first line of a theorem.
-fn put_title(out: &mut Vec<u8>, title: Title) -> Result<(), AllocError>
-    ensures { OnOk result (out.new.items ≡ out.old.items ++ line_of (forms.Theorem title)) }
-{
-    out.extend_from_slice(b"theorem")?;
-    put(out, title.bytes())
-}
-
-/// A line of made objects.
-fn put_made(out: &mut Vec<u8>, sort: Sort, names: &[Name]) -> Result<(), AllocError>
-    ensures { OnOk result (out.new.items ≡ out.old.items ++ line_of (forms.Made sort names.now)) }
-{
-    out.extend_from_slice(b"made")?;
-    put(out, sort_word(sort))?;
-    put_names(out, names)
-}
-
-/// A citation.
-fn put_citation(
-    out: &mut Vec<u8>,
-    rule: Title,
-    names: &[Name],
-    lit: &RawLit,
-) -> Result<(), AllocError>
-    ensures { OnOk result (out.new.items ≡ out.old.items ++ line_of (forms.By rule names.now lit.now)) }
-{
-    out.extend_from_slice(b"by")?;
-    put_by(out, rule, names, lit)
-}
-
 /// The line of a form, without its end.
 pub(crate) fn put_form(out: &mut Vec<u8>, form: &Form) -> Result<(), AllocError>
     ensures { OnOk result (out.new.items ≡ out.old.items ++ line_of form.now) }
 {
     match form {
-        Form::Theorem(title) => put_title(out, *title),
+        Form::Theorem(title) => {
+            out.extend_from_slice(b"theorem")?;
+            put(out, title.bytes())
+        }
         Form::Declare(sort, names) => put_named(out, sort_word(*sort), names.items()),
         Form::Given(lits) => put_stated(out, b"given", lits.items()),
-        Form::Made(sort, names) => put_made(out, *sort, names.items()),
+        Form::Made(sort, names) => {
+            out.extend_from_slice(b"made")?;
+            put(out, sort_word(*sort))?;
+            put_names(out, names.items())
+        }
         Form::Show(lits) => put_stated(out, b"show", lits.items()),
         Form::Proof => out.extend_from_slice(b"proof"),
-        Form::By(rule, names, lit) => put_citation(out, *rule, names.items(), lit),
+        Form::By(rule, names, lit) => {
+            out.extend_from_slice(b"by")?;
+            put_by(out, *rule, names.items(), lit)
+        }
         Form::Hence(lit) => put_said(out, b"hence", lit),
         Form::Let(raw) => put_let(out, raw),
         Form::Apply(raw) => put_apply(out, raw),

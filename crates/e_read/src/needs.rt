@@ -21,8 +21,8 @@ ghost use Rattle.e_read.specs.Needs.{open_goal, one_each, needs_in, due_of};
 use crate::kept::Certs;
 use crate::owed::Due;
 use e_book::{
-    Draft, Form, Kind, Known, Opened, Outer, RawApply, RawLet, RawLit, RawSuperpose, Trouble,
-    apply_in, let_in, lit_in, qed_in, scope_of_names, superpose_in,
+    Draft, Form, Kind, Known, Opened, Outer, RawApply, Trouble, apply_in, let_in, lit_in, qed_in,
+    scope_of_names, superpose_in,
 };
 use e_literal::{Items, Lit, Map, Obj, Scope, Sort, grown, next_objects};
 use e_text::Name;
@@ -179,37 +179,6 @@ fn needs_at_qed(alloc: Global, draft: &Draft, names: &[Name]) -> Result<Items<Li
     Ok(needs)
 }
 
-/// What a literal that is to be allowed owes.
-fn due_of_hence(alloc: Global, draft: &Draft, raw: &RawLit) -> Result<Due, Trouble>
-    requires { FitsDraft draft.now }
-    ensures { Gives (λ d. d) result (Needs.due_of_hence draft.now raw.now) }
-{
-    let mut wanted = Items::empty(alloc);
-    let lit = lit_in(alloc, &draft.in_scope, raw)?;
-    wanted.push(lit)?;
-    Ok(one_each(alloc, wanted))
-}
-
-/// What a construction owes.
-fn due_of_let(alloc: Global, draft: &Draft, raw: &RawLet) -> Result<Due, Trouble>
-    requires { FitsDraft draft.now }
-    ensures { Gives (λ d. d) result (Needs.due_of_let draft.now raw.now) }
-{
-    let form = let_in(alloc, &draft.in_scope, raw)?;
-    let needs = form.needs(alloc)?;
-    Ok(one_each(alloc, Items::new(needs)))
-}
-
-/// What a superposition owes.
-fn due_of_superposition(alloc: Global, draft: &Draft, raw: &RawSuperpose) -> Result<Due, Trouble>
-    requires { FitsDraft draft.now }
-    ensures { Gives (λ d. d) result (Needs.due_of_superposition draft.now raw.now) }
-{
-    let placement = superpose_in(alloc, &draft.in_scope, raw)?;
-    let needs = placement.form.needs(alloc)?;
-    Ok(one_each(alloc, Items::new(needs)))
-}
-
 /// What a line owes.
 #[tactic(auto, unfolding(crate::specs::Needs::due_of))]
 pub(crate) fn due_of(
@@ -224,13 +193,26 @@ pub(crate) fn due_of(
     ensures { Gives (λ d. d) result (due_of known.now draft.now form.now) }
 {
     match form {
-        Form::Hence(raw) => due_of_hence(alloc, draft, raw),
-        Form::Let(raw) => due_of_let(alloc, draft, raw),
+        Form::Hence(raw) => {
+            let mut wanted = Items::empty(alloc);
+            let lit = lit_in(alloc, &draft.in_scope, raw)?;
+            wanted.push(lit)?;
+            Ok(one_each(alloc, wanted))
+        }
+        Form::Let(raw) => {
+            let form = let_in(alloc, &draft.in_scope, raw)?;
+            let needs = form.needs(alloc)?;
+            Ok(one_each(alloc, Items::new(needs)))
+        }
         Form::Apply(raw) => {
             let needs = needs_of_use(alloc, known, draft, raw)?;
             Ok(one_each(alloc, needs))
         }
-        Form::Superpose(raw) => due_of_superposition(alloc, draft, raw),
+        Form::Superpose(raw) => {
+            let placement = superpose_in(alloc, &draft.in_scope, raw)?;
+            let needs = placement.form.needs(alloc)?;
+            Ok(one_each(alloc, Items::new(needs)))
+        }
         Form::Qed(names) => {
             let needs = needs_at_qed(alloc, draft, names.items())?;
             Ok(one_each(alloc, needs))

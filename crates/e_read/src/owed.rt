@@ -3,7 +3,6 @@ ghost use Rattle.std.specs.Prelude.{◌≡◌, ◌+◌, ◌++◌, ◌∷◌, [],
 ghost use Rattle.e_clause.specs.Instance.{place_of};
 ghost use Rattle.e_clause.specs.declared.cert.Part.TheVariants as parts;
 ghost use Rattle.e_book.specs.Reading.{Gives};
-ghost use Rattle.e_read.specs.declared.mark.Mark.TheVariants as marks;
 ghost use Rattle.e_book.specs.Scope.{FewNames};
 ghost use Rattle.e_read.specs.Owed.{fact_in, row_in, with_row, row_put, sum_begun, differs_put, sums_ended, has_more, transfer_put, part_put, metric_put, takes_metric, clash_put, transfer_rule, count_others, transfer_at, transfer_in, transfer_begun, ended, marked, kept_of, settled};
 
@@ -491,176 +490,121 @@ impl Owed {
     }
 
     /// What is owed behind a line of a certificate.
+    #[tactic(auto, unfolding(crate::specs::Owed::marked))]
     pub(crate) fn marked(self, alloc: Global, mark: &Mark) -> Result<Owed, Trouble>
         requires { FewNames self.names }
         ensures value { Gives (λ o. o) result (marked self mark.now) }
         ensures names { IfOk result (λ o. o.names ≡ self.names) }
     {
         match mark {
-            Mark::Fact => self.behind_fact(),
-            Mark::Metric => self.behind_metric(),
-            Mark::Transfer(title, raws) => self.behind_transfer(alloc, *title, raws.items()),
-            Mark::Clash(raw) => self.behind_clash(alloc, raw),
-            Mark::Sum => self.behind_sum(alloc),
-            Mark::Differs(raw) => self.behind_differs(alloc, raw),
-            Mark::Row(multiplier, raw) => self.behind_row(alloc, *multiplier, raw),
-        }
-    }
-
-    /// What is owed behind a fact.
-    #[tactic(auto, unfolding(crate::specs::Owed::marked))]
-    fn behind_fact(self) -> Result<Owed, Trouble>
-        requires { FewNames self.names }
-        ensures value { Gives (λ o. o) result (marked self marks.Fact) }
-        ensures names { IfOk result (λ o. o.names ≡ self.names) }
-    {
-        let Owed { names, due, sums } = self.ended()?;
-        match part_put(due, Part::Fact) {
-            Ok(due) => Ok(Owed { names, due, sums }),
-            Err(trouble) => {
-                mem::drop(names);
-                mem::drop(sums);
-                Err(trouble)
+            Mark::Fact => {
+                let Owed { names, due, sums } = self.ended()?;
+                match part_put(due, Part::Fact) {
+                    Ok(due) => Ok(Owed { names, due, sums }),
+                    Err(trouble) => {
+                        mem::drop(names);
+                        mem::drop(sums);
+                        Err(trouble)
+                    }
+                }
             }
-        }
-    }
-
-    /// What is owed behind the head of a metric certificate.
-    #[tactic(auto, unfolding(crate::specs::Owed::marked))]
-    fn behind_metric(self) -> Result<Owed, Trouble>
-        requires { FewNames self.names }
-        ensures value { Gives (λ o. o) result (marked self marks.Metric) }
-        ensures names { IfOk result (λ o. o.names ≡ self.names) }
-    {
-        let mut owed = self.ended()?;
-        if !takes_metric(&owed.due) {
-            mem::drop(owed);
-            return Err(malformed());
-        }
-        mem::drop(mem::replace(&mut owed.sums, Some(OpenSums::Begun)));
-        Ok(owed)
-    }
-
-    /// What is owed behind the head of a transfer.
-    #[tactic(auto, unfolding(crate::specs::Owed::marked))]
-    fn behind_transfer(self, alloc: Global, title: Title, raws: &[Name]) -> Result<Owed, Trouble>
-        requires { FewNames self.names }
-        ensures value { Gives (λ o. o) result (marked self (marks.Transfer title raws.now)) }
-        ensures names { IfOk result (λ o. o.names ≡ self.names) }
-    {
-        let Owed { names, due, sums } = self.ended()?;
-        match transfer_begun(alloc, &names, due, title, raws) {
-            Ok(due) => Ok(Owed { names, due, sums }),
-            Err(trouble) => {
-                mem::drop(names);
-                mem::drop(sums);
-                Err(trouble)
+            Mark::Metric => {
+                let mut owed = self.ended()?;
+                if !takes_metric(&owed.due) {
+                    mem::drop(owed);
+                    return Err(malformed());
+                }
+                mem::drop(mem::replace(&mut owed.sums, Some(OpenSums::Begun)));
+                Ok(owed)
             }
-        }
-    }
-
-    /// What is owed behind a clash.
-    #[tactic(auto, unfolding(crate::specs::Owed::marked))]
-    fn behind_clash(self, alloc: Global, raw: &RawLit) -> Result<Owed, Trouble>
-        requires { FewNames self.names }
-        ensures value { Gives (λ o. o) result (marked self (marks.Clash raw.now)) }
-        ensures names { IfOk result (λ o. o.names ≡ self.names) }
-    {
-        let owed = self.ended()?;
-        let lit = match lit_in(alloc, &owed.names, raw) {
-            Ok(lit) => lit,
-            Err(trouble) => {
-                mem::drop(owed);
-                return Err(trouble);
+            Mark::Transfer(title, raws) => {
+                let Owed { names, due, sums } = self.ended()?;
+                match transfer_begun(alloc, &names, due, *title, raws.items()) {
+                    Ok(due) => Ok(Owed { names, due, sums }),
+                    Err(trouble) => {
+                        mem::drop(names);
+                        mem::drop(sums);
+                        Err(trouble)
+                    }
+                }
             }
-        };
-        let Owed { names, due, sums } = owed;
-        match clash_put(due, lit) {
-            Ok(due) => Ok(Owed { names, due, sums }),
-            Err(trouble) => {
-                mem::drop(names);
-                mem::drop(sums);
-                Err(trouble)
+            Mark::Clash(raw) => {
+                let owed = self.ended()?;
+                let lit = match lit_in(alloc, &owed.names, raw) {
+                    Ok(lit) => lit,
+                    Err(trouble) => {
+                        mem::drop(owed);
+                        return Err(trouble);
+                    }
+                };
+                let Owed { names, due, sums } = owed;
+                match clash_put(due, lit) {
+                    Ok(due) => Ok(Owed { names, due, sums }),
+                    Err(trouble) => {
+                        mem::drop(names);
+                        mem::drop(sums);
+                        Err(trouble)
+                    }
+                }
             }
-        }
-    }
-
-    /// What is owed behind the head of a sum.
-    #[tactic(auto, unfolding(crate::specs::Owed::marked))]
-    fn behind_sum(self, alloc: Global) -> Result<Owed, Trouble>
-        requires { FewNames self.names }
-        ensures value { Gives (λ o. o) result (marked self marks.Sum) }
-        ensures names { IfOk result (λ o. o.names ≡ self.names) }
-    {
-        let Owed { names, due, sums } = self;
-        match sum_begun(alloc, sums) {
-            Ok(sums) => Ok(Owed {
-                names,
-                due,
-                sums: Some(sums),
-            }),
-            Err(trouble) => {
-                mem::drop(names);
-                mem::drop(due);
-                Err(trouble)
+            Mark::Sum => {
+                let Owed { names, due, sums } = self;
+                match sum_begun(alloc, sums) {
+                    Ok(sums) => Ok(Owed {
+                        names,
+                        due,
+                        sums: Some(sums),
+                    }),
+                    Err(trouble) => {
+                        mem::drop(names);
+                        mem::drop(due);
+                        Err(trouble)
+                    }
+                }
             }
-        }
-    }
-
-    /// What is owed behind a row that differs.
-    #[tactic(auto, unfolding(crate::specs::Owed::marked))]
-    fn behind_differs(self, alloc: Global, raw: &RawRow) -> Result<Owed, Trouble>
-        requires { FewNames self.names }
-        ensures value { Gives (λ o. o) result (marked self (marks.Differs raw.now)) }
-        ensures names { IfOk result (λ o. o.names ≡ self.names) }
-    {
-        let differs = match row_in(alloc, &self.names, raw) {
-            Ok(differs) => differs,
-            Err(trouble) => {
-                mem::drop(self);
-                return Err(trouble);
+            Mark::Differs(raw) => {
+                let differs = match row_in(alloc, &self.names, raw) {
+                    Ok(differs) => differs,
+                    Err(trouble) => {
+                        mem::drop(self);
+                        return Err(trouble);
+                    }
+                };
+                let Owed { names, due, sums } = self;
+                match differs_put(sums, differs) {
+                    Ok(sums) => Ok(Owed {
+                        names,
+                        due,
+                        sums: Some(sums),
+                    }),
+                    Err(trouble) => {
+                        mem::drop(names);
+                        mem::drop(due);
+                        Err(trouble)
+                    }
+                }
             }
-        };
-        let Owed { names, due, sums } = self;
-        match differs_put(sums, differs) {
-            Ok(sums) => Ok(Owed {
-                names,
-                due,
-                sums: Some(sums),
-            }),
-            Err(trouble) => {
-                mem::drop(names);
-                mem::drop(due);
-                Err(trouble)
-            }
-        }
-    }
-
-    /// What is owed behind a row of a sum.
-    #[tactic(auto, unfolding(crate::specs::Owed::marked))]
-    fn behind_row(self, alloc: Global, multiplier: i128, raw: &RawRow) -> Result<Owed, Trouble>
-        requires { FewNames self.names }
-        ensures value { Gives (λ o. o) result (marked self (marks.Row multiplier raw.now)) }
-        ensures names { IfOk result (λ o. o.names ≡ self.names) }
-    {
-        let row = match row_in(alloc, &self.names, raw) {
-            Ok(row) => row,
-            Err(trouble) => {
-                mem::drop(self);
-                return Err(trouble);
-            }
-        };
-        let Owed { names, due, sums } = self;
-        match row_put(sums, multiplier, row) {
-            Ok(sums) => Ok(Owed {
-                names,
-                due,
-                sums: Some(sums),
-            }),
-            Err(trouble) => {
-                mem::drop(names);
-                mem::drop(due);
-                Err(trouble)
+            Mark::Row(multiplier, raw) => {
+                let row = match row_in(alloc, &self.names, raw) {
+                    Ok(row) => row,
+                    Err(trouble) => {
+                        mem::drop(self);
+                        return Err(trouble);
+                    }
+                };
+                let Owed { names, due, sums } = self;
+                match row_put(sums, *multiplier, row) {
+                    Ok(sums) => Ok(Owed {
+                        names,
+                        due,
+                        sums: Some(sums),
+                    }),
+                    Err(trouble) => {
+                        mem::drop(names);
+                        mem::drop(due);
+                        Err(trouble)
+                    }
+                }
             }
         }
     }
