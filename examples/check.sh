@@ -1,0 +1,104 @@
+#!/usr/bin/env bash
+# Checks every example book against its stored answer: NAME.out has the last lines that the
+# program writes for NAME.book. The exit status has to be that of the answer, and where a book is
+# accepted, `verify` has to accept what `check` wrote of it. Euclid's Book I is joined from its files
+# in book-1/, which has to give book-1.book, byte for byte.
+#
+#     bash examples/check.sh
+#
+# The program is crates/elements/out/elements, or the one that the variable ELEMENTS names. The
+# last line is `N passed, M failed`; the exit status is 0 only where nothing failed.
+set -u
+here=$(cd "$(dirname "$0")" && pwd) || exit 1
+program=${ELEMENTS:-$here/../crates/elements/out/elements}
+if [ ! -x "$program" ]; then
+    echo "no program at $program: build it by (cd crates/elements && rt run), or set ELEMENTS" >&2
+    echo "0 passed, 1 failed"
+    exit 1
+fi
+work=$(mktemp -d) || exit 1
+trap 'rm -rf "$work"' EXIT
+passed=0
+failed=0
+
+pass() { passed=$((passed + 1)); }
+# fail WHAT: one line for people
+fail() {
+    failed=$((failed + 1))
+    echo "FAILED $1"
+}
+
+# status_of ANSWER: the exit status that goes with the first line of an answer
+status_of() {
+    case $1 in
+        accepted*) echo 0 ;;
+        unlicensed*) echo 1 ;;
+        fault*) echo 2 ;;
+        too-wide*) echo 8 ;;
+        *) echo none ;;
+    esac
+}
+
+# try_book NAME BOOK ANSWER: checks one book, and verifies what was written of it
+try_book() {
+    if [ ! -s "$3" ]; then
+        fail "$1: it has no stored answer $3"
+        return
+    fi
+    "$program" check <"$2" >"$work/text" 2>"$work/errors"
+    status=$?
+    wanted=$(cat "$3")
+    lines=$(printf '%s\n' "$wanted" | wc -l)
+    found=$(tail -n "$lines" "$work/text")
+    if [ "$found" != "$wanted" ]; then
+        fail "$1: wanted"
+        printf '%s\n' "$wanted" | sed 's/^/    /'
+        echo "  found, with status $status"
+        printf '%s\n' "$found" | sed 's/^/    /'
+        return
+    fi
+    if [ "$status" != "$(status_of "$wanted")" ]; then
+        fail "$1: the answer is as stored, but the exit status is $status"
+        return
+    fi
+    pass
+    case $wanted in
+        accepted*) ;;
+        *) return ;;
+    esac
+    answer=$("$program" verify <"$work/text" 2>"$work/errors")
+    status=$?
+    if [ "$answer" = "verified ${wanted#accepted }" ] && [ "$status" = 0 ]; then
+        pass
+    else
+        fail "$1: verify answers '$answer', with status $status"
+    fi
+}
+
+for book in "$here"/*.book "$here"/refused/*.book "$here"/pitfalls/*.book "$here"/tutorial/*.book; do
+    # Book I takes longest, and is the same text as its files joined, below
+    [ "$book" = "$here/book-1.book" ] && continue
+    try_book "${book#"$here"/}" "$book" "${book%.book}.out"
+done
+
+# Book I from its files
+: >"$work/joined.book"
+while read -r file; do
+    cat "$here/book-1/$file" >>"$work/joined.book" || fail "book-1/$file: it cannot be read"
+done <"$here/book-1/order.txt"
+listed=$(LC_ALL=C sort "$here/book-1/order.txt")
+there=$(cd "$here/book-1" && printf '%s\n' *.book | LC_ALL=C sort)
+if [ "$listed" = "$there" ]; then
+    pass
+else
+    fail "book-1/order.txt: it does not list each file of book-1/ once"
+fi
+if cmp -s "$work/joined.book" "$here/book-1.book"; then
+    pass
+else
+    fail "book-1.book: it is not book-1/ joined in the order of book-1/order.txt"
+fi
+try_book "book-1/, joined" "$work/joined.book" "$here/book-1.out"
+
+echo "$passed passed, $failed failed"
+[ "$failed" = 0 ]
