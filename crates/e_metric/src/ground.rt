@@ -134,7 +134,8 @@ impl Ground {
     {
         let names = self.names_with(alloc, names)?;
         let rows = self.rows_with(alloc, rows)?;
-        certificate_of(alloc, which, facts, Some(goal), names, &rows, absurdity)
+        let cert = certificate_of(alloc, which, facts, Some(goal), names, &rows, absurdity)?;
+        Ok(cert)
     }
 
     // What is told where the goal has these rows, by what is settled.

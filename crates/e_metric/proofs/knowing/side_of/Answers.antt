@@ -1,4 +1,4 @@
-use Rattle.std.proofs.Common.{◌≤◌, ◌^◌, length, subst, sym, ◌∙◌, ap, None, refl}
+use Rattle.std.proofs.Common.{◌≤◌, ◌^◌, ◌∷◌, [], length, subst, sym, ◌∙◌, ap, None, refl}
 use Rattle.e_literal.specs.Minor.{IsWide}
 use Rattle.e_literal.specs.Width.{width}
 use Rattle.e_clause.specs.System.{system}
@@ -6,6 +6,8 @@ use Rattle.e_fraction.specs.Limits.{all_small}
 use Rattle.e_fraction.specs.Views.{all_seen}
 use Rattle.e_simplex.specs.Answer.{IsRefuted}
 use Rattle.e_simplex.specs.Settling.{IsSettling}
+use Rattle.e_literal.specs.declared.object.Term.TheVariants.{Right}
+use Rattle.e_metric.specs.Listed.{listed, terms_of_kind}
 use Rattle.e_metric.specs.Certificate.{sums_of}
 use Rattle.e_metric.proofs.Kept.{named_of, few_named, small_named, short_named, refuted_named}
 use Rattle.e_metric.proofs.Reordered.{same_order}
@@ -21,12 +23,12 @@ settle-requires-clause-coefficients c = small_named c.args.which c.args.facts.no
 pub settle-requires-clause-short : goal.settle-requires-clause-short
 settle-requires-clause-short c = short_named c.args.which c.args.facts.now None (system c.args.which c.args.facts.now None) (same_order (system c.args.which c.args.facts.now None)) c.in_ok-names.names.items c.in_ok-names.rows.items (named_of (system c.args.which c.args.facts.now None) c.in_ok-named.named.items c.in_ok-names.names.items c.in_ok-names.rows.items c.in_ok-named.ensures.rows c.in_ok-named.ensures.limited c.in_ok-names.ensures.names c.in_ok-names.ensures.rows) c.requires.facts c.requires.few refl
 
-pub sums_of-requires-clause-few : goal.sums_of-requires-clause-few
-sums_of-requires-clause-few c =
+pub certificate_of-certified-requires-clause-few : goal.certificate_of-certified-requires-clause-few
+certificate_of-certified-requires-clause-few c =
     subst (λ rs. length rs ≤ 4096) (sym (c.deref-in-Absurd.ensures.value ∙ c.in_ok-kept.ensures ∙ c.deref.ensures.value)) (few_named c.args.which c.args.facts.now None (system c.args.which c.args.facts.now None) (same_order (system c.args.which c.args.facts.now None)) c.in_ok-names.names.items c.in_ok-names.rows.items (named_of (system c.args.which c.args.facts.now None) c.in_ok-named.named.items c.in_ok-names.names.items c.in_ok-names.rows.items c.in_ok-named.ensures.rows c.in_ok-named.ensures.limited c.in_ok-names.ensures.names c.in_ok-names.ensures.rows) c.requires.facts c.requires.few refl)
 
-pub sums_of-requires-clause-coefficients : goal.sums_of-requires-clause-coefficients
-sums_of-requires-clause-coefficients c =
+pub certificate_of-certified-requires-clause-coefficients : goal.certificate_of-certified-requires-clause-coefficients
+certificate_of-certified-requires-clause-coefficients c =
     ap all_small (c.deref-in-Absurd.ensures.value ∙ c.in_ok-kept.ensures ∙ c.deref.ensures.value) ∙ small_named c.args.which c.args.facts.now None (system c.args.which c.args.facts.now None) (same_order (system c.args.which c.args.facts.now None)) c.in_ok-names.names.items c.in_ok-names.rows.items (named_of (system c.args.which c.args.facts.now None) c.in_ok-named.named.items c.in_ok-names.names.items c.in_ok-names.rows.items c.in_ok-named.ensures.rows c.in_ok-named.ensures.limited c.in_ok-names.ensures.names c.in_ok-names.ensures.rows) c.requires.facts c.requires.few refl
 
 pub returns-in-TooWide : goal.returns-in-TooWide
@@ -36,8 +38,9 @@ returns-in-TooWide c =
     (c.width.ensures.value ∙ ap (λ rs. width (all_seen rs)) (c.deref-in-TooWide.ensures.value ∙ c.in_ok-kept.ensures ∙ c.deref.ensures.value)
     ∙ system_width c.args.which c.args.facts.now None c.in_ok-named.named.items c.in_ok-named.ensures.rows c.in_ok-names.rows.items c.in_ok-names.ensures.rows) h.0
 
-pub returns-in_ok-sums-in-Absurd : goal.returns-in_ok-sums-in-Absurd
-returns-in_ok-sums-in-Absurd c =
+pub returns-in_ok-certified-in-Absurd : goal.returns-in_ok-certified-in-Absurd
+returns-in_ok-certified-in-Absurd c =
     let h : IsRefuted (all_seen c.in_ok-names.rows.items) c.in-Absurd.absurdity = subst (IsSettling c.in_ok-names.rows.items) c.in-Absurd.is c.in_ok-settle.ensures in
-    refuted_named c.args.which c.args.facts.now None (system c.args.which c.args.facts.now None) (same_order (system c.args.which c.args.facts.now None)) c.in_ok-names.names.items c.in_ok-names.rows.items (named_of (system c.args.which c.args.facts.now None) c.in_ok-named.named.items c.in_ok-names.names.items c.in_ok-names.rows.items c.in_ok-named.ensures.rows c.in_ok-named.ensures.limited c.in_ok-names.ensures.names c.in_ok-names.ensures.rows) c.requires.facts c.requires.few refl c.deref-in-Absurd-2.result.now c.in-Absurd.absurdity c.in_ok-sums-in-Absurd.sums (c.deref-in-Absurd-2.ensures.value ∙ c.in_ok-terms-in-Absurd.ensures) h.refutes
-    (c.in_ok-sums-in-Absurd.ensures ∙ ap (λ rs. sums_of c.in_ok-names.names.items rs c.deref-in-Absurd-2.result.now c.in-Absurd.absurdity) (c.deref-in-Absurd.ensures.value ∙ c.in_ok-kept.ensures ∙ c.deref.ensures.value))
+    refuted_named c.args.which c.args.facts.now None (system c.args.which c.args.facts.now None) (same_order (system c.args.which c.args.facts.now None)) c.in_ok-names.names.items c.in_ok-names.rows.items (named_of (system c.args.which c.args.facts.now None) c.in_ok-named.named.items c.in_ok-names.names.items c.in_ok-names.rows.items c.in_ok-named.ensures.rows c.in_ok-named.ensures.limited c.in_ok-names.ensures.names c.in_ok-names.ensures.rows) c.requires.facts c.requires.few refl
+    (listed (terms_of_kind c.args.which c.args.facts.now None) (Right ∷ [])) c.in-Absurd.absurdity c.in_ok-certified-in-Absurd.field-0.sums refl h.refutes
+    (c.in_ok-certified-in-Absurd.ensures ∙ ap (λ rs. sums_of c.in_ok-names.names.items rs (listed (terms_of_kind c.args.which c.args.facts.now None) (Right ∷ [])) c.in-Absurd.absurdity) (c.deref-in-Absurd.ensures.value ∙ c.in_ok-kept.ensures ∙ c.deref.ensures.value))

@@ -1,10 +1,9 @@
-use Rattle.std.proofs.Common.{length, ◌≤◌, ◌^◌, ◌++◌, ◌∙◌, ap, subst, sym}
+use Rattle.std.proofs.Common.{◌≤◌, ◌^◌, ◌++◌, subst}
 use Rattle.e_literal.specs.Minor.{IsWide}
 use Rattle.e_literal.specs.Width.{width}
 use Rattle.e_fraction.specs.Views.{all_seen}
-use Rattle.e_simplex.specs.Answer.{IsVerdict, AreValuesOf, IsRefuted, assigned}
-use Rattle.e_fraction.specs.Limits.{all_small}
-use Rattle.e_metric.proofs.Kept.{few_together, small_together, short_together, solved_together, wide_together, same_rows, refuted_together}
+use Rattle.e_simplex.specs.Answer.{IsVerdict, AreValuesOf, assigned}
+use Rattle.e_metric.proofs.Kept.{few_together, small_together, short_together, solved_together, wide_together}
 use Rattle.e_metric.proofs.ground.Ground.decided.Goals as goal
 
 pub decide_with-requires-clause-few : goal.decide_with-requires-clause-few
@@ -15,14 +14,6 @@ decide_with-requires-clause-coefficients c = small_together c.args.which c.args.
 
 pub decide_with-requires-clause-short : goal.decide_with-requires-clause-short
 decide_with-requires-clause-short c = short_together c.args.which c.args.facts.now c.args.goal.now c.args.self.now c.requires.ground c.args.names.now c.args.rows.now c.requires.more c.requires.facts c.requires.few c.requires.goal
-
-pub sums_of-requires-clause-few : goal.sums_of-requires-clause-few
-sums_of-requires-clause-few c =
-    subst (λ rs. length rs ≤ 4096) (sym (same_rows c.args.which c.args.facts.now c.args.goal.now c.args.self.now c.requires.ground c.args.names.now c.args.rows.now c.requires.more c.requires.facts c.requires.few c.requires.goal c.deref.result.now (c.deref.ensures.value ∙ c.in_ok-rows-in-Absurd.ensures))) (few_together c.args.which c.args.facts.now c.args.goal.now c.args.self.now c.requires.ground c.args.names.now c.args.rows.now c.requires.more c.requires.facts c.requires.few c.requires.goal)
-
-pub sums_of-requires-clause-coefficients : goal.sums_of-requires-clause-coefficients
-sums_of-requires-clause-coefficients c =
-    ap all_small (same_rows c.args.which c.args.facts.now c.args.goal.now c.args.self.now c.requires.ground c.args.names.now c.args.rows.now c.requires.more c.requires.facts c.requires.few c.requires.goal c.deref.result.now (c.deref.ensures.value ∙ c.in_ok-rows-in-Absurd.ensures)) ∙ small_together c.args.which c.args.facts.now c.args.goal.now c.args.self.now c.requires.ground c.args.names.now c.args.rows.now c.requires.more c.requires.facts c.requires.few c.requires.goal
 
 pub returns-in-Holds : goal.returns-in-Holds
 returns-in-Holds c =
@@ -36,10 +27,3 @@ returns-in_ok-width-in-TooWide c =
     let h : IsWide (all_seen (c.args.self.now.settled ++ c.args.rows.now)) × (2 ^ 63 ≤ width (all_seen (c.args.self.now.settled ++ c.args.rows.now))) =
     subst (IsVerdict (all_seen (c.args.self.now.settled ++ c.args.rows.now))) c.in-TooWide.is v in
     wide_together c.args.which c.args.facts.now c.args.goal.now c.args.self.now c.requires.ground c.args.names.now c.args.rows.now c.requires.more c.requires.facts c.requires.few c.requires.goal c.in_ok-width-in-TooWide.width c.in_ok-width-in-TooWide.ensures h.0
-
-pub returns-in_ok-sums-in-Absurd : goal.returns-in_ok-sums-in-Absurd
-returns-in_ok-sums-in-Absurd c =
-    let v : IsVerdict (all_seen (c.args.self.now.settled ++ c.args.rows.now)) c.in_ok-values.field-0 = c.in_ok-values.ensures.verdict in
-    let h : IsRefuted (all_seen (c.args.self.now.settled ++ c.args.rows.now)) c.in-Absurd.absurdity = subst (IsVerdict (all_seen (c.args.self.now.settled ++ c.args.rows.now))) c.in-Absurd.is v in
-    refuted_together c.args.which c.args.facts.now c.args.goal.now c.args.self.now c.requires.ground c.args.names.now c.args.rows.now c.requires.more c.requires.facts c.requires.few c.requires.goal c.in_ok-names-in-Absurd.names.items c.deref.result.now c.deref-in-Absurd.result.now c.in-Absurd.absurdity c.in_ok-sums-in-Absurd.sums
-    c.in_ok-names-in-Absurd.ensures (c.deref.ensures.value ∙ c.in_ok-rows-in-Absurd.ensures) (c.deref-in-Absurd.ensures.value ∙ c.in_ok-terms-in-Absurd.ensures) h.refutes c.in_ok-sums-in-Absurd.ensures
