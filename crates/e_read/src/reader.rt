@@ -15,7 +15,6 @@ use crate::reading::Reading;
 use e_book::{Known, Theorem, Trouble};
 use e_text::{Line, Lines, faulty_line};
 use std::alloc::{AllocError, Global};
-use std::mem;
 use thiserror::Error;
 
 /// What stands in a derivation text.
@@ -126,23 +125,9 @@ fn read_piece(alloc: Global, lines: &mut Lines, known: &Known) -> Result<Piece, 
 {
     let mut reading = Reading::new(alloc);
     loop {
-        let line = match seen_line(lines) {
-            Ok(line) => line,
-            Err(fault) => {
-                mem::drop(reading);
-                return Err(fault);
-            }
-        };
-        let turn = match turned(alloc, known, &mut reading, line) {
-            Ok(turn) => turn,
-            Err(fault) => {
-                mem::drop(reading);
-                return Err(fault);
-            }
-        };
-        match turn {
+        let line = seen_line(lines)?;
+        match turned(alloc, known, &mut reading, line)? {
             Turn::Last => {
-                mem::drop(reading);
                 return Ok(Piece::Last {
                     theorems: known.len() as u32,
                 });
