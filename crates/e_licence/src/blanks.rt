@@ -3,10 +3,7 @@
 ghost use Rattle.std.specs.Prelude.{◌≡◌, ◌-◌, ◌<◌, ◌^◌, ◌==◌, IsTrue, IfOk, length, take};
 ghost use Rattle.std.specs.List.{list_any};
 ghost use Rattle.e_literal.specs.Scopes.{nothing, next_objects as declared_objects};
-ghost use Rattle.e_literal.specs.Rename;
-ghost use Rattle.e_literal.specs.Rename.{image_in};
 ghost use Rattle.e_literal.specs.Use.{is_statement};
-ghost use Rattle.e_clause.specs.Judged;
 ghost use Rattle.e_theorem.specs.Pattern.{is_pattern};
 ghost use Rattle.e_theorem.specs.Statements.{stated};
 ghost use Rattle.e_licence.specs.Filling;
@@ -20,7 +17,6 @@ use e_literal::{Items, Lit, Map, Obj, Scope, count, next_objects, renamed};
 use e_theorem::Statement;
 use e_transfer::{Outcome, Span, Task, Verdict, search};
 use std::alloc::{AllocError, Global};
-use std::mem;
 
 /// What is answered on the blanks of an application.
 #[derive(Drop)]
@@ -165,16 +161,6 @@ fn left(entry: Option<Obj>, rest: &[u16]) -> &[u16]
     }
 }
 
-/// Whether the literal, with these images, is in scope and well formed.
-fn is_good_at(alloc: Global, scope: Scope, lit: &Lit, images: &Map) -> Result<bool, AllocError>
-    ensures { IfOk result (λ b. b ≡ Judged.is_good scope (Rename.renamed (image_in images.now) lit.now)) }
-{
-    let image = renamed(alloc, lit, images)?;
-    let good = is_good(scope, &image);
-    mem::drop(image);
-    Ok(good)
-}
-
 impl<'a> Blanks<'a> {
     /// The images of the declared objects by the first numbers of a choice.
     fn images(&self, alloc: Global, part: &[u16]) -> Result<Map, AllocError>
@@ -198,21 +184,15 @@ impl<'a> Blanks<'a> {
         ensures { IfOk result (OneIs self.now.context.now images.now earlier.now first lit.now) }
     {
         let scope = self.context.scope();
-        if !first && is_good_at(alloc, scope, lit, earlier)? {
-            return Ok(Verdict::Keep(()));
-        }
         let image = renamed(alloc, lit, images)?;
         if !is_good(scope, &image) {
-            mem::drop(image);
             return Ok(Verdict::Keep(()));
         }
-        let licensed = licence(alloc, self.context, &image);
-        mem::drop(image);
-        match licensed? {
-            Licensed::Yes(cert) => {
-                mem::drop(cert);
-                Ok(Verdict::Keep(()))
-            }
+        if !first && is_good(scope, &renamed(alloc, lit, earlier)?) {
+            return Ok(Verdict::Keep(()));
+        }
+        match licence(alloc, self.context, &image)? {
+            Licensed::Yes(_) => Ok(Verdict::Keep(())),
             Licensed::No(_) => Ok(Verdict::Refuse),
             Licensed::TooWide(width) => Ok(Verdict::Stop(width)),
         }
