@@ -16,7 +16,6 @@ use e_read::{Piece, TextFault, read};
 use e_text::{Line, LineEnd, Lines, faulty_line};
 use e_verify::{Reject, verify};
 use std::alloc::{AllocError, Global};
-use std::mem;
 
 /// The most bytes that a line of a derivation text may have.
 const LONGEST_LINE: usize = 262_144;
@@ -60,15 +59,7 @@ fn keep(known: &mut Known, theorem: Theorem) -> Result<(), AllocError>
     requires { is_known known.old theorem.title ≡ false }
     ensures { OnOk result (known.new ≡ known.old ++ headed theorem.title theorem.statement ∷ []) }
 {
-    let Theorem {
-        title,
-        names,
-        statement,
-        block,
-    } = theorem;
-    mem::drop(names);
-    mem::drop(block);
-    known.add(title, statement)
+    known.add(theorem.title, theorem.statement)
 }
 
 /// Judges the theorems one after another.
@@ -87,13 +78,9 @@ fn judge_theorems(alloc: Global, lines: &mut Lines) -> Result<Judgement, AllocEr
             Ok(()) => {}
             Err(Reject::Bad { step }) => {
                 let title = theorem.title;
-                mem::drop(theorem);
                 return Ok(Judgement::Bad { title, step });
             }
-            Err(Reject::NoMemory) => {
-                mem::drop(theorem);
-                return Err(AllocError);
-            }
+            Err(Reject::NoMemory) => return Err(AllocError),
         }
         keep(&mut known, theorem)?;
     }

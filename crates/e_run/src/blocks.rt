@@ -18,7 +18,6 @@ use e_prove::prove;
 use e_spell::spell;
 use e_text::{Lines, Title};
 use std::alloc::{AllocError, Global};
-use std::mem;
 
 /// How the blocks of a book end.
 #[derive(Drop)]
@@ -47,9 +46,7 @@ fn block(alloc: Global, known: &Known, theorem: &Theorem) -> Result<Vec<u8>, Sto
     ensures names { IfErr result (HasNames (stated_by known.now) (stated theorem.now.statement) theorem.now.names (script_of theorem.now.block)) }
 {
     let derivation = prove(alloc, known.statements(), theorem)?;
-    let text = spell(alloc, known, theorem, &derivation);
-    mem::drop(derivation);
-    Ok(text?)
+    Ok(spell(alloc, known, theorem, &derivation)?)
 }
 
 /// The next theorem stops, or memory ran out.
@@ -57,7 +54,6 @@ fn stopped(title: Title, stop: Stop) -> Result<Ending, Broken>
     ensures { result ≡ stop_ending title stop }
 {
     if matches!(stop, Stop::NoMemory) {
-        mem::drop(stop);
         return Err(Broken::NoMemory);
     }
     Ok(Ending::Stopped { title, stop })
@@ -68,15 +64,7 @@ fn keep(known: &mut Known, theorem: Theorem) -> Result<(), AllocError>
     requires { is_known known.old theorem.title ≡ false }
     ensures { OnOk result (known.new ≡ known.old ++ headed theorem.title theorem.statement ∷ []) }
 {
-    let Theorem {
-        title,
-        names,
-        statement,
-        block,
-    } = theorem;
-    mem::drop(names);
-    mem::drop(block);
-    known.add(title, statement)
+    known.add(theorem.title, theorem.statement)
 }
 
 /// Takes the theorems one after another, and writes the block of each.
@@ -99,14 +87,9 @@ pub fn blocks<K: Sink>(alloc: Global, lines: &mut Lines, sink: &mut K) -> Result
         };
         let block = match block(alloc, &known, &theorem) {
             Ok(block) => block,
-            Err(stop) => {
-                let title = theorem.title;
-                mem::drop(theorem);
-                return stopped(title, stop);
-            }
+            Err(stop) => return stopped(theorem.title, stop),
         };
         let Ok(()) = write_all(sink, &block) else {
-            mem::drop(theorem);
             return Err(Broken::WriteFault);
         };
         let count = size(&theorem.block);

@@ -15,7 +15,6 @@ use e_io::{Sink, Source, write_all};
 use e_spell::spell_stop;
 use e_text::{Lines, Title};
 use std::alloc::{AllocError, Global};
-use std::mem;
 
 /// Writes the last lines of an answer, and gives the answer.
 pub fn close<K: Sink>(sink: &mut K, last: &[u8], answer: Status) -> Status
@@ -27,10 +26,7 @@ pub fn close<K: Sink>(sink: &mut K, last: &[u8], answer: Status) -> Status
 {
     match write_all(sink, last) {
         Ok(()) => answer,
-        Err(_) => {
-            mem::drop(answer);
-            Status::WriteFault
-        }
+        Err(_) => Status::WriteFault,
     }
 }
 
@@ -104,10 +100,7 @@ pub fn check_lines<K: Sink>(alloc: Global, lines: &mut Lines, sink: &mut K) -> S
     };
     match last_lines(alloc, &ending) {
         Ok(last) => close(sink, &last, answer_of(ending)),
-        Err(_) => {
-            mem::drop(ending);
-            close(sink, b"no memory\n", Status::NoMemory)
-        }
+        Err(_) => close(sink, b"no memory\n", Status::NoMemory),
     }
 }
 

@@ -21,7 +21,6 @@ use e_io::{Sink, SureSource, write_all};
 use e_judgement::{Judgement, judge};
 use e_text::Lines;
 use std::alloc::{AllocError, Global};
-use std::mem;
 
 /// An answer with its line.
 struct Answer {
@@ -38,10 +37,9 @@ fn verified(alloc: Global, text: &[u8], theorems: u32, steps: u32) -> Result<Ans
     let Judgement::Verified { theorems } = judge(alloc, text)? else {
         unreachable!();
     };
-    let line = tried(alloc, theorems, steps)?;
     Ok(Answer {
         status: Status::Tried { theorems, steps },
-        line,
+        line: tried(alloc, theorems, steps)?,
     })
 }
 
@@ -59,20 +57,13 @@ fn answer_to(alloc: Global, lines: &mut Lines) -> Result<Answer, AllocError>
         Ok(ending) => ending,
         Err(_) => return Err(AllocError),
     };
-    let line = match last_lines(alloc, &ending) {
-        Ok(line) => line,
-        Err(error) => {
-            mem::drop(ending);
-            return Err(error);
-        }
-    };
+    let line = last_lines(alloc, &ending)?;
     let Ending::All { theorems, steps } = ending else {
         return Ok(Answer {
             status: answer_of(ending),
             line,
         });
     };
-    mem::drop(ending);
     let Ok(()) = write_all(&mut store, &line) else {
         return Err(AllocError);
     };

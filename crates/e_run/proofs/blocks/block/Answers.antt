@@ -10,5 +10,5 @@ returns-clause-block c = record {
     least = rw c.statements.ensures at c.in_ok-derivation.ensures.least;
     written = c.in_ok-derivation.ensures.written c.requires.good;
   };
-  spells = c.in_ok-text.ensures;
+  spells = c.in_ok-spell.ensures;
 }

@@ -18,15 +18,15 @@ told_if lines n s (Err e) t h = tt
 
 pub returns-in_default-ending : goal.returns-in_default-ending
 returns-in_default-ending c =
-    ending_told c.args.lines.now.lines (Some c.write_all.new.sink.0) (Some c.blocks-2.new.sink.0) c.in-Ok-blocks.ending c.answer_of.result c.in-Ok-last_lines.line.items
-    (is_other c.in-Ok-blocks.ending c.in_default-ending.not-All) c.in-Ok-blocks.ensures.ending c.answer_of.ensures c.in-Ok-last_lines.ensures
+    ending_told c.args.lines.now.lines (Some c.write_all.new.sink.0) (Some c.blocks-2.new.sink.0) c.in-Ok-blocks.ending c.answer_of.result c.in_ok-line.line.items
+    (is_other c.in-Ok-blocks.ending c.in_default-ending.not-All) c.in-Ok-blocks.ensures.ending c.answer_of.ensures c.in_ok-line.ensures
 
 pub verified-requires-clause-verified : goal.verified-requires-clause-verified
 verified-requires-clause-verified c =
     let head : Grew (Some []) (Some c.write_all.new.sink.0) head_line = rw c.new-store.ensures at c.in-Ok.ensures.ok in
     let ending = subst (λ (e : Ending). EndingIs c.args.lines.now.lines (Some c.write_all.new.sink.0) (Some c.blocks-2.new.sink.0) e) c.in-All.is c.in-Ok-blocks.ensures.ending in
     accepted_verified c.args.lines.now.lines (Some c.write_all.new.sink.0) (Some c.blocks-2.new.sink.0) (Some c.write_all-2.new.sink.0) c.in-All.theorems c.in-All.steps c.deref-2.result.now c.deref.result.now
-    head ending c.in-Ok-write_all.ensures.ok (c.deref.ensures.value ∙ c.in-Ok-last_lines.ensures ∙ ap last_lines c.in-All.is) (ap (λ (l : List ℕ). Some l) (sym (c.deref-2.ensures.value ∙ c.into_bytes.ensures.value)))
+    head ending c.in-Ok-write_all.ensures.ok (c.deref.ensures.value ∙ c.in_ok-line.ensures ∙ ap last_lines c.in-All.is) (ap (λ (l : List ℕ). Some l) (sym (c.deref-2.ensures.value ∙ c.into_bytes.ensures.value)))
     (subst (λ (l : List ℕ). length l ≤ 2 ^ 60) (sym c.deref-2.ensures.value) c.into_bytes.ensures.few)
 
 pub returns : goal.returns
@@ -35,6 +35,6 @@ returns c =
     let ending = subst (λ (e : Ending). EndingIs c.args.lines.now.lines (Some c.write_all.new.sink.0) (Some c.blocks-2.new.sink.0) e) c.in-All.is c.in-Ok-blocks.ensures.ending in
     told_if c.args.lines.now.lines c.in-All.theorems c.in-All.steps c.verified.result
     (accepted_tried c.args.lines.now.lines (Some c.write_all.new.sink.0) (Some c.blocks-2.new.sink.0) (Some c.write_all-2.new.sink.0) c.in-All.theorems c.in-All.steps c.deref-2.result.now c.deref.result.now
-    head ending c.in-Ok-write_all.ensures.ok (c.deref.ensures.value ∙ c.in-Ok-last_lines.ensures ∙ ap last_lines c.in-All.is) (ap (λ (l : List ℕ). Some l) (sym (c.deref-2.ensures.value ∙ c.into_bytes.ensures.value)))
+    head ending c.in-Ok-write_all.ensures.ok (c.deref.ensures.value ∙ c.in_ok-line.ensures ∙ ap last_lines c.in-All.is) (ap (λ (l : List ℕ). Some l) (sym (c.deref-2.ensures.value ∙ c.into_bytes.ensures.value)))
     (subst (λ (l : List ℕ). length l ≤ 2 ^ 60) (sym c.deref-2.ensures.value) c.into_bytes.ensures.few))
     c.verified.ensures
