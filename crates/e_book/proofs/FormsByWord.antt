@@ -17,7 +17,7 @@ use Rattle.e_book.specs.Literals.{lit_of, diagram_lit_of, lits_of}
 use Rattle.e_book.specs.Superposes.{superpose_of}
 use Rattle.e_book.specs.Lets.{let_of}
 use Rattle.e_book.specs.Applies.{apply_of}
-use Rattle.e_book.specs.Forms.{declare_of, sort_of, made_of, by_of, theorem_of, bare, form_in_proof, form_named, form_of}
+use Rattle.e_book.specs.Forms.{declare_of, sort_of, made_of, by_of, theorem_of, bare, form_named, form_of}
 use Rattle.e_book.proofs.InScope.{bind_ok, read_ok}
 use Rattle.e_book.proofs.Choices.{either, passed, of_reading}
 
@@ -76,7 +76,7 @@ no_form : (P : Form → Type 0) (f : Form) → Err Malformed ≡ read_ok f → P
 no_form P f e = absurd cc
 
 named_by_word : (P : Form → Type 0) → OfEachForm P → (w : List ℕ) (ws : List (List ℕ)) (f : Form) → form_named w ws ≡ Ok f → P f
-unfolding form_named form_in_proof
+unfolding form_named
 named_by_word P h w ws f e =
     let r20 : Result Form Kind = Err Malformed in
     let r19 : Result Form Kind = cond (bytes_eq w (codes "end")) (bare ws forms.End) r20 in

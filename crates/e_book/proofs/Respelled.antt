@@ -11,7 +11,7 @@ use Rattle.e_book.specs.declared.form.Form.{Form}
 use Rattle.e_book.specs.declared.form.Form.TheVariants as forms
 use Rattle.e_book.specs.Reading.{◌>>=◌, word_at, title_at, end_at, cut_at, names_of}
 use Rattle.e_book.specs.Literals.{is_diagram_raw, diagram_lit_of}
-use Rattle.e_book.specs.Forms.{declare_of, sort_of, made_of, by_of, theorem_of, bare, form_in_proof, form_named, form_of}
+use Rattle.e_book.specs.Forms.{declare_of, sort_of, made_of, by_of, theorem_of, bare, form_named, form_of}
 use Rattle.e_book.specs.Canonical.{lit_words, sort_word, form_words}
 use Rattle.e_book.specs.HasSpelling.{AreNames}
 use Rattle.e_book.proofs.Differ.{name_differs}
@@ -77,7 +77,7 @@ by_again r ns l hr hns hl hd =
     one ∙ ap (by_rest r) (cut_again (codes ":") ns (lit_words l) (no_colon ns hns)) ∙ rw (names_again ns hns, diagram_again l hl hd) refl
 
 pub form_again : (f : Form) → GoodForm f → form_of (form_words f) ≡ Ok (as_read f)
-unfolding form_of form_named form_in_proof theorem_of bare title_at word_at end_at
+unfolding form_of form_named theorem_of bare title_at word_at end_at
 form_again (forms.Theorem t) h = rw (titled t h) refl
 form_again (forms.Declare sort []) h = absurd h
 form_again (forms.Declare sorts.Point (n ∷ ns)) h = declare_again sorts.Point n ns h

@@ -54,9 +54,17 @@ bare words form = do
   none ← end_at words
   Ok form
 
--- the form of a line of a proof, by its first word and the others
-unfoldable pub form_in_proof : List ℕ → List (List ℕ) → Result Form Kind
-form_in_proof w ws =
+-- the form of a line, by its first word and the others
+unfoldable pub form_named : List ℕ → List (List ℕ) → Result Form Kind
+form_named w ws =
+    if bytes_eq w (codes "theorem") then theorem_of ws else
+    if bytes_eq w (codes "points") then declare_of sorts.Point ws else
+    if bytes_eq w (codes "lines") then declare_of sorts.Line ws else
+    if bytes_eq w (codes "circles") then declare_of sorts.Circle ws else
+    if bytes_eq w (codes "given") then (lits_of ws >>= λ ls. Ok (Given ls)) else
+    if bytes_eq w (codes "made") then made_of ws else
+    if bytes_eq w (codes "show") then (lits_of ws >>= λ ls. Ok (Show ls)) else
+    if bytes_eq w (codes "proof") then bare ws Proof else
     if bytes_eq w (codes "by") then by_of ws else
     if bytes_eq w (codes "hence") then (lit_of ws >>= λ l. Ok (Hence l)) else
     if bytes_eq w (codes "let") then (let_of ws >>= λ l. Ok (Let l)) else
@@ -68,18 +76,6 @@ form_in_proof w ws =
     if bytes_eq w (codes "cases") then (lit_of ws >>= λ l. Ok (Cases l)) else
     if bytes_eq w (codes "else") then bare ws Else else
     if bytes_eq w (codes "end") then bare ws End else Err Malformed
-
--- the form of a line, by its first word and the others: first the lines of a statement
-unfoldable pub form_named : List ℕ → List (List ℕ) → Result Form Kind
-form_named w ws =
-    if bytes_eq w (codes "theorem") then theorem_of ws else
-    if bytes_eq w (codes "points") then declare_of sorts.Point ws else
-    if bytes_eq w (codes "lines") then declare_of sorts.Line ws else
-    if bytes_eq w (codes "circles") then declare_of sorts.Circle ws else
-    if bytes_eq w (codes "given") then (lits_of ws >>= λ ls. Ok (Given ls)) else
-    if bytes_eq w (codes "made") then made_of ws else
-    if bytes_eq w (codes "show") then (lits_of ws >>= λ ls. Ok (Show ls)) else
-    if bytes_eq w (codes "proof") then bare ws Proof else form_in_proof w ws
 
 unfoldable pub form_of : List (List ℕ) → Result Form Kind
 form_of [] = Err Malformed

@@ -35,15 +35,6 @@ superpose_of words = head_of (take 13 words) (drop 13 words)
 abbrev pub superpose : (a b c d g h K L : ℕ) → Superpose
 superpose a b c d g h K L = record { points = a ∷ b ∷ c ∷ d ∷ g ∷ h ∷ []; lines = K ∷ L ∷ [] }
 
--- the place and its line, behind the triangle and its line
-abbrev pub placed_onto : Names → (na nb nc nk : ℕ) → (d g h l : List ℕ) → Result Superpose Kind
-placed_onto ns na nb nc nk d g h l = do
-  nd ← number_of ns sorts.Point d
-  ng ← number_of ns sorts.Point g
-  nh ← number_of ns sorts.Point h
-  nl ← number_of ns sorts.Line l
-  Ok (superpose na nb nc nd ng nh nk nl)
-
 -- the triangle and its line, then the place and its line, as they stand there
 unfoldable pub placed_in : Names → List (List ℕ) → Result Superpose Kind
 placed_in ns (a ∷ b ∷ c ∷ k ∷ d ∷ g ∷ h ∷ l ∷ []) = do
@@ -51,7 +42,11 @@ placed_in ns (a ∷ b ∷ c ∷ k ∷ d ∷ g ∷ h ∷ l ∷ []) = do
   nb ← number_of ns sorts.Point b
   nc ← number_of ns sorts.Point c
   nk ← number_of ns sorts.Line k
-  placed_onto ns na nb nc nk d g h l
+  nd ← number_of ns sorts.Point d
+  ng ← number_of ns sorts.Point g
+  nh ← number_of ns sorts.Point h
+  nl ← number_of ns sorts.Line l
+  Ok (superpose na nb nc nd ng nh nk nl)
 placed_in ns _ = Err Malformed
 
 -- the objects, then the new names, then the literals, in which the new names are not in scope yet

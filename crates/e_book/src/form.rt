@@ -1,7 +1,7 @@
 //! The forms of lines, told from their words by spelling alone.
 ghost use Rattle.std.specs.Prelude.{◌≡◌, List, length, IfOk, [], ◌∷◌, ◌==◌};
 ghost use Rattle.e_book.specs.Reading.{texts, Gives};
-ghost use Rattle.e_book.specs.Forms.{declare_of, sort_of, made_of, by_of, form_of, form_in_proof, form_named, theorem_of, bare};
+ghost use Rattle.e_book.specs.Forms.{declare_of, sort_of, made_of, by_of, form_of, form_named, theorem_of, bare};
 
 use crate::applies::{RawApply, apply_of};
 use crate::fault::{Kind, Trouble};
@@ -131,12 +131,35 @@ fn bare(words: Words, form: Form) -> Result<Form, Trouble>
     }
 }
 
-/// The form of a line of a proof, by its first word.
-#[tactic(auto, unfolding(crate::specs::Forms::form_in_proof))]
-fn form_in_proof(alloc: Global, word: &[u8], rest: &[&[u8]]) -> Result<Form, Trouble>
-    ensures { Gives (λ f. f) result (form_in_proof word.now (texts rest.now)) }
+#[tactic(auto, unfolding(crate::specs::Forms::form_named))]
+fn form_named(alloc: Global, word: &[u8], rest: &[&[u8]]) -> Result<Form, Trouble>
+    ensures { Gives (λ f. f) result (form_named word.now (texts rest.now)) }
 {
     let words = Words::new(rest);
+    if is(word, b"theorem") {
+        return theorem_of(words);
+    }
+    if is(word, b"points") {
+        return declare_of(alloc, Sort::Point, rest);
+    }
+    if is(word, b"lines") {
+        return declare_of(alloc, Sort::Line, rest);
+    }
+    if is(word, b"circles") {
+        return declare_of(alloc, Sort::Circle, rest);
+    }
+    if is(word, b"given") {
+        return Ok(Form::Given(lits_of(alloc, rest)?));
+    }
+    if is(word, b"made") {
+        return made_of(alloc, rest);
+    }
+    if is(word, b"show") {
+        return Ok(Form::Show(lits_of(alloc, rest)?));
+    }
+    if is(word, b"proof") {
+        return bare(words, Form::Proof);
+    }
     if is(word, b"by") {
         return by_of(alloc, rest);
     }
@@ -171,39 +194,6 @@ fn form_in_proof(alloc: Global, word: &[u8], rest: &[&[u8]]) -> Result<Form, Tro
         return bare(words, Form::End);
     }
     Err(Trouble::Fault(Kind::Malformed))
-}
-
-/// The form of a line, by its first word: first the lines of a statement.
-#[tactic(auto, unfolding(crate::specs::Forms::form_named))]
-fn form_named(alloc: Global, word: &[u8], rest: &[&[u8]]) -> Result<Form, Trouble>
-    ensures { Gives (λ f. f) result (form_named word.now (texts rest.now)) }
-{
-    let words = Words::new(rest);
-    if is(word, b"theorem") {
-        return theorem_of(words);
-    }
-    if is(word, b"points") {
-        return declare_of(alloc, Sort::Point, rest);
-    }
-    if is(word, b"lines") {
-        return declare_of(alloc, Sort::Line, rest);
-    }
-    if is(word, b"circles") {
-        return declare_of(alloc, Sort::Circle, rest);
-    }
-    if is(word, b"given") {
-        return Ok(Form::Given(lits_of(alloc, rest)?));
-    }
-    if is(word, b"made") {
-        return made_of(alloc, rest);
-    }
-    if is(word, b"show") {
-        return Ok(Form::Show(lits_of(alloc, rest)?));
-    }
-    if is(word, b"proof") {
-        return bare(words, Form::Proof);
-    }
-    form_in_proof(alloc, word, rest)
 }
 
 /// The form of a line, by its words alone.

@@ -5,7 +5,6 @@ ghost use Rattle.e_clause.specs.Instance;
 ghost use Rattle.e_clause.specs.Sigs.{sig_of};
 ghost use Rattle.std.specs.List.{list_any};
 ghost use Rattle.e_construct.specs.Lines;
-ghost use Rattle.e_book.specs.declared.literal.RawAtom.TheVariants as atoms;
 ghost use Rattle.e_book.specs.Reading.{Gives, Moves, each, with_front};
 ghost use Rattle.e_book.specs.Scope.{object_in, object_of, used, number_at, number_of, on_sort, line_meets, meets_from, equal_at, atom_in, negated_in, lit_in, lits_in, object_as, objects_as, is_taken, fresh, args_in, by_in, known_rule, FewNames, scope_of_names, arguments_in, first_fitting, let_in, objects_of_sorts, qed_in};
 
@@ -142,48 +141,6 @@ fn equal_at(sort: Sort, first: u16, second: u16) -> Atom
 }
 
 #[tactic(auto, unfolding(crate::specs::Scope::atom_in))]
-fn inside_in(names: &Names, point: Name, circle: Name) -> Result<Atom, Trouble>
-    requires { FewNames names.now }
-    ensures { Gives (λ a. a) result (atom_in names.now (atoms.Inside point circle)) }
-{
-    let point = number_of(names, Sort::Point, point)?;
-    let circle = number_of(names, Sort::Circle, circle)?;
-    Ok(Atom::Inside(point, circle))
-}
-
-#[tactic(auto, unfolding(crate::specs::Scope::atom_in))]
-fn center_in(names: &Names, point: Name, circle: Name) -> Result<Atom, Trouble>
-    requires { FewNames names.now }
-    ensures { Gives (λ a. a) result (atom_in names.now (atoms.Center point circle)) }
-{
-    let point = number_of(names, Sort::Point, point)?;
-    let circle = number_of(names, Sort::Circle, circle)?;
-    Ok(Atom::Center(point, circle))
-}
-
-#[tactic(auto, unfolding(crate::specs::Scope::atom_in))]
-fn between_in(names: &Names, first: Name, middle: Name, last: Name) -> Result<Atom, Trouble>
-    requires { FewNames names.now }
-    ensures { Gives (λ a. a) result (atom_in names.now (atoms.Between first middle last)) }
-{
-    let first = number_of(names, Sort::Point, first)?;
-    let middle = number_of(names, Sort::Point, middle)?;
-    let last = number_of(names, Sort::Point, last)?;
-    Ok(Atom::Between(first, middle, last))
-}
-
-#[tactic(auto, unfolding(crate::specs::Scope::atom_in))]
-fn same_in(names: &Names, first: Name, second: Name, line: Name) -> Result<Atom, Trouble>
-    requires { FewNames names.now }
-    ensures { Gives (λ a. a) result (atom_in names.now (atoms.Same first second line)) }
-{
-    let first = number_of(names, Sort::Point, first)?;
-    let second = number_of(names, Sort::Point, second)?;
-    let line = number_of(names, Sort::Line, line)?;
-    Ok(Atom::Same(first, second, line))
-}
-
-#[tactic(auto, unfolding(crate::specs::Scope::atom_in))]
 fn atom_in(alloc: Global, names: &Names, atom: &RawAtom) -> Result<Atom, Trouble>
     requires { FewNames names.now }
     ensures { Gives (λ a. a) result (atom_in names.now atom.now) }
@@ -194,10 +151,28 @@ fn atom_in(alloc: Global, names: &Names, atom: &RawAtom) -> Result<Atom, Trouble
             let object = used(names, *y)?;
             on_object(point, object)
         }
-        RawAtom::Inside(x, y) => inside_in(names, *x, *y),
-        RawAtom::Center(x, y) => center_in(names, *x, *y),
-        RawAtom::Between(x, y, z) => between_in(names, *x, *y, *z),
-        RawAtom::Same(x, y, z) => same_in(names, *x, *y, *z),
+        RawAtom::Inside(x, y) => {
+            let point = number_of(names, Sort::Point, *x)?;
+            let circle = number_of(names, Sort::Circle, *y)?;
+            Ok(Atom::Inside(point, circle))
+        }
+        RawAtom::Center(x, y) => {
+            let point = number_of(names, Sort::Point, *x)?;
+            let circle = number_of(names, Sort::Circle, *y)?;
+            Ok(Atom::Center(point, circle))
+        }
+        RawAtom::Between(x, y, z) => {
+            let first = number_of(names, Sort::Point, *x)?;
+            let middle = number_of(names, Sort::Point, *y)?;
+            let last = number_of(names, Sort::Point, *z)?;
+            Ok(Atom::Between(first, middle, last))
+        }
+        RawAtom::Same(x, y, z) => {
+            let first = number_of(names, Sort::Point, *x)?;
+            let second = number_of(names, Sort::Point, *y)?;
+            let line = number_of(names, Sort::Line, *z)?;
+            Ok(Atom::Same(first, second, line))
+        }
         RawAtom::Meets(x, y) => {
             let first = used(names, *x)?;
             meets_from(names, first, *y)

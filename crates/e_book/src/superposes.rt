@@ -3,7 +3,7 @@ ghost use Rattle.std.specs.Prelude.{◌≡◌, IfOk, map, take, drop};
 ghost use Rattle.e_construct.specs.Views.{piece_said};
 ghost use Rattle.e_book.specs.Reading.{texts, Gives};
 ghost use Rattle.e_book.specs.Scope.{FewNames};
-ghost use Rattle.e_book.specs.Superposes.{superpose_pieces, head_of, superpose_of, placed_onto, placed_in, superpose_in};
+ghost use Rattle.e_book.specs.Superposes.{superpose_pieces, head_of, superpose_of, placed_in, superpose_in};
 
 use crate::fault::{Kind, Trouble};
 use crate::lets::{are_words_of, names_at};
@@ -84,29 +84,6 @@ pub(crate) fn superpose_of(alloc: Global, words: &[&[u8]]) -> Result<RawSuperpos
     head_of(alloc, head, rest)
 }
 
-/// The place and its line, behind the triangle and its line.
-fn placed_onto(
-    names: &Names,
-    triangle: (u16, u16, u16),
-    along: u16,
-    place: (Name, Name, Name),
-    line: Name,
-) -> Result<Superpose, Trouble>
-    requires { FewNames names.now }
-    ensures { Gives (λ s. s) result (placed_onto names.now triangle.0 triangle.1 triangle.2 along place.0 place.1 place.2 line) }
-{
-    let (a, b, c) = triangle;
-    let (d, g, h) = place;
-    let d = number_of(names, Sort::Point, d)?;
-    let g = number_of(names, Sort::Point, g)?;
-    let h = number_of(names, Sort::Point, h)?;
-    let l = number_of(names, Sort::Line, line)?;
-    Ok(Superpose {
-        points: [a, b, c, d, g, h],
-        lines: [along, l],
-    })
-}
-
 /// The points and lines, as they stand there.
 #[tactic(auto, unfolding(crate::specs::Superposes::placed_in))]
 fn placed_in(names: &Names, args: &[Name]) -> Result<Superpose, Trouble>
@@ -120,7 +97,14 @@ fn placed_in(names: &Names, args: &[Name]) -> Result<Superpose, Trouble>
     let b = number_of(names, Sort::Point, *b)?;
     let c = number_of(names, Sort::Point, *c)?;
     let k = number_of(names, Sort::Line, *k)?;
-    placed_onto(names, (a, b, c), k, (*d, *g, *h), *l)
+    let d = number_of(names, Sort::Point, *d)?;
+    let g = number_of(names, Sort::Point, *g)?;
+    let h = number_of(names, Sort::Point, *h)?;
+    let l = number_of(names, Sort::Line, *l)?;
+    Ok(Superpose {
+        points: [a, b, c, d, g, h],
+        lines: [k, l],
+    })
 }
 
 /// A superposition, and the literals that its block shows.

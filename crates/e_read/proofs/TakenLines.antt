@@ -11,7 +11,7 @@ use Rattle.e_book.specs.declared.fault.Kind.TheVariants.{Malformed}
 use Rattle.e_book.specs.declared.form.Form.{Form}
 use Rattle.e_book.specs.declared.draft.Draft.{Draft}
 use Rattle.e_book.specs.Reading.{◌>>=◌}
-use Rattle.e_book.specs.Forms.{form_of, form_in_proof, form_named}
+use Rattle.e_book.specs.Forms.{form_of, form_named}
 use Rattle.e_book.specs.Headed.{Headed}
 use Rattle.e_book.specs.Steps.{begin, step}
 use Rattle.e_book.specs.Book.{starts_with_hash, is_skipped, line_step}
@@ -33,7 +33,7 @@ either false x y z e = inr (refl, e)
 
 -- no line of a book begins with #
 hashed : (b : ℕ) (bs : List ℕ) (ws : List (List ℕ)) → b ≡ 35 → form_named (b ∷ bs) ws ≡ Err Malformed
-unfolding form_named form_in_proof
+unfolding form_named
 hashed b bs ws e = subst (λ (x : ℕ). form_named (x ∷ bs) ws ≡ Err Malformed) (sym e) refl
 
 -- a line of a certificate
