@@ -19,7 +19,8 @@ import sys
 from collections import Counter
 from pathlib import Path
 
-import verify
+sys.dont_write_bytecode = True
+import verify  # noqa: E402
 
 TOP = Path(__file__).resolve().parent.parent
 EXE = TOP / "crates/elements/out/elements"

@@ -9,9 +9,8 @@ It writes one line and ends with the exit status of `elements verify`:
     bad TITLE STEP     1    the first step whose certificates do not certify
     garbled LINE       2    the first line of the text that has no form at its place
 
-It is written from docs/derivation.md and docs/book.md, and takes the rules, the constructions and
-the superposition out of the tables of docs/rules.md. It shares no code with the program, searches
-for nothing, and needs Python 3.10 or later with its standard library alone.
+It is written from docs/derivation.md and docs/book.md, and takes the tables out of docs/rules.md.
+It shares no code with the program, searches for nothing, and needs Python 3.10 or later.
 """
 
 import re
@@ -25,34 +24,28 @@ SORTS = {"points": POINT, "lines": LINE, "circles": CIRCLE}
 MOST_OBJECTS = {POINT: 40, LINE: 24, CIRCLE: 16}
 MOST_THEOREMS, MOST_STEPS, MOST_DEPTH = 500, 1024, 32
 MOST_FACTS, MOST_TERMS, MOST_MONOMIALS, MOST_COEFFICIENT = 2048, 1024, 32, 1_000_000
-MOST_ROWS, MOST_MULTIPLIER = 4096, 2**80
-MOST_LINE_BYTES = 262_144
-RESERVED = frozenset(
-    """theorem points lines circles given made show proof end by hence let apply as claim superpose
-    onto qed contradiction cases else not on inside center between meets seg ang area right point
-    line circle side opposite of beyond from outside meet centers avoid define figure""".split()
-)
+MOST_ROWS, MOST_MULTIPLIER, MOST_LINE_BYTES = 4096, 2**80, 262_144
+RESERVED = """theorem points lines circles given made show proof end by hence let apply as claim
+    superpose onto qed contradiction cases else not on inside center between meets seg ang area
+    right point line circle side opposite of beyond from outside meet centers avoid define
+    figure""".split()
 NAME = re.compile(r"[A-Za-z][A-Za-z0-9_']{0,15}")
 TITLE = re.compile(r"[A-Za-z][A-Za-z0-9._-]{0,23}")
 NUMERAL = re.compile(r"[1-9][0-9]*")
 RIGHT = ("right",)  # the term
 WRONG_USE = None, {}  # of a row: it says nothing, of no form
 
-
 class Malformed(Exception):
     """The line that was read last has no form at its place."""
-
 
 def need(condition):
     if not condition:
         raise Malformed
 
-
 class Literal(namedtuple("Literal", "positive word objects left right", defaults=[(), ()])):
     """One of diagrams, or of equal objects, has a tuple of objects. One of magnitudes has none, and
     two sums: tuples of monomials, which are pairs of a coefficient and a term, a tuple of words.
     `X <= Y` is held as the negation of `Y < X`."""
-
     def negation(self):
         return self._replace(positive=not self.positive)
 
@@ -60,16 +53,14 @@ class Literal(namedtuple("Literal", "positive word objects left right", defaults
         return not self.objects
 
     def terms(self):
-        """The terms as they are written."""
         return [term for _, term in self.left + self.right]
 
     def difference(self, sign=1):
         """The left side less the right one, times the sign: a coefficient for each term."""
         form = {}
-        for coefficient, term in self.left:
-            add(form, term, sign * coefficient)
-        for coefficient, term in self.right:
-            add(form, term, -sign * coefficient)
+        for factor, side in ((sign, self.left), (-sign, self.right)):
+            for coefficient, term in side:
+                add(form, term, factor * coefficient)
         return form
 
     def key(self):
@@ -79,15 +70,15 @@ class Literal(namedtuple("Literal", "positive word objects left right", defaults
             form = sorted(self.difference(-1).items())
         return (self.positive, self.word, self.objects, tuple(form))
 
-
 def renamed(part, names):
     """A literal, or a part of one, with other objects: no word of the language is a name."""
-    if isinstance(part, Literal):
-        return Literal(*(renamed(field, names) for field in part))
     if isinstance(part, tuple):
-        return tuple(renamed(item, names) for item in part)
+        parts = [renamed(item, names) for item in part]
+        return Literal(*parts) if isinstance(part, Literal) else tuple(parts)
     return names.get(part, part) if isinstance(part, str) else part
 
+def all_renamed(literals, names):
+    return [renamed(literal, names) for literal in literals]
 
 def add(form, term, coefficient):
     """Adds to a form, in which each term stands once, its points in one of their orders."""
@@ -96,7 +87,6 @@ def add(form, term, coefficient):
     form[term] = form.get(term, 0) + coefficient
     if form[term] == 0:
         del form[term]
-
 
 def said(literal):
     """What a metric literal says of a form: it is 0, differs from 0, is at least 0, or more."""
@@ -108,29 +98,18 @@ def said(literal):
         return "more", literal.difference(-1)
     return "at least", literal.difference()
 
-
-# Reading words. A scope is a dictionary from names to sorts.
-
+# A scope is a dictionary from names to sorts.
 OBJECTS = {"on": ("pl", "pc"), "inside": ("pc",), "center": ("pc",), "between": ("ppp",)}
 OBJECTS |= {"same-side": ("ppl",), "meets": ("ll", "lc", "cc")}
 TERMS = {"seg": (2, "segment"), "ang": (3, "angle"), "area": (3, "area"), "right": (0, "angle")}
-
 
 def sorts_of(names, scope):
     need(all(name in scope for name in names))
     return "".join(scope[name] for name in names)
 
-
 def split_at(words, mark):
-    """The parts of a list of words between the words that are `mark`."""
-    parts = [[]]
-    for word in words:
-        if word == mark:
-            parts.append([])
-        else:
-            parts[-1].append(word)
-    return parts
-
+    ends = [i for i, word in enumerate(words) if word == mark]
+    return [words[i + 1 : j] for i, j in zip([-1, *ends], [*ends, len(words)])]
 
 def literal_in(words, scope):
     """The literal that these words spell, in the one way that derivation texts have."""
@@ -154,10 +133,9 @@ def literal_in(words, scope):
         return Literal(False, "<", (), right, left)
     return Literal(signs[0] != "!=", signs[0].strip("!"), (), left, right)
 
-
 def sum_in(words, scope):
     monomials = []
-    for part in split_at(words, "+") if words != ["0"] else []:
+    for part in [] if words == ["0"] else split_at(words, "+"):
         coefficient = 1
         if part and NUMERAL.fullmatch(part[0]):
             coefficient = number_in(part.pop(0), MOST_COEFFICIENT)
@@ -165,29 +143,28 @@ def sum_in(words, scope):
         monomials.append((coefficient, term_in(part, scope)))
     return tuple(monomials)
 
-
 def term_in(words, scope):
-    need(words and words[0] in TERMS)
-    need(sorts_of(words[1:], scope) == POINT * TERMS[words[0]][0])
+    need(words and words[0] in TERMS and sorts_of(words[1:], scope) == POINT * TERMS[words[0]][0])
     return tuple(words)
-
 
 def number_in(word, most):
     need(NUMERAL.fullmatch(word) and len(word) <= len(str(most)) and int(word) <= most)
     return int(word)
 
-
-# The tables of docs/rules.md. A rule's clause has the negations of its premises, then its
-# conclusions. A shape is a construction, or the superposition: the letters of its new objects, the
-# other words of its line, what it needs and what it gives.
-
+# A rule's clause has the negations of its premises, then its conclusions. A shape is that of a
+# construction or of the superposition: letters for new objects, and the other words of its line. A
+# statement has its objects as pairs of name and sort. What a block shows is a goal; `after()` is
+# the context behind the block's last close.
 Rule = namedtuple("Rule", "variables sorts clause")
 Shape = namedtuple("Shape", "new words needs gives")
-
+Statement = namedtuple("Statement", "declared given made shown")
+Goal = namedtuple("Goal", "made shown after")
 
 def sort_of_letter(letter):
     return POINT if letter.islower() else CIRCLE if letter in "ABC" else LINE
 
+def quoted(cell):
+    return [text.split() for text in re.findall(r"`([^`]*)`", cell)]
 
 class Tables:
     def __init__(self):
@@ -207,49 +184,32 @@ class Tables:
                     self.superpose = self.shape(cells[0], cells[1], cells[2].split(";")[1])
         assert (len(self.diagram), len(self.transfer), len(self.shapes)) == (76, 29, 20)
 
-    @staticmethod
-    def quoted(cell):
-        return [text.split() for text in re.findall(r"`([^`]*)`", cell)]
-
     def literals(self, cell):
         scope = {letter: sort_of_letter(letter) for letter in "abcdefghpqKLMNABC"}
-        return [literal_in(words, scope) for words in self.quoted(cell)]
+        return [literal_in(words, scope) for words in quoted(cell)]
 
     def add_rule(self, table, cells):
-        (name,), variables = self.quoted(cells[0] + cells[1])
+        (name,), variables = quoted(cells[0] + cells[1])
         sorts = "".join(map(sort_of_letter, variables))
         clause = [premise.negation() for premise in self.literals(cells[2])]
         table[name] = Rule(variables, sorts, clause + self.literals(cells[3]))
 
     def shape(self, line, needs, gives):
-        word, *words = self.quoted(line)[0]
+        word, *words = quoted(line)[0]
         at = next(i for i, word in enumerate(words) if len(word) > 1)
         new, words = words[:at], words[at:]
         if word == "superpose":
             new, words = ["p", "q"], new + words[: words.index("as")]
         return Shape(new, words, self.literals(needs), self.literals(gives))
 
-
 def fits(pattern, words, scope):
     """The object for each letter of the pattern, or None where the words are not of its kind."""
-    names = {}
-    for wanted, word in zip(pattern, words):
-        if word != wanted if len(wanted) > 1 else scope.get(word) != sort_of_letter(wanted):
-            return None
-        names[wanted] = word
-    return names if len(pattern) == len(words) else None
-
-
-# Reading and checking. A statement has its declared and its made objects as pairs of name and sort.
-# What a block shows is a goal; `after()` is the context behind the block's last close.
-
-Statement = namedtuple("Statement", "declared given made shown")
-Goal = namedtuple("Goal", "made shown after")
-
+    kinds = [scope.get(word) if len(wanted) == 1 else word for wanted, word in zip(pattern, words)]
+    wanted = [sort_of_letter(word) if len(word) == 1 else word for word in pattern]
+    return dict(zip(pattern, words)) if kinds == wanted and len(pattern) == len(words) else None
 
 class Context(namedtuple("Context", "scope facts terms fact_count term_count")):
     """The objects and the facts before a line, the terms of the facts, and what limits count."""
-
     def has(self, literal):
         return literal.key() in self.facts
 
@@ -259,20 +219,21 @@ class Context(namedtuple("Context", "scope facts terms fact_count term_count")):
         for name, sort in objects:
             need(NAME.fullmatch(name) and name not in RESERVED and name not in scope)
             scope[name] = sort
-        for sort, most in MOST_OBJECTS.items():
-            need(list(scope.values()).count(sort) <= most)
+        held = list(scope.values())
+        need(all(held.count(sort) <= most for sort, most in MOST_OBJECTS.items()))
         facts, terms, term_count = set(self.facts), set(self.terms), self.term_count
         for literal in literals:
             term_count += len(literal.terms())
-            if not self.has(literal):  # else the fact stays as it was written first
-                terms.update(literal.terms() if literal.key() not in facts else ())
+            if literal.key() not in facts:  # else the fact stays as it was written first
                 facts.add(literal.key())
+                terms.update(literal.terms())
         fact_count = self.fact_count + len(literals)
         need(fact_count <= MOST_FACTS and term_count <= MOST_TERMS)
         return Context(scope, facts, terms, fact_count, term_count)
 
-
 class Verifier:
+    """A step gives the context behind it, a close that behind the block which it closes. The lines
+    of certificates are read in any case, and what comes back is whether they certify."""
     def __init__(self, text, tables):
         self.tables = tables
         self.lines = text.split(b"\n")
@@ -295,7 +256,6 @@ class Verifier:
         return words
 
     def take_mark(self):
-        """The words behind `|` of the next line, which has to be one of a certificate."""
         bar, *words = self.take()
         need(bar == "|" and words)
         return words
@@ -313,9 +273,7 @@ class Verifier:
                 if self.bad_step is not None:
                     return f"bad {words[1]} {self.bad_step}", 1
             need(words[1:] == [str(len(self.theorems))])
-            if self.lines[self.number :]:  # a line behind the last one is garbled
-                self.number += 1
-                raise Malformed
+            need(self.number == len(self.lines) or not self.take())  # nothing comes behind it
         except Malformed:
             return f"garbled {self.number}", 2
         return f"verified {len(self.theorems)}", 0
@@ -365,24 +323,23 @@ class Verifier:
                 need(word in ("qed", "contradiction", "cases"))
                 return getattr(self, word)(words, context, goal, depth + 1)
 
-    # Steps. Each gives the context behind it.
-
     def by(self, words, context):
-        (name, *names), *rest = split_at(words, ":") if words else [[""]]
-        need(len(rest) == 1)
-        literal = literal_in(rest[0], context.scope)
+        parts = split_at(words, ":")
+        need(len(parts) == 2)
+        literal = literal_in(parts[1], context.scope)
         need(not literal.is_metric())
-        places = self.instance(self.tables.diagram, name, names, context)
+        places = self.instance(self.tables.diagram, parts[0], context)
         after = context.with_all([], [literal])
-        others = [place for place in places if place != literal]
-        self.judge(literal in places and all(context.has(place.negation()) for place in others))
+        others = [place.negation() for place in places if place != literal]
+        self.judge(literal in places and all(map(context.has, others)))
         return after
 
-    def instance(self, table, name, names, context):
-        """The literals of the rule's clause, each at its place, at these arguments."""
-        need(name in table and sorts_of(names, context.scope) == table[name].sorts)
-        arguments = dict(zip(table[name].variables, names))
-        return [renamed(literal, arguments) for literal in table[name].clause]
+    def instance(self, table, words, context):
+        """The literals of the clause of a rule, each at its place, at the names behind the rule."""
+        need(words and words[0] in table)
+        rule, names = table[words[0]], words[1:]
+        need(sorts_of(names, context.scope) == rule.sorts)
+        return all_renamed(rule.clause, dict(zip(rule.variables, names)))
 
     def hence(self, words, context):
         literal = literal_in(words, context.scope)
@@ -393,13 +350,12 @@ class Verifier:
     def let(self, words, context):
         words, *avoided = split_at(words, "avoid")
         for number, shape in enumerate(self.tables.shapes, 1):
-            size = len(shape.new)
-            names = fits(shape.words, words[size:], context.scope)
+            names = fits(shape.words, words[len(shape.new) :], context.scope)
             if names is not None:
                 break
         need(names is not None)
         names |= zip(shape.new, words)
-        needs, gives = ([renamed(x, names) for x in part] for part in shape[2:])
+        needs, gives = all_renamed(shape.needs, names), all_renamed(shape.gives, names)
         if avoided:
             need(number <= 9 and len(avoided) == 1 and avoided[0])
             for x, sort in zip(avoided[0], sorts_of(avoided[0], context.scope)):
@@ -419,8 +375,8 @@ class Verifier:
         need([len(new) for new in made] == ([len(used.made)] if used.made else []))
         names = {old: new for (old, _), new in zip(used.declared + used.made, sum(made, arguments))}
         objects = [(names[old], sort) for old, sort in used.made]
-        after = context.with_all(objects, [renamed(literal, names) for literal in used.shown])
-        self.certificates([renamed(literal, names) for literal in used.given], context)
+        after = context.with_all(objects, all_renamed(used.shown, names))
+        self.certificates(all_renamed(used.given, names), context)
         return after
 
     def claim(self, words, context, depth):
@@ -430,46 +386,38 @@ class Verifier:
     def superpose(self, words, context, depth):
         at = words.index("as") if "as" in words else 0
         names = fits(self.tables.superpose.words, words[:at], context.scope)
-        need(names is not None and words[at + 3 : at + 4] == ["show"])
-        need(depth <= MOST_DEPTH)
-        copies = words[at + 1 : at + 3]
+        need(names is not None and words[at + 3 : at + 4] == ["show"] and depth <= MOST_DEPTH)
+        shape, copies = self.tables.superpose, words[at + 1 : at + 3]
         shown = [literal_in(part, context.scope) for part in split_at(words[at + 4 :], ";")]
-        names |= zip(self.tables.superpose.new, copies)
-        needs, gives = ([renamed(x, names) for x in part] for part in self.tables.superpose[2:])
-        inside = context.with_all([(name, POINT) for name in copies], gives)
-        self.certificates(needs, context)
+        names |= zip(shape.new, copies)
+        inside = context.with_all(zip(copies, 2 * POINT), all_renamed(shape.gives, names))
+        self.certificates(all_renamed(shape.needs, names), context)
         return self.block(inside, Goal([], shown, lambda: context.with_all([], shown)), depth)
-
-    # Closes. Each gives the context behind the block that it closes.
 
     def qed(self, words, context, goal, depth):
         need(sorts_of(words, context.scope) == "".join(sort for _, sort in goal.made))
         names = {name: word for (name, _), word in zip(goal.made, words)}
         after = goal.after()
-        self.certificates([renamed(literal, names) for literal in goal.shown], context)
+        self.certificates(all_renamed(goal.shown, names), context)
         return after
 
     def contradiction(self, words, context, goal, depth):
         need(not words)
         after = goal.after()
         kind, *rest = self.take_mark()
-        if kind == "metric" and not rest:
-            self.judge(self.metric(None, context))
-        else:
-            literal = literal_in(rest, context.scope)
-            need(kind == "clash" and not literal.is_metric())
-            self.judge(context.has(literal) and context.has(literal.negation()))
+        need(kind == "clash" or [kind, *rest] == ["metric"])
+        literal = literal_in(rest, context.scope) if kind == "clash" else None
+        need(literal is None or not literal.is_metric())
+        clashes = literal and context.has(literal) and context.has(literal.negation())
+        self.judge(clashes if literal else self.metric(None, context))
         return after
 
     def cases(self, words, context, goal, depth):
         literal = literal_in(words, context.scope)
         need(depth <= MOST_DEPTH)
-        inside = context.with_all([], [literal])
-        self.block(inside, goal._replace(after=lambda: None), depth)
+        self.block(context.with_all([], [literal]), goal._replace(after=lambda: None), depth)
         need(self.take() == ["else"])
         return self.block(context.with_all([], [literal.negation()]), goal, depth)
-
-    # Certificates. Their lines are read in any case; what comes back is whether they certify.
 
     def certificates(self, wanted, context):
         for literal in wanted:
@@ -477,8 +425,8 @@ class Verifier:
 
     def certificate(self, wanted, context, is_part=False):
         kind, *words = self.take_mark()
-        if kind == "transfer" and not is_part and words:
-            places = self.instance(self.tables.transfer, words[0], words[1:], context)
+        if kind == "transfer" and not is_part:
+            places = self.instance(self.tables.transfer, words, context)
             others = [place for place in places if place.key() != wanted.key()]
             parts = [self.certificate(place.negation(), context, True) for place in others]
             return all(parts) and len(others) < len(places)
@@ -491,28 +439,27 @@ class Verifier:
         may_follow = wanted is None or wanted.is_metric()
         kind, *words = self.take_mark()
         if kind == "sum" and not words:
-            return self.sum(refuted, context) and may_follow
+            return self.sum(refuted, context, {}) and may_follow
         need(kind == "differs" and words and (words == ["goal"] or words[0] == "fact"))
         literal = refuted if words == ["goal"] else literal_in(words[1:], context.scope)
         says, form = said(literal)
-        usable = says == "differs" and (words == ["goal"] or context.has(literal))
-        need(self.take() == ["|", "sum"])
-        first = self.sum(refuted, context, above=("more", form))
-        need(self.take() == ["|", "sum"])
         negative = {term: -coefficient for term, coefficient in form.items()}
-        second = self.sum(refuted, context, below=("more", negative))
-        return first and second and usable and may_follow
+        usable = may_follow and says == "differs" and (words == ["goal"] or context.has(literal))
+        for side in ({"above": ("more", form)}, {"below": ("more", negative)}):
+            need(self.take() == ["|", "sum"])
+            usable &= self.sum(refuted, context, side)
+        return usable
 
-    def sum(self, refuted, context, **sides):
+    def sum(self, refuted, context, side):
         """Whether each row is used where it may be, and the sum of the rows is absurd."""
         total, usable, some_more, rows = {}, True, False, 0
         while rows == 0 or re.match(r"\| -?[0-9]", " ".join(self.peek())):
             number, *words = self.take_mark()
             rows += 1
             need(rows <= MOST_ROWS)
-            size = number_in(number.removeprefix("-"), MOST_MULTIPLIER)
-            multiplier = -size if number[0] == "-" else size
-            says, form = self.row(words, refuted, context, sides)
+            multiplier = number_in(number.removeprefix("-"), MOST_MULTIPLIER)
+            multiplier *= -1 if number[0] == "-" else 1
+            says, form = self.row(words, refuted, context, side)
             usable &= says == "is" or says in ("more", "at least") and multiplier > 0
             some_more |= says == "more"
             for term, coefficient in form.items():
@@ -520,12 +467,11 @@ class Verifier:
                     add(total, term, coefficient * multiplier)
         return usable and some_more and not total
 
-    def row(self, words, refuted, context, sides):
+    def row(self, words, refuted, context, side):
         """What a row says, and of which form."""
         word, *rest = words or [""]
-        if word in ("goal", "right", "above", "below"):
-            need(not rest)
-            alone = {"goal": said(refuted), "right": ("more", {RIGHT: 1})} | sides
+        if word in ("goal", "right", "above", "below") and not rest:
+            alone = {"goal": said(refuted), "right": ("more", {RIGHT: 1})} | side
             return alone.get(word, WRONG_USE)
         if word == "fact":
             literal = literal_in(rest, context.scope)
@@ -539,20 +485,15 @@ class Verifier:
             return "at least", form
         if word == "top" and term[0] == "ang":
             return "at least", form | {RIGHT: 2}
-        ends = [Literal(False, "=", pair) for pair in (term[1:], term[:0:-1])]
-        apart = word == "pos" and term[0] == "seg" and any(map(context.has, ends))
-        return ("more", form) if apart else WRONG_USE
+        apart = [Literal(False, "=", ends) for ends in (term[1:], term[:0:-1])]
+        can_pos = word == "pos" and term[0] == "seg" and any(map(context.has, apart))
+        return ("more", form) if can_pos else WRONG_USE
 
-
-def main():
+if __name__ == "__main__":
     try:
-        text = Path(sys.argv[1]).read_bytes() if sys.argv[1:] else sys.stdin.buffer.read()
-        answer, status = Verifier(text, Tables()).answer()
+        source = open(sys.argv[1], "rb") if sys.argv[1:] else sys.stdin.buffer
+        answer, status = Verifier(source.read(), Tables()).answer()
     except OSError:
         answer, status = "read fault", 4
     print(answer)
-    return status
-
-
-if __name__ == "__main__":
-    sys.exit(main())
+    sys.exit(status)
