@@ -1,13 +1,14 @@
 #!/usr/bin/env python3
 """Damages derivation texts and compares what `elements verify` and tools/verify.py answer to them.
 
-    python3 tools/agree.py [--exe PATH] [--seed S] [--count N] [--keep DIR] [FILES..]
+    python3 tools/agree.py [--exe PATH] [--seed S] [--count N] [--lines N] [--keep DIR] [FILES..]
 
 Each of FILES is a derivation text, or a book, of which `check` makes one; by default they are the
 accepted books of examples/. Of each text, and of N damaged ones, the two answers and the two exit
 statuses have to be equal. A text to be damaged is one block of a file behind those that it applies,
 so that also the blocks of a long book are quick; short texts are taken more often than long ones,
-and none with more lines than --lines. The same seed damages the same texts in the same way. With --keep each text on which the two differ is written into a file of DIR.
+and none with more lines than --lines. The same seed damages the same texts in the same way. With
+--keep each text on which the two differ is written into a file of DIR.
 
 The last line counts, as in `2000 compared, 0 differ`, and the exit status is 0 where none differ.
 """
@@ -87,7 +88,8 @@ def change_word(lines, i, chance, change, wanted=lambda word: True):
 
 
 def names_of(lines):
-    return sorted({word for line in lines for word in line.split() if word[0].isalpha() and len(word) < 3})
+    words = {word for line in lines for word in line.split()}
+    return sorted(word for word in words if word[0].isalpha() and len(word) < 3)
 
 
 @damage
