@@ -206,10 +206,7 @@ fn prove_close(
                 }
             };
             standing.leave(outer);
-            if let Err(error) = standing.suppose_not(alloc, lit) {
-                mem::drop(one);
-                return Err(Stop::from(error));
-            }
+            standing.suppose_not(alloc, lit)?;
             match prove_block(alloc, before, second, goal, standing, one.next) {
                 Ok(other) => split(alloc, lit, one, other),
                 Err(stop) => {

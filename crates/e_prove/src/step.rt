@@ -10,7 +10,7 @@ ghost use Rattle.e_deriv.specs.declared.block.Step.TheVariants.{Cite, Hence, Mak
 ghost use Rattle.e_construct.specs.Superposing;
 ghost use Rattle.e_clause.specs.Certify.{certify_all};
 ghost use Rattle.e_clause.specs.Written.{is_good_cert};
-ghost use Rattle.e_prove.specs.Contexts.{HasRoom, after_literal, after_make, after_superposed};
+ghost use Rattle.e_prove.specs.Contexts.{HasRoom, after_make, after_superposed};
 ghost use Rattle.e_prove.specs.Halts.{HaltsIn, UnlessNoMemory};
 ghost use Rattle.e_prove.specs.Judging.{IsJudged, StepHalts};
 
@@ -22,8 +22,7 @@ use e_construct::{Construction, Superpose};
 use e_deriv::{Step, Wanted, copy_by, copy_construction};
 use e_literal::{Items, Lit, copy};
 use e_text::Name;
-use std::alloc::{AllocError, Global};
-use std::mem;
+use std::alloc::Global;
 
 /// A citation: its literal is one of the instance, and the negation of each other is a fact.
 #[tactic(auto, unfolding(e_deriv::specs::Script::step_script))]
@@ -44,16 +43,6 @@ pub fn cite(alloc: Global, by: &By, standing: &mut Standing) -> Result<Step, Hal
     Ok(Step::Cite(derived))
 }
 
-/// The literal is a fact; hands out an equal one. It fails only for want of memory; nothing is said of what holds then.
-fn shown(alloc: Global, lit: &Lit, standing: &mut Standing) -> Result<Lit, AllocError>
-    requires { IsTrue (are_good_facts standing.old.context.scope (joined standing.old.context.facts lit.now)) }
-    ensures lit { IfOk result (λ l. l ≡ lit.now) }
-    ensures after { OnOk result (standing.new ≡ after_literal lit.now standing.old) }
-{
-    standing.suppose(alloc, lit)?;
-    copy(alloc, lit)
-}
-
 /// A hence: its literal is allowed.
 #[tactic(auto, unfolding(e_deriv::specs::Script::step_script))]
 pub fn hence(alloc: Global, lit: &Lit, standing: &mut Standing) -> Result<Step, Halt>
@@ -64,16 +53,12 @@ pub fn hence(alloc: Global, lit: &Lit, standing: &mut Standing) -> Result<Step, 
     ensures kept { IfErr result (UnlessNoMemory (standing.new ≡ standing.old)) }
 {
     let cert = licensed(alloc, &standing.context, lit)?;
-    match shown(alloc, lit, standing) {
-        Ok(derived) => Ok(Step::Hence {
-            lit: derived,
-            cert: Some(cert),
-        }),
-        Err(_) => {
-            mem::drop(cert);
-            Err(Halt::NoMemory)
-        }
-    }
+    let derived = copy(alloc, lit)?;
+    standing.context.add(copy(alloc, lit)?)?;
+    Ok(Step::Hence {
+        lit: derived,
+        cert: Some(cert),
+    })
 }
 
 /// A construction: each literal that it needs is allowed.
