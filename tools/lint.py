@@ -32,7 +32,9 @@ WRAPPED = re.compile(r"[^/]*|(docs|editors)/[^/]*")  # pages whose lines are cou
 SUFFIXES = "rt antt md book txt edit sh py text out json ebnf vim text".split()
 # Made by a build, a reader or a run, or standing for any name: not in the tree.
 NOT_KEPT = re.compile(r"(^|/)(out|target)(/|$)|\.\.|[*<>{}]|NAME|\b[A-Z]+\.(text|book|out)$|e_x|^[/~]")
-NOT_KEPT_FILES = {"I.1.text", "thing.rt", "Thing.antt", "Topic.antt", "X.book", "FILE", "mine.book"}
+NOT_KEPT_FILES = {"I.1.text", "thing.rt", "Thing.antt", "Topic.antt", "X.book", "FILE", "mine.book", "whole.book"}
+# Titles of theorems that look like files.
+NOT_KEPT_FILES |= {"right.out"}
 
 # Words of Rust, of antt, of the shell, of the kit and of its libraries that documents cite.
 ALLOWED = set(
