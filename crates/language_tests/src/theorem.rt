@@ -1,7 +1,7 @@
 // The first proposition of the Elements: on each line that joins two points stands an equilateral triangle.
 
-use e_theorem::{Statement, is_pattern, use_of};
 use e_literal::{Atom, Form, Items, Lit, Mono, Obj, Scope, Sort, Term};
+use e_theorem::{Statement, is_pattern, use_of};
 use std::alloc::{AllocError, Global};
 use std::process::Abort;
 use std::test::Fail;
