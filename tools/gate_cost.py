@@ -1,8 +1,9 @@
 #!/usr/bin/env python3
-"""gate_cost.py [SECONDS]: while `rt ci` runs, samples what each check costs, and prints at the end the processor
+"""gate_cost.py: while `rt ci` runs, samples what each check costs, and prints at the end the processor
 minutes of each crate for its proof, its tests and its must-fail edits, with when each began and ended.
 
-Start it beside the gate; it ends when no `rt ci` is left."""
+Start it beside the gate; it ends when no `rt ci` is left. A file /tmp/gate_cost.now asks it to print
+what it has so far."""
 import os
 import re
 import subprocess
@@ -28,8 +29,7 @@ def checks():
             continue
         crate = words[words.index("--crate-name") + 1]
         kind = "edits" if "rt-edit-" in folder else "tests" if "--test" in words else "proof"
-        # its own time, and that of the processes that it waited for
-        yield (pid, fields[19]), crate, kind, sum(map(int, fields[11:15])) / TICKS
+        yield (pid, fields[19]), crate, kind, sum(map(int, fields[11:13])) / TICKS
 
 
 def main():
