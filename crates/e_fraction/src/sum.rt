@@ -3,9 +3,9 @@
 ghost use Rattle.std.specs.Prelude.{◌≡◌, ◌≤◌, ◌<◌, ◌^◌, length, IsTrue, pos, unsigned_abs, ◌*ℤ◌, ◌&&◌};
 ghost use Rattle.std.specs.List.{list_all, list_any, zip};
 ghost use Rattle.std.specs.Ordering.{int_eq};
-ghost use Rattle.e_literal.specs.Rows.{Summands};
+ghost use Rattle.e_literal.specs.Rows.{Summands, coefficient};
 ghost use Rattle.e_literal.specs.Absurd.{total, is_good_sign, is_strict, is_absurd};
-ghost use Rattle.e_fraction.specs.Limits.{all_small, are_good_multipliers};
+ghost use Rattle.e_fraction.specs.Limits.{has_small_coefficients, all_small, are_good_multipliers};
 ghost use Rattle.e_fraction.specs.Views.{says_of, weighed, all_seen};
 ghost use Rattle.e_literal.specs.Solution.{HasSolution};
 
@@ -73,18 +73,22 @@ pub fn total(rows: &[Row], multipliers: &[i128], term: Term) -> i128
 {
     let mut sum: i128 = 0;
     for i in 0..rows.len() {
-        sum += weighed(rows[i].form.coefficient(term), multipliers[i]);
+        sum += weighed(&rows[i], multipliers[i], term);
     }
     sum
 }
 
-fn weighed(coefficient: i64, multiplier: i128) -> i128
-    requires coefficient { unsigned_abs coefficient ≤ 2 ^ 30 }
+/// The coefficient of the term in a row, times the row's multiplier: a row that takes no part is not looked at.
+fn weighed(row: &Row, multiplier: i128, term: Term) -> i128
+    requires row { IsTrue (has_small_coefficients row.now.form) }
     requires multiplier { unsigned_abs multiplier ≤ 2 ^ 80 }
-    ensures value { result ≡ multiplier *ℤ coefficient }
+    ensures value { result ≡ multiplier *ℤ coefficient row.now.form term }
     ensures size { unsigned_abs result ≤ 2 ^ 110 }
 {
-    multiplier * i128::from(coefficient)
+    if multiplier == 0 {
+        return 0;
+    }
+    multiplier * i128::from(row.form.coefficient(term))
 }
 
 /// Whether no row that says `at least` or `more` is taken away, and one that says `more` is added.

@@ -83,7 +83,7 @@ agree_on_three places n f g same v w u less =
     let c = two_below (get_or places v 0) (get_or places w 0) n b.0 in
     (same v c.0, same w c.1, same u b.1)
 
-term_kept : (places : List ℕ) (n : ℕ) (f g : ℕ → ℕ) → AgreeBelow places n f g → (t : Term) → last_of_term places t < n → term_at f t ≡ term_at g t
+pub term_kept : (places : List ℕ) (n : ℕ) (f g : ℕ → ℕ) → AgreeBelow places n f g → (t : Term) → last_of_term places t < n → term_at f t ≡ term_at g t
 term_kept places n f g same (Seg x y) less = let e = agree_on_two places n f g same x y less in let p = e.0 in let q = e.1 in cc
 term_kept places n f g same (Ang x y z) less = let e = agree_on_three places n f g same x y z less in let p = e.0 in let q = e.1 in let s = e.2 in cc
 term_kept places n f g same (Area x y z) less = let e = agree_on_three places n f g same x y z less in let p = e.0 in let q = e.1 in let s = e.2 in cc

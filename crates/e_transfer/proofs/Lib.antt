@@ -12,3 +12,5 @@ pub mod Clauses
 pub mod Placed
 pub mod Sweeping
 pub mod Modelling
+pub mod Marking
+pub mod Freeing

@@ -73,7 +73,7 @@ unfit_here m facts goal l b differs here = unfit m facts goal l b differs (λ no
 
 -- ---- a part
 
-with_row : (m : Means) (scope : Scope) (facts : List Lit) (goal : Lit) (rule place : ℕ) (plan : Plan) (r : Row) (c : List ℕ) → slice_get table rule ≡ Some r
+pub with_row : (m : Means) (scope : Scope) (facts : List Lit) (goal : Lit) (rule place : ℕ) (plan : Plan) (r : Row) (c : List ℕ) → slice_get table rule ≡ Some r
     → Wanted m scope facts goal rule place plan c
     → (plan.lasts.items ≡ lasts_of r plan.places.items) × Gives m scope facts goal rule place (arguments r plan.places.items c)
 with_row m scope facts goal rule place plan r c at wanted =

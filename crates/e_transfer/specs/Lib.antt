@@ -9,3 +9,5 @@ pub mod Giving
 pub mod Placing
 pub mod Found
 pub mod Models
+pub mod Marks
+pub mod Areas

@@ -7,7 +7,9 @@ ghost use Rattle.e_clause.specs.Wide.{TransferFromFacts};
 ghost use Rattle.e_transfer.specs.Found.{IsFound, IsFoundByFacts};
 ghost use Rattle.e_transfer.specs.Giving.{IsWideTransfer};
 
-use crate::models::are_of_model;
+use crate::areas::areas_of;
+use crate::marks::marks_of;
+use crate::models::{Filling, are_of_model};
 use crate::sought::{Means, Sought};
 use crate::sweep::sweep;
 use crate::walk::Outcome;
@@ -65,6 +67,7 @@ pub fn find_by_facts<'a>(
     requires not_fact { IsFalse (has facts.now goal.now) }
     ensures { IfOk result (IsFoundByFacts scope facts.now goal.now) }
 {
+    let marks = marks_of(facts);
     let sought = Sought {
         scope,
         facts,
@@ -74,6 +77,9 @@ pub fn find_by_facts<'a>(
         values: &[],
         plain_model: false,
         spread_model: false,
+        flat_model: false,
+        marks: &marks,
+        areas: &[],
     };
     match sweep(alloc, &sought)? {
         Outcome::Found(cert) => Ok(Some(cert)),
@@ -124,6 +130,8 @@ fn find_by_values<'a>(
     requires not_plain { ¬ TransferFromFacts scope facts.now goal.now }
     ensures { IfOk result (IsFound scope facts.now goal.now) }
 {
+    let marks = marks_of(facts);
+    let areas = areas_of(alloc, facts)?;
     let sought = Sought {
         scope,
         facts,
@@ -131,43 +139,39 @@ fn find_by_values<'a>(
         means: Means::Sums,
         known: Some(known),
         values,
-        plain_model: are_of_model(facts, false, values),
-        spread_model: are_of_model(facts, true, values),
+        plain_model: are_of_model(facts, Filling::Ones, values),
+        spread_model: are_of_model(facts, Filling::Spread, values),
+        flat_model: are_of_model(facts, Filling::Flat, values),
+        marks: &marks,
+        areas: &areas,
     };
     match sweep(alloc, &sought)? {
         Outcome::Found(cert) => Ok(Found::Yes(cert)),
         Outcome::Nothing => Ok(Found::No),
-        Outcome::Stop(width) => find_beside_wide(alloc, scope, facts, known, goal, values, width),
+        Outcome::Stop(width) => find_beside_wide(alloc, &sought, width),
     }
 }
 
-/// The same, where besides a literal that an instance needs has a wide system, of this width.
-fn find_beside_wide<'a>(
-    alloc: Global,
-    scope: Scope,
-    facts: &'a Facts,
-    known: &'a Known<'a>,
-    goal: &'a Lit,
-    values: &'a [(Term, u128)],
-    width: u128,
-) -> Result<Found, AllocError>
-    requires facts { IsTrue (are_good_facts scope facts.now) }
-    requires known { known.now ≡ facts.now }
-    requires not_plain { ¬ TransferFromFacts scope facts.now goal.now }
-    requires wide { IsWideTransfer scope facts.now goal.now width }
-    ensures { IfOk result (IsFound scope facts.now goal.now) }
+/// The same, where a literal that an instance needs has a wide system, of this width: those are passed over.
+fn find_beside_wide(alloc: Global, sought: &Sought, width: u128) -> Result<Found, AllocError>
+    requires not_plain { ¬ TransferFromFacts sought.now.scope sought.now.facts.now sought.now.goal.now }
+    requires wide { IsWideTransfer sought.now.scope sought.now.facts.now sought.now.goal.now width }
+    ensures { IfOk result (IsFound sought.now.scope sought.now.facts.now sought.now.goal.now) }
 {
-    let sought = Sought {
-        scope,
-        facts,
-        goal,
+    let narrow = Sought {
+        scope: sought.scope,
+        facts: sought.facts,
+        goal: sought.goal,
         means: Means::NarrowSums,
-        known: Some(known),
-        values,
-        plain_model: are_of_model(facts, false, values),
-        spread_model: are_of_model(facts, true, values),
+        known: sought.known,
+        values: sought.values,
+        plain_model: sought.plain_model,
+        spread_model: sought.spread_model,
+        flat_model: sought.flat_model,
+        marks: sought.marks,
+        areas: sought.areas,
     };
-    match sweep(alloc, &sought)? {
+    match sweep(alloc, &narrow)? {
         Outcome::Found(cert) => Ok(Found::Yes(cert)),
         Outcome::Nothing => Ok(Found::TooWide(width)),
         Outcome::Stop(_) => unreachable!(),

@@ -12,7 +12,7 @@ ghost use Rattle.e_metric.specs.Told.{IsTold, IfNo};
 ghost use Rattle.e_transfer.specs.Giving;
 ghost use Rattle.e_transfer.specs.Giving.{PartIs, PartsAre, InstanceIs, passed_over};
 
-use crate::models::refutes;
+use crate::models::{Filling, refutes};
 use crate::plan::count_of;
 use crate::sought::{Means, Sought};
 use crate::walk::Verdict;
@@ -34,12 +34,12 @@ fn too_wide(means: Means, width: u128) -> Verdict<Part>
 }
 
 /// Whether the metric literal is seen not to follow, without any sums.
-fn is_refuted(sought: &Sought, need: &Lit) -> bool
+pub fn is_refuted(sought: &Sought, need: &Lit) -> bool
     ensures { result ≡ true → ¬ MetricConsequence sought.now.facts.now need.now }
 {
     let facts = sought.facts;
-    (sought.plain_model && refutes(facts, false, sought.values, need))
-        || (sought.spread_model && refutes(facts, true, sought.values, need))
+    (sought.plain_model && refutes(facts, Filling::Ones, sought.values, need))
+        || (sought.spread_model && refutes(facts, Filling::Spread, sought.values, need))
 }
 
 /// Whether the metric literal follows from the facts, by what is known of them.

@@ -5,11 +5,13 @@
 //! chosen one by one: a choice is given up at the first literal of the clause that cannot stand.
 #![tactic(auto)]
 
+pub mod areas;
 pub mod bind;
 pub mod clause;
 pub mod conditions;
 pub mod finding;
 pub mod leaf;
+pub mod marks;
 pub mod models;
 pub mod order;
 pub mod place;

@@ -7,17 +7,23 @@ ghost use Rattle.e_clause.specs.Views.{row_of};
 ghost use Rattle.e_clause.specs.Instance.{clause_of};
 ghost use Rattle.e_transfer.specs.Giving.{IsFitting, IsWideTransfer};
 ghost use Rattle.e_transfer.specs.declared.sought.Means.TheVariants as means;
+ghost use Rattle.e_literal.specs.Rename.{term_at};
+ghost use Rattle.e_clause.specs.Instance;
+ghost use Rattle.e_transfer.specs.Areas;
 ghost use Rattle.e_transfer.specs.Part;
 ghost use Rattle.e_transfer.specs.Placing.{Wanted, NoneFrom, Shown};
 
-use crate::clause::{clause_len, literal_at};
-use crate::leaf::certify;
-use crate::plan::{Plan, sort_of};
+use crate::areas::{equal_areas, is_one_of};
+use crate::clause::{clause_len, literal_at, pattern_at};
+use crate::leaf::{certify, is_refuted};
+use crate::marks::is_equation;
+use crate::plan::{Plan, last_of_term, sort_of};
 use crate::sought::{Means, Sought};
 use crate::walk::{Task, Verdict};
 use e_clause::pattern::Row;
 use e_clause::{Rule, TransferCert};
-use e_literal::{Items, Lit, Obj, kind, negate, same};
+use e_literal::compare::is_degenerate;
+use e_literal::{Items, Lit, Obj, Term, kind, negate, same};
 use std::alloc::{AllocError, Global};
 use std::mem;
 
@@ -28,6 +34,8 @@ pub struct Place<'a> {
     pub rule: Rule,
     pub place: usize,
     pub plan: &'a Plan,
+    /// Where the clause says of two areas alone that they are equal, if it does. That is a matter of speed alone.
+    pub areas: Option<usize>,
     ghost transfer: { IsTrue (is_transfer rule) },
 }
 
@@ -54,14 +62,14 @@ fn arguments(
 ) -> Result<Items<Obj>, AllocError>
     ensures { IfOk result (λ a. a ≡ Part.arguments (row_of row.now) places.now part.now) }
 {
-    let mut args = Items::empty(alloc);
+    let mut args = Vec::with_capacity(alloc, places.len())?;
     for v in 0..places.len() {
         args.push(Obj {
             sort: sort_of(row, v),
             num: number(places, part, v),
         })?;
     }
-    Ok(args)
+    Ok(Items::new(args))
 }
 
 /// Whether the last number of a part of this length completes the literal at a place of the clause.
@@ -89,13 +97,66 @@ fn may_stand(sought: &Sought, here: bool, lit: Lit) -> bool
     let stands = if sought.means == Means::Facts || kind(&need).is_none() {
         sought.facts.has(&need)
     } else {
-        true
+        !is_refuted(sought, &need)
     };
     mem::drop(need);
     stands
 }
 
+/// The number of a variable by the arguments; 0 where there is none.
+fn number_in(args: &[Obj], variable: u16) -> u16
+    ensures { result ≡ Instance.number args.now variable }
+{
+    match args.get(usize::from(variable)) {
+        Some(object) => object.num,
+        None => 0,
+    }
+}
+
+/// An area over variables, with the arguments for them.
+fn area_at(args: &[Obj], area: Term) -> Term
+    ensures { result ≡ term_at (Instance.number args.now) area }
+{
+    match area {
+        Term::Area(x, y, z) => Term::Area(number_in(args, x), number_in(args, y), number_in(args, z)),
+        Term::Seg(x, y) => Term::Seg(number_in(args, x), number_in(args, y)),
+        Term::Ang(x, y, z) => Term::Ang(number_in(args, x), number_in(args, y), number_in(args, z)),
+        Term::Right => Term::Right,
+    }
+}
+
+/// Whether no need stands that says that the area differs from another: there are values with which all facts are true,
+/// and no fact names the area.
+fn is_free(sought: &Sought, area: Term) -> bool
+    ensures { result ≡ true → Areas.IsFree sought.now.facts.now area }
+{
+    (sought.plain_model || sought.spread_model)
+        && !is_degenerate(area)
+        && !is_one_of(sought.areas, area)
+}
+
 impl<'a> Place<'a> {
+    /// Whether the last number of the part completes the first of two areas that the clause says to be equal at this
+    /// place, and the area is free: then the two do not differ, whatever the other is.
+    fn has_free_area(&self, row: &Row, part: &[u16], args: &[Obj], at: usize) -> bool
+        requires of_table { slice_get table self.now.rule ≡ Some (row_of row.now) }
+        requires arguments { args.now ≡ Part.arguments (row_of row.now) self.now.plan.now.places.items part.now }
+        ensures { result ≡ true → NoneFrom self.now.sought.means self.now.sought.scope self.now.sought.facts.now self.now.sought.goal.now self.now.rule self.now.place self.now.plan.now part.now }
+    {
+        if at >= clause_len(row) || at == self.place || is_equation(self.sought.goal) {
+            return false;
+        }
+        let (pattern, negated) = pattern_at(row, at);
+        match equal_areas(&pattern) {
+            Some(area) => {
+                !negated
+                    && last_of_term(&self.plan.places, area) + 1 == part.len()
+                    && is_free(&self.sought, area_at(args, area))
+            }
+            None => false,
+        }
+    }
+
     /// Whether the last number of the part completes the literal at a place of the clause, and the literal is excluded.
     fn is_excluded(
         &self,
@@ -156,6 +217,11 @@ impl<'a> Task for Place<'a> {
     ) -> Result<Verdict<Option<TransferCert>>, AllocError> {
         let row = self.rule.row();
         let args = arguments(alloc, row, &self.plan.places, part)?;
+        if let Some(at) = self.areas {
+            if self.has_free_area(row, part, args.items(), at) {
+                return Ok(Verdict::Refuse);
+            }
+        }
         if !self.may_go_on(alloc, row, part, args.items())? {
             return Ok(Verdict::Refuse);
         }

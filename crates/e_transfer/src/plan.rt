@@ -220,7 +220,7 @@ fn circle(row: &Row, places: &[usize], at: u16) -> usize
 }
 
 /// The last of the places of a term's variables.
-fn last_of_term(places: &[usize], term: Term) -> usize
+pub fn last_of_term(places: &[usize], term: Term) -> usize
     ensures { result ≡ Part.last_of_term places.now term }
 {
     match term {

@@ -3,7 +3,10 @@
 ghost use Rattle.std.specs.Prelude.{◌≡◌, IsTrue, option_copied, not, ◌||◌, true, false};
 ghost use Rattle.std.specs.Option.{ForSome};
 ghost use Rattle.e_clause.specs.Judged.{are_good_facts};
+ghost use Rattle.e_transfer.specs.declared.models.Filling.TheVariants as filling;
 ghost use Rattle.e_transfer.specs.Models.{is_model, value_by};
+ghost use Rattle.e_transfer.specs.Areas.{name_areas_of};
+ghost use Rattle.e_transfer.specs.Marks.{are_marked};
 
 use e_facts::Facts;
 use e_literal::{Lit, Scope, Term};
@@ -35,8 +38,17 @@ pub struct Sought<'a> {
     pub plain_model: bool,
     /// Whether they are those of a model of the facts, with default values that are spread.
     pub spread_model: bool,
+    /// Whether they are those of a model of the facts, if all areas are 0.
+    pub flat_model: bool,
+    /// Which relations the facts have, and with which sign.
+    pub marks: &'a [bool],
+    /// The areas that the facts name, each in the one way of writing it, where metric questions may be asked.
+    pub areas: &'a [Term],
     ghost known_of: { ForSome (option_copied known) (λ k. k ≡ facts.now) },
     ghost good: { IsTrue (are_good_facts scope facts.now) },
-    ghost plain: { IsTrue (not plain_model || is_model facts.now (value_by false values.now)) },
-    ghost spread: { IsTrue (not spread_model || is_model facts.now (value_by true values.now)) },
+    ghost marked: { IsTrue (are_marked marks.now facts.now) },
+    ghost named: { IsTrue (not (plain_model || spread_model) || name_areas_of areas.now facts.now) },
+    ghost plain: { IsTrue (not plain_model || is_model facts.now (value_by filling.Ones values.now)) },
+    ghost spread: { IsTrue (not spread_model || is_model facts.now (value_by filling.Spread values.now)) },
+    ghost flat: { IsTrue (not flat_model || is_model facts.now (value_by filling.Flat values.now)) },
 }

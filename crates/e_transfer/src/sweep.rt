@@ -8,8 +8,10 @@ ghost use Rattle.e_clause.specs.Views.{row_of};
 ghost use Rattle.e_transfer.specs.Giving.{SweepIs, NoneTied, NoneBound, NoneAt, NoneOf, NoneGives};
 ghost use Rattle.e_transfer.specs.Planning.{total_of};
 
+use crate::areas::place_of_areas;
 use crate::bind::Bind;
 use crate::clause::{clause_len, pattern_at};
+use crate::marks::may_all_stand;
 use crate::order::order;
 use crate::place::Place;
 use crate::plan::make_plan;
@@ -42,6 +44,7 @@ fn sweep_tied(
         rule,
         place,
         plan: &plan,
+        areas: place_of_areas(row),
     };
     let mut chosen = Vec::new(alloc);
     match search(alloc, &task, &plan.spans, &mut chosen)? {
@@ -87,6 +90,9 @@ fn sweep_place(
     requires in_clause { place < length (clause_of (row_of row.now)) }
     ensures { IfOk result (SweepIs sought.now.means sought.now.scope sought.now.facts.now sought.now.goal.now (NoneAt sought.now.means sought.now.scope sought.now.facts.now sought.now.goal.now rule place)) }
 {
+    if !may_all_stand(sought, rule, row, place) {
+        return Ok(Outcome::Nothing);
+    }
     let (pattern, negated) = pattern_at(row, place);
     let ways = seeds(alloc, row, &pattern, negated, sought.goal)?;
     for i in 0..ways.len() {

@@ -7,6 +7,6 @@ use Rattle.e_transfer.proofs.models.facts_fit.Given as goal
 
 abbrev pub invariant-loop-i : goal.invariant-loop-i
 invariant-loop-i l = record {
-  fit : list_all (λ k. fits_terms l.facts (value_by l.spread l.values) (terms_of_atom k.atom)) (take l.i l.facts) ≡ true;
-  hold : all_hold (value_by l.spread l.values) (take l.i l.facts) ≡ true;
+  fit : list_all (λ k. fits_terms l.facts (value_by l.filling l.values) (terms_of_atom k.atom)) (take l.i l.facts) ≡ true;
+  hold : all_hold (value_by l.filling l.values) (take l.i l.facts) ≡ true;
 }

@@ -1,0 +1,6 @@
+use Rattle.std.proofs.Common.{◌≡◌, true, take, length}
+use Rattle.e_transfer.specs.Marks.{are_marked}
+use Rattle.e_transfer.proofs.marks.marks_of.Given as goal
+
+abbrev pub invariant-loop-i : goal.invariant-loop-i
+invariant-loop-i l = record { long : length l.marks ≡ 28; all : are_marked l.marks (take l.i l.facts) ≡ true }

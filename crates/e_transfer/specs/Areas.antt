@@ -1,0 +1,43 @@
+-- The areas that facts name.
+use Rattle.std.specs.Prelude.{◌≡◌, ℕ, List, [], ◌∷◌, Bool, true, false, not, ◌||◌, IsTrue}
+use Rattle.std.specs.List.{list_any, list_all}
+use Rattle.e_literal.specs.declared.literal.Atom.TheVariants.{MagEq}
+use Rattle.e_literal.specs.declared.literal.Lit.{Lit}
+use Rattle.e_literal.specs.declared.object.Mono.{Mono}
+use Rattle.e_literal.specs.declared.object.Term.{Term}
+use Rattle.e_literal.specs.Same.{canonical, term_eq}
+use Rattle.e_clause.specs.Assignment.{terms_of_lits}
+use Rattle.e_clause.specs.Metric.{MetricConsequence}
+use Rattle.e_clause.specs.declared.pattern.Pattern.{Pattern}
+use Rattle.e_clause.specs.Views.{lit_of}
+use Rattle.e_transfer.specs.Marks.{is_area}
+
+-- the term, in the one way of writing it, is one of the list
+abbrev pub is_one_of : List Term → Term → Bool
+is_one_of areas t = list_any (λ a. term_eq (canonical t) a) areas
+
+-- each area among the terms is listed
+abbrev pub are_listed : List Term → List Term → Bool
+are_listed areas ts = list_all (λ t. not (is_area t) || is_one_of areas t) ts
+
+abbrev pub name_areas_of : List Term → List Lit → Bool
+name_areas_of areas facts = are_listed areas (terms_of_lits facts)
+
+-- what is listed stays so, and the areas among the terms are listed
+pub record ListsAlso (ts : List Term) (old new : List Term) : Type 0 where
+  pub keeps : (ss : List Term) → IsTrue (are_listed old ss) → IsTrue (are_listed new ss)
+  pub lists : IsTrue (are_listed new ts)
+
+-- the pattern says of two areas alone that they are equal
+pub record AreEqualAreas (p : Pattern) (t : Term) : Type 0 where
+  pub coeff : ℕ
+  pub other : Term
+  pub is : lit_of p ≡ record { neg = false; atom = MagEq (record { coeff = coeff; term = t } ∷ []) (record { coeff = coeff; term = other } ∷ []) }
+  pub first : IsTrue (is_area t)
+  pub second : IsTrue (is_area other)
+
+-- no two areas of which this is the first are said to differ by what follows
+abbrev pub IsFree : List Lit → Term → Type 0
+IsFree facts t =
+    (coeff : ℕ) (other : Term) → IsTrue (is_area other)
+    → MetricConsequence facts (record { neg = true; atom = MagEq (record { coeff = coeff; term = t } ∷ []) (record { coeff = coeff; term = other } ∷ []) }) → ⊥

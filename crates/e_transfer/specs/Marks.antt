@@ -1,0 +1,72 @@
+-- Which relations stand among facts, and with which sign.
+use Rattle.std.specs.Prelude.{◌≡◌, ℕ, ◌+◌, ◌*◌, List, Bool, true, false, ◌&&◌, if◌then◌else◌, slice_index_or, slice_get, Some}
+use Rattle.std.specs.List.{list_all}
+use Rattle.e_literal.specs.declared.literal.Atom.{Atom}
+use Rattle.e_literal.specs.declared.literal.Atom.TheVariants.{On, OnC, Inside, Center, Between, Same, MeetLL, MeetLC, MeetCC, EqP, EqL, EqC, MagEq, MagLt}
+use Rattle.e_literal.specs.declared.literal.Lit.{Lit}
+use Rattle.e_literal.specs.declared.object.Mono.{Mono}
+use Rattle.e_literal.specs.declared.object.Obj.{Obj}
+use Rattle.e_literal.specs.declared.object.Term.{Term}
+use Rattle.e_literal.specs.declared.object.Term.TheVariants.{Area}
+use Rattle.e_literal.specs.Rename.{atom_at}
+use Rattle.e_clause.specs.Rows.{Row}
+use Rattle.e_clause.specs.Instance.{clause_of, lit_at}
+use Rattle.e_transfer.specs.declared.sought.Means.{Means}
+use Rattle.e_transfer.specs.Giving.{IsFitting, Suffices}
+
+-- the relations, numbered; those of diagrams come first
+abbrev pub relation : Atom → ℕ
+relation (On a b) = 0
+relation (OnC a b) = 1
+relation (Inside a b) = 2
+relation (Center a b) = 3
+relation (Between a b c) = 4
+relation (Same a b c) = 5
+relation (MeetLL a b) = 6
+relation (MeetLC a b) = 7
+relation (MeetCC a b) = 8
+relation (EqP a b) = 9
+relation (EqL a b) = 10
+relation (EqC a b) = 11
+relation (MagEq x y) = 12
+relation (MagLt x y) = 13
+
+-- two marks for each relation: of it, and of its negation
+abbrev pub mark : ℕ → Bool → ℕ
+mark relation neg = 2 * relation + (if neg then 1 else 0)
+
+abbrev pub mark_of : Lit → ℕ
+mark_of l = mark (relation l.atom) l.neg
+
+-- there is a mark for the literal's relation and sign
+abbrev pub is_marked : List Bool → Lit → Bool
+is_marked marks l = slice_index_or marks (mark_of l) false
+
+abbrev pub are_marked : List Bool → List Lit → Bool
+are_marked marks facts = list_all (is_marked marks) facts
+
+-- ---- areas
+
+abbrev pub is_area : Term → Bool
+is_area (Area a b c) = true
+is_area _ = false
+
+abbrev pub are_areas : List Mono → Bool
+are_areas x = list_all (λ m. is_area m.term) x
+
+-- the atom, or its negation, says that areas differ, or that one is less
+abbrev pub is_strict_of_areas : Bool → Atom → Bool
+is_strict_of_areas true (MagEq x y) = are_areas x && are_areas y
+is_strict_of_areas false (MagLt x y) = are_areas x && are_areas y
+is_strict_of_areas _ _ = false
+
+-- ---- places of a clause
+
+-- no literal over objects that is of this one suffices
+abbrev pub NoneSuffices : Means → List Lit → Lit → Type 0
+NoneSuffices m facts l = (p q c : ℕ → ℕ) → Suffices m facts (record { neg = l.neg; atom = atom_at p q c l.atom }) → ⊥
+
+-- no instance has at this place of the clause the goal, or a literal whose negation suffices
+abbrev pub NoneStands : Means → List Lit → Lit → Row → ℕ → Type 0
+NoneStands m facts goal r at =
+    (l : Lit) → slice_get (clause_of r) at ≡ Some l → (args : List Obj) → IsFitting m facts goal false (lit_at r args l) → ⊥

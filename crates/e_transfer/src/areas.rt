@@ -1,0 +1,84 @@
+// Areas that no fact names: such an area may be of any size, so that it differs from another does not follow.
+
+ghost use Rattle.std.specs.Prelude.{◌≡◌, [], ◌∷◌, IfOk, OnOk, IsTrue, MatchOption, map};
+ghost use Rattle.e_clause.specs.Assignment.{terms_of_atom};
+ghost use Rattle.e_transfer.specs.Areas;
+ghost use Rattle.e_transfer.specs.Areas.{name_areas_of, ListsAlso, AreEqualAreas};
+
+use crate::clause::{clause_len, pattern_at};
+use e_clause::pattern::{Pattern, Row, Shape};
+use e_facts::Facts;
+use e_literal::compare::canonical;
+use e_literal::{Atom, Lit, Mono, Term};
+use std::alloc::{AllocError, Global};
+
+fn add_area(areas: &mut Vec<Term>, term: Term) -> Result<(), AllocError>
+    ensures { OnOk result (ListsAlso (term ∷ []) areas.old.items areas.new.items) }
+{
+    if matches!(term, Term::Area(_, _, _)) {
+        areas.push(canonical(term))?;
+    }
+    Ok(())
+}
+
+fn add_sum(areas: &mut Vec<Term>, sum: &[Mono]) -> Result<(), AllocError>
+    ensures { OnOk result (ListsAlso (map (λ m. m.term) sum.now) areas.old.items areas.new.items) }
+{
+    for m in sum {
+        add_area(areas, m.term)?;
+    }
+    Ok(())
+}
+
+fn add_areas(areas: &mut Vec<Term>, fact: &Lit) -> Result<(), AllocError>
+    ensures { OnOk result (ListsAlso (terms_of_atom fact.now.atom) areas.old.items areas.new.items) }
+{
+    if let Atom::MagEq(x, y) | Atom::MagLt(x, y) = &fact.atom {
+        add_sum(areas, x.items())?;
+        add_sum(areas, y.items())?;
+    }
+    Ok(())
+}
+
+/// The areas that the facts name, each in the one way of writing it.
+pub fn areas_of(alloc: Global, facts: &Facts) -> Result<Vec<Term>, AllocError>
+    ensures { IfOk result (λ v. IsTrue (name_areas_of v.items facts.now)) }
+{
+    let mut areas = Vec::new(alloc);
+    for i in 0..facts.len() {
+        add_areas(&mut areas, facts.get(i))?;
+    }
+    Ok(areas)
+}
+
+/// Whether the term is one of these.
+pub fn is_one_of(areas: &[Term], term: Term) -> bool
+    ensures { result ≡ Areas.is_one_of areas.now term }
+{
+    let term = canonical(term);
+    areas.iter().any(|area| term == *area)
+}
+
+/// The first of two areas, where the pattern says of them alone that they are equal.
+pub fn equal_areas(pattern: &Pattern) -> Option<Term>
+    ensures { MatchOption result (Unit {0}) (AreEqualAreas pattern.now) }
+{
+    match pattern {
+        Pattern::Is(Shape::MagEq([m], [n])) => match (m.term, n.term) {
+            (Term::Area(_, _, _), Term::Area(_, _, _)) if m.coeff == n.coeff => Some(m.term),
+            _ => None,
+        },
+        _ => None,
+    }
+}
+
+/// The place of the clause that says of two areas alone that they are equal, if there is one.
+pub fn place_of_areas(row: &Row) -> Option<usize> {
+    for at in 0..clause_len(row) {
+        let (pattern, negated) = pattern_at(row, at);
+        if !negated && equal_areas(&pattern).is_some() {
+            return Some(at);
+        }
+    }
+    None
+}

@@ -1,0 +1,168 @@
+// Which relations stand among the facts, and with which sign: what an instance needs of another relation or sign is no
+// fact.
+
+ghost use Rattle.std.specs.Prelude.{◌≡◌, ◌≢◌, ◌<◌, length, slice_get, IsTrue, Some, true, false};
+ghost use Rattle.e_literal.specs.Literal.{negation};
+ghost use Rattle.e_clause.specs.Instance.{clause_of};
+ghost use Rattle.e_clause.specs.Table.{table};
+ghost use Rattle.e_clause.specs.Views.{atom_of, row_of};
+ghost use Rattle.e_transfer.specs.Giving.{signed, NoneAt};
+ghost use Rattle.e_transfer.specs.Marks;
+ghost use Rattle.e_transfer.specs.Marks.{are_marked, NoneStands};
+
+use crate::clause::{clause_len, pattern_at};
+use crate::sought::{Means, Sought};
+use e_clause::Rule;
+use e_clause::pattern::{Pattern, Row, Shape};
+use e_facts::Facts;
+use e_literal::{Atom, Lit, Mono, Term};
+
+/// How many relations there are between objects; the two between sums come after them.
+const OF_DIAGRAMS: usize = 12;
+
+/// Two marks for each relation: of it, and of its negation.
+pub const MARKS: usize = 28;
+
+/// The number of the atom's relation.
+fn relation(atom: &Atom) -> usize
+    ensures is { result ≡ Marks.relation atom.now }
+    ensures below { result < 14 }
+{
+    match atom {
+        Atom::On(_, _) => 0,
+        Atom::OnC(_, _) => 1,
+        Atom::Inside(_, _) => 2,
+        Atom::Center(_, _) => 3,
+        Atom::Between(_, _, _) => 4,
+        Atom::Same(_, _, _) => 5,
+        Atom::MeetLL(_, _) => 6,
+        Atom::MeetLC(_, _) => 7,
+        Atom::MeetCC(_, _) => 8,
+        Atom::EqP(_, _) => 9,
+        Atom::EqL(_, _) => 10,
+        Atom::EqC(_, _) => 11,
+        Atom::MagEq(_, _) => 12,
+        Atom::MagLt(_, _) => 13,
+    }
+}
+
+/// The number of the relation of an atom over variables.
+fn relation_of(shape: &Shape) -> usize
+    ensures is { result ≡ Marks.relation (atom_of shape.now) }
+    ensures below { result < 14 }
+{
+    match shape {
+        Shape::On(_, _) => 0,
+        Shape::OnC(_, _) => 1,
+        Shape::Inside(_, _) => 2,
+        Shape::Center(_, _) => 3,
+        Shape::Between(_, _, _) => 4,
+        Shape::Same(_, _, _) => 5,
+        Shape::MeetLL(_, _) => 6,
+        Shape::MeetLC(_, _) => 7,
+        Shape::MeetCC(_, _) => 8,
+        Shape::EqP(_, _) => 9,
+        Shape::EqL(_, _) => 10,
+        Shape::EqC(_, _) => 11,
+        Shape::MagEq(_, _) => 12,
+        Shape::MagLt(_, _) => 13,
+    }
+}
+
+/// The mark of a relation, or of its negation.
+fn mark(relation: usize, neg: bool) -> usize
+    requires { relation < 14 }
+    ensures is { result ≡ Marks.mark relation neg }
+    ensures below { result < 28 }
+{
+    if neg { 2 * relation + 1 } else { 2 * relation }
+}
+
+/// The mark of the literal's relation and sign.
+fn mark_of(lit: &Lit) -> usize
+    ensures is { result ≡ Marks.mark_of lit.now }
+    ensures below { result < 28 }
+{
+    mark(relation(&lit.atom), lit.neg)
+}
+
+/// Whether the literal says that two sums are equal.
+pub fn is_equation(lit: &Lit) -> bool
+    ensures { result ≡ false → Marks.mark_of lit.now ≢ Marks.mark 12 false }
+{
+    mark_of(lit) == 24
+}
+
+/// The marks of the facts.
+pub fn marks_of(facts: &Facts) -> [bool; MARKS]
+    ensures { IsTrue (are_marked result facts.now) }
+{
+    let mut marks = [false; MARKS];
+    for i in 0..facts.len() {
+        marks[mark_of(facts.get(i))] = true;
+    }
+    marks
+}
+
+fn are_areas(sum: &[Mono]) -> bool
+    ensures { result ≡ Marks.are_areas sum.now }
+{
+    sum.iter()
+        .all(|m| matches!(m.term, Term::Area(_, _, _)))
+}
+
+/// Whether the literal says that areas differ, or that one is less: it is false where all areas are 0.
+fn is_strict_of_areas(neg: bool, shape: &Shape) -> bool
+    ensures { result ≡ Marks.is_strict_of_areas neg (atom_of shape.now) }
+{
+    match (neg, shape) {
+        (true, Shape::MagEq(x, y)) | (false, Shape::MagLt(x, y)) => are_areas(x) && are_areas(y),
+        _ => false,
+    }
+}
+
+/// The atom of a pattern, or of its negation, and its sign.
+fn parts(pattern: &Pattern, negated: bool) -> (Shape, bool)
+    ensures { signed negated pattern.now ≡ record { neg = result.1; atom = atom_of result.0 } }
+{
+    match pattern {
+        Pattern::Is(shape) => (*shape, negated),
+        Pattern::Not(shape) => (*shape, !negated),
+    }
+}
+
+/// Whether a literal of this relation and sign may stand, by the marks of the facts and by values with which they are
+/// true and all areas are 0.
+fn may_suffice(sought: &Sought, neg: bool, shape: &Shape) -> bool
+    ensures { result ≡ false → Marks.NoneSuffices sought.now.means sought.now.facts.now (record { neg = neg; atom = atom_of shape.now }) }
+{
+    let relation = relation_of(shape);
+    if sought.means == Means::Facts || relation < OF_DIAGRAMS {
+        sought.marks[mark(relation, neg)]
+    } else {
+        !(sought.flat_model && is_strict_of_areas(neg, shape))
+    }
+}
+
+/// Whether an instance may have at this place of the clause the goal, or a literal whose negation stands.
+fn may_stand(sought: &Sought, row: &Row, at: usize) -> bool
+    requires { at < length (clause_of (row_of row.now)) }
+    ensures { result ≡ false → NoneStands sought.now.means sought.now.facts.now sought.now.goal.now (row_of row.now) at }
+{
+    let (pattern, negated) = pattern_at(row, at);
+    let (shape, neg) = parts(&pattern, negated);
+    mark(relation_of(&shape), neg) == mark_of(sought.goal) || may_suffice(sought, !neg, &shape)
+}
+
+/// Whether each literal of the clause but the one at this place may stand.
+pub fn may_all_stand(sought: &Sought, rule: Rule, row: &Row, place: usize) -> bool
+    requires { slice_get table rule ≡ Some (row_of row.now) }
+    ensures { result ≡ false → NoneAt sought.now.means sought.now.scope sought.now.facts.now sought.now.goal.now rule place }
+{
+    for at in 0..clause_len(row) {
+        if at != place && !may_stand(sought, row, at) {
+            return false;
+        }
+    }
+    true
+}
