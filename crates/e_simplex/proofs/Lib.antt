@@ -4,6 +4,7 @@ pub mod Measure
 pub mod Answers
 pub mod Pivoting
 pub mod Keeps
+pub mod Exchanging
 pub mod Choosing
 pub mod Glue
 pub mod Concluding
