@@ -6,6 +6,7 @@ pub mod apart;
 pub mod choose;
 pub mod decision;
 pub mod exchange;
+pub mod freeing;
 pub mod further;
 pub mod hasten;
 pub mod lines;

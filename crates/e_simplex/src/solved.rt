@@ -7,10 +7,11 @@ ghost use Rattle.e_simplex.specs.Ends.{IsTableOf};
 ghost use Rattle.e_simplex.specs.Solved.{IsSolved, IsOutcome, IsFit, lines_of, columns_of, AreBelow, WideFurther};
 ghost use Rattle.e_simplex.specs.Entries.{AllSmall};
 
+use crate::freeing::rested;
 use crate::further::joined;
 use crate::lines::{Line, is_zero};
 use crate::readings::{values, weights};
-use crate::solve::{End, Table, solve};
+use crate::solve::{End, Table};
 use e_literal::Items;
 use std::alloc::{AllocError, Global};
 
@@ -109,7 +110,7 @@ fn concluded(
     requires table { IsTableOf lines.items (length table.columns.items) table }
     ensures { IfOk result (IsOutcome (length table.columns.items) lines.items) }
 {
-    match solve(alloc, &lines, table, &fixed, pivots)? {
+    match rested(alloc, &lines, table, &fixed, pivots)? {
         End::TooWide => Ok(Outcome::TooWide),
         End::Holds(table) => Ok(Outcome::Holds(Solved {
             lines,

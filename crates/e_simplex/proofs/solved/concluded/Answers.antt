@@ -9,13 +9,13 @@ use Rattle.e_simplex.proofs.solved.concluded.Goals as goal
 
 pub returns-in-TooWide : goal.returns-in-TooWide
 returns-in-TooWide c =
-    let e = rw c.in-TooWide.is at c.in_ok-solve.ensures in
+    let e = rw c.in-TooWide.is at c.in_ok-rested.ensures in
     wide_lines (length c.args.table.columns.items) c.args.lines.items c.requires.fit.some c.requires.fit.within
     (subst (λ v. IsWideDet (table_rows v (length c.args.table.columns.items))) c.deref.ensures.value e)
 
 pub returns-in-Holds : goal.returns-in-Holds
 returns-in-Holds c =
-    let e = rw c.in-Holds.is at c.in_ok-solve.ensures in
+    let e = rw c.in-Holds.is at c.in_ok-rested.ensures in
     let t : IsTableOf c.args.lines.items (length c.args.table.columns.items) c.in-Holds.table
     = end_table c.args.lines.items c.deref.result.now (length c.args.table.columns.items) c.deref-2.result.now (length c.args.table.basis.items) c.in-Holds.table
     c.deref.ensures.value c.requires.table.rows_many (ap length c.deref-2.ensures.value ∙ c.requires.fix.shape) e.table in
@@ -29,7 +29,7 @@ returns-in-Holds c =
 
 pub returns-in_ok-found-in-Absurd : goal.returns-in_ok-found-in-Absurd
 returns-in_ok-found-in-Absurd c =
-    let e = rw c.in-Absurd.is at c.in_ok-solve.ensures in
+    let e = rw c.in-Absurd.is at c.in_ok-rested.ensures in
     let fd : SFits w128 c.in-Absurd.table.det = fits_small c.in-Absurd.table.det e.table.sound.small_d in
     let f = simp to_z-of_z at c.in_ok-found-in-Absurd.ensures in
     let fix : FixedTo (length c.args.table.columns.items + length c.args.lines.items) c.args.lines.items (length c.args.table.columns.items) c.deref-2.result.now
