@@ -21,7 +21,7 @@ use std::alloc::{AllocError, Global};
 use std::marker::Model;
 
 /// How many terms a question may have that no settled row has, without all rows being solved again.
-const SPARE: usize = 16;
+const SPARE: usize = 8;
 
 /// Rows that have a solution: their table, solved, and values that satisfy them. Contracts see the rows.
 #[derive(Drop)]
@@ -176,7 +176,7 @@ impl Settled {
     }
 
     /// [`decide`] of the rows and more behind them, from the solved table; the rows stay as they are. Where `more` has
-    /// over 16 terms that no settled row has, all rows are decided from nothing.
+    /// over 8 terms that no settled row has, all rows are decided from nothing.
     pub fn decide_with(&self, alloc: Global, more: &[Row]) -> Result<Verdict, AllocError>
         requires few { length (self.now ++ more.now) ≤ 4096 }
         requires coefficients { IsTrue (all_small (self.now ++ more.now)) }
