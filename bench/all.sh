@@ -4,7 +4,7 @@
 set -eu
 here="$(cd "$(dirname "$0")" && pwd)"
 program="${1:-$here/../crates/elements/out/elements}"
-for measure in reading verifying trial licences blanks; do
+for measure in reading verifying trial licences blanks shapes; do
     printf '\n== %s\n' "$measure"
     "$here/$measure.sh" "$program"
 done
