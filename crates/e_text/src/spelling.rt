@@ -6,6 +6,7 @@ ghost use Rattle.std.specs.Cmp.{partial_equiv_from_equiv};
 ghost use Rattle.std.specs.Cmp.Rules.{hashing};
 ghost use Rattle.std.proofs.Common.{rules};
 
+use crate::words::is;
 use std::fmt;
 use std::hash::{Hash, Hasher};
 use std::marker::Model;
@@ -62,7 +63,7 @@ impl PartialEq for Spelling {
     ghost laws = { partial_equiv_from_equiv nat_list_eq_equiv };
 
     fn eq(&self, other: &Self) -> bool {
-        self.bytes() == other.bytes()
+        is(self.bytes(), other.bytes())
     }
 }
 

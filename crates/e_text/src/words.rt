@@ -1,13 +1,23 @@
 //! The words of the language.
-ghost use Rattle.std.specs.Prelude.{◌≡◌};
+ghost use Rattle.std.specs.Prelude.{◌≡◌, IsTrue};
 ghost use Rattle.std.specs.Str.{bytes_eq};
 ghost use Rattle.e_text.specs.Names.{is_reserved, is_statement_word, is_steps_word, is_relations_word, is_shapes_word, is_others_word, has_small_second};
 
-/// Whether a token is this word.
+/// Whether a token is this word. Their last bytes are looked at first, since most words of one length differ there.
 pub fn is(token: &[u8], word: &[u8]) -> bool
     ensures { result ≡ bytes_eq token.now word.now }
 {
+    if !end_alike(token, word) {
+        return false;
+    }
     token == word
+}
+
+/// Whether there are as many bytes, and the last ones are the same.
+fn end_alike(a: &[u8], b: &[u8]) -> bool
+    ensures { a.now ≡ b.now → IsTrue result }
+{
+    a.len() == b.len() && (a.is_empty() || a[a.len() - 1] == b[b.len() - 1])
 }
 
 /// Whether the second byte is a small letter, as that of every word of the language; most names have none there.
