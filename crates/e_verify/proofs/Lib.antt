@@ -1,4 +1,5 @@
 pub mod StepTerms
+pub mod Keys
 pub mod Totalling
 pub mod Smallness
 pub mod Added

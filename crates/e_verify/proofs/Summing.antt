@@ -121,7 +121,7 @@ cancelled ws h = all_hold (λ t. int_eq (total ws t) (pos 0)) (terms_of ws) (λ 
 -- ---- rows that are added up
 
 -- the rows of these names, so many, are added up here
-pub record IsAdded (p : Place) (xs : List (ℤ × RowName)) (n : ℕ) (es : List (Term × ℤ)) (strict : Bool) : Type 0 where
+pub record IsAdded (p : Place) (xs : List (ℤ × RowName)) (n : ℕ) (es : List (ℕ × ℤ)) (strict : Bool) : Type 0 where
   pub rows : List Weighed
   pub named : weighed_rows p xs ≡ Some rows
   pub sum : (t : Term) → at es t ≡ total rows t
@@ -133,7 +133,7 @@ total_more : (ws : List Weighed) (w : Weighed) (t : Term) → total (ws ++ w ∷
 total_more [] w t = omega (arith, sums)
 total_more (v ∷ ws) w t = omega (arith, sums, total_more ws w t)
 
-pub one_added : (p : Place) (xs : List (ℤ × RowName)) (i : ℕ) (x : ℤ × RowName) (es after : List (Term × ℤ)) (strict now new : Bool) (row : CodeRow) → i < length xs → x ≡ get_or xs i x → IsAdded p (take i xs) i es strict
+pub one_added : (p : Place) (xs : List (ℤ × RowName)) (i : ℕ) (x : ℤ × RowName) (es after : List (ℕ × ℤ)) (strict now new : Bool) (row : CodeRow) → i < length xs → x ≡ get_or xs i x → IsAdded p (take i xs) i es strict
     → row_named p x.1 ≡ Some (row_said row) → ((t : Term) → at after t ≡ at es t +ℤ x.0 *ℤ coefficient (row_said row).form t) → is_good_sign (row_said row).says x.0 ≡ true
     → now ≡ is_strict (row_said row).says x.0 → new ≡ (strict || now) → is_small row ≡ true → unsigned_abs x.0 ≤ 2 ^ 80 → IsAdded p (take (i + 1) xs) (i + 1) after new
 one_added p xs i x es after strict now new row h is a e f g k n small m =
@@ -162,7 +162,7 @@ bad_sign p xs i x r h is e k =
     by None h = refl
     by (Some ws) h = and_false (cancel ws) (good_signs ws && some_strict ws) (ap (λ b. b && some_strict ws) h)
 
-pub whole : (p : Place) (xs ys : List (ℤ × RowName)) (n : ℕ) (es : List (Term × ℤ)) (strict none : Bool) → is_good_size xs ≡ true → ys ≡ xs → IsAdded p ys n es strict
+pub whole : (p : Place) (xs ys : List (ℤ × RowName)) (n : ℕ) (es : List (ℕ × ℤ)) (strict none : Bool) → is_good_size xs ≡ true → ys ≡ xs → IsAdded p ys n es strict
     → IsTrue none ↔ ((t : Term) → at es t ≡ pos 0) → (strict && none) ≡ refutes p xs
 whole p xs ys n es strict none size all a z =
     and_comm strict none ∙ ap (λ b. b && strict) same ∙ ap (λ b. cancel a.rows && b) (a.has_strict ∙ sym (ap (λ b. b && some_strict a.rows) a.signs))
@@ -183,7 +183,7 @@ good_multiplier xs i x h k is =
     leb-true (unsigned_abs m) (2 ^ 80) (and_right (not (int_eq m (pos 0))) (nat_le (unsigned_abs m) (2 ^ 80))
     (ap (λ (y : ℤ × RowName). is_good_multiplier y.0) is ∙ all_get (λ (x : ℤ × RowName). is_good_multiplier x.0) xs i x (and_right (nat_le (length xs) 4096) all (and_right (nat_le 1 (length xs)) (nat_le (length xs) 4096 && all) h)) k))
 
-pub room_for : (p : Place) (xs : List (ℤ × RowName)) (i : ℕ) (es : List (Term × ℤ)) (strict : Bool) (t : Term) → is_good_size xs ≡ true → i < length xs → IsAdded p (take i xs) i es strict → unsigned_abs (at es t) ≤ 2 ^ 120
+pub room_for : (p : Place) (xs : List (ℤ × RowName)) (i : ℕ) (es : List (ℕ × ℤ)) (strict : Bool) (t : Term) → is_good_size xs ≡ true → i < length xs → IsAdded p (take i xs) i es strict → unsigned_abs (at es t) ≤ 2 ^ 120
 room_for p xs i es strict t h k a =
     let all = list_all (λ (x : ℤ × RowName). is_good_multiplier x.0) xs in
     let few = leb-true (length xs) 4096 (and_left (nat_le (length xs) 4096) all (and_right (nat_le 1 (length xs)) (nat_le (length xs) 4096 && all) h)) in

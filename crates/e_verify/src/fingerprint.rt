@@ -4,6 +4,7 @@ ghost use Rattle.std.specs.Prelude.{◌≡◌, ◌*◌, ◌<◌, ◌≤◌, ◌^
 ghost use Rattle.e_literal.specs.Solution.{carried};
 ghost use Rattle.e_verify.specs.Fingerprint.{mixed, number_of, weight_of, placed, fingerprint_of};
 
+use crate::key::placed;
 use e_literal::compare::{canonical, is_degenerate};
 use e_literal::{Atom, Lit, Mono, Term};
 
@@ -63,11 +64,10 @@ fn weight_of(sum: &[Mono]) -> u128
 }
 
 /// A kind of atom and its objects as one number.
-fn placed(kind: u16, a: u16, b: u16, c: u16) -> u128
+fn number_for(kind: u16, a: u16, b: u16, c: u16) -> u128
     ensures { result ≡ placed kind a b c }
 {
-    let front = (u64::from(kind) * 0x1_0000 + u64::from(a)) * 0x1_0000 + u64::from(b);
-    u128::from(front) * 0x1_0000 + u128::from(c)
+    u128::from(placed(kind, a, b, c))
 }
 
 /// The fingerprint of a literal: literals that are the same have one.
@@ -76,18 +76,18 @@ pub(crate) fn fingerprint_of(lit: &Lit) -> u128
     ensures { result ≡ fingerprint_of lit.now.atom }
 {
     match &lit.atom {
-        Atom::On(a, b) => placed(1, *a, *b, 0),
-        Atom::OnC(a, b) => placed(2, *a, *b, 0),
-        Atom::Inside(a, b) => placed(3, *a, *b, 0),
-        Atom::Center(a, b) => placed(4, *a, *b, 0),
-        Atom::Between(a, b, c) => placed(5, *a, *b, *c),
-        Atom::Same(a, b, c) => placed(6, *a, *b, *c),
-        Atom::MeetLL(a, b) => placed(7, *a, *b, 0),
-        Atom::MeetLC(a, b) => placed(8, *a, *b, 0),
-        Atom::MeetCC(a, b) => placed(9, *a, *b, 0),
-        Atom::EqP(a, b) => placed(10, *a, *b, 0),
-        Atom::EqL(a, b) => placed(11, *a, *b, 0),
-        Atom::EqC(a, b) => placed(12, *a, *b, 0),
+        Atom::On(a, b) => number_for(1, *a, *b, 0),
+        Atom::OnC(a, b) => number_for(2, *a, *b, 0),
+        Atom::Inside(a, b) => number_for(3, *a, *b, 0),
+        Atom::Center(a, b) => number_for(4, *a, *b, 0),
+        Atom::Between(a, b, c) => number_for(5, *a, *b, *c),
+        Atom::Same(a, b, c) => number_for(6, *a, *b, *c),
+        Atom::MeetLL(a, b) => number_for(7, *a, *b, 0),
+        Atom::MeetLC(a, b) => number_for(8, *a, *b, 0),
+        Atom::MeetCC(a, b) => number_for(9, *a, *b, 0),
+        Atom::EqP(a, b) => number_for(10, *a, *b, 0),
+        Atom::EqL(a, b) => number_for(11, *a, *b, 0),
+        Atom::EqC(a, b) => number_for(12, *a, *b, 0),
         Atom::MagEq(x, y) | Atom::MagLt(x, y) => {
             weight_of(x.items()).abs_diff(weight_of(y.items()))
         }

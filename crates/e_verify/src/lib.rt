@@ -9,6 +9,7 @@ mod closes;
 mod facts;
 mod fingerprint;
 mod instances;
+mod key;
 mod metric;
 mod reject;
 mod rows;

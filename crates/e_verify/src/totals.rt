@@ -1,4 +1,4 @@
-// Sums of forms, term by term.
+// Sums of forms, term by term. A term is kept as its key, so that two are compared at once.
 
 ghost use Rattle.std.specs.Prelude.{◌≡◌, ◌≤◌, ◌<◌, ◌+◌, ◌^◌, ◌↔◌, IsTrue, OnOk, [], ◌∷◌, pos, ◌+ℤ◌, ◌*ℤ◌, unsigned_abs, length};
 ghost use Rattle.std.specs.List.{list_all};
@@ -6,14 +6,14 @@ ghost use Rattle.e_literal.specs.declared.object.Term.{Term as ATerm};
 ghost use Rattle.e_literal.specs.Rows.{coefficient, normal_summands, times, plus};
 ghost use Rattle.e_literal.specs.Rows;
 ghost use Rattle.std.specs.BTreeMap.{values, IsOrdered};
-ghost use Rattle.std.specs.Ordering.{int_eq};
-ghost use Rattle.e_literal.specs.NormalForm.{term_cmp};
+ghost use Rattle.std.specs.Ordering.{int_eq, nat_cmp};
 ghost use Rattle.e_literal.specs.Same;
 ghost use Rattle.e_verify.specs.Totals.{at};
 ghost use Rattle.e_verify.specs.Small.{are_small};
 
+use crate::key::key_of;
 use e_literal::compare::{canonical, is_degenerate};
-use e_literal::{Mono, Term};
+use e_literal::Term;
 use std::alloc::{AllocError, Global};
 use std::collections::BTreeMap;
 use std::marker::Model;
@@ -21,16 +21,20 @@ use std::marker::Model;
 /// The coefficient of each term in a sum.
 #[derive(Drop)]
 pub struct Totals {
-    of: BTreeMap<Term, i128>,
+    of: BTreeMap<u64, i128>,
 }
 
 impl Model for Totals {
-    ghost use Rattle.std.specs.Prelude.{List, ℤ};
-    ghost use Rattle.e_literal.specs.declared.object.Term.{Term};
+    ghost use Rattle.std.specs.Prelude.{List, ℕ, ℤ};
+    ghost use Rattle.std.specs.List.{All};
+    ghost use Rattle.std.specs.Map.{keys_of};
+    ghost use Rattle.e_verify.specs.Totals.{IsKey};
 
-    ghost Value = { List (Term × ℤ) };
+    ghost Value = { List (ℕ × ℤ) };
 
     ghost view = { λ t. t.of.entries };
+
+    ghost invariant = { λ t. All IsKey (keys_of t.of.entries) };
 }
 
 impl Totals {
@@ -58,25 +62,20 @@ impl Totals {
         if is_degenerate(term) {
             return Ok(());
         }
-        let key = canonical(term);
-        let before = self.total(key);
-        self.of.insert(key, before + n)?;
-        Ok(())
-    }
-
-    fn total(&self, term: Term) -> i128
-        ensures { result ≡ at self.now term }
-    {
-        match self.of.get(&term) {
-            Some(total) => *total,
-            None => 0,
+        let ordered = canonical(term);
+        let key = key_of(ordered);
+        // Many terms are new, and are looked for once.
+        let replaced = self.of.insert(key, n)?;
+        if let Some(before) = replaced {
+            self.of.insert(key, before + n)?;
         }
+        Ok(())
     }
 }
 
-fn are_all_zero(of: &BTreeMap<Term, i128>) -> bool
+fn are_all_zero(of: &BTreeMap<u64, i128>) -> bool
     ensures value { result ≡ list_all (λ n. int_eq n (pos 0)) (values of.now) }
-    ensures ordered { IsOrdered term_cmp of.now }
+    ensures ordered { IsOrdered nat_cmp of.now }
 {
     for n in of.values() {
         if *n != 0 {

@@ -8,4 +8,4 @@ use Rattle.e_verify.proofs.totals.Totals.are_zero.Goals as goal
 pub returns : goal.returns
 returns c =
     subst (λ es. IsTrue c.are_all_zero.result ↔ ((t : Term) → at es t ≡ pos 0)) c.self.view_is
-    (zero_everywhere c.self.inside.of c.are_all_zero.result c.are_all_zero.ensures.ordered c.are_all_zero.ensures.value)
+    (zero_everywhere c.self.inside.of c.are_all_zero.result c.self.invariant c.are_all_zero.ensures.ordered c.are_all_zero.ensures.value)

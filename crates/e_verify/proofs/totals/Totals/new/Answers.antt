@@ -1,0 +1,5 @@
+use Rattle.e_verify.proofs.Totalling.{no_entries}
+use Rattle.e_verify.proofs.totals.Totals.new.Goals as goal
+
+pub invariant_of-result : goal.invariant_of-result
+invariant_of-result c = no_entries c.new.result.entries c.new.ensures.empty

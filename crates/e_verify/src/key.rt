@@ -1,0 +1,28 @@
+// Terms as numbers, which are compared at once.
+
+ghost use Rattle.std.specs.Prelude.{◌≡◌, IsTrue};
+ghost use Rattle.e_verify.specs.Fingerprint.{placed};
+ghost use Rattle.e_verify.specs.Totals.{key_of, is_narrow};
+
+use e_literal::Term;
+
+/// The kind and the points of the term as one number, which no other term has.
+pub fn key_of(term: Term) -> u64
+    ensures value { result ≡ key_of term }
+    ensures narrow { IsTrue (is_narrow term) }
+{
+    match term {
+        Term::Seg(a, b) => placed(0, a, b, 0),
+        Term::Ang(a, b, c) => placed(1, a, b, c),
+        Term::Area(a, b, c) => placed(2, a, b, c),
+        Term::Right => placed(3, 0, 0, 0),
+    }
+}
+
+/// Four numbers as one.
+pub fn placed(kind: u16, a: u16, b: u16, c: u16) -> u64
+    ensures { result ≡ placed kind a b c }
+{
+    let front = (u64::from(kind) * 0x1_0000 + u64::from(a)) * 0x1_0000 + u64::from(b);
+    front * 0x1_0000 + u64::from(c)
+}
