@@ -4,6 +4,7 @@ pub mod Totalling
 pub mod Smallness
 pub mod Added
 pub mod Fingerprints
+pub mod Behind
 pub mod WrittenAlike
 pub mod Summing
 pub mod Paired

@@ -154,12 +154,12 @@ impl Facts {
     }
 }
 
-/// Whether one the same as the literal, which has this fingerprint, is among the facts.
+/// Whether one the same as the literal, which has this fingerprint, is among the facts. Most that are asked for are late ones.
 fn has_same(facts: &[Fact], lit: &Lit, fingerprint: u128) -> bool
     requires { fingerprint ≡ fingerprint_of lit.now.atom }
     ensures { result ≡ has facts.now lit.now }
 {
-    facts.iter().any(|fact| fact.is_same(lit, fingerprint))
+    facts.iter().rev().any(|fact| fact.is_same(lit, fingerprint))
 }
 
 fn differ(a: u16, b: u16) -> Lit
