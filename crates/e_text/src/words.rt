@@ -10,7 +10,7 @@ pub fn is(token: &[u8], word: &[u8]) -> bool
     if !end_alike(token, word) {
         return false;
     }
-    token == word
+    *token == *word
 }
 
 /// Whether there are as many bytes, and the last ones are the same.
