@@ -4,7 +4,7 @@ ghost use Rattle.std.specs.Prelude.{◌≡◌, IsTrue};
 ghost use Rattle.e_literal.specs.Same.{same_lit};
 ghost use Rattle.e_verify.specs.Alike.{are_alike_monos, are_alike_sums, are_alike_atoms, are_alike};
 
-use e_literal::{Atom, Lit, Mono};
+use e_literal::{Atom, Lit, Mono, same};
 
 fn are_alike_monos(m: &Mono, n: &Mono) -> bool
     ensures { result ≡ are_alike_monos m.now n.now }
@@ -37,9 +37,16 @@ fn are_alike_atoms(a: &Atom, b: &Atom) -> bool
 
 /// Whether both compare magnitudes and are written alike, term by term; then they are the same.
 #[tactic(auto, using(crate::proofs::WrittenAlike::alike_is_same))]
-pub(crate) fn are_alike(a: &Lit, b: &Lit) -> bool
+fn are_alike(a: &Lit, b: &Lit) -> bool
     ensures value { result ≡ are_alike a.now b.now }
     ensures same { IsTrue result → IsTrue (same_lit a.now b.now) }
 {
     a.neg == b.neg && are_alike_atoms(&a.atom, &b.atom)
+}
+
+/// Whether two literals are the same.
+pub(crate) fn are_same(a: &Lit, b: &Lit) -> bool
+    ensures { result ≡ same_lit a.now b.now }
+{
+    are_alike(a, b) || same(a, b)
 }

@@ -8,9 +8,9 @@ ghost use Rattle.e_literal.specs.Same.{same_lit, term_eq};
 ghost use Rattle.e_verify.specs.Fingerprint.{fingerprint_of};
 ghost use Rattle.e_clause.specs.Assignment.{terms_of_atom, terms_of_lits};
 
-use crate::alike::are_alike;
+use crate::alike::are_same;
 use crate::fingerprint::fingerprint_of;
-use e_literal::{Atom, Lit, Mono, Term, same};
+use e_literal::{Atom, Lit, Mono, Term};
 use std::alloc::{AllocError, Global};
 use std::marker::Model;
 use std::mem;
@@ -40,7 +40,7 @@ impl Fact {
         requires { fingerprint ≡ fingerprint_of lit.now.atom }
         ensures { result ≡ same_lit self.now lit.now }
     {
-        self.fingerprint == fingerprint && (are_alike(&self.lit, lit) || same(&self.lit, lit))
+        self.fingerprint == fingerprint && are_same(&self.lit, lit)
     }
 
     /// Whether the term stands in it, as it is written.

@@ -6,8 +6,9 @@ ghost use Rattle.e_literal.specs.Literal.{negation};
 ghost use Rattle.e_clause.specs.Instance.{Inst};
 ghost use Rattle.std.specs.Option.{option_map};
 
+use crate::alike::are_same;
 use e_clause::{InstanceFault, Rule, instance};
-use e_literal::{Lit, Obj, negate, same};
+use e_literal::{Lit, Obj, negate};
 use std::alloc::{AllocError, Global};
 use std::mem;
 
@@ -26,7 +27,7 @@ pub fn instance_of(alloc: Global, rule: Rule, args: &[Obj]) -> Result<Option<Vec
 pub fn is_among(lits: &[Lit], lit: &Lit) -> bool
     ensures { result ≡ Facts.has lits.now lit.now }
 {
-    lits.iter().any(|m| same(m, lit))
+    lits.iter().any(|m| are_same(m, lit))
 }
 
 /// The negations of the literals that are not the same as this one, in order.
@@ -35,7 +36,7 @@ pub fn negated_others(alloc: Global, lits: Vec<Lit>, lit: &Lit) -> Result<Vec<Li
 {
     let mut others = Vec::new(alloc);
     for other in lits {
-        if same(&other, lit) {
+        if are_same(&other, lit) {
             mem::drop(other);
         } else {
             others.push(negate(other))?;
