@@ -1,7 +1,6 @@
 -- Terms whose points have numbers below 2^16 are told apart by their keys.
-use Rattle.std.proofs.Common.{◌≡◌, ℕ, zero, suc, ◌+◌, ◌*◌, ◌<◌, refl, sym, ap, ◌∙◌, arith, Bool, true, false, ◌&&◌, ltb-true, lt-ltb}
-use Rattle.std.specs.Prelude.{nat_lt, IsTrue}
-use Rattle.std.specs.List.{list_all}
+use Rattle.std.proofs.Common.{◌≡◌, ℕ, zero, suc, ◌+◌, ◌*◌, ◌<◌, refl, sym, ap, ◌∙◌, arith, Bool, true, ◌&&◌, ltb-true, lt-ltb}
+use Rattle.std.specs.Prelude.{nat_lt}
 use Rattle.std.specs.Ordering.{is_eq, nat_cmp}
 use Rattle.std.specs.Cmp.{Equal-is, tied_itself, nat_cmp_total}
 use Rattle.std.specs.FinMap.{nat_cmp-IsAntisymmetric}
@@ -90,8 +89,7 @@ record AreLow (t : Term) : Type 0 where
 
 three_low : (a b c : ℕ) → (is_low a && (is_low b && (is_low c && true))) ≡ true → (a < 65536) × (b < 65536) × (c < 65536)
 three_low a b c h =
-    let rest = and_right (is_low a) (is_low b && (is_low c && true)) h in
-    (
+    let rest = and_right (is_low a) (is_low b && (is_low c && true)) h in (
       low a (and_left (is_low a) (is_low b && (is_low c && true)) h),
       low b (and_left (is_low b) (is_low c && true) rest),
       low c (and_left (is_low c) true (and_right (is_low b) (is_low c && true) rest)),

@@ -159,7 +159,10 @@ fn has_same(facts: &[Fact], lit: &Lit, fingerprint: u128) -> bool
     requires { fingerprint ≡ fingerprint_of lit.now.atom }
     ensures { result ≡ has facts.now lit.now }
 {
-    facts.iter().rev().any(|fact| fact.is_same(lit, fingerprint))
+    facts
+        .iter()
+        .rev()
+        .any(|fact| fact.is_same(lit, fingerprint))
 }
 
 fn differ(a: u16, b: u16) -> Lit

@@ -12,8 +12,8 @@ ghost use Rattle.e_verify.specs.Totals.{at};
 ghost use Rattle.e_verify.specs.Small.{are_small};
 
 use crate::key::key_of;
-use e_literal::compare::{canonical, is_degenerate};
 use e_literal::Term;
+use e_literal::compare::{canonical, is_degenerate};
 use std::alloc::{AllocError, Global};
 use std::collections::BTreeMap;
 use std::marker::Model;
