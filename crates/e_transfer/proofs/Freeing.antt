@@ -1,29 +1,25 @@
 -- An area that no fact names may be of any size.
 use Rattle.std.proofs.Common.{◌≡◌, ◌≢◌, ℕ, zero, suc, ◌+◌, ◌*◌, ◌<◌, ◌≤◌, List, [], ◌∷◌, ◌++◌, refl, sym, ap, ◌∙◌, subst, arith, Bool, true, false, cond, not, ◌&&◌, ◌||◌, true≢false, eqb, eq-eqb, get_or, length, map, take, inl, inr, Some}
 use Rattle.std.specs.Prelude.{slice_get}
-use Rattle.std.specs.List.{list_any, list_all}
+use Rattle.std.specs.List.{list_any}
 use Rattle.std.proofs.lemmas.Bool.{and_from, or_cases, or_left, or_right, cases_Bool}
 use Rattle.std.proofs.lemmas.List.{take_all, map-append}
 use Rattle.std.proofs.lemmas.List.Folds.{list_all-append}
-use Rattle.e_literal.specs.declared.literal.Atom.{Atom}
-use Rattle.e_literal.specs.declared.literal.Atom.TheVariants.{MagEq, MagLt}
+use Rattle.e_literal.specs.declared.literal.Atom.TheVariants.{MagEq}
 use Rattle.e_literal.specs.declared.literal.Lit.{Lit}
 use Rattle.e_literal.specs.declared.object.Mono.{Mono}
 use Rattle.e_literal.specs.declared.object.Obj.{Obj}
 use Rattle.e_literal.specs.declared.object.Scope.{Scope}
 use Rattle.e_literal.specs.declared.object.Term.{Term}
 use Rattle.e_literal.specs.declared.object.Term.TheVariants.{Seg, Ang, Area, Right}
-use Rattle.e_literal.specs.Rename.{term_at, mono_at, atom_at}
+use Rattle.e_literal.specs.Rename.{term_at}
 use Rattle.e_literal.specs.Rows.{is_degenerate}
-use Rattle.e_literal.specs.Same.{canonical, term_eq, same_lit}
-use Rattle.e_literal.specs.Solution.{carried}
-use Rattle.e_literal.specs.Truth.{holds, all_hold}
-use Rattle.e_literal.specs.Width.{is_among}
+use Rattle.e_literal.specs.Same.{canonical, term_eq}
+use Rattle.e_literal.specs.Truth.{all_hold}
 use Rattle.e_literal.proofs.Booleans.{and_left, and_right}
 use Rattle.e_literal.proofs.Terms.{term_eq_is, equal_terms, among_first, among_rest}
-use Rattle.e_clause.specs.Assignment.{terms_of_atom, terms_of_lits, is_within, is_positive_if_apart}
-use Rattle.e_clause.specs.Instance.{Inst, number, line, circle, lit_at, clause_of}
-use Rattle.e_clause.specs.Metric.{MetricConsequence}
+use Rattle.e_clause.specs.Assignment.{terms_of_atom, terms_of_lits}
+use Rattle.e_clause.specs.Instance.{number, lit_at, clause_of}
 use Rattle.e_clause.specs.Rows.{Row}
 use Rattle.e_clause.specs.Table.{table}
 use Rattle.e_clause.proofs.Spread.{Agree, all_hold_agrees, all_among}
@@ -32,11 +28,11 @@ use Rattle.e_transfer.specs.declared.models.Filling.{Filling}
 use Rattle.e_transfer.specs.declared.plan.Plan.{Plan}
 use Rattle.e_transfer.specs.declared.sought.Means.{Means}
 use Rattle.e_transfer.specs.Areas.{is_one_of, are_listed, name_areas_of, ListsAlso, IsFree}
-use Rattle.e_transfer.specs.Giving.{Suffices, IsFitting, Gives}
+use Rattle.e_transfer.specs.Giving.{IsFitting}
 use Rattle.e_transfer.specs.Marks.{mark, mark_of, is_area}
 use Rattle.e_transfer.specs.Models.{listed_value, is_flat, canonical_value, value_by, fits_term, fits_terms, is_model}
 use Rattle.e_transfer.specs.Part.{arguments, last_of_term}
-use Rattle.e_transfer.specs.Placing.{Wanted, NoneFrom}
+use Rattle.e_transfer.specs.Placing.{NoneFrom}
 use Rattle.e_transfer.proofs.Instances.{of_instance, at_map, number_kept, term_kept}
 use Rattle.e_transfer.proofs.Marking.{mark_alike, sufficient_follows, fits_area, area_at}
 use Rattle.e_transfer.proofs.Modelling.{refuted}
@@ -204,8 +200,8 @@ all_listed_more areas a (t ∷ ts) h =
 -- one more is listed
 pub also_pushed : (areas new : List Term) (t : Term) → new ≡ areas ++ canonical t ∷ [] → ListsAlso (t ∷ []) areas new
 also_pushed areas new t is = record {
-  keeps = λ ss h. ap (λ (as : List Term). are_listed as ss) is ∙ all_listed_more areas (canonical t) ss h;
-  lists = and_from (not (is_area t) || is_one_of new t) true (or_right (not (is_area t)) (is_one_of new t) (ap (λ (as : List Term). is_one_of as t) is ∙ listed_last areas t)) refl;
+  keeps = λ ss h. ap (λ (ts : List Term). are_listed ts ss) is ∙ all_listed_more areas (canonical t) ss h;
+  lists = and_from (not (is_area t) || is_one_of new t) true (or_right (not (is_area t)) (is_one_of new t) (ap (λ (ts : List Term). is_one_of ts t) is ∙ listed_last areas t)) refl;
 }
 
 pub also_unlike : (areas : List Term) (t : Term) → is_area t ≡ false → ListsAlso (t ∷ []) areas areas
@@ -240,7 +236,7 @@ also_next_term sum i m old mid new less is before here =
 
 pub also_whole_sum : (sum : List Mono) (i : ℕ) (old new : List Term) → length sum ≤ i → ListsAlso (map (λ n. n.term) (take i sum)) old new
     → ListsAlso (map (λ n. n.term) sum) old new
-also_whole_sum sum i old new most lists = subst (λ (ms : List Mono). ListsAlso (map (λ n. n.term) ms) old new) (take_all sum i most) lists
+also_whole_sum sum i old new most lists = subst (λ (ms : List Mono). ListsAlso (map (λ n. n.term) ms) old new) (take_all i sum most) lists
 
 pub also_sums : (x y : List Mono) (old mid new : List Term) → ListsAlso (map (λ n. n.term) x) old mid → ListsAlso (map (λ n. n.term) y) mid new
     → ListsAlso (map (λ n. n.term) (x ++ y)) old new
@@ -256,4 +252,4 @@ also_next_fact facts i fact old mid new is before here =
     (also_both (terms_of_lits (take i facts)) (terms_of_atom fact.atom ++ []) old mid new before (also_both (terms_of_atom fact.atom) [] mid new new here (also_none new)))
 
 pub all_facts_listed : (facts : List Lit) (i : ℕ) (areas : List Term) → length facts ≤ i → ListsAlso (terms_of_lits (take i facts)) [] areas → name_areas_of areas facts ≡ true
-all_facts_listed facts i areas most lists = ap (λ ls. are_listed areas (terms_of_lits ls)) (sym (take_all facts i most)) ∙ lists.lists
+all_facts_listed facts i areas most lists = ap (λ ls. are_listed areas (terms_of_lits ls)) (sym (take_all i facts most)) ∙ lists.lists

@@ -1,8 +1,7 @@
 -- What the marks of facts, and values with which all areas are 0, show of the literals of a clause.
-use Rattle.std.proofs.Common.{◌≡◌, ◌≢◌, ℕ, ◌+◌, ◌*◌, ◌<◌, ◌≤◌, List, [], ◌∷◌, ◌++◌, refl, sym, ap, ◌∙◌, subst, arith, Bool, true, false, cond, not, ◌&&◌, ◌||◌, true≢false, eqb, get_or, get_or-set_same, get_or-set_other, set, length, map, take, ◌⊎◌, inl, inr, Some}
+use Rattle.std.proofs.Common.{◌≡◌, ◌≢◌, ℕ, zero, suc, ◌+◌, ◌*◌, ◌<◌, ◌≤◌, List, [], ◌∷◌, ◌++◌, refl, sym, ap, ◌∙◌, subst, arith, Bool, true, false, cond, not, ◌&&◌, ◌||◌, true≢false, eqb, eqb-true, get_or, get_or-set_same, get_or-set_other, set, length, map, take, ◌⊎◌, inl, inr, Some}
 use Rattle.std.specs.Prelude.{slice_get, MatchBool, is_some}
-use Rattle.std.specs.List.{list_all}
-use Rattle.std.proofs.lemmas.Bool.{and_from, or_cases, cases_eq}
+use Rattle.std.proofs.lemmas.Bool.{and_from, or_cases, cases_eq, cases_Bool}
 use Rattle.std.proofs.lemmas.Option.{same_Some}
 use Rattle.std.proofs.lemmas.List.{take_all}
 use Rattle.std.proofs.lemmas.List.Folds.{list_all-append}
@@ -10,19 +9,17 @@ use Rattle.e_literal.specs.declared.literal.Atom.{Atom}
 use Rattle.e_literal.specs.declared.literal.Atom.TheVariants.{On, OnC, Inside, Center, Between, Same, MeetLL, MeetLC, MeetCC, EqP, EqL, EqC, MagEq, MagLt}
 use Rattle.e_literal.specs.declared.literal.Lit.{Lit}
 use Rattle.e_literal.specs.declared.object.Mono.{Mono}
-use Rattle.e_literal.specs.declared.object.Obj.{Obj}
 use Rattle.e_literal.specs.declared.object.Scope.{Scope}
 use Rattle.e_literal.specs.declared.object.Term.{Term}
-use Rattle.e_literal.specs.declared.object.Term.TheVariants.{Seg, Ang, Area, Right}
+use Rattle.e_literal.specs.declared.object.Term.TheVariants.{Area}
 use Rattle.e_literal.specs.Facts.{has, is_metric}
-use Rattle.e_literal.specs.Literal.{negation, kind_of_atom}
+use Rattle.e_literal.specs.Literal.{kind_of_atom}
 use Rattle.e_literal.specs.Rename.{term_at, mono_at, atom_at}
 use Rattle.e_literal.specs.Rows.{is_degenerate}
 use Rattle.e_literal.specs.Same.{same_neg, same_atom, same_lit}
-use Rattle.e_literal.specs.Truth.{holds, value_of}
+use Rattle.e_literal.specs.Truth.{value_of}
 use Rattle.e_literal.proofs.Booleans.{and_left, and_right, same_neg_is}
-use Rattle.e_clause.specs.Assignment.{terms_of_atom}
-use Rattle.e_clause.specs.Instance.{Inst, number, line, circle, lit_at, clause_of}
+use Rattle.e_clause.specs.Instance.{number, line, circle, lit_at, clause_of}
 use Rattle.e_clause.specs.Metric.{MetricConsequence}
 use Rattle.e_clause.specs.Rows.{Row}
 use Rattle.e_clause.specs.Table.{table}
@@ -31,7 +28,7 @@ use Rattle.e_metric.proofs.GoodSums.{all_more}
 use Rattle.e_transfer.specs.declared.models.Filling.TheVariants.{Flat}
 use Rattle.e_transfer.specs.declared.sought.Means.{Means}
 use Rattle.e_transfer.specs.declared.sought.Means.TheVariants as means
-use Rattle.e_transfer.specs.Giving.{Suffices, IsFitting, Gives, NoneAt}
+use Rattle.e_transfer.specs.Giving.{Suffices, IsFitting, NoneAt}
 use Rattle.e_transfer.specs.Marks.{relation, mark, mark_of, is_marked, are_marked, is_area, are_areas, is_strict_of_areas, NoneSuffices, NoneStands}
 use Rattle.e_transfer.specs.Models.{canonical_value, value_by, fits_term, fits_terms, is_model}
 use Rattle.e_transfer.proofs.Instances.{of_instance, at_map}
@@ -113,7 +110,7 @@ one_more_marked facts marks new i k fact less is at here all =
     all_more (is_marked new) facts i fact here kept marked
 
 pub all_marked : (facts : List Lit) (marks : List Bool) (n : ℕ) → length facts ≤ n → are_marked marks (take n facts) ≡ true → are_marked marks facts ≡ true
-all_marked facts marks n most each = sym (ap (are_marked marks) (take_all facts n most)) ∙ each
+all_marked facts marks n most each = sym (ap (are_marked marks) (take_all n facts most)) ∙ each
 
 -- ---- what does not suffice
 
@@ -152,7 +149,7 @@ none_unmarked m facts marks neg a asked all unmarked = λ p q c enough.
 
 -- ---- where all areas are 0
 
-no_value : (b : Bool) → cond b 0 0 ≡ 0
+no_value : (b : Bool) → ◌≡◌ {A = ℕ} (cond b 0 0) 0
 no_value true = refl
 no_value false = refl
 
@@ -253,11 +250,25 @@ none_stands m facts goal r at neg a here unlike none = λ l is args fits.
       | inr enough ↦ none p q c enough
     ]
 
+pub unequal : (a b : ℕ) → a ≢ b → eqb a b ≡ false
+unequal a b apart = elim (cases_Bool (eqb a b)) [
+  | inl e ↦ absurd (apart (eqb-true a b e))
+  | inr n ↦ n
+]
+
+some_at : (ls : List Lit) (at : ℕ) → at < length ls → (l : Lit) × (slice_get ls at ≡ Some l)
+some_at [] at less = absurd (omega (arith, less))
+some_at (l ∷ ls) zero less = (l, refl)
+some_at (l ∷ ls) (suc at) less = some_at ls at (omega (arith, less))
+
 -- then no instance has the goal at another place of the clause
-pub none_elsewhere : (m : Means) (scope : Scope) (facts : List Lit) (goal : Lit) (rule place at : ℕ) (r : Row) (l : Lit) → slice_get table rule ≡ Some r
-    → slice_get (clause_of r) at ≡ Some l → eqb at place ≡ false → NoneStands m facts goal r at → NoneAt m scope facts goal rule place
-none_elsewhere m scope facts goal rule place at r l of_table here apart none args gives =
+pub none_elsewhere : (m : Means) (scope : Scope) (facts : List Lit) (goal : Lit) (rule place at : ℕ) (r : Row) → slice_get table rule ≡ Some r
+    → at < length (clause_of r) → at ≢ place → NoneStands m facts goal r at → NoneAt m scope facts goal rule place
+none_elsewhere m scope facts goal rule place at r of_table less apart none args gives =
+    let some = some_at (clause_of r) at less in
+    let l = some.0 in
+    let here = some.1 in
     let of = of_instance rule args r gives.lits of_table gives.instance in
     let is : slice_get gives.lits at ≡ Some (lit_at r args l) = ap (λ (ls : List Lit). slice_get ls at) of.1 ∙ at_map (lit_at r args) (clause_of r) at l here in
     none l here args
-    (subst (λ (b : Bool). IsFitting m facts goal b (lit_at r args l)) apart (fitting m facts gives.lits goal (lit_at r args l) place at gives.here gives.suffice is))
+    (subst (λ (b : Bool). IsFitting m facts goal b (lit_at r args l)) (unequal at place apart) (fitting m facts gives.lits goal (lit_at r args l) place at gives.here gives.suffice is))

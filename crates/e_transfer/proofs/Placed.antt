@@ -61,7 +61,7 @@ argument_added r c places v args new s n less pushed sort num before =
 abbrev pub IsAsked : Means → Lit → Type 0
 IsAsked m l = (m ≡ means.Facts) ⊎ (is_metric l ≡ false)
 
-unfit : (m : Means) (facts : List Lit) (goal l : Lit) (b : Bool) → same_lit l goal ≡ false → (b ≡ false → Suffices m facts (negation l) → ⊥)
+pub unfit : (m : Means) (facts : List Lit) (goal l : Lit) (b : Bool) → same_lit l goal ≡ false → (b ≡ false → Suffices m facts (negation l) → ⊥)
     → IsFitting m facts goal b l → ⊥
 unfit m facts goal l true differs fails fits = true≢false (sym fits ∙ differs)
 unfit m facts goal l false differs fails (inl is) = true≢false (sym is ∙ differs)

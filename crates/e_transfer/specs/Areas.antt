@@ -28,6 +28,22 @@ pub record ListsAlso (ts : List Term) (old new : List Term) : Type 0 where
   pub keeps : (ss : List Term) → IsTrue (are_listed old ss) → IsTrue (are_listed new ss)
   pub lists : IsTrue (are_listed new ts)
 
+-- both are areas, each taken as often as the other, and this is the first
+pub record AreTwoAreas (m n : Mono) (t : Term) : Type 0 where
+  pub is : m.term ≡ t
+  pub coeff : n.coeff ≡ m.coeff
+  pub first : IsTrue (is_area t)
+  pub second : IsTrue (is_area n.term)
+
+-- each sum is of one such area
+pub record AreOneEach (x y : List Mono) (t : Term) : Type 0 where
+  pub coeff : ℕ
+  pub other : Term
+  pub left : x ≡ record { coeff = coeff; term = t } ∷ []
+  pub right : y ≡ record { coeff = coeff; term = other } ∷ []
+  pub first : IsTrue (is_area t)
+  pub second : IsTrue (is_area other)
+
 -- the pattern says of two areas alone that they are equal
 pub record AreEqualAreas (p : Pattern) (t : Term) : Type 0 where
   pub coeff : ℕ

@@ -3,9 +3,10 @@
 ghost use Rattle.std.specs.Prelude.{◌≡◌, [], ◌∷◌, IfOk, OnOk, IsTrue, MatchOption, map};
 ghost use Rattle.e_clause.specs.Assignment.{terms_of_atom};
 ghost use Rattle.e_transfer.specs.Areas;
-ghost use Rattle.e_transfer.specs.Areas.{name_areas_of, ListsAlso, AreEqualAreas};
+ghost use Rattle.e_transfer.specs.Areas.{name_areas_of, ListsAlso, AreTwoAreas, AreOneEach, AreEqualAreas};
 
 use crate::clause::{clause_len, pattern_at};
+use crate::marks::is_area;
 use e_clause::pattern::{Pattern, Row, Shape};
 use e_facts::Facts;
 use e_literal::compare::canonical;
@@ -15,7 +16,7 @@ use std::alloc::{AllocError, Global};
 fn add_area(areas: &mut Vec<Term>, term: Term) -> Result<(), AllocError>
     ensures { OnOk result (ListsAlso (term ∷ []) areas.old.items areas.new.items) }
 {
-    if matches!(term, Term::Area(_, _, _)) {
+    if is_area(term) {
         areas.push(canonical(term))?;
     }
     Ok(())
@@ -59,15 +60,32 @@ pub fn is_one_of(areas: &[Term], term: Term) -> bool
     areas.iter().any(|area| term == *area)
 }
 
+/// The first of two areas, each taken as often as the other.
+fn first_area(m: Mono, n: Mono) -> Option<Term>
+    ensures { MatchOption result (Unit {0}) (AreTwoAreas m n) }
+{
+    if m.coeff == n.coeff && is_area(m.term) && is_area(n.term) {
+        Some(m.term)
+    } else {
+        None
+    }
+}
+
+fn first_of_two(x: &[Mono], y: &[Mono]) -> Option<Term>
+    ensures { MatchOption result (Unit {0}) (AreOneEach x.now y.now) }
+{
+    match (x, y) {
+        ([m], [n]) => first_area(*m, *n),
+        _ => None,
+    }
+}
+
 /// The first of two areas, where the pattern says of them alone that they are equal.
 pub fn equal_areas(pattern: &Pattern) -> Option<Term>
     ensures { MatchOption result (Unit {0}) (AreEqualAreas pattern.now) }
 {
     match pattern {
-        Pattern::Is(Shape::MagEq([m], [n])) => match (m.term, n.term) {
-            (Term::Area(_, _, _), Term::Area(_, _, _)) if m.coeff == n.coeff => Some(m.term),
-            _ => None,
-        },
+        Pattern::Is(Shape::MagEq(x, y)) => first_of_two(x, y),
         _ => None,
     }
 }

@@ -4,6 +4,7 @@ ghost use Rattle.std.specs.Prelude.{◌≡◌, IfOk, IsTrue, IsFalse};
 ghost use Rattle.e_literal.specs.Facts.{has};
 ghost use Rattle.e_clause.specs.Judged.{are_good_facts, is_good};
 ghost use Rattle.e_clause.specs.Wide.{TransferFromFacts};
+ghost use Rattle.e_transfer.specs.Areas.{name_areas_of};
 ghost use Rattle.e_transfer.specs.Found.{IsFound, IsFoundByFacts};
 ghost use Rattle.e_transfer.specs.Giving.{IsWideTransfer};
 
@@ -67,7 +68,6 @@ pub fn find_by_facts<'a>(
     requires not_fact { IsFalse (has facts.now goal.now) }
     ensures { IfOk result (IsFoundByFacts scope facts.now goal.now) }
 {
-    let marks = marks_of(facts);
     let sought = Sought {
         scope,
         facts,
@@ -78,7 +78,7 @@ pub fn find_by_facts<'a>(
         plain_model: false,
         spread_model: false,
         flat_model: false,
-        marks: &marks,
+        marks: marks_of(facts),
         areas: &[],
     };
     match sweep(alloc, &sought)? {
@@ -110,13 +110,14 @@ pub fn find_by_sums(
     requires not_plain { ¬ TransferFromFacts scope facts.now goal.now }
     ensures { IfOk result (IsFound scope facts.now goal.now) }
 {
+    let areas = areas_of(alloc, facts)?;
     let told = known.absurd(alloc)?;
-    let found = find_by_values(alloc, scope, facts, known, goal, values_of(&told));
+    let found = find_by_values(alloc, scope, facts, known, goal, values_of(&told), &areas);
     mem::drop(told);
     found
 }
 
-/// The same, with values of terms.
+/// The same, with values of terms, and the areas that the facts name.
 fn find_by_values<'a>(
     alloc: Global,
     scope: Scope,
@@ -124,14 +125,14 @@ fn find_by_values<'a>(
     known: &'a Known<'a>,
     goal: &'a Lit,
     values: &'a [(Term, u128)],
+    areas: &'a [Term],
 ) -> Result<Found, AllocError>
     requires facts { IsTrue (are_good_facts scope facts.now) }
     requires known { known.now ≡ facts.now }
     requires not_plain { ¬ TransferFromFacts scope facts.now goal.now }
+    requires areas { IsTrue (name_areas_of areas.now facts.now) }
     ensures { IfOk result (IsFound scope facts.now goal.now) }
 {
-    let marks = marks_of(facts);
-    let areas = areas_of(alloc, facts)?;
     let sought = Sought {
         scope,
         facts,
@@ -142,8 +143,8 @@ fn find_by_values<'a>(
         plain_model: are_of_model(facts, Filling::Ones, values),
         spread_model: are_of_model(facts, Filling::Spread, values),
         flat_model: are_of_model(facts, Filling::Flat, values),
-        marks: &marks,
-        areas: &areas,
+        marks: marks_of(facts),
+        areas,
     };
     match sweep(alloc, &sought)? {
         Outcome::Found(cert) => Ok(Found::Yes(cert)),
@@ -158,12 +159,13 @@ fn find_beside_wide(alloc: Global, sought: &Sought, width: u128) -> Result<Found
     requires wide { IsWideTransfer sought.now.scope sought.now.facts.now sought.now.goal.now width }
     ensures { IfOk result (IsFound sought.now.scope sought.now.facts.now sought.now.goal.now) }
 {
+    let known = sought.known;
     let narrow = Sought {
         scope: sought.scope,
         facts: sought.facts,
         goal: sought.goal,
         means: Means::NarrowSums,
-        known: sought.known,
+        known,
         values: sought.values,
         plain_model: sought.plain_model,
         spread_model: sought.spread_model,

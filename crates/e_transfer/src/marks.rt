@@ -104,11 +104,17 @@ pub fn marks_of(facts: &Facts) -> [bool; MARKS]
     marks
 }
 
+/// Whether the term is an area.
+pub fn is_area(term: Term) -> bool
+    ensures { result ≡ Marks.is_area term }
+{
+    matches!(term, Term::Area(_, _, _))
+}
+
 fn are_areas(sum: &[Mono]) -> bool
     ensures { result ≡ Marks.are_areas sum.now }
 {
-    sum.iter()
-        .all(|m| matches!(m.term, Term::Area(_, _, _)))
+    sum.iter().all(|m| is_area(m.term))
 }
 
 /// Whether the literal says that areas differ, or that one is less: it is false where all areas are 0.
@@ -131,16 +137,28 @@ fn parts(pattern: &Pattern, negated: bool) -> (Shape, bool)
     }
 }
 
-/// Whether a literal of this relation and sign may stand, by the marks of the facts and by values with which they are
-/// true and all areas are 0.
-fn may_suffice(sought: &Sought, neg: bool, shape: &Shape) -> bool
+/// The same, where a metric literal may also follow from the facts: it does not where it says that areas differ, or that
+/// one is less, and there are values with which the facts are true and all areas are 0.
+fn may_follow(sought: &Sought, neg: bool, shape: &Shape) -> bool
     ensures { result ≡ false → Marks.NoneSuffices sought.now.means sought.now.facts.now (record { neg = neg; atom = atom_of shape.now }) }
 {
     let relation = relation_of(shape);
-    if sought.means == Means::Facts || relation < OF_DIAGRAMS {
-        sought.marks[mark(relation, neg)]
-    } else {
-        !(sought.flat_model && is_strict_of_areas(neg, shape))
+    if relation < OF_DIAGRAMS {
+        return sought.marks[mark(relation, neg)];
+    }
+    if !sought.flat_model {
+        return true;
+    }
+    !is_strict_of_areas(neg, shape)
+}
+
+/// Whether a literal of this relation and sign may stand.
+fn may_suffice(sought: &Sought, neg: bool, shape: &Shape) -> bool
+    ensures { result ≡ false → Marks.NoneSuffices sought.now.means sought.now.facts.now (record { neg = neg; atom = atom_of shape.now }) }
+{
+    match sought.means {
+        Means::Facts => sought.marks[mark(relation_of(shape), neg)],
+        Means::Sums | Means::NarrowSums => may_follow(sought, neg, shape),
     }
 }
 
@@ -154,13 +172,21 @@ fn may_stand(sought: &Sought, row: &Row, at: usize) -> bool
     mark(relation_of(&shape), neg) == mark_of(sought.goal) || may_suffice(sought, !neg, &shape)
 }
 
+/// Whether the place is the goal's, or the literal there may stand.
+fn may_be(sought: &Sought, row: &Row, place: usize, at: usize) -> bool
+    requires { at < length (clause_of (row_of row.now)) }
+    ensures { result ≡ false → (at ≢ place) × NoneStands sought.now.means sought.now.facts.now sought.now.goal.now (row_of row.now) at }
+{
+    at == place || may_stand(sought, row, at)
+}
+
 /// Whether each literal of the clause but the one at this place may stand.
 pub fn may_all_stand(sought: &Sought, rule: Rule, row: &Row, place: usize) -> bool
     requires { slice_get table rule ≡ Some (row_of row.now) }
     ensures { result ≡ false → NoneAt sought.now.means sought.now.scope sought.now.facts.now sought.now.goal.now rule place }
 {
     for at in 0..clause_len(row) {
-        if at != place && !may_stand(sought, row, at) {
+        if !may_be(sought, row, place, at) {
             return false;
         }
     }

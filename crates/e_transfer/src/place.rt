@@ -5,11 +5,12 @@ ghost use Rattle.e_clause.specs.RuleKinds.{is_transfer};
 ghost use Rattle.e_clause.specs.Table.{table};
 ghost use Rattle.e_clause.specs.Views.{row_of};
 ghost use Rattle.e_clause.specs.Instance.{clause_of};
-ghost use Rattle.e_transfer.specs.Giving.{IsFitting, IsWideTransfer};
+ghost use Rattle.e_transfer.specs.Giving.{IsFitting, IsWideTransfer, Suffices};
 ghost use Rattle.e_transfer.specs.declared.sought.Means.TheVariants as means;
 ghost use Rattle.e_literal.specs.Rename.{term_at};
 ghost use Rattle.e_clause.specs.Instance;
 ghost use Rattle.e_transfer.specs.Areas;
+ghost use Rattle.e_transfer.specs.Marks.{is_area};
 ghost use Rattle.e_transfer.specs.Part;
 ghost use Rattle.e_transfer.specs.Placing.{Wanted, NoneFrom, Shown};
 
@@ -77,7 +78,24 @@ fn is_completed(lasts: &[usize], at: usize, length: usize) -> bool
     ensures known { result ≡ true → slice_get lasts.now at ≡ Some (slice_index lasts.now at) }
     ensures below { result ≡ true → slice_index lasts.now at < length }
 {
-    at < lasts.len() && lasts[at] < length && lasts[at] == length - 1
+    at < lasts.len() && is_last(lasts[at], length)
+}
+
+/// Whether the place is the last of a part of this length.
+fn is_last(place: usize, length: usize) -> bool
+    ensures { result ≡ true → place < length }
+{
+    place < length && place == length - 1
+}
+
+/// Whether what an instance needs may stand: a fact, or a metric literal that is not seen to be false beside true facts.
+fn may_suffice(sought: &Sought, need: &Lit) -> bool
+    ensures { result ≡ false → Suffices sought.now.means sought.now.facts.now need.now → ⊥ }
+{
+    if sought.means == Means::Facts || kind(need).is_none() {
+        return sought.facts.has(need);
+    }
+    !is_refuted(sought, need)
 }
 
 /// Whether a literal of an instance may be what it has to be: at the goal's place the goal, elsewhere the goal or one whose
@@ -94,11 +112,7 @@ fn may_stand(sought: &Sought, here: bool, lit: Lit) -> bool
         return false;
     }
     let need = negate(lit);
-    let stands = if sought.means == Means::Facts || kind(&need).is_none() {
-        sought.facts.has(&need)
-    } else {
-        !is_refuted(sought, &need)
-    };
+    let stands = may_suffice(sought, &need);
     mem::drop(need);
     stands
 }
@@ -118,7 +132,11 @@ fn area_at(args: &[Obj], area: Term) -> Term
     ensures { result ≡ term_at (Instance.number args.now) area }
 {
     match area {
-        Term::Area(x, y, z) => Term::Area(number_in(args, x), number_in(args, y), number_in(args, z)),
+        Term::Area(x, y, z) => Term::Area(
+            number_in(args, x),
+            number_in(args, y),
+            number_in(args, z),
+        ),
         Term::Seg(x, y) => Term::Seg(number_in(args, x), number_in(args, y)),
         Term::Ang(x, y, z) => Term::Ang(number_in(args, x), number_in(args, y), number_in(args, z)),
         Term::Right => Term::Right,
@@ -128,11 +146,13 @@ fn area_at(args: &[Obj], area: Term) -> Term
 /// Whether no need stands that says that the area differs from another: there are values with which all facts are true,
 /// and no fact names the area.
 fn is_free(sought: &Sought, area: Term) -> bool
+    requires { IsTrue (is_area area) }
     ensures { result ≡ true → Areas.IsFree sought.now.facts.now area }
 {
-    (sought.plain_model || sought.spread_model)
-        && !is_degenerate(area)
-        && !is_one_of(sought.areas, area)
+    if is_degenerate(area) || is_one_of(sought.areas, area) {
+        return false;
+    }
+    sought.plain_model || sought.spread_model
 }
 
 impl<'a> Place<'a> {
@@ -147,14 +167,13 @@ impl<'a> Place<'a> {
             return false;
         }
         let (pattern, negated) = pattern_at(row, at);
-        match equal_areas(&pattern) {
-            Some(area) => {
-                !negated
-                    && last_of_term(&self.plan.places, area) + 1 == part.len()
-                    && is_free(&self.sought, area_at(args, area))
-            }
-            None => false,
+        let Some(area) = equal_areas(&pattern) else {
+            return false;
+        };
+        if negated || !is_last(last_of_term(&self.plan.places, area), part.len()) {
+            return false;
         }
+        is_free(&self.sought, area_at(args, area))
     }
 
     /// Whether the last number of the part completes the literal at a place of the clause, and the literal is excluded.

@@ -8,6 +8,7 @@ ghost use Rattle.e_transfer.specs.Models.{is_model, value_by};
 ghost use Rattle.e_transfer.specs.Areas.{name_areas_of};
 ghost use Rattle.e_transfer.specs.Marks.{are_marked};
 
+use crate::marks::MARKS;
 use e_facts::Facts;
 use e_literal::{Lit, Scope, Term};
 use e_metric::Known;
@@ -41,12 +42,12 @@ pub struct Sought<'a> {
     /// Whether they are those of a model of the facts, if all areas are 0.
     pub flat_model: bool,
     /// Which relations the facts have, and with which sign.
-    pub marks: &'a [bool],
+    pub marks: [bool; MARKS],
     /// The areas that the facts name, each in the one way of writing it, where metric questions may be asked.
     pub areas: &'a [Term],
     ghost known_of: { ForSome (option_copied known) (λ k. k ≡ facts.now) },
     ghost good: { IsTrue (are_good_facts scope facts.now) },
-    ghost marked: { IsTrue (are_marked marks.now facts.now) },
+    ghost marked: { IsTrue (are_marked marks facts.now) },
     ghost named: { IsTrue (not (plain_model || spread_model) || name_areas_of areas.now facts.now) },
     ghost plain: { IsTrue (not plain_model || is_model facts.now (value_by filling.Ones values.now)) },
     ghost spread: { IsTrue (not spread_model || is_model facts.now (value_by filling.Spread values.now)) },

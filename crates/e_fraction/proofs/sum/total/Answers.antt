@@ -1,7 +1,7 @@
 -- One row more, whose product is small.
-use Rattle.std.proofs.Common.{◌<◌, ◌≤◌, ◌+◌, ◌*◌, ◌^◌, ◌+ℤ◌, ◌*ℤ◌, get_or, length, pos, ap, sym, ◌∙◌, to_z, to_z-of_z, SFits, arith, rules, subst}
+use Rattle.std.proofs.Common.{◌<◌, ◌≤◌, ◌+◌, ◌*◌, ◌^◌, ◌+ℤ◌, ◌*ℤ◌, get_or, length, pos, ap, ◌∙◌, to_z, to_z-of_z, SFits, arith}
 use Rattle.std.specs.Prelude.{unsigned_abs}
-use mir.Syntax.{w64, w128}
+use mir.Syntax.{w128}
 use Rattle.e_literal.specs.Rows.{coefficient}
 use Rattle.e_literal.proofs.Arith.{fits_wide}
 use Rattle.e_fraction.specs.declared.row.Row.{Row}

@@ -1,5 +1,5 @@
 -- The product fits.
-use Rattle.std.proofs.Common.{◌≡◌, ◌≤◌, ◌^◌, ◌∙◌, ◌*ℤ◌, ap, subst, sym, to_z-of_z, SFits, arith, rules}
+use Rattle.std.proofs.Common.{◌≡◌, ◌≤◌, ◌^◌, ◌∙◌, ◌*ℤ◌, to_z-of_z, SFits, arith, rules}
 use Rattle.std.specs.Prelude.{unsigned_abs}
 use mir.Syntax.{w64, w128}
 use Rattle.e_literal.specs.Rows.{coefficient}

@@ -1,4 +1,4 @@
-use Rattle.std.proofs.Common.{refl, true, set, arith, length-set, ◌∙◌, ◌≡◌}
+use Rattle.std.proofs.Common.{refl, true, set, arith, length-set, ◌∙◌}
 use Rattle.e_transfer.proofs.Marking.{one_more_marked, all_marked}
 use Rattle.e_transfer.proofs.marks.marks_of.Goals as goal
 
