@@ -155,6 +155,10 @@ fn decided_with(
     }
     let lines = lines_where(alloc, false, &columns, more)?;
     let mut pivots = 0;
+    if lines.is_empty() {
+        let verdict = told_apart(alloc, &all, &terms, &columns, solved, &mut pivots)?;
+        return Ok(verdict);
+    }
     let outcome = solved.with_all(alloc, &lines, &mut pivots)?;
     let verdict = told(alloc, &all, &terms, &columns, &outcome, &mut pivots)?;
     Ok(verdict)

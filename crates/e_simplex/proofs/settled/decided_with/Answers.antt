@@ -1,10 +1,11 @@
 use Rattle.std.proofs.Common.{◌≡◌, ◌++◌, ◌+◌, ◌<◌, ◌≤◌, ◌^◌, ap, arith, sym, ◌∙◌, subst, length, false, rules}
+use Rattle.std.proofs.lemmas.List.{nil_from_length}
 use Rattle.e_fraction.specs.Views.{all_seen}
 use Rattle.e_simplex.specs.Lines.{AllSmallLines}
 use Rattle.e_simplex.specs.Naming.{AllNamed, Continues, named_lines}
-use Rattle.e_simplex.specs.Solved.{IsFit, IsOutcome, columns_of, lines_of}
+use Rattle.e_simplex.specs.Solved.{IsSolved, IsOutcome, columns_of, lines_of}
 use Rattle.e_simplex.proofs.Places.{all_continued}
-use Rattle.e_simplex.proofs.Extending.{named_both, fit_both, outcome_both}
+use Rattle.e_simplex.proofs.Extending.{named_both, fit_both, outcome_both, solved_both}
 use Rattle.e_simplex.proofs.settled.decided_with.Goals as goal
 
 pub lines_where-requires-clause-named : goal.lines_where-requires-clause-named
@@ -40,3 +41,22 @@ told-requires-clause-outcome c =
     (outcome_both c.args.rows.now c.args.more.now c.args.terms.now c.in_ok-terms.terms.items c.in_ok-columns.columns.items c.args.solved.now c.requires.table c.in_ok-terms.ensures.continues d
     c.in_ok-terms.ensures.all size c.deref-3.result.now (c.deref-3.ensures.value ∙ c.in_ok-lines.ensures.value ∙ ap (λ v. named_lines false v (all_seen c.args.more.now)) c.deref-2.ensures.value)
     c.in_ok-outcome.outcome c.in_ok-outcome.ensures))
+
+pub told_apart-requires-clause-named : goal.told_apart-requires-clause-named
+told_apart-requires-clause-named c =
+    let d : Continues c.in_ok-terms.terms.items c.in_ok-columns.columns.items = subst (λ v. Continues v c.in_ok-columns.columns.items) c.deref.ensures.value c.in_ok-columns.ensures.continues in
+    subst (λ v. AllNamed v (all_seen c.deref-then-is_empty.result.now)) (sym c.deref-then-is_empty-2.ensures.value)
+    (subst (λ v. AllNamed c.in_ok-terms.terms.items (all_seen v)) (sym (c.deref-then-is_empty.ensures.value ∙ c.in_ok-all.ensures))
+    (named_both c.args.rows.now c.args.more.now c.args.terms.now c.in_ok-terms.terms.items c.in_ok-columns.columns.items c.args.solved.now c.requires.table c.in_ok-terms.ensures.continues d
+    c.in_ok-terms.ensures.all))
+
+pub told_apart-requires-clause-solved : goal.told_apart-requires-clause-solved
+told_apart-requires-clause-solved c =
+    let d : Continues c.in_ok-terms.terms.items c.in_ok-columns.columns.items = subst (λ v. Continues v c.in_ok-columns.columns.items) c.deref.ensures.value c.in_ok-columns.ensures.continues in
+    let size : length c.in_ok-columns.columns.items + 1 ≡ columns_of c.args.solved.now = omega (arith, c.if-len-columns.false, c.len.ensures, c.columns-2.ensures, c.in_ok-columns.columns.ok.0) in
+    let none : length c.in_ok-lines.lines.items ≡ 0 = search rules in
+    subst (λ v. IsSolved (length v + 1) (named_lines false v (all_seen c.deref-then-is_empty.result.now)) c.args.solved.now) (sym c.deref-then-is_empty-3.ensures.value)
+    (subst (λ v. IsSolved (length c.in_ok-columns.columns.items + 1) (named_lines false c.in_ok-columns.columns.items (all_seen v)) c.args.solved.now) (sym (c.deref-then-is_empty.ensures.value ∙ c.in_ok-all.ensures))
+    (solved_both c.args.rows.now c.args.more.now c.args.terms.now c.in_ok-terms.terms.items c.in_ok-columns.columns.items c.args.solved.now c.requires.table c.in_ok-terms.ensures.continues d
+    c.in_ok-terms.ensures.all size c.in_ok-lines.lines.items (c.in_ok-lines.ensures.value ∙ ap (λ v. named_lines false v (all_seen c.args.more.now)) c.deref-2.ensures.value)
+    (nil_from_length c.in_ok-lines.lines.items none)))
