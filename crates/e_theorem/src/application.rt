@@ -90,26 +90,10 @@ fn images(
     ensures { IfOk result (λ m. (o : Object) → image_in m o ≡ image (stated statement.now) args.now scope o) }
 {
     let sources = objects(alloc, statement)?;
-    let targets = targets(alloc, statement, args, scope)?;
-    let images = Map::paired(alloc, &sources, &targets)?;
-    Ok(images)
-}
-
-// The arguments, and the next objects of the scope.
-fn targets(
-    alloc: Global,
-    statement: &Statement,
-    args: &[Obj],
-    scope: Scope,
-) -> Result<Vec<Obj>, AllocError>
-    requires points { scope.points + length statement.now.made < 2 ^ 16 }
-    requires lines { scope.lines + length statement.now.made < 2 ^ 16 }
-    requires circles { scope.circles + length statement.now.made < 2 ^ 16 }
-    ensures { IfOk result (λ os. os.items ≡ args.now ++ Scopes.next_objects scope statement.now.made) }
-{
     let mut targets = Vec::from_slice(alloc, args)?;
     targets.extend_from_slice(&next_objects(alloc, scope, statement.made.items())?)?;
-    Ok(targets)
+    let images = Map::paired(alloc, &sources, &targets)?;
+    Ok(images)
 }
 
 // The declared and the made objects.

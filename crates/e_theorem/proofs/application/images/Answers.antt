@@ -5,7 +5,7 @@ use Rattle.e_theorem.proofs.application.images.Goals as goal
 
 pub paired-requires : goal.paired-requires
 paired-requires c =
-    record { one_sort = one_sort c.deref.result.now c.deref-2.result.now (stated c.args.statement.now) c.args.args.now c.args.scope (search rules) (search rules) c.requires.fit }
+    record { one_sort = one_sort c.deref-2.result.now c.deref-3.result.now (stated c.args.statement.now) c.args.args.now c.args.scope (search rules) (search rules) c.requires.fit }
 
 pub returns : goal.returns
-returns c = imaged_by c.in_ok-images.images c.deref.result.now c.deref-2.result.now (stated c.args.statement.now) c.args.args.now c.args.scope (search rules) (search rules) (search rules) c.requires.fit
+returns c = imaged_by c.in_ok-images.images c.deref-2.result.now c.deref-3.result.now (stated c.args.statement.now) c.args.args.now c.args.scope (search rules) (search rules) (search rules) c.requires.fit
