@@ -4,20 +4,24 @@
 //! where none does), and a text, with ` => ` between two. In a text a slash ends a line, a tilde is a byte that no text may
 //! hold, and `{N*TEXT}` is the text N times, with its number from 0 in the place of `$`. A line that begins with a star is
 //! printed as it is. In an answer a slash ends a line, and the exit status comes last; of a long one only the end is told.
+//!
+//! `5 by 4` in the place of a call is call 5, from 0, where each other one moves four bytes; `each by 4` is each call in
+//! turn, run after run, and the answer tells of all these runs. `nowhere` in the place of the call of the sink is a sink
+//! that keeps nothing.
 #![tactic(auto)]
 
-use e_io::{MemSink, MemSource};
-use e_run::{exit_code, run};
+mod runs;
+mod turns;
+
+use crate::runs::{Asked, Calls, ran};
+use crate::turns::{each_read, each_write, over_no_sink};
 use std::alloc::{AllocError, Global};
 use std::io;
 
-/// The room of a sink, in bytes.
-const ROOM: usize = 1 << 20;
-
-/// How many bytes are read at a time.
+/// How many bytes are read at a time, where a row says nothing else.
 const READ: usize = 1 << 12;
 
-/// How many bytes are written at a time.
+/// How many bytes are written at a time, where a row says nothing else.
 const WRITTEN: usize = 16;
 
 /// How many bytes of an answer are told in full.
@@ -28,13 +32,13 @@ fn part<'a>(row: &'a str, number: usize) -> &'a str {
     row.split(" => ").nth(number).unwrap_or("")
 }
 
-/// The call that fails, if one does.
-fn failing(alloc: Global, call: &str) -> Result<Vec<u64>, AllocError> {
-    let mut calls = Vec::new(alloc);
-    if let Ok(call) = call.parse::<u64>() {
-        calls.push(call)?;
+/// The calls that a part of a row stands for.
+fn calls_of(part: &str, piece: usize) -> Calls {
+    let (fail, by) = part.split_once(" by ").unwrap_or((part, ""));
+    Calls {
+        fail: fail.parse::<u64>().ok(),
+        piece: by.parse::<usize>().unwrap_or(piece),
     }
-    Ok(calls)
 }
 
 /// The words of a command, with one space between two.
@@ -106,10 +110,19 @@ fn folded(alloc: Global, written: &[u8], exit: u8) -> Result<String, AllocError>
 fn answer(alloc: Global, row: &str) -> Result<String, AllocError> {
     let words = words_of(alloc, part(row, 0))?;
     let text = unfolded(alloc, part(row, 3))?;
-    let mut source = MemSource::new(text, failing(alloc, part(row, 1))?, READ);
-    let mut sink = MemSink::new(alloc, ROOM, failing(alloc, part(row, 2))?, WRITTEN)?;
-    let status = run(alloc, &words, &mut source, &mut sink);
-    folded(alloc, sink.bytes(), exit_code(&status))
+    let asked = Asked { words, text };
+    let (read, write) = (part(row, 1), part(row, 2));
+    let (reads, writes) = (calls_of(read, READ), calls_of(write, WRITTEN));
+    if read.starts_with("each") {
+        each_read(alloc, &asked, reads, writes)
+    } else if write.starts_with("each") {
+        each_write(alloc, &asked, reads, writes)
+    } else if write == "nowhere" {
+        over_no_sink(alloc, &asked, reads, writes)
+    } else {
+        let answered = ran(alloc, &asked, reads, writes)?;
+        folded(alloc, &answered.written, answered.exit)
+    }
 }
 
 fn main(rt: HostRuntime) -> io::Result<()> {
