@@ -1,9 +1,10 @@
 """Makes each read, each write and each allocation of a run fail in turn, and looks at what the program answers.
 
-Words: the program. The books are the one of one theorem, Euclid's first proposition and a book of two theorems; each is checked, and
-what is written of it is verified. After a failed read the answer must be a read fault, with exit status 4, or the usual one where the
-library asks again; after a failed write a front of the usual bytes, with 5; after a refused allocation the usual answer, or what was
-written and `no memory`, with 6. It needs a C compiler.
+Words: the program. The books are one of one theorem, one of two, of which the second applies the first with a blank, and Euclid's first
+and fourth propositions; each is checked, and what is written of it is verified, and so is the first proposition by other certificates.
+After a failed read the answer must be a read fault, with exit status 4, or the usual one where the library asks again; after a failed
+write a front of the usual bytes, with 5; after a refused allocation the usual answer, or what was written and `no memory`, with 6. It
+needs a C compiler.
 """
 
 import os
@@ -14,9 +15,54 @@ import tempfile
 HERE = os.path.dirname(os.path.abspath(__file__))
 ONE = "theorem T\npoints a\ngiven a = a\nshow a = a\nproof\nqed\nend\n"
 TWO = (
-    "theorem T\npoints a b\nlines L\ngiven on a L ; on b L\nshow on a L\nproof\nhence on a L\nqed\nend\n"
-    "theorem U\npoints p q\nlines M\ngiven on p M ; on q M\nshow on p M\nproof\napply T p _ M\nqed\nend\n"
+    "theorem T1\npoints a\nlines L\ngiven on a L\nshow on a L\nproof\nqed\nend\n"
+    "theorem T2\npoints a\nlines L M\ngiven on a L ; on a M\nshow on a L\nproof\napply T1 a _\nqed\nend\n"
 )
+# The first proposition by certificates that `check` does not write.
+TEXT = """\
+derivation 1
+theorem I.1
+points a b
+given a != b
+made points c
+show seg a b = seg b c
+show seg b c = seg c a
+proof
+let A circle a b
+| fact
+by eqs-p b a : b != a
+let B circle b a
+| fact
+by g3 a A : inside a A
+by g3 b B : inside b B
+by x5 b a A B : meets A B
+let c meet A B
+| fact
+hence seg a b = seg a c
+| transfer ds3b a b c A
+| fact
+| fact
+| fact
+hence seg b a = seg b c
+| transfer ds3b b a c B
+| fact
+| fact
+| fact
+qed c
+| fact
+| metric
+| differs goal
+| sum
+| 1 above
+| -1 fact seg a b = seg a c
+| 1 fact seg b a = seg b c
+| sum
+| 1 below
+| 1 fact seg a b = seg a c
+| -1 fact seg b a = seg b c
+end
+accepted 1
+"""
 KINDS = ("alloc", "read", "write")
 
 
@@ -49,32 +95,36 @@ def is_right(kind, command, ran, usual):
     return status == 6 and (is_front_of_blocks(out, usual[1]) if command == "check" else out in (b"", b"no memory\n"))
 
 
-def tried(program, name, text, room):
-    """Runs `check` on the text and `verify` on what that writes, with each call failing in turn."""
-    written = None
+def tried(program, command, name, text, room):
+    """Runs a command on a text with each call failing in turn: what it writes where none fails, and how many answers are wrong."""
+    status, usual, counts = run([program, command], text, room)
+    told = {}
     wrong = 0
-    for command in ("check", "verify"):
-        given = text if command == "check" else written
-        status, out, counts = run([program, command], given, room)
-        written = written or out
-        told = {}
-        for kind in KINDS:
-            for call in range(counts[kind]):
-                ran = run([program, command], given, room, kind, call)[:2]
-                told[kind, ran[0]] = told.get((kind, ran[0]), 0) + 1
-                if not is_right(kind, command, ran, (status, out)):
-                    wrong += 1
-                    print(f"WRONG: {command} of {name}, {kind} {call}: exit {ran[0]}, {ran[1][-60:]!r}")
-        print(f"{command} of {name}: {counts}; answers: " + ", ".join(f"{k} exit {s}: {n}" for (k, s), n in sorted(told.items())))
-    return wrong
+    for kind in KINDS:
+        for call in range(counts[kind]):
+            ran = run([program, command], text, room, kind, call)[:2]
+            told[kind, ran[0]] = told.get((kind, ran[0]), 0) + 1
+            if not is_right(kind, command, ran, (status, usual)):
+                wrong += 1
+                print(f"WRONG: {command} of {name}, {kind} {call}: exit {ran[0]}, {ran[1][-60:]!r}")
+    print(f"{command} of {name}: {counts}; answers: " + ", ".join(f"{k} exit {s}: {n}" for (k, s), n in sorted(told.items())))
+    return usual, wrong
+
+
+def example(name):
+    with open(f"{HERE}/../examples/{name}.book", "rb") as book:
+        return book.read()
 
 
 def main(program):
     with tempfile.TemporaryDirectory() as room:
         subprocess.run(["cc", "-O1", "-shared", "-fPIC", "-o", f"{room}/failing.so", f"{HERE}/failing.c", "-ldl"], check=True)
-        with open(f"{HERE}/../examples/I.1.book", "rb") as book:
-            books = [("one theorem", ONE.encode()), ("two theorems", TWO.encode()), ("I.1", book.read())]
-        wrong = sum(tried(program, name, text, room) for name, text in books)
+        books = [("one theorem", ONE.encode()), ("two theorems", TWO.encode()), ("I.1", example("I.1")), ("I.4", example("I.4"))]
+        wrong = 0
+        for name, book in books:
+            text, wrong_checks = tried(program, "check", name, book, room)
+            wrong += wrong_checks + tried(program, "verify", name, text, room)[1]
+        wrong += tried(program, "verify", "I.1 by other certificates", TEXT.encode(), room)[1]
     print("wrong answers:", wrong)
     sys.exit(1 if wrong else 0)
 
