@@ -81,7 +81,7 @@ def is_front_of_blocks(out, usual):
     if not out.endswith(b"no memory\n"):
         return out == b""
     front = out[: -len(b"no memory\n")]
-    return usual.startswith(front) and (front in (b"", b"derivation 1\n") or front.endswith(b"\nend\n"))
+    return usual.startswith(front) and (front == b"derivation 1\n" or front.endswith(b"\nend\n"))
 
 
 def is_right(kind, command, ran, usual):
