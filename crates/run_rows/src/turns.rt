@@ -163,7 +163,9 @@ pub fn each_read(
     let calls = blocks.len();
     let groups = grouped(alloc, &blocks)?;
     let exit = usual.exit;
-    format!(in alloc; "{calls} reads fail, {fronts} fronts, {alike} alike over no sink, blocks{groups}; else exit {exit}")
+    format!(in alloc;
+        "{calls} reads fail, {fronts} fronts, {alike} alike over no sink, blocks{groups}; else exit {exit}"
+    )
 }
 
 /// The exit status and the number of the answer, where the bytes are kept and where they are kept nowhere.
