@@ -15,7 +15,7 @@ pub fold_all : {X : Type 0} (p : X → Bool) (a : Bool) (xs : List X) → fold (
 fold_all p a [] = and_true a
 fold_all p a (x ∷ xs) = fold_all p (a && p x) xs ∙ and_assoc a (p x) (list_all p xs)
 
-false_unless_true : (b : Bool) → ¬ (b ≡ true) → b ≡ false
+pub false_unless_true : (b : Bool) → ¬ (b ≡ true) → b ≡ false
 false_unless_true true never = absurd (never refl)
 false_unless_true false never = refl
 

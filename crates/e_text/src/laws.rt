@@ -1,6 +1,6 @@
 //! What holds of lines, tokens, names and numerals: each law is the contract of a function.
 ghost use Rattle.std.specs.Prelude.{◌≡◌, Some};
-ghost use Rattle.e_text.specs.Laws.{LinesMakeTheText, WrittenLinesAreRead, OneByteMoreIsEnough, NoMoreLinesThanBytes, TokensHoldNoBlank, JoinedWordsAreRead, PrintedNumbersAreRead};
+ghost use Rattle.e_text.specs.Laws.{LinesMakeTheText, WrittenLinesAreRead, OneByteMoreIsEnough, FrontsAreRead, NoMoreLinesThanBytes, TokensHoldNoBlank, JoinedWordsAreRead, PrintedNumbersAreRead};
 
 use crate::name::{Name, Title};
 
@@ -18,6 +18,12 @@ pub fn written_lines_are_read()
 /// counts.
 pub fn one_byte_more_is_enough()
     ensures { OneByteMoreIsEnough }
+{}
+
+/// The lines of a text whose front ends with a line feed are those of the front and then, where none
+/// of these has a fault, those of the rest.
+pub fn fronts_are_read()
+    ensures { FrontsAreRead }
 {}
 
 /// A text has no more lines than bytes.
