@@ -29,3 +29,4 @@ pub mod Spreading
 pub mod Assigning
 pub mod Refuting
 pub mod Extending
+pub mod Copying

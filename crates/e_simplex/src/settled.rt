@@ -62,6 +62,17 @@ fn copy_of_row(alloc: Global, row: &Row) -> Result<Row, AllocError>
     })
 }
 
+/// Equal rows.
+fn copies_of_rows(alloc: Global, rows: &[Row]) -> Result<Vec<Row>, AllocError>
+    ensures { IfOk result (λ v. v.items ≡ rows.now) }
+{
+    let mut all = Vec::new(alloc);
+    for row in rows {
+        all.push(copy_of_row(alloc, row)?)?;
+    }
+    Ok(all)
+}
+
 /// The rows, and more.
 fn rows_with(alloc: Global, rows: &[Row], more: &[Row]) -> Result<Vec<Row>, AllocError>
     ensures { IfOk result (λ v. v.items ≡ rows.now ++ more.now) }
@@ -164,6 +175,39 @@ fn decided_with(
     Ok(verdict)
 }
 
+/// Settles rows whose table is solved and further rows, from the solved table. Where those have more new terms than the
+/// table has columns to spare, all rows are settled from nothing.
+fn settled_with(
+    alloc: Global,
+    rows: &[Row],
+    terms: &[Term],
+    solved: &Solved,
+    more: &[Row],
+) -> Result<Settling, AllocError>
+    requires few { length (rows.now ++ more.now) ≤ 4096 }
+    requires coefficients { IsTrue (all_small (rows.now ++ more.now)) }
+    requires short { IsTrue (Naming.have_short_forms (rows.now ++ more.now)) }
+    requires table { IsTableFor rows.now terms.now solved.now }
+    ensures { IfOk result (IsSettling (rows.now ++ more.now)) }
+{
+    let together = rows_with(alloc, rows, more)?;
+    let terms = terms_with(alloc, terms, more)?;
+    let columns = padded(alloc, &terms, solved.columns() - 1)?;
+    if columns.len() + 1 != solved.columns() {
+        return settle(alloc, together);
+    }
+    let lines = lines_where(alloc, false, &columns, more)?;
+    let mut pivots = 0;
+    match solved.with_all(alloc, &lines, &mut pivots)? {
+        Outcome::TooWide => Ok(Settling::TooWide),
+        Outcome::Absurd(weights) => {
+            let once = refuted_once(alloc, &together, &columns, &weights)?;
+            Ok(Settling::Absurd(once))
+        }
+        Outcome::Holds(grown) => settled_rows(alloc, together, terms, &columns, grown),
+    }
+}
+
 impl Settled {
     /// The rows, in order.
     pub fn rows(&self) -> &[Row]
@@ -179,6 +223,22 @@ impl Settled {
         &self.values
     }
 
+    /// The same rows, settled.
+    pub fn copied(&self, alloc: Global) -> Result<Settled, AllocError>
+        ensures { IfOk result (λ s. s ≡ self.now) }
+    {
+        let terms = Vec::from_slice(alloc, &self.terms)?;
+        let pairs = Vec::from_slice(alloc, self.values.items())?;
+        let rows = copies_of_rows(alloc, &self.rows)?;
+        let solved = self.solved.copied(alloc)?;
+        Ok(Settled {
+            rows,
+            terms,
+            solved,
+            values: Values::new(pairs),
+        })
+    }
+
     /// [`decide`] of the rows and more behind them, from the solved table; the rows stay as they are. Where `more` has
     /// over 8 terms that no settled row has, all rows are decided from nothing.
     pub fn decide_with(&self, alloc: Global, more: &[Row]) -> Result<Verdict, AllocError>
@@ -191,5 +251,16 @@ impl Settled {
     {
         let verdict = decided_with(alloc, &self.rows, &self.terms, &self.solved, more)?;
         Ok(verdict)
+    }
+    /// [`settle`] of the rows and more behind them, from the solved table; the rows stay as they are. Where `more` has
+    /// over 8 terms that no settled row has, all rows are settled from nothing.
+    pub fn with(&self, alloc: Global, more: &[Row]) -> Result<Settling, AllocError>
+        requires few { length (self.now ++ more.now) ≤ 4096 }
+        requires coefficients { IsTrue (all_small (self.now ++ more.now)) }
+        requires short { IsTrue (Naming.have_short_forms (self.now ++ more.now)) }
+        ensures { IfOk result (IsSettling (self.now ++ more.now)) }
+    {
+        let settling = settled_with(alloc, &self.rows, &self.terms, &self.solved, more)?;
+        Ok(settling)
     }
 }

@@ -4,7 +4,7 @@ ghost use Rattle.std.specs.Prelude.{◌≡◌, ◌+◌, ◌^◌, ◌<◌, ◌≤
 ghost use Rattle.e_simplex.specs.Lines.{numbers, FixedTo, AllSmallLines, AllFormsWithin, IsSolution, rows_of};
 ghost use Rattle.e_fraction.specs.Det.{IsWide};
 ghost use Rattle.e_simplex.specs.Ends.{IsTableOf};
-ghost use Rattle.e_simplex.specs.Solved.{IsSolved, IsOutcome, IsFit, lines_of, columns_of, AreBelow, WideFurther};
+ghost use Rattle.e_simplex.specs.Solved.{IsSolved, IsSolvedAs, IsOutcome, IsFit, lines_of, columns_of, AreBelow, WideFurther};
 ghost use Rattle.e_simplex.specs.Entries.{AllSmall};
 
 use crate::freeing::rested;
@@ -206,7 +206,32 @@ fn copy_of_table(alloc: Global, table: &Table) -> Result<Table, AllocError>
     })
 }
 
+/// Equal lines.
+fn copies_of_lines(alloc: Global, lines: &[Line]) -> Result<Vec<Line>, AllocError>
+    ensures { IfOk result (λ v. v.items ≡ lines.now) }
+{
+    let mut all = Vec::new(alloc);
+    for line in lines {
+        all.push(copy_of_line(alloc, line)?)?;
+    }
+    Ok(all)
+}
+
 impl Solved {
+    /// The same lines with the same table.
+    pub fn copied(&self, alloc: Global) -> Result<Solved, AllocError>
+        ensures { IfOk result (IsSolvedAs self.now) }
+    {
+        let fixed = Vec::from_slice(alloc, &self.fixed)?;
+        let table = copy_of_table(alloc, &self.table)?;
+        let lines = copies_of_lines(alloc, &self.lines)?;
+        Ok(Solved {
+            lines,
+            fixed,
+            table,
+        })
+    }
+
     /// How many columns the table has.
     pub fn columns(&self) -> usize
         ensures { result ≡ columns_of self.now }
