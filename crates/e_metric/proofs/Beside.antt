@@ -12,16 +12,15 @@ use Rattle.e_literal.specs.WellFormed.{same_kind}
 use Rattle.e_clause.specs.declared.cert.MetricCert.{MetricCert}
 use Rattle.e_clause.specs.declared.cert.RowName.TheVariants.{Fact, Goal}
 use Rattle.e_clause.specs.Assignment.{terms_of_lits}
-use Rattle.e_clause.specs.System.{NamedRow, of_kind, against_goal, rows_named, rows_of_term, rows_of_kind, system, rows_of_system}
+use Rattle.e_clause.specs.System.{NamedRow, of_kind, against_goal, rows_named, rows_of_term, rows_of_kind, rows_of_system}
 use Rattle.e_clause.specs.Wide.{HasWidth}
 use Rattle.e_fraction.specs.Views.{all_seen}
 use Rattle.e_simplex.specs.Answer.{assigned, AreValuesOf}
 use Rattle.e_metric.specs.declared.consequence.Metric.TheVariants.{Yes, No, TooWide}
 use Rattle.e_metric.specs.declared.ground.Ground.{Ground}
-use Rattle.e_metric.specs.declared.knowing.Side.TheVariants as side
+use Rattle.e_metric.specs.declared.side.Side.TheVariants as side
 use Rattle.e_metric.specs.Kept.{IsToldBeside}
 use Rattle.e_metric.proofs.FirstTerms.{kind_one}
-use Rattle.e_metric.proofs.Reordered.{same_order}
 use Rattle.e_metric.proofs.Telling.{satisfied, one_system}
 use Rattle.e_metric.proofs.Wider.{certified_wider}
 
@@ -37,7 +36,7 @@ same_system which facts wanted e =
 pub solved_beside : (g : Ground) (values : List (Term × ℕ)) → AreValuesOf (all_seen g.settled) values → IsToldBeside (side.Solved g) (No values)
 solved_beside g values h which facts wanted ground e =
     subst (Satisfy (assigned values)) (same_system which facts wanted e)
-    (satisfied which facts None (system which facts None) (same_order (system which facts None)) ground.named.pairs ground.named.are g.rows.items ground.named.rows_are (assigned values)
+    (satisfied which facts None ground.rows ground.order ground.named.pairs ground.named.are g.rows.items ground.named.rows_are (assigned values)
     (subst (λ rs. Satisfy (assigned values) (all_seen rs)) ground.settled h.satisfy))
 
 pub absurd_beside : (m : MetricCert) → IsToldBeside (side.Absurd m) (Yes m)

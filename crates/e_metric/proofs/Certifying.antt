@@ -36,7 +36,8 @@ use Rattle.e_metric.specs.Agree.{AreRows}
 use Rattle.e_metric.specs.Listed.{listed, terms_of_kind}
 use Rattle.e_metric.specs.Certificate.{sum_of, turned, sums_of}
 use Rattle.e_metric.proofs.Alike.{Alike}
-use Rattle.e_metric.proofs.Reordered.{AreReordered}
+use Rattle.e_metric.specs.Reordered.{AreReordered}
+use Rattle.e_metric.proofs.Reordered.{each_reordered}
 use Rattle.e_metric.proofs.FirstTerms.{Once, first_once, first_has, with_right}
 use Rattle.e_metric.proofs.Summing.{NamedWhere, AllStepTerms, sum_refutes}
 
@@ -293,10 +294,10 @@ module _ (which : Kind) (facts : List Lit) (wanted : Option Lit) where
 
   module _ (ns : List NamedRow) (order : AreReordered ns (system which facts wanted)) (pairs : List (RowName × GivenRow)) (are : AreRows ns pairs) (few : length pairs + length summed ≤ 4096) where
     covered : (u : Term) → (is_normal u && has_term summed u) ≡ false → NoneHas u (map row_of ns)
-    covered u h = none_rows u ns (order.each (HasNot u) (system_misses which facts wanted u (misses u h)))
+    covered u h = none_rows u ns (each_reordered ns (system which facts wanted) order (HasNot u) (system_misses which facts wanted u (misses u h)))
 
     all_named : (p : Place) → p.facts ≡ facts → p.wanted ≡ wanted → Each (IsNamed p) ns
-    all_named p e f = order.each (IsNamed p) (subst (λ (x : List Lit × Option Lit). Each (IsNamed p) (system which x.0 x.1)) (ap₂ {A = List Lit} {B = Option Lit} (λ x y. (x, y)) e f) (system_named p which))
+    all_named p e f = each_reordered ns (system which facts wanted) order (IsNamed p) (subst (λ (x : List Lit × Option Lit). Each (IsNamed p) (system which x.0 x.1)) (ap₂ {A = List Lit} {B = Option Lit} (λ x y. (x, y)) e f) (system_named p which))
 
     abbrev rows : List Row
     rows = map row_of ns

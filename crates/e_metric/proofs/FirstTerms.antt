@@ -1,10 +1,10 @@
 -- Terms in the order in which they stand first.
-use Rattle.std.proofs.Common.{◌≡◌, ℕ, zero, suc, ◌+◌, List, [], ◌∷◌, ◌++◌, map, take, refl, sym, ap, ap₂, ◌∙◌, arith, Bool, true, false, cond, ◌||◌, true≢false, ◌⊎◌, inl, inr, Option, Some, None, append_assoc}
+use Rattle.std.proofs.Common.{◌≡◌, ◌≤◌, ℕ, zero, suc, ◌+◌, ◌-◌, List, [], ◌∷◌, ◌++◌, map, take, drop, length, refl, sym, ap, ap₂, ◌∙◌, arith, Bool, true, false, cond, ◌||◌, true≢false, ◌⊎◌, inl, inr, Option, Some, None, append_assoc}
 use Rattle.std.specs.Prelude.{slice_get}
 use Rattle.std.specs.List.{cons_option}
 use Rattle.std.proofs.lemmas.List.Folds.{list_any-append}
 use Rattle.std.proofs.lemmas.Bool.{or_left, or_right, or_cases, cases_Bool}
-use Rattle.std.proofs.lemmas.List.{map-append}
+use Rattle.std.proofs.lemmas.List.{map-append, length-drop, take_all}
 use Rattle.e_literal.specs.declared.object.Kind.{Kind}
 use Rattle.e_literal.specs.declared.object.Mono.{Mono}
 use Rattle.e_literal.specs.declared.object.Term.{Term}
@@ -21,7 +21,7 @@ use Rattle.e_metric.proofs.Forms.{none_more}
 
 -- ---- one list after the other
 
-listed_append : (seen ts us : List Term) → listed seen (ts ++ us) ≡ listed (listed seen ts) us
+pub listed_append : (seen ts us : List Term) → listed seen (ts ++ us) ≡ listed (listed seen ts) us
 listed_append seen [] us = refl
 listed_append seen (t ∷ ts) us = listed_append (cond (has_term seen t) seen (seen ++ t ∷ [])) ts us
 
@@ -105,12 +105,28 @@ take_one xs i x h = ap (λ n. take n xs) (one_more i) ∙ take_suc xs i x h
 pub kind_more : (which : Kind) (facts : List Lit) (i : ℕ) (l : Lit) → slice_get facts i ≡ Some l → of_kind which (take (i + 1) facts) ≡ of_kind which (take i facts) ++ of_kind which (l ∷ [])
 kind_more which facts i l h = ap (of_kind which) (take_one facts i l h) ∙ kind_append which (take i facts) (l ∷ [])
 
-pub fact_terms : (which : Kind) (facts : List Lit) (i : ℕ) (l : Lit) → slice_get facts i ≡ Some l
-    → listed [] (terms_of_lits (of_kind which (take (i + 1) facts))) ≡ listed (listed [] (terms_of_lits (of_kind which (take i facts)))) (terms_of_lits (of_kind which (l ∷ [])))
-fact_terms which facts i l h =
-    ap (λ ls. listed [] (terms_of_lits ls)) (kind_more which facts i l h)
-    ∙ ap (listed []) (lits_append (of_kind which (take i facts)) (of_kind which (l ∷ [])))
-    ∙ listed_append [] (terms_of_lits (of_kind which (take i facts))) (terms_of_lits (of_kind which (l ∷ [])))
+-- ---- facts from a place on
+
+get_from : {X : Type 0} (xs : List X) (from k : ℕ) → slice_get (drop from xs) k ≡ slice_get xs (from + k)
+get_from xs zero k = (let e : k ≡ zero + k = omega arith in ap (slice_get xs) e)
+get_from [] (suc n) k = refl
+get_from (x ∷ xs) (suc n) k = (let e : suc (n + k) ≡ suc n + k = omega arith in get_from xs n k ∙ ap (slice_get (x ∷ xs)) e)
+
+pub one_from : {X : Type 0} (xs : List X) (from k : ℕ) (x : X) → slice_get xs (from + k) ≡ Some x → slice_get (drop from xs) k ≡ Some x
+one_from xs from k x h = get_from xs from k ∙ h
+
+pub whole_rest : {X : Type 0} (xs : List X) (from k : ℕ) → length xs - from ≤ k → take k (drop from xs) ≡ drop from xs
+whole_rest xs from k h = take_all k (drop from xs) (omega (arith, length-drop from xs, h))
+
+-- the terms of one more of them
+pub more_terms : (which : Kind) (facts : List Lit) (from k : ℕ) (l : Lit) (start now new : List Term) → slice_get facts (from + k) ≡ Some l
+    → now ≡ listed start (terms_of_lits (of_kind which (take k (drop from facts)))) → new ≡ listed now (terms_of_lits (of_kind which (l ∷ [])))
+    → new ≡ listed start (terms_of_lits (of_kind which (take (k + 1) (drop from facts))))
+more_terms which facts from k l start now new h e n =
+    n ∙ ap (λ ts. listed ts (terms_of_lits (of_kind which (l ∷ [])))) e
+    ∙ sym (ap (λ ls. listed start (terms_of_lits ls)) (kind_more which (drop from facts) k l (one_from facts from k l h))
+    ∙ ap (listed start) (lits_append (of_kind which (take k (drop from facts))) (of_kind which (l ∷ [])))
+    ∙ listed_append start (terms_of_lits (of_kind which (take k (drop from facts)))) (terms_of_lits (of_kind which (l ∷ []))))
 
 -- with the wanted literal
 turned_terms : (which : Kind) (l : Lit) → terms_of_lits (of_kind which (negation l ∷ [])) ≡ terms_of_lits (of_kind which (l ∷ []))

@@ -45,6 +45,10 @@ grow_more a b x y z h k = record {
   limited = λ m. k.limited (h.limited m);
 }
 
+-- two lists of rows, from nothing
+pub rows_of_two : (a b : List NamedRow) (start first last : List (RowName × GivenRow)) → start ≡ [] → GrowBy a start first → GrowBy b first last → AreRows (a ++ b) last
+rows_of_two a b start first last e h k = (grow_more a b start first last h k).rows [] (subst (AreRows []) (sym e) tt)
+
 -- ---- rows of literals
 
 row_there : (o : Option Row) (given : Option GivenRow) (g : GivenRow) → given ≡ Some g → IsRowOrNone o given → (r : Row) × (o ≡ Some r) × IsRow g r

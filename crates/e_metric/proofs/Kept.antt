@@ -2,7 +2,7 @@
 use Rattle.std.proofs.Common.{◌≡◌, ℕ, zero, suc, ◌+◌, ◌<◌, ◌≤◌, ◌^◌, List, [], ◌∷◌, ◌++◌, map, drop, get_or, length, refl, sym, ap, ap₂, ◌∙◌, subst, arith, cond, Bool, true, false, Option, Some, None}
 use Rattle.std.specs.Prelude.{nat_le}
 use Rattle.std.specs.List.{list_all}
-use Rattle.std.proofs.lemmas.List.{map-append}
+use Rattle.std.proofs.lemmas.List.{map-append, length-map}
 use lib.IntN.{ℤ, pos, ◌+ℤ◌, ◌*ℤ◌}
 use Rattle.e_literal.specs.declared.object.Kind.{Kind}
 use Rattle.e_literal.specs.declared.object.Term.{Term}
@@ -19,6 +19,7 @@ use Rattle.e_clause.specs.declared.cert.Sums.{Sums}
 use Rattle.e_clause.specs.Assignment.{terms_of_lits}
 use Rattle.e_clause.specs.Laws.{is_good_wanted}
 use Rattle.e_clause.specs.System.{NamedRow, system, rows_of_system}
+use Rattle.e_clause.specs.Wide.{HasWidth}
 use Rattle.e_fraction.specs.declared.row.Row.{Row as GivenRow}
 use Rattle.e_fraction.specs.Limits.{all_small}
 use Rattle.e_fraction.specs.Views.{seen, all_seen}
@@ -29,11 +30,12 @@ use Rattle.e_metric.specs.declared.ground.Ground.{Ground}
 use Rattle.e_metric.specs.Agree.{AreRows, AllLimited}
 use Rattle.e_metric.specs.Certificate.{sums_of}
 use Rattle.e_metric.specs.Further.{fresh_terms, rows_of_goal, further}
-use Rattle.e_metric.specs.Kept.{AreNamed, IsGround}
+use Rattle.e_metric.specs.Kept.{AreNamed, IsGround, AreTogether}
 use Rattle.e_metric.specs.Listed.{listed, terms_of_kind}
 use Rattle.e_metric.specs.Told.{IsCertified, IsTooWide}
 use Rattle.e_metric.proofs.Further.{with_further}
-use Rattle.e_metric.proofs.Reordered.{AreReordered}
+use Rattle.e_metric.proofs.Reordered.{one_order, reordered_more}
+use Rattle.e_metric.specs.Reordered.{AreReordered}
 use Rattle.e_metric.proofs.Telling
 
 -- ---- rows with their names, one list after the other
@@ -127,53 +129,76 @@ one_so v rows i r l e h s = subst (λ rs. Satisfy v (all_seen rs)) (sym (at rows
     at (y ∷ ys) zero x d l h = ap (λ z. z ∷ ys) (sym h)
     at (y ∷ ys) (suc k) x d l h = at ys k x d (omega (arith, l)) h
 
--- ---- what is told of a goal from what is kept
+-- ---- what is told where more rows stand behind those that are kept
 
--- the rows of the goal, where its terms are set beside those that are kept
-pub asked : (which : Kind) (facts : List Lit) (l : Lit) (g : Ground) (fresh : List Term) → IsGround which facts g → fresh ≡ fresh_terms which g.terms.items l → rows_of_goal which facts fresh l ≡ further which facts l
-asked which facts l g fresh ground e = ap (λ ts. rows_of_goal which facts ts l) (e ∙ ap (λ ts. fresh_terms which ts l) ground.terms)
-
-module _ (which : Kind) (facts : List Lit) (l : Lit) (g : Ground) (ground : IsGround which facts g) (names : List RowName) (rows : List GivenRow) (more : AreNamed (further which facts l) names rows)
-    (good : list_all is_well_formed facts ≡ true) (few : length (terms_of_lits facts) ≤ 1100) (good_goal : is_good_wanted (Some l) ≡ true) where
+module _ (which : Kind) (facts : List Lit) (wanted : Option Lit) (g : Ground) (names : List RowName) (rows : List GivenRow) (t : AreTogether which facts wanted g names rows)
+    (good : list_all is_well_formed facts ≡ true) (few : length (terms_of_lits facts) ≤ 1100) (good_wanted : is_good_wanted wanted ≡ true) where
   abbrev both : List GivenRow
   both = g.settled ++ rows
 
-  abbrev ns : List NamedRow
-  ns = system which facts None ++ further which facts l
+  same_both : both ≡ g.rows.items ++ rows
+  same_both = ap (λ v. v ++ rows) t.settled
 
-  together : AreNamed ns (g.names.items ++ names) both
-  together = named_append (system which facts None) (further which facts l) g.names.items names g.settled rows
-      (subst (AreNamed (system which facts None) g.names.items) (sym ground.settled) ground.named) more
+  named_both : AreNamed t.all (g.names.items ++ names) both
+  named_both = subst (AreNamed t.all (g.names.items ++ names)) (sym same_both) t.named
 
   pub few_together : length both ≤ 4096
-  few_together = few_named which facts (Some l) ns (with_further which facts l) (g.names.items ++ names) both together good few good_goal
+  few_together = few_named which facts wanted t.all t.order (g.names.items ++ names) both named_both good few good_wanted
 
   pub small_together : all_small both ≡ true
-  small_together = small_named which facts (Some l) ns (with_further which facts l) (g.names.items ++ names) both together good few good_goal
+  small_together = small_named which facts wanted t.all t.order (g.names.items ++ names) both named_both good few good_wanted
 
   pub short_together : list_all (λ (r : GivenRow). nat_le (length r.form) (2 ^ 32)) both ≡ true
-  short_together = short_named which facts (Some l) ns (with_further which facts l) (g.names.items ++ names) both together good few good_goal
+  short_together = short_named which facts wanted t.all t.order (g.names.items ++ names) both named_both good few good_wanted
 
-  pub solved_together : (v : Term → ℕ) → Satisfy v (all_seen both) → Satisfy v (rows_of_system which facts (Some l))
-  solved_together = solved_named which facts (Some l) ns (with_further which facts l) (g.names.items ++ names) both together good few good_goal
+  pub solved_together : (v : Term → ℕ) → Satisfy v (all_seen both) → Satisfy v (rows_of_system which facts wanted)
+  solved_together = solved_named which facts wanted t.all t.order (g.names.items ++ names) both named_both good few good_wanted
 
-  pub wide_together : (w : ℕ) → w ≡ width (rows_of_system which facts (Some l)) → IsWide (all_seen both) → IsTooWide facts (Some l) w
-  wide_together = wide_named which facts (Some l) ns (with_further which facts l) (g.names.items ++ names) both together good few good_goal
+  pub width_together : (w : ℕ) → w ≡ width (rows_of_system which facts wanted) → IsWide (all_seen both) → HasWidth (rows_of_system which facts wanted) w
+  width_together = Telling.has_width which facts wanted t.all t.order named_both.pairs named_both.are named_both.limited good few good_wanted both named_both.rows_are
+
+  pub wide_together : (w : ℕ) → w ≡ width (rows_of_system which facts wanted) → IsWide (all_seen both) → IsTooWide facts wanted w
+  wide_together = wide_named which facts wanted t.all t.order (g.names.items ++ names) both named_both good few good_wanted
 
   -- the copies that the certificate is made of
   pub same_rows : (rs : List GivenRow) → rs ≡ g.rows.items ++ rows → rs ≡ both
-  same_rows rs e = e ∙ ap (λ v. v ++ rows) (sym ground.settled)
+  same_rows rs e = e ∙ sym same_both
+
+  -- each row has a name
+  pub as_many : length (g.names.items ++ names) ≡ length (g.rows.items ++ rows)
+  as_many = omega (
+    arith,
+    ap (λ (ns : List RowName). length ns) t.named.names_are,
+    ap (λ (rs : List GivenRow). length rs) t.named.rows_are,
+    length-map t.named.pairs name_in,
+    length-map t.named.pairs row_in,
+  )
 
   pub refuted_together : (all : List RowName) (rs : List GivenRow) (terms : List Term) (a : Absurdity) (sums : Sums) → all ≡ g.names.items ++ names → rs ≡ g.rows.items ++ rows
-      → terms ≡ listed (terms_of_kind which facts (Some l)) (Right ∷ []) → IsAbsurdity (all_seen both) a → sums ≡ sums_of all rs terms a → IsCertified facts (Some l) (record { sums = sums })
-  refuted_together all rs terms a sums n r t h e =
-      refuted_named which facts (Some l) ns (with_further which facts l) (g.names.items ++ names) both together good few good_goal terms a sums t h
+      → terms ≡ listed (terms_of_kind which facts wanted) (Right ∷ []) → IsAbsurdity (all_seen both) a → sums ≡ sums_of all rs terms a → IsCertified facts wanted (record { sums = sums })
+  refuted_together all rs terms a sums n r same h e =
+      refuted_named which facts wanted t.all t.order (g.names.items ++ names) both named_both good few good_wanted terms a sums same h
       (e ∙ ap₂ {A = List RowName} {B = List GivenRow} (λ x y. sums_of x y terms a) n (same_rows rs r))
 
-  -- the goal is false already
+  -- the values of the kept rows, and those of more terms, solve the system where they solve the rows behind
   pub false_already : (values fresh : List (Term × ℕ)) (vs : List (Term × ℕ)) → vs ≡ values ++ fresh → AreValuesOf (all_seen g.settled) values → Satisfy (assigned vs) (all_seen rows)
-      → Satisfy (assigned vs) (rows_of_system which facts (Some l))
+      → Satisfy (assigned vs) (rows_of_system which facts wanted)
   false_already values fresh vs e h s =
       solved_together (assigned vs)
       (subst (Satisfy (assigned vs)) (sym (map-append seen g.settled rows))
       (satisfy_append (assigned vs) (all_seen g.settled) (all_seen rows) (subst (λ v. Satisfy (assigned v) (all_seen g.settled)) (sym e) (satisfy_more values fresh (all_seen g.settled) h.all h.satisfy)) s))
+
+-- ---- the rows of a goal
+
+-- where its terms are set beside those that are kept
+pub asked : (which : Kind) (facts : List Lit) (l : Lit) (g : Ground) (fresh : List Term) → IsGround which facts g → fresh ≡ fresh_terms which g.terms.items (l ∷ []) → rows_of_goal which facts fresh l ≡ further which facts l
+asked which facts l g fresh ground e = ap (λ ts. rows_of_goal which facts ts l) (e ∙ ap (λ ts. fresh_terms which ts (l ∷ [])) ground.terms)
+
+pub goal_together : (which : Kind) (facts : List Lit) (l : Lit) (g : Ground) (names : List RowName) (rows : List GivenRow) → IsGround which facts g → AreNamed (further which facts l) names rows → AreTogether which facts (Some l) g names rows
+goal_together which facts l g names rows ground more = record {
+  all = ground.rows ++ further which facts l;
+  order = one_order (ground.rows ++ further which facts l) (system which facts None ++ further which facts l) (system which facts (Some l))
+      (reordered_more ground.rows (system which facts None) (further which facts l) ground.order) (with_further which facts l);
+  named = named_append ground.rows (further which facts l) g.names.items names g.rows.items rows ground.named more;
+  settled = ground.settled;
+}

@@ -13,9 +13,12 @@ pub mod Names
 pub mod Scoped
 pub mod Written
 pub mod Further
+pub mod JoiningFacts
 pub mod Telling
 pub mod Wider
 pub mod Kept
+pub mod MoreFacts
 pub mod Beside
+pub mod Fronts
 pub mod Following
 pub mod GoodSums

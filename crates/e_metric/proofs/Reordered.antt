@@ -1,5 +1,5 @@
 -- Rows in another order: they have the same solutions, and minors of the same sizes.
-use Rattle.std.proofs.Common.{◌≡◌, ℕ, suc, List, [], ◌∷◌, ◌++◌, map, length, get_or, refl, sym, ap, ap₂, ◌∙◌, subst, arith, inl, inr}
+use Rattle.std.proofs.Common.{◌≡◌, ℕ, suc, List, [], ◌∷◌, ◌++◌, map, length, get_or, refl, sym, ap, ap₂, ◌∙◌, subst, arith, inl, inr, append_assoc}
 use Rattle.std.specs.Prelude.{unsigned_abs}
 use Rattle.std.proofs.Common.{length-append}
 use Rattle.std.proofs.lemmas.List.{map-append}
@@ -9,6 +9,8 @@ use Rattle.e_literal.specs.Minor.{determinant, Column, Constants, SignedRow, ent
 use Rattle.e_literal.proofs.Arith.{sums}
 use Rattle.e_clause.specs.System.{NamedRow}
 use Rattle.e_clause.proofs.Named.{Each, each-append}
+use Rattle.e_metric.specs.Reordered.{IsOne, AreReordered}
+use Rattle.e_metric.proofs.Forms.{none_more}
 use Rattle.e_fraction.specs.Det.{det}
 use Rattle.e_fraction.proofs.Expand.{expand_twice}
 use Rattle.e_fraction.proofs.Named.{numbered, det_named}
@@ -17,21 +19,35 @@ use Rattle.e_fraction.proofs.Moved.{UpToSign, up_to_sign-cons, up_to_sign-append
 abbrev row_of : NamedRow → Row
 row_of n = n.row
 
--- the first rows are the second, in some order
-pub record AreReordered (ns ms : List NamedRow) : Type 1 where
-  pub each : (P : NamedRow → Type 0) → Each P ms → Each P ns
-  pub back : (P : NamedRow → Type 0) → Each P ns → Each P ms
-  pub wide : IsWide (map row_of ns) → IsWide (map row_of ms)
-  pub many : length ns ≡ length ms
+at_one : (P : NamedRow → Type 0) (n : NamedRow) (ns : List NamedRow) → IsOne n ns → Each P ns → P n
+at_one P n [] h e = absurd h
+at_one P n (m ∷ ms) (inl q) e = subst P (sym q) e.0
+at_one P n (m ∷ ms) (inr q) e = at_one P n ms q e.1
+
+each_in : (P : NamedRow → Type 0) (ns : List NamedRow) → ((n : NamedRow) → IsOne n ns → P n) → Each P ns
+each_in P [] f = tt
+each_in P (n ∷ ns) f = (f n (inl refl), each_in P ns (λ m q. f m (inr q)))
+
+of_each : (ns ms : List NamedRow) → ((P : NamedRow → Type 0) → Each P ms → Each P ns) → (n : NamedRow) → IsOne n ns → IsOne n ms
+of_each ns ms f n h = at_one (λ m. IsOne m ms) n ns h (f (λ m. IsOne m ms) (each_in (λ m. IsOne m ms) ms (λ m q. q)))
+
+pub each_reordered : (ns ms : List NamedRow) → AreReordered ns ms → (P : NamedRow → Type 0) → Each P ms → Each P ns
+each_reordered ns ms h P e = each_in P ns (λ n q. at_one P n ms (h.there n q) e)
+
+pub back_reordered : (ns ms : List NamedRow) → AreReordered ns ms → (P : NamedRow → Type 0) → Each P ns → Each P ms
+back_reordered ns ms h P e = each_in P ms (λ n q. at_one P n ns (h.back n q) e)
+
+pub wide_reordered : (ns ms : List NamedRow) → AreReordered ns ms → IsWide (map row_of ns) → IsWide (map row_of ms)
+wide_reordered ns ms h w = subst (λ v. IsWide (map row_of v)) (none_more ms) (h.wide [] (subst (λ v. IsWide (map row_of v)) (sym (none_more ns)) w))
 
 pub same_order : (ns : List NamedRow) → AreReordered ns ns
-same_order ns = record { each = λ P h. h; back = λ P h. h; wide = λ h. h; many = refl }
+same_order ns = record { there = λ n h. h; back = λ n h. h; wide = λ more h. h; many = refl }
 
 pub one_order : (ns ms os : List NamedRow) → AreReordered ns ms → AreReordered ms os → AreReordered ns os
 one_order ns ms os h k = record {
-  each = λ P e. h.each P (k.each P e);
-  back = λ P e. k.back P (h.back P e);
-  wide = λ w. k.wide (h.wide w);
+  there = λ n q. k.there n (h.there n q);
+  back = λ n q. h.back n (k.back n q);
+  wide = λ more w. k.wide more (h.wide more w);
   many = h.many ∙ k.many;
 }
 
@@ -199,13 +215,17 @@ rows_of_four xs ys zs ws =
     map-append row_of xs (ys ++ (zs ++ ws))
     ∙ ap (λ v. map row_of xs ++ v) (map-append row_of ys (zs ++ ws) ∙ ap (λ v. map row_of ys ++ v) (map-append row_of zs ws))
 
+tail_in : (xs ys zs ws more : List NamedRow) → (xs ++ (ys ++ (zs ++ ws))) ++ more ≡ xs ++ (ys ++ (zs ++ (ws ++ more)))
+tail_in xs ys zs ws more =
+    append_assoc xs (ys ++ (zs ++ ws)) more ∙ ap (λ v. xs ++ v) (append_assoc ys (zs ++ ws) more ∙ ap (λ v. ys ++ v) (append_assoc zs ws more))
+
 -- two neighbouring blocks change places
 pub blocks : (xs ys zs ws : List NamedRow) → AreReordered (xs ++ (ys ++ (zs ++ ws))) (xs ++ (zs ++ (ys ++ ws)))
 blocks xs ys zs ws = record {
-  each = λ P h. each_blocks P xs zs ys ws h;
-  back = λ P h. each_blocks P xs ys zs ws h;
-  wide = λ h. subst IsWide (sym (rows_of_four xs zs ys ws))
-      (wide_blocks (map row_of xs) (map row_of ys) (map row_of zs) (map row_of ws) (subst IsWide (rows_of_four xs ys zs ws) h));
+  there = of_each (xs ++ (ys ++ (zs ++ ws))) (xs ++ (zs ++ (ys ++ ws))) (λ P h. each_blocks P xs zs ys ws h);
+  back = of_each (xs ++ (zs ++ (ys ++ ws))) (xs ++ (ys ++ (zs ++ ws))) (λ P h. each_blocks P xs ys zs ws h);
+  wide = λ more h. subst (λ v. IsWide (map row_of v)) (sym (tail_in xs zs ys ws more)) (subst IsWide (sym (rows_of_four xs zs ys (ws ++ more)))
+      (wide_blocks (map row_of xs) (map row_of ys) (map row_of zs) (map row_of (ws ++ more)) (subst IsWide (rows_of_four xs ys zs (ws ++ more)) (subst (λ v. IsWide (map row_of v)) (tail_in xs ys zs ws more) h))));
   many = omega (
     arith,
     length-append xs (ys ++ (zs ++ ws)),
@@ -215,4 +235,28 @@ blocks xs ys zs ws = record {
     length-append zs (ys ++ ws),
     length-append ys ws,
   );
+}
+
+-- five blocks, of which two that stand last come each behind another
+pub two_behind : (a t r g n : List NamedRow) → AreReordered ((a ++ (t ++ r)) ++ (g ++ n)) ((a ++ g) ++ ((t ++ n) ++ r))
+two_behind a t r g n =
+    let first : (a ++ (t ++ r)) ++ (g ++ n) ≡ a ++ ((t ++ r) ++ (g ++ n)) = append_assoc a (t ++ r) (g ++ n) in
+    let second : a ++ (g ++ ((t ++ r) ++ n)) ≡ (a ++ (g ++ t)) ++ (r ++ (n ++ [])) =
+    ap (λ v. a ++ (g ++ v)) (append_assoc t r n) ∙ ap (λ v. a ++ v) (sym (append_assoc g t (r ++ n))) ∙ sym (append_assoc a (g ++ t) (r ++ n))
+    ∙ ap (λ v. (a ++ (g ++ t)) ++ (r ++ v)) (sym (none_more n)) in
+    let third : (a ++ (g ++ t)) ++ (n ++ (r ++ [])) ≡ (a ++ g) ++ ((t ++ n) ++ r) =
+    ap (λ v. (a ++ (g ++ t)) ++ (n ++ v)) (none_more r) ∙ append_assoc a (g ++ t) (n ++ r) ∙ ap (λ v. a ++ v) (append_assoc g t (n ++ r) ∙ ap (λ v. g ++ v) (sym (append_assoc t n r)))
+    ∙ sym (append_assoc a g ((t ++ n) ++ r)) in
+    subst (λ v. AreReordered v ((a ++ g) ++ ((t ++ n) ++ r))) (sym first)
+    (one_order (a ++ ((t ++ r) ++ (g ++ n))) (a ++ (g ++ ((t ++ r) ++ n))) ((a ++ g) ++ ((t ++ n) ++ r)) (blocks a (t ++ r) g n)
+    (subst (λ v. AreReordered v ((a ++ g) ++ ((t ++ n) ++ r))) (sym second)
+    (subst (AreReordered ((a ++ (g ++ t)) ++ (r ++ (n ++ [])))) third (blocks (a ++ (g ++ t)) r n []))))
+
+-- more rows behind
+pub reordered_more : (ns ms more : List NamedRow) → AreReordered ns ms → AreReordered (ns ++ more) (ms ++ more)
+reordered_more ns ms more h = record {
+  there = of_each (ns ++ more) (ms ++ more) (λ P e. each-append P ns more (each_reordered ns ms h P (each_left P ms more e)) (each_right P ms more e));
+  back = of_each (ms ++ more) (ns ++ more) (λ P e. each-append P ms more (back_reordered ns ms h P (each_left P ns more e)) (each_right P ns more e));
+  wide = λ rest w. subst (λ v. IsWide (map row_of v)) (sym (append_assoc ms more rest)) (h.wide (more ++ rest) (subst (λ v. IsWide (map row_of v)) (append_assoc ns more rest) w));
+  many = omega (arith, h.many, length-append ns more, length-append ms more);
 }

@@ -36,7 +36,8 @@ use Rattle.e_metric.specs.Certificate.{sums_of}
 use Rattle.e_metric.specs.Told.{wanted_in}
 use Rattle.e_metric.proofs.FirstTerms.{with_right}
 use Rattle.e_metric.proofs.Names.{each_of, each_name, sums_have}
-use Rattle.e_metric.proofs.Reordered.{AreReordered}
+use Rattle.e_metric.specs.Reordered.{AreReordered}
+use Rattle.e_metric.proofs.Reordered.{each_reordered}
 
 -- a diagram atom has no terms
 no_terms : (a : Atom) → kind_of_atom a ≡ None → terms_of_atom a ≡ []
@@ -145,7 +146,7 @@ module _ (s : Scope) where
         (let written = terms_of_system which facts wanted in
         sums_scoped (sums_of names gs (listed (terms_of_kind which facts wanted) (Right ∷ [])) a)
         ∙ sums_have (row_name_in s) names gs (listed (terms_of_kind which facts wanted) (Right ∷ [])) a (record { goal = refl; above = refl; below = refl })
-        (ap (list_all (row_name_in s)) e ∙ each_name (row_name_in s) ns (order.each InScope (names_each which)))
+        (ap (list_all (row_name_in s)) e ∙ each_name (row_name_in s) ns (each_reordered ns (system which facts wanted) order InScope (names_each which)))
         (ap (list_all term_in) (with_right written)
         ∙ all_terms (first_terms [] (written ++ Right ∷ [])) (λ t k. elim (among_either written (Right ∷ []) t (first_among [] (written ++ Right ∷ []) t k)) [
           | inl m ↦ step_term t (system_among which facts wanted t m)

@@ -36,7 +36,8 @@ use Rattle.e_clause.specs.Written.{is_good_sums}
 use Rattle.e_metric.proofs.Alike.{satisfy_alike, wide_alike, width_alike}
 use Rattle.e_metric.proofs.Bounds.{system_length}
 use Rattle.e_metric.proofs.Certifying.{names_are, rows_alike, length_rows, certified, names_given, rows_given}
-use Rattle.e_metric.proofs.Reordered.{AreReordered}
+use Rattle.e_metric.specs.Reordered.{AreReordered}
+use Rattle.e_metric.proofs.Reordered.{back_reordered, wide_reordered}
 use Rattle.e_metric.proofs.Scoped.{in_scope}
 use Rattle.e_metric.proofs.Written.{written_well}
 
@@ -73,7 +74,7 @@ module _ (which : Kind) (facts : List Lit) (wanted : Option Lit) where
       → (v : Term → ℕ) → Satisfy v (all_seen rows) → Satisfy v (rows_of_system which facts wanted)
   satisfied ns order ps are rows rows_are v h =
       each_satisfy v (system which facts wanted)
-      (order.back (λ n. IsSo n.row.says (form_value n.row.form v))
+      (back_reordered ns (system which facts wanted) order (λ n. IsSo n.row.says (form_value n.row.form v))
       (satisfy_each v ns (satisfy_alike (all_seen (rows_given ps)) (map row_of ns) v (rows_alike ns ps are) (subst (λ rs. Satisfy v (all_seen rs)) rows_are h))))
 
   module _ (ns : List NamedRow) (order : AreReordered ns (system which facts wanted)) (ps : List (RowName × GivenRow)) (are : AreRows ns ps) (limited : AllLimited ps)
@@ -97,7 +98,7 @@ module _ (which : Kind) (facts : List Lit) (wanted : Option Lit) where
 
     pub has_width : (w : ℕ) → w ≡ width (rows_of_system which facts wanted) → IsWide (all_seen rows) → HasWidth (rows_of_system which facts wanted) w
     has_width w e h =
-        (let wide : IsWide (rows_of_system which facts wanted) = order.wide (wide_alike (all_seen (rows_given ps)) (map row_of ns) (rows_alike ns ps are) (subst (λ rs. IsWide (all_seen rs)) rows_are h)) in
+        (let wide : IsWide (rows_of_system which facts wanted) = wide_reordered ns (system which facts wanted) order (wide_alike (all_seen (rows_given ps)) (map row_of ns) (rows_alike ns ps are) (subst (λ rs. IsWide (all_seen rs)) rows_are h)) in
         record { is_wide = wide; is_width = e; is_large = omega (arith, e, wide_rows_width (rows_of_system which facts wanted) wide) })
 
     pub too_wide : (w : ℕ) → w ≡ width (rows_of_system which facts wanted) → IsWide (all_seen rows) → IsTooWide facts wanted w

@@ -1,17 +1,22 @@
--- Sums that show that the facts contradict each other show of each literal that it follows.
-use Rattle.std.proofs.Common.{◌≡◌, List, [], ◌∷◌, ◌++◌, refl, sym, ap, ap₂, ◌∙◌, cond, Bool, true, false, ◌&&◌, true≢false, inl, inr, Option, Some, None}
+-- Sums that show that the facts contradict each other show so of more facts too, and of each literal that it follows.
+use Rattle.std.proofs.Common.{◌≡◌, ℕ, List, [], ◌∷◌, ◌++◌, take, drop, take-append-drop, append_assoc, refl, sym, ap, ap₂, ◌∙◌, subst, cond, Bool, true, false, ◌&&◌, ◌||◌, true≢false, inl, inr, Option, Some, None}
 use Rattle.std.specs.Prelude.{option_and_then}
 use Rattle.std.specs.Option.{option_map_or, option_map}
+use Rattle.std.specs.List.{list_all}
 use Rattle.std.proofs.lemmas.Bool.{and_from, or_left, or_right, or_cases}
+use Rattle.std.proofs.lemmas.List.Folds.{list_any-append, list_all-append}
 use Rattle.std.proofs.lemmas.Option.{none-some}
 use lib.IntN.{ℤ}
+use Rattle.e_literal.specs.declared.object.Kind.{Kind}
+use Rattle.e_literal.specs.declared.object.Scope.{Scope}
 use Rattle.e_literal.specs.declared.object.Term.{Term}
 use Rattle.e_literal.specs.declared.object.Term.TheVariants.{Seg, Ang, Area, Right}
 use Rattle.e_literal.specs.declared.literal.Lit.{Lit}
-use Rattle.e_literal.specs.Same.{term_eq}
+use Rattle.e_literal.specs.Literal.{all_in_scope}
+use Rattle.e_literal.specs.Same.{term_eq, same_lit}
 use Rattle.e_literal.specs.Width.{is_among}
-use Rattle.e_literal.specs.Facts.{are_apart}
-use Rattle.e_literal.specs.Rows.{Row}
+use Rattle.e_literal.specs.Facts.{has, are_apart}
+use Rattle.e_literal.specs.Rows.{Row, row_of_lit}
 use Rattle.e_literal.specs.Absurd.{Weighed, is_absurd}
 use Rattle.e_literal.proofs.Booleans.{and_left, and_right}
 use Rattle.e_clause.specs.declared.cert.MetricCert.{MetricCert}
@@ -21,9 +26,15 @@ use Rattle.e_clause.specs.declared.cert.Sums.{Sums}
 use Rattle.e_clause.specs.declared.cert.Sums.TheVariants.{One, Two}
 use Rattle.e_clause.specs.Assignment.{terms_of_lits, terms_of_wanted}
 use Rattle.e_clause.specs.System.{pos_row, top_row, least_row}
-use Rattle.e_clause.specs.Sum.{Place, is_step_term, row_named, weighed_rows, is_good_size, refutes}
+use Rattle.e_clause.specs.Sum.{Place, is_step_term, fact_row, says_differ, unless_not, row_named, weighed_rows, is_good_size, refutes}
 use Rattle.e_clause.specs.MetricCertificate.{differing, above_row, below_row, both_refute, sums_refute}
+use Rattle.e_metric.specs.declared.side.Side.{Side}
+use Rattle.e_metric.specs.declared.side.Side.TheVariants.{Absurd}
+use Rattle.e_metric.specs.Kept.{IsSide}
 use Rattle.e_metric.specs.Told.{IsCertified}
+use Rattle.e_metric.proofs.FirstTerms.{lits_append}
+use Rattle.e_metric.proofs.Forms.{none_more}
+use Rattle.e_metric.proofs.JoiningFacts.{more_apart}
 
 no_rows : (ws : List Weighed) → None ≡ Some ws → ⊥
 no_rows ws h = absurd (cc)
@@ -40,24 +51,40 @@ among_more (x ∷ xs) ys t h = elim (or_cases (term_eq t x) (is_among (xs ++ [])
   | inr k ↦ or_right (term_eq t x) (is_among (xs ++ ys) t) (among_more xs ys t k)
 ]
 
-module _ (facts : List Lit) (wanted : Option Lit) where
+has_more : (facts more : List Lit) (l : Lit) → has facts l ≡ true → has (facts ++ more) l ≡ true
+has_more facts more l h = list_any-append (λ f. same_lit f l) facts more ∙ ap (λ b. b || has more l) h
+
+module _ (facts more : List Lit) (wanted : Option Lit) where
+  all_terms : terms_of_lits (facts ++ more) ++ terms_of_wanted wanted ≡ terms_of_lits facts ++ (terms_of_lits more ++ terms_of_wanted wanted)
+  all_terms = ap (λ ts. ts ++ terms_of_wanted wanted) (lits_append facts more) ∙ append_assoc (terms_of_lits facts) (terms_of_lits more) (terms_of_wanted wanted)
+
+  -- what is told by the row of a fact
+  fact_stays : (F : Option Row → Option Row) → ((r : Row) → F None ≡ Some r → ⊥) → (l : Lit) (r : Row) → F (fact_row facts l) ≡ Some r → F (fact_row (facts ++ more) l) ≡ Some r
+  fact_stays F none l r h = by (has facts l) (has (facts ++ more) l) (has_more facts more l) h
+    where
+      by : (a b : Bool) → (a ≡ true → b ≡ true) → F (cond a (row_of_lit l) None) ≡ Some r → F (cond b (row_of_lit l) None) ≡ Some r
+      by true b f k = ap (λ c. F (cond c (row_of_lit l) None)) (f refl) ∙ k
+      by false b f k = absurd (none r k)
+
   module _ (above below : Option Row) where
     abbrev alone : Place
     alone = record { facts = facts; wanted = None; above = above; below = below }
 
     abbrev beside : Place
-    beside = record { facts = facts; wanted = wanted; above = above; below = below }
+    beside = record { facts = facts ++ more; wanted = wanted; above = above; below = below }
 
     step_term : (t : Term) → is_step_term alone t ≡ true → is_step_term beside t ≡ true
     step_term t h = elim (or_cases (term_eq t Right) (is_among (terms_of_lits facts ++ []) t) h) [
-      | inl e ↦ or_left (term_eq t Right) (is_among (terms_of_lits facts ++ terms_of_wanted wanted) t) e
-      | inr k ↦ or_right (term_eq t Right) (is_among (terms_of_lits facts ++ terms_of_wanted wanted) t) (among_more (terms_of_lits facts) (terms_of_wanted wanted) t k)
+      | inl e ↦ or_left (term_eq t Right) (is_among (terms_of_lits (facts ++ more) ++ terms_of_wanted wanted) t) e
+      | inr k ↦ or_right (term_eq t Right) (is_among (terms_of_lits (facts ++ more) ++ terms_of_wanted wanted) t)
+          (ap (λ ts. is_among ts t) all_terms ∙ among_more (terms_of_lits facts) (terms_of_lits more ++ terms_of_wanted wanted) t k)
     ]
 
     of_pos : (t : Term) (r : Row) → row_named alone (Pos t) ≡ Some r → row_named beside (Pos t) ≡ Some r
     of_pos (Seg a b) r h =
-        where_so (is_step_term alone (Seg a b) && are_apart facts a b) (is_step_term beside (Seg a b) && are_apart facts a b) (pos_row (Seg a b)) r
-        (λ e. and_from (is_step_term beside (Seg a b)) (are_apart facts a b) (step_term (Seg a b) (and_left (is_step_term alone (Seg a b)) (are_apart facts a b) e)) (and_right (is_step_term alone (Seg a b)) (are_apart facts a b) e)) h
+        where_so (is_step_term alone (Seg a b) && are_apart facts a b) (is_step_term beside (Seg a b) && are_apart (facts ++ more) a b) (pos_row (Seg a b)) r
+        (λ e. and_from (is_step_term beside (Seg a b)) (are_apart (facts ++ more) a b) (step_term (Seg a b) (and_left (is_step_term alone (Seg a b)) (are_apart facts a b) e))
+        (more_apart facts more a b (and_right (is_step_term alone (Seg a b)) (are_apart facts a b) e))) h
     of_pos (Ang a b c) r h = h
     of_pos (Area a b c) r h = h
     of_pos Right r h = h
@@ -69,7 +96,7 @@ module _ (facts : List Lit) (wanted : Option Lit) where
     of_top Right r h = h
 
     same_row : (n : RowName) (r : Row) → row_named alone n ≡ Some r → row_named beside n ≡ Some r
-    same_row (Fact l) r h = h
+    same_row (Fact l) r h = fact_stays unless_not (λ q e. none-some q e) l r h
     same_row Goal r h = absurd (none-some r h)
     same_row (Pos t) r h = of_pos t r h
     same_row (Top t) r h = of_top t r h
@@ -102,8 +129,8 @@ module _ (facts : List Lit) (wanted : Option Lit) where
         by None e k = absurd (true≢false (sym k))
         by (Some ws) e k = ap (λ q. option_map_or is_absurd q false) (same_rows xs ws e) ∙ k
 
-  same_differing : (n : RowName) (r : Row) → differing facts None n ≡ Some r → differing facts wanted n ≡ Some r
-  same_differing (Fact l) r h = h
+  same_differing : (n : RowName) (r : Row) → differing facts None n ≡ Some r → differing (facts ++ more) wanted n ≡ Some r
+  same_differing (Fact l) r h = fact_stays (option_and_then (λ (q : Row). cond (says_differ q.says) (Some q) None)) (λ q e. none-some q e) l r h
   same_differing Goal r h = absurd (none-some r h)
   same_differing (Pos t) r h = h
   same_differing (Top t) r h = h
@@ -112,20 +139,32 @@ module _ (facts : List Lit) (wanted : Option Lit) where
   same_differing Above r h = h
   same_differing Below r h = h
 
-  sums_wider : (s : Sums) → sums_refute facts None s ≡ true → sums_refute facts wanted s ≡ true
+  sums_wider : (s : Sums) → sums_refute facts None s ≡ true → sums_refute (facts ++ more) wanted s ≡ true
   sums_wider (One sum) h = sum_wider None None sum h
   sums_wider (Two differs first second) h = by (differing facts None differs) refl h
     where
       by : (o : Option Row) → differing facts None differs ≡ o → option_map_or (λ r. both_refute facts None r first second) o false ≡ true
-          → option_map_or (λ r. both_refute facts wanted r first second) (differing facts wanted differs) false ≡ true
+          → option_map_or (λ r. both_refute (facts ++ more) wanted r first second) (differing (facts ++ more) wanted differs) false ≡ true
       by None e k = absurd (true≢false (sym k))
       by (Some r) e k =
           (let above_alone : Place = record { facts = facts; wanted = None; above = Some (above_row r); below = None } in
           let below_alone : Place = record { facts = facts; wanted = None; above = None; below = Some (below_row r) } in
-          ap (λ (o : Option Row). option_map_or (λ q. both_refute facts wanted q first second) o false) (same_differing differs r e)
+          ap (λ (o : Option Row). option_map_or (λ q. both_refute (facts ++ more) wanted q first second) o false) (same_differing differs r e)
           ∙ and_from (refutes (beside (Some (above_row r)) None) first) (refutes (beside None (Some (below_row r))) second)
           (sum_wider (Some (above_row r)) None first (and_left (refutes above_alone first) (refutes below_alone second) k))
           (sum_wider None (Some (below_row r)) second (and_right (refutes above_alone first) (refutes below_alone second) k)))
 
-  pub certified_wider : (m : MetricCert) → IsCertified facts None m → IsCertified facts wanted m
-  certified_wider m h = record { refutes = sums_wider m.sums h.refutes; scoped = λ s k g. h.scoped s k refl; written = h.written }
+  front_scoped : (s : Scope) → list_all (all_in_scope s) (facts ++ more) ≡ true → list_all (all_in_scope s) facts ≡ true
+  front_scoped s k = and_left (list_all (all_in_scope s) facts) (list_all (all_in_scope s) more) (sym (list_all-append (all_in_scope s) facts more) ∙ k)
+
+  pub certified_more : (m : MetricCert) → IsCertified facts None m → IsCertified (facts ++ more) wanted m
+  certified_more m h = record { refutes = sums_wider m.sums h.refutes; scoped = λ s k g. h.scoped s (front_scoped s k) refl; written = h.written }
+
+pub certified_wider : (facts : List Lit) (wanted : Option Lit) (m : MetricCert) → IsCertified facts None m → IsCertified facts wanted m
+certified_wider facts wanted m h = subst (λ fs. IsCertified fs wanted m) (none_more facts) (certified_more facts [] wanted m h)
+
+-- a certificate of the first facts is one of all
+pub absurd_stays : (which : Kind) (facts : List Lit) (from : ℕ) (side : Side) (m : MetricCert) → side ≡ Absurd m → IsSide which (take from facts) side → IsSide which facts side
+absurd_stays which facts from side m e h =
+    subst (IsSide which facts) (sym e)
+    (subst (λ fs. IsCertified fs None m) (take-append-drop from facts) (certified_more (take from facts) (drop from facts) None m (subst (IsSide which (take from facts)) e h)))

@@ -20,7 +20,8 @@ use Rattle.e_simplex.specs.declared.decision.Absurdity.{Absurdity}
 use Rattle.e_metric.specs.Certificate.{sums_of}
 use Rattle.e_clause.specs.Written.{is_good_name, is_good_sums}
 use Rattle.e_metric.proofs.Names.{each_of, each_name, sums_have}
-use Rattle.e_metric.proofs.Reordered.{AreReordered}
+use Rattle.e_metric.specs.Reordered.{AreReordered}
+use Rattle.e_metric.proofs.Reordered.{each_reordered}
 
 abbrev IsGood : NamedRow → Type 0
 IsGood n = is_good_name n.name ≡ true
@@ -69,5 +70,5 @@ pub written_well : (which : Kind) (facts : List Lit) (wanted : Option Lit) (ns :
 written_well which facts wanted ns order names gs ts a e good =
     one_of (sums_of names gs ts a)
     ∙ sums_have is_good_name names gs ts a (record { goal = refl; above = refl; below = refl })
-    (ap (list_all is_good_name) e ∙ each_name is_good_name ns (order.each IsGood (system_good which facts wanted good)))
+    (ap (list_all is_good_name) e ∙ each_name is_good_name ns (each_reordered ns (system which facts wanted) order IsGood (system_good which facts wanted good)))
     (no_literal ts)

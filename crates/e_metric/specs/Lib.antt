@@ -5,4 +5,7 @@ pub mod Certificate
 pub mod Assigned
 pub mod Told
 pub mod Further
+pub mod Reordered
 pub mod Kept
+pub mod ByKind
+pub mod Fronts

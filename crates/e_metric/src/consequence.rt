@@ -14,6 +14,7 @@ ghost use Rattle.e_metric.specs.Listed.{listed};
 ghost use Rattle.e_metric.specs.Told.{IsTold, IsToldOf, IsYes, IfYes, IfNo};
 
 use crate::assigning::counterexample;
+use crate::by_kind::ByKind;
 use crate::certificates::sums_of;
 use crate::listing::{has_term, terms_of_kind};
 use crate::systems::system;
@@ -146,32 +147,44 @@ fn told_from(
     own: Metric,
     facts: &Facts,
     wanted: Option<&Lit>,
-) -> Result<(Metric, Metric, Metric), AllocError>
+) -> Result<ByKind<Metric>, AllocError>
     requires facts { IsTrue (list_all is_well_formed facts.now) }
     requires few { length (terms_of_lits facts.now) ≤ 1100 }
     requires wanted { IsTrue (is_good_wanted (option_copied wanted)) }
     requires own { IsToldOf which facts.now (option_copied wanted) own }
-    ensures segments { IfOk result (λ p. IsToldOf Kind.Segment facts.now (option_copied wanted.entry) p.0) }
-    ensures angles { IfOk result (λ p. IsToldOf Kind.Angle facts.now (option_copied wanted.entry) p.1) }
-    ensures areas { IfOk result (λ p. IsToldOf Kind.Area facts.now (option_copied wanted.entry) p.2) }
+    ensures segments { IfOk result (λ b. IsToldOf Kind.Segment facts.now (option_copied wanted.entry) b.segments) }
+    ensures angles { IfOk result (λ b. IsToldOf Kind.Angle facts.now (option_copied wanted.entry) b.angles) }
+    ensures areas { IfOk result (λ b. IsToldOf Kind.Area facts.now (option_copied wanted.entry) b.areas) }
 {
     match which {
         Kind::Segment => match told_of_both(alloc, Kind::Angle, Kind::Area, facts, wanted) {
-            Ok((angles, areas)) => Ok((own, angles, areas)),
+            Ok((angles, areas)) => Ok(ByKind {
+                segments: own,
+                angles,
+                areas,
+            }),
             Err(error) => {
                 mem::drop(own);
                 Err(error)
             }
         },
         Kind::Angle => match told_of_both(alloc, Kind::Segment, Kind::Area, facts, wanted) {
-            Ok((segments, areas)) => Ok((segments, own, areas)),
+            Ok((segments, areas)) => Ok(ByKind {
+                segments,
+                angles: own,
+                areas,
+            }),
             Err(error) => {
                 mem::drop(own);
                 Err(error)
             }
         },
         Kind::Area => match told_of_both(alloc, Kind::Segment, Kind::Angle, facts, wanted) {
-            Ok((segments, angles)) => Ok((segments, angles, own)),
+            Ok((segments, angles)) => Ok(ByKind {
+                segments,
+                angles,
+                areas: own,
+            }),
             Err(error) => {
                 mem::drop(own);
                 Err(error)
@@ -239,7 +252,11 @@ fn told(
     match told_of(alloc, which, facts, wanted)? {
         Metric::Yes(cert) => Ok(Metric::Yes(cert)),
         own => {
-            let (segments, angles, areas) = told_from(alloc, which, own, facts, wanted)?;
+            let ByKind {
+                segments,
+                angles,
+                areas,
+            } = told_from(alloc, which, own, facts, wanted)?;
             joined(alloc, facts, wanted, segments, angles, areas)
         }
     }

@@ -1,6 +1,6 @@
 // The facts of one kind, whose rows have a solution, and what is told of goals from there.
 
-ghost use Rattle.std.specs.Prelude.{◌≡◌, ◌≤◌, ◌++◌, length, option_copied, IsTrue, IfOk, OnOk, Some, None};
+ghost use Rattle.std.specs.Prelude.{◌≡◌, ◌≤◌, ◌++◌, length, option_copied, IsTrue, IfOk, OnOk, Some};
 ghost use Rattle.std.specs.List.{list_all};
 ghost use Rattle.e_literal.specs.WellFormed.{is_well_formed};
 ghost use Rattle.e_literal.specs.Width;
@@ -10,8 +10,8 @@ ghost use Rattle.e_clause.specs.System;
 ghost use Rattle.e_clause.specs.System.{system, rows_of_system};
 ghost use Rattle.e_fraction.specs.Views.{all_seen};
 ghost use Rattle.e_simplex.specs.Answer.{AreValuesOf, IsRefuted};
-ghost use Rattle.e_metric.specs.Further.{further, extended};
-ghost use Rattle.e_metric.specs.Kept.{AreNamed, IsGround};
+ghost use Rattle.e_metric.specs.Further.{extended};
+ghost use Rattle.e_metric.specs.Kept.{AreTogether, IsGround};
 ghost use Rattle.e_metric.specs.Listed;
 ghost use Rattle.e_metric.specs.Told.{IsCertified, IsToldOf};
 
@@ -34,6 +34,8 @@ pub struct Ground {
     pub names: Vec<RowName>,
     pub rows: Vec<Row>,
     pub terms: Vec<Term>,
+    /// How many of the rows the terms bring.
+    pub raised: usize,
     pub settled: Settled,
 }
 
@@ -77,25 +79,55 @@ fn add_names(names: &mut Vec<RowName>, alloc: Global, more: &[RowName]) -> Resul
     Ok(())
 }
 
+// Equal names.
+fn copied_names(alloc: Global, names: &[RowName]) -> Result<Vec<RowName>, AllocError>
+    ensures { IfOk result (λ v. v.items ≡ names.now) }
+{
+    let mut copies = Vec::new(alloc);
+    add_names(&mut copies, alloc, names)?;
+    Ok(copies)
+}
+
 /// The width of the system of a kind.
 pub fn system_width(
     alloc: Global,
     which: Kind,
     facts: &Facts,
-    goal: &Lit,
+    wanted: Option<&Lit>,
 ) -> Result<u128, AllocError>
     requires facts { IsTrue (list_all is_well_formed facts.now) }
-    requires goal { IsTrue (is_good_wanted (Some goal.now)) }
-    ensures { IfOk result (λ w. w ≡ Width.width (rows_of_system which facts.now (Some goal.now))) }
+    requires wanted { IsTrue (is_good_wanted (option_copied wanted)) }
+    ensures { IfOk result (λ w. w ≡ Width.width (rows_of_system which facts.now (option_copied wanted.entry))) }
 {
-    let named = system(alloc, which, facts, Some(goal))?;
+    let named = system(alloc, which, facts, wanted)?;
     let (_, rows) = split(alloc, named)?;
     Ok(width(&rows))
 }
 
 impl Ground {
-    // The names of the rows, and these.
-    fn names_with(&self, alloc: Global, more: &[RowName]) -> Result<Vec<RowName>, AllocError>
+    /// The same rows, settled.
+    pub fn copied(&self, alloc: Global) -> Result<Ground, AllocError>
+        ensures names { IfOk result (λ g. g.names.items ≡ self.now.names.items) }
+        ensures rows { IfOk result (λ g. g.rows.items ≡ self.now.rows.items) }
+        ensures terms { IfOk result (λ g. g.terms.items ≡ self.now.terms.items) }
+        ensures raised { IfOk result (λ g. g.raised ≡ self.now.raised) }
+        ensures settled { IfOk result (λ g. g.settled ≡ self.now.settled) }
+    {
+        let terms = Vec::from_slice(alloc, &self.terms)?;
+        let rows = copied_rows(alloc, &self.rows)?;
+        let names = copied_names(alloc, &self.names)?;
+        let settled = self.settled.copied(alloc)?;
+        Ok(Ground {
+            names,
+            rows,
+            terms,
+            raised: self.raised,
+            settled,
+        })
+    }
+
+    /// The names of the rows, and these.
+    pub fn names_with(&self, alloc: Global, more: &[RowName]) -> Result<Vec<RowName>, AllocError>
         ensures { IfOk result (λ v. v.items ≡ self.now.names.items ++ more.now) }
     {
         let mut names = Vec::new(alloc);
@@ -104,8 +136,8 @@ impl Ground {
         Ok(names)
     }
 
-    // The rows, and these.
-    fn rows_with(&self, alloc: Global, more: &[Row]) -> Result<Vec<Row>, AllocError>
+    /// The rows, and these.
+    pub fn rows_with(&self, alloc: Global, more: &[Row]) -> Result<Vec<Row>, AllocError>
         ensures { IfOk result (λ v. v.items ≡ self.now.rows.items ++ more.now) }
     {
         let mut rows = copied_rows(alloc, &self.rows)?;
@@ -113,28 +145,27 @@ impl Ground {
         Ok(rows)
     }
 
-    // The certificate that multipliers of the rows, and of those of the goal, make.
-    fn certified(
+    /// The certificate that multipliers of the rows, and of more after them, make.
+    pub fn certified(
         &self,
         alloc: Global,
         which: Kind,
         facts: &Facts,
-        goal: &Lit,
+        wanted: Option<&Lit>,
         names: &[RowName],
         rows: &[Row],
         absurdity: &Absurdity,
     ) -> Result<MetricCert, AllocError>
-        requires ground { IsGround which facts.now self.now }
         requires facts { IsTrue (list_all is_well_formed facts.now) }
         requires few { length (terms_of_lits facts.now) ≤ 1100 }
-        requires goal { IsTrue (is_good_wanted (Some goal.now)) }
-        requires more { AreNamed (further which facts.now goal.now) names.now rows.now }
+        requires wanted { IsTrue (is_good_wanted (option_copied wanted)) }
+        requires together { AreTogether which facts.now (option_copied wanted) self.now names.now rows.now }
         requires refuted { IsRefuted (all_seen (self.now.settled ++ rows.now)) absurdity.now }
-        ensures { IfOk result (IsCertified facts.now (Some goal.now)) }
+        ensures { IfOk result (IsCertified facts.now (option_copied wanted.entry)) }
     {
         let names = self.names_with(alloc, names)?;
         let rows = self.rows_with(alloc, rows)?;
-        let cert = certificate_of(alloc, which, facts, Some(goal), names, &rows, absurdity)?;
+        let cert = certificate_of(alloc, which, facts, wanted, names, &rows, absurdity)?;
         Ok(cert)
     }
 
@@ -148,23 +179,23 @@ impl Ground {
         names: &[RowName],
         rows: &[Row],
     ) -> Result<Metric, AllocError>
-        requires ground { IsGround which facts.now self.now }
         requires facts { IsTrue (list_all is_well_formed facts.now) }
         requires few { length (terms_of_lits facts.now) ≤ 1100 }
         requires goal { IsTrue (is_good_wanted (Some goal.now)) }
-        requires more { AreNamed (further which facts.now goal.now) names.now rows.now }
+        requires together { AreTogether which facts.now (Some goal.now) self.now names.now rows.now }
         ensures { IfOk result (IsToldOf which facts.now (Some goal.now)) }
     {
         match self.settled.decide_with(alloc, rows)? {
             Verdict::Holds(values) => Ok(Metric::No(values)),
             Verdict::TooWide => {
-                let width = system_width(alloc, which, facts, goal)?;
+                let width = system_width(alloc, which, facts, Some(goal))?;
                 Ok(Metric::TooWide(width))
             }
             Verdict::Absurd(absurdity) => {
-                let certified = self.certified(alloc, which, facts, goal, names, rows, &absurdity);
+                let wanted = Some(goal);
+                let cert = self.certified(alloc, which, facts, wanted, names, rows, &absurdity);
                 mem::drop(absurdity);
-                Ok(Metric::Yes(certified?))
+                Ok(Metric::Yes(cert?))
             }
         }
     }

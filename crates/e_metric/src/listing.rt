@@ -1,6 +1,6 @@
 // The terms of the literals of a kind.
 
-ghost use Rattle.std.specs.Prelude.{◌≡◌, ◌++◌, ◌∷◌, [], map, option_copied, OnOk, IfOk};
+ghost use Rattle.std.specs.Prelude.{◌≡◌, ◌≤◌, ◌++◌, ◌∷◌, [], length, map, drop, option_copied, OnOk, IfOk};
 ghost use Rattle.e_literal.specs.Rows;
 ghost use Rattle.e_clause.specs.Assignment.{terms_of_atom, terms_of_lits};
 ghost use Rattle.e_clause.specs.System;
@@ -65,15 +65,29 @@ fn add_literal(terms: &mut Vec<Term>, which: Kind, lit: &Lit) -> Result<(), Allo
     Ok(())
 }
 
+// Puts the terms of the facts of the kind from a place on last that are none of those before.
+fn add_facts(
+    terms: &mut Vec<Term>,
+    which: Kind,
+    facts: &Facts,
+    from: usize,
+) -> Result<(), AllocError>
+    requires { from ≤ length facts.now }
+    ensures { OnOk result (terms.new.items ≡ listed terms.old.items (terms_of_lits (of_kind which (drop from facts.now)))) }
+{
+    let count = facts.len();
+    for k in 0..count - from {
+        add_literal(terms, which, facts.get(from + k))?;
+    }
+    Ok(())
+}
+
 // The terms of the facts of a kind.
-#[tactic(auto, using(crate::proofs::FirstTerms::fact_terms))]
 fn terms_of_facts(alloc: Global, which: Kind, facts: &Facts) -> Result<Vec<Term>, AllocError>
     ensures { IfOk result (λ v. v.items ≡ listed [] (terms_of_lits (of_kind which facts.now))) }
 {
     let mut terms = Vec::new(alloc);
-    for i in 0..facts.len() {
-        add_literal(&mut terms, which, facts.get(i))?;
-    }
+    add_facts(&mut terms, which, facts, 0)?;
     Ok(terms)
 }
 
@@ -95,17 +109,35 @@ pub fn terms_of_kind(
 }
 
 /// The terms of a literal, if it is of the kind, that are none of these, each once.
-#[tactic(auto, using(crate::proofs::Further::as_long))]
+#[tactic(auto, using(crate::proofs::Further::as_long_one))]
 pub fn fresh_terms(
     alloc: Global,
     which: Kind,
     terms: &[Term],
     lit: &Lit,
 ) -> Result<Vec<Term>, AllocError>
-    ensures { IfOk result (λ v. v.items ≡ Further.fresh_terms which terms.now lit.now) }
+    ensures { IfOk result (λ v. v.items ≡ Further.fresh_terms which terms.now (lit.now ∷ [])) }
 {
     let mut all = Vec::from_slice(alloc, terms)?;
     add_literal(&mut all, which, lit)?;
+    let fresh = Vec::from_slice(alloc, &all[terms.len()..])?;
+    Ok(fresh)
+}
+
+/// The terms of the facts of the kind from a place on that are none of these, each once.
+#[tactic(auto, using(crate::proofs::Further::as_long))]
+pub fn fresh_terms_of_facts(
+    alloc: Global,
+    which: Kind,
+    terms: &[Term],
+    facts: &Facts,
+    from: usize,
+) -> Result<Vec<Term>, AllocError>
+    requires { from ≤ length facts.now }
+    ensures { IfOk result (λ v. v.items ≡ Further.fresh_terms which terms.now (drop from facts.now)) }
+{
+    let mut all = Vec::from_slice(alloc, terms)?;
+    add_facts(&mut all, which, facts, from)?;
     let fresh = Vec::from_slice(alloc, &all[terms.len()..])?;
     Ok(fresh)
 }

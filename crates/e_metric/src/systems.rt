@@ -1,6 +1,6 @@
 // The metric systems.
 
-ghost use Rattle.std.specs.Prelude.{◌≡◌, ◌∷◌, [], true, option_copied, flat_map, IfOk, OnOk, IsTrue, Some};
+ghost use Rattle.std.specs.Prelude.{◌≡◌, ◌≤◌, ◌∷◌, [], true, length, drop, option_copied, flat_map, IfOk, OnOk, IsTrue, Some};
 ghost use Rattle.std.specs.Option.{option_map_or};
 ghost use Rattle.std.specs.List.{list_all};
 ghost use Rattle.e_literal.specs.Facts;
@@ -141,18 +141,21 @@ fn add_fact_row(
     Ok(())
 }
 
-// Adds the rows of the facts of the kind.
+// Adds the rows of the facts of the kind from a place on.
 fn add_fact_rows(
     rows: &mut Vec<(RowName, Row)>,
     alloc: Global,
     which: Kind,
     facts: &Facts,
+    from: usize,
 ) -> Result<(), AllocError>
-    requires { IsTrue (list_all is_well_formed facts.now) }
-    ensures { OnOk result (GrowBy (rows_named (λ l. name.Fact l) (of_kind which facts.now)) rows.old.items rows.new.items) }
+    requires facts { IsTrue (list_all is_well_formed facts.now) }
+    requires within { from ≤ length facts.now }
+    ensures { OnOk result (GrowBy (rows_named (λ l. name.Fact l) (of_kind which (drop from facts.now))) rows.old.items rows.new.items) }
 {
-    for i in 0..facts.len() {
-        add_fact_row(rows, alloc, which, facts.get(i))?;
+    let count = facts.len();
+    for k in 0..count - from {
+        add_fact_row(rows, alloc, which, facts.get(from + k))?;
     }
     Ok(())
 }
@@ -206,7 +209,7 @@ pub fn system(
     ensures limited { IfOk result (λ v. AllLimited v.items) }
 {
     let mut rows = Vec::new(alloc);
-    add_fact_rows(&mut rows, alloc, which, facts)?;
+    add_fact_rows(&mut rows, alloc, which, facts, 0)?;
     add_goal_row(&mut rows, alloc, which, goal)?;
     let terms = terms_of_kind(alloc, which, facts, goal)?;
     add_term_rows(&mut rows, alloc, facts, &terms)?;
@@ -231,4 +234,48 @@ pub fn rows_of_goal(
     add_negation_row(&mut rows, alloc, which, goal)?;
     add_term_rows(&mut rows, alloc, facts, fresh)?;
     Ok(rows)
+}
+
+/// The rows that the facts from a place on add to those of the facts of their kind before them, each with its name: their
+/// own, and those of their terms that are none of the others'.
+pub fn rows_of_facts(
+    alloc: Global,
+    which: Kind,
+    facts: &Facts,
+    from: usize,
+    fresh: &[Term],
+) -> Result<Vec<(RowName, Row)>, AllocError>
+    requires facts { IsTrue (list_all is_well_formed facts.now) }
+    requires within { from ≤ length facts.now }
+    ensures rows { IfOk result (λ v. AreRows (Further.rows_of_facts which facts.now (drop from facts.now) fresh.now) v.items) }
+    ensures limited { IfOk result (λ v. AllLimited v.items) }
+{
+    let mut rows = Vec::new(alloc);
+    add_fact_rows(&mut rows, alloc, which, facts, from)?;
+    add_term_rows(&mut rows, alloc, facts, fresh)?;
+    Ok(rows)
+}
+
+// How many rows a term brings: one, or none.
+fn count_rows_of(facts: &Facts, term: Term) -> usize
+    ensures value { result ≡ length (rows_of_term facts.now term) }
+    ensures bound { result ≤ 1 }
+{
+    match term {
+        Term::Seg(a, b) => { if are_apart(facts, a, b) { 1 } else { 0 } }
+        Term::Ang(_, _, _) => 1,
+        Term::Area(_, _, _) | Term::Right => 0,
+    }
+}
+
+/// How many rows the terms bring.
+#[tactic(auto, using(crate::proofs::JoiningFacts::raised_more))]
+pub fn count_term_rows(facts: &Facts, terms: &[Term]) -> usize
+    ensures { result ≡ length (flat_map (rows_of_term facts.now) terms.now) }
+{
+    let mut count = 0;
+    for term in terms {
+        count += count_rows_of(facts, *term);
+    }
+    count
 }

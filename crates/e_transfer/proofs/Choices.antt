@@ -1,5 +1,5 @@
 -- Choices, part by part.
-use Rattle.std.proofs.Common.{◌≡◌, ℕ, List, [], ◌∷◌, ◌++◌, ◌<◌, ◌≤◌, ◌-◌, inl, inr, sym, subst, ap, ◌∙◌, arith, length, take, drop, get_or}
+use Rattle.std.proofs.Common.{◌≡◌, ℕ, List, [], ◌∷◌, ◌++◌, ◌<◌, ◌≤◌, ◌-◌, Result, Ok, Err, OnErr, inl, inr, sym, subst, ap, ◌∙◌, arith, length, take, drop, get_or}
 use Rattle.std.proofs.lemmas.List.{append_assoc, append-nil, take_all}
 use Rattle.e_transfer.specs.declared.walk.Span.{Span}
 use Rattle.e_transfer.specs.declared.walk.Verdict.{Verdict}
@@ -8,6 +8,17 @@ use Rattle.e_transfer.specs.declared.walk.Outcome.{Outcome}
 use Rattle.e_transfer.specs.declared.walk.Outcome.TheVariants as outcome
 use Rattle.e_transfer.specs.Choice.{Fits, NoneWanted, NoneBelow}
 use Rattle.e_transfer.specs.Outcome.{VerdictIs, OutcomeIs}
+
+-- what a refused search leaves: more numbers may stand behind
+pub refused_grows : {T E : Type 0} (r : Result T E) (old new more : List ℕ) → new ≡ old ++ more → OnErr r ((rest : List ℕ) × (new ≡ old ++ rest))
+refused_grows (Ok x) old new more is = tt
+refused_grows (Err e) old new more is = (more, is)
+
+-- the same where a number was put behind before
+pub grown_behind : {T E : Type 0} (r : Result T E) (old before pushed new rest : List ℕ) (v : ℕ) → before ≡ old → pushed ≡ before ++ v ∷ [] → new ≡ pushed ++ rest → OnErr r ((more : List ℕ) × (new ≡ old ++ more))
+grown_behind r old before pushed new rest v same put grew =
+    refused_grows r old new (v ∷ rest)
+    (grew ∙ ap (λ (xs : List ℕ). xs ++ rest) (put ∙ ap (λ (xs : List ℕ). xs ++ v ∷ []) same) ∙ append_assoc old (v ∷ []) rest)
 
 -- the three predicates of a judge
 abbrev pub Kept : Type 1

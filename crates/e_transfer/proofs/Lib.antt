@@ -14,3 +14,4 @@ pub mod Sweeping
 pub mod Modelling
 pub mod Marking
 pub mod Freeing
+pub mod Preparing

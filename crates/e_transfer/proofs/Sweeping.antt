@@ -16,7 +16,6 @@ use Rattle.e_clause.specs.declared.cert.TransferCert.{TransferCert}
 use Rattle.e_clause.specs.Rows.{Row}
 use Rattle.e_clause.specs.Table.{table}
 use Rattle.e_clause.specs.Instance.{number, lit_at, clause_of}
-use Rattle.e_clause.specs.RuleKinds.{is_transfer}
 use Rattle.e_clause.specs.Transfer.{NegationsStand, TransferOf, TransferConsequence}
 use Rattle.e_clause.specs.Wide.{TransferFromFacts}
 use Rattle.e_transfer.specs.declared.bind.Bind.{Bind}

@@ -11,3 +11,4 @@ pub mod Found
 pub mod Models
 pub mod Marks
 pub mod Areas
+pub mod Prepared

@@ -49,7 +49,7 @@ fn told(alloc: Global, sought: &Sought, need: &Lit) -> Result<Metric, AllocError
     ensures no { IfOk result (λ m. IfNo m (¬ MetricConsequence sought.now.facts.now need.now)) }
 {
     match sought.known {
-        Some(known) => known.follows(alloc, need),
+        Some(known) => known.told().follows(alloc, sought.facts, need),
         None => follows(alloc, sought.facts, need),
     }
 }

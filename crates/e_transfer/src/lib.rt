@@ -16,6 +16,7 @@ pub mod models;
 pub mod order;
 pub mod place;
 pub mod plan;
+pub mod prepared;
 pub mod seeds;
 pub mod sought;
 pub mod sweep;
@@ -23,5 +24,6 @@ pub mod ties;
 pub mod walk;
 
 pub use conditions::{are_good_facts, is_good_literal};
-pub use finding::{Found, find, find_by_facts, find_by_sums};
+pub use finding::{Found, find, find_by_facts, find_by_sums, find_prepared};
+pub use prepared::{Prepared, prepare};
 pub use walk::{Outcome, Span, Task, Verdict, search};

@@ -1,6 +1,6 @@
 //! A complete search for the least good choice, one number at each of a list of places.
 
-ghost use Rattle.std.specs.Prelude.{◌≡◌, ℕ, List, IfOk, ◌<◌, length};
+ghost use Rattle.std.specs.Prelude.{◌≡◌, ◌++◌, ℕ, List, IfOk, OnErr, ◌<◌, length};
 ghost use Rattle.e_transfer.specs.Outcome.{VerdictIs, OutcomeIs};
 
 use std::alloc::{AllocError, Global};
@@ -56,14 +56,15 @@ pub trait Task {
 /// The least choice that begins with `chosen`, goes on with one number of each span, and whose parts are all kept, with
 /// what the judge hands out for the whole; no choice before it is wanted. `chosen` is then this choice. `Nothing` where no
 /// choice is wanted. `Stop` at the first part that is too wide, where no choice before it is wanted; `chosen` is then this
-/// part. It fails only for want of memory, and nothing is said of `chosen` then.
+/// part. It fails only for want of memory; `chosen` then is what it was, with some numbers behind it.
 pub fn search<T: Task>(
     alloc: Global,
     task: &T,
     spans: &[Span],
     chosen: &mut Vec<u16>,
 ) -> Result<Outcome<T::Proof>, AllocError>
-    ensures { IfOk result (OutcomeIs (T.kept task.now) (T.shown task.now) (T.wide task.now) (T.wanted task.now) spans.now chosen.old.items chosen.new.items) }
+    ensures outcome { IfOk result (OutcomeIs (T.kept task.now) (T.shown task.now) (T.wide task.now) (T.wanted task.now) spans.now chosen.old.items chosen.new.items) }
+    ensures err { OnErr result ((more : List ℕ) × (chosen.new.items ≡ chosen.old.items ++ more)) }
 {
     let proof = match task.judge(alloc, chosen)? {
         Verdict::Keep(proof) => proof,

@@ -8,5 +8,5 @@ use Rattle.e_metric.proofs.listing.fresh_terms.Goals as goal
 pub returns : goal.returns
 returns c =
     c.in_ok-fresh.ensures.items
-    ∙ last_behind c.args.which c.args.terms.now c.args.lit.now c.deref.result.now
+    ∙ last_behind c.args.which c.args.terms.now (c.args.lit.now ∷ []) c.deref.result.now
     (c.deref.ensures.value ∙ c.in_ok-add_literal.ensures ∙ ap (λ ts. listed ts (terms_of_lits (of_kind c.args.which (c.args.lit.now ∷ [])))) c.in_ok-all.ensures.items)

@@ -1,6 +1,11 @@
-use Rattle.e_metric.proofs.Further.{goal_rows}
+use Rattle.std.proofs.Common.{Some}
+use Rattle.std.specs.Prelude.{flat_map}
+use Rattle.e_clause.specs.declared.cert.RowName.TheVariants.{Goal}
+use Rattle.e_clause.specs.System.{of_kind, against_goal, rows_named, rows_of_term}
+use Rattle.e_metric.proofs.Growing.{rows_of_two}
 use Rattle.e_metric.proofs.systems.rows_of_goal.Goals as goal
 
 pub returns-clause-rows : goal.returns-clause-rows
 returns-clause-rows c =
-    goal_rows c.args.which c.args.facts.now c.args.fresh.now c.args.goal.now c.new-rows.result.items _ _ c.new-rows.ensures.items c.in_ok-add_negation_row.ensures c.in_ok-add_term_rows.ensures
+    rows_of_two (rows_named (λ k. Goal) (of_kind c.args.which (against_goal (Some c.args.goal.now)))) (flat_map (rows_of_term c.args.facts.now) c.args.fresh.now)
+    c.new-rows.result.items _ _ c.new-rows.ensures.items c.in_ok-add_negation_row.ensures c.in_ok-add_term_rows.ensures

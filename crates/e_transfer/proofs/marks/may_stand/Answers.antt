@@ -2,7 +2,7 @@ use Rattle.std.proofs.Common.{ap, ◌∙◌, sym}
 use Rattle.std.specs.Prelude.{Some}
 use Rattle.e_literal.specs.declared.literal.Lit.{Lit}
 use Rattle.e_clause.specs.Views.{atom_of, row_of}
-use Rattle.e_transfer.specs.Marks.{mark, mark_of}
+use Rattle.e_transfer.specs.Marks.{mark}
 use Rattle.e_transfer.proofs.Marking.{none_stands}
 use Rattle.e_transfer.proofs.marks.may_stand.Goals as goal
 

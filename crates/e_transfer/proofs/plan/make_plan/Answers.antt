@@ -1,4 +1,4 @@
-use Rattle.std.proofs.Common.{◌≡◌, ◌++◌, ◌∙◌, ℕ, List, subst, ap, sym, length, map}
+use Rattle.std.proofs.Common.{◌++◌, ◌∙◌, ℕ, List, subst, ap, length, map}
 use Rattle.e_clause.specs.Views.{row_of}
 use Rattle.e_transfer.specs.Part.{last_of_atom}
 use Rattle.e_transfer.specs.Planning.{OrderIs, PlacesAre, spans_of}

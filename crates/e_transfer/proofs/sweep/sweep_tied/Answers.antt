@@ -15,7 +15,7 @@ unreachable-requires c =
     none_unshown s.scope s.facts.now s.goal.now (λ part. Unit {0}) (Wanted s.means s.scope s.facts.now s.goal.now c.args.rule c.args.place plan)
     (λ part w. (s.means ≡ means.Sums) × IsWideTransfer s.scope s.facts.now s.goal.now w) plan.spans.items c.deref.result.now c.new-chosen.result.items
     c.search.new.chosen.items c.in_ok-cert.field-0 c.deref.ensures.value c.new-chosen.ensures.items
-    (c.in-Found-None.is ∙ ap (λ (p : Option TransferCert). outcome.Found p) c.in-Found-None.field-0-is) c.in_ok-cert.ensures
+    (c.in-Found-None.is ∙ ap (λ (p : Option TransferCert). outcome.Found p) c.in-Found-None.field-0-is) c.in_ok-cert.ensures.outcome
 
 pub returns-in-Nothing : goal.returns-in-Nothing
 returns-in-Nothing c =
@@ -25,4 +25,4 @@ returns-in-Nothing c =
     (none_wanted (λ part. Unit {0}) (Wanted s.means s.scope s.facts.now s.goal.now c.args.rule c.args.place plan)
     (Shown s.scope s.facts.now s.goal.now (length plan.spans.items)) (λ part w. (s.means ≡ means.Sums) × IsWideTransfer s.scope s.facts.now s.goal.now w)
     plan.spans.items c.deref.result.now c.new-chosen.result.items c.search.new.chosen.items c.in_ok-cert.field-0 c.deref.ensures.value c.new-chosen.ensures.items
-    c.in-Nothing.is c.in_ok-cert.ensures)
+    c.in-Nothing.is c.in_ok-cert.ensures.outcome)

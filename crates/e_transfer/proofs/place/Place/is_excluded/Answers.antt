@@ -1,4 +1,4 @@
-use Rattle.std.proofs.Common.{◌≡◌, ap, ◌∙◌, sym, get_or, Some, ◌<◌, length, List, ℕ, subst}
+use Rattle.std.proofs.Common.{◌≡◌, get_or, Some, ◌<◌, length, List, ℕ, subst}
 use Rattle.std.specs.Prelude.{slice_get}
 use Rattle.std.proofs.lemmas.Bool.{not-true}
 use Rattle.e_clause.specs.Views.{row_of}

@@ -1,4 +1,4 @@
-use Rattle.std.proofs.Common.{arith, ◌≡◌, ap, ◌∙◌, sym, List, ℕ, ◌≤◌, length, subst}
+use Rattle.std.proofs.Common.{arith, ◌≡◌, ap, ◌∙◌, List, ℕ}
 use Rattle.e_clause.specs.Views.{row_of}
 use Rattle.e_transfer.specs.Part.{arguments}
 use Rattle.e_transfer.proofs.Placed.{refused_whole, instance_refused}

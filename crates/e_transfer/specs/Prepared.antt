@@ -1,0 +1,16 @@
+-- What is made of facts before goals are sought.
+use Rattle.std.specs.Prelude.{List, not, ◌||◌, IsTrue}
+use Rattle.e_literal.specs.declared.literal.Lit.{Lit}
+use Rattle.e_transfer.specs.declared.models.Filling.TheVariants as filling
+use Rattle.e_transfer.specs.declared.prepared.Prepared.{Prepared}
+use Rattle.e_transfer.specs.Models.{is_model, value_by}
+use Rattle.e_transfer.specs.Areas.{name_areas_of}
+use Rattle.e_transfer.specs.Marks.{are_marked}
+
+-- the areas are named, the relations marked, and the values are those of the models that are said
+pub record IsPrepared (facts : List Lit) (p : Prepared) : Type 0 where
+  pub marked : IsTrue (are_marked p.marks facts)
+  pub named : IsTrue (name_areas_of p.areas.items facts)
+  pub plain : IsTrue (not p.plain_model || is_model facts (value_by filling.Ones p.values))
+  pub spread : IsTrue (not p.spread_model || is_model facts (value_by filling.Spread p.values))
+  pub flat : IsTrue (not p.flat_model || is_model facts (value_by filling.Flat p.values))

@@ -1,0 +1,64 @@
+// What is made of the facts of a step once, for all goals that are sought by sums.
+
+ghost use Rattle.std.specs.Prelude.{◌≡◌, ◌≤◌, length, IsTrue, IfOk};
+ghost use Rattle.std.specs.List.{list_all};
+ghost use Rattle.e_literal.specs.WellFormed.{is_well_formed};
+ghost use Rattle.e_clause.specs.Assignment.{terms_of_lits};
+ghost use Rattle.e_metric.specs.Fronts.{AreFronts};
+ghost use Rattle.e_transfer.specs.Areas.{name_areas_of};
+ghost use Rattle.e_transfer.specs.Prepared.{IsPrepared};
+
+use crate::areas::areas_of;
+use crate::marks::{MARKS, marks_of};
+use crate::models::{Filling, are_of_model};
+use e_facts::Facts;
+use e_literal::{Term, Values};
+use e_metric::{Metric, MetricFacts};
+use std::alloc::{AllocError, Global};
+
+/// What is made of facts: values with which all metric ones are true, if there are any, of which models those are, the areas
+/// that the facts name, and which relations they have.
+#[derive(Drop)]
+pub struct Prepared {
+    pub values: Values,
+    pub areas: Vec<Term>,
+    pub plain_model: bool,
+    pub spread_model: bool,
+    pub flat_model: bool,
+    pub marks: [bool; MARKS],
+}
+
+// The values with which all metric facts are true, if there are any. What they are is a matter of speed alone.
+fn values_of(alloc: Global, told: Metric) -> Values {
+    match told {
+        Metric::No(values) => values,
+        Metric::Yes(_) | Metric::TooWide(_) => Values::new(Vec::new(alloc)),
+    }
+}
+
+// With these values and areas.
+fn with_values(facts: &Facts, values: Values, areas: Vec<Term>) -> Prepared
+    requires { IsTrue (name_areas_of areas.items facts.now) }
+    ensures { IsPrepared facts.now result }
+{
+    Prepared {
+        plain_model: are_of_model(facts, Filling::Ones, values.items()),
+        spread_model: are_of_model(facts, Filling::Spread, values.items()),
+        flat_model: are_of_model(facts, Filling::Flat, values.items()),
+        marks: marks_of(facts),
+        values,
+        areas,
+    }
+}
+
+/// What is made of these facts, of which this is known.
+pub fn prepare(alloc: Global, facts: &Facts, known: &MetricFacts) -> Result<Prepared, AllocError>
+    requires facts { IsTrue (list_all is_well_formed facts.now) }
+    requires few { length (terms_of_lits facts.now) ≤ 1100 }
+    requires known { AreFronts facts.now known.now }
+    ensures { IfOk result (IsPrepared facts.now) }
+{
+    let areas = areas_of(alloc, facts)?;
+    let told = known.absurd(alloc, facts)?;
+    Ok(with_values(facts, values_of(alloc, told), areas))
+}
