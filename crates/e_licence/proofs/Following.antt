@@ -10,31 +10,41 @@ use Rattle.e_literal.specs.WellFormed.{is_well_formed}
 use Rattle.e_literal.proofs.Booleans.{and_left, and_right}
 use Rattle.e_clause.specs.declared.cert.MetricCert.{MetricCert}
 use Rattle.e_clause.specs.declared.cert.Part.TheVariants.{Metric}
-use Rattle.e_clause.specs.declared.cert.Cert.TheVariants.{Plain}
+use Rattle.e_clause.specs.declared.cert.Cert.TheVariants.{Plain, Transfer}
+use Rattle.e_clause.specs.declared.cert.TransferCert.{TransferCert}
 use Rattle.e_clause.specs.Judged.{is_good, are_good_facts}
 use Rattle.e_clause.specs.Metric.{MetricConsequence}
 use Rattle.e_clause.specs.MetricCertificate.{sums_in, sums_refute, metric_certifies}
 use Rattle.e_clause.specs.Transfer.{Stands, NegationsStand, TransferConsequence}
+use Rattle.e_clause.specs.TransferCertificate.{transfer_certifies, transfer_in}
 use Rattle.e_clause.specs.Wide.{TransferFromFacts, IsPlain, IsTooWideLit}
 use Rattle.e_clause.proofs.Following.{metric_fact}
 use Rattle.e_metric.specs.Told.{IsCertified, IsTooWide}
 use Rattle.e_transfer.specs.declared.finding.Found.{Found}
 use Rattle.e_transfer.specs.declared.finding.Found.TheVariants.{Yes, No, TooWide}
 use Rattle.e_transfer.specs.Found.{IsFound, IsTooWideTransfer}
+use Rattle.e_licence.specs.Contexts.{Basis}
 use Rattle.e_licence.specs.Licences.{IsCertifiedBy}
 use Rattle.e_licence.proofs.Judging.{in_scope}
 
 -- ---- the literal follows
 
-pub by_sums : (s : Scope) (facts : List Lit) (l : Lit) (m : MetricCert) → are_good_facts s facts ≡ true → is_good s l ≡ true → has facts l ≡ false → is_metric l ≡ true
-    → IsCertified facts (Some l) m → IsCertifiedBy (record { scope = s; facts = facts }) l (Plain (Metric m))
-by_sums s facts l m g k n e h = record {
-  certifies = and_from (sums_in s m.sums) (metric_certifies facts l m)
-      (h.scoped s (in_scope s facts g) (and_left (all_in_scope s l) (is_well_formed l) k))
-      (and_from (is_metric l) (sums_refute facts (Some l) m.sums) e h.refutes);
+pub by_sums : (b : Basis) (l : Lit) (m : MetricCert) → are_good_facts b.scope b.facts ≡ true → is_good b.scope l ≡ true → has b.facts l ≡ false → is_metric l ≡ true
+    → IsCertified b.facts (Some l) m → IsCertifiedBy b l (Plain (Metric m))
+by_sums b l m g k n e h = record {
+  certifies = and_from (sums_in b.scope m.sums) (metric_certifies b.facts l m)
+      (h.scoped b.scope (in_scope b.scope b.facts g) (and_left (all_in_scope b.scope l) (is_well_formed l) k))
+      (and_from (is_metric l) (sums_refute b.facts (Some l) m.sums) e h.refutes);
   as_fact = λ f. absurd (true≢false (sym f ∙ n));
   written = h.written;
 }
+
+-- ---- a transfer gives it
+
+pub by_transfer : (b : Basis) (l : Lit) (t : TransferCert) (f : Found) → has b.facts l ≡ false → IsFound b.scope b.facts l f → f ≡ Yes t → IsCertifiedBy b l (Transfer t)
+by_transfer b l t f n g e =
+    let h : IsFound b.scope b.facts l (Yes t) = subst (IsFound b.scope b.facts l) e g in
+    record { certifies = and_from (transfer_in b.scope t) (transfer_certifies b.facts l t) h.0 h.1; as_fact = λ k. absurd (true≢false (sym k ∙ n)); written = h.2 }
 
 -- ---- what facts alone give by a transfer is a transfer consequence
 
@@ -82,3 +92,8 @@ pub wide_transfer : (s : Scope) (facts : List Lit) (l : Lit) (w : ℕ) (f : Foun
 wide_transfer s facts l w f n g e =
     let h : IsTooWideTransfer s facts l w = subst (IsFound s facts l) e g in
     record { not_plain = no_plain s facts l n h.not_plain; rows = h.rows; is_system = inr h.is_system; has_width = h.has_width }
+
+-- ---- what is told of the scope and the facts that a context hands out is told of the context
+
+pub found_at : (b : Basis) (s : Scope) (facts : List Lit) (l : Lit) (f : Found) → s ≡ b.scope → facts ≡ b.facts → IsFound s facts l f → IsFound b.scope b.facts l f
+found_at b s facts l f same are h = subst (λ fs. IsFound b.scope fs l f) are (subst (λ t. IsFound t facts l f) same h)

@@ -1,13 +1,16 @@
 -- What good facts are, part by part.
-use Rattle.std.proofs.Common.{◌≡◌, List, [], ◌∷◌, refl, ap, ◌∙◌, Bool, true, false, ◌&&◌}
+use Rattle.std.proofs.Common.{◌≡◌, ℕ, ◌≤◌, List, [], ◌∷◌, length, refl, ap, ◌∙◌, Bool, true, false, ◌&&◌, arith}
+use Rattle.std.specs.Prelude.{nat_le}
 use Rattle.std.specs.List.{list_all}
+use Rattle.std.proofs.lemmas.Bool.Decides.{nat_tests}
 use mathlib.Core.Bool.{and_assoc}
 use Rattle.e_literal.specs.declared.object.Scope.{Scope}
 use Rattle.e_literal.specs.declared.literal.Lit.{Lit}
 use Rattle.e_literal.specs.Literal.{all_in_scope}
 use Rattle.e_literal.specs.WellFormed.{is_well_formed}
-use Rattle.e_literal.proofs.Booleans.{and_left}
-use Rattle.e_clause.specs.Judged.{is_good, are_good, are_few, are_good_facts}
+use Rattle.e_literal.proofs.Booleans.{and_left, and_right}
+use Rattle.e_clause.specs.Assignment.{terms_of_lits}
+use Rattle.e_clause.specs.Judged.{is_good, are_good, are_few, most_terms, are_good_facts}
 use Rattle.e_transfer.proofs.Needing.{facts_well, facts_over}
 
 -- good facts are well formed
@@ -17,6 +20,13 @@ well_formed s facts h = facts_well s facts (and_left (are_good s facts) (are_few
 -- and in scope
 pub in_scope : (s : Scope) (facts : List Lit) → are_good_facts s facts ≡ true → list_all (all_in_scope s) facts ≡ true
 in_scope s facts h = facts_over s facts (and_left (are_good s facts) (are_few facts) h)
+
+-- and have few terms
+at_most : (n m : ℕ) → nat_le n m ≡ true → n ≤ m
+at_most n m h = grind (arith, nat_tests)
+
+pub few_terms : (s : Scope) (facts : List Lit) → are_good_facts s facts ≡ true → length (terms_of_lits facts) ≤ 1100
+few_terms s facts h = at_most (length (terms_of_lits facts)) most_terms (and_right (are_good s facts) (are_few facts) h)
 
 -- ---- all together
 

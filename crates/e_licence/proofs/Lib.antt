@@ -1,4 +1,7 @@
 pub mod Judging
+pub mod Fronts
+pub mod Holding
+pub mod Widening
 pub mod Following
 pub mod Clashing
 pub mod Choosing

@@ -1,4 +1,5 @@
 pub mod Contexts
+pub mod Holding
 pub mod Licences
 pub mod Clashes
 pub mod Filling

@@ -4,19 +4,23 @@ ghost use Rattle.std.specs.Prelude.{◌≡◌, ◌-◌, ◌<◌, ◌^◌, ◌==�
 ghost use Rattle.std.specs.List.{list_any};
 ghost use Rattle.e_literal.specs.Scopes.{nothing, next_objects as declared_objects};
 ghost use Rattle.e_literal.specs.Use.{is_statement};
+ghost use Rattle.e_metric.specs.Fronts.{AreFronts};
 ghost use Rattle.e_theorem.specs.Pattern.{is_pattern};
 ghost use Rattle.e_theorem.specs.Statements.{stated};
+ghost use Rattle.e_transfer.specs.Prepared.{IsPrepared};
 ghost use Rattle.e_licence.specs.Filling;
 ghost use Rattle.e_licence.specs.Filling.{IsKept, IsWanted, OneIs, AllIs, SomeIsWideAt};
 ghost use Rattle.e_licence.specs.Fills.{FilledIs};
 
 use crate::context::Context;
-use crate::licensing::{Licensed, licence};
+use crate::licensing::{Licensed, licence_by};
 use crate::limits::is_good;
 use e_literal::{Items, Lit, Map, Obj, Scope, count, next_objects, renamed};
+use e_metric::{Known, MetricFacts};
 use e_theorem::Statement;
-use e_transfer::{Outcome, Span, Task, Verdict, search};
+use e_transfer::{Outcome, Prepared, Span, Task, Verdict, prepare, search};
 use std::alloc::{AllocError, Global};
+use std::mem;
 
 /// What is answered on the blanks of an application.
 #[derive(Drop)]
@@ -34,9 +38,13 @@ pub enum Filled {
 #[derive(Drop)]
 struct Blanks<'a> {
     context: &'a Context,
+    known: &'a Known<'a>,
+    prepared: &'a Prepared,
     statement: &'a Statement,
     pattern: &'a [Option<Obj>],
     declared: Vec<Obj>,
+    ghost fronts: { known.now ≡ context.now.facts },
+    ghost prepares: { IsPrepared context.now.facts prepared.now },
     ghost declares: { declared.items ≡ declared_objects nothing statement.now.declared },
     ghost fits: { IsTrue (is_pattern (stated statement.now) context.now.scope pattern.now) },
 }
@@ -46,6 +54,8 @@ struct Blanks<'a> {
 ///
 /// The blanks are filled in declared order, the lowest number first, and a choice is given up at the first given literal
 /// that is not allowed, as soon as its objects are known. It fails only for want of memory.
+///
+/// Questions begin where the context has solved its facts: [`Context::solve`] before it is worth it.
 pub fn match_blanks(
     alloc: Global,
     context: &Context,
@@ -57,13 +67,65 @@ pub fn match_blanks(
     requires few { length statement.now.declared < 2 ^ 16 }
     ensures { IfOk result (FilledIs (stated statement.now) context.now pattern.now) }
 {
+    if let Some(known) = context.solved() {
+        return matched_with(alloc, context, known, statement, pattern);
+    }
+    context.good();
+    let facts = context.facts();
+    let known = MetricFacts::of(alloc, facts)?;
+    let filled = matched_with(alloc, context, &known, statement, pattern);
+    mem::drop(known);
+    filled
+}
+
+/// The same, by what is solved of the facts.
+fn matched_with(
+    alloc: Global,
+    context: &Context,
+    known: &MetricFacts,
+    statement: &Statement,
+    pattern: &[Option<Obj>],
+) -> Result<Filled, AllocError>
+    requires known { AreFronts context.now.facts known.now }
+    requires states { IsTrue (is_statement (stated statement.now)) }
+    requires fits { IsTrue (is_pattern (stated statement.now) context.now.scope pattern.now) }
+    requires few { length statement.now.declared < 2 ^ 16 }
+    ensures { IfOk result (FilledIs (stated statement.now) context.now pattern.now) }
+{
+    context.good();
+    let facts = context.facts();
+    let prepared = prepare(alloc, facts, known)?;
+    let filled = matched_by(alloc, context, known, &prepared, statement, pattern);
+    mem::drop(prepared);
+    filled
+}
+
+/// The same, by what is made of them once for all choices.
+fn matched_by(
+    alloc: Global,
+    context: &Context,
+    known: &MetricFacts,
+    prepared: &Prepared,
+    statement: &Statement,
+    pattern: &[Option<Obj>],
+) -> Result<Filled, AllocError>
+    requires known { AreFronts context.now.facts known.now }
+    requires prepared { IsPrepared context.now.facts prepared.now }
+    requires states { IsTrue (is_statement (stated statement.now)) }
+    requires fits { IsTrue (is_pattern (stated statement.now) context.now.scope pattern.now) }
+    requires few { length statement.now.declared < 2 ^ 16 }
+    ensures { IfOk result (FilledIs (stated statement.now) context.now pattern.now) }
+{
     let declared = next_objects(alloc, NOTHING, statement.declared.items())?;
     let spans = spans(alloc, context.scope(), &declared, pattern)?;
     if has_empty(&spans) {
         return Ok(Filled::None);
     }
+    let known = Known::new(context.facts(), known);
     let blanks = Blanks {
         context,
+        known: &known,
+        prepared,
         statement,
         pattern,
         declared,
@@ -191,7 +253,8 @@ impl<'a> Blanks<'a> {
         if !first && is_good(scope, &renamed(alloc, lit, earlier)?) {
             return Ok(Verdict::Keep(()));
         }
-        match licence(alloc, self.context, &image)? {
+        let known = self.known.told();
+        match licence_by(alloc, self.context, known, self.prepared, &image)? {
             Licensed::Yes(_) => Ok(Verdict::Keep(())),
             Licensed::No(_) => Ok(Verdict::Refuse),
             Licensed::TooWide(width) => Ok(Verdict::Stop(width)),

@@ -1,48 +1,66 @@
 //! What a step is judged by.
 
-ghost use Rattle.std.specs.Prelude.{◌≡◌, ◌≤◌, IsTrue, IfOk, OnOk, OnErr, length, take};
+ghost use Rattle.std.specs.Prelude.{◌≡◌, ◌<◌, [], ◌∷◌, ◌++◌, length, IsTrue, IfOk, IfErr, IfSome, OnOk, OnErr, option_copied};
 ghost use Rattle.e_literal.specs.Facts.{joined};
-ghost use Rattle.e_clause.specs.Judged.{are_good_facts};
+ghost use Rattle.e_clause.specs.Judged.{are_good_facts, is_good};
 ghost use Rattle.e_facts.specs.Adding.{AddedIs};
+ghost use Rattle.e_metric.specs.Fronts.{AreFronts};
+ghost use Rattle.e_licence.specs.Contexts.{IsReleased, IsWithin, state_of};
+ghost use Rattle.e_licence.specs.Licences.{IsLicence, IsRefuted};
 
+use crate::contradiction::{Refuted, by_arithmetic, clash};
+use crate::held::Held;
+use crate::licensing::{Licensed, licence_in_turn};
+use crate::solving::{copied, known_before};
+use e_clause::{Against, Cert, Part};
 use e_facts::{Added, Facts};
 use e_literal::{Lit, Scope};
-use std::alloc::AllocError;
+use e_metric::MetricFacts;
+use std::alloc::{AllocError, Global};
 use std::marker::Model;
+use std::mem;
 
-/// The objects in scope and the facts, which are in scope, well formed and not too many.
+/// The objects in scope and the facts, which are in scope, well formed and not too many; and the states that are held, each
+/// with the objects and the facts of its time, the last one last.
+///
+/// What is solved of the facts' magnitudes is kept beside them, and grows with them. Contracts see nothing of it.
 #[derive(Drop)]
 pub struct Context {
     scope: Scope,
     facts: Facts,
+    held: Vec<Held>,
+    // That of the first facts, or nothing.
+    solved: Option<MetricFacts>,
 }
 
 impl Model for Context {
-    ghost use Rattle.std.specs.Prelude.{IsTrue};
-    ghost use Rattle.e_clause.specs.Judged.{are_good_facts};
+    ghost use Rattle.std.specs.Prelude.{map};
     ghost use Rattle.e_licence.specs.Contexts.{Basis};
 
     ghost Value = { Basis };
 
-    ghost view = { λ c. record { scope = c.scope; facts = c.facts } };
+    ghost use Rattle.e_licence.specs.Holding.{held_in, IsContext};
 
-    ghost invariant = { λ c. IsTrue (are_good_facts c.scope c.facts) };
-}
+    ghost view = { λ c. record { scope = c.scope; facts = c.facts; held = map (held_in c.facts) c.held.items } };
 
-/// Where a block begins: the objects in scope, and how many facts there are.
-#[derive(Clone, Copy)]
-pub struct Mark {
-    pub scope: Scope,
-    pub facts: usize,
+    ghost invariant = { λ c. IsContext c.scope c.facts c.held.items c.solved };
 }
 
 impl Context {
-    /// These facts over this scope.
-    pub fn new(scope: Scope, facts: Facts) -> Context
+    /// These facts over this scope, with no state held.
+    ///
+    /// It fails only for want of memory, and then hands the facts back.
+    pub fn new(alloc: Global, scope: Scope, facts: Facts) -> Result<Context, (Facts, AllocError)>
         requires { IsTrue (are_good_facts scope facts) }
-        ensures { result ≡ record { scope = scope; facts = facts } }
+        ensures ok { IfOk result (λ c. c ≡ record { scope = scope; facts = facts; held = [] }) }
+        ensures err { IfErr result (λ e. e.0 ≡ facts) }
     {
-        Context { scope, facts }
+        Ok(Context {
+            scope,
+            facts,
+            held: Vec::new(alloc),
+            solved: None,
+        })
     }
 
     /// How many objects of each sort are in scope.
@@ -63,7 +81,8 @@ impl Context {
     pub fn into_facts(self) -> Facts
         ensures { result ≡ self.facts }
     {
-        self.facts
+        let Context { facts, .. } = self;
+        facts
     }
 
     /// The facts are in scope and well formed, and their terms are few.
@@ -71,6 +90,20 @@ impl Context {
         ensures { IsTrue (are_good_facts self.now.scope self.now.facts) }
     {
         let _ = &self.facts;
+    }
+
+    /// What is solved of the facts, if anything is.
+    pub(crate) fn solved(&self) -> Option<&MetricFacts>
+        ensures { IfSome (option_copied result) (AreFronts self.now.facts) }
+    {
+        self.solved.as_ref()
+    }
+
+    /// A copy of it, or nothing known.
+    pub(crate) fn known(&self, alloc: Global) -> Result<MetricFacts, AllocError>
+        ensures { IfOk result (AreFronts self.now.facts) }
+    {
+        copied(alloc, &self.solved)
     }
 
     /// The literal joins the facts, unless one the same is there.
@@ -85,31 +118,105 @@ impl Context {
         self.facts.add(lit)
     }
 
-    /// More objects come into scope: all facts stay in scope.
-    pub fn widen(&mut self, scope: Scope)
-        requires { IsTrue (are_good_facts scope self.old.facts) }
-        ensures { self.new ≡ record self.old { scope = scope } }
+    /// More objects come into scope.
+    ///
+    /// It fails only for want of memory, and then all is as before.
+    pub fn widen(&mut self, scope: Scope) -> Result<(), AllocError>
+        requires { IsWithin self.old.scope scope }
+        ensures ok { OnOk result (self.new ≡ record self.old { scope = scope }) }
+        ensures err { OnErr result (self.new ≡ self.old) }
     {
         self.scope = scope;
+        Ok(())
     }
 
-    /// What [`Context::back_to`] brings back.
-    pub fn mark(&self) -> Mark
-        ensures { result ≡ record { scope = self.now.scope; facts = length self.now.facts } }
+    /// The present state is held last.
+    ///
+    /// It fails only for want of memory, and then all is as before.
+    pub fn hold(&mut self) -> Result<(), AllocError>
+        ensures ok { OnOk result (self.new ≡ record self.old { held = self.old.held ++ state_of self.old ∷ [] }) }
+        ensures err { OnErr result (self.new ≡ self.old) }
     {
-        Mark {
+        let solved = self.solved.take();
+        let facts = self.facts.len();
+        let state = Held {
             scope: self.scope,
-            facts: self.facts.mark(),
+            facts,
+            solved,
+        };
+        if let Err(refused) = self.held.push(state) {
+            mem::drop(refused);
+            return Err(AllocError);
+        }
+        Ok(())
+    }
+
+    /// The last held state is the present one again, and is held no more: the objects and the facts that came after it are
+    /// gone. It takes no memory.
+    pub fn release(&mut self)
+        requires { 0 < length self.old.held }
+        ensures { IsReleased self.old self.new }
+    {
+        if let Some(last) = self.held.pop() {
+            let Held {
+                scope,
+                facts,
+                solved,
+            } = last;
+            self.facts.back_to(facts);
+            self.scope = scope;
+            mem::drop(mem::replace(&mut self.solved, solved));
         }
     }
 
-    /// A block ends: the objects and the facts that came after the mark are gone.
-    pub fn back_to(&mut self, mark: Mark)
-        requires few { mark.facts ≤ length self.old.facts }
-        requires good { IsTrue (are_good_facts mark.scope (take mark.facts self.old.facts)) }
-        ensures { self.new ≡ record { scope = mark.scope; facts = take mark.facts self.old.facts } }
+    /// What all the facts tell of magnitudes is solved, so that questions begin there.
+    ///
+    /// It fails only for want of memory. Contracts see nothing of it.
+    pub fn solve(&mut self, alloc: Global) -> Result<(), AllocError>
+        ensures { self.new ≡ self.old }
     {
-        self.facts.back_to(mark.facts);
-        self.scope = mark.scope;
+        let own = self.solved.take();
+        let mut known = known_before(alloc, own, &self.held)?;
+        let brought = known.bring_all(alloc, &self.facts);
+        mem::drop(mem::replace(&mut self.solved, Some(known)));
+        brought
+    }
+
+    /// Whether the literal is allowed, as [`licence`] answers. Each kind of magnitude is solved where it is first asked, and
+    /// what is solved is kept.
+    ///
+    /// [`licence`]: crate::licensing::licence
+    pub fn licence(&mut self, alloc: Global, lit: &Lit) -> Result<Licensed, AllocError>
+        requires { IsTrue (is_good self.old.scope lit.now) }
+        ensures licence { IfOk result (IsLicence self.old lit.now) }
+        ensures same { self.new ≡ self.old }
+    {
+        if self.facts.has(lit) {
+            return Ok(Licensed::Yes(Cert::Plain(Part::Fact)));
+        }
+        let own = self.solved.take();
+        let mut known = known_before(alloc, own, &self.held)?;
+        let licensed = licence_in_turn(alloc, self, &mut known, lit);
+        mem::drop(mem::replace(&mut self.solved, Some(known)));
+        licensed
+    }
+
+    /// Whether the facts contradict each other, as [`against`] answers. No more kinds of magnitude are solved than needed, and
+    /// what is solved is kept.
+    ///
+    /// [`against`]: crate::contradiction::against
+    pub fn against(&mut self, alloc: Global) -> Result<Refuted, AllocError>
+        ensures refuted { IfOk result (IsRefuted self.old) }
+        ensures same { self.new ≡ self.old }
+    {
+        self.good();
+        if let Some(lit) = clash(alloc, &self.facts)? {
+            return Ok(Refuted::Yes(Against::Clash { lit }));
+        }
+        let own = self.solved.take();
+        let mut known = known_before(alloc, own, &self.held)?;
+        let refuted = by_arithmetic(alloc, self, &mut known);
+        mem::drop(mem::replace(&mut self.solved, Some(known)));
+        refuted
     }
 }

@@ -1,8 +1,10 @@
 //! Whether the facts contradict each other.
 
-ghost use Rattle.std.specs.Prelude.{◌≡◌, IsTrue, IfOk, ◌&&◌, not, ◌<◌, length};
+ghost use Rattle.std.specs.Prelude.{◌≡◌, IsFalse, IfOk, ◌&&◌, not, ◌<◌, length};
 ghost use Rattle.e_literal.specs.Literal.{negation};
 ghost use Rattle.e_literal.specs.Facts.{has, is_metric};
+ghost use Rattle.e_clause.specs.Clash;
+ghost use Rattle.e_metric.specs.Fronts.{AreFronts};
 ghost use Rattle.e_licence.specs.Licences.{IsRefuted};
 ghost use Rattle.e_licence.specs.Clashes.{IsClashOf};
 
@@ -10,7 +12,7 @@ use crate::context::Context;
 use e_clause::Against;
 use e_facts::Facts;
 use e_literal::{Lit, Values, copy, kind, negate};
-use e_metric::{Metric, absurd};
+use e_metric::{Metric, MetricFacts};
 use std::alloc::{AllocError, Global};
 use std::mem;
 
@@ -31,19 +33,37 @@ pub fn against(alloc: Global, context: &Context) -> Result<Refuted, AllocError>
     ensures { IfOk result (IsRefuted context.now) }
 {
     context.good();
-    let facts = context.facts();
-    if let Some(lit) = clash(alloc, facts)? {
+    if let Some(lit) = clash(alloc, context.facts())? {
         return Ok(Refuted::Yes(Against::Clash { lit }));
     }
-    match absurd(alloc, facts)? {
+    let mut known = context.known(alloc)?;
+    let refuted = by_arithmetic(alloc, context, &mut known);
+    mem::drop(known);
+    refuted
+}
+
+/// The same, where no diagram literal and its negation are both facts: the kinds of magnitude are asked in turn.
+pub(crate) fn by_arithmetic(
+    alloc: Global,
+    context: &Context,
+    known: &mut MetricFacts,
+) -> Result<Refuted, AllocError>
+    requires no_clash { IsFalse (Clash.clash context.now.facts) }
+    requires known { AreFronts context.now.facts known.old }
+    ensures refuted { IfOk result (IsRefuted context.now) }
+    ensures known { AreFronts context.now.facts known.new }
+{
+    context.good();
+    let facts = context.facts();
+    match known.absurd_in_turn(alloc, facts)? {
         Metric::Yes(cert) => Ok(Refuted::Yes(Against::Metric(cert))),
         Metric::No(values) => Ok(Refuted::No(values)),
         Metric::TooWide(width) => Ok(Refuted::TooWide(width)),
     }
 }
 
-// The first diagram fact whose negation is a fact too.
-fn clash(alloc: Global, facts: &Facts) -> Result<Option<Lit>, AllocError>
+/// The first diagram fact whose negation is a fact too.
+pub(crate) fn clash(alloc: Global, facts: &Facts) -> Result<Option<Lit>, AllocError>
     ensures { IfOk result (IsClashOf facts.now) }
 {
     for i in 0..facts.len() {

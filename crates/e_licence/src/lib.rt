@@ -5,11 +5,13 @@
 pub mod blanks;
 pub mod context;
 pub mod contradiction;
+mod held;
 pub mod licensing;
 pub mod limits;
+mod solving;
 
 pub use blanks::{Filled, match_blanks};
-pub use context::{Context, Mark};
+pub use context::Context;
 pub use contradiction::{Refuted, against};
-pub use licensing::{Judge, Licensed, licence};
+pub use licensing::{Licensed, licence};
 pub use limits::{are_good_facts, is_good, is_statement};

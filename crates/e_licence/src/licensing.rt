@@ -1,22 +1,20 @@
 //! Whether a literal is allowed.
 
-ghost use Rattle.std.specs.Prelude.{◌≡◌, ◌≤◌, length, IsTrue, IsFalse, IfOk, IfSome, None};
-ghost use Rattle.std.specs.List.{list_all};
-ghost use Rattle.e_literal.specs.WellFormed.{is_well_formed};
-ghost use Rattle.e_clause.specs.Assignment.{terms_of_lits};
+ghost use Rattle.std.specs.Prelude.{IsTrue, IsFalse, IfOk, Some};
 ghost use Rattle.e_literal.specs.Facts.{has, is_metric};
-ghost use Rattle.e_clause.specs.Judged.{are_good_facts, is_good};
-ghost use Rattle.e_clause.specs.Wide.{TransferFromFacts};
+ghost use Rattle.e_clause.specs.Judged.{is_good};
+ghost use Rattle.e_clause.specs.Metric.{MetricConsequence};
+ghost use Rattle.e_metric.specs.Fronts.{AreFronts};
+ghost use Rattle.e_metric.specs.Told.{IsTold, IfNo};
+ghost use Rattle.e_transfer.specs.Prepared.{IsPrepared};
 ghost use Rattle.e_licence.specs.Licences.{IsLicence};
 
 use crate::context::Context;
 use e_clause::{Cert, Part};
-use e_facts::Facts;
-use e_literal::{Lit, Scope, Values, kind};
-use e_metric::{Known, Metric};
-use e_transfer::{Found, find, find_by_facts, find_by_sums};
+use e_literal::{Lit, Values, kind};
+use e_metric::{Metric, MetricFacts};
+use e_transfer::{Found, Prepared, find_by_facts, find_prepared, prepare};
 use std::alloc::{AllocError, Global};
-use std::marker::Model;
 use std::mem;
 
 /// What is answered on a literal.
@@ -31,177 +29,173 @@ pub enum Licensed {
     TooWide(u128),
 }
 
-/// Judges literals by one context. What the metric facts tell is asked once, where a literal first needs it.
-#[derive(Drop)]
-pub struct Judge<'a> {
-    context: &'a Context,
-    known: Option<Known<'a>>,
-}
-
-impl<'a> Model for Judge<'a> {
-    ghost use Rattle.std.specs.Prelude.{◌≡◌, IfSome};
-    ghost use Rattle.e_licence.specs.Contexts.{Basis};
-
-    ghost Value = { Basis };
-
-    ghost view = { λ j. j.context.now };
-
-    ghost invariant = { λ j. IfSome j.known (λ k. k ≡ j.context.now.facts) };
-}
-
-impl<'a> Judge<'a> {
-    /// A judge by this context.
-    pub fn new(context: &'a Context) -> Judge<'a>
-        ensures { result ≡ context.now }
-    {
-        Judge {
-            context,
-            known: None,
-        }
-    }
-
-    /// Whether the literal is allowed: as a fact; else, if it is metric, as a metric consequence of the facts; else as a
-    /// transfer consequence. It fails only for want of memory.
-    pub fn licence(&mut self, alloc: Global, lit: &Lit) -> Result<Licensed, AllocError>
-        requires { IsTrue (is_good self.old.scope lit.now) }
-        ensures licence { IfOk result (IsLicence self.old lit.now) }
-        ensures same { self.new ≡ self.old }
-    {
-        let context = self.context;
-        context.good();
-        let (scope, facts) = (context.scope(), context.facts());
-        if facts.has(lit) {
-            return Ok(Licensed::Yes(Cert::Plain(Part::Fact)));
-        }
-        match kind(lit) {
-            None => diagram(alloc, scope, facts, &mut self.known, lit),
-            Some(_) => metric(alloc, scope, facts, &mut self.known, lit),
-        }
-    }
-}
-
-/// Whether the literal is allowed, as [`Judge::licence`] answers: for one literal of a context.
+/// Whether the literal is allowed: as a fact; else, if it is metric, as a metric consequence of the facts; else as a
+/// transfer consequence. It fails only for want of memory.
+///
+/// Questions begin where the context has solved its facts. Where many literals are asked, [`Context::licence`] keeps what is
+/// solved for one of them.
 pub fn licence(alloc: Global, context: &Context, lit: &Lit) -> Result<Licensed, AllocError>
     requires { IsTrue (is_good context.now.scope lit.now) }
     ensures { IfOk result (IsLicence context.now lit.now) }
 {
-    let mut judge = Judge::new(context);
-    let licensed = judge.licence(alloc, lit);
-    mem::drop(judge);
+    if context.facts().has(lit) {
+        return Ok(Licensed::Yes(Cert::Plain(Part::Fact)));
+    }
+    let mut known = context.known(alloc)?;
+    let licensed = licence_in_turn(alloc, context, &mut known, lit);
+    mem::drop(known);
     licensed
 }
 
-// What is known of the facts, which is taken out, or asked where nothing is known yet.
-fn knowledge<'a>(
+/// The same of a literal that is no fact, where each kind of magnitude is solved only if it is asked: a metric literal that
+/// its own kind gives asks no other, and one that facts alone give by a transfer none besides.
+pub(crate) fn licence_in_turn(
     alloc: Global,
-    facts: &'a Facts,
-    known: &mut Option<Known<'a>>,
-) -> Result<Known<'a>, AllocError>
-    requires facts { IsTrue (list_all is_well_formed facts.now) }
-    requires few { length (terms_of_lits facts.now) ≤ 1100 }
-    requires known { IfSome known.old (λ k. k ≡ facts.now) }
-    ensures known { IfOk result (λ k. k ≡ facts.now) }
-    ensures taken { known.new ≡ None }
+    context: &Context,
+    known: &mut MetricFacts,
+    lit: &Lit,
+) -> Result<Licensed, AllocError>
+    requires known { AreFronts context.now.facts known.old }
+    requires lit { IsTrue (is_good context.now.scope lit.now) }
+    requires not_fact { IsFalse (has context.now.facts lit.now) }
+    ensures licence { IfOk result (IsLicence context.now lit.now) }
+    ensures known { AreFronts context.now.facts known.new }
 {
-    match known.take() {
-        Some(known) => Ok(known),
-        None => Known::of(alloc, facts),
+    context.good();
+    let facts = context.facts();
+    if kind(lit).is_none() {
+        return given_in_turn(alloc, context, known, lit);
+    }
+    match known.certificate_by_kind(alloc, facts, lit)? {
+        Some(cert) => Ok(Licensed::Yes(Cert::Plain(Part::Metric(cert)))),
+        None => given_in_turn(alloc, context, known, lit),
     }
 }
 
-// A diagram literal that is no fact.
-fn diagram<'a>(
+// The same, where the literal's own kind does not give it.
+fn given_in_turn(
     alloc: Global,
-    scope: Scope,
-    facts: &'a Facts,
-    known: &mut Option<Known<'a>>,
+    context: &Context,
+    known: &mut MetricFacts,
     lit: &Lit,
 ) -> Result<Licensed, AllocError>
-    requires facts { IsTrue (are_good_facts scope facts.now) }
-    requires known { IfSome known.old (λ k. k ≡ facts.now) }
-    requires lit { IsTrue (is_good scope lit.now) }
-    requires not_fact { IsFalse (has facts.now lit.now) }
-    requires diagram { IsFalse (is_metric lit.now) }
-    ensures licence { IfOk result (IsLicence (record { scope = scope; facts = facts.now }) lit.now) }
-    ensures known { IfSome known.new (λ k. k ≡ facts.now) }
+    requires known { AreFronts context.now.facts known.old }
+    requires lit { IsTrue (is_good context.now.scope lit.now) }
+    requires not_fact { IsFalse (has context.now.facts lit.now) }
+    ensures licence { IfOk result (IsLicence context.now lit.now) }
+    ensures known { AreFronts context.now.facts known.new }
 {
+    context.good();
+    let scope = context.scope();
+    let facts = context.facts();
     if let Some(cert) = find_by_facts(alloc, scope, facts, lit)? {
         return Ok(Licensed::Yes(Cert::Transfer(cert)));
     }
-    let knowledge = knowledge(alloc, facts, known)?;
-    let licensed = diagram_by(alloc, scope, facts, &knowledge, lit);
-    mem::drop(mem::replace(known, Some(knowledge)));
+    known.bring_all(alloc, facts)?;
+    let prepared = prepare(alloc, facts, known)?;
+    let licensed = by_sums(alloc, context, known, &prepared, lit);
+    mem::drop(prepared);
     licensed
 }
 
-// The same, where facts alone do not give it, by what is known of them.
-fn diagram_by(
+/// The same, where what is asked of magnitudes is solved already, so that it need not be for each of many literals.
+pub(crate) fn licence_by(
     alloc: Global,
-    scope: Scope,
-    facts: &Facts,
-    known: &Known,
+    context: &Context,
+    known: &MetricFacts,
+    prepared: &Prepared,
     lit: &Lit,
 ) -> Result<Licensed, AllocError>
-    requires facts { IsTrue (are_good_facts scope facts.now) }
-    requires known { known.now ≡ facts.now }
-    requires not_plain { ¬ TransferFromFacts scope facts.now lit.now }
-    requires not_fact { IsFalse (has facts.now lit.now) }
-    requires diagram { IsFalse (is_metric lit.now) }
-    ensures { IfOk result (IsLicence (record { scope = scope; facts = facts.now }) lit.now) }
+    requires known { AreFronts context.now.facts known.now }
+    requires prepared { IsPrepared context.now.facts prepared.now }
+    requires lit { IsTrue (is_good context.now.scope lit.now) }
+    ensures { IfOk result (IsLicence context.now lit.now) }
 {
-    match find_by_sums(alloc, scope, facts, known, lit)? {
+    let facts = context.facts();
+    if facts.has(lit) {
+        return Ok(Licensed::Yes(Cert::Plain(Part::Fact)));
+    }
+    by_sums(alloc, context, known, prepared, lit)
+}
+
+// The same of a literal that is no fact.
+fn by_sums(
+    alloc: Global,
+    context: &Context,
+    known: &MetricFacts,
+    prepared: &Prepared,
+    lit: &Lit,
+) -> Result<Licensed, AllocError>
+    requires known { AreFronts context.now.facts known.now }
+    requires prepared { IsPrepared context.now.facts prepared.now }
+    requires lit { IsTrue (is_good context.now.scope lit.now) }
+    requires not_fact { IsFalse (has context.now.facts lit.now) }
+    ensures { IfOk result (IsLicence context.now lit.now) }
+{
+    if kind(lit).is_none() {
+        return diagram(alloc, context, known, prepared, lit);
+    }
+    context.good();
+    let facts = context.facts();
+    let told = known.follows(alloc, facts, lit)?;
+    metric(alloc, context, known, prepared, lit, told)
+}
+
+// A diagram literal, the same.
+fn diagram(
+    alloc: Global,
+    context: &Context,
+    known: &MetricFacts,
+    prepared: &Prepared,
+    lit: &Lit,
+) -> Result<Licensed, AllocError>
+    requires known { AreFronts context.now.facts known.now }
+    requires prepared { IsPrepared context.now.facts prepared.now }
+    requires lit { IsTrue (is_good context.now.scope lit.now) }
+    requires not_fact { IsFalse (has context.now.facts lit.now) }
+    requires diagram { IsFalse (is_metric lit.now) }
+    ensures { IfOk result (IsLicence context.now lit.now) }
+{
+    context.good();
+    let scope = context.scope();
+    let facts = context.facts();
+    match find_prepared(alloc, scope, facts, known, prepared, lit)? {
         Found::Yes(cert) => Ok(Licensed::Yes(Cert::Transfer(cert))),
         Found::No => Ok(Licensed::No(None)),
         Found::TooWide(width) => Ok(Licensed::TooWide(width)),
     }
 }
 
-// A metric literal that is no fact.
-fn metric<'a>(
+// A metric literal, the same, where this is told of it.
+fn metric(
     alloc: Global,
-    scope: Scope,
-    facts: &'a Facts,
-    known: &mut Option<Known<'a>>,
+    context: &Context,
+    known: &MetricFacts,
+    prepared: &Prepared,
     lit: &Lit,
+    told: Metric,
 ) -> Result<Licensed, AllocError>
-    requires facts { IsTrue (are_good_facts scope facts.now) }
-    requires known { IfSome known.old (λ k. k ≡ facts.now) }
-    requires lit { IsTrue (is_good scope lit.now) }
-    requires not_fact { IsFalse (has facts.now lit.now) }
+    requires known { AreFronts context.now.facts known.now }
+    requires prepared { IsPrepared context.now.facts prepared.now }
+    requires told { IsTold context.now.facts (Some lit.now) told }
+    requires no { IfNo told (¬ MetricConsequence context.now.facts lit.now) }
+    requires lit { IsTrue (is_good context.now.scope lit.now) }
+    requires not_fact { IsFalse (has context.now.facts lit.now) }
     requires metric { IsTrue (is_metric lit.now) }
-    ensures licence { IfOk result (IsLicence (record { scope = scope; facts = facts.now }) lit.now) }
-    ensures known { IfSome known.new (λ k. k ≡ facts.now) }
+    ensures { IfOk result (IsLicence context.now lit.now) }
 {
-    let knowledge = knowledge(alloc, facts, known)?;
-    let licensed = metric_by(alloc, scope, facts, &knowledge, lit);
-    mem::drop(mem::replace(known, Some(knowledge)));
-    licensed
-}
-
-// The same, by what is known of the facts.
-fn metric_by(
-    alloc: Global,
-    scope: Scope,
-    facts: &Facts,
-    known: &Known,
-    lit: &Lit,
-) -> Result<Licensed, AllocError>
-    requires facts { IsTrue (are_good_facts scope facts.now) }
-    requires known { known.now ≡ facts.now }
-    requires lit { IsTrue (is_good scope lit.now) }
-    requires not_fact { IsFalse (has facts.now lit.now) }
-    requires metric { IsTrue (is_metric lit.now) }
-    ensures { IfOk result (IsLicence (record { scope = scope; facts = facts.now }) lit.now) }
-{
-    match known.follows(alloc, lit)? {
+    context.good();
+    let scope = context.scope();
+    let facts = context.facts();
+    match told {
         Metric::Yes(cert) => Ok(Licensed::Yes(Cert::Plain(Part::Metric(cert)))),
-        Metric::No(values) => match find(alloc, scope, facts, known, lit)? {
+        Metric::No(values) => match find_prepared(alloc, scope, facts, known, prepared, lit)? {
             Found::Yes(cert) => Ok(Licensed::Yes(Cert::Transfer(cert))),
             Found::No => Ok(Licensed::No(Some(values))),
             Found::TooWide(width) => Ok(Licensed::TooWide(width)),
         },
         // A transfer from facts alone allows it, whatever the sums are.
-        Metric::TooWide(width) => match find(alloc, scope, facts, known, lit)? {
+        Metric::TooWide(width) => match find_prepared(alloc, scope, facts, known, prepared, lit)? {
             Found::Yes(cert) => Ok(Licensed::Yes(Cert::Transfer(cert))),
             Found::No | Found::TooWide(_) => Ok(Licensed::TooWide(width)),
         },

@@ -1,17 +1,15 @@
 // Worked steps of arithmetic, whose answers were found by hand.
 
-ghost use Rattle.std.specs.Prelude.{◌≤◌, length, IsTrue};
-ghost use Rattle.std.specs.List.{list_all};
-ghost use Rattle.e_literal.specs.WellFormed.{is_well_formed};
-ghost use Rattle.e_clause.specs.Assignment.{terms_of_lits};
+ghost use Rattle.e_metric.specs.Fronts.{AreFronts};
 
 use crate::literals::{facts_of, lit, term};
 use e_clause::RowName;
 use e_facts::Facts;
 use e_fraction::{Row, RowKind};
-use e_literal::Kind;
-use e_metric::{Known, Metric, absurd, are_few_facts, follows, is_good_goal, system};
+use e_literal::{Kind, copy};
+use e_metric::{Metric, MetricFacts, absurd, are_few_facts, follows, is_good_goal, system};
 use std::alloc::{AllocError, Global};
+use std::mem;
 use std::process::Abort;
 use std::test::Fail;
 
@@ -23,6 +21,12 @@ fn word(told: &Metric) -> &'static str {
     }
 }
 
+fn said(told: Metric) -> &'static str {
+    let word = word(&told);
+    mem::drop(told);
+    word
+}
+
 fn told(
     rt: &impl Abort,
     alloc: Global,
@@ -31,31 +35,38 @@ fn told(
 ) -> Result<&'static str, AllocError> {
     assert!(rt; are_few_facts(facts));
     if goal.is_empty() {
-        return Ok(word(&absurd(alloc, facts)?));
+        return Ok(said(absurd(alloc, facts)?));
     }
     let goal = lit(alloc, goal)?;
     assert!(rt; is_good_goal(&goal));
-    Ok(word(&follows(alloc, facts, &goal)?))
+    let told = follows(alloc, facts, &goal);
+    mem::drop(goal);
+    Ok(said(told?))
 }
 
+// The same as `told`, from what the facts tell already.
 fn told_by(
     rt: &impl Abort,
     alloc: Global,
-    known: &Known,
+    known: &mut MetricFacts,
+    facts: &Facts,
     goal: &str,
 ) -> Result<&'static str, AllocError>
-    requires facts { IsTrue (list_all is_well_formed known.now) }
-    requires few { length (terms_of_lits known.now) ≤ 1100 }
+    requires { AreFronts facts.now known.old }
+    ensures { AreFronts facts.now known.new }
 {
+    assert!(rt; are_few_facts(facts));
     if goal.is_empty() {
-        return Ok(word(&known.absurd(alloc)?));
+        return Ok(said(known.absurd_in_turn(alloc, facts)?));
     }
     let goal = lit(alloc, goal)?;
     assert!(rt; is_good_goal(&goal));
-    Ok(word(&known.follows(alloc, &goal)?))
+    let told = known.follows_in_turn(alloc, facts, &goal);
+    mem::drop(goal);
+    Ok(said(told?))
 }
 
-// The same as `told`, from what is known of the facts.
+// The same as `told`, from all facts at once.
 fn told_by_known(
     rt: &impl Abort,
     alloc: Global,
@@ -63,8 +74,43 @@ fn told_by_known(
     goal: &str,
 ) -> Result<&'static str, AllocError> {
     assert!(rt; are_few_facts(facts));
-    let known = Known::of(alloc, facts)?;
-    told_by(rt, alloc, &known, goal)
+    let mut known = MetricFacts::of(alloc, facts)?;
+    let told = told_by(rt, alloc, &mut known, facts, goal);
+    mem::drop(known);
+    told
+}
+
+// The same as `told`, where these facts come behind the others, and the question is asked before each too.
+fn told_behind(
+    rt: &impl Abort,
+    alloc: Global,
+    known: &mut MetricFacts,
+    some: &mut Facts,
+    facts: &Facts,
+    goal: &str,
+) -> Result<&'static str, AllocError>
+    requires { AreFronts some.old known.old }
+{
+    for i in 0..facts.len() {
+        told_by(rt, alloc, known, some, goal)?;
+        some.add(copy(alloc, facts.get(i))?)?;
+    }
+    told_by(rt, alloc, known, some, goal)
+}
+
+// The same as `told`, where the question is asked before each fact too.
+fn told_in_turn(
+    rt: &impl Abort,
+    alloc: Global,
+    facts: &Facts,
+    goal: &str,
+) -> Result<&'static str, AllocError> {
+    let mut some = Facts::new(alloc);
+    let mut known = MetricFacts::new();
+    let told = told_behind(rt, alloc, &mut known, &mut some, facts, goal);
+    mem::drop(known);
+    mem::drop(some);
+    told
 }
 
 // Facts, a goal or none, and whether it follows, or whether the facts contradict each other.
@@ -104,6 +150,11 @@ fn what_follows(rt: HostRuntime) -> Result<(), Fail> {
             told_by_known(&rt, rt.alloc(), &facts, goal)?,
             wanted,
             "known: {line}"
+        );
+        assert_eq!(rt;
+            told_in_turn(&rt, rt.alloc(), &facts, goal)?,
+            wanted,
+            "fact by fact: {line}"
         );
     }
     Ok(())

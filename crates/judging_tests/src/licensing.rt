@@ -1,5 +1,9 @@
 // Worked steps, whose answers were found by hand.
 
+ghost use Rattle.std.specs.Prelude.{◌≡◌, ◌<◌, [], length, IsTrue, IfOk, OnOk};
+ghost use Rattle.e_clause.specs.Judged;
+ghost use Rattle.judging_tests.specs.Points;
+
 use crate::literals::{facts_of, lit};
 use e_clause::{Against, Cert, Part};
 use e_facts::{Added, Facts};
@@ -10,6 +14,7 @@ use e_licence::{
 use e_literal::{Atom, Items, Lit, Obj, Scope, Sort};
 use e_theorem::{Statement, is_pattern};
 use std::alloc::{AllocError, Global};
+use std::mem;
 use std::process::Abort;
 use std::test::Fail;
 
@@ -19,6 +24,19 @@ const SCOPE: Scope = Scope {
     circles: 0,
 };
 
+fn begun(alloc: Global, scope: Scope, facts: Facts) -> Result<Context, AllocError>
+    requires { IsTrue (Judged.are_good_facts scope facts) }
+    ensures { IfOk result (λ c. c ≡ record { scope = scope; facts = facts; held = [] }) }
+{
+    match Context::new(alloc, scope, facts) {
+        Ok(context) => Ok(context),
+        Err((facts, error)) => {
+            mem::drop(facts);
+            Err(error)
+        }
+    }
+}
+
 fn context(
     rt: &impl Abort,
     alloc: Global,
@@ -27,7 +45,7 @@ fn context(
 ) -> Result<Context, AllocError> {
     let facts = facts_of(alloc, text)?;
     assert!(rt; are_good_facts(scope, &facts));
-    Ok(Context::new(scope, facts))
+    begun(alloc, scope, facts)
 }
 
 fn word(licensed: &Licensed) -> &'static str {
@@ -41,16 +59,32 @@ fn word(licensed: &Licensed) -> &'static str {
     }
 }
 
+fn asked(
+    rt: &impl Abort,
+    alloc: Global,
+    context: &Context,
+    wanted: &str,
+) -> Result<&'static str, AllocError> {
+    let wanted = lit(alloc, wanted)?;
+    assert!(rt; is_good(context.scope(), &wanted));
+    let licensed = licence(alloc, context, &wanted);
+    mem::drop(wanted);
+    let licensed = licensed?;
+    let word = word(&licensed);
+    mem::drop(licensed);
+    Ok(word)
+}
+
 fn licensed(
     rt: &impl Abort,
     alloc: Global,
     facts: &str,
     wanted: &str,
 ) -> Result<&'static str, AllocError> {
-    let wanted = lit(alloc, wanted)?;
     let context = context(rt, alloc, SCOPE, facts)?;
-    assert!(rt; is_good(context.scope(), &wanted));
-    Ok(word(&licence(alloc, &context, &wanted)?))
+    let word = asked(rt, alloc, &context, wanted);
+    mem::drop(context);
+    word
 }
 
 fn part(row: &'static str, number: usize) -> &'static str {
@@ -106,7 +140,12 @@ fn word_against(refuted: &Refuted) -> &'static str {
 
 fn refuted(rt: &impl Abort, alloc: Global, facts: &str) -> Result<&'static str, AllocError> {
     let context = context(rt, alloc, SCOPE, facts)?;
-    Ok(word_against(&against(alloc, &context)?))
+    let refuted = against(alloc, &context);
+    mem::drop(context);
+    let refuted = refuted?;
+    let word = word_against(&refuted);
+    mem::drop(refuted);
+    Ok(word)
 }
 
 #[test]
@@ -118,21 +157,58 @@ fn what_contradicts(rt: HostRuntime) -> Result<(), Fail> {
     Ok(())
 }
 
+const ONE_POINT: Scope = Scope {
+    points: 1,
+    lines: 0,
+    circles: 0,
+};
+
+const TWO_POINTS: Scope = Scope {
+    points: 2,
+    lines: 0,
+    circles: 0,
+};
+
+fn equal_points() -> Lit
+    ensures { result ≡ Points.equal_points }
+{
+    Lit {
+        neg: false,
+        atom: Atom::EqP(0, 1),
+    }
+}
+
+// A state is held, a point comes into scope, and a literal is added twice: what is said of it each time.
+fn grow(context: &mut Context) -> Result<(Added, Added), AllocError>
+    requires scope { context.old.scope ≡ Points.one_point }
+    requires facts { context.old.facts ≡ [] }
+    ensures { OnOk result (0 < length context.new.held) }
+{
+    context.hold()?;
+    context.widen(TWO_POINTS)?;
+    let first = context.add(equal_points())?;
+    let second = context.add(equal_points())?;
+    Ok((first, second))
+}
+
 #[test]
 fn a_context_grows(rt: HostRuntime) -> Result<(), Fail> {
-    let mut context = Context::new(SCOPE, Facts::new(rt.alloc()));
-    let fact = Lit {
-        neg: false,
-        atom: Atom::Between(0, 1, 2),
-    };
-    assert_eq!(rt; context.add(fact)?, Added::Added);
-    let wider = Scope { points: 5, ..SCOPE };
-    assert!(rt; are_good_facts(wider, context.facts()));
-    context.widen(wider);
-    context.good();
-    assert_eq!(rt; context.scope().points, 5);
-    assert_eq!(rt; context.into_facts().len(), 1);
-    Ok(())
+    let mut context = begun(rt.alloc(), ONE_POINT, Facts::new(rt.alloc()))?;
+    match grow(&mut context) {
+        Ok((first, second)) => {
+            assert_eq!(rt; first, Added::Added);
+            assert_eq!(rt; second, Added::Present);
+            context.release();
+            context.good();
+            assert_eq!(rt; context.scope().points, 1);
+            assert_eq!(rt; context.into_facts().len(), 0);
+            Ok(())
+        }
+        Err(error) => {
+            mem::drop(context);
+            Err(error.into())
+        }
+    }
 }
 
 // The number of the points and of the lines in scope, the facts, the sorts of the declared objects, the given literals, the
@@ -231,6 +307,26 @@ fn matched(
     }
 }
 
+fn filled_in(
+    rt: &impl Abort,
+    alloc: Global,
+    context: &Context,
+    row: &'static str,
+) -> Result<String, AllocError> {
+    let pattern = entries(alloc, part(row, 4))?;
+    let statement = match statement(alloc, row) {
+        Ok(statement) => statement,
+        Err(error) => {
+            mem::drop(pattern);
+            return Err(error);
+        }
+    };
+    let filled = matched(rt, alloc, context, &statement, &pattern);
+    mem::drop(statement);
+    mem::drop(pattern);
+    filled
+}
+
 fn filled(rt: &impl Abort, alloc: Global, row: &'static str) -> Result<String, AllocError> {
     let (points, lines) = part(row, 0).split_once(' ').unwrap_or(("", ""));
     let scope = Scope {
@@ -238,10 +334,10 @@ fn filled(rt: &impl Abort, alloc: Global, row: &'static str) -> Result<String, A
         lines: lines.parse::<u16>().unwrap_or(0),
         circles: 0,
     };
-    let pattern = entries(alloc, part(row, 4))?;
-    let statement = statement(alloc, row)?;
     let context = context(rt, alloc, scope, part(row, 1))?;
-    matched(rt, alloc, &context, &statement, &pattern)
+    let filled = filled_in(rt, alloc, &context, row);
+    mem::drop(context);
+    filled
 }
 
 #[test]

@@ -66,3 +66,68 @@ fn further_rows(rt: HostRuntime) -> Result<(), Fail> {
     }
     Ok(())
 }
+
+// Settled rows, further rows that are settled behind them, a question, and what is answered of all.
+fn grown_questions() -> &'static str {
+    "\
+>a-b/>b-c/>a-c/holds
+>a-b/>b-c/>c-a/absurd
+=a-b/!a-c/=c-b/absurd
+=a-b/!a-c/=c-d !d-b/holds
+>a/>c-d >e-f >g-h >i-j >k-l >m-n >o-p >q-r/>r-q/absurd
+>a/>c-d >e-f >g-h >i-j >k-l >m-n >o-p >q-r/>q-r >s-t/holds
+>a-b/>b-a//absurd when settled
+=a-b/!a-b//absurd when settled"
+}
+
+fn grown_answer(
+    rt: &impl Abort,
+    alloc: Global,
+    settled: &Settled,
+    more: &[Row],
+    question: &[Row],
+) -> Result<&'static str, AllocError> {
+    assert!(rt; settled.rows().len() + more.len() <= 4096);
+    assert!(rt; have_small_coefficients(settled.rows()) && have_small_coefficients(more));
+    assert!(rt; have_short_forms(settled.rows()) && have_short_forms(more));
+    match settled.with(alloc, more)? {
+        Settling::Settled(grown) => verdict(rt, alloc, &grown, question),
+        Settling::Absurd(_) => Ok("absurd when settled"),
+        Settling::TooWide => Ok("too wide when settled"),
+    }
+}
+
+// The three lists of rows of a line, settled one behind the other and asked.
+fn answer_in_turn(
+    rt: &impl Abort,
+    alloc: Global,
+    first: &str,
+    more: &str,
+    question: &str,
+) -> Result<&'static str, AllocError> {
+    let question = rows(rt, alloc, question)?;
+    let more = rows(rt, alloc, more)?;
+    let first = rows(rt, alloc, first)?;
+    assert!(rt; first.len() <= 4096 && have_small_coefficients(&first) && have_short_forms(&first));
+    match settle(alloc, first)? {
+        Settling::Settled(settled) => grown_answer(rt, alloc, &settled, &more, &question),
+        Settling::Absurd(_) | Settling::TooWide => Ok("no solution of the first rows"),
+    }
+}
+
+#[test]
+fn rows_settled_behind(rt: HostRuntime) -> Result<(), Fail> {
+    for line in grown_questions().split('\n') {
+        let mut parts = line.split('/');
+        let first = parts.next().unwrap_or("");
+        let more = parts.next().unwrap_or("");
+        let question = parts.next().unwrap_or("");
+        let wanted = parts.next().unwrap_or("");
+        assert_eq!(rt;
+            answer_in_turn(&rt, rt.alloc(), first, more, question)?,
+            wanted,
+            "at {line}"
+        );
+    }
+    Ok(())
+}

@@ -4,9 +4,10 @@ use crate::literals::{facts_of, lit};
 use e_clause::{Rule, instance};
 use e_facts::Facts;
 use e_literal::{Lit, Obj, Scope, Sort, copy, negate};
-use e_metric::{Known, are_few_facts};
+use e_metric::are_few_facts;
 use e_transfer::{Found, are_good_facts, find, is_good_literal};
 use std::alloc::{AllocError, Global};
+use std::mem;
 use std::process::Abort;
 use std::test::Fail;
 
@@ -34,8 +35,10 @@ fn found(
     assert!(rt; are_few_facts(facts));
     assert!(rt; is_good_literal(SCOPE, goal));
     assert!(rt; !facts.has(goal));
-    let known = Known::of(alloc, facts)?;
-    Ok(word(&find(alloc, SCOPE, facts, &known, goal)?))
+    let found = find(alloc, SCOPE, facts, goal)?;
+    let word = word(&found);
+    mem::drop(found);
+    Ok(word)
 }
 
 // Objects for a rule's variables, each another one of its sort.
@@ -84,7 +87,9 @@ fn found_from_others(
 ) -> Result<&'static str, AllocError> {
     assert!(rt; place < lits.len());
     let facts = others(alloc, lits, place, left_out)?;
-    found(rt, alloc, &facts, &lits[place])
+    let found = found(rt, alloc, &facts, &lits[place]);
+    mem::drop(facts);
+    found
 }
 
 #[test]
@@ -112,14 +117,38 @@ fn each_literal_of_a_clause_is_found_from_all_others(rt: HostRuntime) -> Result<
 const WIDE: &str = "aL bL !a=b !a=c \
     1000000*bac=999983*bad 1000000*bad=999983*bae 1000000*bae=999983*baf 1000000*baf=999983*bag";
 
-#[test]
-fn what_is_too_wide_does_not_hide_what_is_found(rt: HostRuntime) -> Result<(), Fail> {
-    let alloc = rt.alloc();
-    let goal = lit(alloc, "cL")?;
-    let mut facts = facts_of(alloc, WIDE)?;
-    assert_eq!(rt; found(&rt, alloc, &facts, &goal)?, "too wide");
+// Whether the goal is found, and whether it is found from two more facts.
+fn found_twice(
+    rt: &impl Abort,
+    alloc: Global,
+    facts: &mut Facts,
+    goal: &Lit,
+) -> Result<(&'static str, &'static str), AllocError> {
+    let before = found(rt, alloc, facts, goal)?;
     facts.add(lit(alloc, "^abc=^abd")?)?;
     facts.add(lit(alloc, "^abd=0")?)?;
-    assert_eq!(rt; found(&rt, alloc, &facts, &goal)?, "yes");
+    let behind = found(rt, alloc, facts, goal)?;
+    Ok((before, behind))
+}
+
+fn found_beside_wide(
+    rt: &impl Abort,
+    alloc: Global,
+    goal: &Lit,
+) -> Result<(&'static str, &'static str), AllocError> {
+    let mut facts = facts_of(alloc, WIDE)?;
+    let found = found_twice(rt, alloc, &mut facts, goal);
+    mem::drop(facts);
+    found
+}
+
+#[test]
+fn what_is_too_wide_does_not_hide_what_is_found(rt: HostRuntime) -> Result<(), Fail> {
+    let goal = lit(rt.alloc(), "cL")?;
+    let found = found_beside_wide(&rt, rt.alloc(), &goal);
+    mem::drop(goal);
+    let (before, behind) = found?;
+    assert_eq!(rt; before, "too wide");
+    assert_eq!(rt; behind, "yes");
     Ok(())
 }

@@ -1,0 +1,5 @@
+use Rattle.e_metric.specs.Fronts.{AreFronts}
+use Rattle.judging_tests.proofs.following.told_behind.Given as goal
+
+abbrev pub invariant-loop-i : goal.invariant-loop-i
+invariant-loop-i g l = AreFronts l.some l.known
