@@ -7,7 +7,7 @@ use Rattle.e_literal.specs.declared.object.Sort.{Sort}
 use Rattle.e_literal.specs.declared.object.Obj.{Obj}
 use Rattle.e_literal.specs.declared.object.Scope.{Scope}
 use Rattle.e_literal.specs.Literal.{is_in_scope}
-use Rattle.e_literal.specs.Scopes.{same_sort, are_of_sorts, nothing}
+use Rattle.e_literal.specs.Scopes.{same_sort, are_of_sorts}
 use Rattle.e_literal.specs.Rename.{same_obj}
 use Rattle.e_literal.specs.Use.{Stated, are_arguments, needs_of_use, gives_of_use}
 use Rattle.e_literal.proofs.Sorts.{same_obj_self}
@@ -37,7 +37,6 @@ use Rattle.e_prove.specs.Contexts.{after_apply}
 use Rattle.e_prove.specs.Halts.{HaltsIn, HaltsFilling, HaltsApplying, as_match}
 use Rattle.e_prove.specs.Judging.{IsJudged, StepHalts}
 use Rattle.e_prove.specs.Applying.{CanApply, IsUse}
-use Rattle.e_deriv.proofs.Keeping.{stay_all}
 use Rattle.e_deriv.specs.Written.{has_good_certs}
 use Rattle.e_deriv.proofs.Smallness.{few_of_small, few_objects}
 
@@ -131,7 +130,7 @@ judged_by_choice before theorem pattern entries names old certs x h =
       next = λ rest more goal. refl;
       derived_next = λ more goal. refl;
       named = λ rest. refl;
-      kept = stay_all x.context.facts (gives_of_use t args s);
+      kept = refl;
     }
 
 filled_of_use : (t : Stated) (pattern : List (Option Obj)) (x : Basis) (u : Use) → IsUse t pattern x u → Filled t pattern (filled_in u.args) x u.certs.items
@@ -198,13 +197,10 @@ pub apply_halts : (before : List Stated) (theorem : ℕ) (pattern : List (Option
 apply_halts before theorem pattern names old t x h e k =
     halts_by before theorem pattern names old x h (has_no_blank pattern) refl (subst (λ w. HaltsApplying w x.context pattern h) (sym e) k)
 
--- without blanks, and with them, what halts there halts at the application
+-- without blanks what halts there halts at the application
 pub halts_without : (t : Stated) (x : Basis) (pattern : List (Option Obj)) (args : List Obj) (h : Halt) → has_no_blank pattern ≡ true → args ≡ written pattern → HaltsIn x (needs_of_use t args x.scope) h → HaltsApplying t x pattern h
 halts_without t x pattern args h n is k =
     subst (λ b. MatchBool b (HaltsIn x (needs_of_use t (written pattern) x.scope) h) (HaltsFilling t x pattern h)) (sym n) (subst (λ os. HaltsIn x (needs_of_use t os x.scope) h) is k)
-
-pub halts_with : (t : Stated) (x : Basis) (pattern : List (Option Obj)) (h : Halt) → has_no_blank pattern ≡ false → HaltsFilling t x pattern h → HaltsApplying t x pattern h
-halts_with t x pattern h n k = subst (λ b. MatchBool b (HaltsIn x (needs_of_use t (written pattern) x.scope) h) (HaltsFilling t x pattern h)) (sym n) k
 
 -- at the least good choice no given literal is refused, and one that is too wide is a match that is
 match_halts : (t : Stated) (x : Basis) (pattern : List (Option Obj)) (args : List Obj) (h : Halt) → IsLeast t x.scope x.facts pattern args → HaltsIn x (needs_of_use t args x.scope) h → HaltsFilling t x pattern (as_match h)

@@ -1,16 +1,14 @@
 -- Blocks whose lines are judged one after another, and what the code says of them.
-use Rattle.std.proofs.Common.{◌≡◌, ℕ, ◌+◌, ◌≤◌, ◌<◌, ◌^◌, List, [], ◌∷◌, ◌++◌, length, drop, get_or, refl, sym, ap, ◌∙◌, subst, true, Option, Result, Ok, Err, arith, Box, Global}
+use Rattle.std.proofs.Common.{◌≡◌, ℕ, ◌+◌, ◌≤◌, ◌<◌, ◌^◌, List, [], ◌∷◌, ◌++◌, length, drop, get_or, refl, sym, ap, ◌∙◌, subst, Option, Result, Ok, Err, arith, Box, Global}
 use Rattle.std.proofs.lemmas.Grind.{common_steps}
 use Rattle.std.specs.Prelude.{IfOk, OnOk, take}
 use Rattle.e_literal.specs.declared.literal.Lit.{Lit}
 use Rattle.e_literal.specs.declared.object.Obj.{Obj}
 use Rattle.e_literal.specs.Literal.{negation}
 use Rattle.e_literal.specs.Use.{Stated}
-use Rattle.e_literal.specs.Facts.{joined_all}
 use Rattle.e_clause.specs.declared.cert.By.{By}
 use Rattle.e_clause.specs.declared.cert.Cert.{Cert}
 use Rattle.e_clause.specs.declared.cert.Against.{Against}
-use Rattle.e_clause.specs.Judged.{are_good_facts}
 use Rattle.e_construct.specs.declared.construction.Construction.{Construction}
 use Rattle.e_construct.specs.declared.superpose.Superpose.{Superpose}
 use Rattle.e_construct.specs.Superposing as superposing
@@ -25,15 +23,15 @@ use Rattle.e_deriv.specs.Goal.{Goal, goal_of}
 use Rattle.e_deriv.proofs.Scripts.{steps_at, steps_script-append, step_script-Claim, step_script-Superposed, close_script-Cases}
 use Rattle.e_prove.specs.declared.halt.Halt.{Halt}
 use Rattle.e_prove.specs.declared.standing.Standing.{Standing}
-use Rattle.e_prove.specs.declared.standing.Outer.{Outer}
+use Rattle.e_deriv.specs.declared.names.Names.{Names}
 use Rattle.e_prove.specs.declared.block.ProvedBlock.{ProvedBlock}
 use Rattle.e_prove.specs.declared.block.ProvedStep.{ProvedStep}
 use Rattle.e_prove.specs.declared.block.ProvedClose.{ProvedClose}
-use Rattle.e_prove.specs.Contexts.{after_literal, after_superposed, after_block, after_inner, left_for, outer_of}
+use Rattle.e_prove.specs.Contexts.{after_literal, after_superposed, held_at, IsLeftWith}
 use Rattle.e_prove.specs.Halts.{HaltsIn, UnlessNoMemory, StopOf}
-use Rattle.e_prove.specs.Passing.{IsReadyFor, IsReadyStep, IsDerived, KeepsFacts, StopsWithin, IsPassed, StepStops}
-use Rattle.e_deriv.proofs.Keeping.{stay_on, stay_joined, stay_all, all_stay, no_fewer}
-use Rattle.e_prove.proofs.Passing.{passed_none, passed_more, passed_as, stops_first, names_kept}
+use Rattle.e_prove.specs.Passing.{IsReadyFor, IsReadyStep, IsDerived, KeepsHeld, StopsWithin, IsPassed, StepStops}
+use Rattle.e_prove.proofs.Holding.{behind_is}
+use Rattle.e_prove.proofs.Passing.{passed_none, passed_more, passed_as, stops_first, same_names}
 use Rattle.e_prove.proofs.Inside.{ClaimReady, claim_stops, passed_claim, SuperposedReady, Certifies, superposed_stops, passed_superposed, superposed_halts, SplitReady, split_ready, split_other, split_derives, split_first, split_second}
 use Rattle.e_book.proofs.KeptBlocks.{size_split}
 
@@ -63,7 +61,7 @@ whole items seen i s d same lt is = ap (steps_script (take i items)) (sym (steps
 pub passed_start : (before : List Stated) (items new : List Step) (x : Standing) (n : ℕ) → new ≡ [] → IsPassed before (steps_script (take 0 items)) x n (steps_script new) x n
 passed_start before items new x n e =
     passed_as before (λ d. d) (λ d. d) (steps_script (take 0 items)) (steps_script new) x x n n (λ d. refl) (λ d. ap (λ xs. steps_script xs d) (sym e))
-    (passed_none before x n (all_stay x.context.facts))
+    (passed_none before x n refl)
 
 pub step_ready : (before : List Stated) (items seen done : List Step) (close : Script) (i : ℕ) (s : Step) (x y : Standing) (goal : Goal) (first n : ℕ) → seen ≡ items → i < length seen → s ≡ get_or seen i s →
     IsPassed before (steps_script (take i items)) x first (steps_script done) y n → IsReadyFor before (steps_script items close) x goal → first + size (steps_script items close) < 2 ^ 32 → IsReadyStep before s y n
@@ -93,7 +91,7 @@ pub step_passed : (before : List Stated) (items seen done grown : List Step) (i 
 step_passed before items seen done grown i s d x y z first n m same lt is more p q =
     passed_as before (λ w. steps_script (take i items) (step_script s w)) (λ w. steps_script done (step_script d w)) (steps_script (take (i + 1) items)) (steps_script grown) x z first m
     (λ w. front items seen i s w same lt is) (λ w. sym (steps_script-append done (d ∷ []) w) ∙ ap (λ xs. steps_script xs w) (sym more))
-    (passed_more before (steps_script (take i items)) (steps_script done) (step_script s) (step_script d) x y z first n m (stay_on x.context.facts y.context.facts z.context.facts p.kept q.kept) p q)
+    (passed_more before (steps_script (take i items)) (steps_script done) (step_script s) (step_script d) x y z first n m (q.kept ∙ p.kept) p q)
 
 -- ---- the close of a block
 
@@ -125,49 +123,20 @@ close_stops before items seen done close i x y goal first n t same le p r k =
     let e = all_taken items seen i close same le in
     subst (λ w. StopsWithin before w x goal first t) e (p.stops close goal t (subst (λ w. IsReadyFor before w x goal) (sym e) r) k)
 
-pub kept_on : (x y z : Standing) → KeepsFacts x y → KeepsFacts y z → KeepsFacts x z
-kept_on x y z h k = stay_on x.context.facts y.context.facts z.context.facts h k
+pub kept_on : (x y z : Standing) → KeepsHeld x y → KeepsHeld y z → KeepsHeld x z
+kept_on x y z h k = k ∙ h
 
 -- ---- blocks that are left
 
-pub kept_literal : (lit : Lit) (x y z : Standing) → y ≡ after_literal lit x → KeepsFacts y z → KeepsFacts x z
-kept_literal lit x y z e k = kept_on x y z (subst (λ w. KeepsFacts x w) (sym e) (stay_joined x.context.facts lit)) k
-
-pub kept_superposed : (form : Superpose) (names : List (List ℕ)) (x y z : Standing) → y ≡ after_superposed form names x → KeepsFacts y z → KeepsFacts x z
-kept_superposed form names x y z e k = kept_on x y z (subst (λ w. KeepsFacts x w) (sym e) (stay_all x.context.facts (superposing.gives form x.context.scope))) k
-
-pub few_left : (o : Outer) (x z : Standing) → o ≡ outer_of x → KeepsFacts x z → o.mark.facts ≤ length z.context.facts
-few_left o x z e k = subst (λ m. m.mark.facts ≤ length z.context.facts) (sym e) (no_fewer x.context.facts z.context.facts k)
-
-pub good_left_for : (o : Outer) (x z : Standing) → o ≡ outer_of x → KeepsFacts x z → are_good_facts x.context.scope x.context.facts ≡ true →
-    are_good_facts o.mark.scope (take o.mark.facts z.context.facts) ≡ true
-good_left_for o x z e k h =
-    subst (λ m. are_good_facts m.mark.scope (take m.mark.facts z.context.facts) ≡ true) (sym e) (subst (λ fs. are_good_facts x.context.scope fs ≡ true) (sym k) h)
-
-pub good_behind : (o : Outer) (x z : Standing) (shown seen : List Lit) → o ≡ outer_of x → KeepsFacts x z → seen ≡ shown → are_good_facts x.context.scope (joined_all x.context.facts shown) ≡ true →
-    are_good_facts o.mark.scope (joined_all (take o.mark.facts z.context.facts) seen) ≡ true
-good_behind o x z shown seen e k same h =
-    subst (λ m. are_good_facts m.mark.scope (joined_all (take m.mark.facts z.context.facts) seen) ≡ true) (sym e)
-    (subst (λ fs. are_good_facts x.context.scope (joined_all fs seen) ≡ true) (sym k) (subst (λ ls. are_good_facts x.context.scope (joined_all x.context.facts ls) ≡ true) (sym same) h))
-
-with_facts : (x : Standing) (fs : List Lit) → fs ≡ x.context.facts → (record { context = record { scope = x.context.scope; facts = fs }; names = x.names }) ≡ x
-with_facts x fs e = ap (λ gs. record { context = record { scope = x.context.scope; facts = gs }; names = x.names }) e
-
-pub left_is : (o : Outer) (x z w : Standing) → o ≡ outer_of x → KeepsFacts x z → w ≡ left_for o z → w ≡ x
-left_is o x z w e k is = is ∙ ap (λ m. left_for m z) e ∙ with_facts x (take (length x.context.facts) z.context.facts) k
-
-pub behind_is : (o : Outer) (x z w : Standing) (shown seen : List Lit) → o ≡ outer_of x → KeepsFacts x z → seen ≡ shown → w ≡ after_inner o seen z → w ≡ after_block shown x
-behind_is o x z w shown seen e k same is =
-    is ∙ ap (λ m. after_inner m seen z) e
-    ∙ ap (λ fs. record { context = record { scope = x.context.scope; facts = joined_all fs seen }; names = x.names }) k
-    ∙ ap (λ ls. after_block ls x) same
+pub kept_literal : (lit : Lit) (x y z : Standing) → y ≡ after_literal lit x → KeepsHeld y z → KeepsHeld x z
+kept_literal lit x y z e k = k ∙ ap (λ w. w.context.held) e
 
 -- ---- a claim
 
-pub claim_passed : (before : List Stated) (step : Step) (shown seen : List Lit) (inner : Box Block Global) (x z after : Standing) (n : ℕ) (o : Outer) (proved : ProvedBlock) (r : Result ProvedStep Stop) →
+pub claim_passed : (before : List Stated) (step : Step) (shown seen : List Lit) (inner : Box Block Global) (x z after : Standing) (n : ℕ) (o : Names) (proved : ProvedBlock) (r : Result ProvedStep Stop) →
     step ≡ ClaimStep shown inner → seen ≡ shown → ClaimReady before shown (script_of inner.value) x → IsDerived before (script_of inner.value) x (goal_of shown) (script_of proved.block) →
-    proved.next ≡ n + 1 + size (script_of inner.value) → o ≡ outer_of x → KeepsFacts x z → IfOk r (λ p. (rest : Script) → step_script p.step rest ≡ Claim seen (script_of proved.block) rest) →
-    IfOk r (λ p. p.next ≡ proved.next) → OnOk r (after ≡ after_inner o seen z) → IfOk r (λ p. IsPassed before (step_script step) x n (step_script p.step) after p.next)
+    proved.next ≡ n + 1 + size (script_of inner.value) → o ≡ x.names → KeepsHeld (held_at x) z → IfOk r (λ p. (rest : Script) → step_script p.step rest ≡ Claim seen (script_of proved.block) rest) →
+    IfOk r (λ p. p.next ≡ proved.next) → OnOk r (IsLeftWith o seen z after) → IfOk r (λ p. IsPassed before (step_script step) x n (step_script p.step) after p.next)
 claim_passed before step shown seen inner x z after n o proved (Err t) is same ready d count e k a b c = tt
 claim_passed before step shown seen inner x z after n o proved (Ok p) is same ready d count e k a b c =
     let S = script_of inner.value in
@@ -186,10 +155,10 @@ claim_stopped before step shown inner x n t is ready k rest goal r =
 
 -- ---- a superposition
 
-pub superposed_passed : (before : List Stated) (step : Step) (form : Superpose) (names named : List (List ℕ)) (shown seen : List Lit) (written certs : List Cert) (inner : Box Block Global) (x z after : Standing) (n : ℕ) (o : Outer) (proved : ProvedBlock)
+pub superposed_passed : (before : List Stated) (step : Step) (form : Superpose) (names named : List (List ℕ)) (shown seen : List Lit) (written certs : List Cert) (inner : Box Block Global) (x z after : Standing) (n : ℕ) (o : Names) (proved : ProvedBlock)
     (r : Result ProvedStep Stop) → step ≡ SuperposedStep form names shown written inner → named ≡ names → seen ≡ shown → SuperposedReady before form names shown (script_of inner.value) x → Certifies form x certs →
-    IsDerived before (script_of inner.value) (after_superposed form names x) (goal_of shown) (script_of proved.block) → proved.next ≡ n + 1 + size (script_of inner.value) → o ≡ outer_of x → KeepsFacts x z →
-    IfOk r (λ p. (rest : Script) → step_script p.step rest ≡ Superposed form named seen certs (script_of proved.block) rest) → IfOk r (λ p. p.next ≡ proved.next) → OnOk r (after ≡ after_inner o seen z) →
+    IsDerived before (script_of inner.value) (after_superposed form names x) (goal_of shown) (script_of proved.block) → proved.next ≡ n + 1 + size (script_of inner.value) → o ≡ x.names → KeepsHeld (held_at x) z →
+    IfOk r (λ p. (rest : Script) → step_script p.step rest ≡ Superposed form named seen certs (script_of proved.block) rest) → IfOk r (λ p. p.next ≡ proved.next) → OnOk r (IsLeftWith o seen z after) →
     IfOk r (λ p. IsPassed before (step_script step) x n (step_script p.step) after p.next)
 superposed_passed before step form names named shown seen written certs inner x z after n o proved (Err t) is given same ready cs d count e k a b c = tt
 superposed_passed before step form names named shown seen written certs inner x z after n o proved (Ok p) is given same ready cs d count e k a b c =
@@ -210,10 +179,10 @@ superposed_stopped before step form names shown written certs inner x n t is rea
     (superposed_stops before form names shown written certs (script_of inner.value) rest x goal n t ready.fits ready.over cs k)
 
 pub superposed_refused : (before : List Stated) (step : Step) (form : Superpose) (names : List (List ℕ)) (shown : List Lit) (written : List Cert) (inner : Box Block Global) (x after : Standing) (n : ℕ) (h : Halt) (t : Stop) →
-    step ≡ SuperposedStep form names shown written inner → HaltsIn x.context (superposing.needs form) h → UnlessNoMemory (after ≡ x) h → StopOf h n after.names t → StepStops before step x n t
+    step ≡ SuperposedStep form names shown written inner → HaltsIn x.context (superposing.needs form) h → UnlessNoMemory (after.names ≡ x.names) h → StopOf h n after.names t → StepStops before step x n t
 superposed_refused before step form names shown written inner x after n h t is k m e rest goal r =
     subst (λ w. StopsWithin before w x goal n t) (sym (ap (λ s. step_script s rest) is ∙ step_script-Superposed form names shown written inner rest))
-    (stops_first before (Superposed form names shown written (script_of inner.value) rest) x goal n h t (superposed_halts before form names shown written (script_of inner.value) rest (Superposed form names shown written (script_of inner.value) rest) x goal h k) (names_kept h n x after t m e))
+    (stops_first before (Superposed form names shown written (script_of inner.value) rest) x goal n h t (superposed_halts before form names shown written (script_of inner.value) rest (Superposed form names shown written (script_of inner.value) rest) x goal h k) (same_names h n x after t m e))
 
 -- ---- a split
 

@@ -15,15 +15,18 @@ use Rattle.e_literal.specs.declared.object.Obj.{Obj}
 use Rattle.e_literal.specs.Scopes.{grown}
 use Rattle.e_literal.specs.Use.{Stated, gives_of_use}
 use Rattle.e_literal.proofs.Booleans.{and_left, and_right}
+use Rattle.e_literal.proofs.Growing.{grown_bounds}
 use Rattle.e_clause.specs.Assignment.{terms_of_atom, terms_of_lits}
 use Rattle.e_clause.specs.Judged.{is_good, are_good, are_few, most_terms, are_good_facts}
 use Rattle.e_construct.specs.declared.construction.Construction.{Construction}
 use Rattle.e_construct.specs.Construct.{made, gives}
+use Rattle.e_construct.specs.declared.superpose.Superpose.{Superpose}
+use Rattle.e_construct.specs.Superposing as superposing
 use Rattle.e_deriv.specs.declared.names.Names.{Names}
 use Rattle.e_deriv.specs.Naming.{named}
-use Rattle.e_licence.specs.Contexts.{Basis}
+use Rattle.e_licence.specs.Contexts.{Basis, IsWithin}
 use Rattle.e_prove.specs.declared.standing.Standing.{Standing}
-use Rattle.e_prove.specs.Contexts.{after_make, after_apply}
+use Rattle.e_prove.specs.Contexts.{after_make, after_apply, after_superposed}
 
 none_named : (ns : Names) (sorts : List Sort) (new : List (List ℕ)) → min (length sorts) (length new) ≡ 0 → named ns sorts new ≡ ns
 none_named ns [] new h = refl
@@ -43,10 +46,34 @@ pub made_after : (form : Construction) (names : List (List ℕ)) (x mid after : 
     after ≡ record mid { context = record mid.context { facts = joined_all mid.context.facts given } } → after ≡ after_make form names x
 made_after form names x mid after sorts given a b c d e = rw (e, c, d, b, a) refl
 
+pub superposed_after : (form : Superpose) (names : List (List ℕ)) (x mid after : Standing) (sorts : List Sort) (given : List Lit) → sorts ≡ superposing.made →
+    given ≡ superposing.gives form x.context.scope → mid.context ≡ record x.context { scope = grown x.context.scope sorts } → mid.names ≡ named x.names sorts names →
+    after ≡ record mid { context = record mid.context { facts = joined_all mid.context.facts given } } → after ≡ after_superposed form names x
+superposed_after form names x mid after sorts given a b c d e = rw (e, c, d, b, a) refl
+
 pub applied_after : (t : Stated) (args : List Obj) (names : List (List ℕ)) (x mid after : Standing) (sorts : List Sort) (given : List Lit) → sorts ≡ t.made →
     given ≡ gives_of_use t args x.context.scope → mid.context ≡ record x.context { scope = grown x.context.scope sorts } → mid.names ≡ named x.names sorts names →
     after ≡ record mid { context = record mid.context { facts = joined_all mid.context.facts given } } → after ≡ after_apply t args names x
 applied_after t args names x mid after sorts given a b c d e = rw (e, c, d, b, a) refl
+
+-- ---- what is seen of a context
+
+pub basis_as : (b x : Basis) (facts : List Lit) → x.scope ≡ b.scope → x.held ≡ b.held → x.facts ≡ facts → x ≡ record b { facts = facts }
+basis_as b x facts scope held is =
+    ap (λ s. record { scope = s; facts = x.facts; held = x.held }) scope ∙ ap (λ hs. record { scope = b.scope; facts = x.facts; held = hs }) held
+    ∙ ap (λ fs. record { scope = b.scope; facts = fs; held = b.held }) is
+
+-- where none is left all have joined
+pub joined_end : (facts all whole : List Lit) (i : ℕ) → length all ≤ i → joined_all facts (drop i all) ≡ whole → facts ≡ whole
+joined_end facts all whole i le h =
+    let e : drop i all ≡ [] = grind (arith, common_steps) in
+    sym (ap (joined_all facts) e) ∙ h
+
+-- no object goes when some come
+pub within_grown : (s t : Scope) (sorts : List Sort) → t ≡ grown s sorts → IsWithin s t
+within_grown s t sorts e =
+    let b = grown_bounds s sorts in
+    subst (IsWithin s) (sym e) (record { points = b.points; lines = b.lines; circles = b.circles })
 
 -- ---- facts that are good
 
@@ -95,6 +122,12 @@ pub good_given : (form : Construction) (x wider : Basis) (sorts : List Sort) (gi
     wider ≡ record x { scope = grown x.scope sorts } → are_good_facts (grown x.scope (made form)) (joined_all x.facts (gives form x.scope)) ≡ true →
     are_good_facts wider.scope (joined_all wider.facts given) ≡ true
 good_given form x wider sorts given a b c h = rw (c, b, a) h
+
+-- and what a superposition gives
+pub good_superposed : (form : Superpose) (x wider : Basis) (sorts : List Sort) (given : List Lit) → sorts ≡ superposing.made → given ≡ superposing.gives form x.scope →
+    wider ≡ record x { scope = grown x.scope sorts } → are_good_facts (grown x.scope superposing.made) (joined_all x.facts (superposing.gives form x.scope)) ≡ true →
+    are_good_facts wider.scope (joined_all wider.facts given) ≡ true
+good_superposed form x wider sorts given a b c h = rw (c, b, a) h
 
 -- what an application gives may join the facts once its objects are in scope
 pub good_applied : (t : Stated) (args : List Obj) (x wider : Basis) (sorts : List Sort) (given : List Lit) → sorts ≡ t.made → given ≡ gives_of_use t args x.scope →

@@ -20,7 +20,7 @@ use Rattle.e_deriv.specs.declared.stop.Stop.{Stop}
 use Rattle.e_deriv.specs.Script.{Script, Claim, Superposed, Cases, size, erased}
 use Rattle.e_deriv.specs.Goal.{Goal, goal_of}
 use Rattle.e_deriv.specs.Lines.{Line, lines}
-use Rattle.e_deriv.specs.Steps.{fits, needs, are_over}
+use Rattle.e_deriv.specs.Steps.{are_over}
 use Rattle.e_deriv.specs.Naming.{named, names_lines}
 use Rattle.e_deriv.specs.Licensed.{Licensed}
 use Rattle.e_deriv.specs.Certified.{is_certified}
@@ -37,7 +37,6 @@ use Rattle.e_prove.specs.Halts.{HaltsAt, HaltsIn}
 use Rattle.e_prove.specs.Judging.{line_at, has_form}
 use Rattle.e_prove.specs.Passing.{IsReadyFor, IsDerived, StopIn, StopsWithin, IsPassed}
 use Rattle.e_prove.proofs.Halting.{stop_behind, stop_left, stop_right, names_length, all_both, lits_first, lits_second}
-use Rattle.e_deriv.proofs.Keeping.{stay_all}
 use Rattle.e_deriv.specs.Written.{has_good_certs}
 
 -- few objects are in scope before the line
@@ -154,7 +153,7 @@ passed_claim before shown inner derived x n next over d count =
       derives = λ rest more goal r m. claim_derives before shown inner derived rest more x goal over d m;
       stops = λ rest goal stop r k. claim_later before shown inner derived rest x goal n next stop over d count k;
       number = λ rest. let e = claim_size shown inner rest in omega (arith, e, count);
-      kept = stay_all x.context.facts shown;
+      kept = refl;
     }
 
 -- ---- a superposition
@@ -305,7 +304,7 @@ passed_superposed before form names shown written certs inner derived x n next f
       derives = λ rest more goal r m. superposed_derives before form names shown written certs inner derived rest more x goal fit over c d m;
       stops = λ rest goal stop r k. superposed_later before form names shown written certs inner derived rest x goal n next stop fit over c d count k;
       number = λ rest. let e = superposed_size form names shown written inner rest in omega (arith, e, count);
-      kept = stay_all x.context.facts shown;
+      kept = refl;
     }
 
 -- what halts at its needs

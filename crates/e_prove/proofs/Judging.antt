@@ -6,7 +6,7 @@ use Rattle.std.proofs.lemmas.Bool.{and_from}
 use Rattle.e_literal.specs.declared.literal.Lit.{Lit}
 use Rattle.e_literal.specs.Use.{Stated}
 use Rattle.e_construct.specs.declared.construction.Construction.{Construction}
-use Rattle.e_construct.specs.Construct.{needs, gives}
+use Rattle.e_construct.specs.Construct.{needs}
 use Rattle.e_clause.specs.declared.cert.By.{By}
 use Rattle.e_clause.specs.declared.cert.Cert.{Cert}
 use Rattle.e_clause.specs.Certify.{certifies, certify_all}
@@ -18,11 +18,9 @@ use Rattle.e_deriv.specs.Lines.{lines}
 use Rattle.e_deriv.specs.Steps.{is_cited}
 use Rattle.e_deriv.specs.Naming.{names_lines}
 use Rattle.e_clause.specs.Written.{is_good_cert}
-use Rattle.e_prove.specs.declared.halt.Halt.TheVariants as halt
 use Rattle.e_prove.specs.declared.standing.Standing.{Standing}
 use Rattle.e_prove.specs.Contexts.{after_literal, after_make}
 use Rattle.e_prove.specs.Judging.{IsJudged}
-use Rattle.e_deriv.proofs.Keeping.{stay_joined, stay_all}
 use Rattle.e_deriv.specs.Written.{has_good_certs}
 
 -- ---- a citation
@@ -38,7 +36,7 @@ judged_by before by x h =
       next = λ rest more goal. refl;
       derived_next = λ more goal. refl;
       named = λ rest. refl;
-      kept = stay_joined x.context.facts by.lit;
+      kept = refl;
     }
 
 pub judged_cite : (before : List Stated) (by derived : By) (x after : Standing) → derived ≡ by → is_cited x.context.facts by ≡ true → after ≡ after_literal by.lit x →
@@ -59,7 +57,7 @@ judged_by_cert before lit written cert x h g =
       next = λ rest more goal. refl;
       derived_next = λ more goal. refl;
       named = λ rest. refl;
-      kept = stay_joined x.context.facts lit;
+      kept = refl;
     }
 
 pub judged_hence : (before : List Stated) (lit derived : Lit) (written : Option Cert) (cert : Cert) (x after : Standing) → derived ≡ lit →
@@ -81,7 +79,7 @@ judged_by_certs before form names written certs x h g =
       next = λ rest more goal. refl;
       derived_next = λ more goal. refl;
       named = λ rest. refl;
-      kept = stay_all x.context.facts (gives form x.context.scope);
+      kept = refl;
     }
 
 pub judged_make : (before : List Stated) (form derived : Construction) (names kept : List (List ℕ)) (written certs given : List Cert) (needed : List Lit) (x after : Standing) →

@@ -5,6 +5,7 @@ pub mod Judging
 pub mod Applying
 pub mod Halting
 pub mod Passing
+pub mod Holding
 pub mod Inside
 pub mod Ready
 pub mod Blocks

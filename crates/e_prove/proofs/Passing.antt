@@ -12,11 +12,10 @@ use Rattle.e_deriv.specs.declared.block.Close.{Close}
 use Rattle.e_deriv.specs.declared.names.Names.{Names}
 use Rattle.e_deriv.specs.declared.stop.Stop.{Stop}
 use Rattle.e_deriv.specs.declared.stop.Stop.TheVariants as stop
-use Rattle.e_deriv.specs.Script.{Script, Cite, Hence, Make, Apply, Claim, Superposed, Qed, Contradiction, Cases, step_script, close_script, size, erased}
+use Rattle.e_deriv.specs.Script.{Script, Cite, Hence, Make, Apply, Claim, Superposed, Qed, Contradiction, Cases, step_script, close_script, size}
 use Rattle.e_deriv.specs.Goal.{Goal}
 use Rattle.e_deriv.specs.Lines.{Line, line, lines}
-use Rattle.e_deriv.specs.Steps.{fits}
-use Rattle.e_deriv.specs.Naming.{named, names_lines}
+use Rattle.e_deriv.specs.Naming.{names_lines}
 use Rattle.e_deriv.specs.Licensed.{AllLicensed}
 use Rattle.e_deriv.specs.Certified.{is_certified}
 use Rattle.e_deriv.specs.Fitting.{LitsFit, is_small}
@@ -27,15 +26,15 @@ use Rattle.e_prove.specs.declared.block.ProvedStep.{ProvedStep}
 use Rattle.e_prove.specs.declared.block.ProvedClose.{ProvedClose}
 use Rattle.e_prove.specs.Halts.{HaltsAt, UnlessNoMemory, StopOf, ToldOf}
 use Rattle.e_prove.specs.Judging.{IsJudged, StepHalts, IsClosed, CloseHalts, line_at, lines_at, has_form}
-use Rattle.e_prove.specs.Passing.{IsReadyFor, IsDerived, KeepsFacts, StopIn, StopsWithin, IsPassed, StepStops}
+use Rattle.e_prove.specs.Passing.{IsReadyFor, IsDerived, KeepsHeld, StopIn, StopsWithin, IsPassed, StepStops}
 use Rattle.e_prove.proofs.Halting.{stop_behind, stop_first, tests_again, form_is_blind, scope_is_blind}
 
 -- ---- nothing judged yet, and one thing after another
 
-pub passed_none : (before : List Stated) (x : Standing) (n : ℕ) → KeepsFacts x x → IsPassed before (λ d. d) x n (λ d. d) x n
+pub passed_none : (before : List Stated) (x : Standing) (n : ℕ) → KeepsHeld x x → IsPassed before (λ d. d) x n (λ d. d) x n
 passed_none before x n k = record { ready = λ rest goal r. r; derives = λ rest more goal r d. d; stops = λ rest goal s r h. h; number = λ rest. refl; kept = k }
 
-pub passed_more : (before : List Stated) (f f' g g' : Script → Script) (x y z : Standing) (n m k : ℕ) → KeepsFacts x z → IsPassed before f x n f' y m → IsPassed before g y m g' z k →
+pub passed_more : (before : List Stated) (f f' g g' : Script → Script) (x y z : Standing) (n m k : ℕ) → KeepsHeld x z → IsPassed before f x n f' y m → IsPassed before g y m g' z k →
     IsPassed before (λ d. f (g d)) x n (λ d. f' (g' d)) z k
 passed_more before f f' g g' x y z n m k kept a b =
     record {
@@ -173,6 +172,17 @@ stops_for_memory before here x goal n = record { filled = here; stops = tt }
 pub stops_as_memory : (before : List Stated) (here : Script) (x : Standing) (goal : Goal) (n : ℕ) {A : Type 0} (r : Result A Stop) → IfErr r (λ s. s ≡ stop.NoMemory) → IfErr r (StopsWithin before here x goal n)
 stops_as_memory before here x goal n (Ok a) e = tt
 stops_as_memory before here x goal n (Err s) e = subst (StopsWithin before here x goal n) (sym e) (stops_for_memory before here x goal n)
+
+-- the same, where the names alone are told to be those from before
+pub same_names : (h : Halt) (n : ℕ) (x after : Standing) (s : Stop) → UnlessNoMemory (after.names ≡ x.names) h → StopOf h n after.names s → StopOf h n x.names s
+same_names (halt.Lacks w v) n x after s k e = subst (λ ns. StopOf (halt.Lacks w v) n ns s) k e
+same_names (halt.TooWide w v) n x after s k e = subst (λ ns. StopOf (halt.TooWide w v) n ns s) k e
+same_names halt.NoMemory n x after s k e = no_names s e
+  where
+    no_names : (s : Stop) → StopOf halt.NoMemory n after.names s → StopOf halt.NoMemory n x.names s
+    no_names (stop.Unlicensed a b c d) e = e
+    no_names (stop.TooWide a b c d) e = e
+    no_names stop.NoMemory e = e
 
 -- after a halt that is no want of memory the names are those from before
 pub names_kept : (h : Halt) (n : ℕ) (x after : Standing) (s : Stop) → UnlessNoMemory (after ≡ x) h → StopOf h n after.names s → StopOf h n x.names s

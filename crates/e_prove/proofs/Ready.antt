@@ -26,7 +26,6 @@ use Rattle.e_deriv.specs.Script.{Script, Cite, Hence, Make, Apply, Claim, Superp
 use Rattle.e_deriv.specs.Goal.{Goal, goal_of}
 use Rattle.e_deriv.specs.Parts.{written, filled_in}
 use Rattle.e_deriv.specs.Lines.{lines, theorem_at}
-use Rattle.e_deriv.specs.Steps.{fits, needs}
 use Rattle.e_deriv.specs.Fitting.{LitsFit, is_small, is_small_statement}
 use Rattle.e_deriv.proofs.Choices.{written_again}
 use Rattle.e_deriv.proofs.Scripts.{step_script-Claim, step_script-Superposed}

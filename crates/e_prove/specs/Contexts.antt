@@ -1,11 +1,12 @@
 -- What holds before a line, and after a step.
-use Rattle.std.specs.Prelude.{ℕ, ◌+◌, ◌<◌, ◌^◌, List, length, take}
+use Rattle.std.specs.Prelude.{◌≡◌, ℕ, ◌+◌, ◌<◌, ◌^◌, List, [], ◌∷◌, ◌++◌, IsTrue}
 use Rattle.e_literal.specs.declared.object.Obj.{Obj}
 use Rattle.e_literal.specs.declared.object.Scope.{Scope}
 use Rattle.e_literal.specs.declared.literal.Lit.{Lit}
 use Rattle.e_literal.specs.Facts.{joined, joined_all}
 use Rattle.e_literal.specs.Scopes.{grown}
 use Rattle.e_literal.specs.Use.{Stated, scope_of, gives_of_use}
+use Rattle.e_clause.specs.Judged.{are_good_facts}
 use Rattle.e_construct.specs.declared.construction.Construction.{Construction}
 use Rattle.e_construct.specs.Construct.{made, gives}
 use Rattle.e_construct.specs.declared.superpose.Superpose.{Superpose}
@@ -13,13 +14,13 @@ use Rattle.e_construct.specs.Superposing as superposing
 use Rattle.e_deriv.specs.declared.names.Names.{Names}
 use Rattle.e_deriv.specs.Goal.{Goal, facts_of_statement}
 use Rattle.e_deriv.specs.Naming.{named, declared_names}
+use Rattle.e_licence.specs.Contexts.{State, state_of}
 use Rattle.e_prove.specs.declared.standing.Standing.{Standing}
-use Rattle.e_prove.specs.declared.standing.Outer.{Outer}
 use Rattle.e_prove.specs.declared.close.Goal.{Goal as CodeGoal}
 
 -- before the first line of a statement's proof, where these are the names of its declared and made objects
 abbrev pub start_of : Stated → Names → Standing
-start_of t names = record { context = record { scope = scope_of t; facts = facts_of_statement t }; names = declared_names t names }
+start_of t names = record { context = record { scope = scope_of t; facts = facts_of_statement t; held = [] }; names = declared_names t names }
 
 -- after a step that gives one literal
 abbrev pub after_literal : Lit → Standing → Standing
@@ -29,7 +30,7 @@ after_literal l x = record x { context = record x.context { facts = joined x.con
 abbrev pub after_make : Construction → List (List ℕ) → Standing → Standing
 after_make form names x =
     record {
-      context = record { scope = grown x.context.scope (made form); facts = joined_all x.context.facts (gives form x.context.scope) };
+      context = record x.context { scope = grown x.context.scope (made form); facts = joined_all x.context.facts (gives form x.context.scope) };
       names = named x.names (made form) names;
     }
 
@@ -37,7 +38,7 @@ after_make form names x =
 abbrev pub after_apply : Stated → List Obj → List (List ℕ) → Standing → Standing
 after_apply t args names x =
     record {
-      context = record { scope = grown x.context.scope t.made; facts = joined_all x.context.facts (gives_of_use t args x.context.scope) };
+      context = record x.context { scope = grown x.context.scope t.made; facts = joined_all x.context.facts (gives_of_use t args x.context.scope) };
       names = named x.names t.made names;
     }
 
@@ -45,7 +46,7 @@ after_apply t args names x =
 abbrev pub after_superposed : Superpose → List (List ℕ) → Standing → Standing
 after_superposed form names x =
     record {
-      context = record { scope = grown x.context.scope superposing.made; facts = joined_all x.context.facts (superposing.gives form x.context.scope) };
+      context = record x.context { scope = grown x.context.scope superposing.made; facts = joined_all x.context.facts (superposing.gives form x.context.scope) };
       names = named x.names superposing.made names;
     }
 
@@ -53,21 +54,29 @@ after_superposed form names x =
 abbrev pub after_block : List Lit → Standing → Standing
 after_block shown x = record x { context = record x.context { facts = joined_all x.context.facts shown } }
 
--- what a block inside is entered from
-abbrev pub outer_of : Standing → Outer
-outer_of x = record { mark = record { scope = x.context.scope; facts = length x.context.facts }; names = x.names }
+-- with other held states
+abbrev pub with_held : List State → Standing → Standing
+with_held held x = record x { context = record x.context { held = held } }
 
--- where a block was entered
-abbrev pub left_for : Outer → Standing → Standing
-left_for outer x = record { context = record { scope = outer.mark.scope; facts = take outer.mark.facts x.context.facts }; names = outer.names }
+-- where a block inside begins: the present state is held
+abbrev pub held_at : Standing → Standing
+held_at x = with_held (x.context.held ++ state_of x.context ∷ []) x
 
--- where a block was entered, with these literals for facts
-abbrev pub after_inner : Outer → List Lit → Standing → Standing
-after_inner outer shown x =
-    record {
-      context = record { scope = outer.mark.scope; facts = joined_all (take outer.mark.facts x.context.facts) shown };
-      names = outer.names;
-    }
+-- the last held state is there again, with these names
+abbrev pub IsLeft : Names → Standing → Standing → Type 0
+IsLeft names x after =
+    (before : List State) (last : State) → x.context.held ≡ before ++ last ∷ [] →
+    after ≡ record { context = record { scope = last.scope; facts = last.facts; held = before }; names = names }
+
+-- and these literals are facts there
+abbrev pub IsLeftWith : Names → List Lit → Standing → Standing → Type 0
+IsLeftWith names shown x after =
+    (before : List State) (last : State) → x.context.held ≡ before ++ last ∷ [] →
+    after ≡ record { context = record { scope = last.scope; facts = joined_all last.facts shown; held = before }; names = names }
+
+-- they may join the facts of the last held state
+abbrev pub CanJoinLast : List Lit → Standing → Type 0
+CanJoinLast shown x = (before : List State) (last : State) → x.context.held ≡ before ++ last ∷ [] → IsTrue (are_good_facts last.scope (joined_all last.facts shown))
 
 -- two objects more of each sort have numbers of 16 bits
 pub record HasRoom (s : Scope) : Type 0 where

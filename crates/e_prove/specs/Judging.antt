@@ -1,5 +1,5 @@
 -- What it is to judge a step, or a close, where it stands: whatever comes after it.
-use Rattle.std.specs.Prelude.{◌≡◌, List, ◌∷◌, Bool, length, take, IsTrue}
+use Rattle.std.specs.Prelude.{◌≡◌, List, ◌∷◌, Bool, IsTrue}
 use Rattle.std.specs.List.{list_all}
 use Rattle.e_literal.specs.Use.{Stated}
 use Rattle.e_deriv.specs.declared.block.Step.{Step}
@@ -50,7 +50,7 @@ pub record IsJudged (before : List Stated) (step : Step) (x : Standing) (derived
       lines_at before (step_script derived more) (step_script derived more) x.context goal
       ≡ line_at (step_script derived more) (step_script derived more) x.context goal ∷ lines_at before more more after.context goal
   pub named : (rest : Script) → names_lines before x.names (step_script step rest) ≡ x.names ∷ names_lines before after.names rest
-  pub kept : take (length x.context.facts) after.context.facts ≡ x.context.facts
+  pub kept : after.context.held ≡ x.context.held
 
 -- where this holds the judging halts so at the step, however its blanks are filled
 abbrev pub StepHalts : List Stated → Step → Standing → Halt → Type 0

@@ -1,5 +1,5 @@
 -- What it is to judge the lines of a script one after another, with the blocks inside it.
-use Rattle.std.specs.Prelude.{◌≡◌, ℕ, ◌+◌, ◌<◌, ◌^◌, List, length, take, slice_get, IsTrue, Some}
+use Rattle.std.specs.Prelude.{◌≡◌, ℕ, ◌+◌, ◌<◌, ◌^◌, List, take, slice_get, IsTrue, Some}
 use Rattle.std.specs.List.{list_all}
 use Rattle.e_literal.specs.Use.{Stated}
 use Rattle.e_deriv.specs.declared.block.Step.{Step}
@@ -44,9 +44,9 @@ pub record IsDerived (before : List Stated) (script : Script) (x : Standing) (go
   pub erased : erased derived ≡ filled_by (erased script) derived
   pub written : IsTrue (has_good_certs derived)
 
--- the facts from before are the first ones still
-abbrev pub KeepsFacts : Standing → Standing → Type 0
-KeepsFacts x after = take (length x.context.facts) after.context.facts ≡ x.context.facts
+-- the states that are held are those from before
+abbrev pub KeepsHeld : Standing → Standing → Type 0
+KeepsHeld x after = after.context.held ≡ x.context.held
 
 -- ---- stops
 
@@ -80,7 +80,7 @@ pub record IsPassed (before : List Stated) (whole : Script → Script) (x : Stan
   pub derives : (rest more : Script) (goal : Goal) → IsReadyFor before (whole rest) x goal → IsDerived before rest after goal more → IsDerived before (whole rest) x goal (derived more)
   pub stops : (rest : Script) (goal : Goal) (s : Stop) → IsReadyFor before (whole rest) x goal → StopsWithin before rest after goal next s → StopsWithin before (whole rest) x goal first s
   pub number : (rest : Script) → first + size (whole rest) ≡ next + size rest
-  pub kept : KeepsFacts x after
+  pub kept : KeepsHeld x after
 
 -- the step stops so, whatever comes after it
 abbrev pub StepStops : List Stated → Step → Standing → ℕ → Stop → Type 0

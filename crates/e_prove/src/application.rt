@@ -60,7 +60,7 @@ pub fn apply(
     ensures err { IfErr result (λ h. (before : List Stated) (certs : List Certificate) → theorem_at before application.now.theorem ≡ stated statement.now → StepHalts before (Apply application.now.theorem application.now.args.now application.now.names.now certs) standing.old h) }
     ensures kept { IfErr result (UnlessNoMemory (standing.new ≡ standing.old)) }
 {
-    let used = used(alloc, statement, application.args, &standing.context)?;
+    let used = used(alloc, statement, application.args, &mut standing.context)?;
     let args = without_blanks(alloc, used.args.items())?;
     let names = Vec::from_slice(alloc, application.names)?;
     standing.grow(statement.made.items(), application.names)?;
@@ -78,11 +78,12 @@ fn used(
     alloc: Global,
     statement: &Statement,
     pattern: &[Option<Obj>],
-    context: &Context,
+    context: &mut Context,
 ) -> Result<Use, Halt>
-    requires { CanApply (stated statement.now) pattern.now context.now }
-    ensures ok { IfOk result (IsUse (stated statement.now) pattern.now context.now) }
-    ensures err { IfErr result (HaltsApplying (stated statement.now) context.now pattern.now) }
+    requires { CanApply (stated statement.now) pattern.now context.old }
+    ensures ok { IfOk result (IsUse (stated statement.now) pattern.now context.old) }
+    ensures err { IfErr result (HaltsApplying (stated statement.now) context.old pattern.now) }
+    ensures kept { context.new ≡ context.old }
 {
     match written(alloc, pattern)? {
         Some(args) => used_at(alloc, statement, args, context),
@@ -95,11 +96,28 @@ fn filled(
     alloc: Global,
     statement: &Statement,
     pattern: &[Option<Obj>],
-    context: &Context,
+    context: &mut Context,
 ) -> Result<Use, Halt>
-    requires { CanApply (stated statement.now) pattern.now context.now }
-    ensures ok { IfOk result (IsUse (stated statement.now) pattern.now context.now) }
-    ensures err { IfErr result (HaltsFilling (stated statement.now) context.now pattern.now) }
+    requires { CanApply (stated statement.now) pattern.now context.old }
+    ensures ok { IfOk result (IsUse (stated statement.now) pattern.now context.old) }
+    ensures err { IfErr result (HaltsFilling (stated statement.now) context.old pattern.now) }
+    ensures kept { context.new ≡ context.old }
+{
+    context.solve(alloc)?;
+    filled_by_least(alloc, statement, pattern, context)
+}
+
+/// The same, where what the facts tell is solved, so that it need not be for each choice anew.
+fn filled_by_least(
+    alloc: Global,
+    statement: &Statement,
+    pattern: &[Option<Obj>],
+    context: &mut Context,
+) -> Result<Use, Halt>
+    requires { CanApply (stated statement.now) pattern.now context.old }
+    ensures ok { IfOk result (IsUse (stated statement.now) pattern.now context.old) }
+    ensures err { IfErr result (HaltsFilling (stated statement.now) context.old pattern.now) }
+    ensures kept { context.new ≡ context.old }
 {
     match match_blanks(alloc, context, statement, pattern)? {
         Filled::Found(args) => match used_at(alloc, statement, args, context) {
@@ -138,17 +156,18 @@ fn used_at(
     alloc: Global,
     statement: &Statement,
     args: Items<Obj>,
-    context: &Context,
+    context: &mut Context,
 ) -> Result<Use, Halt>
     requires statement { IsTrue (is_small_statement (stated statement.now)) }
-    requires scope { IsTrue (is_small context.now.scope) }
-    requires fit { IsTrue (are_arguments (stated statement.now) context.now.scope args) }
-    requires needs { IsTrue (are_good context.now.scope (needs_of_use (stated statement.now) args context.now.scope)) }
+    requires scope { IsTrue (is_small context.old.scope) }
+    requires fit { IsTrue (are_arguments (stated statement.now) context.old.scope args) }
+    requires needs { IsTrue (are_good context.old.scope (needs_of_use (stated statement.now) args context.old.scope)) }
     ensures args { IfOk result (λ u. u.args ≡ args) }
-    ensures certified { IfOk result (λ u. IsTrue (certify_all context.now.scope context.now.facts (needs_of_use (stated statement.now) args context.now.scope) u.certs.items)) }
+    ensures certified { IfOk result (λ u. IsTrue (certify_all context.old.scope context.old.facts (needs_of_use (stated statement.now) args context.old.scope) u.certs.items)) }
     ensures written { IfOk result (λ u. IsTrue (list_all is_good_cert u.certs.items)) }
-    ensures gives { IfOk result (λ u. u.gives ≡ gives_of_use (stated statement.now) args context.now.scope) }
-    ensures err { IfErr result (HaltsIn context.now (needs_of_use (stated statement.now) args context.now.scope)) }
+    ensures gives { IfOk result (λ u. u.gives ≡ gives_of_use (stated statement.now) args context.old.scope) }
+    ensures err { IfErr result (HaltsIn context.old (needs_of_use (stated statement.now) args context.old.scope)) }
+    ensures kept { context.new ≡ context.old }
 {
     match use_of(alloc, statement, args.items(), context.scope()) {
         Ok(Applied { needs, gives }) => {

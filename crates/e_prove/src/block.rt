@@ -3,7 +3,7 @@ ghost use Rattle.std.specs.Prelude.{◌≡◌, ◌+◌, ◌<◌, ◌^◌, IfOk, 
 ghost use Rattle.e_theorem.specs.Statements.{all_stated};
 ghost use Rattle.e_deriv.specs.Script.{script_of, step_script, close_script, size};
 ghost use Rattle.e_prove.specs.Contexts.{goal_said};
-ghost use Rattle.e_prove.specs.Passing.{IsReadyFor, IsReadyStep, IsDerived, IsPassed, KeepsFacts, StepStops, StopsWithin};
+ghost use Rattle.e_prove.specs.Passing.{IsReadyFor, IsReadyStep, IsDerived, IsPassed, KeepsHeld, StepStops, StopsWithin};
 
 use crate::application::{Application, apply};
 use crate::close::{Goal, contradiction, qed};
@@ -51,7 +51,7 @@ pub fn prove_block(
     requires few { first + size (script_of block.now) < 2 ^ 32 }
     ensures derived { IfOk result (λ p. IsDerived (all_stated before.now) (script_of block.now) standing.old (goal_said goal.now) (script_of p.block)) }
     ensures next { IfOk result (λ p. p.next ≡ first + size (script_of block.now)) }
-    ensures kept { OnOk result (KeepsFacts standing.old standing.new) }
+    ensures kept { OnOk result (KeepsHeld standing.old standing.new) }
     ensures err { IfErr result (StopsWithin (all_stated before.now) (script_of block.now) standing.old (goal_said goal.now) first) }
 {
     let mut steps = Vec::new(alloc);
@@ -119,7 +119,7 @@ fn prove_step(
             told(alloc, judged, standing, number)
         }
         Step::Claim { shown, inner } => {
-            let outer = standing.enter(alloc)?;
+            let outer = standing.hold(alloc)?;
             let goal = Goal {
                 made: &[],
                 shown: shown.items(),
@@ -139,7 +139,7 @@ fn prove_step(
             inner,
             ..
         } => {
-            let outer = standing.enter(alloc)?;
+            let outer = standing.hold(alloc)?;
             let certs = match superpose(alloc, form, names.items(), standing) {
                 Ok(certs) => certs,
                 Err(halt) => {
@@ -183,20 +183,20 @@ fn prove_close(
     requires few { number + size (close_script close.now) < 2 ^ 32 }
     ensures derived { IfOk result (λ p. IsDerived (all_stated before.now) (close_script close.now) standing.old (goal_said goal.now) (close_script p.close)) }
     ensures next { IfOk result (λ p. p.next ≡ number + size (close_script close.now)) }
-    ensures kept { OnOk result (KeepsFacts standing.old standing.new) }
+    ensures kept { OnOk result (KeepsHeld standing.old standing.new) }
     ensures err { IfErr result (StopsWithin (all_stated before.now) (close_script close.now) standing.old (goal_said goal.now) number) }
 {
     match close {
         Close::Qed { objects, .. } => {
-            let judged = qed(alloc, objects.items(), goal, &standing.context);
+            let judged = qed(alloc, objects.items(), goal, &mut standing.context);
             told_close(alloc, judged, standing, number)
         }
         Close::Contradiction { .. } => {
-            let judged = contradiction(alloc, &standing.context);
+            let judged = contradiction(alloc, &mut standing.context);
             told_close(alloc, judged, standing, number)
         }
         Close::Cases { lit, first, second } => {
-            let outer = standing.enter(alloc)?;
+            let outer = standing.hold(alloc)?;
             standing.suppose(alloc, lit)?;
             let one = match prove_block(alloc, before, first, goal, standing, number + 1) {
                 Ok(one) => one,
@@ -205,8 +205,14 @@ fn prove_close(
                     return Err(stop);
                 }
             };
-            standing.leave(outer);
-            standing.suppose_not(alloc, lit)?;
+            standing.release(outer);
+            match standing.suppose_not(alloc, lit) {
+                Ok(()) => {}
+                Err(_) => {
+                    mem::drop(one);
+                    return Err(Stop::NoMemory);
+                }
+            }
             match prove_block(alloc, before, second, goal, standing, one.next) {
                 Ok(other) => split(alloc, lit, one, other),
                 Err(stop) => {

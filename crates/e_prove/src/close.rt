@@ -12,7 +12,7 @@ ghost use Rattle.e_prove.specs.Judging.{IsClosed, CloseHalts};
 use crate::halt::Halt;
 use crate::licence::licences;
 use e_deriv::{Close, Wanted};
-use e_licence::{Context, Refuted, against};
+use e_licence::{Context, Refuted};
 use e_literal::{Items, Lit, Map, Obj};
 use e_theorem::all_renamed;
 use std::alloc::{AllocError, Global};
@@ -26,11 +26,17 @@ pub struct Goal<'a> {
 
 /// A qed: each literal of the goal is allowed, with these objects for its made ones.
 #[tactic(auto, unfolding(e_deriv::specs::Script::close_script))]
-pub fn qed(alloc: Global, objects: &[Obj], goal: &Goal, context: &Context) -> Result<Close, Halt>
-    requires form { IsTrue (are_for (goal_said goal.now) context.now.scope objects.now) }
-    requires lits { IsTrue (are_good context.now.scope (Rattle.e_deriv.specs.Goal.goal_with (goal_said goal.now) objects.now)) }
-    ensures ok { IfOk result (λ d. (before : List Stated) (certs : List Cert) → IsClosed before (Qed objects.now certs) context.now (goal_said goal.now) d) }
-    ensures err { IfErr result (λ h. (before : List Stated) (certs : List Cert) → CloseHalts before (Qed objects.now certs) context.now (goal_said goal.now) h) }
+pub fn qed(
+    alloc: Global,
+    objects: &[Obj],
+    goal: &Goal,
+    context: &mut Context,
+) -> Result<Close, Halt>
+    requires form { IsTrue (are_for (goal_said goal.now) context.old.scope objects.now) }
+    requires lits { IsTrue (are_good context.old.scope (Rattle.e_deriv.specs.Goal.goal_with (goal_said goal.now) objects.now)) }
+    ensures ok { IfOk result (λ d. (before : List Stated) (certs : List Cert) → IsClosed before (Qed objects.now certs) context.old (goal_said goal.now) d) }
+    ensures err { IfErr result (λ h. (before : List Stated) (certs : List Cert) → CloseHalts before (Qed objects.now certs) context.old (goal_said goal.now) h) }
+    ensures kept { context.new ≡ context.old }
 {
     let wanted = goal_with(alloc, goal, objects)?;
     let certs = licences(alloc, context, &wanted)?;
@@ -41,11 +47,12 @@ pub fn qed(alloc: Global, objects: &[Obj], goal: &Goal, context: &Context) -> Re
 }
 
 /// A contradiction: the facts contradict each other.
-pub fn contradiction(alloc: Global, context: &Context) -> Result<Close, Halt>
-    ensures ok { IfOk result (λ d. (before : List Stated) (goal : BlockGoal) (written : Option Against) → IsClosed before (Contradiction written) context.now goal d) }
-    ensures err { IfErr result (λ h. (before : List Stated) (goal : BlockGoal) (written : Option Against) → CloseHalts before (Contradiction written) context.now goal h) }
+pub fn contradiction(alloc: Global, context: &mut Context) -> Result<Close, Halt>
+    ensures ok { IfOk result (λ d. (before : List Stated) (goal : BlockGoal) (written : Option Against) → IsClosed before (Contradiction written) context.old goal d) }
+    ensures err { IfErr result (λ h. (before : List Stated) (goal : BlockGoal) (written : Option Against) → CloseHalts before (Contradiction written) context.old goal h) }
+    ensures kept { context.new ≡ context.old }
 {
-    match against(alloc, context)? {
+    match context.against(alloc)? {
         Refuted::Yes(against) => Ok(Close::Contradiction {
             against: Some(against),
         }),

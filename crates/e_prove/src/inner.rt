@@ -1,16 +1,14 @@
 //! What is left of an inner block.
-ghost use Rattle.std.specs.Prelude.{◌≡◌, ◌≤◌, List, length, take, IfOk, IfErr, OnOk, IsTrue};
-ghost use Rattle.e_literal.specs.Facts.{joined_all};
-ghost use Rattle.e_clause.specs.Judged.{are_good_facts};
+ghost use Rattle.std.specs.Prelude.{◌≡◌, ◌<◌, List, length, IfOk, IfErr, OnOk};
 ghost use Rattle.e_deriv.specs.Script.{Script, Claim, Superposed, Cases, script_of, step_script, close_script};
 ghost use Rattle.e_deriv.specs.declared.stop.Stop.TheVariants.{NoMemory};
-ghost use Rattle.e_prove.specs.Contexts.{after_inner};
+ghost use Rattle.e_prove.specs.Contexts.{CanJoinLast, IsLeftWith};
 
 use crate::block::{ProvedBlock, ProvedClose, ProvedStep};
-use crate::standing::{Outer, Standing};
+use crate::standing::Standing;
 use e_clause::Cert;
 use e_construct::Superpose;
-use e_deriv::{Block, Close, Step, Stop, copy_lits};
+use e_deriv::{Block, Close, Names, Step, Stop, copy_lits};
 use e_literal::{Items, Lit, copy};
 use e_text::Name;
 use std::alloc::{AllocError, Global};
@@ -29,15 +27,15 @@ pub struct Head<'a> {
 fn shown_behind(
     alloc: Global,
     shown: &[Lit],
-    outer: Outer,
+    outer: Names,
     standing: &mut Standing,
 ) -> Result<Items<Lit>, AllocError>
-    requires few { outer.mark.facts ≤ length standing.old.context.facts }
-    requires good { IsTrue (are_good_facts outer.mark.scope (joined_all (take outer.mark.facts standing.old.context.facts) shown.now)) }
+    requires held { 0 < length standing.old.context.held }
+    requires good { CanJoinLast shown.now standing.old }
     ensures shown { IfOk result (λ ls. ls ≡ shown.now) }
-    ensures after { OnOk result (standing.new ≡ after_inner outer shown.now standing.old) }
+    ensures after { OnOk result (IsLeftWith outer shown.now standing.old standing.new) }
 {
-    standing.leave_with(alloc, outer, shown)?;
+    standing.release_with(alloc, outer, shown)?;
     copy_lits(alloc, shown)
 }
 
@@ -47,14 +45,14 @@ pub fn claimed(
     alloc: Global,
     shown: &[Lit],
     proved: ProvedBlock,
-    outer: Outer,
+    outer: Names,
     standing: &mut Standing,
 ) -> Result<ProvedStep, Stop>
-    requires few { outer.mark.facts ≤ length standing.old.context.facts }
-    requires good { IsTrue (are_good_facts outer.mark.scope (joined_all (take outer.mark.facts standing.old.context.facts) shown.now)) }
+    requires held { 0 < length standing.old.context.held }
+    requires good { CanJoinLast shown.now standing.old }
     ensures step { IfOk result (λ p. (rest : Script) → step_script p.step rest ≡ Claim shown.now (script_of proved.block) rest) }
     ensures next { IfOk result (λ p. p.next ≡ proved.next) }
-    ensures after { OnOk result (standing.new ≡ after_inner outer shown.now standing.old) }
+    ensures after { OnOk result (IsLeftWith outer shown.now standing.old standing.new) }
     ensures err { IfErr result (λ s. s ≡ NoMemory) }
 {
     let ProvedBlock { block, next } = proved;
@@ -77,14 +75,14 @@ pub fn superposed(
     head: Head,
     shown: &[Lit],
     proved: ProvedBlock,
-    outer: Outer,
+    outer: Names,
     standing: &mut Standing,
 ) -> Result<ProvedStep, Stop>
-    requires few { outer.mark.facts ≤ length standing.old.context.facts }
-    requires good { IsTrue (are_good_facts outer.mark.scope (joined_all (take outer.mark.facts standing.old.context.facts) shown.now)) }
+    requires held { 0 < length standing.old.context.held }
+    requires good { CanJoinLast shown.now standing.old }
     ensures step { IfOk result (λ p. (rest : Script) → step_script p.step rest ≡ Superposed head.entry.form.now head.entry.names.now shown.now head.entry.certs.items (script_of proved.block) rest) }
     ensures next { IfOk result (λ p. p.next ≡ proved.next) }
-    ensures after { OnOk result (standing.new ≡ after_inner outer shown.now standing.old) }
+    ensures after { OnOk result (IsLeftWith outer shown.now standing.old standing.new) }
     ensures err { IfErr result (λ s. s ≡ NoMemory) }
 {
     let Head { form, names, certs } = head;

@@ -14,53 +14,36 @@ use crate::halt::Halt;
 use e_clause::{By, Cert, InstanceFault, instance};
 use e_deriv::Wanted;
 use e_facts::Facts;
-use e_licence::{Context, Judge, Licensed, licence};
+use e_licence::{Context, Licensed};
 use e_literal::{Lit, copy, negate, same};
 use std::alloc::{AllocError, Global};
 use std::mem;
 
 /// A certificate of the literal, where it is allowed. The literals that it names are well formed.
-pub fn licensed(alloc: Global, context: &Context, lit: &Lit) -> Result<Cert, Halt>
-    requires { IsTrue (is_good context.now.scope lit.now) }
-    ensures ok { IfOk result (λ c. IsTrue (certifies context.now.scope context.now.facts lit.now c)) }
+pub fn licensed(alloc: Global, context: &mut Context, lit: &Lit) -> Result<Cert, Halt>
+    requires { IsTrue (is_good context.old.scope lit.now) }
+    ensures ok { IfOk result (λ c. IsTrue (certifies context.old.scope context.old.facts lit.now c)) }
     ensures written { IfOk result (λ c. IsTrue (is_good_cert c)) }
-    ensures err { IfErr result (HaltsIn context.now (lit.now ∷ [])) }
+    ensures err { IfErr result (HaltsIn context.old (lit.now ∷ [])) }
+    ensures kept { context.new ≡ context.old }
 {
-    let answer = licence(alloc, context, lit)?;
+    let answer = context.licence(alloc, lit)?;
     told(alloc, context, lit, answer)
 }
 
 /// A certificate of each literal, where each is allowed. They are judged in order, and the first that is not allowed, or
-/// too wide to be judged, halts. What the facts tell of magnitudes is asked once for them all.
-pub fn licences(alloc: Global, context: &Context, lits: &[Lit]) -> Result<Vec<Cert>, Halt>
-    requires { IsTrue (are_good context.now.scope lits.now) }
-    ensures ok { IfOk result (λ cs. IsTrue (certify_all context.now.scope context.now.facts lits.now cs.items)) }
+/// too wide to be judged, halts.
+pub fn licences(alloc: Global, context: &mut Context, lits: &[Lit]) -> Result<Vec<Cert>, Halt>
+    requires { IsTrue (are_good context.old.scope lits.now) }
+    ensures ok { IfOk result (λ cs. IsTrue (certify_all context.old.scope context.old.facts lits.now cs.items)) }
     ensures written { IfOk result (λ cs. IsTrue (list_all is_good_cert cs.items)) }
-    ensures err { IfErr result (HaltsIn context.now lits.now) }
-{
-    let mut judge = Judge::new(context);
-    let certs = judged(alloc, context, &mut judge, lits);
-    mem::drop(judge);
-    certs
-}
-
-/// The same, by a judge of the context.
-fn judged(
-    alloc: Global,
-    context: &Context,
-    judge: &mut Judge,
-    lits: &[Lit],
-) -> Result<Vec<Cert>, Halt>
-    requires good { IsTrue (are_good context.now.scope lits.now) }
-    requires judge { judge.old ≡ context.now }
-    ensures ok { IfOk result (λ cs. IsTrue (certify_all context.now.scope context.now.facts lits.now cs.items)) }
-    ensures written { IfOk result (λ cs. IsTrue (list_all is_good_cert cs.items)) }
-    ensures err { IfErr result (HaltsIn context.now lits.now) }
+    ensures err { IfErr result (HaltsIn context.old lits.now) }
+    ensures kept { context.new ≡ context.old }
 {
     let mut certs = Vec::new(alloc);
     for lit in lits {
-        let answer = judge.licence(alloc, lit)?;
-        certs.push(told(alloc, context, lit, answer)?)?;
+        let cert = licensed(alloc, context, lit)?;
+        certs.push(cert)?;
     }
     Ok(certs)
 }

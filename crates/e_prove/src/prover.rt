@@ -66,7 +66,13 @@ pub(crate) fn prove_parts(
     ensures names { IfErr result (HasNames (all_stated before.now) (stated statement.now) names.now (script_of block.now)) }
 {
     let mut standing = Standing::first(alloc, statement, names)?;
-    let made = next_objects(alloc, standing.context.scope(), statement.made.items())?;
+    let made = match next_objects(alloc, standing.context.scope(), statement.made.items()) {
+        Ok(made) => made,
+        Err(_) => {
+            mem::drop(standing);
+            return Err(Stop::NoMemory);
+        }
+    };
     let goal = Goal {
         made: &made,
         shown: statement.shown.items(),

@@ -1,5 +1,5 @@
 //! What holds before a line.
-ghost use Rattle.std.specs.Prelude.{◌≡◌, ◌<◌, ◌+◌, ◌≤◌, ◌^◌, length, take, OnOk, IfOk, [], IsTrue};
+ghost use Rattle.std.specs.Prelude.{◌≡◌, ◌<◌, ◌+◌, ◌^◌, length, OnOk, IfOk, [], IsTrue};
 ghost use Rattle.e_literal.specs.Literal.{negation};
 ghost use Rattle.e_literal.specs.Facts.{joined, joined_all};
 ghost use Rattle.e_literal.specs.Scopes;
@@ -8,11 +8,11 @@ ghost use Rattle.e_clause.specs.Judged.{are_good_facts};
 ghost use Rattle.e_theorem.specs.Statements.{stated};
 ghost use Rattle.e_deriv.specs.Goal.{facts_of_statement};
 ghost use Rattle.e_deriv.specs.Naming.{named};
-ghost use Rattle.e_prove.specs.Contexts.{start_of, outer_of, left_for, after_inner, after_literal};
+ghost use Rattle.e_prove.specs.Contexts.{start_of, held_at, IsLeft, IsLeftWith, CanJoinLast, after_literal};
 
 use e_deriv::Names;
 use e_facts::Facts;
-use e_licence::{Context, Mark};
+use e_licence::Context;
 use e_literal::{Lit, Scope, Sort, copy, grown, negate};
 use e_text::Name;
 use e_theorem::Statement;
@@ -23,13 +23,6 @@ use std::mem;
 #[derive(Drop)]
 pub struct Standing {
     pub context: Context,
-    pub names: Names,
-}
-
-/// What an inner block is entered from.
-#[derive(Drop)]
-pub struct Outer {
-    pub mark: Mark,
     pub names: Names,
 }
 
@@ -52,44 +45,50 @@ impl Standing {
         let scope = grown(nothing, statement.declared.items());
         let names = names.first(alloc, scope)?;
         let facts = facts_of(alloc, statement.given.items())?;
-        Ok(Standing {
-            context: Context::new(scope, facts),
-            names,
-        })
+        match Context::new(alloc, scope, facts) {
+            Ok(context) => Ok(Standing { context, names }),
+            Err((facts, error)) => {
+                mem::drop(facts);
+                mem::drop(names);
+                Err(error)
+            }
+        }
     }
 
-    /// What a block inside is entered from. It fails only for want of memory.
-    pub fn enter(&self, alloc: Global) -> Result<Outer, AllocError>
-        ensures { IfOk result (λ o. o ≡ outer_of self.now) }
+    /// A block inside begins: the present state is held, and the names are handed out, which [`Standing::release`] takes back.
+    /// What the facts tell is solved before, since each block inside would have to solve it else. It fails only for want of
+    /// memory; nothing is said of what holds then.
+    pub fn hold(&mut self, alloc: Global) -> Result<Names, AllocError>
+        ensures names { IfOk result (λ names. names ≡ self.old.names) }
+        ensures held { OnOk result (self.new ≡ held_at self.old) }
     {
-        Ok(Outer {
-            mark: self.context.mark(),
-            names: self.names.copy(alloc)?,
-        })
+        self.context.solve(alloc)?;
+        let names = self.names.copy(alloc)?;
+        self.context.hold()?;
+        Ok(names)
     }
 
     /// The block inside ends: its objects, facts and names are gone.
-    pub fn leave(&mut self, outer: Outer)
-        requires few { outer.mark.facts ≤ length self.old.context.facts }
-        requires good { IsTrue (are_good_facts outer.mark.scope (take outer.mark.facts self.old.context.facts)) }
-        ensures { self.new ≡ left_for outer self.old }
+    pub fn release(&mut self, names: Names)
+        requires { 0 < length self.old.context.held }
+        ensures { IsLeft names self.old self.new }
     {
-        self.context.back_to(outer.mark);
-        self.names = outer.names;
+        self.context.release();
+        self.names = names;
     }
 
     /// The block inside ends, and what it shows are facts. It fails only for want of memory; nothing is said of what holds then.
-    pub fn leave_with(
+    pub fn release_with(
         &mut self,
         alloc: Global,
-        outer: Outer,
+        names: Names,
         shown: &[Lit],
     ) -> Result<(), AllocError>
-        requires few { outer.mark.facts ≤ length self.old.context.facts }
-        requires good { IsTrue (are_good_facts outer.mark.scope (joined_all (take outer.mark.facts self.old.context.facts) shown.now)) }
-        ensures { OnOk result (self.new ≡ after_inner outer shown.now self.old) }
+        requires held { 0 < length self.old.context.held }
+        requires good { CanJoinLast shown.now self.old }
+        ensures { OnOk result (IsLeftWith names shown.now self.old self.new) }
     {
-        self.leave(outer);
+        self.release(names);
         join_copies(alloc, &mut self.context, shown)
     }
 
@@ -117,12 +116,11 @@ impl Standing {
         requires points { self.old.context.scope.points + length sorts.now < 2 ^ 16 }
         requires lines { self.old.context.scope.lines + length sorts.now < 2 ^ 16 }
         requires circles { self.old.context.scope.circles + length sorts.now < 2 ^ 16 }
-        requires good { IsTrue (are_good_facts (Scopes.grown self.old.context.scope sorts.now) self.old.context.facts) }
         ensures scope { OnOk result (self.new.context ≡ record self.old.context { scope = Scopes.grown self.old.context.scope sorts.now }) }
         ensures names { OnOk result (self.new.names ≡ named self.old.names sorts.now names.now) }
     {
         let scope = grown(self.context.scope(), sorts);
-        self.context.widen(scope);
+        self.context.widen(scope)?;
         name_all(&mut self.names, sorts, names)
     }
 

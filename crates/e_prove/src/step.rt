@@ -10,7 +10,7 @@ ghost use Rattle.e_deriv.specs.declared.block.Step.TheVariants.{Cite, Hence, Mak
 ghost use Rattle.e_construct.specs.Superposing;
 ghost use Rattle.e_clause.specs.Certify.{certify_all};
 ghost use Rattle.e_clause.specs.Written.{is_good_cert};
-ghost use Rattle.e_prove.specs.Contexts.{HasRoom, after_make, after_superposed};
+ghost use Rattle.e_prove.specs.Contexts.{HasRoom, after_literal, after_make, after_superposed};
 ghost use Rattle.e_prove.specs.Halts.{HaltsIn, UnlessNoMemory};
 ghost use Rattle.e_prove.specs.Judging.{IsJudged, StepHalts};
 
@@ -22,7 +22,8 @@ use e_construct::{Construction, Superpose};
 use e_deriv::{Step, Wanted, copy_by, copy_construction};
 use e_literal::{Items, Lit, copy};
 use e_text::Name;
-use std::alloc::Global;
+use std::alloc::{AllocError, Global};
+use std::mem;
 
 /// A citation: its literal is one of the instance, and the negation of each other is a fact.
 #[tactic(auto, unfolding(e_deriv::specs::Script::step_script))]
@@ -52,13 +53,27 @@ pub fn hence(alloc: Global, lit: &Lit, standing: &mut Standing) -> Result<Step, 
     ensures err { IfErr result (λ h. (before : List Stated) (cert : Option Certificate) → StepHalts before (Hence lit.now cert) standing.old h) }
     ensures kept { IfErr result (UnlessNoMemory (standing.new ≡ standing.old)) }
 {
-    let cert = licensed(alloc, &standing.context, lit)?;
-    let derived = copy(alloc, lit)?;
-    standing.context.add(copy(alloc, lit)?)?;
-    Ok(Step::Hence {
-        lit: derived,
-        cert: Some(cert),
-    })
+    let cert = licensed(alloc, &mut standing.context, lit)?;
+    match supposed(alloc, lit, standing) {
+        Ok(lit) => Ok(Step::Hence {
+            lit,
+            cert: Some(cert),
+        }),
+        Err(_) => {
+            mem::drop(cert);
+            Err(Halt::NoMemory)
+        }
+    }
+}
+
+/// The literal is a fact; hands out an equal one. It fails only for want of memory; nothing is said of what holds then.
+fn supposed(alloc: Global, lit: &Lit, standing: &mut Standing) -> Result<Lit, AllocError>
+    requires { IsTrue (are_good_facts standing.old.context.scope (joined standing.old.context.facts lit.now)) }
+    ensures lit { IfOk result (λ l. l ≡ lit.now) }
+    ensures after { OnOk result (standing.new ≡ after_literal lit.now standing.old) }
+{
+    standing.suppose(alloc, lit)?;
+    copy(alloc, lit)
 }
 
 /// A construction: each literal that it needs is allowed.
@@ -77,7 +92,7 @@ pub fn make(
     ensures kept { IfErr result (UnlessNoMemory (standing.new ≡ standing.old)) }
 {
     let needs = form.needs(alloc)?;
-    let certs = licences(alloc, &standing.context, &needs)?;
+    let certs = licences(alloc, &mut standing.context, &needs)?;
     let given = form.gives(alloc, standing.context.scope())?;
     standing.grow(form.made(), names)?;
     standing.join(given)?;
@@ -108,7 +123,7 @@ pub fn superpose(
     ensures kept { IfErr result (UnlessNoMemory (standing.new ≡ standing.old)) }
 {
     let needs = form.needs(alloc)?;
-    let certs = licences(alloc, &standing.context, &needs)?;
+    let certs = licences(alloc, &mut standing.context, &needs)?;
     let given = form.gives(alloc, standing.context.scope())?;
     standing.grow(form.made(), names)?;
     standing.join(given)?;

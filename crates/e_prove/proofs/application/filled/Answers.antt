@@ -1,15 +1,19 @@
-use Rattle.std.proofs.Common.{arith, subst}
+use Rattle.std.proofs.Common.{sym, ◌∙◌, subst}
+use Rattle.std.specs.Prelude.{IfOk, IfErr}
 use Rattle.e_theorem.specs.Statements.{stated}
-use Rattle.e_licence.specs.Fills.{FilledIs}
-use Rattle.e_prove.proofs.Applying.{match_halts_so}
+use Rattle.e_licence.specs.Contexts.{Basis}
+use Rattle.e_prove.specs.Applying.{CanApply, IsUse}
+use Rattle.e_prove.specs.Halts.{HaltsFilling}
 use Rattle.e_prove.proofs.application.filled.Goals as goal
-use Rattle.e_deriv.proofs.Smallness.{few_objects}
 
-pub match_blanks-requires-clause-few : goal.match_blanks-requires-clause-few
-match_blanks-requires-clause-few c = let few = few_objects (stated c.args.statement.now) c.requires.statement in omega (arith, few)
+pub filled_by_least-requires : goal.filled_by_least-requires
+filled_by_least-requires c = subst (λ (b : Basis). CanApply (stated c.args.statement.now) c.args.pattern.now b) (sym c.in_ok-solve.ensures) c.requires
 
-pub returns-in-Err-clause-err : goal.returns-in-Err-clause-err
-returns-in-Err-clause-err c =
-    let t = stated c.args.statement.now in
-    let x = c.args.context.now in
-    match_halts_so t x c.args.pattern.now c.in-Found.args c.in-Err.halt c.as_match.result (subst (FilledIs t x c.args.pattern.now) c.in-Found.is c.in_ok-args.ensures) c.in-Err.ensures.err c.as_match.ensures
+pub returns-clause-ok : goal.returns-clause-ok
+returns-clause-ok c = subst (λ (b : Basis). IfOk c.filled_by_least.result (IsUse (stated c.args.statement.now) c.args.pattern.now b)) c.in_ok-solve.ensures c.filled_by_least.ensures.ok
+
+pub returns-clause-err : goal.returns-clause-err
+returns-clause-err c = subst (λ (b : Basis). IfErr c.filled_by_least.result (HaltsFilling (stated c.args.statement.now) b c.args.pattern.now)) c.in_ok-solve.ensures c.filled_by_least.ensures.err
+
+pub returns-clause-kept : goal.returns-clause-kept
+returns-clause-kept c = c.filled_by_least.ensures.kept ∙ c.in_ok-solve.ensures

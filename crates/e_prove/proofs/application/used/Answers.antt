@@ -1,7 +1,6 @@
 use Rattle.e_theorem.specs.Statements.{stated}
-use Rattle.e_deriv.specs.Parts.{written}
 use Rattle.e_prove.proofs.Licensing.{err_map}
-use Rattle.e_prove.proofs.Applying.{written_is, used_is_written, halts_without, halts_with, written_fits, written_needs}
+use Rattle.e_prove.proofs.Applying.{written_is, used_is_written, halts_without, written_fits, written_needs}
 use Rattle.e_prove.proofs.application.used.Goals as goal
 
 pub used_at-requires-clause-fit : goal.used_at-requires-clause-fit

@@ -1,22 +1,26 @@
-use Rattle.std.proofs.Common.{◌≡◌, ◌+◌, ◌<◌, length, rules, arith, sym, ap, ◌∙◌, subst, true, IfOk}
+use Rattle.std.proofs.Common.{◌≡◌, ◌+◌, ◌<◌, ◌++◌, ◌∷◌, [], length, rules, arith, sym, ap, ◌∙◌, subst, true, IfOk}
 use Rattle.e_literal.specs.Literal.{negation}
 use Rattle.e_literal.specs.Facts.{joined}
+use Rattle.e_clause.specs.Certify.{certify_all}
 use Rattle.e_clause.specs.Judged.{are_good, are_good_facts}
 use Rattle.e_theorem.specs.Statements.{stated, all_stated}
 use Rattle.e_deriv.specs.declared.block.Close.TheViews.{the_lemmas}
 use Rattle.e_deriv.specs.declared.block.Step.TheVariants.{Cite, Hence, Make, Apply}
-use Rattle.e_deriv.specs.declared.block.Close.TheVariants.{Qed, Contradiction}
+use Rattle.e_deriv.specs.declared.block.Close.TheVariants.{Qed}
 use Rattle.e_deriv.specs.Script.{script_of, step_script, close_script, size}
 use Rattle.e_deriv.specs.Goal.{goal_of, are_for, goal_with}
-use Rattle.e_prove.specs.Contexts.{goal_said, after_literal, after_superposed}
+use Rattle.e_construct.specs.Superposing as superposing
+use Rattle.e_prove.specs.Contexts.{HasRoom, goal_said, after_literal, after_superposed}
 use Rattle.e_prove.specs.Applying.{CanApply}
 use Rattle.e_prove.specs.Judging.{IsJudged, CloseHalts, StepHalts}
 use Rattle.e_prove.specs.Passing.{IsReadyFor, IsReadyStep, IsDerived, IsPassed, StopsWithin}
 use Rattle.e_prove.proofs.Licensing.{ok_map, err_map}
 use Rattle.e_prove.proofs.Closing.{qed_fits}
-use Rattle.e_prove.proofs.Passing.{told_passed, told_stops, told_close_stops, stops_as_memory}
+use Rattle.e_prove.proofs.Passing.{told_passed, told_stops, told_close_stops, stops_for_memory, stops_as_memory}
 use Rattle.e_prove.proofs.Ready.{cite_good, hence_good, one_good, make_good, make_room, claim_parts, claim_lines, claim_after, superposed_parts, superposed_lines, superposed_after, block_facts, room_of_small, apply_good, as_many, theorem_is}
-use Rattle.e_prove.proofs.Blocks.{on_ok, passed_start, step_ready, step_stops, step_passed, close_ready, close_few, close_derived, close_stops, kept_on, kept_literal, kept_superposed, few_left, good_left_for, good_behind, left_is, claim_passed, claim_stopped, superposed_passed, superposed_stopped, superposed_refused, split_parts, split_second_ready, split_size, split_derived, split_stops_first, split_stops_second, cite_one, hence_one, make_one, apply_one, qed_one, contradiction_one}
+use Rattle.e_prove.proofs.Blocks.{on_ok, passed_start, step_ready, step_stops, step_passed, close_ready, close_few, close_derived, close_stops, kept_on, kept_literal, claim_passed, claim_stopped, superposed_passed, superposed_stopped, superposed_refused, split_parts, split_second_ready, split_size, split_derived, split_stops_first, split_stops_second, cite_one, hence_one, make_one, apply_one, qed_one, contradiction_one}
+use Rattle.e_licence.specs.Contexts.{state_of}
+use Rattle.e_prove.proofs.Holding.{ready_inside, derived_outside, stops_outside, halts_outside, names_outside, kept_inside, some_held, left_is, good_behind}
 use Rattle.e_prove.proofs.block.+block.Goals as goal
 use Rattle.e_book.proofs.ScriptParts.{at_least}
 
@@ -91,8 +95,8 @@ prove_close-returns-in_err-outer-in-Cases-clause-err t c = stops_as_memory (all_
 pub prove_close-returns-in_err-suppose-in-Cases-clause-err : goal.prove_close-returns-in_err-suppose-in-Cases-clause-err
 prove_close-returns-in_err-suppose-in-Cases-clause-err t c = stops_as_memory (all_stated c.args.before.now) (close_script c.args.close.now) c.args.standing.now (goal_said c.args.goal.now) c.args.number c.from_residual-in_err-suppose-in-Cases.result (search rules)
 
-pub prove_close-returns-in_err-suppose_not-in-Cases-clause-err : goal.prove_close-returns-in_err-suppose_not-in-Cases-clause-err
-prove_close-returns-in_err-suppose_not-in-Cases-clause-err t c = stops_as_memory (all_stated c.args.before.now) (close_script c.args.close.now) c.args.standing.now (goal_said c.args.goal.now) c.args.number c.from_residual-in_err-suppose_not-in-Cases.result (search rules)
+pub prove_close-returns-in-Err-suppose_not-clause-err : goal.prove_close-returns-in-Err-suppose_not-clause-err
+prove_close-returns-in-Err-suppose_not-clause-err t c = stops_for_memory (all_stated c.args.before.now) (close_script c.args.close.now) c.args.standing.now (goal_said c.args.goal.now) c.args.number
 
 pub prove_close-returns-in-Ok-prove_block-clause-err : goal.prove_close-returns-in-Ok-prove_block-clause-err
 prove_close-returns-in-Ok-prove_block-clause-err t c = stops_as_memory (all_stated c.args.before.now) (close_script c.args.close.now) c.args.standing.now (goal_said c.args.goal.now) c.args.number c.split.result c.split.ensures.err
@@ -122,7 +126,8 @@ prove_close-suppose-requires t c =
     let x = c.args.standing.now in
     let goal = goal_said c.args.goal.now in
     let parts = split_parts (all_stated c.args.before.now) c.args.close.now c.in-Cases.lit c.in-Cases.first c.in-Cases.second x goal c.in-Cases.is c.requires.ready in
-    block_facts (all_stated c.args.before.now) (script_of c.in-Cases.first.value) (after_literal c.in-Cases.lit x) goal parts.one
+    let good = block_facts (all_stated c.args.before.now) (script_of c.in-Cases.first.value) (after_literal c.in-Cases.lit x) goal parts.one in
+    subst (λ y. are_good_facts y.context.scope (joined y.context.facts c.in-Cases.lit) ≡ true) (sym c.in_ok-outer-in-Cases.ensures.held) good
 
 pub prove_close-overflow_add-number : goal.prove_close-overflow_add-number
 prove_close-overflow_add-number t c = let one = at_least (close_script c.args.close.now) in omega (arith, one, c.requires.few)
@@ -131,13 +136,16 @@ pub prove_close-prove_block-requires : goal.prove_close-prove_block-requires
 prove_close-prove_block-requires t c =
     let x = c.args.standing.now in
     let goal = goal_said c.args.goal.now in
+    let hs = x.context.held ++ state_of x.context ∷ [] in
+    let first = after_literal c.in-Cases.lit x in
+    let entered = c.in_ok-suppose-in-Cases.ensures ∙ ap (after_literal c.in-Cases.lit) c.in_ok-outer-in-Cases.ensures.held in
     let parts = split_parts (all_stated c.args.before.now) c.args.close.now c.in-Cases.lit c.in-Cases.first c.in-Cases.second x goal c.in-Cases.is c.requires.ready in
     let count = split_size c.args.close.now c.in-Cases.lit c.in-Cases.first c.in-Cases.second c.in-Cases.is in
     let same = ap (λ b. size (script_of b)) c.deref.ensures in (
       search (rules, the_lemmas),
       (
         subst (λ b. IsReadyFor (all_stated c.args.before.now) (script_of b) c.suppose.new.self goal) (sym c.deref.ensures)
-            (subst (λ y. IsReadyFor (all_stated c.args.before.now) (script_of c.in-Cases.first.value) y goal) (sym c.in_ok-suppose-in-Cases.ensures) parts.one),
+            (ready_inside (all_stated c.args.before.now) (script_of c.in-Cases.first.value) first c.suppose.new.self goal hs entered parts.one),
         omega (arith, count, same, c.requires.few),
       ),
     )
@@ -146,36 +154,37 @@ pub prove_close-returns-in-Err-clause-err : goal.prove_close-returns-in-Err-clau
 prove_close-returns-in-Err-clause-err t c =
     let x = c.args.standing.now in
     let goal = goal_said c.args.goal.now in
+    let hs = x.context.held ++ state_of x.context ∷ [] in
+    let first = after_literal c.in-Cases.lit x in
+    let entered = c.in_ok-suppose-in-Cases.ensures ∙ ap (after_literal c.in-Cases.lit) c.in_ok-outer-in-Cases.ensures.held in
     let parts = split_parts (all_stated c.args.before.now) c.args.close.now c.in-Cases.lit c.in-Cases.first c.in-Cases.second x goal c.in-Cases.is c.requires.ready in
     split_stops_first (all_stated c.args.before.now) c.args.close.now c.in-Cases.lit c.in-Cases.first c.in-Cases.second x goal c.args.number c.in-Err.stop c.in-Cases.is parts
-    (subst (λ y. StopsWithin (all_stated c.args.before.now) (script_of c.in-Cases.first.value) y goal (c.args.number + 1) c.in-Err.stop) c.in_ok-suppose-in-Cases.ensures
+    (stops_outside (all_stated c.args.before.now) (script_of c.in-Cases.first.value) first c.suppose.new.self goal (c.args.number + 1) c.in-Err.stop hs entered
     (subst (λ b. StopsWithin (all_stated c.args.before.now) (script_of b) c.suppose.new.self goal (c.args.number + 1) c.in-Err.stop) c.deref.ensures c.in-Err.ensures.err))
 
-pub prove_close-leave-requires-clause-few : goal.prove_close-leave-requires-clause-few
-prove_close-leave-requires-clause-few t c =
-    few_left c.in_ok-outer-in-Cases.outer c.args.standing.now c.prove_block.new.standing c.in_ok-outer-in-Cases.ensures
-    (kept_literal c.in-Cases.lit c.args.standing.now c.suppose.new.self c.prove_block.new.standing c.in_ok-suppose-in-Cases.ensures c.in-Ok.ensures.kept)
-
-pub prove_close-leave-requires-clause-good : goal.prove_close-leave-requires-clause-good
-prove_close-leave-requires-clause-good t c =
-    good_left_for c.in_ok-outer-in-Cases.outer c.args.standing.now c.prove_block.new.standing c.in_ok-outer-in-Cases.ensures
-    (kept_literal c.in-Cases.lit c.args.standing.now c.suppose.new.self c.prove_block.new.standing c.in_ok-suppose-in-Cases.ensures c.in-Ok.ensures.kept)
-    (block_facts (all_stated c.args.before.now) (close_script c.args.close.now) c.args.standing.now (goal_said c.args.goal.now) c.requires.ready)
+pub prove_close-release-requires : goal.prove_close-release-requires
+prove_close-release-requires t c =
+    let x = c.args.standing.now in
+    let entered = c.in_ok-suppose-in-Cases.ensures ∙ ap (after_literal c.in-Cases.lit) c.in_ok-outer-in-Cases.ensures.held in
+    some_held x c.prove_block.new.standing (c.in-Ok.ensures.kept ∙ ap (λ w. w.context.held) entered)
 
 pub prove_close-suppose_not-requires : goal.prove_close-suppose_not-requires
 prove_close-suppose_not-requires t c =
     let x = c.args.standing.now in
     let goal = goal_said c.args.goal.now in
+    let hs = x.context.held ++ state_of x.context ∷ [] in
+    let first = after_literal c.in-Cases.lit x in
+    let entered = c.in_ok-suppose-in-Cases.ensures ∙ ap (after_literal c.in-Cases.lit) c.in_ok-outer-in-Cases.ensures.held in
     let lit = c.in-Cases.lit in
     let other =
     split_second_ready (all_stated c.args.before.now) c.args.close.now lit c.in-Cases.first c.in-Cases.second (script_of c.in-Ok.one.block) x goal c.in-Cases.is
-    (subst (λ y. IsDerived (all_stated c.args.before.now) (script_of c.in-Cases.first.value) y goal (script_of c.in-Ok.one.block)) c.in_ok-suppose-in-Cases.ensures
+    (derived_outside (all_stated c.args.before.now) (script_of c.in-Cases.first.value) first c.suppose.new.self goal (script_of c.in-Ok.one.block) hs entered
     (subst (λ b. IsDerived (all_stated c.args.before.now) (script_of b) c.suppose.new.self goal (script_of c.in-Ok.one.block)) c.deref.ensures c.in-Ok.ensures.derived))
     c.requires.ready
     in
     let back =
-    left_is c.in_ok-outer-in-Cases.outer x c.prove_block.new.standing c.leave.new.self c.in_ok-outer-in-Cases.ensures
-    (kept_literal lit x c.suppose.new.self c.prove_block.new.standing c.in_ok-suppose-in-Cases.ensures c.in-Ok.ensures.kept) c.leave.ensures
+    left_is c.in_ok-outer-in-Cases.outer x c.prove_block.new.standing c.release.new.self c.in_ok-outer-in-Cases.ensures.names
+    (c.in-Ok.ensures.kept ∙ ap (λ w. w.context.held) entered) c.release.ensures
     in
     subst (λ y. are_good_facts y.context.scope (joined y.context.facts (negation lit)) ≡ true) (sym back) (block_facts (all_stated c.args.before.now) (script_of c.in-Cases.second.value) (after_literal (negation lit) x) goal other)
 
@@ -183,19 +192,22 @@ pub prove_close-prove_block-requires-in-Cases : goal.prove_close-prove_block-req
 prove_close-prove_block-requires-in-Cases t c =
     let x = c.args.standing.now in
     let goal = goal_said c.args.goal.now in
+    let hs = x.context.held ++ state_of x.context ∷ [] in
+    let first = after_literal c.in-Cases.lit x in
+    let entered = c.in_ok-suppose-in-Cases.ensures ∙ ap (after_literal c.in-Cases.lit) c.in_ok-outer-in-Cases.ensures.held in
     let lit = c.in-Cases.lit in
     let other =
     split_second_ready (all_stated c.args.before.now) c.args.close.now lit c.in-Cases.first c.in-Cases.second (script_of c.in-Ok.one.block) x goal c.in-Cases.is
-    (subst (λ y. IsDerived (all_stated c.args.before.now) (script_of c.in-Cases.first.value) y goal (script_of c.in-Ok.one.block)) c.in_ok-suppose-in-Cases.ensures
+    (derived_outside (all_stated c.args.before.now) (script_of c.in-Cases.first.value) first c.suppose.new.self goal (script_of c.in-Ok.one.block) hs entered
     (subst (λ b. IsDerived (all_stated c.args.before.now) (script_of b) c.suppose.new.self goal (script_of c.in-Ok.one.block)) c.deref.ensures c.in-Ok.ensures.derived))
     c.requires.ready
     in
     let count = split_size c.args.close.now lit c.in-Cases.first c.in-Cases.second c.in-Cases.is in
     let back =
-    left_is c.in_ok-outer-in-Cases.outer x c.prove_block.new.standing c.leave.new.self c.in_ok-outer-in-Cases.ensures
-    (kept_literal lit x c.suppose.new.self c.prove_block.new.standing c.in_ok-suppose-in-Cases.ensures c.in-Ok.ensures.kept) c.leave.ensures
+    left_is c.in_ok-outer-in-Cases.outer x c.prove_block.new.standing c.release.new.self c.in_ok-outer-in-Cases.ensures.names
+    (c.in-Ok.ensures.kept ∙ ap (λ w. w.context.held) entered) c.release.ensures
     in
-    let begun = c.in_ok-suppose_not-in-Cases.ensures ∙ ap (after_literal (negation lit)) back in
+    let begun = c.in-Ok-suppose_not.ensures ∙ ap (after_literal (negation lit)) back in
     let same = ap (λ b. size (script_of b)) c.deref.ensures in
     let count_other = ap (λ b. size (script_of b)) c.deref-in-Cases.ensures in (
       search (rules, the_lemmas),
@@ -221,6 +233,12 @@ prove_close-returns-in-Qed-clause-err t c =
     c.qed-judged.ensures.err)
     c.told_close.ensures.err
 
+pub prove_close-returns-in-Qed-clause-kept : goal.prove_close-returns-in-Qed-clause-kept
+prove_close-returns-in-Qed-clause-kept t c = on_ok _ c.told_close.result (ap (λ b. b.held) c.qed-judged.ensures.kept)
+
+pub prove_close-returns-in-Contradiction-clause-kept : goal.prove_close-returns-in-Contradiction-clause-kept
+prove_close-returns-in-Contradiction-clause-kept t c = on_ok _ c.told_close-in-Contradiction.result (ap (λ b. b.held) c.contradiction-judged.ensures.kept)
+
 pub prove_close-returns-in-Contradiction-clause-next : goal.prove_close-returns-in-Contradiction-clause-next
 prove_close-returns-in-Contradiction-clause-next t c =
     let one = ap (λ k. size (close_script k)) c.in-Contradiction.is ∙ contradiction_one c.in-Contradiction.against in
@@ -238,15 +256,18 @@ pub prove_close-returns-in-Ok-prove_block-clause-derived : goal.prove_close-retu
 prove_close-returns-in-Ok-prove_block-clause-derived t c =
     let x = c.args.standing.now in
     let goal = goal_said c.args.goal.now in
+    let hs = x.context.held ++ state_of x.context ∷ [] in
+    let first = after_literal c.in-Cases.lit x in
+    let entered = c.in_ok-suppose-in-Cases.ensures ∙ ap (after_literal c.in-Cases.lit) c.in_ok-outer-in-Cases.ensures.held in
     let lit = c.in-Cases.lit in
     let parts = split_parts (all_stated c.args.before.now) c.args.close.now lit c.in-Cases.first c.in-Cases.second x goal c.in-Cases.is c.requires.ready in
     let back =
-    left_is c.in_ok-outer-in-Cases.outer x c.prove_block.new.standing c.leave.new.self c.in_ok-outer-in-Cases.ensures
-    (kept_literal lit x c.suppose.new.self c.prove_block.new.standing c.in_ok-suppose-in-Cases.ensures c.in-Ok.ensures.kept) c.leave.ensures
+    left_is c.in_ok-outer-in-Cases.outer x c.prove_block.new.standing c.release.new.self c.in_ok-outer-in-Cases.ensures.names
+    (c.in-Ok.ensures.kept ∙ ap (λ w. w.context.held) entered) c.release.ensures
     in
-    let begun = c.in_ok-suppose_not-in-Cases.ensures ∙ ap (after_literal (negation lit)) back in
+    let begun = c.in-Ok-suppose_not.ensures ∙ ap (after_literal (negation lit)) back in
     split_derived (all_stated c.args.before.now) c.args.close.now lit c.in-Cases.first c.in-Cases.second c.in-Ok.one.block c.in-Ok-prove_block.other.block x goal c.split.result c.in-Cases.is parts
-    (subst (λ y. IsDerived (all_stated c.args.before.now) (script_of c.in-Cases.first.value) y goal (script_of c.in-Ok.one.block)) c.in_ok-suppose-in-Cases.ensures
+    (derived_outside (all_stated c.args.before.now) (script_of c.in-Cases.first.value) first c.suppose.new.self goal (script_of c.in-Ok.one.block) hs entered
     (subst (λ b. IsDerived (all_stated c.args.before.now) (script_of b) c.suppose.new.self goal (script_of c.in-Ok.one.block)) c.deref.ensures c.in-Ok.ensures.derived))
     (subst (λ y. IsDerived (all_stated c.args.before.now) (script_of c.in-Cases.second.value) y goal (script_of c.in-Ok-prove_block.other.block)) begun
     (subst (λ b. IsDerived (all_stated c.args.before.now) (script_of b) c.suppose_not.new.self goal (script_of c.in-Ok-prove_block.other.block)) c.deref-in-Cases.ensures c.in-Ok-prove_block.ensures.derived))
@@ -262,27 +283,33 @@ prove_close-returns-in-Ok-prove_block-clause-next t c =
 pub prove_close-returns-in-Ok-prove_block-clause-kept : goal.prove_close-returns-in-Ok-prove_block-clause-kept
 prove_close-returns-in-Ok-prove_block-clause-kept t c =
     let x = c.args.standing.now in
+    let hs = x.context.held ++ state_of x.context ∷ [] in
+    let first = after_literal c.in-Cases.lit x in
+    let entered = c.in_ok-suppose-in-Cases.ensures ∙ ap (after_literal c.in-Cases.lit) c.in_ok-outer-in-Cases.ensures.held in
     let lit = c.in-Cases.lit in
     let back =
-    left_is c.in_ok-outer-in-Cases.outer x c.prove_block.new.standing c.leave.new.self c.in_ok-outer-in-Cases.ensures
-    (kept_literal lit x c.suppose.new.self c.prove_block.new.standing c.in_ok-suppose-in-Cases.ensures c.in-Ok.ensures.kept) c.leave.ensures
+    left_is c.in_ok-outer-in-Cases.outer x c.prove_block.new.standing c.release.new.self c.in_ok-outer-in-Cases.ensures.names
+    (c.in-Ok.ensures.kept ∙ ap (λ w. w.context.held) entered) c.release.ensures
     in
-    on_ok _ c.split.result (kept_literal (negation lit) x c.suppose_not.new.self c.prove_block-in-Cases.new.standing (c.in_ok-suppose_not-in-Cases.ensures ∙ ap (after_literal (negation lit)) back) c.in-Ok-prove_block.ensures.kept)
+    on_ok _ c.split.result (kept_literal (negation lit) x c.suppose_not.new.self c.prove_block-in-Cases.new.standing (c.in-Ok-suppose_not.ensures ∙ ap (after_literal (negation lit)) back) c.in-Ok-prove_block.ensures.kept)
 
 pub prove_close-returns-in-Err-prove_block-clause-err : goal.prove_close-returns-in-Err-prove_block-clause-err
 prove_close-returns-in-Err-prove_block-clause-err t c =
     let x = c.args.standing.now in
     let goal = goal_said c.args.goal.now in
+    let hs = x.context.held ++ state_of x.context ∷ [] in
+    let first = after_literal c.in-Cases.lit x in
+    let entered = c.in_ok-suppose-in-Cases.ensures ∙ ap (after_literal c.in-Cases.lit) c.in_ok-outer-in-Cases.ensures.held in
     let lit = c.in-Cases.lit in
     let parts = split_parts (all_stated c.args.before.now) c.args.close.now lit c.in-Cases.first c.in-Cases.second x goal c.in-Cases.is c.requires.ready in
     let back =
-    left_is c.in_ok-outer-in-Cases.outer x c.prove_block.new.standing c.leave.new.self c.in_ok-outer-in-Cases.ensures
-    (kept_literal lit x c.suppose.new.self c.prove_block.new.standing c.in_ok-suppose-in-Cases.ensures c.in-Ok.ensures.kept) c.leave.ensures
+    left_is c.in_ok-outer-in-Cases.outer x c.prove_block.new.standing c.release.new.self c.in_ok-outer-in-Cases.ensures.names
+    (c.in-Ok.ensures.kept ∙ ap (λ w. w.context.held) entered) c.release.ensures
     in
-    let begun = c.in_ok-suppose_not-in-Cases.ensures ∙ ap (after_literal (negation lit)) back in
+    let begun = c.in-Ok-suppose_not.ensures ∙ ap (after_literal (negation lit)) back in
     let same = ap (λ b. size (script_of b)) c.deref.ensures in
     split_stops_second (all_stated c.args.before.now) c.args.close.now lit c.in-Cases.first c.in-Cases.second c.in-Ok.one.block x goal c.args.number c.in-Ok.one.next c.in-Err-prove_block.stop c.in-Cases.is parts
-    (subst (λ y. IsDerived (all_stated c.args.before.now) (script_of c.in-Cases.first.value) y goal (script_of c.in-Ok.one.block)) c.in_ok-suppose-in-Cases.ensures
+    (derived_outside (all_stated c.args.before.now) (script_of c.in-Cases.first.value) first c.suppose.new.self goal (script_of c.in-Ok.one.block) hs entered
     (subst (λ b. IsDerived (all_stated c.args.before.now) (script_of b) c.suppose.new.self goal (script_of c.in-Ok.one.block)) c.deref.ensures c.in-Ok.ensures.derived))
     (omega (arith, same, c.in-Ok.ensures.next))
     (subst (λ y. StopsWithin (all_stated c.args.before.now) (script_of c.in-Cases.second.value) y goal c.in-Ok.one.next c.in-Err-prove_block.stop) begun
@@ -428,45 +455,58 @@ prove_step-overflow_add-number t c = let one = at_least (step_script c.args.step
 pub prove_step-prove_block-requires : goal.prove_step-prove_block-requires
 prove_step-prove_block-requires t c =
     let x = c.args.standing.now in
+    let hs = x.context.held ++ state_of x.context ∷ [] in
     let ready = subst (λ s. IsReadyStep (all_stated c.args.before.now) s x c.args.number) c.in-Claim.is c.requires in
     let parts = claim_parts (all_stated c.args.before.now) c.in-Claim.shown c.in-Claim.inner x c.args.number ready in
     let few = claim_lines (all_stated c.args.before.now) c.in-Claim.shown c.in-Claim.inner x c.args.number ready in
     let same = ap (λ b. size (script_of b)) c.deref.ensures in (
       search (rules, the_lemmas),
       (
-        subst (λ b. IsReadyFor (all_stated c.args.before.now) (script_of b) x (goal_of c.items-in-Claim.result.now)) (sym c.deref.ensures)
-            (subst (λ ls. IsReadyFor (all_stated c.args.before.now) (script_of c.in-Claim.inner.value) x (goal_of ls)) (sym c.items-in-Claim.ensures) parts.block),
+        subst (λ b. IsReadyFor (all_stated c.args.before.now) (script_of b) c.hold.new.self (goal_of c.items-in-Claim.result.now)) (sym c.deref.ensures)
+            (subst (λ ls. IsReadyFor (all_stated c.args.before.now) (script_of c.in-Claim.inner.value) c.hold.new.self (goal_of ls)) (sym c.items-in-Claim.ensures)
+            (ready_inside (all_stated c.args.before.now) (script_of c.in-Claim.inner.value) x c.hold.new.self (goal_of c.in-Claim.shown) hs c.in_ok-outer-in-Claim.ensures.held parts.block)),
         omega (arith, same, few),
       ),
     )
 
+pub prove_step-claimed-requires-clause-held : goal.prove_step-claimed-requires-clause-held
+prove_step-claimed-requires-clause-held t c =
+    let x = c.args.standing.now in
+    some_held x c.prove_block.new.standing (kept_inside x c.hold.new.self c.prove_block.new.standing c.in_ok-outer-in-Claim.ensures.held c.in-Ok.ensures.kept)
+
 pub prove_step-claimed-requires-clause-good : goal.prove_step-claimed-requires-clause-good
 prove_step-claimed-requires-clause-good t c =
     let x = c.args.standing.now in
+    let hs = x.context.held ++ state_of x.context ∷ [] in
     let ready = subst (λ s. IsReadyStep (all_stated c.args.before.now) s x c.args.number) c.in-Claim.is c.requires in
-    good_behind c.in_ok-outer-in-Claim.outer x c.prove_block.new.standing c.in-Claim.shown c.items-in-Ok.result.now c.in_ok-outer-in-Claim.ensures c.in-Ok.ensures.kept c.items-in-Ok.ensures
+    good_behind x c.prove_block.new.standing c.in-Claim.shown c.items-in-Ok.result.now (kept_inside x c.hold.new.self c.prove_block.new.standing c.in_ok-outer-in-Claim.ensures.held c.in-Ok.ensures.kept) c.items-in-Ok.ensures
     (claim_after (all_stated c.args.before.now) c.in-Claim.shown c.in-Claim.inner (script_of c.in-Ok.proved.block) x c.args.number
-    (subst (λ ls. IsDerived (all_stated c.args.before.now) (script_of c.in-Claim.inner.value) x (goal_of ls) (script_of c.in-Ok.proved.block)) c.items-in-Claim.ensures
-    (subst (λ b. IsDerived (all_stated c.args.before.now) (script_of b) x (goal_of c.items-in-Claim.result.now) (script_of c.in-Ok.proved.block)) c.deref.ensures c.in-Ok.ensures.derived)) ready)
+    (derived_outside (all_stated c.args.before.now) (script_of c.in-Claim.inner.value) x c.hold.new.self (goal_of c.in-Claim.shown) (script_of c.in-Ok.proved.block) hs c.in_ok-outer-in-Claim.ensures.held
+    (subst (λ ls. IsDerived (all_stated c.args.before.now) (script_of c.in-Claim.inner.value) c.hold.new.self (goal_of ls) (script_of c.in-Ok.proved.block)) c.items-in-Claim.ensures
+    (subst (λ b. IsDerived (all_stated c.args.before.now) (script_of b) c.hold.new.self (goal_of c.items-in-Claim.result.now) (script_of c.in-Ok.proved.block)) c.deref.ensures c.in-Ok.ensures.derived))) ready)
 
 pub prove_step-returns-in-Ok-clause-ok : goal.prove_step-returns-in-Ok-clause-ok
 prove_step-returns-in-Ok-clause-ok t c =
     let x = c.args.standing.now in
+    let hs = x.context.held ++ state_of x.context ∷ [] in
     let ready = subst (λ s. IsReadyStep (all_stated c.args.before.now) s x c.args.number) c.in-Claim.is c.requires in
     let same = ap (λ b. size (script_of b)) c.deref.ensures in
     claim_passed (all_stated c.args.before.now) c.args.step.now c.in-Claim.shown c.items-in-Ok.result.now c.in-Claim.inner x c.prove_block.new.standing c.claimed.new.standing c.args.number c.in_ok-outer-in-Claim.outer c.in-Ok.proved c.claimed.result
     c.in-Claim.is c.items-in-Ok.ensures (claim_parts (all_stated c.args.before.now) c.in-Claim.shown c.in-Claim.inner x c.args.number ready)
-    (subst (λ ls. IsDerived (all_stated c.args.before.now) (script_of c.in-Claim.inner.value) x (goal_of ls) (script_of c.in-Ok.proved.block)) c.items-in-Claim.ensures
-    (subst (λ b. IsDerived (all_stated c.args.before.now) (script_of b) x (goal_of c.items-in-Claim.result.now) (script_of c.in-Ok.proved.block)) c.deref.ensures c.in-Ok.ensures.derived))
-    (omega (arith, same, c.in-Ok.ensures.next)) c.in_ok-outer-in-Claim.ensures c.in-Ok.ensures.kept c.claimed.ensures.step c.claimed.ensures.next c.claimed.ensures.after
+    (derived_outside (all_stated c.args.before.now) (script_of c.in-Claim.inner.value) x c.hold.new.self (goal_of c.in-Claim.shown) (script_of c.in-Ok.proved.block) hs c.in_ok-outer-in-Claim.ensures.held
+    (subst (λ ls. IsDerived (all_stated c.args.before.now) (script_of c.in-Claim.inner.value) c.hold.new.self (goal_of ls) (script_of c.in-Ok.proved.block)) c.items-in-Claim.ensures
+    (subst (λ b. IsDerived (all_stated c.args.before.now) (script_of b) c.hold.new.self (goal_of c.items-in-Claim.result.now) (script_of c.in-Ok.proved.block)) c.deref.ensures c.in-Ok.ensures.derived)))
+    (omega (arith, same, c.in-Ok.ensures.next)) c.in_ok-outer-in-Claim.ensures.names (kept_inside x c.hold.new.self c.prove_block.new.standing c.in_ok-outer-in-Claim.ensures.held c.in-Ok.ensures.kept) c.claimed.ensures.step c.claimed.ensures.next c.claimed.ensures.after
 
 pub prove_step-returns-in-Err-clause-err : goal.prove_step-returns-in-Err-clause-err
 prove_step-returns-in-Err-clause-err t c =
     let x = c.args.standing.now in
+    let hs = x.context.held ++ state_of x.context ∷ [] in
     let ready = subst (λ s. IsReadyStep (all_stated c.args.before.now) s x c.args.number) c.in-Claim.is c.requires in
     claim_stopped (all_stated c.args.before.now) c.args.step.now c.in-Claim.shown c.in-Claim.inner x c.args.number c.in-Err.stop c.in-Claim.is (claim_parts (all_stated c.args.before.now) c.in-Claim.shown c.in-Claim.inner x c.args.number ready)
-    (subst (λ ls. StopsWithin (all_stated c.args.before.now) (script_of c.in-Claim.inner.value) x (goal_of ls) (c.args.number + 1) c.in-Err.stop) c.items-in-Claim.ensures
-    (subst (λ b. StopsWithin (all_stated c.args.before.now) (script_of b) x (goal_of c.items-in-Claim.result.now) (c.args.number + 1) c.in-Err.stop) c.deref.ensures c.in-Err.ensures.err))
+    (stops_outside (all_stated c.args.before.now) (script_of c.in-Claim.inner.value) x c.hold.new.self (goal_of c.in-Claim.shown) (c.args.number + 1) c.in-Err.stop hs c.in_ok-outer-in-Claim.ensures.held
+    (subst (λ ls. StopsWithin (all_stated c.args.before.now) (script_of c.in-Claim.inner.value) c.hold.new.self (goal_of ls) (c.args.number + 1) c.in-Err.stop) c.items-in-Claim.ensures
+    (subst (λ b. StopsWithin (all_stated c.args.before.now) (script_of b) c.hold.new.self (goal_of c.items-in-Claim.result.now) (c.args.number + 1) c.in-Err.stop) c.deref.ensures c.in-Err.ensures.err)))
 
 -- ---- a superposition
 
@@ -475,26 +515,36 @@ prove_step-superpose-requires-clause-room t c =
     let x = c.args.standing.now in
     let y = c.in-Superposed in
     let parts = superposed_parts (all_stated c.args.before.now) y.form y.names y.shown y.certs y.inner x c.args.number (subst (λ s. IsReadyStep (all_stated c.args.before.now) s x c.args.number) y.is c.requires) in
-    room_of_small x.context.scope parts.scope
+    subst (λ z. HasRoom z.context.scope) (sym c.in_ok-outer-in-Superposed.ensures.held) (room_of_small x.context.scope parts.scope)
 
 pub prove_step-superpose-requires-clause-needs : goal.prove_step-superpose-requires-clause-needs
 prove_step-superpose-requires-clause-needs t c =
     let x = c.args.standing.now in
     let y = c.in-Superposed in
+    let needs =
     (superposed_parts (all_stated c.args.before.now) y.form y.names y.shown y.certs y.inner x c.args.number (subst (λ s. IsReadyStep (all_stated c.args.before.now) s x c.args.number) y.is c.requires)).needs
+    in
+    subst (λ z. are_good z.context.scope (superposing.needs y.form) ≡ true) (sym c.in_ok-outer-in-Superposed.ensures.held) needs
 
 pub prove_step-superpose-requires-clause-after : goal.prove_step-superpose-requires-clause-after
 prove_step-superpose-requires-clause-after t c =
     let x = c.args.standing.now in
     let y = c.in-Superposed in
     let parts = superposed_parts (all_stated c.args.before.now) y.form y.names y.shown y.certs y.inner x c.args.number (subst (λ s. IsReadyStep (all_stated c.args.before.now) s x c.args.number) y.is c.requires) in
+    let good =
     block_facts (all_stated c.args.before.now) (script_of y.inner.value) (after_superposed y.form y.names x) (goal_of y.shown) parts.block
+    in
+    subst (λ z. let after = after_superposed y.form c.items-in-Superposed.result.now z in are_good_facts after.context.scope after.context.facts ≡ true) (sym c.in_ok-outer-in-Superposed.ensures.held) good
 
 pub prove_step-returns-in-Err-superpose-clause-err : goal.prove_step-returns-in-Err-superpose-clause-err
 prove_step-returns-in-Err-superpose-clause-err t c =
+    let x = c.args.standing.now in
     let y = c.in-Superposed in
-    superposed_refused (all_stated c.args.before.now) c.args.step.now y.form y.names y.shown y.certs y.inner c.args.standing.now c.superpose.new.standing c.args.number c.in-Err-superpose.halt c.stop_at.result y.is c.in-Err-superpose.ensures.err
-    c.in-Err-superpose.ensures.kept c.stop_at.ensures
+    let h = c.in-Err-superpose.halt in
+    let hs = x.context.held ++ state_of x.context ∷ [] in
+    superposed_refused (all_stated c.args.before.now) c.args.step.now y.form y.names y.shown y.certs y.inner x c.superpose.new.standing c.args.number h c.stop_at.result y.is
+    (halts_outside hs x c.hold-in-Superposed.new.self (superposing.needs y.form) h c.in_ok-outer-in-Superposed.ensures.held c.in-Err-superpose.ensures.err)
+    (names_outside hs x c.hold-in-Superposed.new.self c.superpose.new.standing h c.in_ok-outer-in-Superposed.ensures.held c.in-Err-superpose.ensures.kept) c.stop_at.ensures
 
 pub prove_step-overflow_add-number-in-Superposed : goal.prove_step-overflow_add-number-in-Superposed
 prove_step-overflow_add-number-in-Superposed t c = let one = at_least (step_script c.args.step.now c.requires.rest) in omega (arith, one, c.requires.few)
@@ -506,33 +556,38 @@ prove_step-prove_block-requires-in-Superposed t c =
     let ready = subst (λ s. IsReadyStep (all_stated c.args.before.now) s x c.args.number) y.is c.requires in
     let parts = superposed_parts (all_stated c.args.before.now) y.form y.names y.shown y.certs y.inner x c.args.number ready in
     let few = superposed_lines (all_stated c.args.before.now) y.form y.names y.shown y.certs y.inner x c.args.number ready in
-    let begun = c.in-Ok-superpose.ensures.after ∙ ap (λ ns. after_superposed y.form ns x) c.items-in-Superposed.ensures in
+    let hs = x.context.held ++ state_of x.context ∷ [] in
+    let inside = after_superposed y.form y.names x in
+    let begun = c.in-Ok-superpose.ensures.after ∙ ap (λ ns. after_superposed y.form ns c.hold-in-Superposed.new.self) c.items-in-Superposed.ensures ∙ ap (after_superposed y.form y.names) c.in_ok-outer-in-Superposed.ensures.held in
     let same = ap (λ b. size (script_of b)) c.deref-in-Superposed.ensures in (
       search (rules, the_lemmas),
       (
         subst (λ b. IsReadyFor (all_stated c.args.before.now) (script_of b) c.superpose.new.standing (goal_of c.items-in-Superposed-2.result.now)) (sym c.deref-in-Superposed.ensures)
             (subst (λ ls. IsReadyFor (all_stated c.args.before.now) (script_of y.inner.value) c.superpose.new.standing (goal_of ls)) (sym c.items-in-Superposed-2.ensures)
-            (subst (λ z. IsReadyFor (all_stated c.args.before.now) (script_of y.inner.value) z (goal_of y.shown)) (sym begun) parts.block)),
+            (ready_inside (all_stated c.args.before.now) (script_of y.inner.value) inside c.superpose.new.standing (goal_of y.shown) hs begun parts.block)),
         omega (arith, same, few),
       ),
     )
 
-pub prove_step-superposed-requires-clause-few : goal.prove_step-superposed-requires-clause-few
-prove_step-superposed-requires-clause-few t c =
+pub prove_step-superposed-requires-clause-held : goal.prove_step-superposed-requires-clause-held
+prove_step-superposed-requires-clause-held t c =
     let x = c.args.standing.now in
     let y = c.in-Superposed in
-    let begun = c.in-Ok-superpose.ensures.after ∙ ap (λ ns. after_superposed y.form ns x) c.items-in-Superposed.ensures in
-    few_left c.in_ok-outer-in-Superposed.outer x c.prove_block-in-Superposed.new.standing c.in_ok-outer-in-Superposed.ensures (kept_superposed y.form y.names x c.superpose.new.standing c.prove_block-in-Superposed.new.standing begun c.in-Ok-prove_block.ensures.kept)
+    let hs = x.context.held ++ state_of x.context ∷ [] in
+    let inside = after_superposed y.form y.names x in
+    let begun = c.in-Ok-superpose.ensures.after ∙ ap (λ ns. after_superposed y.form ns c.hold-in-Superposed.new.self) c.items-in-Superposed.ensures ∙ ap (after_superposed y.form y.names) c.in_ok-outer-in-Superposed.ensures.held in
+    some_held x c.prove_block-in-Superposed.new.standing (c.in-Ok-prove_block.ensures.kept ∙ ap (λ w. w.context.held) begun)
 
 pub prove_step-superposed-requires-clause-good : goal.prove_step-superposed-requires-clause-good
 prove_step-superposed-requires-clause-good t c =
     let x = c.args.standing.now in
     let y = c.in-Superposed in
-    let begun = c.in-Ok-superpose.ensures.after ∙ ap (λ ns. after_superposed y.form ns x) c.items-in-Superposed.ensures in
-    good_behind c.in_ok-outer-in-Superposed.outer x c.prove_block-in-Superposed.new.standing y.shown c.items-in-Ok-prove_block-2.result.now c.in_ok-outer-in-Superposed.ensures
-    (kept_superposed y.form y.names x c.superpose.new.standing c.prove_block-in-Superposed.new.standing begun c.in-Ok-prove_block.ensures.kept) c.items-in-Ok-prove_block-2.ensures
+    let hs = x.context.held ++ state_of x.context ∷ [] in
+    let inside = after_superposed y.form y.names x in
+    let begun = c.in-Ok-superpose.ensures.after ∙ ap (λ ns. after_superposed y.form ns c.hold-in-Superposed.new.self) c.items-in-Superposed.ensures ∙ ap (after_superposed y.form y.names) c.in_ok-outer-in-Superposed.ensures.held in
+    good_behind x c.prove_block-in-Superposed.new.standing y.shown c.items-in-Ok-prove_block-2.result.now (c.in-Ok-prove_block.ensures.kept ∙ ap (λ w. w.context.held) begun) c.items-in-Ok-prove_block-2.ensures
     (superposed_after (all_stated c.args.before.now) y.form y.names y.shown y.certs y.inner (script_of c.in-Ok-prove_block.proved.block) x c.args.number
-    (subst (λ z. IsDerived (all_stated c.args.before.now) (script_of y.inner.value) z (goal_of y.shown) (script_of c.in-Ok-prove_block.proved.block)) begun
+    (derived_outside (all_stated c.args.before.now) (script_of y.inner.value) inside c.superpose.new.standing (goal_of y.shown) (script_of c.in-Ok-prove_block.proved.block) hs begun
     (subst (λ ls. IsDerived (all_stated c.args.before.now) (script_of y.inner.value) c.superpose.new.standing (goal_of ls) (script_of c.in-Ok-prove_block.proved.block)) c.items-in-Superposed-2.ensures
     (subst (λ b. IsDerived (all_stated c.args.before.now) (script_of b) c.superpose.new.standing (goal_of c.items-in-Superposed-2.result.now) (script_of c.in-Ok-prove_block.proved.block)) c.deref-in-Superposed.ensures c.in-Ok-prove_block.ensures.derived)))
     (subst (λ s. IsReadyStep (all_stated c.args.before.now) s x c.args.number) y.is c.requires))
@@ -541,23 +596,29 @@ pub prove_step-returns-in-Ok-prove_block-clause-ok : goal.prove_step-returns-in-
 prove_step-returns-in-Ok-prove_block-clause-ok t c =
     let x = c.args.standing.now in
     let y = c.in-Superposed in
-    let begun = c.in-Ok-superpose.ensures.after ∙ ap (λ ns. after_superposed y.form ns x) c.items-in-Superposed.ensures in
+    let hs = x.context.held ++ state_of x.context ∷ [] in
+    let certified = subst (λ z. certify_all z.context.scope z.context.facts (superposing.needs y.form) c.in-Ok-superpose.certs.items ≡ true) c.in_ok-outer-in-Superposed.ensures.held c.in-Ok-superpose.ensures.certs in
+    let inside = after_superposed y.form y.names x in
+    let begun = c.in-Ok-superpose.ensures.after ∙ ap (λ ns. after_superposed y.form ns c.hold-in-Superposed.new.self) c.items-in-Superposed.ensures ∙ ap (after_superposed y.form y.names) c.in_ok-outer-in-Superposed.ensures.held in
     let same = ap (λ b. size (script_of b)) c.deref-in-Superposed.ensures in
     superposed_passed (all_stated c.args.before.now) c.args.step.now y.form y.names c.items-in-Ok-prove_block.result.now y.shown c.items-in-Ok-prove_block-2.result.now y.certs c.in-Ok-superpose.certs.items y.inner x c.prove_block-in-Superposed.new.standing c.superposed.new.standing c.args.number c.in_ok-outer-in-Superposed.outer c.in-Ok-prove_block.proved
-    c.superposed.result y.is c.items-in-Ok-prove_block.ensures c.items-in-Ok-prove_block-2.ensures (superposed_parts (all_stated c.args.before.now) y.form y.names y.shown y.certs y.inner x c.args.number (subst (λ s. IsReadyStep (all_stated c.args.before.now) s x c.args.number) y.is c.requires)) (c.in-Ok-superpose.ensures.certs, c.in-Ok-superpose.ensures.written)
-    (subst (λ z. IsDerived (all_stated c.args.before.now) (script_of y.inner.value) z (goal_of y.shown) (script_of c.in-Ok-prove_block.proved.block)) begun
+    c.superposed.result y.is c.items-in-Ok-prove_block.ensures c.items-in-Ok-prove_block-2.ensures (superposed_parts (all_stated c.args.before.now) y.form y.names y.shown y.certs y.inner x c.args.number (subst (λ s. IsReadyStep (all_stated c.args.before.now) s x c.args.number) y.is c.requires)) (certified, c.in-Ok-superpose.ensures.written)
+    (derived_outside (all_stated c.args.before.now) (script_of y.inner.value) inside c.superpose.new.standing (goal_of y.shown) (script_of c.in-Ok-prove_block.proved.block) hs begun
     (subst (λ ls. IsDerived (all_stated c.args.before.now) (script_of y.inner.value) c.superpose.new.standing (goal_of ls) (script_of c.in-Ok-prove_block.proved.block)) c.items-in-Superposed-2.ensures
     (subst (λ b. IsDerived (all_stated c.args.before.now) (script_of b) c.superpose.new.standing (goal_of c.items-in-Superposed-2.result.now) (script_of c.in-Ok-prove_block.proved.block)) c.deref-in-Superposed.ensures c.in-Ok-prove_block.ensures.derived)))
-    (omega (arith, same, c.in-Ok-prove_block.ensures.next)) c.in_ok-outer-in-Superposed.ensures (kept_superposed y.form y.names x c.superpose.new.standing c.prove_block-in-Superposed.new.standing begun c.in-Ok-prove_block.ensures.kept)
+    (omega (arith, same, c.in-Ok-prove_block.ensures.next)) c.in_ok-outer-in-Superposed.ensures.names (c.in-Ok-prove_block.ensures.kept ∙ ap (λ w. w.context.held) begun)
     c.superposed.ensures.step c.superposed.ensures.next c.superposed.ensures.after
 
 pub prove_step-returns-in-Err-prove_block-clause-err : goal.prove_step-returns-in-Err-prove_block-clause-err
 prove_step-returns-in-Err-prove_block-clause-err t c =
     let x = c.args.standing.now in
     let y = c.in-Superposed in
-    let begun = c.in-Ok-superpose.ensures.after ∙ ap (λ ns. after_superposed y.form ns x) c.items-in-Superposed.ensures in
+    let hs = x.context.held ++ state_of x.context ∷ [] in
+    let certified = subst (λ z. certify_all z.context.scope z.context.facts (superposing.needs y.form) c.in-Ok-superpose.certs.items ≡ true) c.in_ok-outer-in-Superposed.ensures.held c.in-Ok-superpose.ensures.certs in
+    let inside = after_superposed y.form y.names x in
+    let begun = c.in-Ok-superpose.ensures.after ∙ ap (λ ns. after_superposed y.form ns c.hold-in-Superposed.new.self) c.items-in-Superposed.ensures ∙ ap (after_superposed y.form y.names) c.in_ok-outer-in-Superposed.ensures.held in
     superposed_stopped (all_stated c.args.before.now) c.args.step.now y.form y.names y.shown y.certs c.in-Ok-superpose.certs.items y.inner x c.args.number c.in-Err-prove_block.stop y.is
-    (superposed_parts (all_stated c.args.before.now) y.form y.names y.shown y.certs y.inner x c.args.number (subst (λ s. IsReadyStep (all_stated c.args.before.now) s x c.args.number) y.is c.requires)) (c.in-Ok-superpose.ensures.certs, c.in-Ok-superpose.ensures.written)
-    (subst (λ z. StopsWithin (all_stated c.args.before.now) (script_of y.inner.value) z (goal_of y.shown) (c.args.number + 1) c.in-Err-prove_block.stop) begun
+    (superposed_parts (all_stated c.args.before.now) y.form y.names y.shown y.certs y.inner x c.args.number (subst (λ s. IsReadyStep (all_stated c.args.before.now) s x c.args.number) y.is c.requires)) (certified, c.in-Ok-superpose.ensures.written)
+    (stops_outside (all_stated c.args.before.now) (script_of y.inner.value) inside c.superpose.new.standing (goal_of y.shown) (c.args.number + 1) c.in-Err-prove_block.stop hs begun
     (subst (λ ls. StopsWithin (all_stated c.args.before.now) (script_of y.inner.value) c.superpose.new.standing (goal_of ls) (c.args.number + 1) c.in-Err-prove_block.stop) c.items-in-Superposed-2.ensures
     (subst (λ b. StopsWithin (all_stated c.args.before.now) (script_of b) c.superpose.new.standing (goal_of c.items-in-Superposed-2.result.now) (c.args.number + 1) c.in-Err-prove_block.stop) c.deref-in-Superposed.ensures c.in-Err-prove_block.ensures.err)))

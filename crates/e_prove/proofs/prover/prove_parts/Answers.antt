@@ -33,7 +33,7 @@ pub prove_block-requires-clause-ready : goal.prove_block-requires-clause-ready
 prove_block-requires-clause-ready c =
     let t = stated c.args.statement.now in
     let same =
-    goal_is t c.items.result.now c.scope.result c.deref.result.now c.in_ok-made.made.items c.items-2.result.now (c.scope.ensures ∙ ap (λ x. x.context.scope) c.in_ok-standing.ensures) c.items.ensures c.in_ok-made.ensures c.deref.ensures.value
+    goal_is t c.items.result.now c.scope.result c.deref.result.now c.in-Ok.made.items c.items-2.result.now (c.scope.ensures ∙ ap (λ x. x.context.scope) c.in_ok-standing.ensures) c.items.ensures c.in-Ok.ensures c.deref.ensures.value
     c.items-2.ensures
     in
     ready_at_start (all_stated c.args.before.now) t c.args.names.now (script_of c.args.block.now) c.in_ok-standing.standing (goal_said (record { made = c.deref.result; shown = c.items-2.result })) c.in_ok-standing.ensures same c.requires
@@ -42,7 +42,7 @@ pub returns-clause-names : goal.returns-clause-names
 returns-clause-names c =
     let t = stated c.args.statement.now in
     let same =
-    goal_is t c.items.result.now c.scope.result c.deref.result.now c.in_ok-made.made.items c.items-2.result.now (c.scope.ensures ∙ ap (λ x. x.context.scope) c.in_ok-standing.ensures) c.items.ensures c.in_ok-made.ensures c.deref.ensures.value
+    goal_is t c.items.result.now c.scope.result c.deref.result.now c.in-Ok.made.items c.items-2.result.now (c.scope.ensures ∙ ap (λ x. x.context.scope) c.in_ok-standing.ensures) c.items.ensures c.in-Ok.ensures c.deref.ensures.value
     c.items-2.ensures
     in
-    names_are (all_stated c.args.before.now) t c.args.names.now (script_of c.args.block.now) c.in_ok-standing.standing (goal_said (record { made = c.deref.result; shown = c.items-2.result })) c.in-Err.stop c.in_ok-standing.ensures same c.in-Err.ensures.err
+    names_are (all_stated c.args.before.now) t c.args.names.now (script_of c.args.block.now) c.in_ok-standing.standing (goal_said (record { made = c.deref.result; shown = c.items-2.result })) c.in-Err-prove_block.stop c.in_ok-standing.ensures same c.in-Err-prove_block.ensures.err

@@ -12,6 +12,7 @@ pub loop-lit-preserved : goal.loop-lit-preserved
 loop-lit-preserved c =
     record {
       scope = ap (λ x. x.scope) c.in_ok-add.ensures.joined ∙ c.loop-lit.invariant.scope;
+      held = ap (λ x. x.held) c.in_ok-add.ensures.joined ∙ c.loop-lit.invariant.held;
       whole =
           ap (λ x. joined_all x.facts c.next.new.self.rest.items) c.in_ok-add.ensures.joined
           ∙ ap (joined_all c.loop-lit.context.facts) (sym c.in-Some.ensures.steps.0) ∙ c.loop-lit.invariant.whole;

@@ -3,12 +3,12 @@ use Rattle.std.specs.Prelude.{◌≡◌, IsTrue}
 use Rattle.std.specs.List.{list_all}
 use Rattle.e_clause.specs.Certify.{certify_all}
 use Rattle.e_clause.specs.Written.{is_good_cert}
-use Rattle.e_prove.proofs.licence.judged.Given as goal
+use Rattle.e_prove.proofs.licence.licences.Given as goal
 
 abbrev pub invariant-loop-lit : goal.invariant-loop-lit
 invariant-loop-lit l =
     record {
-      same : l.judge ≡ l.context;
-      certified : IsTrue (certify_all l.context.scope l.context.facts (take l.lit-index l.lits) l.certs.items);
+      same : l.context ≡ l.initial.context;
+      certified : IsTrue (certify_all l.initial.context.scope l.initial.context.facts (take l.lit-index l.lits) l.certs.items);
       written : IsTrue (list_all is_good_cert l.certs.items);
     }

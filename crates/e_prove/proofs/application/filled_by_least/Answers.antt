@@ -1,0 +1,15 @@
+use Rattle.std.proofs.Common.{arith, subst}
+use Rattle.e_theorem.specs.Statements.{stated}
+use Rattle.e_licence.specs.Fills.{FilledIs}
+use Rattle.e_prove.proofs.Applying.{match_halts_so}
+use Rattle.e_prove.proofs.application.filled_by_least.Goals as goal
+use Rattle.e_deriv.proofs.Smallness.{few_objects}
+
+pub match_blanks-requires-clause-few : goal.match_blanks-requires-clause-few
+match_blanks-requires-clause-few c = let few = few_objects (stated c.args.statement.now) c.requires.statement in omega (arith, few)
+
+pub returns-in-Err-clause-err : goal.returns-in-Err-clause-err
+returns-in-Err-clause-err c =
+    let t = stated c.args.statement.now in
+    let x = c.args.context.now in
+    match_halts_so t x c.args.pattern.now c.in-Found.args c.in-Err.halt c.as_match.result (subst (FilledIs t x c.args.pattern.now) c.in-Found.is c.in_ok-args.ensures) c.in-Err.ensures.err c.as_match.ensures
