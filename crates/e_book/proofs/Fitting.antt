@@ -1,5 +1,5 @@
 -- A theorem that is read can be judged, where the earlier ones are statements; and it is one.
-use Rattle.std.proofs.Common.{◌≡◌, ℕ, ◌+◌, ◌≤◌, Bool, true, ◌&&◌, List, [], ◌∷◌, ◌++◌, length, Option, Some, None, Result, Ok, Err, refl, sym, ap, subst, arith}
+use Rattle.std.proofs.Common.{◌≡◌, ℕ, ◌≤◌, Bool, true, ◌&&◌, List, [], ◌∷◌, ◌++◌, length, Option, Some, None, Result, Ok, Err, refl, sym, ap, subst, arith}
 use Rattle.std.specs.Prelude.{IsTrue, IfOk, IfSome}
 use Rattle.std.specs.List.{list_all}
 use Rattle.std.proofs.lemmas.Bool.{le-leb, and_parts, and_from}
@@ -121,7 +121,7 @@ few_of known t f =
     record { points = omega (arith, points, f.points); lines = omega (arith, lines, f.lines); circles = omega (arith, circles, f.circles) }
 
 -- a theorem that fits states something
-small_statement : (known : List Headed) (t : Entry) → Fits known t → is_small_statement (stated t.statement) ≡ true
+pub small_statement : (known : List Headed) (t : Entry) → Fits known t → is_small_statement (stated t.statement) ≡ true
 small_statement known t f =
     let st = stated t.statement in
     let n = few_of known t f in

@@ -59,4 +59,5 @@ pub mod CanonicalRead
 pub mod FormsByWord
 pub mod SaidForms
 pub mod ReadSpelled
+pub mod ReadingOn
 mod Checks

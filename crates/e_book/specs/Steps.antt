@@ -30,7 +30,7 @@ use Rattle.e_book.specs.declared.steps.CloseLine.TheVariants as closes
 use Rattle.e_book.specs.declared.draft.Place.{Place}
 use Rattle.e_book.specs.declared.draft.Place.TheVariants.{Declaring, Giving, Making, Showing, Proving, Splitting, Closed, Done}
 use Rattle.e_book.specs.declared.draft.Draft.{Draft}
-use Rattle.e_book.specs.declared.draft.Around.{Around}
+use Rattle.e_book.specs.declared.inner.Around.{Around}
 use Rattle.e_book.specs.declared.fault.Trouble.{Trouble}
 use Rattle.e_book.specs.Reading.{◌>>=◌, with_front, Fails}
 use Rattle.e_book.specs.Literals.{monos_of}

@@ -129,7 +129,7 @@ impl Outers {
     }
 
     /// One more, which is the innermost now. It fails only for want of memory.
-    pub fn push(&mut self, outer: Outer) -> Result<(), AllocError>
+    pub(crate) fn push(&mut self, outer: Outer) -> Result<(), AllocError>
         ensures { OnOk result (self.new ≡ outer ∷ self.old) }
     {
         self.outers.push(outer)?;

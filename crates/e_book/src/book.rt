@@ -1,78 +1,42 @@
 //! A book, theorem by theorem.
-ghost use Rattle.std.specs.Prelude.{◌≡◌, ◌≤◌, ◌<◌, ◌^◌, ◌+◌, List, [], length, None, IfOk, OnOk, IfSome, OnSome, IsTrue};
+ghost use Rattle.std.specs.Prelude.{◌≡◌, ◌<◌, ◌^◌, List, length, None, IfOk, OnOk, IfSome, OnSome, IsTrue};
 ghost use Rattle.std.specs.List.{list_all};
-ghost use Rattle.e_book.specs.Limits.{most_theorems};
 ghost use Rattle.e_book.specs.Headed.{stated_by};
-ghost use Rattle.e_book.specs.Reading.{texts, Gives};
-ghost use Rattle.e_book.specs.Steps.{FitsScope};
 ghost use Rattle.e_book.specs.Entry.{entry_of};
 ghost use Rattle.e_book.specs.Fits.{Fits};
 ghost use Rattle.e_theorem.specs.Statements.{stated};
 ghost use Rattle.e_deriv.specs.Script.{script_of};
 ghost use Rattle.e_deriv.specs.Fitting.{is_small_statement, IsFitting};
-ghost use Rattle.e_book.specs.Book.{starts_with_hash, is_skipped, line_step, is_done, read_from, last_line, BookReads};
+ghost use Rattle.e_book.specs.Book.{read_from, last_line, BookReads};
 
-use crate::draft::{Draft, Place};
-use crate::fault::{BookFault, Trouble, of_line};
-use crate::form::form_of;
+use crate::fault::BookFault;
 use crate::known::Known;
+use crate::reading::Reading;
 use crate::theorem::Theorem;
-use crate::words::collected;
 use e_text::Lines;
 use std::alloc::Global;
 use std::mem;
 
-fn starts_with_hash(word: &[u8]) -> bool
-    ensures { result ≡ starts_with_hash word.now }
-{
-    match word {
-        [] => false,
-        [first, ..] => *first == b'#',
-    }
-}
-
-fn is_skipped(words: &[&[u8]]) -> bool
-    ensures { result ≡ is_skipped (texts words.now) }
-{
-    match words {
-        [] => true,
-        [first, ..] => starts_with_hash(first),
-    }
-}
-
-fn is_done(draft: &Draft) -> bool
-    ensures { result ≡ is_done draft.now }
-{
-    matches!(draft.place, Place::Done)
-}
-
-/// A line begins a theorem, or goes on with it.
-#[tactic(auto, unfolding(crate::specs::Book::line_step))]
-fn line_step(
+/// The theorem that ends in these lines, or what is wrong where they end inside one.
+fn read_with(
     alloc: Global,
+    reading: &mut Reading,
+    lines: &mut Lines,
     known: &Known,
-    draft: Option<Draft>,
-    words: &[&[u8]],
-) -> Result<Draft, Trouble>
-    requires draft { IfSome draft FitsScope }
-    requires known { OnSome draft (length known.now ≤ most_theorems) }
-    ensures value { Gives (λ d. d) result (line_step known.now draft (texts words.now)) }
-    ensures fits { IfOk result FitsScope }
-    ensures few { OnOk result (length known.now ≤ most_theorems) }
+) -> Result<Option<Theorem>, BookFault>
+    requires begins { reading.old.draft ≡ None }
+    requires lines { last_line lines.old < 2 ^ 32 }
+    ensures read { BookReads result lines.new (read_from known.now (last_line lines.old) None lines.old.lines) }
+    ensures last { OnOk result (last_line lines.new ≡ last_line lines.old) }
+    ensures shorter { IfOk result (λ t. OnSome t (length lines.new.lines < length lines.old.lines)) }
 {
-    let form = match form_of(alloc, words) {
-        Ok(form) => form,
-        Err(trouble) => {
-            mem::drop(draft);
-            return Err(trouble);
+    match reading.read(alloc, lines, known)? {
+        Some(theorem) => Ok(Some(theorem)),
+        None => {
+            reading.end(lines.line())?;
+            Ok(None)
         }
-    };
-    let next = match draft {
-        None => Draft::begin(alloc, known, &form),
-        Some(draft) => draft.taking(alloc, known, &form),
-    };
-    mem::drop(form);
-    next
+    }
 }
 
 /// Reads line by line, up to the end of a theorem.
@@ -86,43 +50,10 @@ fn read_theorem(
     ensures last { OnOk result (last_line lines.new ≡ last_line lines.old) }
     ensures shorter { IfOk result (λ t. OnSome t (length lines.new.lines < length lines.old.lines)) }
 {
-    let mut draft = None;
-    while let Some(line) = lines.next() {
-        let line = match line {
-            Ok(line) => line,
-            Err(fault) => {
-                mem::drop(draft);
-                return Err(of_line(fault));
-            }
-        };
-        let words = match collected(alloc, line.bytes) {
-            Ok(words) => words,
-            Err(error) => {
-                mem::drop(draft);
-                return Err(error.into());
-            }
-        };
-        if is_skipped(&words) {
-            continue;
-        }
-        let next = match line_step(alloc, known, draft, &words) {
-            Ok(next) => next,
-            Err(trouble) => return Err(trouble.at(line.number as u32)),
-        };
-        if is_done(&next) {
-            return Ok(Some(next.into_theorem(alloc)));
-        }
-        draft = Some(next);
-    }
-    match draft {
-        None => Ok(None),
-        Some(draft) => {
-            mem::drop(draft);
-            Err(BookFault::Unended {
-                line: lines.line() as u32,
-            })
-        }
-    }
+    let mut reading = Reading::new();
+    let read = read_with(alloc, &mut reading, lines, known);
+    mem::drop(reading);
+    read
 }
 
 /// The next theorem, or nothing where only skipped lines are left.

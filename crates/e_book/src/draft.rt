@@ -1,5 +1,5 @@
 //! A theorem while its lines come.
-ghost use Rattle.std.specs.Prelude.{◌≡◌, ◌≤◌, ◌<◌, ◌+◌, ◌^◌, ◌++◌, ◌∷◌, List, [], length, replicate, IfOk, OnOk, Ok, Err};
+ghost use Rattle.std.specs.Prelude.{◌≡◌, ◌≤◌, ◌<◌, ◌+◌, ◌^◌, ◌++◌, length, replicate, IfOk, OnOk, Ok, Err};
 ghost use Rattle.e_book.specs.Reading.{Gives, Moves};
 ghost use Rattle.e_construct.specs.Construct.{gives};
 ghost use Rattle.e_book.specs.Scope.{names_of_sort, with_names};
@@ -7,21 +7,20 @@ ghost use Rattle.e_deriv.specs.Naming.{named};
 ghost use Rattle.e_book.specs.Steps.{allowed, declared, no_names, count_names, few_objects, FewNamed};
 
 use crate::applies::{Application, RawApply, apply_in, count_blanks};
-use crate::blocks::{Closed, Opened, Outer, Outers};
+use crate::blocks::Outers;
 use crate::fault::{Kind, Trouble, What};
 use crate::form::Form;
 use crate::known::Known;
 use crate::lets::RawLet;
 use crate::limits::{
-    MAX_BLANKS, MAX_DEPTH, MAX_FACTS, MAX_STEPS, MAX_THEOREMS, facts_of, few_monos, few_objects,
-    monomials, most_of, terms_of, terms_with, what_of, within,
+    MAX_BLANKS, MAX_FACTS, MAX_STEPS, MAX_THEOREMS, few_monos, few_objects, most_of, terms_of,
+    terms_with, what_of, within,
 };
 use crate::literal::RawLit;
-use crate::scope::{by_in, fresh, let_in, lit_in, put_lits, put_names, qed_in, scope_of_names};
+use crate::scope::{by_in, fresh, let_in, lit_in, put_lits, put_names, scope_of_names};
 use crate::steps::{CloseLine, Steps};
-use crate::superposes::{Placement, RawSuperpose, superpose_in};
 use crate::theorem::Theorem;
-use e_construct::{Construction, Superpose};
+use e_construct::Construction;
 use e_deriv::{Names, Step};
 use e_literal::{Items, Lit, Scope, Sort, grown};
 use e_text::{Name, Title};
@@ -68,15 +67,6 @@ pub struct Draft {
     /// How the proof's block is closed; before that a `qed` without objects.
     pub close: CloseLine,
     pub place: Place,
-}
-
-/// A block as it was when an inner one interrupted it.
-#[derive(Drop)]
-struct Around {
-    steps: Steps,
-    in_scope: Names,
-    facts: usize,
-    terms: usize,
 }
 
 fn allowed(place: Place, form: &Form) -> bool
@@ -151,24 +141,6 @@ fn repeated(alloc: Global, sort: Sort, count: usize) -> Result<Items<Sort>, Allo
     Ok(Items::new(Vec::from_elem(alloc, sort, count)?))
 }
 
-/// The names with new ones, each behind those of its sort: the limits of objects.
-fn names_with(alloc: Global, names: &Names, sorts: &[Sort], new: &[Name]) -> Result<Names, Trouble>
-    ensures value { Gives (λ n. tt) result (few_objects (named names.now sorts.now new.now)) }
-    ensures names { IfOk result (λ n. n ≡ named names.now sorts.now new.now) }
-    ensures few { IfOk result FewNamed }
-{
-    let mut after = names.copy(alloc)?;
-    if let Err(error) = put_names(&mut after, sorts, new) {
-        mem::drop(after);
-        return Err(error.into());
-    }
-    if let Err(trouble) = few_objects(&after) {
-        mem::drop(after);
-        return Err(trouble);
-    }
-    Ok(after)
-}
-
 /// How many literals a construction gives.
 fn count_given(alloc: Global, form: &Construction, scope: Scope) -> Result<usize, AllocError>
     requires points { scope.points + 2 < 2 ^ 16 }
@@ -182,12 +154,11 @@ fn count_given(alloc: Global, form: &Construction, scope: Scope) -> Result<usize
 
 impl Draft {
     ghost use Rattle.e_deriv.specs.Naming.{named};
-    ghost use Rattle.e_deriv.specs.PlainStep.{plain_step, Claimed, Copied, all_before};
+    ghost use Rattle.e_deriv.specs.PlainStep.{plain_step};
     ghost use Rattle.e_theorem.specs.Statements.{stated};
-    ghost use Rattle.e_book.specs.Limits.{most_depth, most_terms, most_theorems};
-    ghost use Rattle.e_book.specs.Steps.{FitsScope, FitsOuter, HasRoom, ClosesInside, begin, step, stepped, declares, supposes, makes, few_objects, proof_begun, cited, inferred, concluded, with_step, with_terms, built, used_by, applied, room_inside, interrupted, begun_with, begun_terms, claimed, superposed, copies_begun, split, outer_with, resumed, second_begun, closed, shut};
-    ghost use Rattle.e_book.specs.Blocks.{made_in};
-    ghost use Rattle.e_book.specs.Entry.{entry_of, entry_of_draft, script_of_close};
+    ghost use Rattle.e_book.specs.Limits.{most_theorems};
+    ghost use Rattle.e_book.specs.Steps.{FitsScope, begin, step, stepped, declares, supposes, makes, few_objects, proof_begun, cited, inferred, with_step, with_terms, built, used_by, applied};
+    ghost use Rattle.e_book.specs.Entry.{entry_of, entry_of_draft};
 
     /// A theorem begun by its first line.
     #[tactic(auto, unfolding(crate::specs::Steps::begin))]
@@ -241,7 +212,7 @@ impl Draft {
 
     /// The next line: its form at this place, its names from left to right, then the limits.
     #[tactic(auto, unfolding(crate::specs::Steps::step))]
-    pub fn step(&mut self, alloc: Global, known: &Known, form: &Form) -> Result<(), Trouble>
+    pub(crate) fn step(&mut self, alloc: Global, known: &Known, form: &Form) -> Result<(), Trouble>
         requires draft { FitsScope self.old }
         requires known { length known.now ≤ most_theorems }
         ensures value { Moves result self.new (step known.now self.old form.now) }
@@ -454,438 +425,6 @@ impl Draft {
         self.add_step(step, statement.shown.len())?;
         self.terms = terms_of(self.terms, statement.shown.items())?;
         within(blanks, MAX_BLANKS, What::Blanks)
-    }
-
-    /// The limits of a line that begins an inner block with so many facts: of steps, of depth and of facts.
-    #[tactic(auto, unfolding(crate::specs::Steps::room_inside))]
-    fn room_inside(&self, given: usize) -> Result<(), Trouble>
-        requires { FitsScope self.now }
-        ensures value { Gives (λ u. u) result (room_inside self.now given) }
-        ensures room { IfOk result (λ u. HasRoom self.now given) }
-    {
-        within(self.lines + 1, MAX_STEPS, What::Steps)?;
-        within(self.outers.len() + 2, MAX_DEPTH, What::Depth)?;
-        if given > MAX_FACTS - self.facts {
-            return Err(Trouble::Fault(Kind::Limit(What::Facts)));
-        }
-        Ok(())
-    }
-
-    /// An inner block begins, in which so many literals are facts at once.
-    fn interrupt(&mut self, alloc: Global, opened: Opened, given: usize) -> Result<(), AllocError>
-        requires draft { FitsScope self.old }
-        requires room { HasRoom self.old given }
-        requires begun { begun_with opened ≤ given }
-        requires terms { self.old.terms + begun_terms opened ≤ most_terms }
-        ensures value { OnOk result (self.new ≡ interrupted self.old opened given) }
-        ensures fits { OnOk result (FitsScope self.new) }
-    {
-        let in_scope = match self.in_scope.copy(alloc) {
-            Ok(in_scope) => in_scope,
-            Err(error) => {
-                mem::drop(opened);
-                return Err(error);
-            }
-        };
-        let outer = Outer {
-            steps: mem::replace(&mut self.steps, Steps::new(alloc)),
-            in_scope,
-            facts: self.facts,
-            terms: self.terms,
-            opened,
-        };
-        self.outers.push(outer)?;
-        self.lines += 1;
-        self.facts += given;
-        Ok(())
-    }
-
-    /// A claim: its literals, and then the limits.
-    #[tactic(auto, unfolding(crate::specs::Steps::claimed, crate::specs::Steps::deeper, crate::specs::Steps::room_inside))]
-    fn claim(&mut self, alloc: Global, raw: &[RawLit]) -> Result<(), Trouble>
-        requires { FitsScope self.old }
-        ensures value { Moves result self.new (claimed self.old raw.now) }
-        ensures fits { OnOk result (FitsScope self.new) }
-    {
-        let mut shown = Items::empty(alloc);
-        put_lits(alloc, &self.in_scope, raw, &mut shown)?;
-        self.room_inside(0)?;
-        few_monos(raw)?;
-        self.interrupt(alloc, Opened::Claim { shown }, 0)?;
-        Ok(())
-    }
-
-    /// A superposition: its objects, new names and literals, and then the limits.
-    #[tactic(auto, unfolding(crate::specs::Steps::superposed))]
-    fn superpose(&mut self, alloc: Global, raw: &RawSuperpose) -> Result<(), Trouble>
-        requires { FitsScope self.old }
-        ensures value { Moves result self.new (superposed self.old raw.now) }
-        ensures fits { OnOk result (FitsScope self.new) }
-    {
-        let Placement { form, shown } = superpose_in(alloc, &self.in_scope, raw)?;
-        let given = form.gives(alloc, scope_of_names(&self.in_scope))?;
-        let names = Items::new(Vec::from_slice(alloc, raw.new.items())?);
-        let after = names_with(alloc, &self.in_scope, form.made(), raw.new.items())?;
-        let opened = Opened::Superpose { form, names, shown };
-        self.begin_copies(alloc, opened, after, &given, raw.shown.items())
-    }
-
-    /// The block of a superposition begins with these names and facts: the limits of steps, of depth and of facts, those
-    /// of the literals that it shows, and that of monomials.
-    #[tactic(auto, unfolding(crate::specs::Steps::copies_begun, crate::specs::Steps::deeper, crate::specs::Steps::room_inside))]
-    fn begin_copies(
-        &mut self,
-        alloc: Global,
-        opened: Opened,
-        after: Names,
-        given: &[Lit],
-        shown: &[RawLit],
-    ) -> Result<(), Trouble>
-        requires draft { FitsScope self.old }
-        requires after { FewNamed after }
-        requires begun { begun_with opened ≡ 0 }
-        requires terms { begun_terms opened ≡ 0 }
-        ensures value { Moves result self.new (copies_begun self.old opened after given.now shown.now) }
-        ensures fits { OnOk result (FitsScope self.new) }
-    {
-        if let Err(trouble) = self.room_inside(given.len()) {
-            mem::drop(opened);
-            mem::drop(after);
-            return Err(trouble);
-        }
-        if let Err(trouble) = few_monos(shown) {
-            mem::drop(opened);
-            mem::drop(after);
-            return Err(trouble);
-        }
-        let terms = match terms_of(self.terms, given) {
-            Ok(terms) => terms,
-            Err(trouble) => {
-                mem::drop(opened);
-                mem::drop(after);
-                return Err(trouble);
-            }
-        };
-        if let Err(trouble) = self.interrupt(alloc, opened, given.len()) {
-            mem::drop(after);
-            return Err(trouble.into());
-        }
-        self.terms = terms;
-        let before = mem::replace(&mut self.in_scope, after);
-        mem::drop(before);
-        Ok(())
-    }
-
-    /// A split: its literal, and then the limits.
-    #[tactic(auto, using(crate::proofs::SplitCounts::split_few), unfolding(crate::specs::Steps::split, crate::specs::Steps::deeper, crate::specs::Steps::room_inside, crate::specs::Steps::with_terms))]
-    fn split(&mut self, alloc: Global, raw: &RawLit) -> Result<(), Trouble>
-        requires { FitsScope self.old }
-        ensures value { Moves result self.new (split self.old raw.now) }
-        ensures fits { OnOk result (FitsScope self.new) }
-    {
-        let lit = lit_in(alloc, &self.in_scope, raw)?;
-        if let Err(trouble) = self.room_inside(1) {
-            mem::drop(lit);
-            return Err(trouble);
-        }
-        if let Err(trouble) = few_monos(slice::from_ref(raw)) {
-            mem::drop(lit);
-            return Err(trouble);
-        }
-        let terms = match terms_with(self.terms, slice::from_ref(raw)) {
-            Ok(terms) => terms,
-            Err(trouble) => {
-                mem::drop(lit);
-                return Err(trouble);
-            }
-        };
-        self.interrupt(alloc, Opened::First { lit }, 1)?;
-        self.terms = terms;
-        Ok(())
-    }
-
-    /// The close by `qed`: its objects, and then the limit of steps.
-    fn conclude(&mut self, alloc: Global, names: &[Name]) -> Result<(), Trouble>
-        requires { FitsScope self.old }
-        ensures value { Moves result self.new (concluded self.old names.now) }
-        ensures fits { OnOk result (FitsScope self.new) }
-    {
-        let objects = qed_in(alloc, &self.in_scope, self.goal_made(), names)?;
-        self.shut(alloc, CloseLine::Qed(objects))
-    }
-
-    /// The made objects of the goal of the block that is open.
-    fn goal_made(&self) -> &[Sort]
-        ensures { result.now ≡ made_in self.now.outers self.now.made }
-    {
-        if self.outers.has_claim() {
-            return &[];
-        }
-        self.made.items()
-    }
-
-    /// A close line: the limit of steps, and what it closes.
-    #[tactic(auto, unfolding(crate::specs::Steps::shut))]
-    fn shut(&mut self, alloc: Global, close: CloseLine) -> Result<(), Trouble>
-        requires { FitsScope self.old }
-        ensures value { Moves result self.new (shut self.old close) }
-        ensures fits { OnOk result (FitsScope self.new) }
-    {
-        if let Err(trouble) = within(self.lines + 1, MAX_STEPS, What::Steps) {
-            mem::drop(close);
-            return Err(trouble);
-        }
-        self.lines += 1;
-        self.close_block(alloc, close)
-    }
-
-    /// The open block is closed, and with the second block of a split the block around it too.
-    #[tactic(auto, unfolding(crate::specs::Steps::closed))]
-    fn close_block(&mut self, alloc: Global, close: CloseLine) -> Result<(), Trouble>
-        requires { FitsScope self.old }
-        ensures value { Moves result self.new (closed self.old self.old.outers self.old.steps close) }
-        ensures fits { OnOk result (FitsScope self.new) }
-    {
-        let Some(outer) = self.outers.pop() else {
-            mem::drop(mem::replace(&mut self.close, close));
-            self.place = Place::Closed;
-            return Ok(());
-        };
-        match self.close_inside(alloc, outer, close)? {
-            None => Ok(()),
-            Some(next) => self.close_block(alloc, next),
-        }
-    }
-
-    /// The open block is closed inside the one around it. Some close closes that one too.
-    #[tactic(auto, using(crate::proofs::Interrupted::emptied))]
-    fn close_inside(
-        &mut self,
-        alloc: Global,
-        outer: Outer,
-        close: CloseLine,
-    ) -> Result<Option<CloseLine>, Trouble>
-        requires draft { FitsScope self.old }
-        requires room { length self.old.outers + 2 ≤ most_depth }
-        requires outer { FitsOuter outer }
-        ensures value { ClosesInside self.old outer close result self.new }
-        ensures fits { OnOk result (FitsScope self.new) }
-    {
-        let inner = match self.take_block(alloc, close) {
-            Ok(inner) => inner,
-            Err(error) => {
-                mem::drop(outer);
-                return Err(error.into());
-            }
-        };
-        let Outer {
-            steps,
-            in_scope,
-            facts,
-            terms,
-            opened,
-        } = outer;
-        let around = Around {
-            steps,
-            in_scope,
-            facts,
-            terms,
-        };
-        match opened {
-            Opened::Claim { shown } => {
-                self.end_claim(alloc, around, shown, inner)?;
-                Ok(None)
-            }
-            Opened::Superpose { form, names, shown } => {
-                self.end_superposition(alloc, around, form, names, shown, inner)?;
-                Ok(None)
-            }
-            Opened::First { lit } => {
-                self.begin_second(alloc, around, lit, inner)?;
-                Ok(None)
-            }
-            Opened::Second { lit, first } => {
-                let Around {
-                    steps,
-                    in_scope,
-                    ..
-                } = around;
-                mem::drop(in_scope);
-                mem::drop(mem::replace(&mut self.steps, steps));
-                Ok(Some(CloseLine::Cases {
-                    lit,
-                    first,
-                    second: inner,
-                }))
-            }
-        }
-    }
-
-    /// Takes the open block out, closed.
-    fn take_block(&mut self, alloc: Global, close: CloseLine) -> Result<Closed, AllocError>
-        ensures closed { IfOk result (λ c. c ≡ all_before self.old.steps (script_of_close close)) }
-        ensures taken { OnOk result (self.new ≡ record self.old { steps = [] }) }
-    {
-        let steps = mem::replace(&mut self.steps, Steps::new(alloc));
-        Closed::new(alloc, steps.into_block(alloc, close))
-    }
-
-    /// The block of a claim is closed: the limits of facts and of monomials, and the claim is a step of the block around.
-    #[tactic(auto, using(e_deriv::proofs::Scripts::plain_steps), unfolding(crate::specs::Steps::resumed, crate::specs::Steps::counted_from))]
-    fn end_claim(
-        &mut self,
-        alloc: Global,
-        around: Around,
-        shown: Items<Lit>,
-        inner: Closed,
-    ) -> Result<(), Trouble>
-        requires draft { FitsScope self.old }
-        requires outer { FitsOuter (outer_with around (Opened.Claim shown)) }
-        ensures value { Moves result self.new (resumed self.old (outer_with around (Opened.Claim shown)) self.old.outers shown (Claimed shown inner)) }
-        ensures fits { OnOk result (FitsScope self.new) }
-    {
-        let facts = match facts_of(around.facts, shown.items()) {
-            Ok(facts) => facts,
-            Err(trouble) => {
-                mem::drop(around);
-                mem::drop(shown);
-                mem::drop(inner);
-                return Err(trouble);
-            }
-        };
-        let terms = match terms_of(around.terms, shown.items()) {
-            Ok(terms) => terms,
-            Err(trouble) => {
-                mem::drop(around);
-                mem::drop(shown);
-                mem::drop(inner);
-                return Err(trouble);
-            }
-        };
-        let inner = inner.into_box();
-        let step = Step::Claim { shown, inner };
-        self.resume(around, facts, terms, step)?;
-        Ok(())
-    }
-
-    /// The block of a superposition is closed: the limits of facts and of monomials, and the superposition is a step of
-    /// the block around.
-    #[tactic(auto, using(e_deriv::proofs::Scripts::plain_steps), unfolding(crate::specs::Steps::resumed, crate::specs::Steps::counted_from))]
-    fn end_superposition(
-        &mut self,
-        alloc: Global,
-        around: Around,
-        form: Superpose,
-        names: Items<Name>,
-        shown: Items<Lit>,
-        inner: Closed,
-    ) -> Result<(), Trouble>
-        requires draft { FitsScope self.old }
-        requires outer { FitsOuter (outer_with around (Opened.Superpose form names shown)) }
-        ensures value { Moves result self.new (resumed self.old (outer_with around (Opened.Superpose form names shown)) self.old.outers shown (Copied form names shown [] inner)) }
-        ensures fits { OnOk result (FitsScope self.new) }
-    {
-        let facts = match facts_of(around.facts, shown.items()) {
-            Ok(facts) => facts,
-            Err(trouble) => {
-                mem::drop(around);
-                mem::drop(names);
-                mem::drop(shown);
-                mem::drop(inner);
-                return Err(trouble);
-            }
-        };
-        let terms = match terms_of(around.terms, shown.items()) {
-            Ok(terms) => terms,
-            Err(trouble) => {
-                mem::drop(around);
-                mem::drop(names);
-                mem::drop(shown);
-                mem::drop(inner);
-                return Err(trouble);
-            }
-        };
-        let inner = inner.into_box();
-        let step = Step::Superposed {
-            form,
-            names,
-            shown,
-            certs: Items::empty(alloc),
-            inner,
-        };
-        self.resume(around, facts, terms, step)?;
-        Ok(())
-    }
-
-    /// The block around one that is closed goes on with a step, and with so many facts and monomials.
-    fn resume(
-        &mut self,
-        around: Around,
-        facts: usize,
-        terms: usize,
-        step: Step,
-    ) -> Result<(), AllocError>
-        ensures { OnOk result (self.new ≡ record self.old { steps = around.steps ++ plain_step step ∷ []; in_scope = around.in_scope; facts = facts; terms = terms }) }
-    {
-        let Around {
-            steps,
-            in_scope,
-            ..
-        } = around;
-        mem::drop(mem::replace(&mut self.steps, steps));
-        if let Err(error) = self.steps.push(step) {
-            mem::drop(in_scope);
-            return Err(error);
-        }
-        mem::drop(mem::replace(&mut self.in_scope, in_scope));
-        self.facts = facts;
-        self.terms = terms;
-        Ok(())
-    }
-
-    /// The first block of a split is closed. Behind `else` comes the other one, which begins with as many literals.
-    fn begin_second(
-        &mut self,
-        alloc: Global,
-        around: Around,
-        lit: Lit,
-        first: Closed,
-    ) -> Result<(), AllocError>
-        requires draft { FitsScope self.old }
-        requires room { length self.old.outers + 2 ≤ most_depth }
-        requires outer { FitsOuter (outer_with around (Opened.First lit)) }
-        ensures value { OnOk result (self.new ≡ second_begun self.old around lit first) }
-        ensures fits { OnOk result (FitsScope self.new) }
-    {
-        let Around {
-            steps,
-            in_scope,
-            facts,
-            terms,
-        } = around;
-        let copied = match in_scope.copy(alloc) {
-            Ok(copied) => copied,
-            Err(error) => {
-                mem::drop(steps);
-                mem::drop(in_scope);
-                mem::drop(lit);
-                mem::drop(first);
-                return Err(error);
-            }
-        };
-        mem::drop(mem::replace(&mut self.in_scope, copied));
-        self.facts = facts + 1;
-        self.terms = terms + monomials(&lit);
-        let opened = Opened::Second { lit, first };
-        self.outers.push(Outer {
-            steps,
-            in_scope,
-            facts,
-            terms,
-            opened,
-        })?;
-        self.place = Place::Splitting;
-        Ok(())
     }
 
     /// A step that gives so many facts: the limit of steps, and then that of facts.

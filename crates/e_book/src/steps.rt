@@ -83,7 +83,7 @@ impl Steps {
     }
 
     /// Puts a step last.
-    pub fn push(&mut self, step: Step) -> Result<(), AllocError>
+    pub(crate) fn push(&mut self, step: Step) -> Result<(), AllocError>
         ensures { OnOk result (self.new ≡ self.old ++ plain_step step ∷ []) }
     {
         self.steps.push(step)?;
