@@ -2,9 +2,9 @@
 
 Words: the program. The books are one of one theorem, one of two, of which the second applies the first with a blank, and Euclid's first
 and fourth propositions; each is checked, and what is written of it is verified, and so is the first proposition by other certificates.
-After a failed read the answer must be a read fault, with exit status 4, or the usual one where the library asks again; after a failed
-write a front of the usual bytes, with 5; after a refused allocation the usual answer, or what was written and `no memory`, with 6. It
-needs a C compiler.
+After a failed read the answer must be a read fault, with exit status 4, or the usual one where the library asks again; `check` writes
+before it the blocks of the theorems that were read by then. After a failed write it must be a front of the usual bytes, with 5; after a
+refused allocation the usual answer, or what was written and `no memory`, with 6. It needs a C compiler.
 """
 
 import os
@@ -64,6 +64,7 @@ end
 accepted 1
 """
 KINDS = ("alloc", "read", "write")
+HEAD = b"derivation 1\n"
 
 
 def run(words, text, room, kind=None, call=None):
@@ -76,12 +77,10 @@ def run(words, text, room, kind=None, call=None):
         return ran.returncode, ran.stdout, dict(zip(KINDS, map(int, counts.read().split())))
 
 
-def is_front_of_blocks(out, usual):
-    """Whether these are the head line and whole blocks of the usual bytes, and then `no memory`; or nothing, where the words found no memory."""
-    if not out.endswith(b"no memory\n"):
-        return out == b""
-    front = out[: -len(b"no memory\n")]
-    return usual.startswith(front) and (front == b"derivation 1\n" or front.endswith(b"\nend\n"))
+def is_front_of_blocks(out, usual, last):
+    """Whether these are the head line and whole blocks of the usual bytes, and then this line."""
+    front = out[: -len(last)]
+    return out.endswith(last) and usual.startswith(front) and (front == HEAD or front.endswith(b"\nend\n"))
 
 
 def is_right(kind, command, ran, usual):
@@ -89,10 +88,14 @@ def is_right(kind, command, ran, usual):
     if ran == usual:
         return kind != "write"
     if kind == "read":
-        return status == 4 and out == (b"derivation 1\n" if command == "check" else b"") + b"read fault\n"
+        last = b"read fault\n"
+        return status == 4 and (is_front_of_blocks(out, usual[1], last) if command == "check" else out == last)
     if kind == "write":
         return status == 5 and usual[1].startswith(out) and out != usual[1]
-    return status == 6 and (is_front_of_blocks(out, usual[1]) if command == "check" else out in (b"", b"no memory\n"))
+    last = b"no memory\n"
+    if command == "check":
+        return status == 6 and (out == b"" or is_front_of_blocks(out, usual[1], last))
+    return status == 6 and out in (b"", last)
 
 
 def tried(program, command, name, text, room):

@@ -3,22 +3,19 @@ use Rattle.std.proofs.Common.{◌≡◌, inl, inr, ℕ, ◌+◌, List, [], ◌++
 use Rattle.std.proofs.lemmas.List.{take-append-le}
 use Rattle.std.proofs.Math.Seq.{take-append-add}
 use Rattle.e_io.specs.Bytes.{Grew, GrewByFront}
-use Rattle.e_io.proofs.Growth.{grown, grown-nothing}
+use Rattle.e_io.proofs.Growth.{grown}
 use Rattle.e_deriv.specs.declared.stop.Stop.TheVariants as stops
 use Rattle.e_run.specs.declared.status.Status.{Status}
 use Rattle.e_run.specs.declared.status.Status.TheVariants as status
 use Rattle.e_run.specs.declared.blocks.Ending.{Ending}
 use Rattle.e_run.specs.declared.blocks.Ending.TheVariants.{All, Stopped, Faulty}
-use Rattle.e_text.proofs.WholeLines.{lines_of-take}
 use Rattle.e_book.specs.Headed.{Headed}
 use Rattle.e_run.specs.Outcome.{Rest, lines_of_book}
 use Rattle.e_run.specs.Outcome as ends
 use Rattle.e_run.specs.LastLines.{head_line, no_memory_line, read_fault_line}
-use Rattle.e_run.specs.Answers.{Derived, blocks_of, written_with, Ended, EndsSo, Refuses, Widens, Outputs, WroteAll, WroteFront, Checks, ChecksBook}
-use Rattle.e_run.specs.Input.{IsTextOf}
-use Rattle.e_run.specs.Endings.{EndsWith, BreaksOff, BreaksInside, EndingIs, Closes, last_lines, answer_of}
+use Rattle.e_run.specs.Answers.{Derived, blocks_of, written_with, Ended, EndsSo, Refuses, Widens, Outputs, WroteAll, WroteFront, Checks, ChecksBook, IsAccepted}
+use Rattle.e_run.specs.Endings.{EndsWith, BreaksOff, BreaksInside, EndingIs, IsAll, IsEnding, Closes, last_lines, answer_of}
 use Rattle.e_run.proofs.VerifiedText.{verified_text}
-use Rattle.e_run.proofs.History.{begins, breaks_off}
 
 -- whatever an answer is, where its bytes were written it is right
 pub checks_all : (lines : Rest) (old new : Option (List ℕ)) (answer : Status) → WroteAll lines old new answer → Checks lines old new answer
@@ -120,10 +117,6 @@ closed_inside lines old s0 s1 h e =
           (grown old s0 s1 head_line (take e.count blocks) h e.grew);
     }
 
--- before any theorem is read
-pub nothing_yet : (lines : Rest) (s : Option (List ℕ)) → BreaksOff lines s s
-nothing_yet lines s = breaks_off lines s s [] lines 0 (begins lines s)
-
 -- the same, by what the calls gave
 pub closed_ending_as : (lines : Rest) (old s0 s1 s2 : Option (List ℕ)) (ending : Ending) (last : List ℕ) (answer result : Status)
     → last ≡ last_lines ending → answer ≡ answer_of ending → Grew old s0 head_line → EndingIs lines s0 s1 ending → Closes s1 s2 last answer result → Checks lines old s2 result
@@ -142,32 +135,39 @@ closed_head lines old new w =
       grew = subst (λ (x : List ℕ). Grew old new x) (sym (take-append-le w.0 head_line no_memory_line (omega (arith, w.1)))) w.2;
     }
 
--- the source gave out
-pub closed_read : (lines : Rest) (old s0 s1 : Option (List ℕ)) (result : Status)
-    → Grew old s0 head_line → Closes s0 s1 read_fault_line status.ReadFault result → Checks lines old s1 result
-closed_read lines old s0 s1 result h c =
-    closed lines old s0 s0 s1 [] read_fault_line status.ReadFault result
-    (record { derived = []; sound = tt; front = record { known = []; rest = lines; begins = (refl, refl) }; bytes = refl }) h (grown-nothing s0) c
-
--- memory gave out before the source's end
-pub closed_unread : (lines : Rest) (old s0 s1 : Option (List ℕ)) (result : Status)
-    → Grew old s0 head_line → Closes s0 s1 no_memory_line status.NoMemory result → Checks lines old s1 result
-closed_unread lines old s0 s1 result h c = closed_broken lines old s0 s0 s1 result h (nothing_yet lines s0) c
+-- the source gave out behind some blocks
+pub closed_cut : (lines : Rest) (old s0 s1 s2 : Option (List ℕ)) (result : Status)
+    → Grew old s0 head_line → BreaksOff lines s0 s1 → Closes s1 s2 read_fault_line status.ReadFault result → Checks lines old s2 result
+closed_cut lines old s0 s1 s2 result h e c =
+    closed lines old s0 s1 s2 e.derived read_fault_line status.ReadFault result
+    (record { derived = e.derived; sound = e.sound; front = e.front; bytes = refl }) h e.grew c
 
 -- some text is the source's
 pub any_book : (left : Option (List ℕ)) (old new : Option (List ℕ)) (answer : Status) → ((lines : Rest) → Checks lines old new answer) → ChecksBook left old new answer
 any_book None old new answer h = ([], tt, h (lines_of_book []))
 any_book (Some text) old new answer h = (text, refl, h (lines_of_book text))
 
--- the lines of what was read are those of the book
-pub read_book_lines : (left : Option (List ℕ)) (read : List ℕ) (old new : Option (List ℕ)) (answer : Status) → IsTextOf 4194305 left read → Checks (lines_of_book read) old new answer → ChecksBook left old new answer
-read_book_lines None read old new answer e h = (read, tt, h)
-read_book_lines (Some text) read old new answer e h = (
-  text,
-  refl,
-  subst (λ (l : Rest). Checks l old new answer)
-      (ap lines_of_book e ∙ lines_of-take (record { longest = 1600; most = 4194304 }) (record { line = 1; before = 0 }) text (omega arith)) h,
-)
+-- an ending that blocks have is no want of memory
+pub is_ending : (lines : Rest) (old new : Option (List ℕ)) (ending : Ending) → EndingIs lines old new ending → IsEnding ending
+is_ending lines old new (All n s) e = tt
+is_ending lines old new (Stopped title (stops.Unlicensed step wanted values names)) e = tt
+is_ending lines old new (Stopped title (stops.TooWide step wanted width names)) e = tt
+is_ending lines old new (Stopped title stops.NoMemory) e = absurd e
+is_ending lines old new (Faulty f) e = tt
 
-pub checks_at : (a b : Rest) (old new : Option (List ℕ)) (answer : Status) → a ≡ b → Checks a old new answer → Checks b old new answer
-checks_at a b old new answer e h = subst (λ (l : Rest). Checks l old new answer) e h
+-- a book is accepted only where all its theorems were taken
+accepted_is_all : (ending : Ending) (answer result : Status) → answer ≡ answer_of ending → result ≡ answer → IsAccepted result → IsAll ending
+accepted_is_all (All n s) answer result e f a = tt
+accepted_is_all (Stopped title (stops.Unlicensed step wanted values names)) answer result e f a = absurd (subst IsAccepted (f ∙ e) a)
+accepted_is_all (Stopped title (stops.TooWide step wanted width names)) answer result e f a = absurd (subst IsAccepted (f ∙ e) a)
+accepted_is_all (Stopped title stops.NoMemory) answer result e f a = absurd (subst IsAccepted (f ∙ e) a)
+accepted_is_all (Faulty f') answer result e f a = absurd (subst IsAccepted (f ∙ e) a)
+
+pub accepted_all : (ending : Ending) (old new : Option (List ℕ)) (last : List ℕ) (answer result : Status) → answer ≡ answer_of ending → Closes old new last answer result → IsAccepted result → IsAll ending
+accepted_all ending old new last answer result e (inl c) a = accepted_is_all ending answer result e c.0 a
+accepted_all ending old new last answer result e (inr c) a = absurd (subst IsAccepted c.0 a)
+
+-- nor where the answer is another
+pub other_accepted : (old new : Option (List ℕ)) (last : List ℕ) (answer result : Status) → Closes old new last answer result → (IsAccepted answer → ⊥) → IsAccepted result → ⊥
+other_accepted old new last answer result (inl c) other a = other (subst IsAccepted c.0 a)
+other_accepted old new last answer result (inr c) other a = subst IsAccepted c.0 a

@@ -14,7 +14,9 @@ use Rattle.std.specs.Prelude.{slice_get}
 use Rattle.e_run.specs.Outcome.{Rest, with_theorem, IsLicensed, Takes, Begins, number_behind}
 use Rattle.e_run.specs.Outcome as ends
 use Rattle.e_run.specs.Answers.{Derived, IsDerived, AllDerived, EndsSo, Refuses, Widens, theorems_of, steps_of, block_of, blocks_of}
-use Rattle.e_run.specs.Endings.{EndsWith, EndingIs, BreaksOff, BreaksInside, BlocksAre, stop_ending}
+use Rattle.e_run.specs.Endings.{EndsWith, EndingIs, BreaksOff, BreaksInside, stop_ending}
+use Rattle.e_run.specs.Progress.{History, Handles}
+use Rattle.e_run.specs.declared.book.Book.{Book}
 use Rattle.e_run.specs.declared.blocks.Ending.{Ending}
 use Rattle.e_run.specs.declared.blocks.Ending.TheVariants.{All}
 use Rattle.e_run.specs.declared.blocks.Broken.{Broken}
@@ -25,14 +27,6 @@ use Rattle.e_deriv.specs.declared.stop.Wanted.{Wanted}
 use Rattle.e_deriv.specs.declared.names.Names.{Names}
 use Rattle.e_deriv.specs.Refused.{IsRefused, IsTooWideAt}
 use Rattle.e_literal.specs.declared.object.Term.{Term}
-use Rattle.e_book.specs.declared.fault.BookFault.{BookFault}
-
-pub record History (lines : Rest) (old : Option (List ℕ)) (known : List Headed) (rest : Rest) (new : Option (List ℕ)) (steps : ℕ) : Type 0 where
-  pub derived : List Derived
-  pub sound : AllDerived [] derived
-  pub begins : Begins lines (theorems_of derived) known rest
-  pub grew : Grew old new (blocks_of [] derived)
-  pub steps_are : steps ≡ steps_of derived
 
 -- one more theorem is taken
 takes_more : (last : ℕ) (known : List Headed) (lines : Rest) (ts : List Entry) (now : List Headed) (rest : Rest) (t : Entry) (after : Rest)
@@ -134,10 +128,6 @@ breaks_inside lines old new newer known rest after steps d h read k w =
       grew = subst (λ (b : List ℕ). Grew old newer (take f.0 b)) blocks f.2;
     }
 
--- what the grammar gives, where the number behind the last line is that of all lines
-pub at_last : (known : List Headed) (a b : ℕ) (lines : Rest) (e : Result (Option (Entry × Rest)) BookFault) → a ≡ b → read_from known a None lines ≡ e → read_from known b None lines ≡ e
-at_last known a b lines e is h = subst (λ (k : ℕ). read_from known k None lines ≡ e) is h
-
 -- the next theorem is refused
 pub stops_with : (lines : Rest) (old new : Option (List ℕ)) (known : List Headed) (rest after : Rest) (steps : ℕ) (t : Entry) (step : ℕ) (wanted : Wanted) (values : Option (List (Term × ℕ))) (names : Names)
     → History lines old known rest new steps → read_from known (number_behind lines) None rest ≡ Ok (Some (t, after))
@@ -164,12 +154,12 @@ pub front_spelled_as : (old new : Option (List ℕ)) (xs ys : List ℕ) (known :
 front_spelled_as old new xs ys known d e f g = subst (λ (l : List ℕ). GrewByFront old new l) (e ∙ f) g
 
 -- the next theorem stops, or memory ran out
-pub stopped : (lines : Rest) (old new : Option (List ℕ)) (known : List Headed) (rest after : Rest) (steps : ℕ) (t : Entry) (stop : Stop) (r : Result Ending Broken)
+pub stopped : (lines : Rest) (old new : Option (List ℕ)) (known : List Headed) (rest after any : Rest) (steps : ℕ) (t : Entry) (stop : Stop) (b : Book) (r : Result (Option Ending) Broken)
     → r ≡ stop_ending t.title stop → History lines old known rest new steps → read_from known (number_behind lines) None rest ≡ Ok (Some (t, after))
-    → StopIs (stated_by known) (stated t.statement) t.script stop → HasNames (stated_by known) (stated t.statement) t.names t.script stop → BlocksAre lines old new r
-stopped lines old new known rest after steps t (stops.Unlicensed step wanted values names) r e h read s k =
-    subst (BlocksAre lines old new) (sym e) (stops_with lines old new known rest after steps t step wanted values names h read s k)
-stopped lines old new known rest after steps t (stops.TooWide step wanted width names) r e h read s k =
-    subst (BlocksAre lines old new) (sym e) (widens_with lines old new known rest after steps t step wanted width names h read s k)
-stopped lines old new known rest after steps t stops.NoMemory r e h read s k =
-    subst (BlocksAre lines old new) (sym e) (breaks_off lines old new known rest steps h)
+    → StopIs (stated_by known) (stated t.statement) t.script stop → HasNames (stated_by known) (stated t.statement) t.names t.script stop → Handles lines old any r b new
+stopped lines old new known rest after any steps t (stops.Unlicensed step wanted values names) b r e h read s k =
+    subst (λ (x : Result (Option Ending) Broken). Handles lines old any x b new) (sym e) (stops_with lines old new known rest after steps t step wanted values names h read s k)
+stopped lines old new known rest after any steps t (stops.TooWide step wanted width names) b r e h read s k =
+    subst (λ (x : Result (Option Ending) Broken). Handles lines old any x b new) (sym e) (widens_with lines old new known rest after steps t step wanted width names h read s k)
+stopped lines old new known rest after any steps t stops.NoMemory b r e h read s k =
+    subst (λ (x : Result (Option Ending) Broken). Handles lines old any x b new) (sym e) (breaks_off lines old new known rest steps h)

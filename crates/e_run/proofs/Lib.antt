@@ -1,10 +1,12 @@
 mod Told
 mod History
+mod TakenBooks
 mod VerifiedText
 mod Closing
 mod OneOutcome
 mod Answering
 mod WholeBook
+mod ReadPieces
 mod Verifying
 mod Making
 mod Trials

@@ -1,6 +1,7 @@
 -- A book that is accepted has no line with a fault, and so no byte past its limit.
-use Rattle.std.proofs.Common.{◌≡◌, ℕ, zero, suc, ◌+◌, ◌<◌, ◌≤◌, Bool, true, false, cond, ltb, List, [], ◌∷◌, length, take, drop, inl, inr, Option, Some, None, Result, Ok, Err, sym, ap, subst, arith, length-drop, length-take-le}
+use Rattle.std.proofs.Common.{◌≡◌, ℕ, zero, suc, ◌+◌, ◌<◌, ◌≤◌, Bool, true, false, cond, ltb, List, [], ◌∷◌, ◌++◌, length, take, drop, replicate, inl, inr, Option, Some, None, Result, Ok, Err, sym, ap, subst, arith, length-append, length-drop, length-take-le}
 use Rattle.std.specs.List.{position_or_len}
+use Rattle.std.proofs.lemmas.List.{length-replicate}
 use Rattle.std.proofs.lemmas.Bool.{lt-ltb, cases_lt}
 use Rattle.e_text.specs.declared.line.LineEnd.{LineEnd}
 use Rattle.e_text.specs.declared.line.LineEnd.TheVariants.{TextEnd}
@@ -17,9 +18,10 @@ use Rattle.e_book.specs.Entry.{Entry, entry_of_draft}
 use Rattle.e_book.specs.Book.{read_from, at_end, is_skipped, is_done, line_step, put_at}
 use Rattle.e_book.proofs.InScope.{bind_ok}
 use Rattle.e_run.specs.Outcome.{Rest, with_theorem, Takes, Accepted, IsOutcome, lines_of_book}
-use Rattle.e_run.specs.declared.status.Status.{Status}
-use Rattle.e_run.specs.declared.status.Status.TheVariants as status
-use Rattle.e_run.specs.Answers.{Checks, IsAccepted, theorems_of}
+use Rattle.e_run.specs.declared.blocks.Ending.{Ending}
+use Rattle.e_run.specs.declared.blocks.Ending.TheVariants.{All, Stopped, Faulty}
+use Rattle.e_run.specs.Answers.{theorems_of}
+use Rattle.e_run.specs.Endings.{EndingIs, IsAll}
 
 abbrev Answer : Type 0
 Answer = Result (Option (Entry × Rest)) BookFault
@@ -36,7 +38,7 @@ pair t rest = (t, rest)
 pub same_found : (t u : Entry) (xs ys : Rest) → found t xs ≡ found u ys → pair t xs ≡ pair u ys
 same_found t u xs ys e = cc
 
-at_end_found : (last : ℕ) (s : Option Draft) (t : Entry) (rest : Rest) → at_end last s ≡ found t rest → ⊥
+pub at_end_found : (last : ℕ) (s : Option Draft) (t : Entry) (rest : Rest) → at_end last s ≡ found t rest → ⊥
 at_end_found last None t rest e = cc
 at_end_found last (Some d) t rest e = cc
 
@@ -127,21 +129,22 @@ pub accepted_is_short : (text : List ℕ) (ts : List Entry) (n : ℕ) → IsOutc
 accepted_is_short text ts n h =
     omega (arith, short_by_size (length text) (record { longest = 1600; most = 4194304 }) (record { line = 1; before = 0 }) text (omega arith) (omega arith) (good_accepted (lines_of_book text) ts n h))
 
--- the same, by the answer
-pub read_is_short : (old new : Option (List ℕ)) (text : List ℕ) (answer : Status) → IsAccepted answer → Checks (lines_of_book text) old new answer → length text ≤ 4194304
-read_is_short old new text (status.Accepted n) a h =
-    let o = h.outputs.0 in
-    accepted_is_short text (theorems_of o.derived) n (record { known = o.known; rest = o.rest; begins = o.begins; ends = o.holds })
-read_is_short old new text (status.Unlicensed title step wanted values) a h = absurd a
-read_is_short old new text (status.TooWide title step wanted width) a h = absurd a
-read_is_short old new text (status.Fault f) a h = absurd a
-read_is_short old new text status.Usage a h = absurd a
-read_is_short old new text (status.Verified n) a h = absurd a
-read_is_short old new text (status.Bad title step) a h = absurd a
-read_is_short old new text (status.Garbled line) a h = absurd a
-read_is_short old new text status.TextLimit a h = absurd a
-read_is_short old new text status.ReadFault a h = absurd a
-read_is_short old new text status.WriteFault a h = absurd a
-read_is_short old new text status.NoMemory a h = absurd a
-read_is_short old new text (status.Made n) a h = absurd a
-read_is_short old new text (status.Tried n s) a h = absurd a
+-- the same, by how its blocks end
+pub all_is_short : (old new : Option (List ℕ)) (text : List ℕ) (ending : Ending) → IsAll ending → EndingIs (lines_of_book text) old new ending → length text ≤ 4194304
+all_is_short old new text (All n s) a h =
+    accepted_is_short text (theorems_of h.0.derived) n (record { known = h.0.known; rest = h.0.rest; begins = h.0.begins; ends = h.0.holds })
+all_is_short old new text (Stopped title stop) a h = absurd a
+all_is_short old new text (Faulty f) a h = absurd a
+
+too_long : (old new : Option (List ℕ)) (read left : List ℕ) (ending : Ending) → 4194304 < length left → IsAll ending → EndingIs (lines_of_book (read ++ left)) old new ending → ⊥
+too_long old new read left ending long a h = absurd (omega (arith, long, all_is_short old new (read ++ left) ending a h, length-append read left))
+
+-- as many bytes as one likes
+long_text : (n : ℕ) → (left : List ℕ) × (length left ≡ n)
+long_text n = (replicate n 0, length-replicate n 0)
+
+-- so of no front of a book all theorems are taken, whatever comes behind it
+pub never_all : (old new : Option (List ℕ)) (read : List ℕ) (ending : Ending) → ((left : List ℕ) → EndingIs (lines_of_book (read ++ left)) old new ending) → IsAll ending → ⊥
+never_all old new read ending h a =
+    let left = long_text 4194305 in
+    too_long old new read left.0 ending (omega (arith, left.1)) a (h left.0)

@@ -1,12 +1,14 @@
 -- How the blocks of a book end, before the last lines are written.
-use Rattle.std.specs.Prelude.{◌≡◌, ◌⊎◌, ℕ, ◌≤◌, List, [], length, take, Option, Result, Ok, Err}
+use Rattle.std.specs.Prelude.{◌≡◌, ◌⊎◌, ℕ, ◌≤◌, List, [], length, take, Option, Some, Result, Ok, Err}
 use Rattle.e_io.specs.Bytes.{Grew, GrewByFront}
 use Rattle.e_deriv.specs.declared.stop.Stop.{Stop}
 use Rattle.e_deriv.specs.declared.stop.Stop.TheVariants as stops
+use Rattle.e_book.specs.declared.fault.BookFault.{BookFault}
+use Rattle.e_book.specs.declared.fault.BookFault.TheVariants as faults
 use Rattle.e_run.specs.declared.blocks.Ending.{Ending}
 use Rattle.e_run.specs.declared.blocks.Ending.TheVariants.{All, Stopped, Faulty}
 use Rattle.e_run.specs.declared.blocks.Broken.{Broken}
-use Rattle.e_run.specs.declared.blocks.Broken.TheVariants.{NoMemory, WriteFault}
+use Rattle.e_run.specs.declared.blocks.Broken.TheVariants.{NoMemory, ReadFault, WriteFault}
 use Rattle.e_spell.specs.Spelling.{stop_text, IsStop}
 use Rattle.e_run.specs.declared.status.Status.{Status}
 use Rattle.e_run.specs.declared.status.Status.TheVariants as status
@@ -53,17 +55,40 @@ EndingIs lines old new (All n s) = (e : EndsWith lines old new (EndsSo lines (en
 EndingIs lines old new (Stopped title stop) = StopsWith lines old new title stop
 EndingIs lines old new (Faulty f) = EndsWith lines old new (EndsSo lines (ends.Faulty f))
 
--- the blocks end so, or memory or the sink gave out
+-- the blocks end so, or memory or the sink gave out; no source was read
 abbrev pub BlocksAre : Rest → Option (List ℕ) → Option (List ℕ) → Result Ending Broken → Type 0
 BlocksAre lines old new (Ok ending) = EndingIs lines old new ending
 BlocksAre lines old new (Err NoMemory) = BreaksOff lines old new
+BlocksAre lines old new (Err ReadFault) = ⊥
 BlocksAre lines old new (Err WriteFault) = BreaksInside lines old new
 
+-- the same where a source was read, which may give out too
+abbrev pub BookEnds : Rest → Option (List ℕ) → Option (List ℕ) → Result Ending Broken → Type 0
+BookEnds lines old new (Ok ending) = EndingIs lines old new ending
+BookEnds lines old new (Err NoMemory) = BreaksOff lines old new
+BookEnds lines old new (Err ReadFault) = BreaksOff lines old new
+BookEnds lines old new (Err WriteFault) = BreaksInside lines old new
+
+-- all theorems were taken
+abbrev pub IsAll : Ending → Type 0
+IsAll (All n s) = Unit {0}
+IsAll ending = ⊥
+
 -- a stop ends the blocks, or was for want of memory
-abbrev pub stop_ending : List ℕ → Stop → Result Ending Broken
-stop_ending title (stops.Unlicensed step wanted values names) = Ok (Stopped title (stops.Unlicensed step wanted values names))
-stop_ending title (stops.TooWide step wanted width names) = Ok (Stopped title (stops.TooWide step wanted width names))
+abbrev pub stop_ending : List ℕ → Stop → Result (Option Ending) Broken
+stop_ending title (stops.Unlicensed step wanted values names) = Ok (Some (Stopped title (stops.Unlicensed step wanted values names)))
+stop_ending title (stops.TooWide step wanted width names) = Ok (Some (Stopped title (stops.TooWide step wanted width names)))
 stop_ending title stops.NoMemory = Err NoMemory
+
+-- and so a fault
+abbrev pub fault_ending : BookFault → Result (Option Ending) Broken
+fault_ending faults.NoMemory = Err NoMemory
+fault_ending (faults.Malformed line) = Ok (Some (Faulty (faults.Malformed line)))
+fault_ending (faults.UnknownName line) = Ok (Some (Faulty (faults.UnknownName line)))
+fault_ending (faults.NameTaken line) = Ok (Some (Faulty (faults.NameTaken line)))
+fault_ending (faults.WrongSort line) = Ok (Some (Faulty (faults.WrongSort line)))
+fault_ending (faults.Limit line what) = Ok (Some (Faulty (faults.Limit line what)))
+fault_ending (faults.Unended line) = Ok (Some (Faulty (faults.Unended line)))
 
 -- the last lines of an ending
 abbrev pub last_lines : Ending → List ℕ

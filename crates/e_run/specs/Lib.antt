@@ -4,6 +4,8 @@ pub mod Outcome
 pub mod LastLines
 pub mod Answers
 pub mod Endings
+pub mod Progress
+pub mod Taken
 pub mod Verifying
 pub mod Making
 pub mod Trying

@@ -1,5 +1,5 @@
-//! The blocks of a book: each theorem read, judged and written.
-ghost use Rattle.std.specs.Prelude.{◌≡◌, ◌≤◌, ◌<◌, ◌+◌, ◌^◌, ◌++◌, ◌∷◌, [], false, length, IfOk, OnOk, IfErr, IsErrOf, IsTrue};
+//! The blocks of a book whose lines are all there: each theorem read, judged and written.
+ghost use Rattle.std.specs.Prelude.{◌≡◌, ◌≤◌, ◌<◌, ◌^◌, ◌++◌, ◌∷◌, [], false, length, IfOk, OnOk, IfErr, IsErrOf, IsTrue};
 ghost use Rattle.e_io.specs.Bytes.{Rose};
 ghost use Rattle.e_theorem.specs.Statements.{stated};
 ghost use Rattle.e_deriv.specs.Script.{script_of};
@@ -9,15 +9,17 @@ ghost use Rattle.e_book.specs.Entry.{entry_of};
 ghost use Rattle.e_book.specs.Fits.{has_good_literals};
 ghost use Rattle.e_prove.specs.Stops.{StopIs, HasNames};
 ghost use Rattle.e_run.specs.Answers.{HasBlock};
-ghost use Rattle.e_run.specs.Endings.{BlocksAre, stop_ending};
+ghost use Rattle.e_run.specs.Endings.{BlocksAre, stop_ending, fault_ending};
 
-use e_book::{BookFault, Known, Theorem, next_theorem};
-use e_deriv::{Stop, size};
-use e_io::{Sink, write_all};
+use crate::book::Book;
+use e_book::{BookFault, Known, Theorem};
+use e_deriv::Stop;
+use e_io::Sink;
 use e_prove::prove;
 use e_spell::spell;
 use e_text::{Lines, Title};
 use std::alloc::{AllocError, Global};
+use std::mem;
 
 /// How the blocks of a book end.
 #[derive(Drop)]
@@ -34,11 +36,23 @@ pub enum Ending {
 #[derive(Clone, Copy, PartialEq, Eq)]
 pub enum Broken {
     NoMemory,
+    ReadFault,
     WriteFault,
 }
 
+impl From<AllocError> for Broken {
+    ghost use Rattle.std.specs.Prelude.{◌≡◌};
+    ghost use Rattle.e_run.specs.declared.blocks.Broken.TheVariants.{NoMemory};
+
+    ghost from_gives = { λ _ e. e ≡ NoMemory };
+
+    fn from(_e: AllocError) -> Broken {
+        Broken::NoMemory
+    }
+}
+
 /// The block of a theorem with its derivation from those that are known.
-fn block(alloc: Global, known: &Known, theorem: &Theorem) -> Result<Vec<u8>, Stop>
+pub fn block(alloc: Global, known: &Known, theorem: &Theorem) -> Result<Vec<u8>, Stop>
     requires fitting { IsFitting (stated_by known.now) (stated theorem.now.statement) (script_of theorem.now.block) }
     requires good { IsTrue (has_good_literals (script_of theorem.now.block)) }
     ensures block { IfOk result (λ v. HasBlock known.now (entry_of theorem.now) v.items) }
@@ -50,17 +64,27 @@ fn block(alloc: Global, known: &Known, theorem: &Theorem) -> Result<Vec<u8>, Sto
 }
 
 /// The next theorem stops, or memory ran out.
-fn stopped(title: Title, stop: Stop) -> Result<Ending, Broken>
+pub fn stopped(title: Title, stop: Stop) -> Result<Option<Ending>, Broken>
     ensures { result ≡ stop_ending title stop }
 {
     if matches!(stop, Stop::NoMemory) {
         return Err(Broken::NoMemory);
     }
-    Ok(Ending::Stopped { title, stop })
+    Ok(Some(Ending::Stopped { title, stop }))
+}
+
+/// The next line has a fault, or memory ran out.
+pub fn faulty(fault: BookFault) -> Result<Option<Ending>, Broken>
+    ensures { result ≡ fault_ending fault }
+{
+    if matches!(fault, BookFault::NoMemory) {
+        return Err(Broken::NoMemory);
+    }
+    Ok(Some(Ending::Faulty(fault)))
 }
 
 /// Keeps the title and the statement of a theorem.
-fn keep(known: &mut Known, theorem: Theorem) -> Result<(), AllocError>
+pub fn keep(known: &mut Known, theorem: Theorem) -> Result<(), AllocError>
     requires { is_known known.old theorem.title ≡ false }
     ensures { OnOk result (known.new ≡ known.old ++ headed theorem.title theorem.statement ∷ []) }
 {
@@ -75,28 +99,8 @@ pub fn blocks<K: Sink>(alloc: Global, lines: &mut Lines, sink: &mut K) -> Result
     ensures rises { K.faults sink.old ≤ K.faults sink.new }
     ensures cause { IsErrOf result Broken.WriteFault → Rose (K.faults sink.old) (K.faults sink.new) }
 {
-    let mut known = Known::new(alloc);
-    let mut theorems = 0u32;
-    let mut steps = 0u32;
-    loop {
-        let theorem = match next_theorem(alloc, lines, &known) {
-            Ok(Some(theorem)) => theorem,
-            Ok(None) => return Ok(Ending::All { theorems, steps }),
-            Err(BookFault::NoMemory) => return Err(Broken::NoMemory),
-            Err(fault) => return Ok(Ending::Faulty(fault)),
-        };
-        let block = match block(alloc, &known, &theorem) {
-            Ok(block) => block,
-            Err(stop) => return stopped(theorem.title, stop),
-        };
-        let Ok(()) = write_all(sink, &block) else {
-            return Err(Broken::WriteFault);
-        };
-        let count = size(&theorem.block);
-        let Ok(()) = keep(&mut known, theorem) else {
-            return Err(Broken::NoMemory);
-        };
-        theorems += 1;
-        steps += count;
-    }
+    let mut book = Book::new(alloc);
+    let ended = book.take_all(alloc, lines, sink);
+    mem::drop(book);
+    ended
 }

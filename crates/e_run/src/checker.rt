@@ -1,20 +1,23 @@
 //! `check`: a book is read, judged and written as its derivations.
-ghost use Rattle.std.specs.Prelude.{◌≡◌, ◌≤◌, ◌<◌, ◌+◌, ◌^◌, length, List, ℕ, Option, IfOk, codes};
+ghost use Rattle.std.specs.Prelude.{◌≡◌, ◌≤◌, List, ℕ, Option, IfOk, codes};
 ghost use Rattle.e_io.specs.Bytes.{Rose, Grew};
 ghost use Rattle.e_run.specs.Answers.{Checks, ChecksBook, IsWriteFault, IsReadFault, IsAccepted};
 ghost use Rattle.e_run.specs.Input.{IsAtEnd};
 ghost use Rattle.e_run.specs.LastLines.{head_line};
-ghost use Rattle.e_run.specs.Endings.{Closes, IsEnding, last_lines, answer_of};
+ghost use Rattle.e_run.specs.Outcome.{Rest};
+ghost use Rattle.e_run.specs.Endings.{Closes, EndingIs, IsAll, IsEnding, last_lines, answer_of};
+ghost use Rattle.e_run.specs.Taken.{TookFew, HandledAll};
 
-use crate::blocks::{Broken, Ending, blocks};
-use crate::input::{InputFault, LONGEST_LINE, MOST_BYTES, read_text};
+use crate::blocks::{Broken, Ending};
 use crate::output::{accepted, fault};
+use crate::pieces::blocks_of_source;
 use crate::status::Status;
 use e_deriv::Stop;
 use e_io::{Sink, Source, write_all};
 use e_spell::spell_stop;
-use e_text::{Lines, Title};
+use e_text::Title;
 use std::alloc::{AllocError, Global};
+use std::mem;
 
 /// Writes the last lines of an answer, and gives the answer.
 pub fn close<K: Sink>(sink: &mut K, last: &[u8], answer: Status) -> Status
@@ -84,29 +87,30 @@ pub fn answer_of(ending: Ending) -> Status
     }
 }
 
-/// Takes the theorems of a book whose head line is written, writes their blocks and the last lines.
-pub fn check_lines<K: Sink>(alloc: Global, lines: &mut Lines, sink: &mut K) -> Status
-    requires first { lines.old.line ≡ 1 }
-    requires few { length lines.old.lines < 2 ^ 31 }
-    ensures checks { (before : Option (List ℕ)) → Grew before (K.written sink.old) head_line → Checks lines.old.lines before (K.written sink.new) result }
+/// Writes the last lines of an ending, and gives its answer.
+fn report<K: Sink>(alloc: Global, ending: Ending, sink: &mut K) -> Status
+    requires { IsEnding ending }
+    ensures checks { (lines : Rest) (before between : Option (List ℕ)) → Grew before between head_line → EndingIs lines between (K.written sink.old) ending → Checks lines before (K.written sink.new) result }
+    ensures accepted { IsAccepted result → IsAll ending }
     ensures rises { K.faults sink.old ≤ K.faults sink.new }
     ensures cause { IsWriteFault result → Rose (K.faults sink.old) (K.faults sink.new) }
     ensures no_read { IsReadFault result → ⊥ }
 {
-    let ending = match blocks(alloc, lines, sink) {
-        Ok(ending) => ending,
-        Err(Broken::NoMemory) => return close(sink, b"no memory\n", Status::NoMemory),
-        Err(Broken::WriteFault) => return Status::WriteFault,
-    };
     match last_lines(alloc, &ending) {
         Ok(last) => close(sink, &last, answer_of(ending)),
-        Err(_) => close(sink, b"no memory\n", Status::NoMemory),
+        Err(_) => {
+            mem::drop(ending);
+            close(sink, b"no memory\n", Status::NoMemory)
+        }
     }
 }
 
-/// Reads a book from a source, and writes its derivations and the last lines to a sink.
+/// Reads a book from a source, and writes its derivations and the last lines to a sink: the block of
+/// each theorem as soon as its last line is read.
 pub fn check<S: Source, K: Sink>(alloc: Global, source: &mut S, sink: &mut K) -> Status
     ensures checks { ChecksBook (S.left source.old) (K.written sink.old) (K.written sink.new) result }
+    ensures took { TookFew (S.left source.old) (S.left source.new) }
+    ensures handled { IsReadFault result → HandledAll (S.left source.old) (S.left source.new) (K.written sink.old) (K.written sink.new) }
     ensures end { IsAccepted result → IsAtEnd (S.left source.new) }
     ensures read_rises { S.faults source.old ≤ S.faults source.new }
     ensures read_cause { IsReadFault result → Rose (S.faults source.old) (S.faults source.new) }
@@ -116,11 +120,10 @@ pub fn check<S: Source, K: Sink>(alloc: Global, source: &mut S, sink: &mut K) ->
     let Ok(()) = write_all(sink, b"derivation 1\n") else {
         return Status::WriteFault;
     };
-    let text = match read_text(alloc, source, MOST_BYTES) {
-        Ok(text) => text,
-        Err(InputFault::ReadFault) => return close(sink, b"read fault\n", Status::ReadFault),
-        Err(InputFault::NoMemory) => return close(sink, b"no memory\n", Status::NoMemory),
-    };
-    let mut lines = Lines::new(&text, LONGEST_LINE, MOST_BYTES as u64);
-    check_lines(alloc, &mut lines, sink)
+    match blocks_of_source(alloc, source, sink) {
+        Ok(ending) => report(alloc, ending, sink),
+        Err(Broken::NoMemory) => close(sink, b"no memory\n", Status::NoMemory),
+        Err(Broken::ReadFault) => close(sink, b"read fault\n", Status::ReadFault),
+        Err(Broken::WriteFault) => Status::WriteFault,
+    }
 }

@@ -2,12 +2,14 @@
 #![tactic(auto)]
 
 mod blocks;
+mod book;
 mod checker;
 mod command;
 mod input;
 mod laws;
 mod maker;
 mod output;
+mod pieces;
 mod runner;
 mod status;
 mod store;

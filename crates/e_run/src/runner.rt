@@ -4,6 +4,7 @@ ghost use Rattle.e_io.specs.Bytes.{Rose};
 ghost use Rattle.e_run.specs.Answers.{Answers, AnswersUsage, ChecksBook, IsReadFault, IsWhole, IsWriteFault};
 ghost use Rattle.e_run.specs.Input.{IsAtEnd};
 ghost use Rattle.e_run.specs.Making.{Makes};
+ghost use Rattle.e_run.specs.Taken.{TookFew, HandledAll};
 ghost use Rattle.e_run.specs.Trying.{AnswersTrial, Tries};
 ghost use Rattle.e_run.specs.Verifying.{AnswersText, VerifiesText};
 ghost use Rattle.e_run.specs.Words.{command_of, reads};
@@ -21,7 +22,7 @@ use std::alloc::Global;
 /// Does what the words say.
 ///
 /// With the word `check` it reads a book from the source, and writes to the sink the line `derivation 1`, the block of
-/// each theorem with its derivation, and the last lines. With the word `verify` it reads a derivation text from the source, and
+/// each theorem with its derivation, as soon as its last line is read, and the last lines. With the word `verify` it reads a derivation text from the source, and
 /// writes one line. With `make N` it writes the generated book of N theorems, and with `trial N` it checks that book, verifies its
 /// derivations, and writes one line; `N` is a numeral from 1 to 500. With any other words it writes the usage line. The answers are those of `Status`:
 /// `Accepted` only where each theorem of the book has a derivation, every certificate of which is right at its own line, and
@@ -53,6 +54,10 @@ pub fn run<S: Source, K: Sink>(
     // A book that is accepted, and a derivation text that is verified, were read to their end; the other commands read nothing.
     ensures end { IsTrue (reads (command_of (map string_bytes words.now))) → IsWhole result → IsAtEnd (S.left source.new) }
     ensures unread { IsFalse (reads (command_of (map string_bytes words.now))) → source.new ≡ source.old }
+    // Of a source of a book at most one byte more is taken than a book may have; and after a read fault all that was taken is handled: the
+    // blocks of exactly the theorems whose last line was taken are written.
+    ensures took { command_of (map string_bytes words.now) ≡ Command.Check → TookFew (S.left source.old) (S.left source.new) }
+    ensures handled { command_of (map string_bytes words.now) ≡ Command.Check → IsReadFault result → HandledAll (S.left source.old) (S.left source.new) (K.written sink.old) (K.written sink.new) }
     // A book with an outcome is answered so, and a derivation text with a judgement.
     ensures complete { command_of (map string_bytes words.now) ≡ Command.Check → Answers (S.left source.old) result }
     ensures judged { command_of (map string_bytes words.now) ≡ Command.Verify → AnswersText (S.left source.old) result }

@@ -1,37 +1,52 @@
-use Rattle.std.proofs.Common.{◌∙◌, arith, ap}
-use Rattle.e_text.proofs.WholeLines.{length-lines_of}
-use Rattle.e_run.specs.Outcome.{lines_of_book}
-use Rattle.e_text.specs.Lines.{Ahead}
+use Rattle.std.proofs.Common.{refl}
 use Rattle.e_run.specs.declared.status.Status.TheVariants as status
-use Rattle.e_run.proofs.Closing.{any_book, closed_head, closed_read, closed_unread, read_book_lines, checks_at}
-use Rattle.e_run.proofs.WholeBook.{read_is_short}
+use Rattle.e_run.specs.LastLines.{read_fault_line}
+use Rattle.e_run.specs.Outcome.{lines_of_book}
+use Rattle.e_run.proofs.Told.{took_none}
+use Rattle.e_run.proofs.Closing.{any_book, closed_head, closed_broken, closed_cut, closed_inside, is_ending}
+use Rattle.e_run.proofs.ReadPieces.{last_grew, handled_closed}
 use Rattle.e_run.proofs.checker.check.Goals as goal
 
 pub returns-in_default-clause-checks : goal.returns-in_default-clause-checks
 returns-in_default-clause-checks g c =
     any_book (g.S.Source.left c.args.source.now) (g.K.Sink.written c.args.sink.now) (g.K.Sink.written c.write_all.new.sink) status.WriteFault (λ lines. closed_head lines (g.K.Sink.written c.args.sink.now) (g.K.Sink.written c.write_all.new.sink) c.in_default.ensures.prefix)
 
-pub returns-in-Err-ReadFault-clause-checks : goal.returns-in-Err-ReadFault-clause-checks
-returns-in-Err-ReadFault-clause-checks g c =
-    any_book (g.S.Source.left c.args.source.now) (g.K.Sink.written c.args.sink.now) (g.K.Sink.written c.close.new.sink) c.close.result (λ lines. closed_read lines (g.K.Sink.written c.args.sink.now) (g.K.Sink.written c.write_all.new.sink) (g.K.Sink.written c.close.new.sink) c.close.result c.in-Ok.ensures.ok c.close.ensures.closes)
+pub returns-in_default-clause-took : goal.returns-in_default-clause-took
+returns-in_default-clause-took g c = took_none (g.S.Source.left c.args.source.now)
+
+pub report-requires : goal.report-requires
+report-requires g c =
+    let e = c.in-Ok-blocks_of_source.ensures.ends in
+    is_ending (lines_of_book e.0) (g.K.Sink.written c.write_all.new.sink) (g.K.Sink.written c.blocks_of_source.new.sink) c.in-Ok-blocks_of_source.ending e.2
+
+pub returns-in-Ok-blocks_of_source-clause-checks : goal.returns-in-Ok-blocks_of_source-clause-checks
+returns-in-Ok-blocks_of_source-clause-checks g c =
+    let e = c.in-Ok-blocks_of_source.ensures.ends in
+    (e.0, e.1, c.report.ensures.checks (lines_of_book e.0) (g.K.Sink.written c.args.sink.now) (g.K.Sink.written c.write_all.new.sink) c.in-Ok.ensures.ok e.2)
+
+pub returns-in-Ok-blocks_of_source-clause-end : goal.returns-in-Ok-blocks_of_source-clause-end
+returns-in-Ok-blocks_of_source-clause-end g c = λ a. c.in-Ok-blocks_of_source.ensures.end (c.report.ensures.accepted a)
+
+pub returns-in-Ok-blocks_of_source-clause-handled : goal.returns-in-Ok-blocks_of_source-clause-handled
+returns-in-Ok-blocks_of_source-clause-handled g c = λ r. absurd (c.report.ensures.no_read r)
 
 pub returns-in-Err-NoMemory-clause-checks : goal.returns-in-Err-NoMemory-clause-checks
 returns-in-Err-NoMemory-clause-checks g c =
-    any_book (g.S.Source.left c.args.source.now) (g.K.Sink.written c.args.sink.now) (g.K.Sink.written c.close-in-Err-NoMemory.new.sink) c.close-in-Err-NoMemory.result (λ lines. closed_unread lines (g.K.Sink.written c.args.sink.now) (g.K.Sink.written c.write_all.new.sink) (g.K.Sink.written c.close-in-Err-NoMemory.new.sink) c.close-in-Err-NoMemory.result c.in-Ok.ensures.ok c.close-in-Err-NoMemory.ensures.closes)
+    let e = rw c.in-Err-NoMemory.field-0-is at c.in-Err-NoMemory.ensures.ends in
+    (e.0, e.1, closed_broken (lines_of_book e.0) (g.K.Sink.written c.args.sink.now) (g.K.Sink.written c.write_all.new.sink) (g.K.Sink.written c.blocks_of_source.new.sink) (g.K.Sink.written c.close.new.sink) c.close.result c.in-Ok.ensures.ok e.2 c.close.ensures.closes)
 
-pub check_lines-requires-clause-few : goal.check_lines-requires-clause-few
-check_lines-requires-clause-few g c =
-    rw c.new-lines.ensures (omega (arith, length-lines_of (record { longest = 1600; most = 4194304 }) (record { line = 1; before = 0 }) c.deref.result.now, c.deref.ensures.len, c.in-Ok-read_text.ensures.few))
+pub returns-in-Err-ReadFault-clause-checks : goal.returns-in-Err-ReadFault-clause-checks
+returns-in-Err-ReadFault-clause-checks g c =
+    let e = rw c.in-Err-ReadFault.field-0-is at c.in-Err-ReadFault.ensures.ends in
+    (e.0, e.1, closed_cut (lines_of_book e.0) (g.K.Sink.written c.args.sink.now) (g.K.Sink.written c.write_all.new.sink) (g.K.Sink.written c.blocks_of_source.new.sink) (g.K.Sink.written c.close-in-Err-ReadFault.new.sink) c.close-in-Err-ReadFault.result c.in-Ok.ensures.ok e.2 c.close-in-Err-ReadFault.ensures.closes)
 
-pub returns-clause-checks : goal.returns-clause-checks
-returns-clause-checks g c =
-    read_book_lines (g.S.Source.left c.args.source.now) c.in-Ok-read_text.text.items (g.K.Sink.written c.args.sink.now) (g.K.Sink.written c.check_lines.new.sink) c.check_lines.result c.in-Ok-read_text.ensures.text
-    (checks_at c.new-lines.result.lines (lines_of_book c.in-Ok-read_text.text.items) (g.K.Sink.written c.args.sink.now) (g.K.Sink.written c.check_lines.new.sink) c.check_lines.result (ap (λ (a : Ahead). a.lines) c.new-lines.ensures ∙ ap lines_of_book c.deref.ensures.value) (c.check_lines.ensures.checks (g.K.Sink.written c.args.sink.now) c.in-Ok.ensures.ok))
+pub returns-in-Err-ReadFault-clause-handled : goal.returns-in-Err-ReadFault-clause-handled
+returns-in-Err-ReadFault-clause-handled g c =
+    let handled = (rw c.in-Err-ReadFault.field-0-is at c.in-Err-ReadFault.ensures.handled) refl in
+    handled_closed (g.S.Source.left c.args.source.now) (g.S.Source.left c.blocks_of_source.new.source) (g.K.Sink.written c.args.sink.now) (g.K.Sink.written c.write_all.new.sink) (g.K.Sink.written c.blocks_of_source.new.sink) (g.K.Sink.written c.close-in-Err-ReadFault.new.sink) c.close-in-Err-ReadFault.result
+    c.in-Ok.ensures.ok handled (last_grew (g.K.Sink.written c.blocks_of_source.new.sink) (g.K.Sink.written c.close-in-Err-ReadFault.new.sink) read_fault_line c.close-in-Err-ReadFault.result c.close-in-Err-ReadFault.ensures.closes)
 
-pub returns-clause-end : goal.returns-clause-end
-returns-clause-end g c =
-    λ h. c.in-Ok-read_text.ensures.end (omega (
-      arith,
-      read_is_short (g.K.Sink.written c.args.sink.now) (g.K.Sink.written c.check_lines.new.sink) c.in-Ok-read_text.text.items c.check_lines.result h
-          (checks_at c.new-lines.result.lines (lines_of_book c.in-Ok-read_text.text.items) (g.K.Sink.written c.args.sink.now) (g.K.Sink.written c.check_lines.new.sink) c.check_lines.result (ap (λ (a : Ahead). a.lines) c.new-lines.ensures ∙ ap lines_of_book c.deref.ensures.value) (c.check_lines.ensures.checks (g.K.Sink.written c.args.sink.now) c.in-Ok.ensures.ok)),
-    ))
+pub returns-in-Err-WriteFault-clause-checks : goal.returns-in-Err-WriteFault-clause-checks
+returns-in-Err-WriteFault-clause-checks g c =
+    let e = rw c.in-Err-WriteFault.field-0-is at c.in-Err-WriteFault.ensures.ends in
+    (e.0, e.1, closed_inside (lines_of_book e.0) (g.K.Sink.written c.args.sink.now) (g.K.Sink.written c.write_all.new.sink) (g.K.Sink.written c.blocks_of_source.new.sink) c.in-Ok.ensures.ok e.2)

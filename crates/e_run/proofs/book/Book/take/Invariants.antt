@@ -1,0 +1,18 @@
+use Rattle.std.proofs.Common.{◌≡◌, ◌≤◌, ◌++◌, ℕ, List, Option, length}
+use Rattle.e_text.specs.Lines.{AreGood}
+use Rattle.e_book.specs.Book.{last_line}
+use Rattle.e_run.specs.Outcome.{Rest}
+use Rattle.e_run.specs.Progress.{IsBook, Reaches}
+use Rattle.e_run.proofs.book.Book.take.Given as goal
+
+abbrev pub invariant-loop-theorem : goal.invariant-loop-theorem
+invariant-loop-theorem g l = record {
+  book : IsBook l.self;
+  reaches : (all : Rest → Rest) (before : Option (List ℕ)) → Reaches all (λ more. l.initial.lines.lines ++ more) before l.initial.self (g.K.Sink.written l.initial.sink) → Reaches all (λ more. l.lines.lines ++ more) before l.self (g.K.Sink.written l.sink);
+  good : AreGood l.lines.lines → AreGood l.initial.lines.lines;
+  last : last_line l.lines ≡ last_line l.initial.lines;
+  rises : g.K.Sink.faults l.initial.sink ≤ g.K.Sink.faults l.sink;
+}
+
+abbrev pub decreases-loop-theorem : goal.decreases-loop-theorem
+decreases-loop-theorem g l = length l.lines.lines
