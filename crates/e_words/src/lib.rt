@@ -1,40 +1,61 @@
-//! Words written behind spaces, and the ends of lines. Each of these functions adds bytes to what is written, and fails only for
-//! want of memory.
+//! Words written behind spaces, and the ends of lines. Each of these functions adds bytes to what is written. It fails only for
+//! want of memory, and then what was written before is as it was.
 #![tactic(auto)]
 
-ghost use Rattle.std.specs.Prelude.{◌≡◌, ◌++◌, ◌∷◌, [], ◌==◌, if◌then◌else◌, decimal, OnOk};
+ghost use Rattle.std.specs.Prelude.{◌≡◌, ◌≤◌, ◌++◌, ◌∷◌, [], ◌==◌, if◌then◌else◌, decimal, length, take, OnOk, OnErr};
 ghost use Rattle.e_text.specs.Tokens.{spaced};
 
 use e_text::Name;
 use itoa::{Buffer, Integer};
 use std::alloc::AllocError;
 
-/// Writes a word behind a space. It fails only for want of memory.
+// Writes a word behind a space, or leaves only so many of the first bytes.
+fn put_or_cut(out: &mut Vec<u8>, word: &[u8], before: usize) -> Result<(), AllocError>
+    requires { before ≤ length out.old.items }
+    ensures ok { OnOk result (out.new.items ≡ out.old.items ++ 32 ∷ word.now) }
+    ensures err { OnErr result (out.new.items ≡ take before out.old.items) }
+{
+    if let Err(lack) = out.push(b' ') {
+        out.truncate(before);
+        return Err(lack.into());
+    }
+    if let Err(lack) = out.extend_from_slice(word) {
+        out.truncate(before);
+        return Err(lack.into());
+    }
+    Ok(())
+}
+
+/// Writes a word behind a space.
 pub fn put(out: &mut Vec<u8>, word: &[u8]) -> Result<(), AllocError>
-    ensures { OnOk result (out.new.items ≡ out.old.items ++ 32 ∷ word.now) }
+    ensures ok { OnOk result (out.new.items ≡ out.old.items ++ 32 ∷ word.now) }
+    ensures err { OnErr result (out.new.items ≡ out.old.items) }
 {
-    out.push(b' ')?;
-    out.extend_from_slice(word)
+    let before = out.len();
+    put_or_cut(out, word, before)
 }
 
-/// Writes two words, each behind a space. It fails only for want of memory.
-pub fn put_two(out: &mut Vec<u8>, x: &[u8], y: &[u8]) -> Result<(), AllocError>
-    ensures { OnOk result (out.new.items ≡ out.old.items ++ spaced (x.now ∷ y.now ∷ [])) }
+// Writes two words, each behind a space.
+fn put_two(out: &mut Vec<u8>, x: &[u8], y: &[u8]) -> Result<(), AllocError>
+    ensures ok { OnOk result (out.new.items ≡ out.old.items ++ spaced (x.now ∷ y.now ∷ [])) }
+    ensures err { OnErr result (out.new.items ≡ out.old.items) }
 {
+    let before = out.len();
     put(out, x)?;
-    put(out, y)
+    put_or_cut(out, y, before)
 }
 
-/// Writes three words, each behind a space. It fails only for want of memory.
+/// Writes three words, each behind a space.
 pub fn put_three(out: &mut Vec<u8>, x: &[u8], y: &[u8], z: &[u8]) -> Result<(), AllocError>
-    ensures { OnOk result (out.new.items ≡ out.old.items ++ spaced (x.now ∷ y.now ∷ z.now ∷ [])) }
+    ensures ok { OnOk result (out.new.items ≡ out.old.items ++ spaced (x.now ∷ y.now ∷ z.now ∷ [])) }
+    ensures err { OnErr result (out.new.items ≡ out.old.items) }
 {
-    put(out, x)?;
-    put(out, y)?;
-    put(out, z)
+    let before = out.len();
+    put_two(out, x, y)?;
+    put_or_cut(out, z, before)
 }
 
-/// Writes four words, each behind a space. It fails only for want of memory.
+/// Writes four words, each behind a space.
 pub fn put_four(
     out: &mut Vec<u8>,
     word: &[u8],
@@ -42,23 +63,27 @@ pub fn put_four(
     y: &[u8],
     z: &[u8],
 ) -> Result<(), AllocError>
-    ensures { OnOk result (out.new.items ≡ out.old.items ++ spaced (word.now ∷ x.now ∷ y.now ∷ z.now ∷ [])) }
+    ensures ok { OnOk result (out.new.items ≡ out.old.items ++ spaced (word.now ∷ x.now ∷ y.now ∷ z.now ∷ [])) }
+    ensures err { OnErr result (out.new.items ≡ out.old.items) }
 {
-    put_two(out, word, x)?;
-    put_two(out, y, z)
+    let before = out.len();
+    put_three(out, word, x, y)?;
+    put_or_cut(out, z, before)
 }
 
-/// Writes a number behind a space, by its decimal digits. It fails only for want of memory.
+/// Writes a number behind a space, by its decimal digits.
 pub fn put_number<I: Integer>(out: &mut Vec<u8>, number: I) -> Result<(), AllocError>
-    ensures { OnOk result (out.new.items ≡ out.old.items ++ 32 ∷ I.text number) }
+    ensures ok { OnOk result (out.new.items ≡ out.old.items ++ 32 ∷ I.text number) }
+    ensures err { OnErr result (out.new.items ≡ out.old.items) }
 {
     let mut digits = Buffer::new();
     put(out, digits.format(number).as_bytes())
 }
 
-/// Writes a coefficient behind a space, and nothing for 1. It fails only for want of memory.
+/// Writes a coefficient behind a space, and nothing for 1.
 pub fn put_coefficient(out: &mut Vec<u8>, coeff: u32) -> Result<(), AllocError>
-    ensures { OnOk result (out.new.items ≡ out.old.items ++ spaced (if coeff == 1 then [] else decimal coeff ∷ [])) }
+    ensures ok { OnOk result (out.new.items ≡ out.old.items ++ spaced (if coeff == 1 then [] else decimal coeff ∷ [])) }
+    ensures err { OnErr result (out.new.items ≡ out.old.items) }
 {
     if coeff == 1 {
         return Ok(());
@@ -66,28 +91,37 @@ pub fn put_coefficient(out: &mut Vec<u8>, coeff: u32) -> Result<(), AllocError>
     put_number(out, coeff)
 }
 
-/// Writes names in their order, each behind a space. It fails only for want of memory.
+/// Writes names in their order, each behind a space.
 pub fn put_names(out: &mut Vec<u8>, names: &[Name]) -> Result<(), AllocError>
-    ensures { OnOk result (out.new.items ≡ out.old.items ++ spaced names.now) }
+    ensures ok { OnOk result (out.new.items ≡ out.old.items ++ spaced names.now) }
+    ensures err { OnErr result (out.new.items ≡ out.old.items) }
 {
+    let before = out.len();
     for name in names {
-        put(out, name.bytes())?;
+        put_or_cut(out, name.bytes(), before)?;
     }
     Ok(())
 }
 
-/// Ends a line by a line feed. It fails only for want of memory.
+/// Ends a line by a line feed.
 pub fn end_line(out: &mut Vec<u8>) -> Result<(), AllocError>
-    ensures { OnOk result (out.new.items ≡ out.old.items ++ 10 ∷ []) }
+    ensures ok { OnOk result (out.new.items ≡ out.old.items ++ 10 ∷ []) }
+    ensures err { OnErr result (out.new.items ≡ out.old.items) }
 {
     out.push(b'\n')?;
     Ok(())
 }
 
-/// Writes these bytes as a line, with its end. It fails only for want of memory.
+/// Writes these bytes as a line, with its end.
 pub fn put_line(out: &mut Vec<u8>, line: &[u8]) -> Result<(), AllocError>
-    ensures { OnOk result (out.new.items ≡ out.old.items ++ (line.now ++ 10 ∷ [])) }
+    ensures ok { OnOk result (out.new.items ≡ out.old.items ++ (line.now ++ 10 ∷ [])) }
+    ensures err { OnErr result (out.new.items ≡ out.old.items) }
 {
+    let before = out.len();
     out.extend_from_slice(line)?;
-    end_line(out)
+    if let Err(lack) = out.push(b'\n') {
+        out.truncate(before);
+        return Err(lack.into());
+    }
+    Ok(())
 }
