@@ -24,7 +24,7 @@ use Rattle.e_literal.specs.Rows.{Row, Zero, AtLeast, More, Not, is_degenerate, t
 use Rattle.e_literal.specs.Solution.{Satisfy, carried}
 use Rattle.e_literal.proofs.Arith.{sums, one_mul, minus_one}
 use Rattle.e_literal.proofs.Terms.{term_eq_is, equal_terms, among_either, among_left, among_right, among_first, among_rest}
-use Rattle.e_literal.proofs.Canonical.{kind_canonical, one_term_is, same_degenerate}
+use Rattle.e_literal.proofs.CanonicalTerms.{kind_canonical, one_term_is, same_degenerate}
 use Rattle.e_literal.proofs.Valued.{IsMagEq, IsMagLt, IsDiagram, split, normal_value, holds_of_so}
 use Rattle.e_literal.proofs.Sorts.{same_kind_is, same_kind_self}
 use Rattle.e_literal.proofs.Booleans.{and_left, and_right}

@@ -20,7 +20,7 @@ three g a b c d e f h =
     ∙ two (g d) b c e f (and_right (a == d) (b == e && c == f) h)
 
 -- diagram atoms that are the same are equal
-atom_is : (a b : Atom) → is_some (kind_of_atom b) ≡ false → same_atom a b ≡ true → a ≡ b
+pub atom_is : (a b : Atom) → is_some (kind_of_atom b) ≡ false → same_atom a b ≡ true → a ≡ b
 atom_is (On a b) (On c d) m h = two On a b c d h
 atom_is (OnC a b) (OnC c d) m h = two OnC a b c d h
 atom_is (Inside a b) (Inside c d) m h = two Inside a b c d h

@@ -1,16 +1,12 @@
 -- What has to be so at a line beside what it has to be allowed: its objects are in scope, its form fits. What it needs.
-use Rattle.std.specs.Prelude.{ℕ, List, [], ◌∷◌, map, length, Bool, true, false, ◌&&◌, nat_lt, Option, is_some}
-use Rattle.std.specs.Option.{option_map_or}
+use Rattle.std.specs.Prelude.{ℕ, List, [], ◌∷◌, length, Bool, true, ◌&&◌, nat_lt, Option}
 use Rattle.std.specs.List.{list_all}
 use Rattle.e_literal.specs.declared.object.Obj.{Obj}
 use Rattle.e_literal.specs.declared.object.Scope.{Scope}
 use Rattle.e_literal.specs.declared.literal.Lit.{Lit}
-use Rattle.e_literal.specs.Literal.{negation, is_in_scope, all_in_scope}
-use Rattle.e_literal.specs.Facts.{has, has_all, others}
+use Rattle.e_literal.specs.Literal.{all_in_scope}
 use Rattle.e_literal.specs.Use.{Stated, needs_of_use}
-use Rattle.e_clause.specs.declared.cert.By.{By}
-use Rattle.e_clause.specs.Instance.{Inst}
-use Rattle.e_clause.specs.RuleKinds.{is_diagram_rule}
+pub use Rattle.e_clause.specs.Citing.{is_citation, instance_gives, is_cited}
 use Rattle.e_construct.specs.Construct.{fits as fits_form, needs as needs_of_form}
 use Rattle.e_construct.specs.Superposing as superposing
 use Rattle.e_deriv.specs.Script.{Script, Cite, Hence, Make, Apply, Claim, Superposed, Qed, Contradiction, Cases}
@@ -22,20 +18,6 @@ use Rattle.e_deriv.specs.Lines.{Line, theorem_at}
 -- all objects of the literals are in scope
 abbrev pub are_over : Scope → List Lit → Bool
 are_over s ls = list_all (all_in_scope s) ls
-
--- the rule is one of diagrams and equality, its arguments have the sorts of its variables, and all objects are in scope
-abbrev pub is_citation : Scope → By → Bool
-is_citation s by =
-    is_diagram_rule by.rule
-    && (list_all (is_in_scope s) by.args && (all_in_scope s by.lit && is_some (Inst by.rule by.args)))
-
--- the literal is one of the instance, and the negation of each other is a fact
-abbrev pub instance_gives : List Lit → Lit → List Lit → Bool
-instance_gives facts l lits = has lits l && has_all facts (map negation (others lits l))
-
--- the cited instance gives the literal
-abbrev pub is_cited : List Lit → By → Bool
-is_cited facts by = option_map_or (instance_gives facts by.lit) (Inst by.rule by.args) false
 
 -- the arguments fill the pattern and fit the theorem, which is one of those before
 abbrev pub is_applied : List Stated → ℕ → Scope → List (Option Obj) → List Obj → Bool

@@ -3,7 +3,7 @@ pub mod Columns
 pub mod Cramer
 pub mod Exact
 pub mod Minors
-pub mod Width
+pub mod WidthOfRows
 pub mod Named
 pub mod Quotient
 pub mod Sums

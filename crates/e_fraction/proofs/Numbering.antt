@@ -12,7 +12,7 @@ use Rattle.e_literal.specs.Minor.{Column, Constants, Of, SignedRow, entry, IsWid
 use Rattle.e_literal.specs.Width.{is_among}
 use Rattle.e_fraction.specs.Det.{det, IsPart, EachBelow, IsWide}
 use Rattle.e_fraction.proofs.Named.{numbered, det_named}
-use Rattle.e_fraction.proofs.Width.{part_trans}
+use Rattle.e_fraction.proofs.WidthOfRows.{part_trans}
 use Rattle.e_fraction.proofs.Expand.{expand_below}
 use Rattle.e_literal.proofs.Terms.{term_eq_is}
 

@@ -15,7 +15,7 @@ use Rattle.e_literal.specs.Minor.{determinant, constant, Column, Constants, Of, 
 use Rattle.e_literal.specs.Width.{has_constant, is_among, new_terms, weight, product, constants, full_width, width}
 use Rattle.e_fraction.specs.Det.{IsPart, EachBelow, IsWide}
 use Rattle.e_fraction.proofs.Named.{numbered, det_named}
-use Rattle.e_fraction.proofs.Width.{column_sum, whole, width_of, wide_width, part_all}
+use Rattle.e_fraction.proofs.WidthOfRows.{column_sum, whole, width_of, wide_width, part_all}
 use Rattle.e_literal.proofs.Terms.{among_left, among_right, among_first, among_new}
 use Rattle.e_fraction.proofs.Products.{new_more, product_more, none_more, among_form}
 use Rattle.e_fraction.proofs.Sums.{coefficient_none}

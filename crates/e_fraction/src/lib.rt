@@ -1,13 +1,14 @@
 // Exact arithmetic on rows of whole numbers: determinants, and the sums that refute.
 #![tactic(auto)]
 
-pub mod entry;
-pub mod row;
-pub mod signed;
-pub mod sum;
-pub mod widths;
+mod entry;
+mod row;
+mod signed;
+mod sum;
+mod widths;
 
 pub use entry::{Wide, cross};
 pub use row::{Row, RowKind, have_small_coefficients};
-pub use signed::{Signed, are_distinct};
-pub use sum::{are_good_multipliers, check_sum};
+pub use signed::{Signed, are_distinct, stands_in};
+pub use sum::{are_good_multipliers, check_sum, total};
+pub use widths::width;

@@ -23,7 +23,7 @@ use Rattle.e_literal.specs.NormalForm.{numbers_of, term_cmp, Coefficients, diffe
 use Rattle.e_literal.proofs.Terms.{term_eq_is}
 use Rattle.e_literal.proofs.Agreeing.{coeff_same, equal_of_agree, agree_of_equal}
 use Rattle.e_literal.proofs.Booleans.{or_not_left, or_not_right}
-use Rattle.e_literal.proofs.Canonical.{canonical_twice}
+use Rattle.e_literal.proofs.CanonicalTerms.{canonical_twice}
 
 -- ---- terms in their order
 

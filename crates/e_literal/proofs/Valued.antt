@@ -24,7 +24,7 @@ use Rattle.e_literal.specs.Solution.{form_value, IsSo, carried}
 use Rattle.e_literal.proofs.Arith.{sums, neg_mul}
 use Rattle.e_literal.proofs.Terms.{term_eq_is, equal_terms}
 use Rattle.e_literal.proofs.Agreeing.{agree_equal}
-use Rattle.e_literal.proofs.Canonical.{canonical_twice, one_term_is, one_term_of, same_degenerate}
+use Rattle.e_literal.proofs.CanonicalTerms.{canonical_twice, one_term_is, one_term_of, same_degenerate}
 use Rattle.e_literal.proofs.Refutes.{form_value_same}
 use Rattle.e_literal.proofs.Booleans.{or_not_left, or_not_right, and_left, and_right, same_bool, same_neg_is}
 

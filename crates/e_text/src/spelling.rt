@@ -21,7 +21,7 @@ pub struct Spelling {
 impl Model for Spelling {
     ghost use Rattle.std.specs.Prelude.{◌≡◌, ◌≤◌, ◌-◌, ◌++◌, List, ℕ, length, take, drop, replicate};
     ghost use Rattle.std.proofs.Common.{arith, length-take-le};
-    ghost use Rattle.e_text.specs.Fixed.{undone};
+    ghost use Rattle.e_text.specs.inner.Fixed.{undone};
 
     ghost Value = { List ℕ };
 
