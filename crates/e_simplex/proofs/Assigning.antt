@@ -16,9 +16,9 @@ use Rattle.e_simplex.specs.declared.lines.Kind.TheVariants.{More as LineMore}
 use Rattle.e_simplex.specs.Lines.{form_value, LineHolds, IsSolution, IsAbsurd}
 use Rattle.e_simplex.specs.Naming.{place_of, IsIn, AreOnce, Continues, FormNamed, AllNamed, named_form, named_line, named_lines, kind_of, keeps}
 use Rattle.e_simplex.specs.Answer.{assigned, AreValuesOf}
-use Rattle.e_simplex.specs.Paired.{PairedTo}
-use Rattle.e_simplex.specs.Apart.{AreApart, IsNeither}
-use Rattle.e_simplex.specs.Tried.{negative_line}
+use Rattle.e_simplex.specs.inner.Paired.{PairedTo}
+use Rattle.e_simplex.specs.inner.Apart.{AreApart, IsNeither}
+use Rattle.e_simplex.specs.inner.Tried.{negative_line}
 use Rattle.e_literal.proofs.Arith.{sums}
 use Rattle.e_simplex.proofs.Negatives.{negated_value, negative_within}
 use Rattle.e_simplex.proofs.NamedLines.{kept_not, within_lines, more_lines}

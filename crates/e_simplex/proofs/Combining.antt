@@ -9,8 +9,8 @@ use Rattle.e_simplex.specs.declared.lines.Line.{Line}
 use Rattle.e_simplex.specs.declared.lines.Kind.{Kind}
 use Rattle.e_simplex.specs.declared.lines.Kind.TheVariants.{Zero, AtLeast, More}
 use Rattle.e_simplex.specs.Lines.{form_value, LineHolds, IsSolution, AllFormsWithin}
-use Rattle.e_simplex.specs.Multiple.{AddedTo}
-use Rattle.e_simplex.specs.Tried.{AreValues}
+use Rattle.e_simplex.specs.inner.Multiple.{AddedTo}
+use Rattle.e_simplex.specs.inner.Tried.{AreValues}
 use Rattle.e_literal.proofs.Arith.{sums, mul_add, mul_swap, mul-not_negative}
 
 pub combined_form : (xs : List Monomial) (w : ℕ) (a b c : List ℤ) (t : ℕ) → ((k : ℕ) (d : Monomial) → k < length xs → (get_or xs k d).column < w) → AddedTo w a b t c

@@ -6,7 +6,7 @@ use Rattle.e_fraction.specs.Det.{det, expand, EachBelow}
 use Rattle.e_literal.proofs.Arith.{sums, neg_mul}
 use Rattle.e_fraction.proofs.Expand.{expand-same, expand-neg}
 use Rattle.e_fraction.proofs.Columns.{replaced, expand_front, Alternates-det}
-use Rattle.e_fraction.proofs.Width.{Misses, AllApart, Twice, apart}
+use Rattle.e_fraction.proofs.WidthOfRows.{Misses, AllApart, Twice, apart}
 use Rattle.e_fraction.proofs.Quotient.{one_quotient}
 
 -- ---- more numbers below n than n are not all different

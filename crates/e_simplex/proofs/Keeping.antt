@@ -9,9 +9,9 @@ use borrow.Author.Differences.{abs_is}
 use Rattle.e_simplex.specs.declared.lines.Line.{Line}
 use Rattle.e_simplex.specs.Entries.{AllSmall}
 use Rattle.e_simplex.specs.Lines.{IsSolution, AllFormsWithin}
-use Rattle.e_simplex.specs.Multiple.{AddedTo, IsGood}
-use Rattle.e_simplex.specs.Tried.{AreValues}
-use Rattle.e_simplex.specs.Kept.{IsKept}
+use Rattle.e_simplex.specs.inner.Multiple.{AddedTo, IsGood}
+use Rattle.e_simplex.specs.inner.Tried.{AreValues}
+use Rattle.e_simplex.specs.inner.Kept.{IsKept}
 use Rattle.e_literal.proofs.Arith.{sums}
 use Rattle.e_simplex.proofs.Combining.{combined_solution, combined_values}
 

@@ -9,7 +9,7 @@ use lib.IntN.{ℤ, pos, ◌+ℤ◌, ◌*ℤ◌, *ℤ-zero}
 use borrow.Author.Differences.{abs_is}
 use Rattle.std.proofs.Common.{[], ◌∷◌, ◌++◌, ◌∙◌}
 use Rattle.std.proofs.lemmas.List.{length_push, get_or_push, get_or_append_left}
-use Rattle.e_simplex.specs.Multiple.{IsBad, added, AddedTo}
+use Rattle.e_simplex.specs.inner.Multiple.{IsBad, added, AddedTo}
 use Rattle.e_literal.proofs.Arith.{sums}
 use Rattle.e_simplex.proofs.Disequal.{some_good, one_bad}
 

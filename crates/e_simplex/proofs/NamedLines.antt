@@ -8,7 +8,6 @@ use Rattle.e_literal.specs.declared.object.Term.TheVariants.{Right}
 use Rattle.e_literal.specs.Same.{term_eq}
 use Rattle.e_literal.specs.Rows.{Row, Says, Zero, AtLeast, More, Not, Summands, coefficient}
 use Rattle.e_literal.specs.Minor.{entry, constant}
-use Rattle.e_fraction.specs.declared.row.Row.{Row as GivenRow}
 use Rattle.e_fraction.specs.Tableau.{unit}
 use Rattle.e_fraction.specs.Limits.{has_small_coefficients}
 use Rattle.e_fraction.specs.Distinct.{have_distinct_terms}
@@ -16,13 +15,13 @@ use Rattle.e_simplex.specs.declared.lines.Monomial.{Monomial}
 use Rattle.e_simplex.specs.declared.lines.Line.{Line}
 use Rattle.e_simplex.specs.Lines.{form_at, line_row, constant_of, IsSmallLine, FormWithin, AllSmallLines, AllFormsWithin}
 use Rattle.e_simplex.specs.Solved.{IsFit}
-use Rattle.e_simplex.specs.Apart.{AreFurther}
-use Rattle.e_simplex.specs.Tried.{negative_line}
+use Rattle.e_simplex.specs.inner.Apart.{AreFurther}
+use Rattle.e_simplex.specs.inner.Tried.{negative_line}
 use Rattle.e_simplex.specs.declared.lines.Kind.TheVariants.{More as LineMore}
 use Rattle.e_simplex.proofs.Negatives.{small_push, negated_at}
 use Rattle.e_simplex.proofs.Deciding.{forms_push}
 use Rattle.std.proofs.lemmas.List.{length_push}
-use Rattle.e_simplex.specs.Naming.{place_of, IsIn, AreOnce, FormNamed, AllNamed, named_form, named_line, named_lines, kind_of, keeps, have_short_forms}
+use Rattle.e_simplex.specs.Naming.{place_of, IsIn, AreOnce, FormNamed, AllNamed, named_form, named_line, named_lines, kind_of, keeps}
 use Rattle.e_literal.proofs.Arith.{sums, one_mul}
 use Rattle.e_fraction.proofs.Minors.{unit-same, unit-other}
 use Rattle.e_literal.proofs.Terms.{term_eq_is, equal_terms}
@@ -196,8 +195,3 @@ small_like l m e h = record {
   short = omega (arith, h.short, ap length e);
   sums = λ c. subst (λ v. unsigned_abs (form_at v c) ≤ 2 ^ 30) (sym e) (h.sums c);
 }
-
-pub short_row : (rows : List GivenRow) (i : ℕ) (d : GivenRow) → i < length rows → have_short_forms rows ≡ true → length (get_or rows i d).form ≤ 2 ^ 32
-short_row [] i d l h = absurd (omega (arith, l))
-short_row (r ∷ rs) zero d l h = leb-true (length r.form) (2 ^ 32) (and_left (nat_le (length r.form) (2 ^ 32)) (have_short_forms rs) h)
-short_row (r ∷ rs) (suc i) d l h = short_row rs i d (omega (arith, l)) (and_right (nat_le (length r.form) (2 ^ 32)) (have_short_forms rs) h)

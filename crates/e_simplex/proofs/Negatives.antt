@@ -12,7 +12,7 @@ use Rattle.e_fraction.specs.Tableau.{unit}
 use Rattle.e_simplex.specs.Entries.{AllSmall}
 use Rattle.e_simplex.specs.Lines.{form_at, form_value, FormWithin, IsSmallLine, AllSmallLines, AllFormsWithin, IsSolution, LineHolds}
 use Rattle.e_simplex.specs.Solved.{IsSolved, IsFit, columns_of, lines_of, AreBelow, WideFurther}
-use Rattle.e_simplex.specs.Tried.{negated, negative_line, IsFound}
+use Rattle.e_simplex.specs.inner.Tried.{negated, negative_line, IsFound}
 use Rattle.e_literal.proofs.Arith.{sums, neg_mul, size_negative}
 use Rattle.e_simplex.proofs.Deciding.{forms_push}
 

@@ -8,11 +8,11 @@ use Rattle.e_simplex.specs.declared.lines.Kind.TheVariants.{More}
 use Rattle.e_simplex.specs.declared.apart.Kept.{Kept}
 use Rattle.e_fraction.specs.Det.{IsWide}
 use Rattle.e_simplex.specs.Lines.{rows_of, form_value, AllFormsWithin}
-use Rattle.e_simplex.specs.Multiple.{AddedTo}
+use Rattle.e_simplex.specs.inner.Multiple.{AddedTo}
 use Rattle.e_simplex.specs.Solved.{WideFurther}
-use Rattle.e_simplex.specs.Tried.{IsFound, negative_line, AreValues, AreBelowBut}
-use Rattle.e_simplex.specs.Kept.{IsKept}
-use Rattle.e_simplex.specs.Apart.{AreFurther, LargeForm, IsMoved, WideWithTwo}
+use Rattle.e_simplex.specs.inner.Tried.{IsFound, negative_line, AreValues, AreBelowBut}
+use Rattle.e_simplex.specs.inner.Kept.{IsKept}
+use Rattle.e_simplex.specs.inner.Apart.{AreFurther, LargeForm, IsMoved, WideWithTwo}
 use Rattle.e_simplex.proofs.Keeping.{kept_step}
 
 some_line : Line

@@ -9,9 +9,9 @@ use Rattle.e_literal.specs.Minor.{SignedRow, entry, IsWide as IsWideRows}
 use Rattle.e_fraction.specs.Det.{det, IsPart, IsWide}
 use Rattle.e_simplex.specs.declared.lines.Line.{Line}
 use Rattle.e_simplex.specs.Lines.{line_row, rows_of}
-use Rattle.e_simplex.specs.Tried.{negative_line}
+use Rattle.e_simplex.specs.inner.Tried.{negative_line}
 use Rattle.e_simplex.specs.Naming.{AreOnce, FormNamed, AllNamed, named_line, named_lines, keeps}
-use Rattle.e_simplex.specs.Apart.{WideWith, WideWithTwo, WideApart}
+use Rattle.e_simplex.specs.inner.Apart.{WideWith, WideWithTwo, WideApart}
 use Rattle.e_literal.proofs.Arith.{sums}
 use Rattle.e_fraction.proofs.Moved.{wide_last}
 use Rattle.e_fraction.proofs.Numbering.{column, SameEntries, wide_named}

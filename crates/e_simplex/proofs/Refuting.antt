@@ -17,9 +17,9 @@ use Rattle.e_simplex.specs.declared.lines.Kind.TheVariants.{Zero as LineZero, At
 use Rattle.e_simplex.specs.Entries.{AllSmall}
 use Rattle.e_simplex.specs.Lines.{form_at, weighed_at, MayWeigh, IsAbsurd, AllFormsWithin, FormWithin}
 use Rattle.e_simplex.specs.Naming.{place_of, AreOnce, FormNamed, AllNamed, named_form, named_line, named_lines, kind_of, keeps}
-use Rattle.e_simplex.specs.Spread.{spread, count_nots}
+use Rattle.e_simplex.specs.inner.Spread.{spread, count_nots}
 use Rattle.e_simplex.specs.Answer.{each_weighed, MayTake, AreTaken, TakesMore, Refutes, RefutesBoth, IsNotAt, as_more, as_less}
-use Rattle.e_simplex.specs.Apart.{IsNeither, AreFurther, WideApart, AreApart}
+use Rattle.e_simplex.specs.inner.Apart.{IsNeither, AreFurther, WideApart, AreApart}
 use Rattle.e_simplex.specs.Solved.{IsSolved, columns_of, lines_of}
 use Rattle.e_simplex.specs.declared.solved.Solved.{Solved}
 use Rattle.e_literal.specs.Minor.{IsWide}
@@ -28,7 +28,7 @@ use Rattle.e_simplex.specs.Answer.{IsVerdict, IsHolds, assigned}
 use Rattle.e_simplex.specs.Answer.{IsAbsurd as IsAbsurdVerdict}
 use Rattle.e_simplex.specs.declared.decision.Verdict.{Verdict}
 use Rattle.e_simplex.specs.declared.decision.Verdict.TheVariants.{Absurd, Holds, TooWide}
-use Rattle.e_simplex.specs.Tried.{negated, negative_line}
+use Rattle.e_simplex.specs.inner.Tried.{negated, negative_line}
 use Rattle.e_literal.proofs.Arith.{sums}
 use Rattle.e_literal.proofs.Valued.{coefficient_negative}
 use Rattle.e_fraction.proofs.Minors.{unit-other}

@@ -7,7 +7,7 @@ use Rattle.e_fraction.specs.declared.row.Row.{Row as GivenRow}
 use Rattle.e_fraction.specs.Views.{seen, all_seen}
 use Rattle.e_simplex.specs.Naming.{keeps}
 use Rattle.e_simplex.specs.Answer.{IsNotAt}
-use Rattle.e_simplex.specs.Spread.{spread, count_nots, multiplier_of}
+use Rattle.e_simplex.specs.inner.Spread.{spread, count_nots, multiplier_of}
 use Rattle.e_simplex.proofs.NamedLines.{kept_not}
 
 eqb_suc : (a b : ℕ) → eqb a b ≡ eqb (suc a) (suc b)

@@ -3,16 +3,9 @@ pub mod Sound
 pub mod Least
 pub mod Ends
 pub mod Lines
-pub mod Readings
-pub mod Multiple
-pub mod Further
 pub mod Solved
-pub mod Tried
-pub mod Kept
-pub mod Apart
 pub mod Naming
 pub mod Answer
-pub mod Spread
-pub mod Paired
 pub mod Standing
 pub mod Settling
+pub mod inner

@@ -1,11 +1,9 @@
 -- Rows over terms as lines over numbered columns: column 0 has the constants, and the terms follow in order.
-use Rattle.std.specs.Prelude.{◌≡◌, ℕ, suc, ◌<◌, ◌≤◌, cond, not, Bool, List, [], ◌∷◌, length, get_or, nat_le, ◌^◌}
-use Rattle.std.specs.List.{list_all}
+use Rattle.std.specs.Prelude.{◌≡◌, ℕ, suc, ◌<◌, ◌≤◌, cond, not, Bool, List, [], ◌∷◌, length, get_or}
 use Rattle.e_literal.specs.declared.object.Term.{Term}
 use Rattle.e_literal.specs.declared.object.Term.TheVariants.{Right}
 use Rattle.e_literal.specs.Same.{term_eq}
 use Rattle.e_literal.specs.Rows.{Row, Says, Zero, AtLeast, More, Not, Summands}
-use Rattle.e_fraction.specs.declared.row.Row.{Row as GivenRow}
 use Rattle.e_simplex.specs.declared.lines.Monomial.{Monomial}
 use Rattle.e_simplex.specs.declared.lines.Line.{Line}
 use Rattle.e_simplex.specs.declared.lines.Kind.{Kind}
@@ -60,7 +58,3 @@ keeps b _ = not b
 abbrev pub named_lines : Bool → List Term → List Row → List Line
 named_lines b ts [] = []
 named_lines b ts (r ∷ rs) = cond (keeps b r.says) (named_line ts r ∷ named_lines b ts rs) (named_lines b ts rs)
-
--- no form has more than 2 ^ 32 terms
-abbrev pub have_short_forms : List GivenRow → Bool
-have_short_forms rows = list_all (λ r. nat_le (length r.form) (2 ^ 32)) rows

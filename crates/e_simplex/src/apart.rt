@@ -5,8 +5,8 @@ ghost use Rattle.e_simplex.specs.declared.lines.Line.{Line};
 ghost use Rattle.e_simplex.specs.Entries.{AllSmall};
 ghost use Rattle.e_simplex.specs.Lines.{AllSmallLines, AllFormsWithin, form_value};
 ghost use Rattle.e_simplex.specs.Solved.{IsSolved, columns_of, lines_of};
-ghost use Rattle.e_simplex.specs.Kept.{IsKept};
-ghost use Rattle.e_simplex.specs.Apart.{AreFurther, IsMoved, LargeForm, IsStep, IsApart};
+ghost use Rattle.e_simplex.specs.inner.Kept.{IsKept};
+ghost use Rattle.e_simplex.specs.inner.Apart.{AreFurther, IsMoved, LargeForm, IsStep, IsApart};
 
 use crate::lines::Line;
 use crate::multiple::{combined, least_multiple};

@@ -7,9 +7,9 @@ ghost use Rattle.e_literal.specs.Solution.{HasSolution};
 ghost use Rattle.e_fraction.specs.Views.{all_seen};
 ghost use Rattle.e_simplex.specs.Naming.{AreOnce, AllNamed, Continues, named_lines};
 ghost use Rattle.e_simplex.specs.Solved.{IsSolved, IsOutcome, columns_of, lines_of};
-ghost use Rattle.e_simplex.specs.Apart.{IsNeither};
+ghost use Rattle.e_simplex.specs.inner.Apart.{IsNeither};
 ghost use Rattle.e_simplex.specs.Lines;
-ghost use Rattle.e_simplex.specs.Paired.{PairedTo};
+ghost use Rattle.e_simplex.specs.inner.Paired.{PairedTo};
 ghost use Rattle.e_simplex.specs.Answer.{IsAbsurdity, IsVerdict, IsRefuted, IsHolds, IsAbsurd};
 
 use crate::apart::{Apart, keep_apart};
@@ -103,7 +103,6 @@ pub fn told_apart(
 ) -> Result<Verdict, AllocError>
     requires few { length rows.now ≤ 4096 }
     requires coefficients { IsTrue (all_small rows.now) }
-    requires short { IsTrue (Rattle.e_simplex.specs.Naming.have_short_forms rows.now) }
     requires once { AreOnce terms.now }
     requires named { AllNamed terms.now (all_seen rows.now) }
     requires columns { AreOnce columns.now }
@@ -137,7 +136,6 @@ pub fn told(
 ) -> Result<Verdict, AllocError>
     requires few { length rows.now ≤ 4096 }
     requires coefficients { IsTrue (all_small rows.now) }
-    requires short { IsTrue (Rattle.e_simplex.specs.Naming.have_short_forms rows.now) }
     requires once { AreOnce terms.now }
     requires named { AllNamed terms.now (all_seen rows.now) }
     requires columns { AreOnce columns.now }
@@ -159,17 +157,15 @@ pub fn told(
     }
 }
 
-/// Whether values of the terms, whole numbers of at least 0, satisfy the rows. [`have_small_coefficients`] and
-/// [`have_short_forms`] test the conditions. The answer is `Holds` with values that satisfy every row, or `Absurd` with
-/// multipliers that refute the rows, or `TooWide`, which comes only where some minor of the rows has size at least
-/// 2^63, and the width with it.
+/// Whether values of the terms, whole numbers of at least 0, satisfy the rows. [`have_small_coefficients`] tests the
+/// condition. The answer is `Holds` with values that satisfy every row, or `Absurd` with multipliers that refute the
+/// rows, or `TooWide`, which comes only where some minor of the rows has size at least 2^63, and the width with it. A
+/// form of more than 2^32 terms is out of memory.
 ///
-/// [`have_small_coefficients`]: e_fraction::row::have_small_coefficients
-/// [`have_short_forms`]: crate::naming::have_short_forms
+/// [`have_small_coefficients`]: e_fraction::have_small_coefficients
 pub fn decide(alloc: Global, rows: &[Row]) -> Result<Verdict, AllocError>
     requires few { length rows.now ≤ 4096 }
     requires coefficients { IsTrue (all_small rows.now) }
-    requires short { IsTrue (Rattle.e_simplex.specs.Naming.have_short_forms rows.now) }
     ensures verdict { IfOk result (IsVerdict (all_seen rows.now)) }
     ensures holds { IfOk result (λ v. ¬ IsWide (all_seen rows.now) → HasSolution (all_seen rows.now) → IsHolds v) }
     ensures absurd { IfOk result (λ v. ¬ IsWide (all_seen rows.now) → ¬ HasSolution (all_seen rows.now) → IsAbsurd v) }
@@ -183,7 +179,6 @@ pub fn decide(alloc: Global, rows: &[Row]) -> Result<Verdict, AllocError>
 pub fn decide_counting(alloc: Global, rows: &[Row], pivots: &mut u64) -> Result<Verdict, AllocError>
     requires few { length rows.now ≤ 4096 }
     requires coefficients { IsTrue (all_small rows.now) }
-    requires short { IsTrue (Rattle.e_simplex.specs.Naming.have_short_forms rows.now) }
     ensures verdict { IfOk result (IsVerdict (all_seen rows.now)) }
     ensures holds { IfOk result (λ v. ¬ IsWide (all_seen rows.now) → HasSolution (all_seen rows.now) → IsHolds v) }
     ensures absurd { IfOk result (λ v. ¬ IsWide (all_seen rows.now) → ¬ HasSolution (all_seen rows.now) → IsAbsurd v) }

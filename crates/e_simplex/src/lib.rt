@@ -2,26 +2,25 @@
 //! show that there are none, or the proved excuse that some minor of the rows is large.
 #![tactic(auto)]
 
-pub mod apart;
-pub mod choose;
-pub mod decision;
-pub mod exchange;
-pub mod freeing;
-pub mod further;
-pub mod hasten;
-pub mod lines;
-pub mod multiple;
-pub mod naming;
-pub mod number;
-pub mod pivot;
-pub mod readings;
-pub mod settled;
-pub mod solve;
-pub mod solved;
-pub mod spread;
-pub mod unequal;
+mod apart;
+mod choose;
+mod decision;
+mod exchange;
+mod freeing;
+mod further;
+mod hasten;
+mod lines;
+mod multiple;
+mod naming;
+mod number;
+mod pivot;
+mod readings;
+mod settled;
+mod solve;
+mod solved;
+mod spread;
+mod unequal;
 
 pub use decision::{Absurdity, Verdict, decide, decide_counting};
-pub use e_fraction::widths::width;
-pub use naming::have_short_forms;
+pub use e_fraction::width;
 pub use settled::{Settled, Settling, settle};

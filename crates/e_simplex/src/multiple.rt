@@ -1,5 +1,5 @@
 ghost use Rattle.std.specs.Prelude.{◌≡◌, ◌≢◌, ℕ, ◌+◌, ◌^◌, ◌<◌, ◌≤◌, pos, length, get_or, unsigned_abs, MatchOption, IfOk};
-ghost use Rattle.e_simplex.specs.Multiple.{IsBad, IsGood, added, AddedTo};
+ghost use Rattle.e_simplex.specs.inner.Multiple.{IsBad, IsGood, added, AddedTo};
 
 use std::alloc::{AllocError, Global};
 

@@ -1,6 +1,6 @@
 //! Terms and their columns.
 
-ghost use Rattle.std.specs.Prelude.{◌≡◌, ◌+◌, ◌<◌, ◌≤◌, ◌^◌, IfOk, IsTrue, length, take};
+ghost use Rattle.std.specs.Prelude.{◌≡◌, ◌+◌, ◌<◌, ◌^◌, IfOk, IsTrue, length, take};
 ghost use Rattle.e_literal.specs.declared.object.Term.{Term};
 ghost use Rattle.e_fraction.specs.Views.{says_of, all_seen};
 ghost use Rattle.e_fraction.specs.Limits.{has_small_coefficients, all_small};
@@ -12,13 +12,8 @@ use e_fraction::{Row, RowKind};
 use e_literal::{Items, Term};
 use std::alloc::{AllocError, Global};
 
-/// Whether no form has more than 2^32 terms.
-pub fn have_short_forms(rows: &[Row]) -> bool
-    ensures { result ≡ Rattle.e_simplex.specs.Naming.have_short_forms rows.now }
-{
-    rows.iter()
-        .all(|row| row.form.summands().len() <= 0x1_0000_0000)
-}
+/// The most terms of a form: the sums of a longer one could leave 128 bits.
+const MOST_TERMS: usize = 0x1_0000_0000;
 
 /// Where the term stands first, or how many terms there are.
 pub fn place(terms: &[Term], term: Term) -> usize
@@ -112,17 +107,19 @@ fn kind_of(kind: RowKind) -> Kind
     }
 }
 
-/// The line of a row.
+/// The line of a row. One with too many terms is out of memory.
 fn named_line(alloc: Global, row: &Row, terms: &[Term]) -> Result<Line, AllocError>
     requires once { AreOnce terms.now }
     requires named { FormNamed terms.now row.now.form }
     requires coefficients { IsTrue (has_small_coefficients row.now.form) }
-    requires short { length row.now.form ≤ 2 ^ 32 }
     ensures small { IfOk result IsSmallLine }
     ensures kind { IfOk result (λ l. l.kind ≡ Rattle.e_simplex.specs.Naming.kind_of (says_of row.now.kind)) }
     ensures form { IfOk result (λ l. l.form ≡ named_form terms.now row.now.form) }
 {
     let summands = row.form.summands();
+    if summands.len() > MOST_TERMS {
+        return Err(AllocError);
+    }
     let mut form = Vec::new(alloc);
     for k in 0..summands.len() {
         form.push(Monomial {
@@ -156,7 +153,6 @@ pub fn lines_where(
     requires once { AreOnce terms.now }
     requires named { AllNamed terms.now (all_seen rows.now) }
     requires coefficients { IsTrue (all_small rows.now) }
-    requires short { IsTrue (Rattle.e_simplex.specs.Naming.have_short_forms rows.now) }
     ensures value { IfOk result (λ v. v.items ≡ named_lines not terms.now (all_seen rows.now)) }
     ensures small { IfOk result (λ v. AllSmallLines v.items) }
 {

@@ -97,7 +97,6 @@ fn settled_rows(
 ) -> Result<Settling, AllocError>
     requires few { length rows.items ≤ 4096 }
     requires coefficients { IsTrue (all_small rows.items) }
-    requires short { IsTrue (Naming.have_short_forms rows.items) }
     requires once { AreOnce terms.items }
     requires named { AllNamed terms.items (all_seen rows.items) }
     requires columns { AreOnce columns.now }
@@ -125,7 +124,6 @@ fn settled_rows(
 pub fn settle(alloc: Global, rows: Vec<Row>) -> Result<Settling, AllocError>
     requires few { length rows.items ≤ 4096 }
     requires coefficients { IsTrue (all_small rows.items) }
-    requires short { IsTrue (Naming.have_short_forms rows.items) }
     ensures { IfOk result (IsSettling rows.items) }
 {
     let terms = terms_of(alloc, &rows)?;
@@ -153,7 +151,6 @@ fn decided_with(
 ) -> Result<Verdict, AllocError>
     requires few { length (rows.now ++ more.now) ≤ 4096 }
     requires coefficients { IsTrue (all_small (rows.now ++ more.now)) }
-    requires short { IsTrue (Naming.have_short_forms (rows.now ++ more.now)) }
     requires table { IsTableFor rows.now terms.now solved.now }
     ensures { IfOk result (IsVerdict (all_seen (rows.now ++ more.now))) }
 {
@@ -186,7 +183,6 @@ fn settled_with(
 ) -> Result<Settling, AllocError>
     requires few { length (rows.now ++ more.now) ≤ 4096 }
     requires coefficients { IsTrue (all_small (rows.now ++ more.now)) }
-    requires short { IsTrue (Naming.have_short_forms (rows.now ++ more.now)) }
     requires table { IsTableFor rows.now terms.now solved.now }
     ensures { IfOk result (IsSettling (rows.now ++ more.now)) }
 {
@@ -244,7 +240,6 @@ impl Settled {
     pub fn decide_with(&self, alloc: Global, more: &[Row]) -> Result<Verdict, AllocError>
         requires few { length (self.now ++ more.now) ≤ 4096 }
         requires coefficients { IsTrue (all_small (self.now ++ more.now)) }
-        requires short { IsTrue (Naming.have_short_forms (self.now ++ more.now)) }
         ensures verdict { IfOk result (IsVerdict (all_seen (self.now ++ more.now))) }
         ensures holds { IfOk result (λ v. ¬ IsWide (all_seen (self.now ++ more.now)) → HasSolution (all_seen (self.now ++ more.now)) → IsHolds v) }
         ensures absurd { IfOk result (λ v. ¬ IsWide (all_seen (self.now ++ more.now)) → ¬ HasSolution (all_seen (self.now ++ more.now)) → IsAbsurd v) }
@@ -257,7 +252,6 @@ impl Settled {
     pub fn with(&self, alloc: Global, more: &[Row]) -> Result<Settling, AllocError>
         requires few { length (self.now ++ more.now) ≤ 4096 }
         requires coefficients { IsTrue (all_small (self.now ++ more.now)) }
-        requires short { IsTrue (Naming.have_short_forms (self.now ++ more.now)) }
         ensures { IfOk result (IsSettling (self.now ++ more.now)) }
     {
         let settling = settled_with(alloc, &self.rows, &self.terms, &self.solved, more)?;

@@ -192,16 +192,27 @@ fn lines_with(alloc: Global, lines: &[Line], more: &[Line]) -> Result<Vec<Line>,
     Ok(all)
 }
 
-fn copy_of_table(alloc: Global, table: &Table) -> Result<Table, AllocError>
+/// Equal entries, with room for more.
+fn copies_with_room(alloc: Global, entries: &[i128], room: usize) -> Result<Vec<i128>, AllocError>
+    ensures { IfOk result (λ v. v.items ≡ entries.now) }
+{
+    let mut copies = Vec::with_capacity(alloc, entries.len().saturating_add(room))?;
+    copies.extend_from_slice(entries)?;
+    Ok(copies)
+}
+
+/// An equal table, with room for more rows: they come without another copy of the entries.
+fn copy_of_table(alloc: Global, table: &Table, more: usize) -> Result<Table, AllocError>
     ensures basis { IfOk result (λ t. t.basis.items ≡ table.now.basis.items) }
     ensures columns { IfOk result (λ t. t.columns.items ≡ table.now.columns.items) }
     ensures entries { IfOk result (λ t. t.entries.items ≡ table.now.entries.items) }
     ensures det { IfOk result (λ t. t.det ≡ table.now.det) }
 {
+    let room = more.saturating_mul(table.columns.len());
     Ok(Table {
         basis: Vec::from_slice(alloc, &table.basis)?,
         columns: Vec::from_slice(alloc, &table.columns)?,
-        entries: Vec::from_slice(alloc, &table.entries)?,
+        entries: copies_with_room(alloc, &table.entries, room)?,
         det: table.det,
     })
 }
@@ -223,7 +234,7 @@ impl Solved {
         ensures { IfOk result (IsSolvedAs self.now) }
     {
         let fixed = Vec::from_slice(alloc, &self.fixed)?;
-        let table = copy_of_table(alloc, &self.table)?;
+        let table = copy_of_table(alloc, &self.table, 0)?;
         let lines = copies_of_lines(alloc, &self.lines)?;
         Ok(Solved {
             lines,
@@ -251,7 +262,7 @@ impl Solved {
         ensures { IfOk result (IsOutcome (columns_of self.now) (lines_of self.now ++ more.now)) }
     {
         let lines = lines_with(alloc, &self.lines, more)?;
-        let table = copy_of_table(alloc, &self.table)?;
+        let table = copy_of_table(alloc, &self.table, more.len())?;
         continued(alloc, lines, self.lines.len(), table, pivots)
     }
 

@@ -3,7 +3,7 @@
 ghost use Rattle.std.specs.Prelude.{◌≡◌, ◌+◌, ◌<◌, ◌≤◌, ◌^◌, pos, suc, cond, IfOk, length, get_or, take};
 ghost use Rattle.e_fraction.specs.Views.{all_seen};
 ghost use Rattle.e_simplex.specs.Answer.{IsNotAt};
-ghost use Rattle.e_simplex.specs.Spread.{multiplier_of, count_nots};
+ghost use Rattle.e_simplex.specs.inner.Spread.{multiplier_of, count_nots};
 
 use crate::naming::keeps;
 use e_fraction::Row;
@@ -49,7 +49,7 @@ pub fn spread(
     last: i128,
 ) -> Result<Vec<i128>, AllocError>
     requires { length rows.now ≤ 4096 }
-    ensures { IfOk result (λ v. v.items ≡ Rattle.e_simplex.specs.Spread.spread (all_seen rows.now) weights.now 0 tried last) }
+    ensures { IfOk result (λ v. v.items ≡ Rattle.e_simplex.specs.inner.Spread.spread (all_seen rows.now) weights.now 0 tried last) }
 {
     let mut all = Vec::new(alloc);
     let mut seen = 0;

@@ -5,7 +5,7 @@ ghost use Rattle.e_simplex.specs.declared.lines.Kind.TheVariants.{More};
 ghost use Rattle.e_simplex.specs.Entries.{AllSmall};
 ghost use Rattle.e_simplex.specs.Lines.{IsSmallLine, AllSmallLines, AllFormsWithin};
 ghost use Rattle.e_simplex.specs.Solved.{IsSolved, IsFit, columns_of, lines_of};
-ghost use Rattle.e_simplex.specs.Tried.{negated, IsTried, AreValues, AreBelowBut, IsLargeAt};
+ghost use Rattle.e_simplex.specs.inner.Tried.{negated, IsTried, AreValues, AreBelowBut, IsLargeAt};
 
 use crate::lines::{Kind, Line, Monomial, value_of};
 use crate::solved::{Outcome, Solved};

@@ -8,7 +8,7 @@ ghost use Rattle.std.specs.Prelude.{◌<◌};
 
 use e_fraction::{Row, RowKind, Signed, are_distinct, have_small_coefficients};
 use e_literal::Term;
-use e_simplex::{Absurdity, Verdict, decide_counting, have_short_forms};
+use e_simplex::{Absurdity, Verdict, decide_counting};
 use std::alloc::{AllocError, Global};
 use std::{env, io};
 
@@ -101,7 +101,7 @@ fn system(alloc: Global, size: Size) -> Result<Vec<Row>, AllocError> {
 
 /// How the rows come out, in a word. The pivots that it takes are added to `pivots`.
 fn word(alloc: Global, rows: &[Row], pivots: &mut u64) -> Result<&'static str, AllocError> {
-    if rows.len() > 4096 || !have_small_coefficients(rows) || !have_short_forms(rows) {
+    if rows.len() > 4096 || !have_small_coefficients(rows) {
         return Ok("not asked");
     }
     match decide_counting(alloc, rows, pivots)? {

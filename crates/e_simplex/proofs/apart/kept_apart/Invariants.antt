@@ -1,4 +1,4 @@
-use Rattle.e_simplex.specs.Kept.{IsKept}
+use Rattle.e_simplex.specs.inner.Kept.{IsKept}
 use Rattle.e_simplex.specs.Solved.{columns_of, lines_of}
 use Rattle.e_simplex.proofs.apart.kept_apart.Given as goal
 

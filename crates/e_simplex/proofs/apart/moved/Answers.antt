@@ -1,6 +1,6 @@
 use Rattle.std.proofs.Common.{◌<◌, ◌^◌, arith, sym, subst, length, get_or, pos}
 use Rattle.std.specs.Prelude.{unsigned_abs}
-use Rattle.e_simplex.specs.Tried.{AreBelowBut}
+use Rattle.e_simplex.specs.inner.Tried.{AreBelowBut}
 use Rattle.e_simplex.proofs.Parting.{all_below}
 use Rattle.e_simplex.proofs.apart.moved.Goals as goal
 

@@ -1,7 +1,7 @@
 use Rattle.std.proofs.Common.{◌≡◌, subst, get_or, inr}
 use Rattle.std.proofs.lemmas.List.{get_or_read}
 use Rattle.e_simplex.specs.declared.lines.Line.{Line}
-use Rattle.e_simplex.specs.Apart.{LargeForm, IsMoved}
+use Rattle.e_simplex.specs.inner.Apart.{LargeForm, IsMoved}
 use Rattle.e_simplex.specs.Solved.{columns_of, lines_of}
 use Rattle.e_simplex.proofs.Parting.{step_kept, step_wide_two}
 use Rattle.e_simplex.proofs.apart.next_kept.Goals as goal

@@ -1,4 +1,4 @@
-use Rattle.e_simplex.specs.Paired.{PairedTo}
+use Rattle.e_simplex.specs.inner.Paired.{PairedTo}
 use Rattle.e_simplex.proofs.decision.named_values.Given as goal
 
 abbrev pub invariant-loop-c : goal.invariant-loop-c

@@ -1,4 +1,3 @@
-use Rattle.std.proofs.Common.{◌+◌, ◌^◌, length, false}
 use Rattle.e_fraction.specs.Views.{all_seen}
 use Rattle.e_fraction.proofs.Wideness.{wide_rows_width}
 use Rattle.e_simplex.proofs.Picked.{wide_main}

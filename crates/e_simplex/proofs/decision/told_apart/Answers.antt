@@ -3,7 +3,7 @@ use Rattle.e_fraction.specs.Views.{all_seen}
 use Rattle.std.proofs.Common.{true, false}
 use Rattle.e_simplex.specs.Naming.{named_lines}
 use Rattle.e_simplex.specs.Lines.{AllSmallLines}
-use Rattle.e_simplex.specs.Paired.{PairedTo}
+use Rattle.e_simplex.specs.inner.Paired.{PairedTo}
 use Rattle.e_fraction.proofs.Wideness.{wide_rows_width}
 use Rattle.e_simplex.proofs.Refuting.{length_seen, solved_further, solved_wide, solved_apart}
 use Rattle.e_simplex.proofs.NamedLines.{further_lines}

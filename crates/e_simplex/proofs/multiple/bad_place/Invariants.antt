@@ -1,5 +1,5 @@
 use Rattle.std.proofs.Common.{ℕ, ◌<◌, ◌≢◌, pos}
-use Rattle.e_simplex.specs.Multiple.{added}
+use Rattle.e_simplex.specs.inner.Multiple.{added}
 use Rattle.e_simplex.proofs.multiple.bad_place.Given as goal
 
 abbrev pub invariant-loop-j : goal.invariant-loop-j

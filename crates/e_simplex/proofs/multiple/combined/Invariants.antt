@@ -1,4 +1,4 @@
-use Rattle.e_simplex.specs.Multiple.{AddedTo}
+use Rattle.e_simplex.specs.inner.Multiple.{AddedTo}
 use Rattle.e_simplex.proofs.multiple.combined.Given as goal
 
 abbrev pub invariant-loop-j : goal.invariant-loop-j

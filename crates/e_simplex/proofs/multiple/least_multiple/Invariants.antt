@@ -1,5 +1,5 @@
 use Rattle.std.proofs.Common.{ℕ, ◌<◌}
-use Rattle.e_simplex.specs.Multiple.{IsBad}
+use Rattle.e_simplex.specs.inner.Multiple.{IsBad}
 use Rattle.e_simplex.proofs.multiple.least_multiple.Given as goal
 
 abbrev pub invariant-loop-t : goal.invariant-loop-t

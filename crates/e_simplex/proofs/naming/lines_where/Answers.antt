@@ -1,13 +1,11 @@
-use Rattle.std.proofs.Common.{◌≡◌, ap, sym, ◌∙◌, subst, length}
+use Rattle.std.proofs.Common.{◌≡◌, ap, sym, ◌∙◌, subst}
 use Rattle.std.proofs.lemmas.List.{get_or_read}
-use Rattle.e_fraction.specs.Views.{all_seen}
-use Rattle.e_simplex.specs.Naming.{named_lines, FormNamed, named_form}
-use Rattle.std.proofs.Common.{◌≤◌, ◌^◌, true}
+use Rattle.e_simplex.specs.Naming.{FormNamed, named_form}
+use Rattle.std.proofs.Common.{true}
 use Rattle.e_fraction.specs.Limits.{has_small_coefficients}
 use Rattle.e_fraction.proofs.Sums.{small_row}
 use Rattle.e_simplex.specs.Lines.{AllSmallLines}
 use Rattle.e_simplex.proofs.Negatives.{small_push}
-use Rattle.e_simplex.proofs.NamedLines.{short_row}
 use Rattle.e_simplex.proofs.Places.{row_named, lines_more, lines_same}
 use Rattle.e_simplex.proofs.naming.lines_where.Goals.{then-keeps+in_ok-named_line+in_ok-push, else-keeps}
 use Rattle.e_simplex.proofs.naming.lines_where.Goals as goal
@@ -21,11 +19,6 @@ pub named_line-requires-clause-coefficients : goal.named_line-requires-clause-co
 named_line-requires-clause-coefficients c =
     subst (λ r. has_small_coefficients r.form ≡ true) (sym c.index-rows-i-then-keeps.is)
     (small_row c.args.rows.now c.loop-i.i c.index-rows-i-then-keeps.result c.loop-i-test.true c.requires.coefficients)
-
-pub named_line-requires-clause-short : goal.named_line-requires-clause-short
-named_line-requires-clause-short c =
-    subst (λ r. length r.form ≤ 2 ^ 32) (sym c.index-rows-i-then-keeps.is)
-    (short_row c.args.rows.now c.loop-i.i c.index-rows-i-then-keeps.result c.loop-i-test.true c.requires.short)
 
 pub loop-i-preserved : goal.loop-i-preserved
 loop-i-preserved c = elim c.if-keeps.branch [

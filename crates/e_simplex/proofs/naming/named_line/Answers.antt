@@ -39,4 +39,4 @@ returns-clause-small c =
     small_like (record { kind = c.kind_of.result; form = c.new.result }) (Rattle.e_simplex.specs.Naming.named_line c.args.terms.now (seen c.args.row.now))
     (c.new.ensures ∙ c.loop-k.invariant ∙ ap (Rattle.e_simplex.specs.Naming.named_form c.args.terms.now) (take_done c.args.row.now.form c.loop-k.k done))
     (small_line c.args.terms.now (seen c.args.row.now) c.requires.once c.requires.named c.requires.coefficients
-    c.summands-summands.ensures.distinct c.requires.short)
+    c.summands-summands.ensures.distinct (omega (arith, ap length e)))

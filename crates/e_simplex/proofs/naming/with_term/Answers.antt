@@ -1,4 +1,4 @@
-use Rattle.std.proofs.Common.{◌≡◌, List, ap, sym, ◌∙◌, subst, length}
+use Rattle.std.proofs.Common.{◌≡◌, List, ap, sym, ◌∙◌, subst}
 use Rattle.e_literal.specs.declared.object.Term.{Term}
 use Rattle.e_simplex.specs.Naming.{place_of, AreOnce, Continues}
 use Rattle.e_simplex.proofs.Places.{once_push, continues_same, continues_push}

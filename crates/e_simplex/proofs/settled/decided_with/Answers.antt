@@ -1,9 +1,9 @@
-use Rattle.std.proofs.Common.{◌≡◌, ◌++◌, ◌+◌, ◌<◌, ◌≤◌, ◌^◌, ap, arith, sym, ◌∙◌, subst, length, false, rules}
+use Rattle.std.proofs.Common.{◌≡◌, ◌+◌, ◌<◌, ◌^◌, ap, arith, sym, ◌∙◌, subst, length, false, rules}
 use Rattle.std.proofs.lemmas.List.{nil_from_length}
 use Rattle.e_fraction.specs.Views.{all_seen}
 use Rattle.e_simplex.specs.Lines.{AllSmallLines}
 use Rattle.e_simplex.specs.Naming.{AllNamed, Continues, named_lines}
-use Rattle.e_simplex.specs.Solved.{IsSolved, IsOutcome, columns_of, lines_of}
+use Rattle.e_simplex.specs.Solved.{IsSolved, IsOutcome, columns_of}
 use Rattle.e_simplex.proofs.Places.{all_continued}
 use Rattle.e_simplex.proofs.Extending.{named_both, fit_both, outcome_both, solved_both}
 use Rattle.e_simplex.proofs.settled.decided_with.Goals as goal

@@ -1,6 +1,6 @@
 use Rattle.std.proofs.Common.{◌≡◌, ◌≤◌, take}
 use Rattle.e_fraction.specs.Views.{all_seen}
-use Rattle.e_simplex.specs.Spread.{count_nots}
+use Rattle.e_simplex.specs.inner.Spread.{count_nots}
 use Rattle.e_simplex.proofs.spread.place_of_not.Given as goal
 
 abbrev pub invariant-loop-i : goal.invariant-loop-i

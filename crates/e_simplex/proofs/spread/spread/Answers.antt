@@ -2,7 +2,7 @@ use Rattle.std.proofs.Common.{◌≡◌, ◌+◌, ◌-◌, SFits, to_z-of_z, ari
 use mir.Syntax.{w128}
 use Rattle.e_fraction.specs.Views.{seen, all_seen}
 use Rattle.e_simplex.proofs.Forms.{fits_type}
-use Rattle.e_simplex.specs.Spread.{count_nots, multiplier_of}
+use Rattle.e_simplex.specs.inner.Spread.{count_nots, multiplier_of}
 use Rattle.e_simplex.proofs.Spreading.{spread_more, nots_more, count_most, take_done, take_length}
 use Rattle.e_simplex.proofs.spread.spread.Goals as goal
 
@@ -30,4 +30,4 @@ pub returns : goal.returns
 returns c =
     let fl : SFits w128 c.args.last = c.ranges.last in
     let v = simp to_z-of_z at c.loop-i.invariant.value in
-    v ∙ ap (λ r. Rattle.e_simplex.specs.Spread.spread (all_seen r) c.args.weights.now 0 c.args.tried c.args.last) (take_done c.args.rows.now c.loop-i.i c.loop-i-test.false)
+    v ∙ ap (λ r. Rattle.e_simplex.specs.inner.Spread.spread (all_seen r) c.args.weights.now 0 c.args.tried c.args.last) (take_done c.args.rows.now c.loop-i.i c.loop-i-test.false)

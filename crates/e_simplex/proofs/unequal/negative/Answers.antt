@@ -1,5 +1,5 @@
 use Rattle.std.proofs.Common.{◌≡◌, ◌+◌, sym, subst, take}
-use Rattle.e_simplex.specs.Tried.{negated}
+use Rattle.e_simplex.specs.inner.Tried.{negated}
 use Rattle.e_simplex.proofs.Negatives.{negated_more}
 use Rattle.e_simplex.proofs.unequal.negative.Goals as goal
 

@@ -1,5 +1,5 @@
 use Rattle.std.proofs.Common.{◌≡◌, take}
-use Rattle.e_simplex.specs.Tried.{negated}
+use Rattle.e_simplex.specs.inner.Tried.{negated}
 use Rattle.e_simplex.proofs.unequal.negative.Given as goal
 
 abbrev pub invariant-loop-x : goal.invariant-loop-x

@@ -1,7 +1,7 @@
 use Rattle.std.proofs.Common.{◌≡◌, sym, subst}
 use Rattle.e_simplex.specs.Lines.{IsSmallLine, FormWithin}
 use Rattle.e_simplex.specs.Solved.{columns_of, lines_of}
-use Rattle.e_simplex.specs.Tried.{negative_line}
+use Rattle.e_simplex.specs.inner.Tried.{negative_line}
 use Rattle.e_simplex.proofs.Negatives.{one_line, last_line, fit_other, negative_small, negative_within, found_above, found_below}
 use Rattle.e_simplex.proofs.unequal.try_both.Goals as goal
 

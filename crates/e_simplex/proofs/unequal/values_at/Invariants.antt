@@ -1,4 +1,4 @@
-use Rattle.e_simplex.specs.Tried.{AreValues}
+use Rattle.e_simplex.specs.inner.Tried.{AreValues}
 use Rattle.e_simplex.proofs.unequal.values_at.Given as goal
 
 abbrev pub invariant-loop-j : goal.invariant-loop-j

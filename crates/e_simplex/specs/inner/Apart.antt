@@ -2,10 +2,10 @@
 use Rattle.std.specs.Prelude.{◌≡◌, ◌≢◌, ◌⊎◌, ℕ, ◌+◌, ◌^◌, ◌<◌, ◌≤◌, ◌++◌, ◌∷◌, [], ℤ, pos, List, length, get_or, unsigned_abs}
 use Rattle.e_fraction.specs.Det.{IsWide}
 use Rattle.e_simplex.specs.Lines.{rows_of, form_value, IsSolution, IsAbsurd, AllSmallLines, AllFormsWithin}
-use Rattle.e_simplex.specs.Multiple.{IsGood, AddedTo}
+use Rattle.e_simplex.specs.inner.Multiple.{IsGood, AddedTo}
 use Rattle.e_simplex.specs.Solved.{IsFit}
-use Rattle.e_simplex.specs.Tried.{negative_line, AreValues, AreBelowBut}
-use Rattle.e_simplex.specs.Kept.{IsKept}
+use Rattle.e_simplex.specs.inner.Tried.{negative_line, AreValues, AreBelowBut}
+use Rattle.e_simplex.specs.inner.Kept.{IsKept}
 use Rattle.e_simplex.specs.declared.lines.Line.{Line}
 use Rattle.e_simplex.specs.declared.lines.Kind.TheVariants.{More}
 use Rattle.e_simplex.specs.declared.apart.Kept.{Kept}

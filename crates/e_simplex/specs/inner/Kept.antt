@@ -1,7 +1,7 @@
 -- What the loop over the forms that are not to be 0 keeps.
 use Rattle.std.specs.Prelude.{◌≢◌, ℕ, ◌+◌, ◌*◌, ◌^◌, ◌<◌, ℤ, pos, List, length, get_or, unsigned_abs}
 use Rattle.e_simplex.specs.Lines.{IsSolution}
-use Rattle.e_simplex.specs.Tried.{AreValues}
+use Rattle.e_simplex.specs.inner.Tried.{AreValues}
 use Rattle.e_simplex.specs.declared.lines.Line.{Line}
 
 -- the values satisfy the lines, the first k forms are not 0 there, and all are bounded

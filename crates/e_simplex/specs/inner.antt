@@ -1,0 +1,9 @@
+-- Words of private contracts and of proofs: nothing here is part of any claim.
+pub mod Readings
+pub mod Multiple
+pub mod Further
+pub mod Tried
+pub mod Kept
+pub mod Apart
+pub mod Spread
+pub mod Paired
