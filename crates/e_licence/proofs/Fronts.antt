@@ -7,18 +7,18 @@ use Rattle.e_metric.specs.declared.metric_facts.MetricFacts.{MetricFacts}
 use Rattle.e_metric.specs.Fronts.{AreFronts}
 use Rattle.e_metric.proofs.Fronts.{fronts_more}
 
--- it stays so when facts come behind
-pub known_more : (facts more : List Lit) (known : Option MetricFacts) → IfSome known (AreFronts facts) → IfSome known (AreFronts (facts ++ more))
-known_more facts more None h = tt
-known_more facts more (Some m) h = fronts_more facts more m h
+-- it stays so when facts come after
+pub metric_facts_more : (facts more : List Lit) (metric_facts : Option MetricFacts) → IfSome metric_facts (AreFronts facts) → IfSome metric_facts (AreFronts (facts ++ more))
+metric_facts_more facts more None h = tt
+metric_facts_more facts more (Some m) h = fronts_more facts more m h
 
 -- and where the facts are the first of others
-pub known_of_more : (facts : List Lit) (n : ℕ) (known : Option MetricFacts) → IfSome known (AreFronts (take n facts)) → IfSome known (AreFronts facts)
-known_of_more facts n None h = tt
-known_of_more facts n (Some m) h = subst (λ fs. AreFronts fs m) (take-append-drop n facts) (fronts_more (take n facts) (drop n facts) m h)
+pub metric_facts_of_more : (facts : List Lit) (n : ℕ) (metric_facts : Option MetricFacts) → IfSome metric_facts (AreFronts (take n facts)) → IfSome metric_facts (AreFronts facts)
+metric_facts_of_more facts n None h = tt
+metric_facts_of_more facts n (Some m) h = subst (λ fs. AreFronts fs m) (take-append-drop n facts) (fronts_more (take n facts) (drop n facts) m h)
 
 -- a copy knows as much
-pub copy_known : {E : Type 0} (known : Option MetricFacts) (m : MetricFacts) (r : Result MetricFacts E) → known ≡ Some m → IfOk r (λ copy. (facts : List Lit) → AreFronts facts m → AreFronts facts copy) →
-    IfOk r (λ copy. (facts : List Lit) → IfSome known (AreFronts facts) → AreFronts facts copy)
-copy_known known m (Err e) is right = tt
-copy_known known m (Ok copy) is right = λ facts h. right facts (subst (λ o. IfSome o (AreFronts facts)) is h)
+pub copied_metric_facts : {E : Type 0} (metric_facts : Option MetricFacts) (m : MetricFacts) (r : Result MetricFacts E) → metric_facts ≡ Some m → IfOk r (λ copy. (facts : List Lit) → AreFronts facts m → AreFronts facts copy) →
+    IfOk r (λ copy. (facts : List Lit) → IfSome metric_facts (AreFronts facts) → AreFronts facts copy)
+copied_metric_facts metric_facts m (Err e) is right = tt
+copied_metric_facts metric_facts m (Ok copy) is right = λ facts h. right facts (subst (λ o. IfSome o (AreFronts facts)) is h)

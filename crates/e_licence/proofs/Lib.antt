@@ -1,9 +1,9 @@
-pub mod Judging
+pub mod GoodLiterals
 pub mod Fronts
-pub mod Holding
-pub mod Widening
-pub mod Following
-pub mod Clashing
-pub mod Choosing
-pub mod Completing
-pub mod Matching
+pub mod HeldStates
+pub mod WiderScopes
+pub mod Licences
+pub mod Clashes
+pub mod BlankChoices
+pub mod CompletedLiterals
+pub mod FilledBlanks

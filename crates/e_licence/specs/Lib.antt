@@ -1,6 +1,5 @@
 pub mod Contexts
-pub mod Holding
+pub mod HeldStates
 pub mod Licences
-pub mod Clashes
-pub mod Filling
-pub mod Fills
+pub mod FilledBlanks
+pub mod inner

@@ -8,17 +8,17 @@ ghost use Rattle.e_metric.specs.Fronts.{AreFronts};
 ghost use Rattle.e_theorem.specs.Pattern.{is_pattern};
 ghost use Rattle.e_theorem.specs.Statements.{stated};
 ghost use Rattle.e_transfer.specs.Prepared.{IsPrepared};
-ghost use Rattle.e_licence.specs.Filling;
-ghost use Rattle.e_licence.specs.Filling.{IsKept, IsWanted, OneIs, AllIs, SomeIsWideAt};
-ghost use Rattle.e_licence.specs.Fills.{FilledIs};
+ghost use Rattle.e_licence.specs.inner.BlankChoices;
+ghost use Rattle.e_licence.specs.inner.BlankChoices.{IsKept, IsWanted, OneIs, AllIs, SomeIsWideAt};
+ghost use Rattle.e_licence.specs.FilledBlanks.{FilledIs};
 
 use crate::context::Context;
 use crate::licensing::{Licensed, licence_by};
 use crate::limits::is_good;
 use e_literal::{Items, Lit, Map, Obj, Scope, count, next_objects, renamed};
-use e_metric::{Known, MetricFacts};
+use e_metric::{MetricFacts, StepFacts};
 use e_theorem::Statement;
-use e_transfer::{Outcome, Prepared, Span, Task, Verdict, prepare, search};
+use e_transfer::{Prepared, Span, Task, Verdict, prepare, search};
 use std::alloc::{AllocError, Global};
 use std::mem;
 
@@ -38,12 +38,12 @@ pub enum Filled {
 #[derive(Drop)]
 struct Blanks<'a> {
     context: &'a Context,
-    known: &'a Known<'a>,
+    step_facts: &'a StepFacts<'a>,
     prepared: &'a Prepared,
     statement: &'a Statement,
     pattern: &'a [Option<Obj>],
     declared: Vec<Obj>,
-    ghost fronts: { known.now ≡ context.now.facts },
+    ghost fronts: { step_facts.now ≡ context.now.facts },
     ghost prepares: { IsPrepared context.now.facts prepared.now },
     ghost declares: { declared.items ≡ declared_objects nothing statement.now.declared },
     ghost fits: { IsTrue (is_pattern (stated statement.now) context.now.scope pattern.now) },
@@ -53,7 +53,7 @@ struct Blanks<'a> {
 /// which each given literal is allowed, compared in declared order by the objects' numbers.
 ///
 /// The blanks are filled in declared order, the lowest number first, and a choice is given up at the first given literal
-/// that is not allowed, as soon as its objects are known. It fails only for want of memory.
+/// that is not allowed, as soon as its objects are known. It fails only out of memory.
 ///
 /// Questions begin where the context has solved its facts: [`Context::solve`] before it is worth it.
 pub fn match_blanks(
@@ -67,14 +67,14 @@ pub fn match_blanks(
     requires few { length statement.now.declared < 2 ^ 16 }
     ensures { IfOk result (FilledIs (stated statement.now) context.now pattern.now) }
 {
-    if let Some(known) = context.solved() {
-        return matched_with(alloc, context, known, statement, pattern);
+    if let Some(metric_facts) = context.solved() {
+        return matched_with(alloc, context, metric_facts, statement, pattern);
     }
     context.good();
     let facts = context.facts();
-    let known = MetricFacts::of(alloc, facts)?;
-    let filled = matched_with(alloc, context, &known, statement, pattern);
-    mem::drop(known);
+    let metric_facts = MetricFacts::of(alloc, facts)?;
+    let filled = matched_with(alloc, context, &metric_facts, statement, pattern);
+    mem::drop(metric_facts);
     filled
 }
 
@@ -82,11 +82,11 @@ pub fn match_blanks(
 fn matched_with(
     alloc: Global,
     context: &Context,
-    known: &MetricFacts,
+    metric_facts: &MetricFacts,
     statement: &Statement,
     pattern: &[Option<Obj>],
 ) -> Result<Filled, AllocError>
-    requires known { AreFronts context.now.facts known.now }
+    requires metric_facts { AreFronts context.now.facts metric_facts.now }
     requires states { IsTrue (is_statement (stated statement.now)) }
     requires fits { IsTrue (is_pattern (stated statement.now) context.now.scope pattern.now) }
     requires few { length statement.now.declared < 2 ^ 16 }
@@ -94,8 +94,8 @@ fn matched_with(
 {
     context.good();
     let facts = context.facts();
-    let prepared = prepare(alloc, facts, known)?;
-    let filled = matched_by(alloc, context, known, &prepared, statement, pattern);
+    let prepared = prepare(alloc, facts, metric_facts)?;
+    let filled = matched_by(alloc, context, metric_facts, &prepared, statement, pattern);
     mem::drop(prepared);
     filled
 }
@@ -104,12 +104,12 @@ fn matched_with(
 fn matched_by(
     alloc: Global,
     context: &Context,
-    known: &MetricFacts,
+    metric_facts: &MetricFacts,
     prepared: &Prepared,
     statement: &Statement,
     pattern: &[Option<Obj>],
 ) -> Result<Filled, AllocError>
-    requires known { AreFronts context.now.facts known.now }
+    requires metric_facts { AreFronts context.now.facts metric_facts.now }
     requires prepared { IsPrepared context.now.facts prepared.now }
     requires states { IsTrue (is_statement (stated statement.now)) }
     requires fits { IsTrue (is_pattern (stated statement.now) context.now.scope pattern.now) }
@@ -121,10 +121,10 @@ fn matched_by(
     if has_empty(&spans) {
         return Ok(Filled::None);
     }
-    let known = Known::new(context.facts(), known);
+    let step_facts = StepFacts::new(context.facts(), metric_facts);
     let blanks = Blanks {
         context,
-        known: &known,
+        step_facts: &step_facts,
         prepared,
         statement,
         pattern,
@@ -132,12 +132,12 @@ fn matched_by(
     };
     let mut chosen = Vec::new(alloc);
     match search(alloc, &blanks, &spans, &mut chosen)? {
-        Outcome::Found(()) => {
+        Verdict::Yes(()) => {
             let args = arguments(alloc, context.scope(), &blanks.declared, pattern, &chosen)?;
             Ok(Filled::Found(Items::new(args)))
         }
-        Outcome::Nothing => Ok(Filled::None),
-        Outcome::Stop(width) => Ok(Filled::TooWide(width)),
+        Verdict::No => Ok(Filled::None),
+        Verdict::TooWide(width) => Ok(Filled::TooWide(width)),
     }
 }
 
@@ -148,14 +148,14 @@ const NOTHING: Scope = Scope {
 };
 
 /// For each blank the numbers in scope.
-#[tactic(auto, using(crate::proofs::Choosing::ending))]
+#[tactic(auto, using(crate::proofs::BlankChoices::ending))]
 fn spans(
     alloc: Global,
     scope: Scope,
     declared: &[Obj],
     pattern: &[Option<Obj>],
 ) -> Result<Vec<Span>, AllocError>
-    ensures { IfOk result (λ spans. spans.items ≡ Filling.spans_of scope declared.now pattern.now) }
+    ensures { IfOk result (λ spans. spans.items ≡ BlankChoices.spans_of scope declared.now pattern.now) }
 {
     let mut spans = Vec::new(alloc);
     for (object, entry) in declared.iter().zip(pattern) {
@@ -177,7 +177,7 @@ fn has_empty(spans: &[Span]) -> bool
 }
 
 /// The arguments by the first numbers of a choice; where none is left, objects that are not in scope.
-#[tactic(auto, using(crate::proofs::Choosing::ending))]
+#[tactic(auto, using(crate::proofs::BlankChoices::ending))]
 fn arguments(
     alloc: Global,
     scope: Scope,
@@ -185,7 +185,7 @@ fn arguments(
     pattern: &[Option<Obj>],
     part: &[u16],
 ) -> Result<Vec<Obj>, AllocError>
-    ensures { IfOk result (λ args. args.items ≡ Filling.filled scope declared.now pattern.now part.now) }
+    ensures { IfOk result (λ args. args.items ≡ BlankChoices.filled scope declared.now pattern.now part.now) }
 {
     let mut rest = part;
     let mut args = Vec::new(alloc);
@@ -198,7 +198,7 @@ fn arguments(
 
 /// The argument for a declared object.
 fn argument(scope: Scope, declared: Obj, entry: Option<Obj>, rest: &[u16]) -> Obj
-    ensures { result ≡ Filling.argument scope declared entry rest.now }
+    ensures { result ≡ BlankChoices.argument scope declared entry rest.now }
 {
     match (entry, rest) {
         (Some(object), _) => object,
@@ -215,7 +215,7 @@ fn argument(scope: Scope, declared: Obj, entry: Option<Obj>, rest: &[u16]) -> Ob
 
 /// The numbers that are left after it.
 fn left(entry: Option<Obj>, rest: &[u16]) -> &[u16]
-    ensures { result.now ≡ Filling.left entry rest.now }
+    ensures { result.now ≡ BlankChoices.left entry rest.now }
 {
     match (entry, rest) {
         (None, [_, left @ ..]) => left,
@@ -226,7 +226,7 @@ fn left(entry: Option<Obj>, rest: &[u16]) -> &[u16]
 impl<'a> Blanks<'a> {
     /// The images of the declared objects by the first numbers of a choice.
     fn images(&self, alloc: Global, part: &[u16]) -> Result<Map, AllocError>
-        ensures { IfOk result (λ map. map ≡ Filling.images self.now.context.now.scope self.now.declared.items self.now.pattern.now part.now) }
+        ensures { IfOk result (λ map. map ≡ BlankChoices.images self.now.context.now.scope self.now.declared.items self.now.pattern.now part.now) }
     {
         let scope = self.context.scope();
         let args = arguments(alloc, scope, &self.declared, self.pattern, part)?;
@@ -234,8 +234,8 @@ impl<'a> Blanks<'a> {
         Ok(images)
     }
 
-    /// Judges a given literal whose objects are all known now, and were not before.
-    fn judge_one(
+    /// Licenses a given literal whose objects are all known now, and were not before.
+    fn license_one(
         &self,
         alloc: Global,
         lit: &Lit,
@@ -248,21 +248,21 @@ impl<'a> Blanks<'a> {
         let scope = self.context.scope();
         let image = renamed(alloc, lit, images)?;
         if !is_good(scope, &image) {
-            return Ok(Verdict::Keep(()));
+            return Ok(Verdict::Yes(()));
         }
         if !first && is_good(scope, &renamed(alloc, lit, earlier)?) {
-            return Ok(Verdict::Keep(()));
+            return Ok(Verdict::Yes(()));
         }
-        let known = self.known.told();
-        match licence_by(alloc, self.context, known, self.prepared, &image)? {
-            Licensed::Yes(_) => Ok(Verdict::Keep(())),
-            Licensed::No(_) => Ok(Verdict::Refuse),
-            Licensed::TooWide(width) => Ok(Verdict::Stop(width)),
+        let metric_facts = self.step_facts.metric_facts();
+        match licence_by(alloc, self.context, metric_facts, self.prepared, &image)? {
+            Licensed::Yes(_) => Ok(Verdict::Yes(())),
+            Licensed::No(_) => Ok(Verdict::No),
+            Licensed::TooWide(width) => Ok(Verdict::TooWide(width)),
         }
     }
 
-    /// Judges the given literals whose objects are all known now, and were not before, up to the first that is not allowed.
-    fn judge_all(
+    /// Licenses the given literals whose objects are all known now, and were not before, up to the first that is not allowed.
+    fn license_all(
         &self,
         alloc: Global,
         images: &Map,
@@ -272,13 +272,13 @@ impl<'a> Blanks<'a> {
         ensures { IfOk result (AllIs self.now.context.now images.now earlier.now first self.now.statement.now.given) }
     {
         for lit in self.statement.given.items() {
-            match self.judge_one(alloc, lit, images, earlier, first)? {
-                Verdict::Keep(()) => {}
-                Verdict::Refuse => return Ok(Verdict::Refuse),
-                Verdict::Stop(width) => return Ok(Verdict::Stop(width)),
+            match self.license_one(alloc, lit, images, earlier, first)? {
+                Verdict::Yes(()) => {}
+                Verdict::No => return Ok(Verdict::No),
+                Verdict::TooWide(width) => return Ok(Verdict::TooWide(width)),
             }
         }
-        Ok(Verdict::Keep(()))
+        Ok(Verdict::Yes(()))
     }
 }
 
@@ -301,12 +301,12 @@ impl<'a> Task for Blanks<'a> {
 
     ghost shown = { λ s part p. Unit {0} };
 
-    ghost wide = { λ s part w. SomeIsWideAt s.context.now (Filling.images s.context.now.scope s.declared.items s.pattern.now part) s.statement.now.given w };
+    ghost wide = { λ s part w. SomeIsWideAt s.context.now (BlankChoices.images s.context.now.scope s.declared.items s.pattern.now part) s.statement.now.given w };
 
-    fn judge(&self, alloc: Global, part: &[u16]) -> Result<Verdict<()>, AllocError> {
+    fn check(&self, alloc: Global, part: &[u16]) -> Result<Verdict<()>, AllocError> {
         let images = self.images(alloc, part)?;
         let earlier = self.images(alloc, front(part))?;
-        let verdict = self.judge_all(alloc, &images, &earlier, part.is_empty())?;
+        let verdict = self.license_all(alloc, &images, &earlier, part.is_empty())?;
         Ok(verdict)
     }
 }

@@ -1,4 +1,4 @@
-//! What a step is judged by.
+//! What a step is licensed by.
 
 ghost use Rattle.std.specs.Prelude.{◌≡◌, ◌<◌, [], ◌∷◌, ◌++◌, length, IsTrue, IfOk, IfErr, IfSome, OnOk, OnErr, option_copied};
 ghost use Rattle.e_literal.specs.Facts.{joined};
@@ -11,7 +11,7 @@ ghost use Rattle.e_licence.specs.Licences.{IsLicence, IsRefuted};
 use crate::contradiction::{Refuted, by_arithmetic, clash};
 use crate::held::Held;
 use crate::licensing::{Licensed, licence_in_turn};
-use crate::solving::{copied, known_before};
+use crate::solving::{copied, metric_facts_before};
 use e_clause::{Against, Cert, Part};
 use e_facts::{Added, Facts};
 use e_literal::{Lit, Scope};
@@ -39,7 +39,7 @@ impl Model for Context {
 
     ghost Value = { Basis };
 
-    ghost use Rattle.e_licence.specs.Holding.{held_in, IsContext};
+    ghost use Rattle.e_licence.specs.HeldStates.{held_in, IsContext};
 
     ghost view = { λ c. record { scope = c.scope; facts = c.facts; held = map (held_in c.facts) c.held.items } };
 
@@ -49,7 +49,7 @@ impl Model for Context {
 impl Context {
     /// These facts over this scope, with no state held.
     ///
-    /// It fails only for want of memory, and then hands the facts back.
+    /// It fails only out of memory, and then hands the facts back.
     pub fn new(alloc: Global, scope: Scope, facts: Facts) -> Result<Context, (Facts, AllocError)>
         requires { IsTrue (are_good_facts scope facts) }
         ensures ok { IfOk result (λ c. c ≡ record { scope = scope; facts = facts; held = [] }) }
@@ -100,7 +100,7 @@ impl Context {
     }
 
     /// A copy of it, or nothing known.
-    pub(crate) fn known(&self, alloc: Global) -> Result<MetricFacts, AllocError>
+    pub(crate) fn metric_facts(&self, alloc: Global) -> Result<MetricFacts, AllocError>
         ensures { IfOk result (AreFronts self.now.facts) }
     {
         copied(alloc, &self.solved)
@@ -108,7 +108,7 @@ impl Context {
 
     /// The literal joins the facts, unless one the same is there.
     ///
-    /// It fails only for want of memory, and then all is as before.
+    /// It fails only out of memory, and then all is as before.
     pub fn add(&mut self, lit: Lit) -> Result<Added, AllocError>
         requires { IsTrue (are_good_facts self.old.scope (joined self.old.facts lit)) }
         ensures added { IfOk result (AddedIs self.old.facts lit self.new.facts) }
@@ -120,7 +120,7 @@ impl Context {
 
     /// More objects come into scope.
     ///
-    /// It fails only for want of memory, and then all is as before.
+    /// It fails only out of memory, and then all is as before.
     pub fn widen(&mut self, scope: Scope) -> Result<(), AllocError>
         requires { IsWithin self.old.scope scope }
         ensures ok { OnOk result (self.new ≡ record self.old { scope = scope }) }
@@ -132,7 +132,7 @@ impl Context {
 
     /// The present state is held last.
     ///
-    /// It fails only for want of memory, and then all is as before.
+    /// It fails only out of memory, and then all is as before.
     pub fn hold(&mut self) -> Result<(), AllocError>
         ensures ok { OnOk result (self.new ≡ record self.old { held = self.old.held ++ state_of self.old ∷ [] }) }
         ensures err { OnErr result (self.new ≡ self.old) }
@@ -169,16 +169,16 @@ impl Context {
         }
     }
 
-    /// What all the facts tell of magnitudes is solved, so that questions begin there.
+    /// What is solved is brought up to all facts, so that questions begin there.
     ///
-    /// It fails only for want of memory. Contracts see nothing of it.
+    /// It fails only out of memory. Contracts see nothing of it.
     pub fn solve(&mut self, alloc: Global) -> Result<(), AllocError>
         ensures { self.new ≡ self.old }
     {
         let own = self.solved.take();
-        let mut known = known_before(alloc, own, &self.held)?;
-        let brought = known.bring_all(alloc, &self.facts);
-        mem::drop(mem::replace(&mut self.solved, Some(known)));
+        let mut metric_facts = metric_facts_before(alloc, own, &self.held)?;
+        let brought = metric_facts.bring_all(alloc, &self.facts);
+        mem::drop(mem::replace(&mut self.solved, Some(metric_facts)));
         brought
     }
 
@@ -195,9 +195,9 @@ impl Context {
             return Ok(Licensed::Yes(Cert::Plain(Part::Fact)));
         }
         let own = self.solved.take();
-        let mut known = known_before(alloc, own, &self.held)?;
-        let licensed = licence_in_turn(alloc, self, &mut known, lit);
-        mem::drop(mem::replace(&mut self.solved, Some(known)));
+        let mut metric_facts = metric_facts_before(alloc, own, &self.held)?;
+        let licensed = licence_in_turn(alloc, self, &mut metric_facts, lit);
+        mem::drop(mem::replace(&mut self.solved, Some(metric_facts)));
         licensed
     }
 
@@ -214,9 +214,9 @@ impl Context {
             return Ok(Refuted::Yes(Against::Clash { lit }));
         }
         let own = self.solved.take();
-        let mut known = known_before(alloc, own, &self.held)?;
-        let refuted = by_arithmetic(alloc, self, &mut known);
-        mem::drop(mem::replace(&mut self.solved, Some(known)));
+        let mut metric_facts = metric_facts_before(alloc, own, &self.held)?;
+        let refuted = by_arithmetic(alloc, self, &mut metric_facts);
+        mem::drop(mem::replace(&mut self.solved, Some(metric_facts)));
         refuted
     }
 }

@@ -6,7 +6,7 @@ ghost use Rattle.e_literal.specs.Facts.{has, is_metric};
 ghost use Rattle.e_clause.specs.Clash;
 ghost use Rattle.e_metric.specs.Fronts.{AreFronts};
 ghost use Rattle.e_licence.specs.Licences.{IsRefuted};
-ghost use Rattle.e_licence.specs.Clashes.{IsClashOf};
+ghost use Rattle.e_licence.specs.inner.Clashes.{IsClashOf};
 
 use crate::context::Context;
 use e_clause::Against;
@@ -28,7 +28,7 @@ pub enum Refuted {
 }
 
 /// Whether the facts contradict each other: a diagram literal and its negation both are facts, or else no admissible
-/// assignment makes the metric facts true. It fails only for want of memory.
+/// assignment makes the metric facts true. It fails only out of memory.
 pub fn against(alloc: Global, context: &Context) -> Result<Refuted, AllocError>
     ensures { IfOk result (IsRefuted context.now) }
 {
@@ -36,9 +36,9 @@ pub fn against(alloc: Global, context: &Context) -> Result<Refuted, AllocError>
     if let Some(lit) = clash(alloc, context.facts())? {
         return Ok(Refuted::Yes(Against::Clash { lit }));
     }
-    let mut known = context.known(alloc)?;
-    let refuted = by_arithmetic(alloc, context, &mut known);
-    mem::drop(known);
+    let mut metric_facts = context.metric_facts(alloc)?;
+    let refuted = by_arithmetic(alloc, context, &mut metric_facts);
+    mem::drop(metric_facts);
     refuted
 }
 
@@ -46,16 +46,16 @@ pub fn against(alloc: Global, context: &Context) -> Result<Refuted, AllocError>
 pub(crate) fn by_arithmetic(
     alloc: Global,
     context: &Context,
-    known: &mut MetricFacts,
+    metric_facts: &mut MetricFacts,
 ) -> Result<Refuted, AllocError>
     requires no_clash { IsFalse (Clash.clash context.now.facts) }
-    requires known { AreFronts context.now.facts known.old }
+    requires metric_facts { AreFronts context.now.facts metric_facts.old }
     ensures refuted { IfOk result (IsRefuted context.now) }
-    ensures known { AreFronts context.now.facts known.new }
+    ensures metric_facts { AreFronts context.now.facts metric_facts.new }
 {
     context.good();
     let facts = context.facts();
-    match known.absurd_in_turn(alloc, facts)? {
+    match metric_facts.absurd_in_turn(alloc, facts)? {
         Metric::Yes(cert) => Ok(Refuted::Yes(Against::Metric(cert))),
         Metric::No(values) => Ok(Refuted::No(values)),
         Metric::TooWide(width) => Ok(Refuted::TooWide(width)),

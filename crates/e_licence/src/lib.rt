@@ -1,13 +1,13 @@
 //! The licence of one step: whether a literal is allowed by the facts in a scope, or the facts contradict each other, and
-//! why, and how the blanks of an application are filled; or that it cannot be told, since a linear system of the step is wide.
+//! why, and how the blanks of an application are filled; or that it cannot be decided, since a linear system of the step is wide.
 #![tactic(auto)]
 
-pub mod blanks;
-pub mod context;
-pub mod contradiction;
+mod blanks;
+mod context;
+mod contradiction;
 mod held;
-pub mod licensing;
-pub mod limits;
+mod licensing;
+mod limits;
 mod solving;
 
 pub use blanks::{Filled, match_blanks};

@@ -5,7 +5,7 @@ ghost use Rattle.e_literal.specs.Facts.{has, is_metric};
 ghost use Rattle.e_clause.specs.Judged.{is_good};
 ghost use Rattle.e_clause.specs.Metric.{MetricConsequence};
 ghost use Rattle.e_metric.specs.Fronts.{AreFronts};
-ghost use Rattle.e_metric.specs.Told.{IsTold, IfNo};
+ghost use Rattle.e_metric.specs.MetricAnswers.{IsMetricAnswer, IfNo};
 ghost use Rattle.e_transfer.specs.Prepared.{IsPrepared};
 ghost use Rattle.e_licence.specs.Licences.{IsLicence};
 
@@ -30,7 +30,7 @@ pub enum Licensed {
 }
 
 /// Whether the literal is allowed: as a fact; else, if it is metric, as a metric consequence of the facts; else as a
-/// transfer consequence. It fails only for want of memory.
+/// transfer consequence. It fails only out of memory.
 ///
 /// Questions begin where the context has solved its facts. Where many literals are asked, [`Context::licence`] keeps what is
 /// solved for one of them.
@@ -41,9 +41,9 @@ pub fn licence(alloc: Global, context: &Context, lit: &Lit) -> Result<Licensed, 
     if context.facts().has(lit) {
         return Ok(Licensed::Yes(Cert::Plain(Part::Fact)));
     }
-    let mut known = context.known(alloc)?;
-    let licensed = licence_in_turn(alloc, context, &mut known, lit);
-    mem::drop(known);
+    let mut metric_facts = context.metric_facts(alloc)?;
+    let licensed = licence_in_turn(alloc, context, &mut metric_facts, lit);
+    mem::drop(metric_facts);
     licensed
 }
 
@@ -52,23 +52,23 @@ pub fn licence(alloc: Global, context: &Context, lit: &Lit) -> Result<Licensed, 
 pub(crate) fn licence_in_turn(
     alloc: Global,
     context: &Context,
-    known: &mut MetricFacts,
+    metric_facts: &mut MetricFacts,
     lit: &Lit,
 ) -> Result<Licensed, AllocError>
-    requires known { AreFronts context.now.facts known.old }
+    requires metric_facts { AreFronts context.now.facts metric_facts.old }
     requires lit { IsTrue (is_good context.now.scope lit.now) }
     requires not_fact { IsFalse (has context.now.facts lit.now) }
     ensures licence { IfOk result (IsLicence context.now lit.now) }
-    ensures known { AreFronts context.now.facts known.new }
+    ensures metric_facts { AreFronts context.now.facts metric_facts.new }
 {
     context.good();
     let facts = context.facts();
     if kind(lit).is_none() {
-        return given_in_turn(alloc, context, known, lit);
+        return given_in_turn(alloc, context, metric_facts, lit);
     }
-    match known.certificate_by_kind(alloc, facts, lit)? {
+    match metric_facts.certificate_by_kind(alloc, facts, lit)? {
         Some(cert) => Ok(Licensed::Yes(Cert::Plain(Part::Metric(cert)))),
-        None => given_in_turn(alloc, context, known, lit),
+        None => given_in_turn(alloc, context, metric_facts, lit),
     }
 }
 
@@ -76,14 +76,14 @@ pub(crate) fn licence_in_turn(
 fn given_in_turn(
     alloc: Global,
     context: &Context,
-    known: &mut MetricFacts,
+    metric_facts: &mut MetricFacts,
     lit: &Lit,
 ) -> Result<Licensed, AllocError>
-    requires known { AreFronts context.now.facts known.old }
+    requires metric_facts { AreFronts context.now.facts metric_facts.old }
     requires lit { IsTrue (is_good context.now.scope lit.now) }
     requires not_fact { IsFalse (has context.now.facts lit.now) }
     ensures licence { IfOk result (IsLicence context.now lit.now) }
-    ensures known { AreFronts context.now.facts known.new }
+    ensures metric_facts { AreFronts context.now.facts metric_facts.new }
 {
     context.good();
     let scope = context.scope();
@@ -91,9 +91,9 @@ fn given_in_turn(
     if let Some(cert) = find_by_facts(alloc, scope, facts, lit)? {
         return Ok(Licensed::Yes(Cert::Transfer(cert)));
     }
-    known.bring_all(alloc, facts)?;
-    let prepared = prepare(alloc, facts, known)?;
-    let licensed = by_sums(alloc, context, known, &prepared, lit);
+    metric_facts.bring_all(alloc, facts)?;
+    let prepared = prepare(alloc, facts, metric_facts)?;
+    let licensed = by_sums(alloc, context, metric_facts, &prepared, lit);
     mem::drop(prepared);
     licensed
 }
@@ -102,11 +102,11 @@ fn given_in_turn(
 pub(crate) fn licence_by(
     alloc: Global,
     context: &Context,
-    known: &MetricFacts,
+    metric_facts: &MetricFacts,
     prepared: &Prepared,
     lit: &Lit,
 ) -> Result<Licensed, AllocError>
-    requires known { AreFronts context.now.facts known.now }
+    requires metric_facts { AreFronts context.now.facts metric_facts.now }
     requires prepared { IsPrepared context.now.facts prepared.now }
     requires lit { IsTrue (is_good context.now.scope lit.now) }
     ensures { IfOk result (IsLicence context.now lit.now) }
@@ -115,41 +115,41 @@ pub(crate) fn licence_by(
     if facts.has(lit) {
         return Ok(Licensed::Yes(Cert::Plain(Part::Fact)));
     }
-    by_sums(alloc, context, known, prepared, lit)
+    by_sums(alloc, context, metric_facts, prepared, lit)
 }
 
 // The same of a literal that is no fact.
 fn by_sums(
     alloc: Global,
     context: &Context,
-    known: &MetricFacts,
+    metric_facts: &MetricFacts,
     prepared: &Prepared,
     lit: &Lit,
 ) -> Result<Licensed, AllocError>
-    requires known { AreFronts context.now.facts known.now }
+    requires metric_facts { AreFronts context.now.facts metric_facts.now }
     requires prepared { IsPrepared context.now.facts prepared.now }
     requires lit { IsTrue (is_good context.now.scope lit.now) }
     requires not_fact { IsFalse (has context.now.facts lit.now) }
     ensures { IfOk result (IsLicence context.now lit.now) }
 {
     if kind(lit).is_none() {
-        return diagram(alloc, context, known, prepared, lit);
+        return diagram(alloc, context, metric_facts, prepared, lit);
     }
     context.good();
     let facts = context.facts();
-    let told = known.follows(alloc, facts, lit)?;
-    metric(alloc, context, known, prepared, lit, told)
+    let answer = metric_facts.follows(alloc, facts, lit)?;
+    metric(alloc, context, metric_facts, prepared, lit, answer)
 }
 
 // A diagram literal, the same.
 fn diagram(
     alloc: Global,
     context: &Context,
-    known: &MetricFacts,
+    metric_facts: &MetricFacts,
     prepared: &Prepared,
     lit: &Lit,
 ) -> Result<Licensed, AllocError>
-    requires known { AreFronts context.now.facts known.now }
+    requires metric_facts { AreFronts context.now.facts metric_facts.now }
     requires prepared { IsPrepared context.now.facts prepared.now }
     requires lit { IsTrue (is_good context.now.scope lit.now) }
     requires not_fact { IsFalse (has context.now.facts lit.now) }
@@ -159,26 +159,26 @@ fn diagram(
     context.good();
     let scope = context.scope();
     let facts = context.facts();
-    match find_prepared(alloc, scope, facts, known, prepared, lit)? {
+    match find_prepared(alloc, scope, facts, metric_facts, prepared, lit)? {
         Found::Yes(cert) => Ok(Licensed::Yes(Cert::Transfer(cert))),
         Found::No => Ok(Licensed::No(None)),
         Found::TooWide(width) => Ok(Licensed::TooWide(width)),
     }
 }
 
-// A metric literal, the same, where this is told of it.
+// A metric literal, the same, with this answer.
 fn metric(
     alloc: Global,
     context: &Context,
-    known: &MetricFacts,
+    metric_facts: &MetricFacts,
     prepared: &Prepared,
     lit: &Lit,
-    told: Metric,
+    answer: Metric,
 ) -> Result<Licensed, AllocError>
-    requires known { AreFronts context.now.facts known.now }
+    requires metric_facts { AreFronts context.now.facts metric_facts.now }
     requires prepared { IsPrepared context.now.facts prepared.now }
-    requires told { IsTold context.now.facts (Some lit.now) told }
-    requires no { IfNo told (¬ MetricConsequence context.now.facts lit.now) }
+    requires answer { IsMetricAnswer context.now.facts (Some lit.now) answer }
+    requires no { IfNo answer (¬ MetricConsequence context.now.facts lit.now) }
     requires lit { IsTrue (is_good context.now.scope lit.now) }
     requires not_fact { IsFalse (has context.now.facts lit.now) }
     requires metric { IsTrue (is_metric lit.now) }
@@ -187,15 +187,29 @@ fn metric(
     context.good();
     let scope = context.scope();
     let facts = context.facts();
-    match told {
+    match answer {
         Metric::Yes(cert) => Ok(Licensed::Yes(Cert::Plain(Part::Metric(cert)))),
-        Metric::No(values) => match find_prepared(alloc, scope, facts, known, prepared, lit)? {
+        Metric::No(values) => match find_prepared(
+            alloc,
+            scope,
+            facts,
+            metric_facts,
+            prepared,
+            lit,
+        )? {
             Found::Yes(cert) => Ok(Licensed::Yes(Cert::Transfer(cert))),
             Found::No => Ok(Licensed::No(Some(values))),
             Found::TooWide(width) => Ok(Licensed::TooWide(width)),
         },
         // A transfer from facts alone allows it, whatever the sums are.
-        Metric::TooWide(width) => match find_prepared(alloc, scope, facts, known, prepared, lit)? {
+        Metric::TooWide(width) => match find_prepared(
+            alloc,
+            scope,
+            facts,
+            metric_facts,
+            prepared,
+            lit,
+        )? {
             Found::Yes(cert) => Ok(Licensed::Yes(Cert::Transfer(cert))),
             Found::No | Found::TooWide(_) => Ok(Licensed::TooWide(width)),
         },

@@ -10,8 +10,7 @@ ghost use Rattle.e_theorem.specs.Statements.{stated};
 
 use e_facts::Facts;
 use e_literal::{Lit, Scope, grown, in_scope};
-use e_metric::are_few_facts;
-use e_metric::limits::is_well_formed;
+use e_metric::{are_few_facts, is_well_formed};
 use e_theorem::Statement;
 
 /// Whether the literal is in scope and well formed.
@@ -22,7 +21,7 @@ pub fn is_good(scope: Scope, lit: &Lit) -> bool
 }
 
 /// Whether the facts are in scope and well formed, and their terms are few.
-#[tactic(auto, using(crate::proofs::Judging::good_parts))]
+#[tactic(auto, using(crate::proofs::GoodLiterals::good_parts))]
 pub fn are_good_facts(scope: Scope, facts: &Facts) -> bool
     ensures { result ≡ Judged.are_good_facts scope facts.now }
 {

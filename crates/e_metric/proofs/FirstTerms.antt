@@ -1,4 +1,4 @@
--- Terms in the order in which they stand first.
+-- Terms in the order in which they occur first.
 use Rattle.std.proofs.Common.{◌≡◌, ◌≤◌, ℕ, zero, suc, ◌+◌, ◌-◌, List, [], ◌∷◌, ◌++◌, map, take, drop, length, refl, sym, ap, ap₂, ◌∙◌, arith, Bool, true, false, cond, ◌||◌, true≢false, ◌⊎◌, inl, inr, Option, Some, None, append_assoc}
 use Rattle.std.specs.Prelude.{slice_get}
 use Rattle.std.specs.List.{cons_option}
@@ -13,10 +13,10 @@ use Rattle.e_literal.specs.Literal.{negation}
 use Rattle.e_literal.specs.declared.object.Term.TheVariants.{Right}
 use Rattle.e_literal.specs.Same.{canonical, term_eq, one_term}
 use Rattle.e_literal.specs.Rows.{has_term, first_terms}
-use Rattle.e_literal.proofs.Canonical.{one_term_is, one_term_of}
+use Rattle.e_literal.proofs.CanonicalTerms.{one_term_is, one_term_of}
 use Rattle.e_clause.specs.Assignment.{terms_of_atom, terms_of_lits}
 use Rattle.e_clause.specs.System.{is_of_kind, of_kind, against_goal}
-use Rattle.e_metric.specs.Listed.{listed, terms_of_kind}
+use Rattle.e_metric.specs.ListedTerms.{listed, terms_of_kind}
 use Rattle.e_metric.proofs.Forms.{none_more}
 
 -- ---- one list after the other
@@ -180,7 +180,7 @@ first_once seen (t ∷ ts) = by (has_term seen t) (λ bs. first_once bs ts)
     by true ih = ih seen
     by false ih = (first_not (t ∷ seen) ts t (or_left (one_term t t) (has_term seen t) (one_term_of t t refl)), ih (t ∷ seen))
 
--- a term of the list is one term with one that was seen or stands first
+-- a term of the list is one term with one that was seen or occurs first
 pub first_has : (seen ts : List Term) (u : Term) → has_term ts u ≡ true → has_term seen u ≡ false → has_term (first_terms seen ts) u ≡ true
 first_has seen [] u h n = absurd (true≢false (sym h))
 first_has seen (s ∷ ss) u h n = by (has_term seen s) refl (or_cases (one_term u s) (has_term ss u) h) (λ bs. first_has bs ss u)
@@ -195,7 +195,7 @@ first_has seen (s ∷ ss) u h n = by (has_term seen s) refl (or_cases (one_term 
       | inr o ↦ or_right (one_term u s) (has_term (first_terms (s ∷ seen) ss) u) (ih (s ∷ seen) k (ap (λ b. b || has_term seen u) o ∙ n))
     ]
 
--- with right behind them
+-- with right after them
 pub with_right : (ts : List Term) → listed (first_terms [] ts) (Right ∷ []) ≡ first_terms [] (ts ++ Right ∷ [])
 with_right ts =
     ap (λ us. listed us (Right ∷ [])) (sym (listed_first [] [] ts (λ t. refl)))

@@ -21,11 +21,11 @@ use Rattle.e_fraction.specs.Distinct.{have_distinct_terms}
 use Rattle.e_fraction.specs.Limits.{has_small_coefficients}
 use Rattle.e_literal.proofs.Arith.{sums, zero_is, not_zero}
 use Rattle.e_literal.proofs.Terms.{term_eq_is, term_eq_same, equal_terms, term_eq_turned}
-use Rattle.e_literal.proofs.Canonical.{canonical_twice}
+use Rattle.e_literal.proofs.CanonicalTerms.{canonical_twice}
 use Rattle.e_literal.proofs.Valued.{is_normal, normal_coefficient}
 use Rattle.e_literal.proofs.Booleans.{and_left, and_right}
-use Rattle.e_metric.specs.Joined.{difference, stands_in, is_passed, with_term, with_terms, joined}
-use Rattle.e_metric.specs.Agree.{has_no_zero}
+use Rattle.e_metric.specs.inner.Differences.{difference, occurs_in, is_passed, with_term, with_terms, joined}
+use Rattle.e_metric.specs.AgreeingRows.{has_no_zero}
 
 -- ---- lists
 
@@ -48,52 +48,52 @@ is_normal_of t e d = and_from (term_eq (canonical t) t) (not (is_degenerate t)) 
 abbrev if_normal : Term → ℤ → ℤ
 if_normal t z = cond (is_normal t) z (pos 0)
 
--- ---- the form in which each term stands once
+-- ---- the form in which each term occurs once
 
 -- a summand has the coefficient of its term in x - y, which is not 0, and its term is normal
-pub record IsTold (x y : List Mono) (p : ℤ × Term) : Type 0 where
+pub record IsSummand (x y : List Mono) (p : ℤ × Term) : Type 0 where
   pub coefficient : p.0 ≡ difference x y p.1
   pub some : p.0 ≢ pos 0
   pub normal : is_normal p.1 ≡ true
 
-abbrev pub AllTold : List Mono → List Mono → Summands → Type 0
-AllTold x y [] = Unit {0}
-AllTold x y (p ∷ ps) = IsTold x y p × AllTold x y ps
+abbrev pub AreSummands : List Mono → List Mono → Summands → Type 0
+AreSummands x y [] = Unit {0}
+AreSummands x y (p ∷ ps) = IsSummand x y p × AreSummands x y ps
 
 pub record IsJoined (x y : List Mono) (form : Summands) : Type 0 where
   pub distinct : have_distinct_terms form ≡ true
-  pub told : AllTold x y form
+  pub are_summands : AreSummands x y form
 
-told_push : (x y : List Mono) (form : Summands) (p : ℤ × Term) → AllTold x y form → IsTold x y p → AllTold x y (form ++ p ∷ [])
-told_push x y [] p h k = (k, tt)
-told_push x y (q ∷ qs) p h k = (h.0, told_push x y qs p h.1 k)
+summands_push : (x y : List Mono) (form : Summands) (p : ℤ × Term) → AreSummands x y form → IsSummand x y p → AreSummands x y (form ++ p ∷ [])
+summands_push x y [] p h k = (k, tt)
+summands_push x y (q ∷ qs) p h k = (h.0, summands_push x y qs p h.1 k)
 
-stands_append : (f g : Summands) (t : Term) → stands_in (f ++ g) t ≡ (stands_in f t || stands_in g t)
-stands_append f g t = list_any-append (λ (q : ℤ × Term). term_eq q.1 t) f g
+occurs_append : (f g : Summands) (t : Term) → occurs_in (f ++ g) t ≡ (occurs_in f t || occurs_in g t)
+occurs_append f g t = list_any-append (λ (q : ℤ × Term). term_eq q.1 t) f g
 
 nor : (a b : Bool) → a ≡ false → b ≡ false → (a || b) ≡ false
 nor true b h k = absurd (true≢false h)
 nor false b h k = k
 
-distinct_push : (form : Summands) (n : ℤ) (t : Term) → have_distinct_terms form ≡ true → stands_in form t ≡ false → have_distinct_terms (form ++ (n, t) ∷ []) ≡ true
+distinct_push : (form : Summands) (n : ℤ) (t : Term) → have_distinct_terms form ≡ true → occurs_in form t ≡ false → have_distinct_terms (form ++ (n, t) ∷ []) ≡ true
 distinct_push [] n t h k = refl
 distinct_push (p ∷ ps) n t h k =
-    (let w = or_parts (term_eq p.1 t) (stands_in ps t) k in
-    let rest = not-true (stands_in ps p.1) (and_left (not (stands_in ps p.1)) (have_distinct_terms ps) h) in
-    let one : stands_in (ps ++ (n, t) ∷ []) p.1 ≡ false = stands_append ps ((n, t) ∷ []) p.1 ∙ nor (stands_in ps p.1) (term_eq t p.1 || false) rest (nor (term_eq t p.1) false (term_eq_turned t p.1 ∙ w.0) refl) in
-    and_from (not (stands_in (ps ++ (n, t) ∷ []) p.1)) (have_distinct_terms (ps ++ (n, t) ∷ [])) (ap not one)
-    (distinct_push ps n t (and_right (not (stands_in ps p.1)) (have_distinct_terms ps) h) w.1))
+    (let w = or_parts (term_eq p.1 t) (occurs_in ps t) k in
+    let rest = not-true (occurs_in ps p.1) (and_left (not (occurs_in ps p.1)) (have_distinct_terms ps) h) in
+    let one : occurs_in (ps ++ (n, t) ∷ []) p.1 ≡ false = occurs_append ps ((n, t) ∷ []) p.1 ∙ nor (occurs_in ps p.1) (term_eq t p.1 || false) rest (nor (term_eq t p.1) false (term_eq_turned t p.1 ∙ w.0) refl) in
+    and_from (not (occurs_in (ps ++ (n, t) ∷ []) p.1)) (have_distinct_terms (ps ++ (n, t) ∷ [])) (ap not one)
+    (distinct_push ps n t (and_right (not (occurs_in ps p.1)) (have_distinct_terms ps) h) w.1))
 
 joined_term : (x y : List Mono) (form : Summands) (t : Term) → canonical t ≡ t → IsJoined x y form → IsJoined x y (with_term x y form t)
 joined_term x y form t c h = by (is_passed x y form t) refl
   where
     by : (b : Bool) → is_passed x y form t ≡ b → IsJoined x y (cond b form (form ++ (difference x y t, t) ∷ []))
     by true e = h
-    by false e = (let w = or_parts (is_degenerate t) (stands_in form t || int_eq (difference x y t) (pos 0)) e in
-        let v = or_parts (stands_in form t) (int_eq (difference x y t) (pos 0)) w.1 in
+    by false e = (let w = or_parts (is_degenerate t) (occurs_in form t || int_eq (difference x y t) (pos 0)) e in
+        let v = or_parts (occurs_in form t) (int_eq (difference x y t) (pos 0)) w.1 in
         record {
           distinct = distinct_push form (difference x y t) t h.distinct v.0;
-          told = told_push x y form (difference x y t, t) h.told (record { coefficient = refl; some = not_zero (difference x y t) v.1; normal = is_normal_of t c w.0 });
+          are_summands = summands_push x y form (difference x y t, t) h.are_summands (record { coefficient = refl; some = not_zero (difference x y t) v.1; normal = is_normal_of t c w.0 });
         })
 
 joined_terms : (x y : List Mono) (form : Summands) (ms : List Mono) → IsJoined x y form → IsJoined x y (with_terms x y form ms)
@@ -101,69 +101,69 @@ joined_terms x y form [] h = h
 joined_terms x y form (m ∷ ms) h = joined_terms x y (with_term x y form (canonical m.term)) ms (joined_term x y form (canonical m.term) (canonical_twice m.term) h)
 
 pub is_joined : (x y : List Mono) → IsJoined x y (joined x y)
-is_joined x y = joined_terms x y (with_terms x y [] x) y (joined_terms x y [] x (record { distinct = refl; told = tt }))
+is_joined x y = joined_terms x y (with_terms x y [] x) y (joined_terms x y [] x (record { distinct = refl; are_summands = tt }))
 
--- ---- each term that does not cancel stands there
+-- ---- each term that does not cancel is there
 
-stands_keep : (x y : List Mono) (form : Summands) (u t : Term) → stands_in form t ≡ true → stands_in (with_term x y form u) t ≡ true
-stands_keep x y form u t h = by (is_passed x y form u)
+occurs_keep : (x y : List Mono) (form : Summands) (u t : Term) → occurs_in form t ≡ true → occurs_in (with_term x y form u) t ≡ true
+occurs_keep x y form u t h = by (is_passed x y form u)
   where
-    by : (b : Bool) → stands_in (cond b form (form ++ (difference x y u, u) ∷ [])) t ≡ true
+    by : (b : Bool) → occurs_in (cond b form (form ++ (difference x y u, u) ∷ [])) t ≡ true
     by true = h
-    by false = stands_append form ((difference x y u, u) ∷ []) t ∙ or_left (stands_in form t) (stands_in ((difference x y u, u) ∷ []) t) h
+    by false = occurs_append form ((difference x y u, u) ∷ []) t ∙ or_left (occurs_in form t) (occurs_in ((difference x y u, u) ∷ []) t) h
 
-stands_keeps : (x y : List Mono) (form : Summands) (ms : List Mono) (t : Term) → stands_in form t ≡ true → stands_in (with_terms x y form ms) t ≡ true
-stands_keeps x y form [] t h = h
-stands_keeps x y form (m ∷ ms) t h = stands_keeps x y (with_term x y form (canonical m.term)) ms t (stands_keep x y form (canonical m.term) t h)
+occurs_keeps : (x y : List Mono) (form : Summands) (ms : List Mono) (t : Term) → occurs_in form t ≡ true → occurs_in (with_terms x y form ms) t ≡ true
+occurs_keeps x y form [] t h = h
+occurs_keeps x y form (m ∷ ms) t h = occurs_keeps x y (with_term x y form (canonical m.term)) ms t (occurs_keep x y form (canonical m.term) t h)
 
-stands_here : (x y : List Mono) (form : Summands) (t : Term) → is_degenerate t ≡ false → difference x y t ≢ pos 0 → stands_in (with_term x y form t) t ≡ true
-stands_here x y form t d n = by (stands_in form t) (int_eq (difference x y t) (pos 0)) refl refl
+occurs_here : (x y : List Mono) (form : Summands) (t : Term) → is_degenerate t ≡ false → difference x y t ≢ pos 0 → occurs_in (with_term x y form t) t ≡ true
+occurs_here x y form t d n = by (occurs_in form t) (int_eq (difference x y t) (pos 0)) refl refl
   where
-    by : (a b : Bool) → stands_in form t ≡ a → int_eq (difference x y t) (pos 0) ≡ b → stands_in (with_term x y form t) t ≡ true
-    by true b e f = stands_keep x y form t t e
+    by : (a b : Bool) → occurs_in form t ≡ a → int_eq (difference x y t) (pos 0) ≡ b → occurs_in (with_term x y form t) t ≡ true
+    by true b e f = occurs_keep x y form t t e
     by false true e f = absurd (n (zero_is (difference x y t) f))
     by false false e f =
-        ap (λ k. stands_in (cond k form (form ++ (difference x y t, t) ∷ [])) t) (nor (is_degenerate t) (stands_in form t || int_eq (difference x y t) (pos 0)) d (nor (stands_in form t) (int_eq (difference x y t) (pos 0)) e f))
-        ∙ stands_append form ((difference x y t, t) ∷ []) t
-        ∙ or_right (stands_in form t) (term_eq t t || false) (or_left (term_eq t t) false (term_eq_same t))
+        ap (λ k. occurs_in (cond k form (form ++ (difference x y t, t) ∷ [])) t) (nor (is_degenerate t) (occurs_in form t || int_eq (difference x y t) (pos 0)) d (nor (occurs_in form t) (int_eq (difference x y t) (pos 0)) e f))
+        ∙ occurs_append form ((difference x y t, t) ∷ []) t
+        ∙ or_right (occurs_in form t) (term_eq t t || false) (or_left (term_eq t t) false (term_eq_same t))
 
-stands_met : (x y : List Mono) (form : Summands) (ms : List Mono) (t : Term) → is_normal t ≡ true → difference x y t ≢ pos 0 → coeff_of ms t ≢ 0 → stands_in (with_terms x y form ms) t ≡ true
-stands_met x y form [] t n d c = absurd (c refl)
-stands_met x y form (m ∷ ms) t n d c = by (one_term m.term t) refl (λ k. stands_met x y (with_term x y form (canonical m.term)) ms t n d k)
+occurs_met : (x y : List Mono) (form : Summands) (ms : List Mono) (t : Term) → is_normal t ≡ true → difference x y t ≢ pos 0 → coeff_of ms t ≢ 0 → occurs_in (with_terms x y form ms) t ≡ true
+occurs_met x y form [] t n d c = absurd (c refl)
+occurs_met x y form (m ∷ ms) t n d c = by (one_term m.term t) refl (λ k. occurs_met x y (with_term x y form (canonical m.term)) ms t n d k)
   where
-    by : (b : Bool) → one_term m.term t ≡ b → (coeff_of ms t ≢ 0 → stands_in (with_terms x y (with_term x y form (canonical m.term)) ms) t ≡ true) → stands_in (with_terms x y (with_term x y form (canonical m.term)) ms) t ≡ true
+    by : (b : Bool) → one_term m.term t ≡ b → (coeff_of ms t ≢ 0 → occurs_in (with_terms x y (with_term x y form (canonical m.term)) ms) t ≡ true) → occurs_in (with_terms x y (with_term x y form (canonical m.term)) ms) t ≡ true
     by true e ih = (let same : canonical m.term ≡ t = term_eq_is (canonical m.term) (canonical t) e ∙ (normal_is t n).0 in
-        ap (λ u. stands_in (with_terms x y (with_term x y form u) ms) t) same ∙ stands_keeps x y (with_term x y form t) ms t (stands_here x y form t (normal_is t n).1 d))
+        ap (λ u. occurs_in (with_terms x y (with_term x y form u) ms) t) same ∙ occurs_keeps x y (with_term x y form t) ms t (occurs_here x y form t (normal_is t n).1 d))
     by false e ih = ih (λ z. c (ap (λ k. cond k m.coeff 0 + coeff_of ms t) e ∙ omega (arith, z)))
 
 -- ---- the coefficients of the form
 
-coefficient_absent : (form : Summands) (t : Term) → stands_in form t ≡ false → coefficient form t ≡ pos 0
+coefficient_absent : (form : Summands) (t : Term) → occurs_in form t ≡ false → coefficient form t ≡ pos 0
 coefficient_absent [] t h = refl
-coefficient_absent (p ∷ ps) t h = (let w = or_parts (term_eq p.1 t) (stands_in ps t) h in
+coefficient_absent (p ∷ ps) t h = (let w = or_parts (term_eq p.1 t) (occurs_in ps t) h in
     ap (λ b. cond b p.0 (pos 0) +ℤ coefficient ps t) w.0 ∙ omega (arith, sums, coefficient_absent ps t w.1))
 
-coefficient_present : (x y : List Mono) (form : Summands) (t : Term) → have_distinct_terms form ≡ true → AllTold x y form → stands_in form t ≡ true → coefficient form t ≡ if_normal t (difference x y t)
+coefficient_present : (x y : List Mono) (form : Summands) (t : Term) → have_distinct_terms form ≡ true → AreSummands x y form → occurs_in form t ≡ true → coefficient form t ≡ if_normal t (difference x y t)
 coefficient_present x y [] t d h s = absurd (true≢false (sym s))
-coefficient_present x y (p ∷ ps) t d h s = by (term_eq p.1 t) refl (λ k. coefficient_present x y ps t (and_right (not (stands_in ps p.1)) (have_distinct_terms ps) d) h.1 k)
+coefficient_present x y (p ∷ ps) t d h s = by (term_eq p.1 t) refl (λ k. coefficient_present x y ps t (and_right (not (occurs_in ps p.1)) (have_distinct_terms ps) d) h.1 k)
   where
-    by : (b : Bool) → term_eq p.1 t ≡ b → (stands_in ps t ≡ true → coefficient ps t ≡ if_normal t (difference x y t)) → cond b p.0 (pos 0) +ℤ coefficient ps t ≡ if_normal t (difference x y t)
+    by : (b : Bool) → term_eq p.1 t ≡ b → (occurs_in ps t ≡ true → coefficient ps t ≡ if_normal t (difference x y t)) → cond b p.0 (pos 0) +ℤ coefficient ps t ≡ if_normal t (difference x y t)
     by true e ih = (let same : p.1 ≡ t = term_eq_is p.1 t e in
-        let absent : stands_in ps t ≡ false = ap (stands_in ps) (sym same) ∙ not-true (stands_in ps p.1) (and_left (not (stands_in ps p.1)) (have_distinct_terms ps) d) in
+        let absent : occurs_in ps t ≡ false = ap (occurs_in ps) (sym same) ∙ not-true (occurs_in ps p.1) (and_left (not (occurs_in ps p.1)) (have_distinct_terms ps) d) in
         let value : if_normal t (difference x y t) ≡ p.0 = ap (λ u. if_normal u (difference x y u)) (sym same) ∙ ap (λ b. cond b (difference x y p.1) (pos 0)) h.0.normal ∙ sym h.0.coefficient in
         omega (arith, sums, coefficient_absent ps t absent) ∙ sym value)
-    by false e ih = omega (arith, sums) ∙ ih (ap (λ k. k || stands_in ps t) (sym e) ∙ s)
+    by false e ih = omega (arith, sums) ∙ ih (ap (λ k. k || occurs_in ps t) (sym e) ∙ s)
 
 pub joined_coefficient : (x y : List Mono) (t : Term) → coefficient (joined x y) t ≡ coefficient (normal_summands (plus x ++ minus y)) t
-joined_coefficient x y t = by (stands_in (joined x y) t) refl ∙ sym (normal_coefficient x y t)
+joined_coefficient x y t = by (occurs_in (joined x y) t) refl ∙ sym (normal_coefficient x y t)
   where
-    none : (n d : Bool) → stands_in (joined x y) t ≡ false → is_normal t ≡ n → int_eq (difference x y t) (pos 0) ≡ d → pos 0 ≡ cond n (difference x y t) (pos 0)
+    none : (n d : Bool) → occurs_in (joined x y) t ≡ false → is_normal t ≡ n → int_eq (difference x y t) (pos 0) ≡ d → pos 0 ≡ cond n (difference x y t) (pos 0)
     none false d s e f = refl
     none true true s e f = sym (zero_is (difference x y t) f)
     none true false s e f = (let n = not_zero (difference x y t) f in
         absurd (true≢false (sym (elim (either (coeff_of x t) (coeff_of y t) n) [
-          | inl c ↦ stands_keeps x y (with_terms x y [] x) y t (stands_met x y [] x t e n c)
-          | inr c ↦ stands_met x y (with_terms x y [] x) y t e n c
+          | inl c ↦ occurs_keeps x y (with_terms x y [] x) y t (occurs_met x y [] x t e n c)
+          | inr c ↦ occurs_met x y (with_terms x y [] x) y t e n c
         ]) ∙ s)))
       where
         either : (a b : ℕ) → pos a -ℤ pos b ≢ pos 0 → (a ≢ 0) ⊎ (b ≢ 0)
@@ -171,13 +171,13 @@ joined_coefficient x y t = by (stands_in (joined x y) t) refl ∙ sym (normal_co
         either zero (suc b) h = inr (λ e. omega (arith, e))
         either (suc a) b h = inl (λ e. omega (arith, e))
 
-    by : (b : Bool) → stands_in (joined x y) t ≡ b → coefficient (joined x y) t ≡ if_normal t (difference x y t)
-    by true e = coefficient_present x y (joined x y) t (is_joined x y).distinct (is_joined x y).told e
+    by : (b : Bool) → occurs_in (joined x y) t ≡ b → coefficient (joined x y) t ≡ if_normal t (difference x y t)
+    by true e = coefficient_present x y (joined x y) t (is_joined x y).distinct (is_joined x y).are_summands e
     by false e = coefficient_absent (joined x y) t e ∙ none (is_normal t) (int_eq (difference x y t) (pos 0)) e refl refl
 
 -- ---- sizes
 
-pub no_zero : (x y : List Mono) (form : Summands) → AllTold x y form → has_no_zero form ≡ true
+pub no_zero : (x y : List Mono) (form : Summands) → AreSummands x y form → has_no_zero form ≡ true
 no_zero x y [] h = refl
 no_zero x y (p ∷ ps) h = and_from (not (int_eq p.0 (pos 0))) (has_no_zero ps) (some_is p.0 h.0.some) (no_zero x y ps h.1)
   where
@@ -202,7 +202,7 @@ coefficient_bound (m ∷ ms) t h =
     by false a i = omega (arith, i)
 
 pub all_small : (x y : List Mono) (form : Summands) → length x + length y ≤ 32 → list_all (λ m. is_good_coefficient m.coeff) x ≡ true → list_all (λ m. is_good_coefficient m.coeff) y ≡ true
-    → AllTold x y form → has_small_coefficients form ≡ true
+    → AreSummands x y form → has_small_coefficients form ≡ true
 all_small x y [] l a b h = refl
 all_small x y (p ∷ ps) l a b h =
     and_from (nat_le (unsigned_abs p.0) (2 ^ 30)) (has_small_coefficients ps) (ap (λ z. nat_le (unsigned_abs z) (2 ^ 30)) h.0.coefficient ∙ within (coeff_of x p.1) (coeff_of y p.1)

@@ -1,4 +1,4 @@
--- What is told by the first facts of a list.
+-- What is solved of the first facts of a list.
 use Rattle.std.proofs.Common.{◌≡◌, ℕ, ◌≤◌, List, [], ◌∷◌, ◌++◌, Bool, true, false, cond, take, length, sym, subst, arith, Option, Some, None, Result, Ok, Err, IfOk}
 use Rattle.std.specs.Prelude.{IfSome}
 use Rattle.std.proofs.Common.{length-append}
@@ -10,78 +10,78 @@ use Rattle.e_literal.specs.Facts.{has, joined}
 use Rattle.e_clause.specs.declared.cert.MetricCert.{MetricCert}
 use Rattle.e_clause.specs.System.{of_kind, against_goal}
 use Rattle.e_metric.specs.declared.consequence.Metric.{Metric}
-use Rattle.e_metric.specs.declared.side.Side.{Side}
+use Rattle.e_metric.specs.declared.kind_system.KindSystem.{KindSystem}
 use Rattle.e_metric.specs.declared.metric_facts.Slot.{Slot}
 use Rattle.e_metric.specs.declared.metric_facts.MetricFacts.{MetricFacts}
-use Rattle.e_metric.specs.ByKind.{at_kind}
+use Rattle.e_metric.specs.inner.ByKind.{at_kind}
 use Rattle.e_metric.specs.Fronts.{IsFront, AreFronts}
-use Rattle.e_metric.specs.Kept.{IsContradictionOf, IsSide, IsToldBeside, TellsAs}
-use Rattle.e_metric.specs.Told.{IsCertified, IsToldOf}
+use Rattle.e_metric.specs.SolvedSystems.{IsContradictionOf, IsKindSystem, IsAnswerAlone, AnswersAs}
+use Rattle.e_metric.specs.MetricAnswers.{IsCertified, IsKindAnswer}
 
 -- ---- one kind
 
-pub none_front : (which : Kind) (facts : List Lit) (s : Slot) → s.side ≡ None → s.upto ≡ 0 → IsFront which facts s
-none_front which facts s e n = record { within = omega (arith, n); side = subst (λ o. IfSome o (IsSide which (take s.upto facts))) (sym e) tt }
+pub none_front : (which : Kind) (facts : List Lit) (s : Slot) → s.kind_system ≡ None → s.upto ≡ 0 → IsFront which facts s
+none_front which facts s e n = record { within = omega (arith, n); kind_system = subst (λ o. IfSome o (IsKindSystem which (take s.upto facts))) (sym e) tt }
 
-pub whole_front : (which : Kind) (facts : List Lit) (s : Slot) (o : Option Side) → s.side ≡ o → s.upto ≡ length facts → IfSome o (IsSide which facts) → IsFront which facts s
+pub whole_front : (which : Kind) (facts : List Lit) (s : Slot) (o : Option KindSystem) → s.kind_system ≡ o → s.upto ≡ length facts → IfSome o (IsKindSystem which facts) → IsFront which facts s
 whole_front which facts s o e n h = record {
   within = omega (arith, n);
-  side = subst (λ p. IfSome p (IsSide which (take s.upto facts))) (sym e) (subst (λ v. IfSome o (IsSide which v)) (sym (take_all s.upto facts (omega (arith, n)))) h);
+  kind_system = subst (λ p. IfSome p (IsKindSystem which (take s.upto facts))) (sym e) (subst (λ v. IfSome o (IsKindSystem which v)) (sym (take_all s.upto facts (omega (arith, n)))) h);
 }
 
 -- what is there, where all facts are known
-pub whole_side : (which : Kind) (facts : List Lit) (s : Slot) (side : Side) → IsFront which facts s → s.upto ≡ length facts → s.side ≡ Some side → IsSide which facts side
-whole_side which facts s side h n e =
-    subst (λ v. IsSide which v side) (take_all s.upto facts (omega (arith, n))) (subst (λ o. IfSome o (IsSide which (take s.upto facts))) e h.side)
+pub whole_system : (which : Kind) (facts : List Lit) (s : Slot) (kind_system : KindSystem) → IsFront which facts s → s.upto ≡ length facts → s.kind_system ≡ Some kind_system → IsKindSystem which facts kind_system
+whole_system which facts s kind_system h n e =
+    subst (λ v. IsKindSystem which v kind_system) (take_all s.upto facts (omega (arith, n))) (subst (λ o. IfSome o (IsKindSystem which (take s.upto facts))) e h.kind_system)
 
 -- what is there, where it is some
-pub first_side : (which : Kind) (facts : List Lit) (s : Slot) (side : Side) → IsFront which facts s → s.side ≡ Some side → IsSide which (take s.upto facts) side
-first_side which facts s side h e = subst (λ o. IfSome o (IsSide which (take s.upto facts))) e h.side
+pub first_system : (which : Kind) (facts : List Lit) (s : Slot) (kind_system : KindSystem) → IsFront which facts s → s.kind_system ≡ Some kind_system → IsKindSystem which (take s.upto facts) kind_system
+first_system which facts s kind_system h e = subst (λ o. IfSome o (IsKindSystem which (take s.upto facts))) e h.kind_system
 
-pub front_copied : (which : Kind) (facts : List Lit) (s : Slot) (side other : Side) → IsFront which facts s → s.side ≡ Some side → TellsAs side other → IsFront which facts (record { side = Some other; upto = s.upto })
-front_copied which facts s side other h e f = record { within = h.within; side = f which (take s.upto facts) (first_side which facts s side h e) }
+pub front_copied : (which : Kind) (facts : List Lit) (s : Slot) (kind_system other : KindSystem) → IsFront which facts s → s.kind_system ≡ Some kind_system → AnswersAs kind_system other → IsFront which facts (record { kind_system = Some other; upto = s.upto })
+front_copied which facts s kind_system other h e f = record { within = h.within; kind_system = f which (take s.upto facts) (first_system which facts s kind_system h e) }
 
-pub none_left : (which : Kind) (facts : List Lit) (s : Slot) → IsFront which facts s → IsFront which facts (record { side = None; upto = s.upto })
-none_left which facts s h = record { within = h.within; side = tt }
+pub none_left : (which : Kind) (facts : List Lit) (s : Slot) → IsFront which facts s → IsFront which facts (record { kind_system = None; upto = s.upto })
+none_left which facts s h = record { within = h.within; kind_system = tt }
 
 -- fewer facts, of which it is still a front
 pub cut_front : (which : Kind) (facts : List Lit) (count : ℕ) (s : Slot) → count ≤ length facts → s.upto ≤ count → IsFront which facts s → IsFront which (take count facts) s
 cut_front which facts count s n m h = record {
   within = omega (arith, m, length-take-le count facts n);
-  side = subst (λ v. IfSome s.side (IsSide which v)) (sym (take-take s.upto count facts m)) h.side;
+  kind_system = subst (λ v. IfSome s.kind_system (IsKindSystem which v)) (sym (take-take s.upto count facts m)) h.kind_system;
 }
 
 -- more facts
 front_more : (which : Kind) (facts more : List Lit) (s : Slot) → IsFront which facts s → IsFront which (facts ++ more) s
 front_more which facts more s h = record {
   within = omega (arith, h.within, length-append facts more);
-  side = subst (λ v. IfSome s.side (IsSide which v)) (sym (take-append-le s.upto facts more h.within)) h.side;
+  kind_system = subst (λ v. IfSome s.kind_system (IsKindSystem which v)) (sym (take-append-le s.upto facts more h.within)) h.kind_system;
 }
 
-pub beside_told : {E : Type 0} (which : Kind) (facts : List Lit) (wanted : Option Lit) (side : Side) (r : Result Metric E) → IsSide which facts side → of_kind which (against_goal wanted) ≡ []
-    → IfOk r (IsToldBeside side) → IfOk r (IsToldOf which facts wanted)
-beside_told which facts wanted side (Ok m) h e k = k which facts wanted h e
-beside_told which facts wanted side (Err x) h e k = tt
+pub alone_answered : {E : Type 0} (which : Kind) (facts : List Lit) (wanted : Option Lit) (kind_system : KindSystem) (r : Result Metric E) → IsKindSystem which facts kind_system → of_kind which (against_goal wanted) ≡ []
+    → IfOk r (IsAnswerAlone kind_system) → IfOk r (IsKindAnswer which facts wanted)
+alone_answered which facts wanted kind_system (Ok m) h e k = k which facts wanted h e
+alone_answered which facts wanted kind_system (Err x) h e k = tt
 
--- a certificate that a side has, of the facts that have the side
-pub at_side : {E : Type 0} (which : Kind) (facts : List Lit) (side : Side) (r : Result (Option MetricCert) E) → IsSide which facts side
-    → IfOk r (IsContradictionOf side) → IfOk r (λ o. IfSome o (IsCertified facts None))
-at_side which facts side (Ok o) h k = k which facts h
-at_side which facts side (Err x) h k = tt
+-- a certificate that a system has, of the facts that have the system
+pub at_system : {E : Type 0} (which : Kind) (facts : List Lit) (kind_system : KindSystem) (r : Result (Option MetricCert) E) → IsKindSystem which facts kind_system
+    → IfOk r (IsContradictionOf kind_system) → IfOk r (λ o. IfSome o (IsCertified facts None))
+at_system which facts kind_system (Ok o) h k = k which facts h
+at_system which facts kind_system (Err x) h k = tt
 
 -- ---- all kinds
 
-pub front_at : (facts : List Lit) (m : MetricFacts) → AreFronts facts m → (which : Kind) → IsFront which facts (at_kind m.sides which)
+pub front_at : (facts : List Lit) (m : MetricFacts) → AreFronts facts m → (which : Kind) → IsFront which facts (at_kind m.systems which)
 front_at facts m h Segment = h.segments
 front_at facts m h Angle = h.angles
 front_at facts m h AreaKind = h.areas
 
--- facts that come behind change nothing
+-- facts that come after change nothing
 pub fronts_more : (facts more : List Lit) (m : MetricFacts) → AreFronts facts m → AreFronts (facts ++ more) m
 fronts_more facts more m h = record {
-  segments = front_more Segment facts more m.sides.segments h.segments;
-  angles = front_more Angle facts more m.sides.angles h.angles;
-  areas = front_more AreaKind facts more m.sides.areas h.areas;
+  segments = front_more Segment facts more m.systems.segments h.segments;
+  angles = front_more Angle facts more m.systems.angles h.angles;
+  areas = front_more AreaKind facts more m.systems.areas h.areas;
 }
 
 -- a fact that joins them changes nothing

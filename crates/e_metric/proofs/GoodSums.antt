@@ -12,7 +12,7 @@ use Rattle.e_literal.specs.WellFormed.{same_kind, is_good_coefficient, are_good_
 use Rattle.e_clause.specs.Assignment.{terms_of_atom, terms_of_lits}
 use Rattle.e_metric.proofs.Forms.{none_more}
 use Rattle.e_metric.proofs.FirstTerms.{take_one, lits_append}
-use Rattle.e_metric.proofs.Growing.{all_at}
+use Rattle.e_metric.proofs.SystemRows.{all_at}
 
 abbrev good_of : Kind → Mono → Bool
 good_of which m = same_kind (kind_of_term m.term) which && is_good_coefficient m.coeff

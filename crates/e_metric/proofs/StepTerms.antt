@@ -15,13 +15,14 @@ use Rattle.e_literal.specs.Rows.{is_degenerate}
 use Rattle.e_literal.specs.WellFormed.{is_well_formed}
 use Rattle.e_literal.specs.Solution.{Satisfy, carried}
 use Rattle.e_literal.proofs.Terms.{term_eq_is, equal_terms}
-use Rattle.e_literal.proofs.Canonical.{canonical_twice, degenerate_canonical}
+use Rattle.e_literal.proofs.CanonicalTerms.{canonical_twice, degenerate_canonical}
 use Rattle.e_clause.specs.Assignment.{terms_of_atom, terms_of_lits, terms_of_wanted, terms_of_step}
 use Rattle.e_clause.specs.Laws.{is_good_wanted}
 use Rattle.e_clause.specs.System.{by_kind, rows_of_system}
 use Rattle.e_clause.specs.Counterexample.{value_in, are_in_order, listed_terms, ListsCounterexample}
 use Rattle.e_clause.proofs.Carried.{counterexample_of}
-use Rattle.e_metric.specs.Assigned.{values_of, step_value}
+use Rattle.e_metric.specs.declared.by_kind.ByKind.{ByKind}
+use Rattle.e_metric.specs.inner.AssignedValues.{values_of, step_value}
 use Rattle.e_metric.proofs.Forms.{none_more}
 use Rattle.e_metric.proofs.FirstTerms.{take_one, lits_append}
 
@@ -71,18 +72,18 @@ among_map (u ∷ us) t h = elim (or_cases (term_eq t u) (is_among us t) h) [
   | inr k ↦ or_right (term_eq (canonical t) (canonical u)) (is_among (map canonical us) (canonical t)) (among_map us t k)
 ]
 
-pub lists : (facts : List Lit) (wanted : Option Lit) (segments angles areas : List (Term × ℕ)) (terms : List Term) (values : List (Term × ℕ))
-    → list_all is_well_formed facts ≡ true → is_good_wanted wanted ≡ true → ((which : Kind) → Satisfy (values_of segments angles areas which) (rows_of_system which facts wanted))
+pub lists : (facts : List Lit) (wanted : Option Lit) (solutions : ByKind (List (Term × ℕ))) (terms : List Term) (values : List (Term × ℕ))
+    → list_all is_well_formed facts ≡ true → is_good_wanted wanted ≡ true → ((which : Kind) → Satisfy (values_of solutions which) (rows_of_system which facts wanted))
     → are_in_order terms ≡ true → ((t : Term) → is_among terms t ≡ is_among (map canonical (terms_of_step facts wanted)) t)
-    → values ≡ map (λ t. (t, step_value segments angles areas t)) terms → ListsCounterexample facts wanted values
-lists facts wanted segments angles areas terms values good good_wanted solved ordered same is =
-    (let f = step_value segments angles areas in
-    let names : listed_terms values ≡ terms = ap listed_terms is ∙ listed (step_value segments angles areas) terms in
+    → values ≡ map (λ t. (t, step_value solutions t)) terms → ListsCounterexample facts wanted values
+lists facts wanted solutions terms values good good_wanted solved ordered same is =
+    (let f = step_value solutions in
+    let names : listed_terms values ≡ terms = ap listed_terms is ∙ listed (step_value solutions) terms in
     record {
       in_order = ap are_in_order names ∙ ordered;
       of_step = λ t. ap (λ ts. is_among ts t) names ∙ same t;
-      counterexample = counterexample_of facts wanted (values_of segments angles areas) (value_in values) good good_wanted solved
+      counterexample = counterexample_of facts wanted (values_of solutions) (value_in values) good good_wanted solved
           (λ t h. ap (λ vs. value_in vs t) is
-          ∙ found (step_value segments angles areas) terms t (same (canonical t) ∙ among_map (terms_of_step facts wanted) t h)
-          ∙ carried_canonical (by_kind (values_of segments angles areas)) t);
+          ∙ found (step_value solutions) terms t (same (canonical t) ∙ among_map (terms_of_step facts wanted) t h)
+          ∙ carried_canonical (by_kind (values_of solutions)) t);
     })

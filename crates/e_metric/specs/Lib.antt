@@ -1,11 +1,7 @@
-pub mod Joined
-pub mod Agree
-pub mod Listed
-pub mod Certificate
-pub mod Assigned
-pub mod Told
-pub mod Further
-pub mod Reordered
-pub mod Kept
-pub mod ByKind
+pub mod AgreeingRows
+pub mod ListedTerms
+pub mod MetricAnswers
+pub mod RowOrder
+pub mod SolvedSystems
 pub mod Fronts
+pub mod inner

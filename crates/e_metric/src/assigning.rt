@@ -13,14 +13,14 @@ ghost use Rattle.e_clause.specs.Laws.{is_good_wanted};
 ghost use Rattle.e_clause.specs.System.{rows_of_system};
 ghost use Rattle.e_clause.specs.Counterexample.{are_in_order, ListsCounterexample};
 ghost use Rattle.e_simplex.specs.Answer;
-ghost use Rattle.e_metric.specs.Assigned.{values_of, step_value};
+ghost use Rattle.e_metric.specs.inner.AssignedValues.{values_of, step_value};
 
+use crate::by_kind::ByKind;
 use e_facts::Facts;
-use e_literal::compare::{canonical, is_degenerate};
-use e_literal::{Atom, Lit, Mono, Term, Values};
+use e_literal::{Atom, Lit, Mono, Term, Values, canonical, is_degenerate};
 use std::alloc::{AllocError, Global};
 
-// Puts terms into their order, and drops those that stand there again.
+// Puts terms into their order, and drops those that are there again.
 fn put_in_order(terms: &mut Vec<Term>)
     ensures in_order { IsTrue (are_in_order terms.new.items) }
     ensures same { (t : Term) → is_among terms.new.items t ≡ is_among terms.old.items t }
@@ -101,33 +101,27 @@ pub fn assigned(pairs: &[(Term, u128)], term: Term) -> u128
 }
 
 // The value of a term of the step.
-fn value(segments: &Values, angles: &Values, areas: &Values, term: Term) -> u128
-    ensures { result ≡ step_value segments.now angles.now areas.now term }
+fn value(values: &ByKind<Values>, term: Term) -> u128
+    ensures { result ≡ step_value values.now term }
 {
     if is_degenerate(term) {
         return 0;
     }
-    let values = match term {
-        Term::Seg(_, _) => segments,
-        Term::Ang(_, _, _) | Term::Right => angles,
-        Term::Area(_, _, _) => areas,
+    let of_kind = match term {
+        Term::Seg(_, _) => &values.segments,
+        Term::Ang(_, _, _) | Term::Right => &values.angles,
+        Term::Area(_, _, _) => &values.areas,
     };
-    assigned(values.items(), canonical(term))
+    assigned(of_kind.items(), canonical(term))
 }
 
 // The terms with their values.
-fn with_values(
-    alloc: Global,
-    terms: &[Term],
-    segments: &Values,
-    angles: &Values,
-    areas: &Values,
-) -> Result<Values, AllocError>
-    ensures { IfOk result (λ v. v ≡ map (λ t. (t, step_value segments.now angles.now areas.now t)) terms.now) }
+fn with_values(alloc: Global, terms: &[Term], values: &ByKind<Values>) -> Result<Values, AllocError>
+    ensures { IfOk result (λ v. v ≡ map (λ t. (t, step_value values.now t)) terms.now) }
 {
     let mut pairs = Vec::new(alloc);
     for term in terms {
-        pairs.push((*term, value(segments, angles, areas, *term)))?;
+        pairs.push((*term, value(values, *term)))?;
     }
     Ok(Values::new(pairs))
 }
@@ -137,16 +131,14 @@ pub fn counterexample(
     alloc: Global,
     facts: &Facts,
     wanted: Option<&Lit>,
-    segments: &Values,
-    angles: &Values,
-    areas: &Values,
+    values: &ByKind<Values>,
 ) -> Result<Values, AllocError>
     requires facts { IsTrue (list_all is_well_formed facts.now) }
     requires wanted { IsTrue (is_good_wanted (option_copied wanted)) }
-    requires solved { (which : Kind) → Satisfy (values_of segments.now angles.now areas.now which) (rows_of_system which facts.now (option_copied wanted)) }
+    requires solved { (which : Kind) → Satisfy (values_of values.now which) (rows_of_system which facts.now (option_copied wanted)) }
     ensures { IfOk result (ListsCounterexample facts.now (option_copied wanted.entry)) }
 {
     let terms = step_terms(alloc, facts, wanted)?;
-    let values = with_values(alloc, &terms, segments, angles, areas)?;
-    Ok(values)
+    let listed = with_values(alloc, &terms, values)?;
+    Ok(listed)
 }

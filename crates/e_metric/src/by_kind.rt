@@ -1,7 +1,7 @@
 // One thing for each kind of magnitude.
 
 ghost use Rattle.std.specs.Prelude.{◌≡◌};
-ghost use Rattle.e_metric.specs.ByKind.{at_kind};
+ghost use Rattle.e_metric.specs.inner.ByKind.{at_kind};
 
 use e_literal::Kind;
 

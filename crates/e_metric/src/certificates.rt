@@ -7,14 +7,13 @@ ghost use Rattle.e_fraction.specs.Views.{weighed, all_seen};
 ghost use Rattle.e_simplex.specs.Answer.{IsAbsurdity};
 ghost use Rattle.e_clause.specs.declared.cert.RowName.TheVariants as name;
 ghost use Rattle.e_clause.specs.declared.cert.Sums.TheVariants.{Two as TwoSums};
-ghost use Rattle.e_metric.specs.Certificate;
-ghost use Rattle.e_metric.specs.Certificate.{leasts, IsWeighable};
+ghost use Rattle.e_metric.specs.inner.Certificate;
+ghost use Rattle.e_metric.specs.inner.Certificate.{leasts, IsWeighable};
 
+use crate::solved_system::copied_row;
 use e_clause::{MetricCert, RowName, Sum, Sums};
-use e_fraction::Row;
-use e_fraction::sum::total;
-use e_literal::compare::canonical;
-use e_literal::{Term, copy};
+use e_fraction::{Row, total};
+use e_literal::{Term, canonical, copy};
 use e_simplex::Absurdity;
 use std::alloc::{AllocError, Global};
 use std::mem;
@@ -66,8 +65,40 @@ fn kept(
     Ok(sum)
 }
 
+// Adds a row and its weight, unless the weight is 0.
+fn use_row(
+    rows: &mut Vec<Row>,
+    weights: &mut Vec<i128>,
+    alloc: Global,
+    row: &Row,
+    weight: i128,
+) -> Result<(), AllocError>
+    ensures { OnOk result (
+        (rows.new.items ≡ rows.old.items ++ Certificate.used_rows (row.now ∷ []) (weight ∷ []))
+        × (weights.new.items ≡ weights.old.items ++ Certificate.used_weights (row.now ∷ []) (weight ∷ []))) }
+{
+    if weight != 0 {
+        rows.push(copied_row(alloc, row)?)?;
+        weights.push(weight)?;
+    }
+    Ok(())
+}
+
+// The rows whose weight is not 0, and these weights: mostly few of many, and only these count for what is left of a term.
+fn used(alloc: Global, rows: &[Row], weights: &[i128]) -> Result<(Vec<Row>, Vec<i128>), AllocError>
+    requires { length weights.now ≡ length rows.now }
+    ensures { IfOk result (λ u. (u.0.items ≡ Certificate.used_rows rows.now weights.now) × (u.1.items ≡ Certificate.used_weights rows.now weights.now)) }
+{
+    let mut used = Vec::new(alloc);
+    let mut by = Vec::new(alloc);
+    for i in 0..rows.len() {
+        use_row(&mut used, &mut by, alloc, &rows[i], weights[i])?;
+    }
+    Ok((used, by))
+}
+
 // Where less than nothing is left of a term, adds as many times the row that says that it is at least 0.
-fn add_leasts(
+fn add_leasts_of(
     sum: &mut Vec<(i128, RowName)>,
     rows: &[Row],
     weights: &[i128],
@@ -85,6 +116,21 @@ fn add_leasts(
     Ok(())
 }
 
+// The same, by the rows that count.
+fn add_leasts(
+    sum: &mut Vec<(i128, RowName)>,
+    alloc: Global,
+    rows: &[Row],
+    weights: &[i128],
+    terms: &[Term],
+) -> Result<(), AllocError>
+    requires { IsWeighable rows.now weights.now }
+    ensures { OnOk result (sum.new.items ≡ sum.old.items ++ leasts (Absurd.total (weighed rows.now weights.now)) terms.now) }
+{
+    let (used, by) = used(alloc, rows, weights)?;
+    add_leasts_of(sum, &used, &by, terms)
+}
+
 // The sum of the rows with these multipliers, and of what brings each term to 0, where it is weighed by these weights.
 fn sum_of(
     alloc: Global,
@@ -99,15 +145,15 @@ fn sum_of(
     ensures { IfOk result (λ s. s ≡ Certificate.sum_of names.now rows.now multipliers.now weights.now terms.now) }
 {
     let mut sum = kept(alloc, names, multipliers)?;
-    add_leasts(&mut sum, rows, weights, terms)?;
+    add_leasts(&mut sum, alloc, rows, weights, terms)?;
     Ok(Sum::new(sum))
 }
 
-// The multipliers, with the one at the place turned round.
-fn turned(alloc: Global, multipliers: &[i128], place: usize) -> Result<Vec<i128>, AllocError>
+// The multipliers, with the one at the place negated.
+fn negated_at(alloc: Global, multipliers: &[i128], place: usize) -> Result<Vec<i128>, AllocError>
     requires here { place < length multipliers.now }
     requires small { unsigned_abs (get_or multipliers.now place (pos 0)) ≤ 2 ^ 80 }
-    ensures { IfOk result (λ v. v.items ≡ Certificate.turned multipliers.now place) }
+    ensures { IfOk result (λ v. v.items ≡ Certificate.negated_at multipliers.now place) }
 {
     let mut weights = Vec::from_slice(alloc, multipliers)?;
     weights[place] = -multipliers[place];
@@ -138,10 +184,10 @@ fn two_sums(
     requires below_length { length below.now ≡ length names.items }
     requires below_small { unsigned_abs (get_or below.now row (pos 0)) ≤ 2 ^ 80 }
     requires first { IsWeighable rows.now above.now }
-    requires second { IsWeighable rows.now (Certificate.turned below.now row) }
-    ensures { IfOk result (λ s. s ≡ TwoSums (get_or names.items row name.Goal) (Certificate.sum_of (set names.items row name.Above) rows.now above.now above.now terms.now) (Certificate.sum_of (set names.items row name.Below) rows.now below.now (Certificate.turned below.now row) terms.now)) }
+    requires second { IsWeighable rows.now (Certificate.negated_at below.now row) }
+    ensures { IfOk result (λ s. s ≡ TwoSums (get_or names.items row name.Goal) (Certificate.sum_of (set names.items row name.Above) rows.now above.now above.now terms.now) (Certificate.sum_of (set names.items row name.Below) rows.now below.now (Certificate.negated_at below.now row) terms.now)) }
 {
-    let weights = turned(alloc, below, row)?;
+    let weights = negated_at(alloc, below, row)?;
     let differs = name_row(&mut names, row, RowName::Above);
     let above = match sum_of(alloc, &names, rows, above, above, terms) {
         Ok(above) => above,

@@ -9,9 +9,9 @@ ghost use Rattle.e_clause.specs.Laws.{is_good_wanted};
 ghost use Rattle.e_fraction.specs.Limits.{all_small};
 ghost use Rattle.e_fraction.specs.Views.{all_seen};
 ghost use Rattle.e_simplex.specs.Answer.{IsAbsurdity};
-ghost use Rattle.e_metric.specs.Certificate;
-ghost use Rattle.e_metric.specs.Listed.{listed};
-ghost use Rattle.e_metric.specs.Told.{IsTold, IsToldOf, IsYes, IfYes, IfNo};
+ghost use Rattle.e_metric.specs.inner.Certificate;
+ghost use Rattle.e_metric.specs.ListedTerms.{listed};
+ghost use Rattle.e_metric.specs.MetricAnswers.{IsMetricAnswer, IsKindAnswer, IsYes, IfYes, IfNo};
 
 use crate::assigning::counterexample;
 use crate::by_kind::ByKind;
@@ -26,7 +26,7 @@ use e_simplex::{Absurdity, Verdict, decide, width};
 use std::alloc::{AllocError, Global};
 use std::mem;
 
-/// What is told of a metric literal, or of the facts alone.
+/// The answer on a metric literal, or of the facts alone.
 #[derive(Drop)]
 pub enum Metric {
     /// The literal follows from the facts, or the facts contradict each other, by this certificate.
@@ -61,7 +61,7 @@ pub fn summed_terms(
     facts: &Facts,
     wanted: Option<&Lit>,
 ) -> Result<Vec<Term>, AllocError>
-    ensures { IfOk result (λ v. v.items ≡ listed (Rattle.e_metric.specs.Listed.terms_of_kind which facts.now (option_copied wanted.entry)) (Term.Right ∷ [])) }
+    ensures { IfOk result (λ v. v.items ≡ listed (Rattle.e_metric.specs.ListedTerms.terms_of_kind which facts.now (option_copied wanted.entry)) (Term.Right ∷ [])) }
 {
     let mut terms = terms_of_kind(alloc, which, facts, wanted)?;
     if !has_term(&terms, Term::Right) {
@@ -84,15 +84,15 @@ pub fn certificate_of(
     requires few { length rows.now ≤ 4096 }
     requires coefficients { IsTrue (all_small rows.now) }
     requires refuted { IsAbsurdity (all_seen rows.now) absurdity.now }
-    ensures { IfOk result (λ m. m.sums ≡ Certificate.sums_of names.items rows.now (listed (Rattle.e_metric.specs.Listed.terms_of_kind which facts.now (option_copied wanted.entry)) (Term.Right ∷ [])) absurdity.now) }
+    ensures { IfOk result (λ m. m.sums ≡ Certificate.sums_of names.items rows.now (listed (Rattle.e_metric.specs.ListedTerms.terms_of_kind which facts.now (option_copied wanted.entry)) (Term.Right ∷ [])) absurdity.now) }
 {
     let terms = summed_terms(alloc, which, facts, wanted)?;
     let sums = sums_of(alloc, names, rows, &terms, absurdity)?;
     Ok(MetricCert { sums })
 }
 
-/// What the system of one kind tells.
-pub fn told_of(
+/// The answer of the system of one kind.
+pub fn answer_of_kind(
     alloc: Global,
     which: Kind,
     facts: &Facts,
@@ -101,7 +101,7 @@ pub fn told_of(
     requires facts { IsTrue (list_all is_well_formed facts.now) }
     requires few { length (terms_of_lits facts.now) ≤ 1100 }
     requires wanted { IsTrue (is_good_wanted (option_copied wanted)) }
-    ensures { IfOk result (IsToldOf which facts.now (option_copied wanted.entry)) }
+    ensures { IfOk result (IsKindAnswer which facts.now (option_copied wanted.entry)) }
 {
     let named = system(alloc, which, facts, wanted)?;
     let (names, rows) = split(alloc, named)?;
@@ -116,8 +116,8 @@ pub fn told_of(
     }
 }
 
-// What the systems of two kinds tell.
-fn told_of_both(
+// The answer of the systems of two kinds.
+fn answers_of_both(
     alloc: Global,
     one: Kind,
     other: Kind,
@@ -127,11 +127,11 @@ fn told_of_both(
     requires facts { IsTrue (list_all is_well_formed facts.now) }
     requires few { length (terms_of_lits facts.now) ≤ 1100 }
     requires wanted { IsTrue (is_good_wanted (option_copied wanted)) }
-    ensures one { IfOk result (λ p. IsToldOf one facts.now (option_copied wanted.entry) p.0) }
-    ensures other { IfOk result (λ p. IsToldOf other facts.now (option_copied wanted.entry) p.1) }
+    ensures one { IfOk result (λ p. IsKindAnswer one facts.now (option_copied wanted.entry) p.0) }
+    ensures other { IfOk result (λ p. IsKindAnswer other facts.now (option_copied wanted.entry) p.1) }
 {
-    let first = told_of(alloc, one, facts, wanted)?;
-    match told_of(alloc, other, facts, wanted) {
+    let first = answer_of_kind(alloc, one, facts, wanted)?;
+    match answer_of_kind(alloc, other, facts, wanted) {
         Ok(second) => Ok((first, second)),
         Err(error) => {
             mem::drop(first);
@@ -140,53 +140,53 @@ fn told_of_both(
     }
 }
 
-// What the systems of all kinds tell, where that of `which` is already told.
-fn told_from(
+// The answer of the systems of all kinds, where that of `which` is already there.
+fn answers_by_kind(
     alloc: Global,
     which: Kind,
-    own: Metric,
+    own_answer: Metric,
     facts: &Facts,
     wanted: Option<&Lit>,
 ) -> Result<ByKind<Metric>, AllocError>
     requires facts { IsTrue (list_all is_well_formed facts.now) }
     requires few { length (terms_of_lits facts.now) ≤ 1100 }
     requires wanted { IsTrue (is_good_wanted (option_copied wanted)) }
-    requires own { IsToldOf which facts.now (option_copied wanted) own }
-    ensures segments { IfOk result (λ b. IsToldOf Kind.Segment facts.now (option_copied wanted.entry) b.segments) }
-    ensures angles { IfOk result (λ b. IsToldOf Kind.Angle facts.now (option_copied wanted.entry) b.angles) }
-    ensures areas { IfOk result (λ b. IsToldOf Kind.Area facts.now (option_copied wanted.entry) b.areas) }
+    requires own_answer { IsKindAnswer which facts.now (option_copied wanted) own_answer }
+    ensures segments { IfOk result (λ b. IsKindAnswer Kind.Segment facts.now (option_copied wanted.entry) b.segments) }
+    ensures angles { IfOk result (λ b. IsKindAnswer Kind.Angle facts.now (option_copied wanted.entry) b.angles) }
+    ensures areas { IfOk result (λ b. IsKindAnswer Kind.Area facts.now (option_copied wanted.entry) b.areas) }
 {
     match which {
-        Kind::Segment => match told_of_both(alloc, Kind::Angle, Kind::Area, facts, wanted) {
+        Kind::Segment => match answers_of_both(alloc, Kind::Angle, Kind::Area, facts, wanted) {
             Ok((angles, areas)) => Ok(ByKind {
-                segments: own,
+                segments: own_answer,
                 angles,
                 areas,
             }),
             Err(error) => {
-                mem::drop(own);
+                mem::drop(own_answer);
                 Err(error)
             }
         },
-        Kind::Angle => match told_of_both(alloc, Kind::Segment, Kind::Area, facts, wanted) {
+        Kind::Angle => match answers_of_both(alloc, Kind::Segment, Kind::Area, facts, wanted) {
             Ok((segments, areas)) => Ok(ByKind {
                 segments,
-                angles: own,
+                angles: own_answer,
                 areas,
             }),
             Err(error) => {
-                mem::drop(own);
+                mem::drop(own_answer);
                 Err(error)
             }
         },
-        Kind::Area => match told_of_both(alloc, Kind::Segment, Kind::Angle, facts, wanted) {
+        Kind::Area => match answers_of_both(alloc, Kind::Segment, Kind::Angle, facts, wanted) {
             Ok((segments, angles)) => Ok(ByKind {
                 segments,
                 angles,
-                areas: own,
+                areas: own_answer,
             }),
             Err(error) => {
-                mem::drop(own);
+                mem::drop(own_answer);
                 Err(error)
             }
         },
@@ -194,7 +194,7 @@ fn told_from(
 }
 
 // The second, if it is a certificate, or else the first.
-fn sooner(first: Metric, second: Metric) -> Metric
+fn prefer_certificate(first: Metric, second: Metric) -> Metric
     ensures { (result ≡ first) ⊎ (IsYes second × (result ≡ second)) }
 {
     match second {
@@ -206,39 +206,47 @@ fn sooner(first: Metric, second: Metric) -> Metric
     }
 }
 
-/// What the systems of all kinds tell together.
-pub fn joined(
+/// The answer of the systems of all kinds together.
+pub fn joined_answer(
     alloc: Global,
     facts: &Facts,
     wanted: Option<&Lit>,
-    segments: Metric,
-    angles: Metric,
-    areas: Metric,
+    answer: ByKind<Metric>,
 ) -> Result<Metric, AllocError>
     requires facts { IsTrue (list_all is_well_formed facts.now) }
     requires wanted { IsTrue (is_good_wanted (option_copied wanted)) }
-    requires segments { IsToldOf Kind.Segment facts.now (option_copied wanted) segments }
-    requires angles { IsToldOf Kind.Angle facts.now (option_copied wanted) angles }
-    requires areas { IsToldOf Kind.Area facts.now (option_copied wanted) areas }
-    ensures { IfOk result (IsTold facts.now (option_copied wanted.entry)) }
+    requires segments { IsKindAnswer Kind.Segment facts.now (option_copied wanted) answer.segments }
+    requires angles { IsKindAnswer Kind.Angle facts.now (option_copied wanted) answer.angles }
+    requires areas { IsKindAnswer Kind.Area facts.now (option_copied wanted) answer.areas }
+    ensures { IfOk result (IsMetricAnswer facts.now (option_copied wanted.entry)) }
 {
+    let ByKind {
+        segments,
+        angles,
+        areas,
+    } = answer;
     match segments {
         Metric::No(segments) => match angles {
             Metric::No(angles) => match areas {
                 Metric::No(areas) => {
-                    let values = counterexample(alloc, facts, wanted, &segments, &angles, &areas)?;
+                    let solutions = ByKind {
+                        segments,
+                        angles,
+                        areas,
+                    };
+                    let values = counterexample(alloc, facts, wanted, &solutions)?;
                     Ok(Metric::No(values))
                 }
                 other => Ok(other),
             },
-            other => Ok(sooner(other, areas)),
+            other => Ok(prefer_certificate(other, areas)),
         },
-        other => Ok(sooner(sooner(other, angles), areas)),
+        other => Ok(prefer_certificate(prefer_certificate(other, angles), areas)),
     }
 }
 
-// What the three systems of the facts and of the wanted literal tell, that of a kind first.
-fn told(
+// The answer of the three systems of the facts and of the wanted literal, that of a kind first.
+fn answer(
     alloc: Global,
     which: Kind,
     facts: &Facts,
@@ -247,17 +255,13 @@ fn told(
     requires facts { IsTrue (list_all is_well_formed facts.now) }
     requires few { length (terms_of_lits facts.now) ≤ 1100 }
     requires wanted { IsTrue (is_good_wanted (option_copied wanted)) }
-    ensures { IfOk result (IsTold facts.now (option_copied wanted.entry)) }
+    ensures { IfOk result (IsMetricAnswer facts.now (option_copied wanted.entry)) }
 {
-    match told_of(alloc, which, facts, wanted)? {
+    match answer_of_kind(alloc, which, facts, wanted)? {
         Metric::Yes(cert) => Ok(Metric::Yes(cert)),
-        own => {
-            let ByKind {
-                segments,
-                angles,
-                areas,
-            } = told_from(alloc, which, own, facts, wanted)?;
-            joined(alloc, facts, wanted, segments, angles, areas)
+        own_answer => {
+            let answer = answers_by_kind(alloc, which, own_answer, facts, wanted)?;
+            joined_answer(alloc, facts, wanted, answer)
         }
     }
 }
@@ -276,12 +280,12 @@ pub fn follows(alloc: Global, facts: &Facts, goal: &Lit) -> Result<Metric, Alloc
     requires facts { IsTrue (list_all is_well_formed facts.now) }
     requires few { length (terms_of_lits facts.now) ≤ 1100 }
     requires goal { IsTrue (is_good_wanted (Some goal.now)) }
-    ensures told { IfOk result (IsTold facts.now (Some goal.now)) }
+    ensures answer { IfOk result (IsMetricAnswer facts.now (Some goal.now)) }
     ensures yes { IfOk result (λ m. IfYes m (MetricConsequence facts.now goal.now)) }
     ensures no { IfOk result (λ m. IfNo m (¬ MetricConsequence facts.now goal.now)) }
 {
     let which = kind(goal).unwrap_or(Kind::Segment);
-    told(alloc, which, facts, Some(goal))
+    answer(alloc, which, facts, Some(goal))
 }
 
 /// Whether the metric facts contradict each other: whether no admissible assignment makes them all true. The answers
@@ -289,9 +293,9 @@ pub fn follows(alloc: Global, facts: &Facts, goal: &Lit) -> Result<Metric, Alloc
 pub fn absurd(alloc: Global, facts: &Facts) -> Result<Metric, AllocError>
     requires facts { IsTrue (list_all is_well_formed facts.now) }
     requires few { length (terms_of_lits facts.now) ≤ 1100 }
-    ensures told { IfOk result (IsTold facts.now None) }
+    ensures answer { IfOk result (IsMetricAnswer facts.now None) }
     ensures yes { IfOk result (λ m. IfYes m (Unsatisfiable facts.now)) }
     ensures no { IfOk result (λ m. IfNo m (¬ Unsatisfiable facts.now)) }
 {
-    told(alloc, Kind::Segment, facts, None)
+    answer(alloc, Kind::Segment, facts, None)
 }

@@ -5,14 +5,13 @@ ghost use Rattle.e_literal.specs.Solution;
 ghost use Rattle.e_literal.specs.Solution.{IsSo, Satisfy};
 ghost use Rattle.e_fraction.specs.Views.{says_of, all_seen};
 ghost use Rattle.e_simplex.specs.Answer;
-ghost use Rattle.e_metric.specs.Further;
+ghost use Rattle.e_metric.specs.inner.FurtherRows;
 
 use crate::assigning::assigned;
 use crate::systems::are_apart;
 use e_facts::Facts;
 use e_fraction::{Row, RowKind};
-use e_literal::compare::canonical;
-use e_literal::{Term, Values};
+use e_literal::{Term, Values, canonical};
 use std::alloc::{AllocError, Global};
 
 // The value of a form, unless a number is too large.
@@ -59,7 +58,7 @@ pub fn are_so(values: &[(Term, u128)], rows: &[Row]) -> bool
 
 // A value that a term may have of which no fact speaks: 1 where it is a segment whose ends differ, and else 0.
 fn default_value(facts: &Facts, term: Term) -> u128
-    ensures { result ≡ Further.default_value facts.now term }
+    ensures { result ≡ FurtherRows.default_value facts.now term }
 {
     match term {
         Term::Seg(a, b) => u128::from(are_apart(facts, a, b)),
@@ -74,7 +73,7 @@ pub fn extended(
     values: &[(Term, u128)],
     fresh: &[Term],
 ) -> Result<Values, AllocError>
-    ensures { IfOk result (λ v. v ≡ Further.extended facts.now values.now fresh.now) }
+    ensures { IfOk result (λ v. v ≡ FurtherRows.extended facts.now values.now fresh.now) }
 {
     let mut pairs = Vec::from_slice(alloc, values)?;
     for term in fresh {

@@ -1,12 +1,11 @@
-// The difference of two sums, in which each term stands once.
+// The difference of two sums, in which each term occurs once.
 
 ghost use Rattle.std.specs.Prelude.{◌≡◌, ◌+◌, ◌<◌, ◌≤◌, ◌^◌, length, pos, OnOk, IfOk};
 ghost use Rattle.e_literal.specs.Same.{one_term, coeff_of};
-ghost use Rattle.e_metric.specs.Joined.{with_term, with_terms};
+ghost use Rattle.e_metric.specs.inner.Differences.{with_term, with_terms};
 
-use e_fraction::signed::stands_in;
-use e_literal::compare::{canonical, is_degenerate};
-use e_literal::{Mono, Term};
+use e_fraction::stands_in;
+use e_literal::{Mono, Term, canonical, is_degenerate};
 use std::alloc::{AllocError, Global};
 
 /// Whether two terms are one.
@@ -34,12 +33,12 @@ fn coefficient(sum: &[Mono], term: Term) -> i64
 // The coefficient of a term in the difference.
 fn difference(x: &[Mono], y: &[Mono], term: Term) -> i64
     requires { length x.now + length y.now ≤ 32 }
-    ensures { result ≡ Rattle.e_metric.specs.Joined.difference x.now y.now term }
+    ensures { result ≡ Rattle.e_metric.specs.inner.Differences.difference x.now y.now term }
 {
     coefficient(x, term) - coefficient(y, term)
 }
 
-// Puts the term with its coefficient in x - y last, unless it is 0 in itself, stands there or cancels.
+// Puts the term with its coefficient in x - y last, unless it is 0 in itself, is there or cancels.
 fn add_term(
     form: &mut Vec<(i64, Term)>,
     x: &[Mono],
@@ -59,7 +58,7 @@ fn add_term(
     Ok(())
 }
 
-// Puts the terms of a sum last in which they do not stand.
+// Puts the terms of a sum last in which they do not occur.
 fn add_terms(
     form: &mut Vec<(i64, Term)>,
     x: &[Mono],
@@ -75,10 +74,10 @@ fn add_terms(
     Ok(())
 }
 
-/// The summands of x - y, each term once, where it stands first.
+/// The summands of x - y, each term once, where it occurs first.
 pub fn joined(alloc: Global, x: &[Mono], y: &[Mono]) -> Result<Vec<(i64, Term)>, AllocError>
     requires { length x.now + length y.now ≤ 32 }
-    ensures { IfOk result (λ v. v.items ≡ Rattle.e_metric.specs.Joined.joined x.now y.now) }
+    ensures { IfOk result (λ v. v.items ≡ Rattle.e_metric.specs.inner.Differences.joined x.now y.now) }
 {
     let mut form = Vec::new(alloc);
     add_terms(&mut form, x, y, x)?;

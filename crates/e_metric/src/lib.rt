@@ -2,23 +2,23 @@
 //! follows from them, and why, or values of the terms that show that it does not.
 #![tactic(auto)]
 
-pub mod assigning;
-pub mod by_kind;
-pub mod certificates;
-pub mod consequence;
-pub mod evaluating;
-pub mod ground;
-pub mod joining;
-pub mod known;
-pub mod limits;
-pub mod listing;
-pub mod literals;
-pub mod metric_facts;
-pub mod side;
-pub mod systems;
+mod assigning;
+mod by_kind;
+mod certificates;
+mod consequence;
+mod evaluating;
+mod joining;
+mod kind_system;
+mod limits;
+mod listing;
+mod literals;
+mod metric_facts;
+mod solved_system;
+mod step_facts;
+mod systems;
 
 pub use consequence::{Metric, absurd, follows};
-pub use known::Known;
-pub use limits::{are_few_facts, is_good_goal};
+pub use limits::{are_few_facts, is_good_goal, is_well_formed};
 pub use metric_facts::MetricFacts;
+pub use step_facts::StepFacts;
 pub use systems::system;

@@ -5,12 +5,11 @@ ghost use Rattle.e_literal.specs.Rows;
 ghost use Rattle.e_clause.specs.Assignment.{terms_of_atom, terms_of_lits};
 ghost use Rattle.e_clause.specs.System;
 ghost use Rattle.e_clause.specs.System.{of_kind};
-ghost use Rattle.e_metric.specs.Listed.{listed};
-ghost use Rattle.e_metric.specs.Further;
+ghost use Rattle.e_metric.specs.ListedTerms.{listed};
+ghost use Rattle.e_metric.specs.inner.FurtherRows;
 
 use e_facts::Facts;
-use e_literal::compare::canonical;
-use e_literal::{Atom, Kind, Lit, Mono, Term, kind};
+use e_literal::{Atom, Kind, Lit, Mono, Term, canonical, kind};
 use std::alloc::{AllocError, Global};
 
 /// Whether the literal is metric, and of this kind.
@@ -99,7 +98,7 @@ pub fn terms_of_kind(
     facts: &Facts,
     wanted: Option<&Lit>,
 ) -> Result<Vec<Term>, AllocError>
-    ensures { IfOk result (λ v. v.items ≡ Rattle.e_metric.specs.Listed.terms_of_kind which facts.now (option_copied wanted.entry)) }
+    ensures { IfOk result (λ v. v.items ≡ Rattle.e_metric.specs.ListedTerms.terms_of_kind which facts.now (option_copied wanted.entry)) }
 {
     let mut terms = terms_of_facts(alloc, which, facts)?;
     if let Some(lit) = wanted {
@@ -109,14 +108,14 @@ pub fn terms_of_kind(
 }
 
 /// The terms of a literal, if it is of the kind, that are none of these, each once.
-#[tactic(auto, using(crate::proofs::Further::as_long_one))]
+#[tactic(auto, using(crate::proofs::GoalRows::as_long_one))]
 pub fn fresh_terms(
     alloc: Global,
     which: Kind,
     terms: &[Term],
     lit: &Lit,
 ) -> Result<Vec<Term>, AllocError>
-    ensures { IfOk result (λ v. v.items ≡ Further.fresh_terms which terms.now (lit.now ∷ [])) }
+    ensures { IfOk result (λ v. v.items ≡ FurtherRows.fresh_terms which terms.now (lit.now ∷ [])) }
 {
     let mut all = Vec::from_slice(alloc, terms)?;
     add_literal(&mut all, which, lit)?;
@@ -125,7 +124,7 @@ pub fn fresh_terms(
 }
 
 /// The terms of the facts of the kind from a place on that are none of these, each once.
-#[tactic(auto, using(crate::proofs::Further::as_long))]
+#[tactic(auto, using(crate::proofs::GoalRows::as_long))]
 pub fn fresh_terms_of_facts(
     alloc: Global,
     which: Kind,
@@ -134,7 +133,7 @@ pub fn fresh_terms_of_facts(
     from: usize,
 ) -> Result<Vec<Term>, AllocError>
     requires { from ≤ length facts.now }
-    ensures { IfOk result (λ v. v.items ≡ Further.fresh_terms which terms.now (drop from facts.now)) }
+    ensures { IfOk result (λ v. v.items ≡ FurtherRows.fresh_terms which terms.now (drop from facts.now)) }
 {
     let mut all = Vec::from_slice(alloc, terms)?;
     add_facts(&mut all, which, facts, from)?;

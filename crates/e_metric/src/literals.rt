@@ -6,7 +6,7 @@ ghost use Rattle.e_literal.specs.declared.object.Term.{Term};
 ghost use Rattle.e_literal.specs.Rows.{coefficient, normal_summands, plus, minus, row_of_atom};
 ghost use Rattle.e_literal.specs.WellFormed.{is_good_atom, is_good_coefficient};
 ghost use Rattle.e_fraction.specs.Limits.{has_small_coefficients};
-ghost use Rattle.e_metric.specs.Agree.{has_no_zero, IsRowOrNone, IsLimitedOrNone};
+ghost use Rattle.e_metric.specs.AgreeingRows.{has_no_zero, IsRowOrNone, IsLimitedOrNone};
 
 use crate::joining::joined;
 use e_fraction::{Row, RowKind, Signed};

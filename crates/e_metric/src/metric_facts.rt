@@ -1,4 +1,4 @@
-// What the facts of a step tell of magnitudes, kind by kind, from as many of them as were asked about.
+// What is solved of the facts of a step, kind by kind, from as many of them as were asked about.
 
 ghost use Rattle.std.specs.Prelude.{◌≡◌, ◌≤◌, [], length, take, true, option_copied, IsTrue, IfOk, IfSome, MatchOption, List, Some, None};
 ghost use Rattle.std.specs.List.{list_all};
@@ -11,33 +11,33 @@ ghost use Rattle.e_clause.specs.Laws.{is_good_wanted};
 ghost use Rattle.e_clause.specs.Metric.{MetricConsequence, Unsatisfiable};
 ghost use Rattle.e_clause.specs.System.{of_kind, against_goal};
 ghost use Rattle.e_metric.specs.Fronts.{IsFront, IsFrontAs, AreFronts};
-ghost use Rattle.e_metric.specs.Kept.{IsSide};
-ghost use Rattle.e_metric.specs.Told.{IsCertified, IsTold, IsToldOf, IfYes, IfNo};
+ghost use Rattle.e_metric.specs.SolvedSystems.{IsKindSystem};
+ghost use Rattle.e_metric.specs.MetricAnswers.{IsCertified, IsMetricAnswer, IsKindAnswer, IfYes, IfNo};
 
 use crate::by_kind::ByKind;
-use crate::consequence::{Metric, joined, told_of};
-use crate::side::{Side, side_of};
+use crate::consequence::{Metric, answer_of_kind, joined_answer};
+use crate::kind_system::{KindSystem, solve_kind};
 use e_clause::MetricCert;
 use e_facts::Facts;
 use e_literal::{Kind, Lit, kind};
 use std::alloc::{AllocError, Global};
 use std::mem;
 
-/// What the first facts of a kind tell, as many as were there when it was asked; or nothing yet.
+/// What is solved of the first facts of a kind, as many as were there when it was asked; or nothing yet.
 #[derive(Drop)]
 pub struct Slot {
-    side: Option<Side>,
+    kind_system: Option<KindSystem>,
     upto: usize,
 }
 
 impl Slot {
     // Nothing is asked yet.
     fn new() -> Slot
-        ensures side { result.side ≡ None }
+        ensures kind_system { result.kind_system ≡ None }
         ensures upto { result.upto ≡ 0 }
     {
         Slot {
-            side: None,
+            kind_system: None,
             upto: 0,
         }
     }
@@ -49,23 +49,28 @@ impl Slot {
         self.upto == facts.len()
     }
 
-    // What all facts tell. None: what is there is that.
-    fn brought(&self, alloc: Global, which: Kind, facts: &Facts) -> Result<Option<Side>, AllocError>
+    // What is solved of all facts. None: what is there is that.
+    fn brought(
+        &self,
+        alloc: Global,
+        which: Kind,
+        facts: &Facts,
+    ) -> Result<Option<KindSystem>, AllocError>
         requires front { IsFront which facts.now self.now }
         requires facts { IsTrue (list_all is_well_formed facts.now) }
         requires few { length (terms_of_lits facts.now) ≤ 1100 }
-        ensures { IfOk result (λ o. MatchOption o (IfSome self.now.side (IsSide which facts.now)) (IsSide which facts.now)) }
+        ensures { IfOk result (λ o. MatchOption o (IfSome self.now.kind_system (IsKindSystem which facts.now)) (IsKindSystem which facts.now)) }
     {
-        match &self.side {
-            Some(side) => side.grown(alloc, which, facts, self.upto),
+        match &self.kind_system {
+            Some(kind_system) => kind_system.grown(alloc, which, facts, self.upto),
             None => {
-                let side = side_of(alloc, which, facts)?;
-                Ok(Some(side))
+                let kind_system = solve_kind(alloc, which, facts)?;
+                Ok(Some(kind_system))
             }
         }
     }
 
-    // Brings what is told up to all facts. No clause says that it does, since what is there is right in any case.
+    // Brings what is solved up to all facts. No clause says that it does, since what is there is right in any case.
     fn bring(&mut self, alloc: Global, which: Kind, facts: &Facts) -> Result<(), AllocError>
         requires front { IsFront which facts.now self.old }
         requires facts { IsTrue (list_all is_well_formed facts.now) }
@@ -77,8 +82,8 @@ impl Slot {
         }
         let count = facts.len();
         match self.brought(alloc, which, facts)? {
-            Some(side) => {
-                mem::drop(mem::replace(&mut self.side, Some(side)));
+            Some(kind_system) => {
+                mem::drop(mem::replace(&mut self.kind_system, Some(kind_system)));
                 self.upto = count;
                 Ok(())
             }
@@ -89,7 +94,7 @@ impl Slot {
         }
     }
 
-    // What is told where a literal of this kind is wanted.
+    // The answer where a literal of this kind is wanted.
     fn ask(
         &self,
         alloc: Global,
@@ -101,18 +106,18 @@ impl Slot {
         requires facts { IsTrue (list_all is_well_formed facts.now) }
         requires few { length (terms_of_lits facts.now) ≤ 1100 }
         requires goal { IsTrue (is_good_wanted (Some goal.now)) }
-        ensures { IfOk result (IsToldOf which facts.now (Some goal.now)) }
+        ensures { IfOk result (IsKindAnswer which facts.now (Some goal.now)) }
     {
         if self.is_whole(facts) {
-            if let Some(side) = &self.side {
-                return side.ask(alloc, which, facts, goal);
+            if let Some(kind_system) = &self.kind_system {
+                return kind_system.ask(alloc, which, facts, goal);
             }
         }
-        told_of(alloc, which, facts, Some(goal))
+        answer_of_kind(alloc, which, facts, Some(goal))
     }
 
-    // What is told where no literal of this kind is wanted.
-    fn beside(
+    // The answer where no literal of this kind is wanted.
+    fn answer_alone(
         &self,
         alloc: Global,
         which: Kind,
@@ -124,14 +129,14 @@ impl Slot {
         requires few { length (terms_of_lits facts.now) ≤ 1100 }
         requires wanted { IsTrue (is_good_wanted (option_copied wanted)) }
         requires other { of_kind which (against_goal (option_copied wanted)) ≡ [] }
-        ensures { IfOk result (IsToldOf which facts.now (option_copied wanted.entry)) }
+        ensures { IfOk result (IsKindAnswer which facts.now (option_copied wanted.entry)) }
     {
         if self.is_whole(facts) {
-            if let Some(side) = &self.side {
-                return side.beside(alloc);
+            if let Some(kind_system) = &self.kind_system {
+                return kind_system.answer_alone(alloc);
             }
         }
-        told_of(alloc, which, facts, wanted)
+        answer_of_kind(alloc, which, facts, wanted)
     }
 
     // The certificate that all facts of the kind contradict each other, where it is there.
@@ -146,8 +151,8 @@ impl Slot {
     {
         let _ = which;
         if self.is_whole(facts) {
-            if let Some(side) = &self.side {
-                return side.contradiction(alloc);
+            if let Some(kind_system) = &self.kind_system {
+                return kind_system.contradiction(alloc);
             }
         }
         Ok(None)
@@ -157,16 +162,16 @@ impl Slot {
     fn copied(&self, alloc: Global) -> Result<Slot, AllocError>
         ensures { IfOk result (IsFrontAs self.now) }
     {
-        match &self.side {
-            Some(side) => {
-                let side = side.copied(alloc)?;
+        match &self.kind_system {
+            Some(kind_system) => {
+                let kind_system = kind_system.copied(alloc)?;
                 Ok(Slot {
-                    side: Some(side),
+                    kind_system: Some(kind_system),
                     upto: self.upto,
                 })
             }
             None => Ok(Slot {
-                side: None,
+                kind_system: None,
                 upto: self.upto,
             }),
         }
@@ -179,24 +184,24 @@ impl Slot {
         self.upto <= count
     }
 
-    // Forgets what more than the first facts tell.
+    // Forgets what is solved of more than the first facts.
     fn back_to(&mut self, count: usize)
         ensures { (which : Kind) (facts : List Lit) → count ≤ length facts → IsFront which facts self.old → IsFront which (take count facts) self.new }
     {
         if self.is_within(count) {
             return;
         }
-        mem::drop(mem::replace(&mut self.side, None));
+        mem::drop(mem::replace(&mut self.kind_system, None));
         self.upto = 0;
     }
 }
 
-/// What the facts of a step tell of magnitudes. Each kind is solved where it is first asked, and brought up to the facts
+/// What is solved of the facts of a step. Each kind is solved where it is first asked, and brought up to the facts
 /// that have come since where it is asked again. What a refused call leaves is right for the same facts, and so is what
 /// facts leave that come later.
 #[derive(Drop)]
 pub struct MetricFacts {
-    sides: ByKind<Slot>,
+    systems: ByKind<Slot>,
 }
 
 impl MetricFacts {
@@ -205,7 +210,7 @@ impl MetricFacts {
         ensures { (facts : List Lit) → AreFronts facts result }
     {
         MetricFacts {
-            sides: ByKind {
+            systems: ByKind {
                 segments: Slot::new(),
                 angles: Slot::new(),
                 areas: Slot::new(),
@@ -213,23 +218,23 @@ impl MetricFacts {
         }
     }
 
-    /// What the facts of each kind tell.
+    /// What is solved of the facts of each kind.
     pub fn of(alloc: Global, facts: &Facts) -> Result<MetricFacts, AllocError>
         requires facts { IsTrue (list_all is_well_formed facts.now) }
         requires few { length (terms_of_lits facts.now) ≤ 1100 }
         ensures { IfOk result (AreFronts facts.now) }
     {
-        let mut told = MetricFacts::new();
-        match told.bring_all(alloc, facts) {
-            Ok(()) => Ok(told),
+        let mut metric_facts = MetricFacts::new();
+        match metric_facts.bring_all(alloc, facts) {
+            Ok(()) => Ok(metric_facts),
             Err(error) => {
-                mem::drop(told);
+                mem::drop(metric_facts);
                 Err(error)
             }
         }
     }
 
-    /// Brings what one kind tells up to all facts. It fails only out of memory.
+    /// Brings what is solved of one kind up to all facts. It fails only out of memory.
     pub fn bring(&mut self, alloc: Global, which: Kind, facts: &Facts) -> Result<(), AllocError>
         requires fronts { AreFronts facts.now self.old }
         requires facts { IsTrue (list_all is_well_formed facts.now) }
@@ -237,13 +242,13 @@ impl MetricFacts {
         ensures { AreFronts facts.now self.new }
     {
         match which {
-            Kind::Segment => self.sides.segments.bring(alloc, Kind::Segment, facts),
-            Kind::Angle => self.sides.angles.bring(alloc, Kind::Angle, facts),
-            Kind::Area => self.sides.areas.bring(alloc, Kind::Area, facts),
+            Kind::Segment => self.systems.segments.bring(alloc, Kind::Segment, facts),
+            Kind::Angle => self.systems.angles.bring(alloc, Kind::Angle, facts),
+            Kind::Area => self.systems.areas.bring(alloc, Kind::Area, facts),
         }
     }
 
-    /// Brings what each kind tells up to all facts.
+    /// Brings what is solved of each kind up to all facts.
     pub fn bring_all(&mut self, alloc: Global, facts: &Facts) -> Result<(), AllocError>
         requires fronts { AreFronts facts.now self.old }
         requires facts { IsTrue (list_all is_well_formed facts.now) }
@@ -255,31 +260,31 @@ impl MetricFacts {
         self.bring(alloc, Kind::Area, facts)
     }
 
-    /// Forgets what more than the first `count` facts tell, where the others are taken away.
+    /// Forgets what is solved of more than the first `count` facts, where the others are taken away.
     pub fn back_to(&mut self, count: usize)
         ensures { (facts : List Lit) → count ≤ length facts → AreFronts facts self.old → AreFronts (take count facts) self.new }
     {
-        self.sides.segments.back_to(count);
-        self.sides.angles.back_to(count);
-        self.sides.areas.back_to(count);
+        self.systems.segments.back_to(count);
+        self.systems.angles.back_to(count);
+        self.systems.areas.back_to(count);
     }
 
-    /// The same of the same facts: where a block of a proof begins, so that what the facts before it tell is there again
+    /// The same of the same facts: where a block of a proof begins, so that what is solved of the facts before it is there again
     /// after it.
     pub fn copied(&self, alloc: Global) -> Result<MetricFacts, AllocError>
         ensures { IfOk result (λ m. (facts : List Lit) → AreFronts facts self.now → AreFronts facts m) }
     {
-        let segments = self.sides.segments.copied(alloc)?;
-        let angles = match self.sides.angles.copied(alloc) {
+        let segments = self.systems.segments.copied(alloc)?;
+        let angles = match self.systems.angles.copied(alloc) {
             Ok(angles) => angles,
             Err(error) => {
                 mem::drop(segments);
                 return Err(error);
             }
         };
-        match self.sides.areas.copied(alloc) {
+        match self.systems.areas.copied(alloc) {
             Ok(areas) => Ok(MetricFacts {
-                sides: ByKind {
+                systems: ByKind {
                     segments,
                     angles,
                     areas,
@@ -293,8 +298,8 @@ impl MetricFacts {
         }
     }
 
-    // What the system of the goal's kind tells.
-    fn own(
+    // The answer of the system of the goal's kind.
+    fn answer_for_kind(
         &self,
         alloc: Global,
         which: Kind,
@@ -305,13 +310,13 @@ impl MetricFacts {
         requires facts { IsTrue (list_all is_well_formed facts.now) }
         requires few { length (terms_of_lits facts.now) ≤ 1100 }
         requires goal { IsTrue (is_good_wanted (Some goal.now)) }
-        ensures { IfOk result (IsToldOf which facts.now (Some goal.now)) }
+        ensures { IfOk result (IsKindAnswer which facts.now (Some goal.now)) }
     {
-        self.sides.get(which).ask(alloc, which, facts, goal)
+        self.systems.get(which).ask(alloc, which, facts, goal)
     }
 
-    // What the facts of a kind tell of which no literal is wanted.
-    fn beside(
+    // The answer of the facts of a kind of which no literal is wanted.
+    fn answer_alone(
         &self,
         alloc: Global,
         which: Kind,
@@ -323,13 +328,15 @@ impl MetricFacts {
         requires few { length (terms_of_lits facts.now) ≤ 1100 }
         requires wanted { IsTrue (is_good_wanted (option_copied wanted)) }
         requires other { of_kind which (against_goal (option_copied wanted)) ≡ [] }
-        ensures { IfOk result (IsToldOf which facts.now (option_copied wanted.entry)) }
+        ensures { IfOk result (IsKindAnswer which facts.now (option_copied wanted.entry)) }
     {
-        self.sides.get(which).beside(alloc, which, facts, wanted)
+        self.systems
+            .get(which)
+            .answer_alone(alloc, which, facts, wanted)
     }
 
     // The same of two kinds.
-    fn both_beside(
+    fn both_alone(
         &self,
         alloc: Global,
         one: Kind,
@@ -343,11 +350,11 @@ impl MetricFacts {
         requires wanted { IsTrue (is_good_wanted (option_copied wanted)) }
         requires one { of_kind one (against_goal (option_copied wanted)) ≡ [] }
         requires other { of_kind other (against_goal (option_copied wanted)) ≡ [] }
-        ensures one { IfOk result (λ p. IsToldOf one facts.now (option_copied wanted.entry) p.0) }
-        ensures other { IfOk result (λ p. IsToldOf other facts.now (option_copied wanted.entry) p.1) }
+        ensures one { IfOk result (λ p. IsKindAnswer one facts.now (option_copied wanted.entry) p.0) }
+        ensures other { IfOk result (λ p. IsKindAnswer other facts.now (option_copied wanted.entry) p.1) }
     {
-        let first = self.beside(alloc, one, facts, wanted)?;
-        match self.beside(alloc, other, facts, wanted) {
+        let first = self.answer_alone(alloc, one, facts, wanted)?;
+        match self.answer_alone(alloc, other, facts, wanted) {
             Ok(second) => Ok((first, second)),
             Err(error) => {
                 mem::drop(first);
@@ -356,12 +363,12 @@ impl MetricFacts {
         }
     }
 
-    // What the systems of all kinds tell, where that of the goal's kind is told.
-    fn told_from(
+    // The answer of the systems of all kinds, where that of the goal's kind is there.
+    fn answers_by_kind(
         &self,
         alloc: Global,
         which: Kind,
-        own: Metric,
+        own_answer: Metric,
         facts: &Facts,
         goal: &Lit,
     ) -> Result<ByKind<Metric>, AllocError>
@@ -370,55 +377,55 @@ impl MetricFacts {
         requires few { length (terms_of_lits facts.now) ≤ 1100 }
         requires goal { IsTrue (is_good_wanted (Some goal.now)) }
         requires kind { kind_of_atom goal.now.atom ≡ Some which }
-        requires own { IsToldOf which facts.now (Some goal.now) own }
-        ensures segments { IfOk result (λ b. IsToldOf Kind.Segment facts.now (Some goal.now) b.segments) }
-        ensures angles { IfOk result (λ b. IsToldOf Kind.Angle facts.now (Some goal.now) b.angles) }
-        ensures areas { IfOk result (λ b. IsToldOf Kind.Area facts.now (Some goal.now) b.areas) }
+        requires own_answer { IsKindAnswer which facts.now (Some goal.now) own_answer }
+        ensures segments { IfOk result (λ b. IsKindAnswer Kind.Segment facts.now (Some goal.now) b.segments) }
+        ensures angles { IfOk result (λ b. IsKindAnswer Kind.Angle facts.now (Some goal.now) b.angles) }
+        ensures areas { IfOk result (λ b. IsKindAnswer Kind.Area facts.now (Some goal.now) b.areas) }
     {
         let wanted = Some(goal);
         match which {
-            Kind::Segment => match self.both_beside(alloc, Kind::Angle, Kind::Area, facts, wanted) {
+            Kind::Segment => match self.both_alone(alloc, Kind::Angle, Kind::Area, facts, wanted) {
                 Ok((angles, areas)) => Ok(ByKind {
-                    segments: own,
+                    segments: own_answer,
                     angles,
                     areas,
                 }),
                 Err(error) => {
-                    mem::drop(own);
+                    mem::drop(own_answer);
                     Err(error)
                 }
             },
-            Kind::Angle => match self.both_beside(alloc, Kind::Segment, Kind::Area, facts, wanted) {
+            Kind::Angle => match self.both_alone(alloc, Kind::Segment, Kind::Area, facts, wanted) {
                 Ok((segments, areas)) => Ok(ByKind {
                     segments,
-                    angles: own,
+                    angles: own_answer,
                     areas,
                 }),
                 Err(error) => {
-                    mem::drop(own);
+                    mem::drop(own_answer);
                     Err(error)
                 }
             },
-            Kind::Area => match self.both_beside(alloc, Kind::Segment, Kind::Angle, facts, wanted) {
+            Kind::Area => match self.both_alone(alloc, Kind::Segment, Kind::Angle, facts, wanted) {
                 Ok((segments, angles)) => Ok(ByKind {
                     segments,
                     angles,
-                    areas: own,
+                    areas: own_answer,
                 }),
                 Err(error) => {
-                    mem::drop(own);
+                    mem::drop(own_answer);
                     Err(error)
                 }
             },
         }
     }
 
-    // What the systems tell together, where that of the goal's kind is told.
-    fn told(
+    // The answer of the systems together, where that of the goal's kind is there.
+    fn answer(
         &self,
         alloc: Global,
         which: Kind,
-        own: Metric,
+        own_answer: Metric,
         facts: &Facts,
         goal: &Lit,
     ) -> Result<Metric, AllocError>
@@ -427,15 +434,11 @@ impl MetricFacts {
         requires few { length (terms_of_lits facts.now) ≤ 1100 }
         requires goal { IsTrue (is_good_wanted (Some goal.now)) }
         requires kind { kind_of_atom goal.now.atom ≡ Some which }
-        requires own { IsToldOf which facts.now (Some goal.now) own }
-        ensures { IfOk result (IsTold facts.now (Some goal.now)) }
+        requires own_answer { IsKindAnswer which facts.now (Some goal.now) own_answer }
+        ensures { IfOk result (IsMetricAnswer facts.now (Some goal.now)) }
     {
-        let ByKind {
-            segments,
-            angles,
-            areas,
-        } = self.told_from(alloc, which, own, facts, goal)?;
-        joined(alloc, facts, Some(goal), segments, angles, areas)
+        let answer = self.answers_by_kind(alloc, which, own_answer, facts, goal)?;
+        joined_answer(alloc, facts, Some(goal), answer)
     }
 
     // The answer of `follows`, where the goal is of this kind.
@@ -451,11 +454,11 @@ impl MetricFacts {
         requires few { length (terms_of_lits facts.now) ≤ 1100 }
         requires goal { IsTrue (is_good_wanted (Some goal.now)) }
         requires kind { kind_of_atom goal.now.atom ≡ Some which }
-        ensures { IfOk result (IsTold facts.now (Some goal.now)) }
+        ensures { IfOk result (IsMetricAnswer facts.now (Some goal.now)) }
     {
-        match self.own(alloc, which, facts, goal)? {
+        match self.answer_for_kind(alloc, which, facts, goal)? {
             Metric::Yes(cert) => Ok(Metric::Yes(cert)),
-            own => self.told(alloc, which, own, facts, goal),
+            own_answer => self.answer(alloc, which, own_answer, facts, goal),
         }
     }
 
@@ -469,7 +472,7 @@ impl MetricFacts {
         requires facts { IsTrue (list_all is_well_formed facts.now) }
         requires few { length (terms_of_lits facts.now) ≤ 1100 }
         requires goal { IsTrue (is_good_wanted (Some goal.now)) }
-        ensures told { IfOk result (IsTold facts.now (Some goal.now)) }
+        ensures answer { IfOk result (IsMetricAnswer facts.now (Some goal.now)) }
         ensures yes { IfOk result (λ m. IfYes m (MetricConsequence facts.now goal.now)) }
         ensures no { IfOk result (λ m. IfNo m (¬ MetricConsequence facts.now goal.now)) }
     {
@@ -490,16 +493,16 @@ impl MetricFacts {
         requires few { length (terms_of_lits facts.now) ≤ 1100 }
         requires goal { IsTrue (is_good_wanted (Some goal.now)) }
         requires kind { kind_of_atom goal.now.atom ≡ Some which }
-        ensures told { IfOk result (IsTold facts.now (Some goal.now)) }
+        ensures answer { IfOk result (IsMetricAnswer facts.now (Some goal.now)) }
         ensures fronts { AreFronts facts.now self.new }
     {
         self.bring(alloc, which, facts)?;
-        match self.own(alloc, which, facts, goal)? {
+        match self.answer_for_kind(alloc, which, facts, goal)? {
             Metric::Yes(cert) => Ok(Metric::Yes(cert)),
-            own => match self.bring_all(alloc, facts) {
-                Ok(()) => self.told(alloc, which, own, facts, goal),
+            own_answer => match self.bring_all(alloc, facts) {
+                Ok(()) => self.answer(alloc, which, own_answer, facts, goal),
                 Err(error) => {
-                    mem::drop(own);
+                    mem::drop(own_answer);
                     Err(error)
                 }
             },
@@ -518,7 +521,7 @@ impl MetricFacts {
         requires facts { IsTrue (list_all is_well_formed facts.now) }
         requires few { length (terms_of_lits facts.now) ≤ 1100 }
         requires goal { IsTrue (is_good_wanted (Some goal.now)) }
-        ensures told { IfOk result (IsTold facts.now (Some goal.now)) }
+        ensures answer { IfOk result (IsMetricAnswer facts.now (Some goal.now)) }
         ensures yes { IfOk result (λ m. IfYes m (MetricConsequence facts.now goal.now)) }
         ensures no { IfOk result (λ m. IfNo m (¬ MetricConsequence facts.now goal.now)) }
         ensures fronts { AreFronts facts.now self.new }
@@ -544,22 +547,29 @@ impl MetricFacts {
     {
         let which = kind(goal).unwrap_or(Kind::Segment);
         self.bring(alloc, which, facts)?;
-        match self.own(alloc, which, facts, goal)? {
+        match self.answer_for_kind(alloc, which, facts, goal)? {
             Metric::Yes(cert) => Ok(Some(cert)),
             Metric::No(_) | Metric::TooWide(_) => Ok(None),
         }
     }
 
-    // What the systems of the facts alone tell.
-    fn told_alone(&self, alloc: Global, facts: &Facts) -> Result<Metric, AllocError>
+    // The answer of the systems of the facts alone.
+    fn answer_of_facts(&self, alloc: Global, facts: &Facts) -> Result<Metric, AllocError>
         requires fronts { AreFronts facts.now self.now }
         requires facts { IsTrue (list_all is_well_formed facts.now) }
         requires few { length (terms_of_lits facts.now) ≤ 1100 }
-        ensures { IfOk result (IsTold facts.now None) }
+        ensures { IfOk result (IsMetricAnswer facts.now None) }
     {
-        let (segments, angles) = self.both_beside(alloc, Kind::Segment, Kind::Angle, facts, None)?;
-        match self.beside(alloc, Kind::Area, facts, None) {
-            Ok(areas) => joined(alloc, facts, None, segments, angles, areas),
+        let (segments, angles) = self.both_alone(alloc, Kind::Segment, Kind::Angle, facts, None)?;
+        match self.answer_alone(alloc, Kind::Area, facts, None) {
+            Ok(areas) => {
+                let answer = ByKind {
+                    segments,
+                    angles,
+                    areas,
+                };
+                joined_answer(alloc, facts, None, answer)
+            }
             Err(error) => {
                 mem::drop(segments);
                 mem::drop(angles);
@@ -573,11 +583,11 @@ impl MetricFacts {
         requires fronts { AreFronts facts.now self.now }
         requires facts { IsTrue (list_all is_well_formed facts.now) }
         requires few { length (terms_of_lits facts.now) ≤ 1100 }
-        ensures told { IfOk result (IsTold facts.now None) }
+        ensures answer { IfOk result (IsMetricAnswer facts.now None) }
         ensures yes { IfOk result (λ m. IfYes m (Unsatisfiable facts.now)) }
         ensures no { IfOk result (λ m. IfNo m (¬ Unsatisfiable facts.now)) }
     {
-        self.told_alone(alloc, facts)
+        self.answer_of_facts(alloc, facts)
     }
 
     // Brings a kind up to the facts: the certificate that its facts contradict each other, if they do.
@@ -594,7 +604,7 @@ impl MetricFacts {
         ensures fronts { AreFronts facts.now self.new }
     {
         self.bring(alloc, which, facts)?;
-        self.sides.get(which).contradiction(alloc, which, facts)
+        self.systems.get(which).contradiction(alloc, which, facts)
     }
 
     // The certificate that the facts of a kind contradict each other, of the first kind that has one.
@@ -619,16 +629,20 @@ impl MetricFacts {
     }
 
     // The answer of `absurd_in_turn`.
-    fn told_alone_in_turn(&mut self, alloc: Global, facts: &Facts) -> Result<Metric, AllocError>
+    fn answer_of_facts_in_turn(
+        &mut self,
+        alloc: Global,
+        facts: &Facts,
+    ) -> Result<Metric, AllocError>
         requires fronts { AreFronts facts.now self.old }
         requires facts { IsTrue (list_all is_well_formed facts.now) }
         requires few { length (terms_of_lits facts.now) ≤ 1100 }
-        ensures told { IfOk result (IsTold facts.now None) }
+        ensures answer { IfOk result (IsMetricAnswer facts.now None) }
         ensures fronts { AreFronts facts.now self.new }
     {
         match self.first_contradiction(alloc, facts)? {
             Some(cert) => Ok(Metric::Yes(cert)),
-            None => self.told_alone(alloc, facts),
+            None => self.answer_of_facts(alloc, facts),
         }
     }
 
@@ -638,11 +652,11 @@ impl MetricFacts {
         requires fronts { AreFronts facts.now self.old }
         requires facts { IsTrue (list_all is_well_formed facts.now) }
         requires few { length (terms_of_lits facts.now) ≤ 1100 }
-        ensures told { IfOk result (IsTold facts.now None) }
+        ensures answer { IfOk result (IsMetricAnswer facts.now None) }
         ensures yes { IfOk result (λ m. IfYes m (Unsatisfiable facts.now)) }
         ensures no { IfOk result (λ m. IfNo m (¬ Unsatisfiable facts.now)) }
         ensures fronts { AreFronts facts.now self.new }
     {
-        self.told_alone_in_turn(alloc, facts)
+        self.answer_of_facts_in_turn(alloc, facts)
     }
 }

@@ -9,16 +9,15 @@ ghost use Rattle.e_clause.specs.declared.cert.RowName.TheVariants as name;
 ghost use Rattle.e_clause.specs.System.{NamedRow};
 ghost use Rattle.e_clause.specs.System;
 ghost use Rattle.e_clause.specs.System.{of_kind, against_goal, rows_named, rows_of_term, rows_of_kind};
-ghost use Rattle.e_metric.specs.Further;
-ghost use Rattle.e_metric.specs.Agree.{AreRows, AllLimited, GrowBy, IsRow, IsLimited};
+ghost use Rattle.e_metric.specs.inner.FurtherRows;
+ghost use Rattle.e_metric.specs.AgreeingRows.{AreRows, AllLimited, GrowBy, IsRow, IsLimited};
 
 use crate::listing::{is_of_kind, terms_of_kind};
 use crate::literals::row_of;
 use e_clause::RowName;
 use e_facts::Facts;
 use e_fraction::{Row, RowKind, Signed};
-use e_literal::compare::{canonical, is_degenerate};
-use e_literal::{Atom, Kind, Lit, Term, copy};
+use e_literal::{Atom, Kind, Lit, Term, canonical, copy, is_degenerate};
 use std::alloc::{AllocError, Global};
 
 /// Whether the facts say that the two points differ, in one order or the other.
@@ -227,7 +226,7 @@ pub fn rows_of_goal(
     goal: &Lit,
 ) -> Result<Vec<(RowName, Row)>, AllocError>
     requires { IsTrue (is_well_formed goal.now) }
-    ensures rows { IfOk result (λ v. AreRows (Further.rows_of_goal which facts.now fresh.now goal.now) v.items) }
+    ensures rows { IfOk result (λ v. AreRows (FurtherRows.rows_of_goal which facts.now fresh.now goal.now) v.items) }
     ensures limited { IfOk result (λ v. AllLimited v.items) }
 {
     let mut rows = Vec::new(alloc);
@@ -247,7 +246,7 @@ pub fn rows_of_facts(
 ) -> Result<Vec<(RowName, Row)>, AllocError>
     requires facts { IsTrue (list_all is_well_formed facts.now) }
     requires within { from ≤ length facts.now }
-    ensures rows { IfOk result (λ v. AreRows (Further.rows_of_facts which facts.now (drop from facts.now) fresh.now) v.items) }
+    ensures rows { IfOk result (λ v. AreRows (FurtherRows.rows_of_facts which facts.now (drop from facts.now) fresh.now) v.items) }
     ensures limited { IfOk result (λ v. AllLimited v.items) }
 {
     let mut rows = Vec::new(alloc);
@@ -269,7 +268,7 @@ fn count_rows_of(facts: &Facts, term: Term) -> usize
 }
 
 /// How many rows the terms bring.
-#[tactic(auto, using(crate::proofs::JoiningFacts::raised_more))]
+#[tactic(auto, using(crate::proofs::RowsOfMoreFacts::raised_more))]
 pub fn count_term_rows(facts: &Facts, terms: &[Term]) -> usize
     ensures { result ≡ length (flat_map (rows_of_term facts.now) terms.now) }
 {

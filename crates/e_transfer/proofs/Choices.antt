@@ -4,23 +4,21 @@ use Rattle.std.proofs.lemmas.List.{append_assoc, append-nil, take_all}
 use Rattle.e_transfer.specs.declared.walk.Span.{Span}
 use Rattle.e_transfer.specs.declared.walk.Verdict.{Verdict}
 use Rattle.e_transfer.specs.declared.walk.Verdict.TheVariants as verdict
-use Rattle.e_transfer.specs.declared.walk.Outcome.{Outcome}
-use Rattle.e_transfer.specs.declared.walk.Outcome.TheVariants as outcome
 use Rattle.e_transfer.specs.Choice.{Fits, NoneWanted, NoneBelow}
-use Rattle.e_transfer.specs.Outcome.{VerdictIs, OutcomeIs}
+use Rattle.e_transfer.specs.Verdicts.{VerdictIs, SearchIs}
 
--- what a refused search leaves: more numbers may stand behind
+-- what a refused search leaves: more numbers may hold after
 pub refused_grows : {T E : Type 0} (r : Result T E) (old new more : List ℕ) → new ≡ old ++ more → OnErr r ((rest : List ℕ) × (new ≡ old ++ rest))
 refused_grows (Ok x) old new more is = tt
 refused_grows (Err e) old new more is = (more, is)
 
--- the same where a number was put behind before
+-- the same where a number was put after before
 pub grown_behind : {T E : Type 0} (r : Result T E) (old before pushed new rest : List ℕ) (v : ℕ) → before ≡ old → pushed ≡ before ++ v ∷ [] → new ≡ pushed ++ rest → OnErr r ((more : List ℕ) × (new ≡ old ++ more))
 grown_behind r old before pushed new rest v same put grew =
     refused_grows r old new (v ∷ rest)
     (grew ∙ ap (λ (xs : List ℕ). xs ++ rest) (put ∙ ap (λ (xs : List ℕ). xs ++ v ∷ []) same) ∙ append_assoc old (v ∷ []) rest)
 
--- the three predicates of a judge
+-- the three predicates of a check
 abbrev pub Kept : Type 1
 Kept = List ℕ → Type 0
 
@@ -38,20 +36,20 @@ none_below_empty wanted before spans (v ∷ vs) fits below good = below
 abbrev pub NoneUnder : Kept → List ℕ → List Span → ℕ → ℕ → Type 0
 NoneUnder wanted before rest from v = (u : ℕ) → from ≤ u → u < v → (d : List ℕ) → Fits rest d → wanted ((before ++ u ∷ []) ++ d) → ⊥
 
--- a choice behind a number
-behind : (wanted : Kept) (before : List ℕ) (v : ℕ) (vs : List ℕ) → wanted (before ++ v ∷ vs) → wanted ((before ++ v ∷ []) ++ vs)
-behind wanted before v vs good = subst (λ (l : List ℕ). wanted l) (sym (append_assoc before (v ∷ []) vs)) good
+-- a choice after a number
+after_chosen : (wanted : Kept) (before : List ℕ) (v : ℕ) (vs : List ℕ) → wanted (before ++ v ∷ vs) → wanted ((before ++ v ∷ []) ++ vs)
+after_chosen wanted before v vs good = subst (λ (l : List ℕ). wanted l) (sym (append_assoc before (v ∷ []) vs)) good
 
 pub under_all : (wanted : Kept) (before : List ℕ) (rest : List Span) (n : Span) → NoneUnder wanted before rest n.from n.to → NoneWanted wanted before (n ∷ rest)
 under_all wanted before rest n none [] fits good = fits
-under_all wanted before rest n none (v ∷ vs) fits good = none v fits.0 fits.1 vs fits.2 (behind wanted before v vs good)
+under_all wanted before rest n none (v ∷ vs) fits good = none v fits.0 fits.1 vs fits.2 (after_chosen wanted before v vs good)
 
 pub below_one : (wanted : Kept) (before : List ℕ) (rest : List Span) (n : Span) (v : ℕ) (c : List ℕ) → NoneUnder wanted before rest n.from v →
     NoneBelow wanted (before ++ v ∷ []) rest c → NoneBelow wanted before (n ∷ rest) (v ∷ c)
 below_one wanted before rest n v c none below [] fits under good = fits
-below_one wanted before rest n v c none below (u ∷ us) fits (inl less) good = none u fits.0 less us fits.2 (behind wanted before u us good)
+below_one wanted before rest n v c none below (u ∷ us) fits (inl less) good = none u fits.0 less us fits.2 (after_chosen wanted before u us good)
 below_one wanted before rest n v c none below (u ∷ us) fits (inr (same, under)) good =
-    below us fits.2 under (subst (λ (x : ℕ). wanted ((before ++ x ∷ []) ++ us)) same (behind wanted before u us good))
+    below us fits.2 under (subst (λ (x : ℕ). wanted ((before ++ x ∷ []) ++ us)) same (after_chosen wanted before u us good))
 
 -- ---- the spans after the first
 
@@ -73,23 +71,23 @@ all_refused wanted before spans n some most none =
 
 -- ---- verdicts
 
-pub verdict_keep : {P : Type 0} (kept : Kept) (shown : Shown P) (wide : Wide) (wanted : Kept) (before part : List ℕ) (v : Verdict P) (p : P) →
-    part ≡ before → v ≡ verdict.Keep p → VerdictIs kept shown wide wanted part v → kept before
-verdict_keep {P} kept shown wide wanted before part v p at is said =
-    subst (λ (b : List ℕ). kept b) at (subst (λ (x : Verdict P). VerdictIs kept shown wide wanted part x) is said).0
+pub verdict_yes : {P : Type 0} (kept : Kept) (shown : Shown P) (wide : Wide) (wanted : Kept) (before part : List ℕ) (v : Verdict P) (p : P) →
+    part ≡ before → v ≡ verdict.Yes p → VerdictIs kept shown wide wanted part v → kept before
+verdict_yes {P} kept shown wide wanted before part v p at is claim =
+    subst (λ (b : List ℕ). kept b) at (subst (λ (x : Verdict P). VerdictIs kept shown wide wanted part x) is claim).0
 
-pub verdict_refuse : {P : Type 0} (kept : Kept) (shown : Shown P) (wide : Wide) (wanted : Kept) (before part : List ℕ) (spans : List Span) (v : Verdict P) →
-    part ≡ before → v ≡ verdict.Refuse → VerdictIs kept shown wide wanted part v → NoneWanted wanted before spans
-verdict_refuse {P} kept shown wide wanted before part spans v at is said d fits good =
-    subst (λ (b : List ℕ). (rest : List ℕ) → wanted (b ++ rest) → ⊥) at (subst (λ (x : Verdict P). VerdictIs kept shown wide wanted part x) is said) d good
+pub verdict_no : {P : Type 0} (kept : Kept) (shown : Shown P) (wide : Wide) (wanted : Kept) (before part : List ℕ) (spans : List Span) (v : Verdict P) →
+    part ≡ before → v ≡ verdict.No → VerdictIs kept shown wide wanted part v → NoneWanted wanted before spans
+verdict_no {P} kept shown wide wanted before part spans v at is claim d fits good =
+    subst (λ (b : List ℕ). (rest : List ℕ) → wanted (b ++ rest) → ⊥) at (subst (λ (x : Verdict P). VerdictIs kept shown wide wanted part x) is claim) d good
 
-pub verdict_stop : {P : Type 0} (kept : Kept) (shown : Shown P) (wide : Wide) (wanted : Kept) (before part : List ℕ) (spans : List Span) (v : Verdict P) (w : ℕ) →
-    part ≡ before → v ≡ verdict.Stop w → VerdictIs kept shown wide wanted part v → OutcomeIs kept shown wide wanted spans before before (outcome.Stop w)
-verdict_stop {P} kept shown wide wanted before part spans v w at is said = (
+pub verdict_wide : {P : Type 0} (kept : Kept) (shown : Shown P) (wide : Wide) (wanted : Kept) (before part : List ℕ) (spans : List Span) (v : Verdict P) (w : ℕ) →
+    part ≡ before → v ≡ verdict.TooWide w → VerdictIs kept shown wide wanted part v → SearchIs kept shown wide wanted spans before before (verdict.TooWide w)
+verdict_wide {P} kept shown wide wanted before part spans v w at is claim = (
   [],
   tt,
   sym (append-nil before),
-  subst (λ (b : List ℕ). wide b w) at (subst (λ (x : Verdict P). VerdictIs kept shown wide wanted part x) is said),
+  subst (λ (b : List ℕ). wide b w) at (subst (λ (x : Verdict P). VerdictIs kept shown wide wanted part x) is claim),
   none_below_empty wanted before spans,
 )
 
@@ -97,32 +95,32 @@ verdict_stop {P} kept shown wide wanted before part spans v w at is said = (
 
 pub found_under : {P : Type 0} (kept : Kept) (shown : Shown P) (wide : Wide) (wanted : Kept) (before after : List ℕ) (rest : List Span) (n : Span) (v : ℕ) (p : P) →
     n.from ≤ v → v < n.to → kept before → NoneUnder wanted before rest n.from v
-    → OutcomeIs kept shown wide wanted rest (before ++ v ∷ []) after (outcome.Found p) → OutcomeIs kept shown wide wanted (n ∷ rest) before after (outcome.Found p)
+    → SearchIs kept shown wide wanted rest (before ++ v ∷ []) after (verdict.Yes p) → SearchIs kept shown wide wanted (n ∷ rest) before after (verdict.Yes p)
 found_under kept shown wide wanted before after rest n v p from less here none (c, fits, good, ends, proof, below) =
     (v ∷ c, (from, less, fits), (here, good), ends ∙ append_assoc before (v ∷ []) c, proof, below_one wanted before rest n v c none below)
 
 pub stop_under : {P : Type 0} (kept : Kept) (shown : Shown P) (wide : Wide) (wanted : Kept) (before after : List ℕ) (rest : List Span) (n : Span) (v : ℕ) (w : ℕ) →
     n.from ≤ v → v < n.to → NoneUnder wanted before rest n.from v
-    → OutcomeIs kept shown wide wanted rest (before ++ v ∷ []) after (outcome.Stop w) → OutcomeIs kept shown wide wanted (n ∷ rest) before after (outcome.Stop w)
+    → SearchIs kept shown wide wanted rest (before ++ v ∷ []) after (verdict.TooWide w) → SearchIs kept shown wide wanted (n ∷ rest) before after (verdict.TooWide w)
 stop_under kept shown wide wanted before after rest n v w from less none (c, fits, ends, is, below) =
     (v ∷ c, (from, less, fits), ends ∙ append_assoc before (v ∷ []) c, is, below_one wanted before rest n v c none below)
 
-pub found_one : {P : Type 0} (kept : Kept) (shown : Shown P) (wide : Wide) (wanted : Kept) (before mid after : List ℕ) (spans : List Span) (v : ℕ) (o : Outcome P) (p : P) →
+pub found_one : {P : Type 0} (kept : Kept) (shown : Shown P) (wide : Wide) (wanted : Kept) (before mid after : List ℕ) (spans : List Span) (v : ℕ) (o : Verdict P) (p : P) →
     1 ≤ length spans → (get_or spans 0 none_span).from ≤ v → v < (get_or spans 0 none_span).to → kept before
-    → NoneUnder wanted before (tail_of spans) (get_or spans 0 none_span).from v → mid ≡ before ++ v ∷ [] → o ≡ outcome.Found p
-    → OutcomeIs kept shown wide wanted (tail_of spans) mid after o → OutcomeIs kept shown wide wanted spans before after (outcome.Found p)
-found_one {P} kept shown wide wanted before mid after spans v o p some from less here none at is said =
-    subst (λ (s : List Span). OutcomeIs kept shown wide wanted s before after (outcome.Found p)) (sym (split spans some))
+    → NoneUnder wanted before (tail_of spans) (get_or spans 0 none_span).from v → mid ≡ before ++ v ∷ [] → o ≡ verdict.Yes p
+    → SearchIs kept shown wide wanted (tail_of spans) mid after o → SearchIs kept shown wide wanted spans before after (verdict.Yes p)
+found_one {P} kept shown wide wanted before mid after spans v o p some from less here none at is claim =
+    subst (λ (s : List Span). SearchIs kept shown wide wanted s before after (verdict.Yes p)) (sym (split spans some))
     (found_under kept shown wide wanted before after (tail_of spans) (get_or spans 0 none_span) v p from less here none
-    (subst (λ (m : List ℕ). OutcomeIs kept shown wide wanted (tail_of spans) m after (outcome.Found p)) at
-    (subst (λ (x : Outcome P). OutcomeIs kept shown wide wanted (tail_of spans) mid after x) is said)))
+    (subst (λ (m : List ℕ). SearchIs kept shown wide wanted (tail_of spans) m after (verdict.Yes p)) at
+    (subst (λ (x : Verdict P). SearchIs kept shown wide wanted (tail_of spans) mid after x) is claim)))
 
-pub stop_one : {P : Type 0} (kept : Kept) (shown : Shown P) (wide : Wide) (wanted : Kept) (before mid after : List ℕ) (spans : List Span) (v : ℕ) (o : Outcome P) (w : ℕ) →
+pub stop_one : {P : Type 0} (kept : Kept) (shown : Shown P) (wide : Wide) (wanted : Kept) (before mid after : List ℕ) (spans : List Span) (v : ℕ) (o : Verdict P) (w : ℕ) →
     1 ≤ length spans → (get_or spans 0 none_span).from ≤ v → v < (get_or spans 0 none_span).to
-    → NoneUnder wanted before (tail_of spans) (get_or spans 0 none_span).from v → mid ≡ before ++ v ∷ [] → o ≡ outcome.Stop w
-    → OutcomeIs kept shown wide wanted (tail_of spans) mid after o → OutcomeIs kept shown wide wanted spans before after (outcome.Stop w)
-stop_one {P} kept shown wide wanted before mid after spans v o w some from less none at is said =
-    subst (λ (s : List Span). OutcomeIs kept shown wide wanted s before after (outcome.Stop w)) (sym (split spans some))
+    → NoneUnder wanted before (tail_of spans) (get_or spans 0 none_span).from v → mid ≡ before ++ v ∷ [] → o ≡ verdict.TooWide w
+    → SearchIs kept shown wide wanted (tail_of spans) mid after o → SearchIs kept shown wide wanted spans before after (verdict.TooWide w)
+stop_one {P} kept shown wide wanted before mid after spans v o w some from less none at is claim =
+    subst (λ (s : List Span). SearchIs kept shown wide wanted s before after (verdict.TooWide w)) (sym (split spans some))
     (stop_under kept shown wide wanted before after (tail_of spans) (get_or spans 0 none_span) v w from less none
-    (subst (λ (m : List ℕ). OutcomeIs kept shown wide wanted (tail_of spans) m after (outcome.Stop w)) at
-    (subst (λ (x : Outcome P). OutcomeIs kept shown wide wanted (tail_of spans) mid after x) is said)))
+    (subst (λ (m : List ℕ). SearchIs kept shown wide wanted (tail_of spans) m after (verdict.TooWide w)) at
+    (subst (λ (x : Verdict P). SearchIs kept shown wide wanted (tail_of spans) mid after x) is claim)))

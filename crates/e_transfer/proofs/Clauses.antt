@@ -5,7 +5,7 @@ use Rattle.e_literal.specs.declared.literal.Lit.{Lit}
 use Rattle.e_literal.specs.Literal.{negation}
 use Rattle.e_clause.specs.declared.pattern.Pattern.{Pattern}
 use Rattle.e_clause.specs.Views.{lit_of}
-use Rattle.e_transfer.specs.Giving.{signed}
+use Rattle.e_transfer.specs.GivenGoals.{signed}
 
 -- the literals of the clause with these premises and conclusions
 abbrev pub clause : List Pattern → List Pattern → List Lit

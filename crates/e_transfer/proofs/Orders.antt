@@ -7,7 +7,7 @@ use Rattle.e_literal.specs.declared.object.Term.{Term}
 use Rattle.e_literal.specs.declared.object.Term.TheVariants.{Seg, Ang, Area, Right}
 use Rattle.e_literal.specs.Same.{canonical, term_eq, one_term}
 use Rattle.e_literal.proofs.Booleans.{and_left, and_right}
-use Rattle.e_transfer.specs.Seeds.{orders}
+use Rattle.e_transfer.specs.inner.Matches.{orders}
 
 -- two numbers that are two others, in some order
 two_of : (a b c d : ℕ) → min a b ≡ min c d → max a b ≡ max c d → (a ≡ c) × (b ≡ d) ⊎ (a ≡ d) × (b ≡ c)

@@ -52,7 +52,7 @@ pub record AreEqualAreas (p : Pattern) (t : Term) : Type 0 where
   pub first : IsTrue (is_area t)
   pub second : IsTrue (is_area other)
 
--- no two areas of which this is the first are said to differ by what follows
+-- no two areas of which this is the first have to differ by what follows
 abbrev pub IsFree : List Lit → Term → Type 0
 IsFree facts t =
     (coeff : ℕ) (other : Term) → IsTrue (is_area other)

@@ -19,7 +19,7 @@ abbrev pub Below : List ℕ → List ℕ → Type 0
 Below (u ∷ us) (v ∷ vs) = (u < v) ⊎ ((u ≡ v) × Below us vs)
 Below _ _ = ⊥
 
--- each part of the choice, from what stands before it on, is kept
+-- each part of the choice, from what comes before it on, is kept
 abbrev pub EachKept : (List ℕ → Type 0) → List ℕ → List ℕ → Type 0
 EachKept kept before [] = kept before
 EachKept kept before (v ∷ vs) = kept before × EachKept kept (before ++ v ∷ []) vs

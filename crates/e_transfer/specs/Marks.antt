@@ -1,4 +1,4 @@
--- Which relations stand among facts, and with which sign.
+-- Which relations occur among facts, and with which sign.
 use Rattle.std.specs.Prelude.{◌≡◌, ℕ, ◌+◌, ◌*◌, List, Bool, true, false, ◌&&◌, if◌then◌else◌, slice_index_or, slice_get, Some}
 use Rattle.std.specs.List.{list_all}
 use Rattle.e_literal.specs.declared.literal.Atom.{Atom}
@@ -11,8 +11,8 @@ use Rattle.e_literal.specs.declared.object.Term.TheVariants.{Area}
 use Rattle.e_literal.specs.Rename.{atom_at}
 use Rattle.e_clause.specs.Rows.{Row}
 use Rattle.e_clause.specs.Instance.{clause_of, lit_at}
-use Rattle.e_transfer.specs.declared.sought.Means.{Means}
-use Rattle.e_transfer.specs.Giving.{IsFitting, Suffices}
+use Rattle.e_transfer.specs.declared.query.Strength.{Strength}
+use Rattle.e_transfer.specs.GivenGoals.{IsFitting, Suffices}
 
 -- the relations, numbered; those of diagrams come first
 abbrev pub relation : Atom → ℕ
@@ -63,10 +63,10 @@ is_strict_of_areas _ _ = false
 -- ---- places of a clause
 
 -- no literal over objects that is of this one suffices
-abbrev pub NoneSuffices : Means → List Lit → Lit → Type 0
+abbrev pub NoneSuffices : Strength → List Lit → Lit → Type 0
 NoneSuffices m facts l = (p q c : ℕ → ℕ) → Suffices m facts (record { neg = l.neg; atom = atom_at p q c l.atom }) → ⊥
 
 -- no instance has at this place of the clause the goal, or a literal whose negation suffices
-abbrev pub NoneStands : Means → List Lit → Lit → Row → ℕ → Type 0
-NoneStands m facts goal r at =
+abbrev pub NoneHolds : Strength → List Lit → Lit → Row → ℕ → Type 0
+NoneHolds m facts goal r at =
     (l : Lit) → slice_get (clause_of r) at ≡ Some l → (args : List Obj) → IsFitting m facts goal false (lit_at r args l) → ⊥

@@ -1,4 +1,4 @@
--- What is made of facts before goals are sought.
+-- What is made of facts before goals are searched for.
 use Rattle.std.specs.Prelude.{List, not, ◌||◌, IsTrue}
 use Rattle.e_literal.specs.declared.literal.Lit.{Lit}
 use Rattle.e_transfer.specs.declared.models.Filling.TheVariants as filling
@@ -7,7 +7,7 @@ use Rattle.e_transfer.specs.Models.{is_model, value_by}
 use Rattle.e_transfer.specs.Areas.{name_areas_of}
 use Rattle.e_transfer.specs.Marks.{are_marked}
 
--- the areas are named, the relations marked, and the values are those of the models that are said
+-- the areas are named, the relations marked, and the values are those of the models that are named
 pub record IsPrepared (facts : List Lit) (p : Prepared) : Type 0 where
   pub marked : IsTrue (are_marked p.marks facts)
   pub named : IsTrue (name_areas_of p.areas.items facts)

@@ -7,10 +7,9 @@ ghost use Rattle.e_transfer.specs.Areas.{name_areas_of, ListsAlso, AreTwoAreas, 
 
 use crate::clause::{clause_len, pattern_at};
 use crate::marks::is_area;
-use e_clause::pattern::{Pattern, Row, Shape};
+use e_clause::{Pattern, Row, Shape};
 use e_facts::Facts;
-use e_literal::compare::canonical;
-use e_literal::{Atom, Lit, Mono, Term};
+use e_literal::{Atom, Lit, Mono, Term, canonical};
 use std::alloc::{AllocError, Global};
 
 fn add_area(areas: &mut Vec<Term>, term: Term) -> Result<(), AllocError>

@@ -3,10 +3,9 @@
 ghost use Rattle.std.specs.Prelude.{◌≡◌, ◌<◌, length, map, IfOk, slice_get, Some};
 ghost use Rattle.e_clause.specs.Instance.{clause_of, lit_at};
 ghost use Rattle.e_clause.specs.Views.{row_of};
-ghost use Rattle.e_transfer.specs.Giving.{signed};
+ghost use Rattle.e_transfer.specs.GivenGoals.{signed};
 
-use e_clause::literal;
-use e_clause::pattern::{Pattern, Row};
+use e_clause::{Pattern, Row, literal};
 use e_literal::{Lit, Obj};
 use std::alloc::{AllocError, Global};
 

@@ -5,8 +5,7 @@ ghost use Rattle.e_clause.specs.Judged;
 
 use e_facts::Facts;
 use e_literal::{Lit, Scope, in_scope};
-use e_metric::are_few_facts;
-use e_metric::limits::is_well_formed;
+use e_metric::{are_few_facts, is_well_formed};
 
 /// Whether the literal is in scope and well formed.
 pub fn is_good_literal(scope: Scope, lit: &Lit) -> bool

@@ -5,30 +5,30 @@ ghost use Rattle.e_literal.specs.Facts.{has};
 ghost use Rattle.e_clause.specs.Judged.{are_good_facts, is_good};
 ghost use Rattle.e_clause.specs.Wide.{TransferFromFacts};
 ghost use Rattle.e_metric.specs.Fronts.{AreFronts};
-ghost use Rattle.e_transfer.specs.Found.{IsFound, IsFoundByFacts};
-ghost use Rattle.e_transfer.specs.Giving.{IsWideTransfer};
+ghost use Rattle.e_transfer.specs.FoundTransfers.{IsFound, IsFoundByFacts};
+ghost use Rattle.e_transfer.specs.GivenGoals.{IsWideTransfer};
 ghost use Rattle.e_transfer.specs.Prepared.{IsPrepared};
 
 use crate::marks::marks_of;
 use crate::prepared::{Prepared, prepare};
-use crate::sought::{Means, Sought};
-use crate::sweep::sweep;
-use crate::walk::Outcome;
+use crate::query::{Query, Strength};
+use crate::rule_search::search_rules;
+use crate::walk::Verdict;
 use e_clause::TransferCert;
 use e_facts::Facts;
 use e_literal::{Lit, Scope};
-use e_metric::{Known, MetricFacts};
+use e_metric::{MetricFacts, StepFacts};
 use std::alloc::{AllocError, Global};
 use std::mem;
 
-/// What is said of a goal.
+/// What is answered on a goal.
 #[derive(Drop)]
 pub enum Found {
     /// An instance of a transfer clause gives it, for these reasons.
     Yes(TransferCert),
     /// No instance over the scope gives it.
     No,
-    /// It cannot be told: a metric literal that an instance needs has a system that is too wide, of this width.
+    /// It cannot be decided: a metric literal that an instance needs has a system that is too wide, of this width.
     TooWide(u128),
 }
 
@@ -36,7 +36,7 @@ pub enum Found {
 ///
 /// `Yes` with a certificate that is good for the goal; `No` where no instance gives it. `TooWide` where neither facts
 /// alone give it, nor metric literals that follow from the facts by narrow systems, and an instance whose diagram
-/// literals stand needs a metric literal with a wide system, of this width. It fails only for want of memory.
+/// literals hold needs a metric literal with a wide system, of this width. It fails only out of memory.
 pub fn find(alloc: Global, scope: Scope, facts: &Facts, goal: &Lit) -> Result<Found, AllocError>
     requires facts { IsTrue (are_good_facts scope facts.now) }
     requires goal { IsTrue (is_good scope goal.now) }
@@ -46,9 +46,9 @@ pub fn find(alloc: Global, scope: Scope, facts: &Facts, goal: &Lit) -> Result<Fo
     match find_by_facts(alloc, scope, facts, goal)? {
         Some(cert) => Ok(Found::Yes(cert)),
         None => {
-            let known = MetricFacts::of(alloc, facts)?;
-            let found = find_by_sums(alloc, scope, facts, &known, goal);
-            mem::drop(known);
+            let metric_facts = MetricFacts::of(alloc, facts)?;
+            let found = find_by_sums(alloc, scope, facts, &metric_facts, goal);
+            mem::drop(metric_facts);
             found
         }
     }
@@ -66,12 +66,12 @@ pub fn find_by_facts<'a>(
     requires not_fact { IsFalse (has facts.now goal.now) }
     ensures { IfOk result (IsFoundByFacts scope facts.now goal.now) }
 {
-    let sought = Sought {
+    let query = Query {
         scope,
         facts,
         goal,
-        means: Means::Facts,
-        known: None,
+        strength: Strength::Facts,
+        step_facts: None,
         values: &[],
         plain_model: false,
         spread_model: false,
@@ -79,29 +79,29 @@ pub fn find_by_facts<'a>(
         marks: marks_of(facts),
         areas: &[],
     };
-    match sweep(alloc, &sought)? {
-        Outcome::Found(cert) => Ok(Some(cert)),
-        Outcome::Nothing => Ok(None),
-        Outcome::Stop(_) => unreachable!(),
+    match search_rules(alloc, &query)? {
+        Verdict::Yes(cert) => Ok(Some(cert)),
+        Verdict::No => Ok(None),
+        Verdict::TooWide(_) => unreachable!(),
     }
 }
 
-/// The answer of [`find`], from what the facts are known to tell of magnitudes.
+/// The answer of [`find`], from what is solved of the facts.
 pub fn find_by_sums(
     alloc: Global,
     scope: Scope,
     facts: &Facts,
-    known: &MetricFacts,
+    metric_facts: &MetricFacts,
     goal: &Lit,
 ) -> Result<Found, AllocError>
     requires facts { IsTrue (are_good_facts scope facts.now) }
-    requires known { AreFronts facts.now known.now }
+    requires metric_facts { AreFronts facts.now metric_facts.now }
     requires goal { IsTrue (is_good scope goal.now) }
     requires not_fact { IsFalse (has facts.now goal.now) }
     ensures { IfOk result (IsFound scope facts.now goal.now) }
 {
-    let prepared = prepare(alloc, facts, known)?;
-    let found = find_prepared(alloc, scope, facts, known, &prepared, goal);
+    let prepared = prepare(alloc, facts, metric_facts)?;
+    let found = find_prepared(alloc, scope, facts, metric_facts, &prepared, goal);
     mem::drop(prepared);
     found
 }
@@ -113,24 +113,24 @@ pub fn find_prepared<'a>(
     alloc: Global,
     scope: Scope,
     facts: &'a Facts,
-    known: &'a MetricFacts,
+    metric_facts: &'a MetricFacts,
     prepared: &'a Prepared,
     goal: &'a Lit,
 ) -> Result<Found, AllocError>
     requires facts { IsTrue (are_good_facts scope facts.now) }
-    requires known { AreFronts facts.now known.now }
+    requires metric_facts { AreFronts facts.now metric_facts.now }
     requires prepared { IsPrepared facts.now prepared.now }
     requires goal { IsTrue (is_good scope goal.now) }
     requires not_fact { IsFalse (has facts.now goal.now) }
     ensures { IfOk result (IsFound scope facts.now goal.now) }
 {
-    let known = Known::new(facts, known);
-    let sought = Sought {
+    let step_facts = StepFacts::new(facts, metric_facts);
+    let query = Query {
         scope,
         facts,
         goal,
-        means: Means::Sums,
-        known: Some(&known),
+        strength: Strength::Sums,
+        step_facts: Some(&step_facts),
         values: prepared.values.items(),
         plain_model: prepared.plain_model,
         spread_model: prepared.spread_model,
@@ -138,49 +138,49 @@ pub fn find_prepared<'a>(
         marks: prepared.marks,
         areas: &prepared.areas,
     };
-    match sweep(alloc, &sought)? {
-        Outcome::Found(cert) => Ok(Found::Yes(cert)),
-        Outcome::Nothing => Ok(Found::No),
-        Outcome::Stop(width) => find_where_wide(alloc, &sought, width),
+    match search_rules(alloc, &query)? {
+        Verdict::Yes(cert) => Ok(Found::Yes(cert)),
+        Verdict::No => Ok(Found::No),
+        Verdict::TooWide(width) => find_where_wide(alloc, &query, width),
     }
 }
 
 /// The same, where a literal that an instance needs has a wide system, of this width: facts alone may give the goal.
-fn find_where_wide(alloc: Global, sought: &Sought, width: u128) -> Result<Found, AllocError>
-    requires wide { IsWideTransfer sought.now.scope sought.now.facts.now sought.now.goal.now width }
-    requires goal { IsTrue (is_good sought.now.scope sought.now.goal.now) }
-    requires not_fact { IsFalse (has sought.now.facts.now sought.now.goal.now) }
-    ensures { IfOk result (IsFound sought.now.scope sought.now.facts.now sought.now.goal.now) }
+fn find_where_wide(alloc: Global, query: &Query, width: u128) -> Result<Found, AllocError>
+    requires wide { IsWideTransfer query.now.scope query.now.facts.now query.now.goal.now width }
+    requires goal { IsTrue (is_good query.now.scope query.now.goal.now) }
+    requires not_fact { IsFalse (has query.now.facts.now query.now.goal.now) }
+    ensures { IfOk result (IsFound query.now.scope query.now.facts.now query.now.goal.now) }
 {
-    match find_by_facts(alloc, sought.scope, sought.facts, sought.goal)? {
+    match find_by_facts(alloc, query.scope, query.facts, query.goal)? {
         Some(cert) => Ok(Found::Yes(cert)),
-        None => find_beside_wide(alloc, sought, width),
+        None => find_narrow(alloc, query, width),
     }
 }
 
 /// The same, where a literal that an instance needs has a wide system, of this width: those are passed over.
-fn find_beside_wide(alloc: Global, sought: &Sought, width: u128) -> Result<Found, AllocError>
-    requires not_plain { ¬ TransferFromFacts sought.now.scope sought.now.facts.now sought.now.goal.now }
-    requires wide { IsWideTransfer sought.now.scope sought.now.facts.now sought.now.goal.now width }
-    ensures { IfOk result (IsFound sought.now.scope sought.now.facts.now sought.now.goal.now) }
+fn find_narrow(alloc: Global, query: &Query, width: u128) -> Result<Found, AllocError>
+    requires not_plain { ¬ TransferFromFacts query.now.scope query.now.facts.now query.now.goal.now }
+    requires wide { IsWideTransfer query.now.scope query.now.facts.now query.now.goal.now width }
+    ensures { IfOk result (IsFound query.now.scope query.now.facts.now query.now.goal.now) }
 {
-    let known = sought.known;
-    let narrow = Sought {
-        scope: sought.scope,
-        facts: sought.facts,
-        goal: sought.goal,
-        means: Means::NarrowSums,
-        known,
-        values: sought.values,
-        plain_model: sought.plain_model,
-        spread_model: sought.spread_model,
-        flat_model: sought.flat_model,
-        marks: sought.marks,
-        areas: sought.areas,
+    let step_facts = query.step_facts;
+    let narrow = Query {
+        scope: query.scope,
+        facts: query.facts,
+        goal: query.goal,
+        strength: Strength::NarrowSums,
+        step_facts,
+        values: query.values,
+        plain_model: query.plain_model,
+        spread_model: query.spread_model,
+        flat_model: query.flat_model,
+        marks: query.marks,
+        areas: query.areas,
     };
-    match sweep(alloc, &narrow)? {
-        Outcome::Found(cert) => Ok(Found::Yes(cert)),
-        Outcome::Nothing => Ok(Found::TooWide(width)),
-        Outcome::Stop(_) => unreachable!(),
+    match search_rules(alloc, &narrow)? {
+        Verdict::Yes(cert) => Ok(Found::Yes(cert)),
+        Verdict::No => Ok(Found::TooWide(width)),
+        Verdict::TooWide(_) => unreachable!(),
     }
 }

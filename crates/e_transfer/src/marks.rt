@@ -1,4 +1,4 @@
-// Which relations stand among the facts, and with which sign: what an instance needs of another relation or sign is no
+// Which relations occur among the facts, and with which sign: what an instance needs of another relation or sign is no
 // fact.
 
 ghost use Rattle.std.specs.Prelude.{◌≡◌, ◌≢◌, ◌<◌, length, slice_get, IsTrue, Some, true, false};
@@ -6,14 +6,13 @@ ghost use Rattle.e_literal.specs.Literal.{negation};
 ghost use Rattle.e_clause.specs.Instance.{clause_of};
 ghost use Rattle.e_clause.specs.Table.{table};
 ghost use Rattle.e_clause.specs.Views.{atom_of, row_of};
-ghost use Rattle.e_transfer.specs.Giving.{signed, NoneAt};
+ghost use Rattle.e_transfer.specs.GivenGoals.{signed, NoneAt};
 ghost use Rattle.e_transfer.specs.Marks;
-ghost use Rattle.e_transfer.specs.Marks.{are_marked, NoneStands};
+ghost use Rattle.e_transfer.specs.Marks.{are_marked, NoneHolds};
 
 use crate::clause::{clause_len, pattern_at};
-use crate::sought::{Means, Sought};
-use e_clause::Rule;
-use e_clause::pattern::{Pattern, Row, Shape};
+use crate::query::{Query, Strength};
+use e_clause::{Pattern, Row, Rule, Shape};
 use e_facts::Facts;
 use e_literal::{Atom, Lit, Mono, Term};
 
@@ -139,54 +138,54 @@ fn parts(pattern: &Pattern, negated: bool) -> (Shape, bool)
 
 /// The same, where a metric literal may also follow from the facts: it does not where it says that areas differ, or that
 /// one is less, and there are values with which the facts are true and all areas are 0.
-fn may_follow(sought: &Sought, neg: bool, shape: &Shape) -> bool
-    ensures { result ≡ false → Marks.NoneSuffices sought.now.means sought.now.facts.now (record { neg = neg; atom = atom_of shape.now }) }
+fn may_follow(query: &Query, neg: bool, shape: &Shape) -> bool
+    ensures { result ≡ false → Marks.NoneSuffices query.now.strength query.now.facts.now (record { neg = neg; atom = atom_of shape.now }) }
 {
     let relation = relation_of(shape);
     if relation < OF_DIAGRAMS {
-        return sought.marks[mark(relation, neg)];
+        return query.marks[mark(relation, neg)];
     }
-    if !sought.flat_model {
+    if !query.flat_model {
         return true;
     }
     !is_strict_of_areas(neg, shape)
 }
 
-/// Whether a literal of this relation and sign may stand.
-fn may_suffice(sought: &Sought, neg: bool, shape: &Shape) -> bool
-    ensures { result ≡ false → Marks.NoneSuffices sought.now.means sought.now.facts.now (record { neg = neg; atom = atom_of shape.now }) }
+/// Whether a literal of this relation and sign may hold.
+fn may_suffice(query: &Query, neg: bool, shape: &Shape) -> bool
+    ensures { result ≡ false → Marks.NoneSuffices query.now.strength query.now.facts.now (record { neg = neg; atom = atom_of shape.now }) }
 {
-    match sought.means {
-        Means::Facts => sought.marks[mark(relation_of(shape), neg)],
-        Means::Sums | Means::NarrowSums => may_follow(sought, neg, shape),
+    match query.strength {
+        Strength::Facts => query.marks[mark(relation_of(shape), neg)],
+        Strength::Sums | Strength::NarrowSums => may_follow(query, neg, shape),
     }
 }
 
-/// Whether an instance may have at this place of the clause the goal, or a literal whose negation stands.
-fn may_stand(sought: &Sought, row: &Row, at: usize) -> bool
+/// Whether an instance may have at this place of the clause the goal, or a literal whose negation holds.
+fn may_hold(query: &Query, row: &Row, at: usize) -> bool
     requires { at < length (clause_of (row_of row.now)) }
-    ensures { result ≡ false → NoneStands sought.now.means sought.now.facts.now sought.now.goal.now (row_of row.now) at }
+    ensures { result ≡ false → NoneHolds query.now.strength query.now.facts.now query.now.goal.now (row_of row.now) at }
 {
     let (pattern, negated) = pattern_at(row, at);
     let (shape, neg) = parts(&pattern, negated);
-    mark(relation_of(&shape), neg) == mark_of(sought.goal) || may_suffice(sought, !neg, &shape)
+    mark(relation_of(&shape), neg) == mark_of(query.goal) || may_suffice(query, !neg, &shape)
 }
 
-/// Whether the place is the goal's, or the literal there may stand.
-fn may_be(sought: &Sought, row: &Row, place: usize, at: usize) -> bool
+/// Whether the place is the goal's, or the literal there may hold.
+fn may_be(query: &Query, row: &Row, place: usize, at: usize) -> bool
     requires { at < length (clause_of (row_of row.now)) }
-    ensures { result ≡ false → (at ≢ place) × NoneStands sought.now.means sought.now.facts.now sought.now.goal.now (row_of row.now) at }
+    ensures { result ≡ false → (at ≢ place) × NoneHolds query.now.strength query.now.facts.now query.now.goal.now (row_of row.now) at }
 {
-    at == place || may_stand(sought, row, at)
+    at == place || may_hold(query, row, at)
 }
 
-/// Whether each literal of the clause but the one at this place may stand.
-pub fn may_all_stand(sought: &Sought, rule: Rule, row: &Row, place: usize) -> bool
+/// Whether each literal of the clause but the one at this place may hold.
+pub fn may_all_hold(query: &Query, rule: Rule, row: &Row, place: usize) -> bool
     requires { slice_get table rule ≡ Some (row_of row.now) }
-    ensures { result ≡ false → NoneAt sought.now.means sought.now.scope sought.now.facts.now sought.now.goal.now rule place }
+    ensures { result ≡ false → NoneAt query.now.strength query.now.scope query.now.facts.now query.now.goal.now rule place }
 {
     for at in 0..clause_len(row) {
-        if !may_be(sought, row, place, at) {
+        if !may_be(query, row, place, at) {
             return false;
         }
     }

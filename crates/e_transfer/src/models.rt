@@ -9,8 +9,7 @@ ghost use Rattle.e_transfer.specs.Models;
 ghost use Rattle.e_transfer.specs.Models.{value_by, fits_term, fits_terms, is_model};
 
 use e_facts::Facts;
-use e_literal::compare::{canonical, is_degenerate};
-use e_literal::{Atom, Lit, Mono, Term};
+use e_literal::{Atom, Lit, Mono, Term, canonical, is_degenerate};
 
 /// Which values the terms have that no list gives.
 #[derive(Clone, Copy)]

@@ -4,39 +4,39 @@ ghost use Rattle.std.specs.Prelude.{◌≡◌, ◌<◌, ◌++◌, map, ◌==◌,
 ghost use Rattle.std.specs.List.{list_all};
 ghost use Rattle.e_literal.specs.Literal;
 ghost use Rattle.e_clause.specs.Views.{atom_of, lit_of, row_of};
-ghost use Rattle.e_transfer.specs.Binding;
-ghost use Rattle.e_transfer.specs.Part;
-ghost use Rattle.e_transfer.specs.Part.{last_of_sum, last_of_term, last_of_atom};
-ghost use Rattle.e_transfer.specs.Ties;
-ghost use Rattle.e_transfer.specs.Planning;
-ghost use Rattle.e_transfer.specs.Planning.{total_of, has, Grows, RootsAre, OrderIs, PlacesAre, PlanIs};
+ghost use Rattle.e_transfer.specs.inner.Equations;
+ghost use Rattle.e_transfer.specs.inner.PartsOfChoices;
+ghost use Rattle.e_transfer.specs.inner.PartsOfChoices.{last_of_sum, last_of_term, last_of_atom};
+ghost use Rattle.e_transfer.specs.inner.Bindings;
+ghost use Rattle.e_transfer.specs.inner.Plans;
+ghost use Rattle.e_transfer.specs.inner.Plans.{total_of, has, Grows, RepresentativesAre, OrderIs, PositionsAre, PlanIs};
 
-use crate::ties::{Tie, root, tie_of};
+use crate::unify::{Binding, binding_of, representative};
 use crate::walk::Span;
-use e_clause::pattern::{Pattern, Row, Shape};
+use e_clause::{Pattern, Row, Shape};
 use e_literal::{Mono, Scope, Sort, Term};
 use std::alloc::{AllocError, Global};
 
 /// The order of a search.
 #[derive(Drop)]
 pub struct Plan {
-    /// For each variable, the place in the order of the one that stands for it.
-    pub places: Vec<usize>,
+    /// For each variable, the place in the order of the one that represents it.
+    pub positions: Vec<usize>,
     /// For each literal of the clause, the last of the places of its variables.
-    pub lasts: Vec<usize>,
+    pub ready_at: Vec<usize>,
     /// For each place in the order, the numbers to choose from.
     pub spans: Vec<Span>,
 }
 
-/// For each variable one that stands for it.
-fn roots_of(alloc: Global, ties: &[Tie]) -> Result<Vec<usize>, AllocError>
-    ensures { IfOk result (λ v. RootsAre ties.now v.items) }
+/// For each variable one that represents it.
+fn representatives_of(alloc: Global, bindings: &[Binding]) -> Result<Vec<usize>, AllocError>
+    ensures { IfOk result (λ v. RepresentativesAre bindings.now v.items) }
 {
-    let mut roots = Vec::new(alloc);
-    for v in 0..ties.len() {
-        roots.push(root(ties, v))?;
+    let mut representatives = Vec::new(alloc);
+    for v in 0..bindings.len() {
+        representatives.push(representative(bindings, v))?;
     }
-    Ok(roots)
+    Ok(representatives)
 }
 
 /// Puts a variable last in the order, unless it is there.
@@ -52,57 +52,57 @@ fn add_once(order: &mut Vec<usize>, total: usize, variable: usize) -> Result<(),
 }
 
 /// The variables with a known number.
-fn add_known(order: &mut Vec<usize>, ties: &[Tie]) -> Result<(), AllocError>
-    ensures { OnOk result (Grows (length ties.now) order.old.items order.new.items) }
+fn add_bound(order: &mut Vec<usize>, bindings: &[Binding]) -> Result<(), AllocError>
+    ensures { OnOk result (Grows (length bindings.now) order.old.items order.new.items) }
 {
-    for v in 0..ties.len() {
-        if let Tie::Is(_) = tie_of(ties, v) {
-            add_once(order, ties.len(), v)?;
+    for v in 0..bindings.len() {
+        if let Binding::Is(_) = binding_of(bindings, v) {
+            add_once(order, bindings.len(), v)?;
         }
     }
     Ok(())
 }
 
-/// The preferred variables, by those that stand for them.
+/// The preferred variables, by those that represent them.
 fn add_preferred(
     order: &mut Vec<usize>,
-    roots: &[usize],
+    representatives: &[usize],
     total: usize,
     preferred: &[u8],
 ) -> Result<(), AllocError>
     ensures { OnOk result (Grows total order.old.items order.new.items) }
 {
     for v in preferred {
-        if let Some(root) = roots.get(*v as usize) {
-            if *root < total {
-                add_once(order, total, *root)?;
+        if let Some(representative) = representatives.get(*v as usize) {
+            if *representative < total {
+                add_once(order, total, *representative)?;
             }
         }
     }
     Ok(())
 }
 
-/// The variables that stand for all: those with a known number, then the preferred ones in their order, then the rest.
+/// The variables that represent all: those with a known number, then the preferred ones in their order, then the rest.
 fn order_of(
     alloc: Global,
-    ties: &[Tie],
-    roots: &[usize],
+    bindings: &[Binding],
+    representatives: &[usize],
     preferred: &[u8],
 ) -> Result<Vec<usize>, AllocError>
-    requires { RootsAre ties.now roots.now }
-    ensures { IfOk result (λ v. OrderIs (length ties.now) roots.now v.items) }
+    requires { RepresentativesAre bindings.now representatives.now }
+    ensures { IfOk result (λ v. OrderIs (length bindings.now) representatives.now v.items) }
 {
     let mut order = Vec::new(alloc);
-    add_known(&mut order, ties)?;
-    add_preferred(&mut order, roots, ties.len(), preferred)?;
-    for v in 0..roots.len() {
-        add_once(&mut order, ties.len(), roots[v])?;
+    add_bound(&mut order, bindings)?;
+    add_preferred(&mut order, representatives, bindings.len(), preferred)?;
+    for v in 0..representatives.len() {
+        add_once(&mut order, bindings.len(), representatives[v])?;
     }
     Ok(order)
 }
 
 /// The place of a variable in the order.
-fn place_in(order: &[usize], variable: usize) -> usize
+fn position_in(order: &[usize], variable: usize) -> usize
     requires { IsTrue (has order.now variable) }
     ensures below { result < length order.now }
     ensures at { slice_index order.now result ≡ variable }
@@ -115,25 +115,25 @@ fn place_in(order: &[usize], variable: usize) -> usize
     unreachable!()
 }
 
-fn places_of(
+fn positions_of(
     alloc: Global,
-    ties: &[Tie],
-    roots: &[usize],
+    bindings: &[Binding],
+    representatives: &[usize],
     order: &[usize],
 ) -> Result<Vec<usize>, AllocError>
-    requires { OrderIs (length ties.now) roots.now order.now }
-    ensures { IfOk result (λ v. PlacesAre roots.now order.now v.items) }
+    requires { OrderIs (length bindings.now) representatives.now order.now }
+    ensures { IfOk result (λ v. PositionsAre representatives.now order.now v.items) }
 {
-    let mut places = Vec::new(alloc);
-    for i in 0..roots.len() {
-        places.push(place_in(order, roots[i]))?;
+    let mut positions = Vec::new(alloc);
+    for i in 0..representatives.len() {
+        positions.push(position_in(order, representatives[i]))?;
     }
-    Ok(places)
+    Ok(positions)
 }
 
 /// The sort of a variable: points come first, then lines, then circles.
 pub fn sort_of(row: &Row, variable: usize) -> Sort
-    ensures { result ≡ Part.sort_of (row_of row.now) variable }
+    ensures { result ≡ PartsOfChoices.sort_of (row_of row.now) variable }
 {
     let points = row.points as usize;
     let lines = row.lines as usize;
@@ -158,15 +158,15 @@ pub fn count_of(scope: Scope, sort: Sort) -> u16
 }
 
 /// The numbers for a variable: the known one, if an object has it, or those of all objects.
-fn span_for(count: u16, tie: Tie) -> Span
-    ensures { result ≡ Planning.span_for count tie }
+fn span_for(count: u16, binding: Binding) -> Span
+    ensures { result ≡ Plans.span_for count binding }
 {
-    match tie {
-        Tie::Is(number) if number < count => Span {
+    match binding {
+        Binding::Is(number) if number < count => Span {
             from: number,
             to: number + 1,
         },
-        Tie::Is(_) => Span { from: 0, to: 0 },
+        Binding::Is(_) => Span { from: 0, to: 0 },
         _ => Span { from: 0, to: count },
     }
 }
@@ -175,143 +175,145 @@ fn spans_of(
     alloc: Global,
     row: &Row,
     scope: Scope,
-    ties: &[Tie],
+    bindings: &[Binding],
     order: &[usize],
 ) -> Result<Vec<Span>, AllocError>
-    ensures { IfOk result (λ v. v.items ≡ Planning.spans_of (row_of row.now) scope ties.now order.now) }
+    ensures { IfOk result (λ v. v.items ≡ Plans.spans_of (row_of row.now) scope bindings.now order.now) }
 {
     let mut spans = Vec::new(alloc);
     for v in order {
         let count = count_of(scope, sort_of(row, *v));
-        spans.push(span_for(count, tie_of(ties, *v)))?;
+        spans.push(span_for(count, binding_of(bindings, *v)))?;
     }
     Ok(spans)
 }
 
 /// The place of a variable.
-fn place(places: &[usize], variable: usize) -> usize
-    ensures { result ≡ slice_index places.now variable }
+fn place(positions: &[usize], variable: usize) -> usize
+    ensures { result ≡ slice_index positions.now variable }
 {
-    match places.get(variable) {
+    match positions.get(variable) {
         Some(place) => *place,
         None => 0,
     }
 }
 
-fn point(places: &[usize], at: u16) -> usize
-    ensures { result ≡ slice_index places.now at }
+fn point(positions: &[usize], at: u16) -> usize
+    ensures { result ≡ slice_index positions.now at }
 {
-    place(places, at as usize)
+    place(positions, at as usize)
 }
 
-fn line(row: &Row, places: &[usize], at: u16) -> usize
-    ensures { result ≡ slice_index places.now (Binding.line (row_of row.now) at) }
+fn line(row: &Row, positions: &[usize], at: u16) -> usize
+    ensures { result ≡ slice_index positions.now (Equations.line (row_of row.now) at) }
 {
-    place(places, row.points as usize + at as usize)
+    place(positions, row.points as usize + at as usize)
 }
 
-fn circle(row: &Row, places: &[usize], at: u16) -> usize
-    ensures { result ≡ slice_index places.now (Binding.circle (row_of row.now) at) }
+fn circle(row: &Row, positions: &[usize], at: u16) -> usize
+    ensures { result ≡ slice_index positions.now (Equations.circle (row_of row.now) at) }
 {
     place(
-        places,
+        positions,
         row.points as usize + row.lines as usize + at as usize,
     )
 }
 
 /// The last of the places of a term's variables.
-pub fn last_of_term(places: &[usize], term: Term) -> usize
-    ensures { result ≡ Part.last_of_term places.now term }
+pub fn last_of_term(positions: &[usize], term: Term) -> usize
+    ensures { result ≡ PartsOfChoices.last_of_term positions.now term }
 {
     match term {
-        Term::Seg(x, y) => point(places, x).max(point(places, y)),
-        Term::Ang(x, y, z) | Term::Area(x, y, z) => point(places, x)
-            .max(point(places, y))
-            .max(point(places, z)),
+        Term::Seg(x, y) => point(positions, x).max(point(positions, y)),
+        Term::Ang(x, y, z) | Term::Area(x, y, z) => point(positions, x)
+            .max(point(positions, y))
+            .max(point(positions, z)),
         Term::Right => 0,
     }
 }
 
-fn last_of_sum(places: &[usize], sum: &[Mono]) -> usize
-    ensures { result ≡ Part.last_of_sum places.now sum.now }
+fn last_of_sum(positions: &[usize], sum: &[Mono]) -> usize
+    ensures { result ≡ PartsOfChoices.last_of_sum positions.now sum.now }
 {
     match sum {
         [] => 0,
-        [m, rest @ ..] => last_of_term(places, m.term).max(last_of_sum(places, rest)),
+        [m, rest @ ..] => last_of_term(positions, m.term).max(last_of_sum(positions, rest)),
     }
 }
 
 /// The last of the places of a shape's variables.
-fn last_of_shape(row: &Row, places: &[usize], shape: &Shape) -> usize
-    ensures { result ≡ last_of_atom (row_of row.now) places.now (atom_of shape.now) }
+fn last_of_shape(row: &Row, positions: &[usize], shape: &Shape) -> usize
+    ensures { result ≡ last_of_atom (row_of row.now) positions.now (atom_of shape.now) }
 {
     match shape {
-        Shape::On(x, l) => point(places, *x).max(line(row, places, *l)),
+        Shape::On(x, l) => point(positions, *x).max(line(row, positions, *l)),
         Shape::OnC(x, c) | Shape::Inside(x, c) | Shape::Center(x, c) => {
-            point(places, *x).max(circle(row, places, *c))
+            point(positions, *x).max(circle(row, positions, *c))
         }
-        Shape::Between(x, y, z) => point(places, *x)
-            .max(point(places, *y))
-            .max(point(places, *z)),
-        Shape::Same(x, y, l) => point(places, *x)
-            .max(point(places, *y))
-            .max(line(row, places, *l)),
-        Shape::MeetLL(l, m) | Shape::EqL(l, m) => line(row, places, *l).max(line(row, places, *m)),
-        Shape::MeetLC(l, c) => line(row, places, *l).max(circle(row, places, *c)),
+        Shape::Between(x, y, z) => point(positions, *x)
+            .max(point(positions, *y))
+            .max(point(positions, *z)),
+        Shape::Same(x, y, l) => point(positions, *x)
+            .max(point(positions, *y))
+            .max(line(row, positions, *l)),
+        Shape::MeetLL(l, m) | Shape::EqL(l, m) => line(row, positions, *l).max(line(
+            row, positions, *m,
+        )),
+        Shape::MeetLC(l, c) => line(row, positions, *l).max(circle(row, positions, *c)),
         Shape::MeetCC(c, d) | Shape::EqC(c, d) => {
-            circle(row, places, *c).max(circle(row, places, *d))
+            circle(row, positions, *c).max(circle(row, positions, *d))
         }
-        Shape::EqP(x, y) => point(places, *x).max(point(places, *y)),
+        Shape::EqP(x, y) => point(positions, *x).max(point(positions, *y)),
         Shape::MagEq(x, y) | Shape::MagLt(x, y) => {
-            last_of_sum(places, x).max(last_of_sum(places, y))
+            last_of_sum(positions, x).max(last_of_sum(positions, y))
         }
     }
 }
 
-fn last_of_pattern(row: &Row, places: &[usize], pattern: &Pattern) -> usize
-    ensures { result ≡ last_of_atom (row_of row.now) places.now (lit_of pattern.now).atom }
+fn last_of_pattern(row: &Row, positions: &[usize], pattern: &Pattern) -> usize
+    ensures { result ≡ last_of_atom (row_of row.now) positions.now (lit_of pattern.now).atom }
 {
     match pattern {
-        Pattern::Is(shape) | Pattern::Not(shape) => last_of_shape(row, places, shape),
+        Pattern::Is(shape) | Pattern::Not(shape) => last_of_shape(row, positions, shape),
     }
 }
 
-fn add_lasts(
-    lasts: &mut Vec<usize>,
+fn add_ready_at(
+    ready_at: &mut Vec<usize>,
     row: &Row,
-    places: &[usize],
+    positions: &[usize],
     patterns: &[Pattern],
 ) -> Result<(), AllocError>
-    ensures { OnOk result (lasts.new.items ≡ lasts.old.items ++ map (λ l. last_of_atom (row_of row.now) places.now l.atom) (map lit_of patterns.now)) }
+    ensures { OnOk result (ready_at.new.items ≡ ready_at.old.items ++ map (λ l. last_of_atom (row_of row.now) positions.now l.atom) (map lit_of patterns.now)) }
 {
     for p in patterns {
-        lasts.push(last_of_pattern(row, places, p))?;
+        ready_at.push(last_of_pattern(row, positions, p))?;
     }
     Ok(())
 }
 
-/// The plan for a rule in a scope, where some variables are tied, with the preferred variables early. Which are preferred
+/// The plan for a rule in a scope, where some variables are bound, with the preferred variables early. Which are preferred
 /// is a matter of speed alone.
 pub fn make_plan(
     alloc: Global,
     row: &Row,
     scope: Scope,
-    ties: &[Tie],
+    bindings: &[Binding],
     preferred: &[u8],
 ) -> Result<Plan, AllocError>
-    requires { length ties.now ≡ total_of (row_of row.now) }
-    ensures { IfOk result (PlanIs (row_of row.now) scope ties.now) }
+    requires { length bindings.now ≡ total_of (row_of row.now) }
+    ensures { IfOk result (PlanIs (row_of row.now) scope bindings.now) }
 {
-    let roots = roots_of(alloc, ties)?;
-    let order = order_of(alloc, ties, &roots, preferred)?;
-    let places = places_of(alloc, ties, &roots, &order)?;
-    let spans = spans_of(alloc, row, scope, ties, &order)?;
-    let mut lasts = Vec::new(alloc);
-    add_lasts(&mut lasts, row, &places, row.premises)?;
-    add_lasts(&mut lasts, row, &places, row.conclusions)?;
+    let representatives = representatives_of(alloc, bindings)?;
+    let order = order_of(alloc, bindings, &representatives, preferred)?;
+    let positions = positions_of(alloc, bindings, &representatives, &order)?;
+    let spans = spans_of(alloc, row, scope, bindings, &order)?;
+    let mut ready_at = Vec::new(alloc);
+    add_ready_at(&mut ready_at, row, &positions, row.premises)?;
+    add_ready_at(&mut ready_at, row, &positions, row.conclusions)?;
     Ok(Plan {
-        places,
-        lasts,
+        positions,
+        ready_at,
         spans,
     })
 }

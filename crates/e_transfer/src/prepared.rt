@@ -1,4 +1,4 @@
-// What is made of the facts of a step once, for all goals that are sought by sums.
+// What is made of the facts of a step once, for all goals that are searched for by sums.
 
 ghost use Rattle.std.specs.Prelude.{◌≡◌, ◌≤◌, length, IsTrue, IfOk};
 ghost use Rattle.std.specs.List.{list_all};
@@ -29,8 +29,8 @@ pub struct Prepared {
 }
 
 // The values with which all metric facts are true, if there are any. What they are is a matter of speed alone.
-fn values_of(alloc: Global, told: Metric) -> Values {
-    match told {
+fn values_of(alloc: Global, answer: Metric) -> Values {
+    match answer {
         Metric::No(values) => values,
         Metric::Yes(_) | Metric::TooWide(_) => Values::new(Vec::new(alloc)),
     }
@@ -52,13 +52,17 @@ fn with_values(facts: &Facts, values: Values, areas: Vec<Term>) -> Prepared
 }
 
 /// What is made of these facts, of which this is known.
-pub fn prepare(alloc: Global, facts: &Facts, known: &MetricFacts) -> Result<Prepared, AllocError>
+pub fn prepare(
+    alloc: Global,
+    facts: &Facts,
+    metric_facts: &MetricFacts,
+) -> Result<Prepared, AllocError>
     requires facts { IsTrue (list_all is_well_formed facts.now) }
     requires few { length (terms_of_lits facts.now) ≤ 1100 }
-    requires known { AreFronts facts.now known.now }
+    requires metric_facts { AreFronts facts.now metric_facts.now }
     ensures { IfOk result (IsPrepared facts.now) }
 {
     let areas = areas_of(alloc, facts)?;
-    let told = known.absurd(alloc, facts)?;
-    Ok(with_values(facts, values_of(alloc, told), areas))
+    let answer = metric_facts.absurd(alloc, facts)?;
+    Ok(with_values(facts, values_of(alloc, answer), areas))
 }

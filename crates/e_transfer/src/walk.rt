@@ -1,7 +1,7 @@
 //! A complete search for the least good choice, one number at each of a list of places.
 
 ghost use Rattle.std.specs.Prelude.{◌≡◌, ◌++◌, ℕ, List, IfOk, OnErr, ◌<◌, length};
-ghost use Rattle.e_transfer.specs.Outcome.{VerdictIs, OutcomeIs};
+ghost use Rattle.e_transfer.specs.Verdicts.{VerdictIs, SearchIs};
 
 use std::alloc::{AllocError, Global};
 use std::mem;
@@ -13,28 +13,20 @@ pub struct Span {
     pub to: u16,
 }
 
-/// What a judge says of the first numbers of a choice.
+/// What is answered on the first numbers of a choice, and by a search for a whole one.
 #[derive(Drop)]
 pub enum Verdict<P> {
-    /// Go on; if the choice is whole, it is good.
-    Keep(P),
+    /// The search may go on; if the choice is whole, it is good, and this shows it.
+    Yes(P),
     /// No choice that begins so is good.
-    Refuse,
-    /// It cannot be told: something here is too wide.
-    Stop(u128),
+    No,
+    /// It cannot be decided: something here is too wide, and has this width.
+    TooWide(u128),
 }
 
-/// What a search says.
-#[derive(Drop)]
-pub enum Outcome<P> {
-    Found(P),
-    Nothing,
-    Stop(u128),
-}
-
-/// What is sought among choices, and how their first numbers are judged.
+/// What is searched for among choices, and how their first numbers are checked.
 pub trait Task {
-    /// What a judge hands out for a whole choice.
+    /// What a check hands out for a whole choice.
     type Proof: Drop;
 
     // which choices are wanted, as a whole
@@ -49,42 +41,42 @@ pub trait Task {
     // what it means that something is too wide at a part
     ghost wide: { Self → List ℕ → ℕ → Type 0 };
 
-    fn judge(&self, alloc: Global, part: &[u16]) -> Result<Verdict<Self::Proof>, AllocError>
+    fn check(&self, alloc: Global, part: &[u16]) -> Result<Verdict<Self::Proof>, AllocError>
         ensures { IfOk result (VerdictIs (kept self.now) (shown self.now) (wide self.now) (wanted self.now) part.now) };
 }
 
 /// The least choice that begins with `chosen`, goes on with one number of each span, and whose parts are all kept, with
-/// what the judge hands out for the whole; no choice before it is wanted. `chosen` is then this choice. `Nothing` where no
-/// choice is wanted. `Stop` at the first part that is too wide, where no choice before it is wanted; `chosen` is then this
-/// part. It fails only for want of memory; `chosen` then is what it was, with some numbers behind it.
+/// what the check hands out for the whole; no choice before it is wanted. `chosen` is then this choice. `No` where no
+/// choice is wanted. `TooWide` at the first part that is too wide, where no choice before it is wanted; `chosen` is then this
+/// part. It fails only out of memory; `chosen` then is what it was, with some numbers after it.
 pub fn search<T: Task>(
     alloc: Global,
     task: &T,
     spans: &[Span],
     chosen: &mut Vec<u16>,
-) -> Result<Outcome<T::Proof>, AllocError>
-    ensures outcome { IfOk result (OutcomeIs (T.kept task.now) (T.shown task.now) (T.wide task.now) (T.wanted task.now) spans.now chosen.old.items chosen.new.items) }
+) -> Result<Verdict<T::Proof>, AllocError>
+    ensures outcome { IfOk result (SearchIs (T.kept task.now) (T.shown task.now) (T.wide task.now) (T.wanted task.now) spans.now chosen.old.items chosen.new.items) }
     ensures err { OnErr result ((more : List ℕ) × (chosen.new.items ≡ chosen.old.items ++ more)) }
 {
-    let proof = match task.judge(alloc, chosen)? {
-        Verdict::Keep(proof) => proof,
-        Verdict::Refuse => return Ok(Outcome::Nothing),
-        Verdict::Stop(width) => return Ok(Outcome::Stop(width)),
+    let proof = match task.check(alloc, chosen)? {
+        Verdict::Yes(proof) => proof,
+        Verdict::No => return Ok(Verdict::No),
+        Verdict::TooWide(width) => return Ok(Verdict::TooWide(width)),
     };
     match spans {
-        [] => Ok(Outcome::Found(proof)),
+        [] => Ok(Verdict::Yes(proof)),
         [span, rest @ ..] => {
             mem::drop(proof);
             for value in span.from..span.to {
                 chosen.push(value)?;
                 match search(alloc, task, rest, chosen)? {
-                    Outcome::Nothing => {}
-                    Outcome::Found(proof) => return Ok(Outcome::Found(proof)),
-                    Outcome::Stop(width) => return Ok(Outcome::Stop(width)),
+                    Verdict::No => {}
+                    Verdict::Yes(proof) => return Ok(Verdict::Yes(proof)),
+                    Verdict::TooWide(width) => return Ok(Verdict::TooWide(width)),
                 }
                 chosen.pop();
             }
-            Ok(Outcome::Nothing)
+            Ok(Verdict::No)
         }
     }
 }

@@ -2,7 +2,7 @@
 
 use crate::rows::rows;
 use e_fraction::{Row, have_small_coefficients};
-use e_simplex::{Settled, Settling, Verdict, have_short_forms, settle};
+use e_simplex::{Settled, Settling, Verdict, settle};
 use std::alloc::{AllocError, Global};
 use std::process::Abort;
 use std::test::Fail;
@@ -31,7 +31,6 @@ fn verdict(
 ) -> Result<&'static str, AllocError> {
     assert!(rt; settled.rows().len() + more.len() <= 4096);
     assert!(rt; have_small_coefficients(settled.rows()) && have_small_coefficients(more));
-    assert!(rt; have_short_forms(settled.rows()) && have_short_forms(more));
     Ok(match settled.decide_with(alloc, more)? {
         Verdict::Holds(_) => "holds",
         Verdict::Absurd(_) => "absurd",
@@ -47,7 +46,7 @@ fn answer(
 ) -> Result<&'static str, AllocError> {
     let more = rows(rt, alloc, more)?;
     let first = rows(rt, alloc, first)?;
-    assert!(rt; first.len() <= 4096 && have_small_coefficients(&first) && have_short_forms(&first));
+    assert!(rt; first.len() <= 4096 && have_small_coefficients(&first));
     match settle(alloc, first)? {
         Settling::Settled(settled) => verdict(rt, alloc, &settled, &more),
         Settling::Absurd(_) => Ok("absurd when settled"),
@@ -89,7 +88,6 @@ fn grown_answer(
 ) -> Result<&'static str, AllocError> {
     assert!(rt; settled.rows().len() + more.len() <= 4096);
     assert!(rt; have_small_coefficients(settled.rows()) && have_small_coefficients(more));
-    assert!(rt; have_short_forms(settled.rows()) && have_short_forms(more));
     match settled.with(alloc, more)? {
         Settling::Settled(grown) => verdict(rt, alloc, &grown, question),
         Settling::Absurd(_) => Ok("absurd when settled"),
@@ -108,7 +106,7 @@ fn answer_in_turn(
     let question = rows(rt, alloc, question)?;
     let more = rows(rt, alloc, more)?;
     let first = rows(rt, alloc, first)?;
-    assert!(rt; first.len() <= 4096 && have_small_coefficients(&first) && have_short_forms(&first));
+    assert!(rt; first.len() <= 4096 && have_small_coefficients(&first));
     match settle(alloc, first)? {
         Settling::Settled(settled) => grown_answer(rt, alloc, &settled, &more, &question),
         Settling::Absurd(_) | Settling::TooWide => Ok("no solution of the first rows"),

@@ -1,5 +1,5 @@
 use Rattle.std.proofs.Common.{◌≡◌, ◌++◌, drop, length}
-use Rattle.e_licence.specs.Filling.{filled}
+use Rattle.e_licence.specs.inner.BlankChoices.{filled}
 use Rattle.e_licence.proofs.blanks.arguments.Given as goal
 
 abbrev pub invariant-loop-object : goal.invariant-loop-object

@@ -1,5 +1,5 @@
 use Rattle.std.proofs.Common.{◌≡◌, ◌++◌, drop, length}
-use Rattle.e_licence.specs.Filling.{spans_of}
+use Rattle.e_licence.specs.inner.BlankChoices.{spans_of}
 use Rattle.e_licence.proofs.blanks.spans.Given as goal
 
 abbrev pub invariant-loop-object : goal.invariant-loop-object

@@ -1,7 +1,7 @@
 use Rattle.std.proofs.Common.{subst, ◌≡◌, false, None}
 use Rattle.e_clause.specs.Clash.{clash}
-use Rattle.e_licence.specs.Clashes.{IsClashOf, IsClashing}
-use Rattle.e_licence.proofs.Clashing.{by_clash}
+use Rattle.e_licence.specs.inner.Clashes.{IsClashOf, IsClashing}
+use Rattle.e_licence.proofs.Clashes.{by_clash}
 use Rattle.e_licence.proofs.contradiction.against.Goals as goal
 
 pub returns-in-Some : goal.returns-in-Some

@@ -3,13 +3,13 @@ use Rattle.std.specs.List.{list_all}
 use Rattle.e_literal.specs.WellFormed.{is_well_formed}
 use Rattle.e_clause.specs.Assignment.{terms_of_lits}
 use Rattle.e_metric.specs.Fronts.{AreFronts}
-use Rattle.e_metric.specs.Told.{IsTold}
-use Rattle.e_licence.proofs.Judging.{well_formed, few_terms}
-use Rattle.e_licence.proofs.Clashing.{by_sums, too_wide}
+use Rattle.e_metric.specs.MetricAnswers.{IsMetricAnswer}
+use Rattle.e_licence.proofs.GoodLiterals.{well_formed, few_terms}
+use Rattle.e_licence.proofs.Clashes.{by_sums, too_wide}
 use Rattle.e_licence.proofs.contradiction.by_arithmetic.Goals as goal
 
 pub absurd_in_turn-requires-clause-fronts : goal.absurd_in_turn-requires-clause-fronts
-absurd_in_turn-requires-clause-fronts c = subst (λ fs. AreFronts fs c.args.known.now) (sym c.facts-facts.ensures) c.requires.known
+absurd_in_turn-requires-clause-fronts c = subst (λ fs. AreFronts fs c.args.metric_facts.now) (sym c.facts-facts.ensures) c.requires.metric_facts
 
 pub absurd_in_turn-requires-clause-facts : goal.absurd_in_turn-requires-clause-facts
 absurd_in_turn-requires-clause-facts c =
@@ -24,11 +24,11 @@ absurd_in_turn-requires-clause-few c =
 pub returns-in-Yes-clause-refuted : goal.returns-in-Yes-clause-refuted
 returns-in-Yes-clause-refuted c =
     let b = c.args.context.now in
-    let told : IsTold b.facts None c.in_ok-cert.field-0 = subst (λ fs. IsTold fs None c.in_ok-cert.field-0) c.facts-facts.ensures c.in_ok-cert.ensures.told in
-    by_sums b c.in-Yes.cert c.good.ensures (subst (IsTold b.facts None) c.in-Yes.is told)
+    let answer : IsMetricAnswer b.facts None c.in_ok-cert.field-0 = subst (λ fs. IsMetricAnswer fs None c.in_ok-cert.field-0) c.facts-facts.ensures c.in_ok-cert.ensures.answer in
+    by_sums b c.in-Yes.cert c.good.ensures (subst (IsMetricAnswer b.facts None) c.in-Yes.is answer)
 
 pub returns-in-TooWide-clause-refuted : goal.returns-in-TooWide-clause-refuted
 returns-in-TooWide-clause-refuted c =
     let b = c.args.context.now in
-    let told : IsTold b.facts None c.in_ok-cert.field-0 = subst (λ fs. IsTold fs None c.in_ok-cert.field-0) c.facts-facts.ensures c.in_ok-cert.ensures.told in
-    too_wide b.facts c.in-TooWide.width c.requires.no_clash (subst (IsTold b.facts None) c.in-TooWide.is told)
+    let answer : IsMetricAnswer b.facts None c.in_ok-cert.field-0 = subst (λ fs. IsMetricAnswer fs None c.in_ok-cert.field-0) c.facts-facts.ensures c.in_ok-cert.ensures.answer in
+    too_wide b.facts c.in-TooWide.width c.requires.no_clash (subst (IsMetricAnswer b.facts None) c.in-TooWide.is answer)

@@ -1,6 +1,6 @@
 use Rattle.std.proofs.Common.{sym, ◌∙◌, subst}
-use Rattle.e_licence.specs.Clashes.{IsClashing}
-use Rattle.e_licence.proofs.Clashing.{found, none_clashes}
+use Rattle.e_licence.specs.inner.Clashes.{IsClashing}
+use Rattle.e_licence.proofs.Clashes.{found, none_clashes}
 use Rattle.e_licence.proofs.contradiction.clash.Goals as goal
 
 pub returns-then-branch : goal.returns-then-branch

@@ -1,13 +1,13 @@
 use Rattle.std.proofs.Common.{subst, Some}
-use Rattle.e_metric.specs.Told.{IsTold}
-use Rattle.e_licence.proofs.Following.{by_sums, by_transfer, too_wide, wide_transfer, found_at}
+use Rattle.e_metric.specs.MetricAnswers.{IsMetricAnswer}
+use Rattle.e_licence.proofs.Licences.{by_sums, by_transfer, too_wide, wide_transfer, found_at}
 use Rattle.e_licence.proofs.licensing.metric.Goals as goal
 
 pub returns-in-Yes : goal.returns-in-Yes
 returns-in-Yes c =
     let b = c.args.context.now in
     let l = c.args.lit.now in
-    by_sums b l c.in-Yes.cert c.good.ensures c.requires.lit c.requires.not_fact c.requires.metric (subst (IsTold b.facts (Some l)) c.in-Yes.is c.requires.told)
+    by_sums b l c.in-Yes.cert c.good.ensures c.requires.lit c.requires.not_fact c.requires.metric (subst (IsMetricAnswer b.facts (Some l)) c.in-Yes.is c.requires.answer)
 
 pub returns-in-TooWide-2 : goal.returns-in-TooWide-2
 returns-in-TooWide-2 c =
@@ -21,7 +21,7 @@ returns-in-No-3 c =
     let b = c.args.context.now in
     let l = c.args.lit.now in
     let found = found_at b c.scope-scope.result c.facts-facts.result.now l c.in_ok-cert-in-TooWide.field-0 c.scope-scope.ensures c.facts-facts.ensures c.in_ok-cert-in-TooWide.ensures in
-    too_wide b.scope b.facts l c.in-TooWide.width c.in_ok-cert-in-TooWide.field-0 c.requires.not_fact c.requires.metric (subst (IsTold b.facts (Some l)) c.in-TooWide.is c.requires.told) found c.in-No-3.is
+    too_wide b.scope b.facts l c.in-TooWide.width c.in_ok-cert-in-TooWide.field-0 c.requires.not_fact c.requires.metric (subst (IsMetricAnswer b.facts (Some l)) c.in-TooWide.is c.requires.answer) found c.in-No-3.is
 
 pub returns-in-Yes-2 : goal.returns-in-Yes-2
 returns-in-Yes-2 c =

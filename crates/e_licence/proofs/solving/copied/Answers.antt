@@ -1,8 +1,8 @@
-use Rattle.e_licence.proofs.Fronts.{copy_known}
+use Rattle.e_licence.proofs.Fronts.{copied_metric_facts}
 use Rattle.e_licence.proofs.solving.copied.Goals as goal
 
 pub returns-in-Some : goal.returns-in-Some
-returns-in-Some c = copy_known c.args.known.now c.in-Some.known c.copied.result c.in-Some.is c.copied.ensures
+returns-in-Some c = copied_metric_facts c.args.metric_facts.now c.in-Some.metric_facts c.copied.result c.in-Some.is c.copied.ensures
 
 pub returns-in-None : goal.returns-in-None
 returns-in-None c facts h = c.new.ensures facts

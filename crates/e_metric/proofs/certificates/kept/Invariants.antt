@@ -1,5 +1,5 @@
 use Rattle.std.proofs.Common.{◌≡◌, ◌++◌, drop}
-use Rattle.e_metric.specs.Certificate.{kept}
+use Rattle.e_metric.specs.inner.Certificate.{kept}
 use Rattle.e_metric.proofs.certificates.kept.Given as goal
 
 abbrev pub invariant-loop-i : goal.invariant-loop-i

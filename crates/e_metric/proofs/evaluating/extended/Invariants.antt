@@ -1,5 +1,5 @@
 use Rattle.std.proofs.Common.{◌≡◌, drop}
-use Rattle.e_metric.specs.Further.{extended}
+use Rattle.e_metric.specs.inner.FurtherRows.{extended}
 use Rattle.e_metric.proofs.evaluating.extended.Given as goal
 
 abbrev pub invariant-loop-term : goal.invariant-loop-term

@@ -1,5 +1,5 @@
 use Rattle.std.proofs.Common.{◌≡◌, drop}
-use Rattle.e_metric.specs.Joined.{with_terms}
+use Rattle.e_metric.specs.inner.Differences.{with_terms}
 use Rattle.e_metric.proofs.joining.add_terms.Given as goal
 
 abbrev pub invariant-loop-m : goal.invariant-loop-m

@@ -1,7 +1,7 @@
 use Rattle.std.proofs.Common.{◌≡◌, take, drop}
 use Rattle.e_clause.specs.Assignment.{terms_of_lits}
 use Rattle.e_clause.specs.System.{of_kind}
-use Rattle.e_metric.specs.Listed.{listed}
+use Rattle.e_metric.specs.ListedTerms.{listed}
 use Rattle.e_metric.proofs.listing.add_facts.Given as goal
 
 abbrev pub invariant-loop-k : goal.invariant-loop-k

@@ -1,5 +1,5 @@
 use Rattle.std.proofs.Common.{◌≡◌, drop, map}
-use Rattle.e_metric.specs.Listed.{listed}
+use Rattle.e_metric.specs.ListedTerms.{listed}
 use Rattle.e_metric.proofs.listing.add_sum.Given as goal
 
 abbrev pub invariant-loop-m : goal.invariant-loop-m

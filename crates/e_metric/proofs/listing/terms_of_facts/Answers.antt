@@ -1,7 +1,7 @@
 use Rattle.std.proofs.Common.{◌∙◌, ap}
 use Rattle.e_clause.specs.Assignment.{terms_of_lits}
 use Rattle.e_clause.specs.System.{of_kind}
-use Rattle.e_metric.specs.Listed.{listed}
+use Rattle.e_metric.specs.ListedTerms.{listed}
 use Rattle.e_metric.proofs.listing.terms_of_facts.Goals as goal
 
 pub returns : goal.returns

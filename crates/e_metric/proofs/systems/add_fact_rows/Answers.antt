@@ -2,9 +2,9 @@ use Rattle.std.proofs.Common.{◌+◌, arith, drop, subst}
 use Rattle.e_clause.specs.declared.cert.RowName.TheVariants.{Fact}
 use Rattle.e_clause.specs.System.{rows_named, of_kind}
 use Rattle.e_literal.specs.WellFormed.{is_well_formed}
-use Rattle.e_metric.specs.Agree.{GrowBy}
+use Rattle.e_metric.specs.AgreeingRows.{GrowBy}
 use Rattle.e_metric.proofs.FirstTerms.{one_from, whole_rest}
-use Rattle.e_metric.proofs.Growing.{all_at, facts_grow}
+use Rattle.e_metric.proofs.SystemRows.{all_at, facts_grow}
 use Rattle.e_metric.proofs.systems.add_fact_rows.Goals as goal
 
 pub add_fact_row-requires : goal.add_fact_row-requires

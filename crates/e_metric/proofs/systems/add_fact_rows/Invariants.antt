@@ -1,7 +1,7 @@
 use Rattle.std.proofs.Common.{take, drop}
 use Rattle.e_clause.specs.declared.cert.RowName.TheVariants.{Fact}
 use Rattle.e_clause.specs.System.{rows_named, of_kind}
-use Rattle.e_metric.specs.Agree.{GrowBy}
+use Rattle.e_metric.specs.AgreeingRows.{GrowBy}
 use Rattle.e_metric.proofs.systems.add_fact_rows.Given as goal
 
 abbrev pub invariant-loop-k : goal.invariant-loop-k

@@ -1,7 +1,7 @@
 use Rattle.std.proofs.Common.{take}
 use Rattle.std.specs.Prelude.{flat_map}
 use Rattle.e_clause.specs.System.{rows_of_term}
-use Rattle.e_metric.specs.Agree.{GrowBy}
+use Rattle.e_metric.specs.AgreeingRows.{GrowBy}
 use Rattle.e_metric.proofs.systems.add_term_rows.Given as goal
 
 abbrev pub invariant-loop-term : goal.invariant-loop-term

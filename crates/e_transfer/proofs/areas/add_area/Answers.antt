@@ -1,6 +1,6 @@
 use Rattle.std.proofs.Common.{◌++◌, ◌∷◌, [], ◌∙◌, ap}
 use Rattle.e_literal.specs.declared.object.Term.{Term}
-use Rattle.e_transfer.proofs.Freeing.{also_pushed}
+use Rattle.e_transfer.proofs.FreeAreas.{also_pushed}
 use Rattle.e_transfer.proofs.areas.add_area.Goals as goal
 
 pub returns-in_ok-push : goal.returns-in_ok-push

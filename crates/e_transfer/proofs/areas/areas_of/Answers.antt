@@ -1,5 +1,5 @@
 use Rattle.std.proofs.Common.{[]}
-use Rattle.e_transfer.proofs.Freeing.{also_next_fact}
+use Rattle.e_transfer.proofs.FreeAreas.{also_next_fact}
 use Rattle.e_transfer.proofs.areas.areas_of.Goals as goal
 
 pub loop-i-preserved : goal.loop-i-preserved

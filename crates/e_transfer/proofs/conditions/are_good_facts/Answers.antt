@@ -1,6 +1,6 @@
 use Rattle.std.proofs.Common.{◌≡◌, ◌∙◌, ◌&&◌, ap, sym, true, Bool}
 use Rattle.e_clause.specs.Judged.{are_good, are_few}
-use Rattle.e_transfer.proofs.Needing.{facts_well}
+use Rattle.e_transfer.proofs.Needs.{facts_well}
 use Rattle.e_transfer.proofs.conditions.are_good_facts.Goals as goal
 
 pub returns-then-are_good : goal.returns-then-are_good

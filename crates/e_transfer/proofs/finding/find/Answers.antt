@@ -1,6 +1,6 @@
 use Rattle.e_literal.proofs.Booleans.{and_left}
 use Rattle.e_clause.specs.Judged.{are_good, are_few}
-use Rattle.e_transfer.proofs.Needing.{facts_well, facts_few}
+use Rattle.e_transfer.proofs.Needs.{facts_well, facts_few}
 use Rattle.e_transfer.proofs.finding.find.Goals as goal
 
 pub of-requires : goal.of-requires

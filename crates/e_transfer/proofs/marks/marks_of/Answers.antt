@@ -1,5 +1,5 @@
 use Rattle.std.proofs.Common.{refl, true, set, arith, length-set, ◌∙◌}
-use Rattle.e_transfer.proofs.Marking.{one_more_marked, all_marked}
+use Rattle.e_transfer.proofs.MarkedFacts.{one_more_marked, all_marked}
 use Rattle.e_transfer.proofs.marks.marks_of.Goals as goal
 
 pub loop-i-preserved : goal.loop-i-preserved

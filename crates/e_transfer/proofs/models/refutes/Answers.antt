@@ -1,5 +1,5 @@
 use Rattle.e_transfer.specs.Models.{canonical_value}
-use Rattle.e_transfer.proofs.Modelling.{refuted}
+use Rattle.e_transfer.proofs.ModelValues.{refuted}
 use Rattle.e_transfer.proofs.models.refutes.Goals as goal
 
 pub returns-then-is_false : goal.returns-then-is_false

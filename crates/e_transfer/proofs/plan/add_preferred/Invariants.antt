@@ -1,4 +1,4 @@
-use Rattle.e_transfer.specs.Planning.{Grows}
+use Rattle.e_transfer.specs.inner.Plans.{Grows}
 use Rattle.e_transfer.proofs.plan.add_preferred.Given as goal
 
 abbrev pub invariant-loop-v : goal.invariant-loop-v

@@ -1,13 +1,13 @@
 use Rattle.std.proofs.Common.{get_or, arith, below_more}
 use Rattle.std.specs.Prelude.{IsTrue}
-use Rattle.e_transfer.specs.Planning.{has}
+use Rattle.e_transfer.specs.inner.Plans.{has}
 use Rattle.e_transfer.proofs.plan.order_of.Goals as goal
 
 pub loop-v-preserved : goal.loop-v-preserved
 loop-v-preserved c = record {
   below = c.in_ok-add_once.ensures.grows.below c.loop-v.invariant.below;
-  all = below_more (λ v. IsTrue (has c.add_once.new.order.items (get_or c.args.roots.now v 0))) c.loop-v.v
-      (λ v less. c.in_ok-add_once.ensures.grows.keeps (get_or c.args.roots.now v 0) (c.loop-v.invariant.all v less)) c.in_ok-add_once.ensures.there;
+  all = below_more (λ v. IsTrue (has c.add_once.new.order.items (get_or c.args.representatives.now v 0))) c.loop-v.v
+      (λ v less. c.in_ok-add_once.ensures.grows.keeps (get_or c.args.representatives.now v 0) (c.loop-v.invariant.all v less)) c.in_ok-add_once.ensures.there;
 }
 
 pub returns : goal.returns

@@ -1,11 +1,11 @@
 use Rattle.std.proofs.Common.{◌<◌, ℕ, length, get_or}
 use Rattle.std.specs.Prelude.{IsTrue, nat_lt}
 use Rattle.std.specs.List.{list_all}
-use Rattle.e_transfer.specs.Planning.{has}
+use Rattle.e_transfer.specs.inner.Plans.{has}
 use Rattle.e_transfer.proofs.plan.order_of.Given as goal
 
 abbrev pub invariant-loop-v : goal.invariant-loop-v
 invariant-loop-v l = record {
-  below : IsTrue (list_all (λ v. nat_lt v (length l.ties)) l.order.items);
-  all : (v : ℕ) → v < l.v → IsTrue (has l.order.items (get_or l.roots v 0));
+  below : IsTrue (list_all (λ v. nat_lt v (length l.bindings)) l.order.items);
+  all : (v : ℕ) → v < l.v → IsTrue (has l.order.items (get_or l.representatives v 0));
 }

@@ -2,7 +2,7 @@ use Rattle.std.proofs.Common.{◌≡◌, ◌||◌, subst, true}
 use Rattle.std.specs.Prelude.{not}
 use Rattle.e_transfer.specs.declared.models.Filling.TheVariants as filling
 use Rattle.e_transfer.specs.Models.{is_model, value_by}
-use Rattle.e_transfer.proofs.Preparing.{where_true}
+use Rattle.e_transfer.proofs.PreparedFacts.{where_true}
 use Rattle.e_transfer.proofs.prepared.with_values.Goals as goal
 
 pub returns : goal.returns

@@ -1,28 +1,28 @@
 use Rattle.std.proofs.Common.{[], rules, refl, sym, ◌∙◌}
 use Rattle.std.proofs.lemmas.List.{append-nil}
-use Rattle.e_transfer.proofs.Choices.{verdict_refuse, verdict_stop, all_refused, found_one, stop_one, verdict_keep, refused_grows, grown_behind}
+use Rattle.e_transfer.proofs.Choices.{verdict_no, verdict_wide, all_refused, found_one, stop_one, verdict_yes, refused_grows, grown_behind}
 use Rattle.e_transfer.proofs.walk.+search.Goals as goal
 
-pub returns-in-Refuse-clause-outcome : goal.returns-in-Refuse-clause-outcome
-returns-in-Refuse-clause-outcome g t c =
-    (refl, verdict_refuse (g.T.Task.kept c.args.task.now) (g.T.Task.shown c.args.task.now) (g.T.Task.wide c.args.task.now) (g.T.Task.wanted c.args.task.now) _ _ _ _ c.deref.ensures.value c.in-Refuse.is c.in_ok-proof.ensures)
+pub returns-in-No-clause-outcome : goal.returns-in-No-clause-outcome
+returns-in-No-clause-outcome g t c =
+    (refl, verdict_no (g.T.Task.kept c.args.task.now) (g.T.Task.shown c.args.task.now) (g.T.Task.wide c.args.task.now) (g.T.Task.wanted c.args.task.now) _ _ _ _ c.deref.ensures.value c.in-No.is c.in_ok-proof.ensures)
 
-pub returns-in-Stop-clause-outcome : goal.returns-in-Stop-clause-outcome
-returns-in-Stop-clause-outcome g t c =
-    verdict_stop (g.T.Task.kept c.args.task.now) (g.T.Task.shown c.args.task.now) (g.T.Task.wide c.args.task.now) (g.T.Task.wanted c.args.task.now) _ _ _ _ _ c.deref.ensures.value c.in-Stop.is c.in_ok-proof.ensures
+pub returns-in-TooWide-clause-outcome : goal.returns-in-TooWide-clause-outcome
+returns-in-TooWide-clause-outcome g t c =
+    verdict_wide (g.T.Task.kept c.args.task.now) (g.T.Task.shown c.args.task.now) (g.T.Task.wide c.args.task.now) (g.T.Task.wanted c.args.task.now) _ _ _ _ _ c.deref.ensures.value c.in-TooWide.is c.in_ok-proof.ensures
 
-pub returns-in-Found-clause-outcome : goal.returns-in-Found-clause-outcome
-returns-in-Found-clause-outcome g t c =
+pub returns-in-Yes-2-clause-outcome : goal.returns-in-Yes-2-clause-outcome
+returns-in-Yes-2-clause-outcome g t c =
     found_one (g.T.Task.kept c.args.task.now) (g.T.Task.shown c.args.task.now) (g.T.Task.wide c.args.task.now) (g.T.Task.wanted c.args.task.now) c.args.chosen.now.items _ _ c.args.spans.now c.loop-value.value _ _
     c.in-len1-up.len_at_least (search rules) (search rules)
-    (verdict_keep (g.T.Task.kept c.args.task.now) (g.T.Task.shown c.args.task.now) (g.T.Task.wide c.args.task.now) (g.T.Task.wanted c.args.task.now) _ _ _ _ c.deref.ensures.value c.in-Keep.is c.in_ok-proof.ensures)
-    c.loop-value.invariant.1 (search rules) c.in-Found.is c.in_ok-search-in-len1-up.ensures.outcome
+    (verdict_yes (g.T.Task.kept c.args.task.now) (g.T.Task.shown c.args.task.now) (g.T.Task.wide c.args.task.now) (g.T.Task.wanted c.args.task.now) _ _ _ _ c.deref.ensures.value c.in-Yes.is c.in_ok-proof.ensures)
+    c.loop-value.invariant.1 (search rules) c.in-Yes-2.is c.in_ok-search-in-len1-up.ensures.outcome
 
-pub returns-in-Stop-2-clause-outcome : goal.returns-in-Stop-2-clause-outcome
-returns-in-Stop-2-clause-outcome g t c =
+pub returns-in-TooWide-2-clause-outcome : goal.returns-in-TooWide-2-clause-outcome
+returns-in-TooWide-2-clause-outcome g t c =
     stop_one (g.T.Task.kept c.args.task.now) (g.T.Task.shown c.args.task.now) (g.T.Task.wide c.args.task.now) (g.T.Task.wanted c.args.task.now) c.args.chosen.now.items _ _ c.args.spans.now c.loop-value.value _ _
     c.in-len1-up.len_at_least (search rules) (search rules)
-    c.loop-value.invariant.1 (search rules) c.in-Stop-2.is c.in_ok-search-in-len1-up.ensures.outcome
+    c.loop-value.invariant.1 (search rules) c.in-TooWide-2.is c.in_ok-search-in-len1-up.ensures.outcome
 
 pub returns-after-loop-value-clause-outcome : goal.returns-after-loop-value-clause-outcome
 returns-after-loop-value-clause-outcome g t c =

@@ -1,5 +1,5 @@
 use Rattle.std.proofs.Common.{rules}
-use Rattle.e_licence.proofs.Choosing.{one_sort}
+use Rattle.e_licence.proofs.BlankChoices.{one_sort}
 use Rattle.e_licence.proofs.blanks.Blanks.images.Goals as goal
 
 pub paired-requires : goal.paired-requires

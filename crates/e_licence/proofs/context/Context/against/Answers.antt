@@ -1,7 +1,7 @@
 use Rattle.std.proofs.Common.{subst, ap}
-use Rattle.e_licence.specs.Clashes.{IsClashOf, IsClashing}
+use Rattle.e_licence.specs.inner.Clashes.{IsClashOf, IsClashing}
 use Rattle.e_licence.specs.Contexts.{Basis}
-use Rattle.e_licence.proofs.Clashing.{by_clash}
+use Rattle.e_licence.proofs.Clashes.{by_clash}
 use Rattle.e_licence.proofs.context.Context.against.Goals as goal
 
 pub returns-in-Some-clause-refuted : goal.returns-in-Some-clause-refuted

@@ -1,5 +1,5 @@
 use Rattle.std.proofs.Common.{refl}
-use Rattle.e_licence.proofs.Holding.{after_hold, hold_is}
+use Rattle.e_licence.proofs.HeldStates.{after_hold, hold_is}
 use Rattle.e_licence.proofs.context.Context.hold.Goals as goal
 
 pub invariant_of-self-2 : goal.invariant_of-self-2

@@ -1,5 +1,5 @@
 use Rattle.std.proofs.Common.{ap}
-use Rattle.e_licence.proofs.Holding.{begins, basis_of}
+use Rattle.e_licence.proofs.HeldStates.{begins, basis_of}
 use Rattle.e_licence.proofs.context.Context.new.Goals as goal
 
 pub invariant_of-result : goal.invariant_of-result

@@ -1,10 +1,10 @@
-use Rattle.e_licence.proofs.Holding.{after_release, mark_within, release_is}
+use Rattle.e_licence.proofs.HeldStates.{after_release, checkpoint_within, release_is}
 use Rattle.e_licence.proofs.context.Context.release.Goals as goal
 
 pub back_to-requires : goal.back_to-requires
 back_to-requires c =
     let x = c.self.inside in
-    mark_within x.scope x.facts x.held.items c.pop.new.self.items x.solved c.in-Some.last c.in-Some.ensures.items c.self.invariant
+    checkpoint_within x.scope x.facts x.held.items c.pop.new.self.items x.solved c.in-Some.last c.in-Some.ensures.items c.self.invariant
 
 pub invariant_of-self : goal.invariant_of-self
 invariant_of-self c =

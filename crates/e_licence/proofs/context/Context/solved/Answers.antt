@@ -7,4 +7,4 @@ use Rattle.e_licence.proofs.context.Context.solved.Goals as goal
 pub returns : goal.returns
 returns c =
     subst (λ (b : Basis). IfSome (option_copied c.as_ref.result) (AreFronts b.facts)) c.self.view_is
-    (subst (λ o. IfSome o (AreFronts c.self.inside.facts)) (sym c.as_ref.ensures.value) c.self.invariant.known)
+    (subst (λ o. IfSome o (AreFronts c.self.inside.facts)) (sym c.as_ref.ensures.value) c.self.invariant.metric_facts)

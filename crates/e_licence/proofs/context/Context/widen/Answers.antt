@@ -1,6 +1,6 @@
 use Rattle.std.proofs.Common.{sym, ap, subst}
 use Rattle.e_licence.specs.Contexts.{Basis, IsWithin}
-use Rattle.e_licence.proofs.Widening.{after_widen}
+use Rattle.e_licence.proofs.WiderScopes.{after_widen}
 use Rattle.e_licence.proofs.context.Context.widen.Goals as goal
 
 pub invariant_of-self : goal.invariant_of-self

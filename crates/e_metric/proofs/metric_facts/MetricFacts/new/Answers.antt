@@ -4,7 +4,7 @@ use Rattle.e_metric.proofs.metric_facts.MetricFacts.new.Goals as goal
 
 pub returns : goal.returns
 returns c = λ facts. record {
-  segments = none_front Segment facts _ c.new.ensures.side c.new.ensures.upto;
-  angles = none_front Angle facts _ c.new-2.ensures.side c.new-2.ensures.upto;
-  areas = none_front Area facts _ c.new-3.ensures.side c.new-3.ensures.upto;
+  segments = none_front Segment facts _ c.new.ensures.kind_system c.new.ensures.upto;
+  angles = none_front Angle facts _ c.new-2.ensures.kind_system c.new-2.ensures.upto;
+  areas = none_front Area facts _ c.new-3.ensures.kind_system c.new-3.ensures.upto;
 }

@@ -1,0 +1,48 @@
+use Rattle.std.proofs.Common.{◌≤◌, ◌^◌, ◌∙◌, ◌∷◌, [], ap, subst, sym, refl}
+use Rattle.e_literal.specs.Minor.{IsWide}
+use Rattle.e_literal.specs.Width.{width}
+use Rattle.e_literal.specs.declared.object.Term.TheVariants.{Right}
+use Rattle.e_metric.specs.ListedTerms.{listed, terms_of_kind}
+use Rattle.e_metric.specs.inner.Certificate.{sums_of}
+use Rattle.std.specs.Prelude.{option_copied}
+use Rattle.e_fraction.specs.Views.{all_seen}
+use Rattle.e_simplex.specs.Answer.{IsVerdict, AreValuesOf, IsRefuted, assigned}
+use Rattle.e_clause.specs.System.{system}
+use Rattle.e_metric.proofs.RowOrder.{same_order}
+use Rattle.e_metric.proofs.KindAnswers.{few_rows, small_rows, solved, too_wide, refuted, system_width}
+use Rattle.e_metric.proofs.consequence.answer_of_kind.Goals as goal
+
+pub decide-requires-clause-few : goal.decide-requires-clause-few
+decide-requires-clause-few c = few_rows c.args.which c.args.facts.now (option_copied c.args.wanted) (system c.args.which c.args.facts.now (option_copied c.args.wanted)) (same_order (system c.args.which c.args.facts.now (option_copied c.args.wanted))) c.in_ok-named.named.items c.in_ok-named.ensures.rows c.in_ok-named.ensures.limited c.requires.facts c.requires.few c.requires.wanted c.deref.result.now (c.deref.ensures.value ∙ c.in_ok-names.ensures.rows)
+
+pub decide-requires-clause-coefficients : goal.decide-requires-clause-coefficients
+decide-requires-clause-coefficients c = small_rows c.args.which c.args.facts.now (option_copied c.args.wanted) (system c.args.which c.args.facts.now (option_copied c.args.wanted)) (same_order (system c.args.which c.args.facts.now (option_copied c.args.wanted))) c.in_ok-named.named.items c.in_ok-named.ensures.rows c.in_ok-named.ensures.limited c.requires.facts c.requires.few c.requires.wanted c.deref.result.now (c.deref.ensures.value ∙ c.in_ok-names.ensures.rows)
+
+pub certificate_of-certified-requires-clause-few : goal.certificate_of-certified-requires-clause-few
+certificate_of-certified-requires-clause-few c = few_rows c.args.which c.args.facts.now (option_copied c.args.wanted) (system c.args.which c.args.facts.now (option_copied c.args.wanted)) (same_order (system c.args.which c.args.facts.now (option_copied c.args.wanted))) c.in_ok-named.named.items c.in_ok-named.ensures.rows c.in_ok-named.ensures.limited c.requires.facts c.requires.few c.requires.wanted c.deref-in-Absurd.result.now (c.deref-in-Absurd.ensures.value ∙ c.in_ok-names.ensures.rows)
+
+pub certificate_of-certified-requires-clause-coefficients : goal.certificate_of-certified-requires-clause-coefficients
+certificate_of-certified-requires-clause-coefficients c = small_rows c.args.which c.args.facts.now (option_copied c.args.wanted) (system c.args.which c.args.facts.now (option_copied c.args.wanted)) (same_order (system c.args.which c.args.facts.now (option_copied c.args.wanted))) c.in_ok-named.named.items c.in_ok-named.ensures.rows c.in_ok-named.ensures.limited c.requires.facts c.requires.few c.requires.wanted c.deref-in-Absurd.result.now (c.deref-in-Absurd.ensures.value ∙ c.in_ok-names.ensures.rows)
+
+pub returns-in-Holds : goal.returns-in-Holds
+returns-in-Holds c =
+    let v : IsVerdict (all_seen c.deref.result.now) c.in_ok-values.field-0 = c.in_ok-values.ensures.verdict in
+    let h : AreValuesOf (all_seen c.deref.result.now) c.in-Holds.values = subst (IsVerdict (all_seen c.deref.result.now)) c.in-Holds.is v in
+    solved c.args.which c.args.facts.now (option_copied c.args.wanted) (system c.args.which c.args.facts.now (option_copied c.args.wanted)) (same_order (system c.args.which c.args.facts.now (option_copied c.args.wanted))) c.in_ok-named.named.items c.in_ok-named.ensures.rows c.in_ok-named.ensures.limited c.requires.facts c.requires.few c.requires.wanted c.deref.result.now (c.deref.ensures.value ∙ c.in_ok-names.ensures.rows) (assigned c.in-Holds.values) h.satisfy
+
+pub returns-in-TooWide : goal.returns-in-TooWide
+returns-in-TooWide c =
+    let v : IsVerdict (all_seen c.deref.result.now) c.in_ok-values.field-0 = c.in_ok-values.ensures.verdict in
+    let h : IsWide (all_seen c.deref.result.now) × (2 ^ 63 ≤ width (all_seen c.deref.result.now)) = subst (IsVerdict (all_seen c.deref.result.now)) c.in-TooWide.is v in
+    too_wide c.args.which c.args.facts.now (option_copied c.args.wanted) (system c.args.which c.args.facts.now (option_copied c.args.wanted)) (same_order (system c.args.which c.args.facts.now (option_copied c.args.wanted))) c.in_ok-named.named.items c.in_ok-named.ensures.rows c.in_ok-named.ensures.limited c.requires.facts c.requires.few c.requires.wanted c.deref.result.now (c.deref.ensures.value ∙ c.in_ok-names.ensures.rows) c.width.result
+    (c.width.ensures.value ∙ ap (λ rs. width (all_seen rs)) (c.deref-in-TooWide.ensures.value ∙ sym c.deref.ensures.value)
+    ∙ system_width c.args.which c.args.facts.now (option_copied c.args.wanted) c.in_ok-named.named.items c.in_ok-named.ensures.rows c.deref.result.now (c.deref.ensures.value ∙ c.in_ok-names.ensures.rows)) h.0
+
+pub returns-in_ok-certified-in-Absurd : goal.returns-in_ok-certified-in-Absurd
+returns-in_ok-certified-in-Absurd c =
+    let v : IsVerdict (all_seen c.deref.result.now) c.in_ok-values.field-0 = c.in_ok-values.ensures.verdict in
+    let h : IsRefuted (all_seen c.deref.result.now) c.in-Absurd.absurdity = subst (IsVerdict (all_seen c.deref.result.now)) c.in-Absurd.is v in
+    refuted c.args.which c.args.facts.now (option_copied c.args.wanted) (system c.args.which c.args.facts.now (option_copied c.args.wanted)) (same_order (system c.args.which c.args.facts.now (option_copied c.args.wanted))) c.in_ok-named.named.items c.in_ok-named.ensures.rows c.in_ok-named.ensures.limited c.requires.facts c.requires.few c.requires.wanted c.deref.result.now (c.deref.ensures.value ∙ c.in_ok-names.ensures.rows)
+    c.in_ok-names.names.items (listed (terms_of_kind c.args.which c.args.facts.now (option_copied c.args.wanted)) (Right ∷ [])) c.in-Absurd.absurdity c.in_ok-certified-in-Absurd.field-0.sums
+    c.in_ok-names.ensures.names refl h.refutes
+    (c.in_ok-certified-in-Absurd.ensures ∙ ap (λ rs. sums_of c.in_ok-names.names.items rs (listed (terms_of_kind c.args.which c.args.facts.now (option_copied c.args.wanted)) (Right ∷ [])) c.in-Absurd.absurdity) (c.deref-in-Absurd.ensures.value ∙ sym c.deref.ensures.value))

@@ -1,0 +1,58 @@
+use Rattle.std.proofs.Common.{◌≡◌, ◌≤◌, ◌^◌, ◌∷◌, [], length, subst, sym, ◌∙◌, ap, None, refl}
+use Rattle.e_literal.specs.Minor.{IsWide}
+use Rattle.e_literal.specs.Width.{width}
+use Rattle.std.specs.Prelude.{flat_map}
+use Rattle.e_clause.specs.System.{rows_of_term, system}
+use Rattle.e_fraction.specs.Limits.{all_small}
+use Rattle.e_fraction.specs.Views.{all_seen}
+use Rattle.e_simplex.specs.Answer.{IsRefuted}
+use Rattle.e_simplex.specs.Settling.{IsSettling}
+use Rattle.e_literal.specs.declared.object.Term.TheVariants.{Right}
+use Rattle.e_metric.specs.SolvedSystems.{AreNamed}
+use Rattle.e_metric.specs.ListedTerms.{listed, terms_of_kind}
+use Rattle.e_metric.specs.inner.Certificate.{sums_of}
+use Rattle.e_metric.proofs.SolvedSystems.{named_of, few_named, small_named, refuted_named}
+use Rattle.e_metric.proofs.RowOrder.{same_order}
+use Rattle.e_metric.proofs.KindAnswers.{system_width, has_width}
+use Rattle.e_metric.proofs.kind_system.solve_kind.Goals as goal
+
+pub settle-requires-clause-few : goal.settle-requires-clause-few
+settle-requires-clause-few c = few_named c.args.which c.args.facts.now None (system c.args.which c.args.facts.now None) (same_order (system c.args.which c.args.facts.now None)) c.in_ok-names.names.items c.in_ok-names.rows.items (named_of (system c.args.which c.args.facts.now None) c.in_ok-named.named.items c.in_ok-names.names.items c.in_ok-names.rows.items c.in_ok-named.ensures.rows c.in_ok-named.ensures.limited c.in_ok-names.ensures.names c.in_ok-names.ensures.rows) c.requires.facts c.requires.few refl
+
+pub settle-requires-clause-coefficients : goal.settle-requires-clause-coefficients
+settle-requires-clause-coefficients c = small_named c.args.which c.args.facts.now None (system c.args.which c.args.facts.now None) (same_order (system c.args.which c.args.facts.now None)) c.in_ok-names.names.items c.in_ok-names.rows.items (named_of (system c.args.which c.args.facts.now None) c.in_ok-named.named.items c.in_ok-names.names.items c.in_ok-names.rows.items c.in_ok-named.ensures.rows c.in_ok-named.ensures.limited c.in_ok-names.ensures.names c.in_ok-names.ensures.rows) c.requires.facts c.requires.few refl
+
+pub certificate_of-certified-requires-clause-few : goal.certificate_of-certified-requires-clause-few
+certificate_of-certified-requires-clause-few c =
+    subst (λ rs. length rs ≤ 4096) (sym (c.deref-in-Absurd.ensures.value ∙ c.in_ok-kept.ensures ∙ c.deref.ensures.value)) (few_named c.args.which c.args.facts.now None (system c.args.which c.args.facts.now None) (same_order (system c.args.which c.args.facts.now None)) c.in_ok-names.names.items c.in_ok-names.rows.items (named_of (system c.args.which c.args.facts.now None) c.in_ok-named.named.items c.in_ok-names.names.items c.in_ok-names.rows.items c.in_ok-named.ensures.rows c.in_ok-named.ensures.limited c.in_ok-names.ensures.names c.in_ok-names.ensures.rows) c.requires.facts c.requires.few refl)
+
+pub certificate_of-certified-requires-clause-coefficients : goal.certificate_of-certified-requires-clause-coefficients
+certificate_of-certified-requires-clause-coefficients c =
+    ap all_small (c.deref-in-Absurd.ensures.value ∙ c.in_ok-kept.ensures ∙ c.deref.ensures.value) ∙ small_named c.args.which c.args.facts.now None (system c.args.which c.args.facts.now None) (same_order (system c.args.which c.args.facts.now None)) c.in_ok-names.names.items c.in_ok-names.rows.items (named_of (system c.args.which c.args.facts.now None) c.in_ok-named.named.items c.in_ok-names.names.items c.in_ok-names.rows.items c.in_ok-named.ensures.rows c.in_ok-named.ensures.limited c.in_ok-names.ensures.names c.in_ok-names.ensures.rows) c.requires.facts c.requires.few refl
+
+pub returns-in-Settled : goal.returns-in-Settled
+returns-in-Settled c =
+    let h : c.in-Settled.settled ≡ c.in_ok-names.rows.items = subst (IsSettling c.in_ok-names.rows.items) c.in-Settled.is c.in_ok-settle.ensures in
+    let copies : c.in_ok-kept.kept.items ≡ c.in_ok-names.rows.items = c.in_ok-kept.ensures ∙ c.deref.ensures.value in
+    record {
+      rows = (system c.args.which c.args.facts.now None);
+      order = same_order (system c.args.which c.args.facts.now None);
+      named = subst (AreNamed (system c.args.which c.args.facts.now None) c.in_ok-names.names.items) (sym copies) (named_of (system c.args.which c.args.facts.now None) c.in_ok-named.named.items c.in_ok-names.names.items c.in_ok-names.rows.items c.in_ok-named.ensures.rows c.in_ok-named.ensures.limited c.in_ok-names.ensures.names c.in_ok-names.ensures.rows);
+      settled = h ∙ sym copies;
+      terms = c.in_ok-terms.ensures;
+      raised = c.count_term_rows-raised.ensures ∙ ap (λ ts. length (flat_map (rows_of_term c.args.facts.now) ts)) c.deref-in-Settled.ensures.value;
+    }
+
+pub returns-in-TooWide : goal.returns-in-TooWide
+returns-in-TooWide c =
+    let h : IsWide (all_seen c.in_ok-names.rows.items) × (2 ^ 63 ≤ width (all_seen c.in_ok-names.rows.items)) = subst (IsSettling c.in_ok-names.rows.items) c.in-TooWide.is c.in_ok-settle.ensures in
+    has_width c.args.which c.args.facts.now None (system c.args.which c.args.facts.now None) (same_order (system c.args.which c.args.facts.now None)) c.in_ok-named.named.items c.in_ok-named.ensures.rows c.in_ok-named.ensures.limited c.requires.facts c.requires.few refl c.in_ok-names.rows.items c.in_ok-names.ensures.rows c.width.result
+    (c.width.ensures.value ∙ ap (λ rs. width (all_seen rs)) (c.deref-in-TooWide.ensures.value ∙ c.in_ok-kept.ensures ∙ c.deref.ensures.value)
+    ∙ system_width c.args.which c.args.facts.now None c.in_ok-named.named.items c.in_ok-named.ensures.rows c.in_ok-names.rows.items c.in_ok-names.ensures.rows) h.0
+
+pub returns-in_ok-certified-in-Absurd : goal.returns-in_ok-certified-in-Absurd
+returns-in_ok-certified-in-Absurd c =
+    let h : IsRefuted (all_seen c.in_ok-names.rows.items) c.in-Absurd.absurdity = subst (IsSettling c.in_ok-names.rows.items) c.in-Absurd.is c.in_ok-settle.ensures in
+    refuted_named c.args.which c.args.facts.now None (system c.args.which c.args.facts.now None) (same_order (system c.args.which c.args.facts.now None)) c.in_ok-names.names.items c.in_ok-names.rows.items (named_of (system c.args.which c.args.facts.now None) c.in_ok-named.named.items c.in_ok-names.names.items c.in_ok-names.rows.items c.in_ok-named.ensures.rows c.in_ok-named.ensures.limited c.in_ok-names.ensures.names c.in_ok-names.ensures.rows) c.requires.facts c.requires.few refl
+    (listed (terms_of_kind c.args.which c.args.facts.now None) (Right ∷ [])) c.in-Absurd.absurdity c.in_ok-certified-in-Absurd.field-0.sums refl h.refutes
+    (c.in_ok-certified-in-Absurd.ensures ∙ ap (λ rs. sums_of c.in_ok-names.names.items rs (listed (terms_of_kind c.args.which c.args.facts.now None) (Right ∷ [])) c.in-Absurd.absurdity) (c.deref-in-Absurd.ensures.value ∙ c.in_ok-kept.ensures ∙ c.deref.ensures.value))

@@ -1,7 +1,0 @@
-use Rattle.std.proofs.Common.{subst, sym}
-use Rattle.e_metric.specs.Fronts.{IsFront}
-use Rattle.e_metric.proofs.Fronts.{front_at}
-use Rattle.e_metric.proofs.metric_facts.MetricFacts.beside.Goals as goal
-
-pub beside-requires-clause-front : goal.beside-requires-clause-front
-beside-requires-clause-front c = subst (IsFront c.args.which c.args.facts.now) (sym c.get.ensures) (front_at c.args.facts.now c.args.self.now c.requires.fronts c.args.which)

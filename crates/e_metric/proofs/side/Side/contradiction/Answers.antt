@@ -1,8 +1,0 @@
-use Rattle.std.proofs.Common.{subst, sym, None}
-use Rattle.e_metric.specs.Kept.{IsSide}
-use Rattle.e_metric.specs.Told.{IsCertified}
-use Rattle.e_metric.proofs.side.Side.contradiction.Goals as goal
-
-pub returns-in_ok-cert-in-Absurd : goal.returns-in_ok-cert-in-Absurd
-returns-in_ok-cert-in-Absurd c = λ which facts h.
-    subst (IsCertified facts None) (sym c.in_ok-cert-in-Absurd.ensures) (subst (IsSide which facts) c.in-Absurd.is h)

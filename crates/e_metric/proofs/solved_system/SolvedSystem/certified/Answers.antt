@@ -1,0 +1,32 @@
+use Rattle.std.proofs.Common.{List, length, ◌≤◌, ◌∙◌, ◌∷◌, [], ap, subst, sym, refl}
+use Rattle.std.specs.Prelude.{option_copied}
+use Rattle.e_literal.specs.declared.object.Term.TheVariants.{Right}
+use Rattle.e_clause.specs.declared.cert.RowName.{RowName}
+use Rattle.e_fraction.specs.declared.row.Row.{Row as GivenRow}
+use Rattle.e_fraction.specs.Limits.{all_small}
+use Rattle.e_fraction.specs.Views.{all_seen}
+use Rattle.e_simplex.specs.Answer.{IsAbsurdity}
+use Rattle.e_metric.specs.ListedTerms.{listed, terms_of_kind}
+use Rattle.e_metric.proofs.SolvedSystems.{few_together, small_together, same_rows, as_many, refuted_together}
+use Rattle.e_metric.proofs.solved_system.SolvedSystem.certified.Goals as goal
+
+pub certificate_of-requires-clause-names : goal.certificate_of-requires-clause-names
+certificate_of-requires-clause-names c =
+    ap (λ (ns : List RowName). length ns) c.in_ok-names.ensures ∙ as_many c.args.which c.args.facts.now (option_copied c.args.wanted) c.args.self.now c.args.names.now c.args.rows.now c.requires.together c.requires.facts c.requires.few c.requires.wanted ∙ sym (ap (λ (rs : List GivenRow). length rs) (c.deref.ensures.value ∙ c.in_ok-rows.ensures))
+
+pub certificate_of-requires-clause-refuted : goal.certificate_of-requires-clause-refuted
+certificate_of-requires-clause-refuted c =
+    subst (λ rs. IsAbsurdity (all_seen rs) c.args.absurdity.now) (sym (same_rows c.args.which c.args.facts.now (option_copied c.args.wanted) c.args.self.now c.args.names.now c.args.rows.now c.requires.together c.requires.facts c.requires.few c.requires.wanted c.deref.result.now (c.deref.ensures.value ∙ c.in_ok-rows.ensures))) c.requires.refuted.refutes
+
+pub certificate_of-requires-clause-few : goal.certificate_of-requires-clause-few
+certificate_of-requires-clause-few c =
+    subst (λ rs. length rs ≤ 4096) (sym (same_rows c.args.which c.args.facts.now (option_copied c.args.wanted) c.args.self.now c.args.names.now c.args.rows.now c.requires.together c.requires.facts c.requires.few c.requires.wanted c.deref.result.now (c.deref.ensures.value ∙ c.in_ok-rows.ensures))) (few_together c.args.which c.args.facts.now (option_copied c.args.wanted) c.args.self.now c.args.names.now c.args.rows.now c.requires.together c.requires.facts c.requires.few c.requires.wanted)
+
+pub certificate_of-requires-clause-coefficients : goal.certificate_of-requires-clause-coefficients
+certificate_of-requires-clause-coefficients c =
+    ap all_small (same_rows c.args.which c.args.facts.now (option_copied c.args.wanted) c.args.self.now c.args.names.now c.args.rows.now c.requires.together c.requires.facts c.requires.few c.requires.wanted c.deref.result.now (c.deref.ensures.value ∙ c.in_ok-rows.ensures)) ∙ small_together c.args.which c.args.facts.now (option_copied c.args.wanted) c.args.self.now c.args.names.now c.args.rows.now c.requires.together c.requires.facts c.requires.few c.requires.wanted
+
+pub returns : goal.returns
+returns c =
+    refuted_together c.args.which c.args.facts.now (option_copied c.args.wanted) c.args.self.now c.args.names.now c.args.rows.now c.requires.together c.requires.facts c.requires.few c.requires.wanted c.in_ok-names.names.items c.deref.result.now (listed (terms_of_kind c.args.which c.args.facts.now (option_copied c.args.wanted)) (Right ∷ [])) c.args.absurdity.now c.in_ok-cert.cert.sums
+    c.in_ok-names.ensures (c.deref.ensures.value ∙ c.in_ok-rows.ensures) refl c.requires.refuted.refutes c.in_ok-cert.ensures

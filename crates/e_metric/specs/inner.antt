@@ -1,0 +1,6 @@
+-- Words of private contracts and of proofs: nothing here is part of any claim.
+pub mod Differences
+pub mod Certificate
+pub mod AssignedValues
+pub mod FurtherRows
+pub mod ByKind

@@ -1,0 +1,57 @@
+-- The sums of a certificate, from multipliers of the rows of a system.
+use Rattle.std.specs.Prelude.{◌≡◌, ℕ, ◌≤◌, ◌^◌, List, [], ◌∷◌, ◌++◌, if◌then◌else◌, ℤ, pos, neg_ℤ, int_lt, unsigned_abs, length, get_or, set, IsTrue}
+use Rattle.std.specs.Ordering.{int_eq}
+use Rattle.e_literal.specs.declared.object.Term.{Term}
+use Rattle.e_literal.specs.Same.{canonical}
+use Rattle.e_literal.specs.Absurd.{total}
+use Rattle.e_clause.specs.declared.cert.RowName.{RowName}
+use Rattle.e_clause.specs.declared.cert.RowName.TheVariants.{Goal, Least, Above, Below}
+use Rattle.e_clause.specs.declared.cert.Sums.{Sums}
+use Rattle.e_clause.specs.declared.cert.Sums.TheVariants.{One as OneSum, Two as TwoSums}
+use Rattle.e_fraction.specs.declared.row.Row.{Row as GivenRow}
+use Rattle.e_fraction.specs.Limits.{all_small, are_good_multipliers}
+use Rattle.e_fraction.specs.Views.{weighed}
+use Rattle.e_simplex.specs.declared.decision.Absurdity.{Absurdity}
+use Rattle.e_simplex.specs.declared.decision.Absurdity.TheVariants.{One, Two}
+
+-- the rows may be summed with these weights, and little is left of each term
+pub record IsWeighable (rows : List GivenRow) (weights : List ℤ) : Type 0 where
+  pub lengths : length weights ≡ length rows
+  pub few : length rows ≤ 4096
+  pub coefficients : IsTrue (all_small rows)
+  pub good : IsTrue (are_good_multipliers weights)
+  pub left : (t : Term) → unsigned_abs (total (weighed rows weights) t) ≤ 2 ^ 80
+
+-- the rows whose multiplier is not 0
+abbrev pub kept : List RowName → List ℤ → List (ℤ × RowName)
+kept (n ∷ ns) (m ∷ ms) = if int_eq m (pos 0) then kept ns ms else (m, n) ∷ kept ns ms
+kept _ _ = []
+
+-- the rows whose weight is not 0
+abbrev pub used_rows : List GivenRow → List ℤ → List GivenRow
+used_rows (r ∷ rs) (w ∷ ws) = if int_eq w (pos 0) then used_rows rs ws else r ∷ used_rows rs ws
+used_rows _ _ = []
+
+-- and these weights
+abbrev pub used_weights : List GivenRow → List ℤ → List ℤ
+used_weights (r ∷ rs) (w ∷ ws) = if int_eq w (pos 0) then used_weights rs ws else w ∷ used_weights rs ws
+used_weights _ _ = []
+
+-- where less than nothing is left of a term, as many times the row that says that it is at least 0
+abbrev pub leasts : (Term → ℤ) → List Term → List (ℤ × RowName)
+leasts left [] = []
+leasts left (t ∷ ts) = if int_lt (left (canonical t)) (pos 0) then (neg_ℤ (left (canonical t)), Least t) ∷ leasts left ts else leasts left ts
+
+-- the rows with their multipliers, and what brings each term to 0, where the terms are weighed by these weights
+abbrev pub sum_of : List RowName → List GivenRow → List ℤ → List ℤ → List Term → List (ℤ × RowName)
+sum_of names rows multipliers weights terms = kept names multipliers ++ leasts (total (weighed rows weights)) terms
+
+-- the number at the place negated
+abbrev pub negated_at : List ℤ → ℕ → List ℤ
+negated_at ms k = set ms k (neg_ℤ (get_or ms k (pos 0)))
+
+-- one sum; or two, in which the row that differs is named `above` and `below`, and counts the other way in the second
+abbrev pub sums_of : List RowName → List GivenRow → List Term → Absurdity → Sums
+sums_of names rows terms (One multipliers) = OneSum (sum_of names rows multipliers.items multipliers.items terms)
+sums_of names rows terms (Two row above below) =
+    TwoSums (get_or names row Goal) (sum_of (set names row Above) rows above.items above.items terms) (sum_of (set names row Below) rows below.items (negated_at below.items row) terms)

@@ -1,0 +1,235 @@
+// The facts of one kind, whose rows have a solution, and the answers on goals from there.
+
+ghost use Rattle.std.specs.Prelude.{◌≡◌, ◌≤◌, ◌++◌, length, option_copied, IsTrue, IfOk, OnOk, Some};
+ghost use Rattle.std.specs.List.{list_all};
+ghost use Rattle.e_literal.specs.WellFormed.{is_well_formed};
+ghost use Rattle.e_literal.specs.Width;
+ghost use Rattle.e_clause.specs.Assignment.{terms_of_lits};
+ghost use Rattle.e_clause.specs.Laws.{is_good_wanted};
+ghost use Rattle.e_clause.specs.System;
+ghost use Rattle.e_clause.specs.System.{system, rows_of_system};
+ghost use Rattle.e_fraction.specs.Views.{all_seen};
+ghost use Rattle.e_simplex.specs.Answer.{AreValuesOf, IsRefuted};
+ghost use Rattle.e_metric.specs.inner.FurtherRows.{extended};
+ghost use Rattle.e_metric.specs.SolvedSystems.{AreTogether, IsSolvedSystem};
+ghost use Rattle.e_metric.specs.ListedTerms;
+ghost use Rattle.e_metric.specs.MetricAnswers.{IsCertified, IsKindAnswer};
+
+use crate::certificates::copied;
+use crate::consequence::{Metric, certificate_of, split};
+use crate::evaluating::{are_so, extended};
+use crate::listing::fresh_terms;
+use crate::systems::{rows_of_goal, system};
+use e_clause::{MetricCert, RowName};
+use e_facts::Facts;
+use e_fraction::{Row, Signed};
+use e_literal::{Kind, Lit, Term, Values};
+use e_simplex::{Absurdity, Settled, Verdict, width};
+use std::alloc::{AllocError, Global};
+use std::mem;
+
+/// The rows of the facts of one kind with their names and their terms, and what is settled of them.
+#[derive(Drop)]
+pub struct SolvedSystem {
+    pub names: Vec<RowName>,
+    pub rows: Vec<Row>,
+    pub terms: Vec<Term>,
+    /// How many of the rows the terms bring.
+    pub raised: usize,
+    pub settled: Settled,
+}
+
+/// An equal row.
+pub fn copied_row(alloc: Global, row: &Row) -> Result<Row, AllocError>
+    ensures { IfOk result (λ r. r ≡ row.now) }
+{
+    let summands = Vec::from_slice(alloc, row.form.summands())?;
+    Ok(Row {
+        kind: row.kind,
+        form: Signed::new(summands),
+    })
+}
+
+// Puts equal rows last.
+fn add_rows(rows: &mut Vec<Row>, alloc: Global, more: &[Row]) -> Result<(), AllocError>
+    ensures { OnOk result (rows.new.items ≡ rows.old.items ++ more.now) }
+{
+    for row in more {
+        rows.push(copied_row(alloc, row)?)?;
+    }
+    Ok(())
+}
+
+/// Equal rows.
+pub fn copied_rows(alloc: Global, rows: &[Row]) -> Result<Vec<Row>, AllocError>
+    ensures { IfOk result (λ v. v.items ≡ rows.now) }
+{
+    let mut copies = Vec::new(alloc);
+    add_rows(&mut copies, alloc, rows)?;
+    Ok(copies)
+}
+
+// Puts equal names last.
+fn add_names(names: &mut Vec<RowName>, alloc: Global, more: &[RowName]) -> Result<(), AllocError>
+    ensures { OnOk result (names.new.items ≡ names.old.items ++ more.now) }
+{
+    for name in more {
+        names.push(copied(alloc, name)?)?;
+    }
+    Ok(())
+}
+
+// Equal names.
+fn copied_names(alloc: Global, names: &[RowName]) -> Result<Vec<RowName>, AllocError>
+    ensures { IfOk result (λ v. v.items ≡ names.now) }
+{
+    let mut copies = Vec::new(alloc);
+    add_names(&mut copies, alloc, names)?;
+    Ok(copies)
+}
+
+/// The width of the system of a kind.
+pub fn system_width(
+    alloc: Global,
+    which: Kind,
+    facts: &Facts,
+    wanted: Option<&Lit>,
+) -> Result<u128, AllocError>
+    requires facts { IsTrue (list_all is_well_formed facts.now) }
+    requires wanted { IsTrue (is_good_wanted (option_copied wanted)) }
+    ensures { IfOk result (λ w. w ≡ Width.width (rows_of_system which facts.now (option_copied wanted.entry))) }
+{
+    let named = system(alloc, which, facts, wanted)?;
+    let (_, rows) = split(alloc, named)?;
+    Ok(width(&rows))
+}
+
+impl SolvedSystem {
+    /// The same rows, settled.
+    pub fn copied(&self, alloc: Global) -> Result<SolvedSystem, AllocError>
+        ensures names { IfOk result (λ g. g.names.items ≡ self.now.names.items) }
+        ensures rows { IfOk result (λ g. g.rows.items ≡ self.now.rows.items) }
+        ensures terms { IfOk result (λ g. g.terms.items ≡ self.now.terms.items) }
+        ensures raised { IfOk result (λ g. g.raised ≡ self.now.raised) }
+        ensures settled { IfOk result (λ g. g.settled ≡ self.now.settled) }
+    {
+        let terms = Vec::from_slice(alloc, &self.terms)?;
+        let rows = copied_rows(alloc, &self.rows)?;
+        let names = copied_names(alloc, &self.names)?;
+        let settled = self.settled.copied(alloc)?;
+        Ok(SolvedSystem {
+            names,
+            rows,
+            terms,
+            raised: self.raised,
+            settled,
+        })
+    }
+
+    /// The names of the rows, and these.
+    pub fn names_with(&self, alloc: Global, more: &[RowName]) -> Result<Vec<RowName>, AllocError>
+        ensures { IfOk result (λ v. v.items ≡ self.now.names.items ++ more.now) }
+    {
+        let mut names = Vec::new(alloc);
+        add_names(&mut names, alloc, &self.names)?;
+        add_names(&mut names, alloc, more)?;
+        Ok(names)
+    }
+
+    /// The rows, and these.
+    pub fn rows_with(&self, alloc: Global, more: &[Row]) -> Result<Vec<Row>, AllocError>
+        ensures { IfOk result (λ v. v.items ≡ self.now.rows.items ++ more.now) }
+    {
+        let mut rows = copied_rows(alloc, &self.rows)?;
+        add_rows(&mut rows, alloc, more)?;
+        Ok(rows)
+    }
+
+    /// The certificate that multipliers of the rows, and of more after them, make.
+    pub fn certified(
+        &self,
+        alloc: Global,
+        which: Kind,
+        facts: &Facts,
+        wanted: Option<&Lit>,
+        names: &[RowName],
+        rows: &[Row],
+        absurdity: &Absurdity,
+    ) -> Result<MetricCert, AllocError>
+        requires facts { IsTrue (list_all is_well_formed facts.now) }
+        requires few { length (terms_of_lits facts.now) ≤ 1100 }
+        requires wanted { IsTrue (is_good_wanted (option_copied wanted)) }
+        requires together { AreTogether which facts.now (option_copied wanted) self.now names.now rows.now }
+        requires refuted { IsRefuted (all_seen (self.now.settled ++ rows.now)) absurdity.now }
+        ensures { IfOk result (IsCertified facts.now (option_copied wanted.entry)) }
+    {
+        let names = self.names_with(alloc, names)?;
+        let rows = self.rows_with(alloc, rows)?;
+        let cert = certificate_of(alloc, which, facts, wanted, names, &rows, absurdity)?;
+        Ok(cert)
+    }
+
+    // The answer where the goal has these rows, by what is settled.
+    fn decided(
+        &self,
+        alloc: Global,
+        which: Kind,
+        facts: &Facts,
+        goal: &Lit,
+        names: &[RowName],
+        rows: &[Row],
+    ) -> Result<Metric, AllocError>
+        requires facts { IsTrue (list_all is_well_formed facts.now) }
+        requires few { length (terms_of_lits facts.now) ≤ 1100 }
+        requires goal { IsTrue (is_good_wanted (Some goal.now)) }
+        requires together { AreTogether which facts.now (Some goal.now) self.now names.now rows.now }
+        ensures { IfOk result (IsKindAnswer which facts.now (Some goal.now)) }
+    {
+        match self.settled.decide_with(alloc, rows)? {
+            Verdict::Holds(values) => Ok(Metric::No(values)),
+            Verdict::TooWide => {
+                let width = system_width(alloc, which, facts, Some(goal))?;
+                Ok(Metric::TooWide(width))
+            }
+            Verdict::Absurd(absurdity) => {
+                let wanted = Some(goal);
+                let cert = self.certified(alloc, which, facts, wanted, names, rows, &absurdity);
+                mem::drop(absurdity);
+                Ok(Metric::Yes(cert?))
+            }
+        }
+    }
+
+    /// The answer of the system of the facts and the goal. Where the goal is false with the values that the facts have
+    /// already, no linear question is asked.
+    pub fn ask(
+        &self,
+        alloc: Global,
+        which: Kind,
+        facts: &Facts,
+        goal: &Lit,
+    ) -> Result<Metric, AllocError>
+        requires solved_system { IsSolvedSystem which facts.now self.now }
+        requires facts { IsTrue (list_all is_well_formed facts.now) }
+        requires few { length (terms_of_lits facts.now) ≤ 1100 }
+        requires goal { IsTrue (is_good_wanted (Some goal.now)) }
+        ensures { IfOk result (IsKindAnswer which facts.now (Some goal.now)) }
+    {
+        let fresh = fresh_terms(alloc, which, &self.terms, goal)?;
+        let named = rows_of_goal(alloc, which, facts, &fresh, goal)?;
+        let (names, rows) = split(alloc, named)?;
+        let values = extended(alloc, facts, self.settled.values().items(), &fresh)?;
+        if are_so(values.items(), &rows) {
+            return Ok(Metric::No(values));
+        }
+        self.decided(alloc, which, facts, goal, &names, &rows)
+    }
+
+    /// The values that the facts have.
+    pub fn values(&self, alloc: Global) -> Result<Values, AllocError>
+        ensures { IfOk result (AreValuesOf (all_seen self.now.settled)) }
+    {
+        let pairs = Vec::from_slice(alloc, self.settled.values().items())?;
+        Ok(Values::new(pairs))
+    }
+}

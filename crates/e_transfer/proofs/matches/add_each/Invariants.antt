@@ -1,0 +1,5 @@
+use Rattle.std.proofs.Common.{◌≡◌, ◌++◌, take, map}
+use Rattle.e_transfer.proofs.matches.add_each.Given as goal
+
+abbrev pub invariant-loop-b : goal.invariant-loop-b
+invariant-loop-b l = l.matches.items ≡ l.initial.matches.items ++ map (λ b. l.first ++ b) (take l.b-index l.second.items)

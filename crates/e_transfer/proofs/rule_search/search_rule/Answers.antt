@@ -1,0 +1,17 @@
+use Rattle.std.proofs.Common.{below_more, arith}
+use Rattle.e_clause.specs.Views.{row_of}
+use Rattle.e_transfer.specs.GivenGoals.{NoneAt}
+use Rattle.e_transfer.proofs.RuleSearches.{none_of, search_nothing}
+use Rattle.e_transfer.proofs.rule_search.search_rule.Goals as goal
+
+pub loop-place-preserved : goal.loop-place-preserved
+loop-place-preserved c =
+    let s = c.args.query.now in
+    below_more _ _ c.loop-place.invariant
+    (search_nothing s.strength s.scope s.facts.now s.goal.now (NoneAt s.strength s.scope s.facts.now s.goal.now c.args.rule c.loop-place.place)
+    c.in_ok-search_place.field-0 c.in-No.is c.in_ok-search_place.ensures)
+
+pub returns : goal.returns
+returns c =
+    let s = c.args.query.now in
+    none_of s.strength s.scope s.facts.now s.goal.now c.args.rule (row_of c.row-row.result.now) c.loop-place.place c.row-row.ensures (omega arith) c.loop-place.invariant

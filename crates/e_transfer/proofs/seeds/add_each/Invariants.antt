@@ -1,5 +1,0 @@
-use Rattle.std.proofs.Common.{◌≡◌, ◌++◌, take, map}
-use Rattle.e_transfer.proofs.seeds.add_each.Given as goal
-
-abbrev pub invariant-loop-b : goal.invariant-loop-b
-invariant-loop-b l = l.seeds.items ≡ l.initial.seeds.items ++ map (λ b. l.first ++ b) (take l.b-index l.second.items)

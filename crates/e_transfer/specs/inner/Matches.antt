@@ -1,0 +1,80 @@
+-- The ways in which a goal at a place of a clause binds the variables.
+use Rattle.std.specs.Prelude.{ℕ, List, [], ◌∷◌, ◌++◌, map, flat_map, Bool, not, ◌==◌, ◌||◌, option_to_list, IsTrue, if◌then◌else◌}
+use Rattle.std.specs.List.{list_all}
+use Rattle.e_literal.specs.declared.object.Mono.{Mono}
+use Rattle.e_literal.specs.declared.object.Term.{Term}
+use Rattle.e_literal.specs.declared.object.Term.TheVariants.{Seg, Ang, Area, Right}
+use Rattle.e_literal.specs.declared.literal.Lit.{Lit}
+use Rattle.e_literal.specs.declared.literal.Atom.{Atom}
+use Rattle.e_literal.specs.Same.{coeff_of, agree, same_atom, same_lit}
+use Rattle.e_literal.specs.Rename.{mono_at, atom_at}
+use Rattle.e_clause.specs.Rows.{Row}
+use Rattle.e_transfer.specs.declared.equations.Equation.{Equation}
+use Rattle.e_transfer.specs.inner.Equations.{line, circle, some_agree, equations_of_term, equations_of_terms}
+
+-- the atom, or the literal, of a row with these numbers for its variables
+abbrev pub atom_under : Row → (ℕ → ℕ) → Atom → Atom
+atom_under r f a = atom_at f (λ k. f (line r k)) (λ k. f (circle r k)) a
+
+abbrev pub lit_under : Row → (ℕ → ℕ) → Lit → Lit
+lit_under r f l = record { neg = l.neg; atom = atom_under r f l.atom }
+
+-- the literal is the goal only where the variables are as one of the matches says
+abbrev pub Cover : Row → Lit → Lit → List (List Equation) → Type 0
+Cover r l goal matches = (f : ℕ → ℕ) → IsTrue (same_lit (lit_under r f l) goal) → IsTrue (some_agree f matches)
+
+-- the same of atoms
+abbrev pub CoverAtom : Row → Atom → Atom → List (List Equation) → Type 0
+CoverAtom r a goal matches = (f : ℕ → ℕ) → IsTrue (same_atom (atom_under r f a) goal) → IsTrue (some_agree f matches)
+
+-- the orders in which the points of a term may be written
+abbrev pub orders : Term → List Term
+orders (Seg a b) = Seg a b ∷ Seg b a ∷ []
+orders (Ang a b c) = Ang a b c ∷ Ang c b a ∷ []
+orders (Area a b c) = Area a b c ∷ Area a c b ∷ Area b a c ∷ Area b c a ∷ Area c a b ∷ Area c b a ∷ []
+orders Right = Right ∷ []
+
+-- the ways in which a term of a row may be one with the goal's
+abbrev pub matches_of_term : Term → Term → List (List Equation)
+matches_of_term term goal = flat_map (λ order. option_to_list (equations_of_term term order)) (orders goal)
+
+-- the ways in which some term of a sum may be one with the goal's
+abbrev pub matches_of_sum : Term → List Mono → List (List Equation)
+matches_of_sum goal x = flat_map (λ m. matches_of_term m.term goal) x
+
+-- the ways in which two terms of a row may be one
+abbrev pub cancellations_of_terms : Term → Term → List (List Equation)
+cancellations_of_terms term other = flat_map (λ order. option_to_list (equations_of_terms term order)) (orders other)
+
+-- the ways in which a term may be one with a term of a sum
+abbrev pub cancellations_of_sum : Term → List Mono → List (List Equation)
+cancellations_of_sum term y = flat_map (λ m. cancellations_of_terms term m.term) y
+
+-- the ways in which two sums may cancel: the first term of the one is one of the other
+abbrev pub cancellations : List Mono → List Mono → List (List Equation)
+cancellations [] y = [] ∷ []
+cancellations (m ∷ ms) y = (if m.coeff == 0 then [] ∷ [] else cancellations_of_sum m.term y)
+
+-- one match and another, both
+abbrev pub product : List (List Equation) → List (List Equation) → List (List Equation)
+product first second = flat_map (λ a. map (λ b. a ++ b) second) first
+
+-- the term does not occur in x - y
+abbrev pub cancels : List Mono → List Mono → Term → Bool
+cancels x y t = coeff_of x t == coeff_of y t
+
+-- each of the terms occurs there
+abbrev pub none_cancels : List Mono → List Mono → List Term → Bool
+none_cancels x y ts = list_all (λ t. not (cancels x y t)) ts
+
+-- no term of the sum occurs there
+abbrev pub all_cancel : List Mono → List Mono → List Mono → Bool
+all_cancel x y ms = list_all (λ m. cancels x y m.term) ms
+
+abbrev pub sum_under : (ℕ → ℕ) → List Mono → List Mono
+sum_under f x = map (mono_at f) x
+
+-- x - y over variables has the normal form of z - w, or of its negative, only where the variables are as one of the matches says
+abbrev pub CoverSums : List Mono → List Mono → List Mono → List Mono → List (List Equation) → Type 0
+CoverSums x y z w matches =
+    (f : ℕ → ℕ) → IsTrue (agree (sum_under f x) (sum_under f y) z w || agree (sum_under f x) (sum_under f y) w z) → IsTrue (some_agree f matches)

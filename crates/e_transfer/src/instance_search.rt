@@ -1,0 +1,254 @@
+// The search at one place of a clause.
+
+ghost use Rattle.std.specs.Prelude.{◌≡◌, ◌<◌, List, length, slice_get, true, false, slice_index, IfOk, IsTrue, Some};
+ghost use Rattle.e_clause.specs.RuleKinds.{is_transfer};
+ghost use Rattle.e_clause.specs.Table.{table};
+ghost use Rattle.e_clause.specs.Views.{row_of};
+ghost use Rattle.e_clause.specs.Instance.{clause_of};
+ghost use Rattle.e_transfer.specs.GivenGoals.{IsFitting, IsWideTransfer, Suffices};
+ghost use Rattle.e_transfer.specs.declared.query.Strength.TheVariants as strength;
+ghost use Rattle.e_literal.specs.Rename.{term_at};
+ghost use Rattle.e_clause.specs.Instance;
+ghost use Rattle.e_transfer.specs.Areas;
+ghost use Rattle.e_transfer.specs.Marks.{is_area};
+ghost use Rattle.e_transfer.specs.inner.PartsOfChoices;
+ghost use Rattle.e_transfer.specs.inner.SearchedPlaces.{Wanted, NoneFrom, Shown};
+
+use crate::areas::{equal_areas, is_one_of};
+use crate::clause::{clause_len, literal_at, pattern_at};
+use crate::instance_check::{check_instance, is_refuted};
+use crate::marks::is_equation;
+use crate::plan::{Plan, last_of_term, sort_of};
+use crate::query::{Query, Strength};
+use crate::walk::{Task, Verdict};
+use e_clause::{Row, Rule, TransferCert};
+use e_literal::{Items, Lit, Obj, Term, is_degenerate, kind, negate, same};
+use std::alloc::{AllocError, Global};
+use std::mem;
+
+/// The instances of a transfer clause that have the goal at one place, with the variables chosen by a plan.
+#[derive(Drop)]
+pub struct InstanceSearch<'a> {
+    pub query: Query<'a>,
+    pub rule: Rule,
+    pub place: usize,
+    pub plan: &'a Plan,
+    /// Where the clause says of two areas alone that they are equal, if it does. That is a matter of speed alone.
+    pub areas: Option<usize>,
+    ghost transfer: { IsTrue (is_transfer rule) },
+}
+
+/// The number of a variable by the first numbers of a choice; 0 where it is not chosen yet.
+fn number(positions: &[usize], part: &[u16], variable: usize) -> u16
+    ensures { result ≡ slice_index part.now (slice_index positions.now variable) }
+{
+    let place = match positions.get(variable) {
+        Some(place) => *place,
+        None => 0,
+    };
+    match part.get(place) {
+        Some(number) => *number,
+        None => 0,
+    }
+}
+
+/// The arguments by the first numbers of a choice.
+fn arguments(
+    alloc: Global,
+    row: &Row,
+    positions: &[usize],
+    part: &[u16],
+) -> Result<Items<Obj>, AllocError>
+    ensures { IfOk result (λ a. a ≡ PartsOfChoices.arguments (row_of row.now) positions.now part.now) }
+{
+    let mut args = Vec::with_capacity(alloc, positions.len())?;
+    for v in 0..positions.len() {
+        args.push(Obj {
+            sort: sort_of(row, v),
+            num: number(positions, part, v),
+        })?;
+    }
+    Ok(Items::new(args))
+}
+
+/// Whether the last number of a part of this length completes the literal at a place of the clause.
+fn is_completed(ready_at: &[usize], at: usize, length: usize) -> bool
+    ensures bound { result ≡ true → slice_get ready_at.now at ≡ Some (slice_index ready_at.now at) }
+    ensures below { result ≡ true → slice_index ready_at.now at < length }
+{
+    at < ready_at.len() && is_last(ready_at[at], length)
+}
+
+/// Whether the place is the last of a part of this length.
+fn is_last(place: usize, length: usize) -> bool
+    ensures { result ≡ true → place < length }
+{
+    place < length && place == length - 1
+}
+
+/// Whether what an instance needs may hold: a fact, or a metric literal that is not seen to be false beside true facts.
+fn may_suffice(query: &Query, need: &Lit) -> bool
+    ensures { result ≡ false → Suffices query.now.strength query.now.facts.now need.now → ⊥ }
+{
+    if query.strength == Strength::Facts || kind(need).is_none() {
+        return query.facts.has(need);
+    }
+    !is_refuted(query, need)
+}
+
+/// Whether a literal of an instance may be what it has to be: at the goal's place the goal, elsewhere the goal or one whose
+/// negation may hold.
+fn may_hold(query: &Query, here: bool, lit: Lit) -> bool
+    ensures { result ≡ false → IsFitting query.now.strength query.now.facts.now query.now.goal.now here lit → ⊥ }
+{
+    if same(&lit, query.goal) {
+        mem::drop(lit);
+        return true;
+    }
+    if here {
+        mem::drop(lit);
+        return false;
+    }
+    let need = negate(lit);
+    let holds = may_suffice(query, &need);
+    mem::drop(need);
+    holds
+}
+
+/// The number of a variable by the arguments; 0 where there is none.
+fn number_in(args: &[Obj], variable: u16) -> u16
+    ensures { result ≡ Instance.number args.now variable }
+{
+    match args.get(usize::from(variable)) {
+        Some(object) => object.num,
+        None => 0,
+    }
+}
+
+/// An area over variables, with the arguments for them.
+fn area_at(args: &[Obj], area: Term) -> Term
+    ensures { result ≡ term_at (Instance.number args.now) area }
+{
+    match area {
+        Term::Area(x, y, z) => Term::Area(
+            number_in(args, x),
+            number_in(args, y),
+            number_in(args, z),
+        ),
+        Term::Seg(x, y) => Term::Seg(number_in(args, x), number_in(args, y)),
+        Term::Ang(x, y, z) => Term::Ang(number_in(args, x), number_in(args, y), number_in(args, z)),
+        Term::Right => Term::Right,
+    }
+}
+
+/// Whether no need holds that says that the area differs from another: there are values with which all facts are true,
+/// and no fact names the area.
+fn is_free(query: &Query, area: Term) -> bool
+    requires { IsTrue (is_area area) }
+    ensures { result ≡ true → Areas.IsFree query.now.facts.now area }
+{
+    if is_degenerate(area) || is_one_of(query.areas, area) {
+        return false;
+    }
+    query.plain_model || query.spread_model
+}
+
+impl<'a> InstanceSearch<'a> {
+    /// Whether the last number of the part completes the first of two areas that the clause says to be equal at this
+    /// place, and the area is free: then the two do not differ, whatever the other is.
+    fn has_free_area(&self, row: &Row, part: &[u16], args: &[Obj], at: usize) -> bool
+        requires of_table { slice_get table self.now.rule ≡ Some (row_of row.now) }
+        requires arguments { args.now ≡ PartsOfChoices.arguments (row_of row.now) self.now.plan.now.positions.items part.now }
+        ensures { result ≡ true → NoneFrom self.now.query.strength self.now.query.scope self.now.query.facts.now self.now.query.goal.now self.now.rule self.now.place self.now.plan.now part.now }
+    {
+        if at >= clause_len(row) || at == self.place || is_equation(self.query.goal) {
+            return false;
+        }
+        let (pattern, negated) = pattern_at(row, at);
+        let Some(area) = equal_areas(&pattern) else {
+            return false;
+        };
+        if negated || !is_last(last_of_term(&self.plan.positions, area), part.len()) {
+            return false;
+        }
+        is_free(&self.query, area_at(args, area))
+    }
+
+    /// Whether the last number of the part completes the literal at a place of the clause, and the literal is excluded.
+    fn is_excluded(
+        &self,
+        alloc: Global,
+        row: &Row,
+        part: &[u16],
+        args: &[Obj],
+        j: usize,
+    ) -> Result<bool, AllocError>
+        requires of_table { slice_get table self.now.rule ≡ Some (row_of row.now) }
+        requires arguments { args.now ≡ PartsOfChoices.arguments (row_of row.now) self.now.plan.now.positions.items part.now }
+        requires in_clause { j < length (clause_of (row_of row.now)) }
+        ensures { IfOk result (λ b. b ≡ true → NoneFrom self.now.query.strength self.now.query.scope self.now.query.facts.now self.now.query.goal.now self.now.rule self.now.place self.now.plan.now part.now) }
+    {
+        if !is_completed(&self.plan.ready_at, j, part.len()) {
+            return Ok(false);
+        }
+        let lit = literal_at(alloc, row, args, j)?;
+        Ok(!may_hold(&self.query, j == self.place, lit))
+    }
+
+    /// Whether no literal that the last number of the part completes is excluded.
+    fn may_go_on(
+        &self,
+        alloc: Global,
+        row: &Row,
+        part: &[u16],
+        args: &[Obj],
+    ) -> Result<bool, AllocError>
+        requires of_table { slice_get table self.now.rule ≡ Some (row_of row.now) }
+        requires arguments { args.now ≡ PartsOfChoices.arguments (row_of row.now) self.now.plan.now.positions.items part.now }
+        ensures { IfOk result (λ b. b ≡ false → NoneFrom self.now.query.strength self.now.query.scope self.now.query.facts.now self.now.query.goal.now self.now.rule self.now.place self.now.plan.now part.now) }
+    {
+        for j in 0..clause_len(row) {
+            if self.is_excluded(alloc, row, part, args, j)? {
+                return Ok(false);
+            }
+        }
+        Ok(true)
+    }
+}
+
+impl<'a> Task for InstanceSearch<'a> {
+    type Proof = Option<TransferCert>;
+
+    ghost wanted = { λ s c. Wanted s.query.strength s.query.scope s.query.facts.now s.query.goal.now s.rule s.place s.plan.now c };
+
+    ghost kept = { λ s part. Unit {0} };
+
+    ghost shown = { λ s part p. Shown s.query.scope s.query.facts.now s.query.goal.now (length s.plan.now.spans.items) part p };
+
+    ghost wide = { λ s part w. (s.query.strength ≡ strength.Sums) × IsWideTransfer s.query.scope s.query.facts.now s.query.goal.now w };
+
+    fn check(
+        &self,
+        alloc: Global,
+        part: &[u16],
+    ) -> Result<Verdict<Option<TransferCert>>, AllocError> {
+        let row = self.rule.row();
+        let args = arguments(alloc, row, &self.plan.positions, part)?;
+        if let Some(at) = self.areas {
+            if self.has_free_area(row, part, args.items(), at) {
+                return Ok(Verdict::No);
+            }
+        }
+        if !self.may_go_on(alloc, row, part, args.items())? {
+            return Ok(Verdict::No);
+        }
+        if part.len() < self.plan.spans.len() {
+            return Ok(Verdict::Yes(None));
+        }
+        match check_instance(alloc, &self.query, self.rule, args)? {
+            Verdict::Yes(cert) => Ok(Verdict::Yes(Some(cert))),
+            Verdict::No => Ok(Verdict::No),
+            Verdict::TooWide(width) => Ok(Verdict::TooWide(width)),
+        }
+    }
+}

@@ -1,0 +1,284 @@
+// How a goal may match a place of a clause, and what it says of the variables then.
+
+ghost use Rattle.std.specs.Prelude.{◌≡◌, ◌⊎◌, ◌++◌, map, if◌then◌else◌, option_to_list, IfOk, OnOk, IsTrue, [], ◌∷◌};
+ghost use Rattle.e_literal.specs.Literal.{negation};
+ghost use Rattle.e_literal.specs.Same.{one_term, coeff_of};
+ghost use Rattle.e_clause.specs.Views.{atom_of, lit_of, row_of};
+ghost use Rattle.e_transfer.specs.inner.Matches;
+ghost use Rattle.e_transfer.specs.inner.Matches.{Cover, CoverAtom, CoverSums, all_cancel, none_cancels, matches_of_term, matches_of_sum, cancellations_of_terms, cancellations_of_sum};
+
+use crate::equations::{Equation, equations_of_atom, equations_of_term, equations_of_terms};
+use e_clause::{Pattern, Row, Shape};
+use e_literal::{Atom, Items, Lit, Mono, Term, canonical};
+use std::alloc::{AllocError, Global};
+
+/// Matches: each is a list of equations.
+pub type MatchList = Vec<Items<Equation>>;
+
+/// The orders in which a term may be written.
+fn orders(alloc: Global, term: Term) -> Result<Vec<Term>, AllocError>
+    ensures { IfOk result (λ v. v.items ≡ Matches.orders term) }
+{
+    match term {
+        Term::Seg(a, b) => Vec::from_slice(alloc, &[Term::Seg(a, b), Term::Seg(b, a)]),
+        Term::Ang(a, b, c) => Vec::from_slice(alloc, &[Term::Ang(a, b, c), Term::Ang(c, b, a)]),
+        Term::Area(a, b, c) => Vec::from_slice(
+            alloc,
+            &[
+                Term::Area(a, b, c),
+                Term::Area(a, c, b),
+                Term::Area(b, a, c),
+                Term::Area(b, c, a),
+                Term::Area(c, a, b),
+                Term::Area(c, b, a),
+            ],
+        ),
+        Term::Right => Vec::from_slice(alloc, &[Term::Right]),
+    }
+}
+
+/// Adds a match, if there is one.
+fn add_some(matches: &mut MatchList, equations: Option<Items<Equation>>) -> Result<(), AllocError>
+    ensures { OnOk result (matches.new.items ≡ matches.old.items ++ option_to_list equations) }
+{
+    if let Some(equations) = equations {
+        matches.push(equations)?;
+    }
+    Ok(())
+}
+
+/// Adds the ways in which the term may be the goal's.
+fn add_matches(
+    alloc: Global,
+    matches: &mut MatchList,
+    term: Term,
+    goal: Term,
+) -> Result<(), AllocError>
+    ensures { OnOk result (matches.new.items ≡ matches.old.items ++ matches_of_term term goal) }
+{
+    for order in &orders(alloc, goal)? {
+        add_some(matches, equations_of_term(alloc, term, *order)?)?;
+    }
+    Ok(())
+}
+
+/// The ways in which one term of a sum may be the goal's.
+fn matches_in_sums(
+    alloc: Global,
+    x: &[Mono],
+    y: &[Mono],
+    goal: Term,
+) -> Result<MatchList, AllocError>
+    ensures { IfOk result (λ v. v.items ≡ matches_of_sum goal x.now ++ matches_of_sum goal y.now) }
+{
+    let mut matches = Vec::new(alloc);
+    for m in x {
+        add_matches(alloc, &mut matches, m.term, goal)?;
+    }
+    for m in y {
+        add_matches(alloc, &mut matches, m.term, goal)?;
+    }
+    Ok(matches)
+}
+
+/// Adds the ways in which two terms over variables may be one.
+fn add_cancellations(
+    alloc: Global,
+    matches: &mut MatchList,
+    term: Term,
+    other: Term,
+) -> Result<(), AllocError>
+    ensures { OnOk result (matches.new.items ≡ matches.old.items ++ cancellations_of_terms term other) }
+{
+    for order in &orders(alloc, other)? {
+        add_some(matches, equations_of_terms(alloc, term, *order)?)?;
+    }
+    Ok(())
+}
+
+/// The ways in which two sums may cancel: the first term of the one is a term of the other.
+fn cancellations(alloc: Global, x: &[Mono], y: &[Mono]) -> Result<MatchList, AllocError>
+    ensures { IfOk result (λ v. v.items ≡ Matches.cancellations x.now y.now) }
+{
+    match x {
+        [first, ..] if first.coeff != 0 => cancellations_with(alloc, first.term, y),
+        _ => unbound(alloc),
+    }
+}
+
+/// The ways in which a term may be one with a term of a sum.
+fn cancellations_with(alloc: Global, term: Term, sum: &[Mono]) -> Result<MatchList, AllocError>
+    ensures { IfOk result (λ v. v.items ≡ cancellations_of_sum term sum.now) }
+{
+    let mut matches = Vec::new(alloc);
+    for m in sum {
+        add_cancellations(alloc, &mut matches, term, m.term)?;
+    }
+    Ok(matches)
+}
+
+/// The one match that binds no variable.
+fn unbound(alloc: Global) -> Result<MatchList, AllocError>
+    ensures { IfOk result (λ v. v.items ≡ [] ∷ []) }
+{
+    let mut matches = Vec::new(alloc);
+    matches.push(Items::empty(alloc))?;
+    Ok(matches)
+}
+
+/// Both at once.
+fn joined(
+    alloc: Global,
+    first: &[Equation],
+    second: &[Equation],
+) -> Result<Items<Equation>, AllocError>
+    ensures { IfOk result (λ v. v ≡ first.now ++ second.now) }
+{
+    let mut equations = Items::empty(alloc);
+    equations.append(first)?;
+    equations.append(second)?;
+    Ok(equations)
+}
+
+/// Each match of the first with each of the second.
+fn product(alloc: Global, first: &MatchList, second: &MatchList) -> Result<MatchList, AllocError>
+    ensures { IfOk result (λ v. v.items ≡ Matches.product first.now.items second.now.items) }
+{
+    let mut matches = Vec::new(alloc);
+    for a in first {
+        add_each(alloc, &mut matches, a.items(), second)?;
+    }
+    Ok(matches)
+}
+
+/// Adds one match with each of the others.
+fn add_each(
+    alloc: Global,
+    matches: &mut MatchList,
+    first: &[Equation],
+    second: &MatchList,
+) -> Result<(), AllocError>
+    ensures { OnOk result (matches.new.items ≡ matches.old.items ++ map (λ b. first.now ++ b) second.now.items) }
+{
+    for b in second {
+        matches.push(joined(alloc, first, b.items())?)?;
+    }
+    Ok(())
+}
+
+/// Whether two terms are one.
+fn is_one_term(a: Term, b: Term) -> bool
+    ensures { result ≡ one_term a b }
+{
+    canonical(a) == canonical(b)
+}
+
+/// The coefficient of a term in a sum, where equal terms are joined.
+fn coefficient(sum: &[Mono], term: Term) -> u128
+    ensures { result ≡ coeff_of sum.now term }
+{
+    let mut total = 0u128;
+    for m in sum {
+        if is_one_term(m.term, term) {
+            total += u128::from(m.coeff);
+        }
+    }
+    total
+}
+
+/// Adds terms of a sum that do not cancel in x - y, each once, until there are two.
+fn add_left(terms: &mut Vec<Term>, sum: &[Mono], x: &[Mono], y: &[Mono]) -> Result<(), AllocError>
+    ensures hold { OnOk result (IsTrue (none_cancels x.now y.now terms.old.items) → IsTrue (none_cancels x.now y.now terms.new.items)) }
+    ensures empty { OnOk result (terms.new.items ≡ [] → (terms.old.items ≡ []) × IsTrue (all_cancel x.now y.now sum.now)) }
+{
+    for m in sum {
+        if coefficient(x, m.term) != coefficient(y, m.term) {
+            add_once(terms, m.term)?;
+        }
+    }
+    Ok(())
+}
+
+/// Adds a term, unless two are there, or one that is this term.
+fn add_once(terms: &mut Vec<Term>, term: Term) -> Result<(), AllocError>
+    ensures cases { OnOk result ((terms.new.items ≡ terms.old.items ++ term ∷ []) ⊎ ((terms.new.items ≡ terms.old.items) × ¬ (terms.old.items ≡ []))) }
+{
+    if terms.len() < 2 && !terms.iter().any(|t| is_one_term(*t, term)) {
+        terms.push(term)?;
+    }
+    Ok(())
+}
+
+/// Terms of x - y that do not cancel, no two of them one term: all of them, or two.
+fn left(alloc: Global, x: &[Mono], y: &[Mono]) -> Result<Vec<Term>, AllocError>
+    ensures hold { IfOk result (λ v. IsTrue (none_cancels x.now y.now v.items)) }
+    ensures empty { IfOk result (λ v. v.items ≡ [] → IsTrue (all_cancel x.now y.now x.now) × IsTrue (all_cancel x.now y.now y.now)) }
+{
+    let mut terms = Vec::new(alloc);
+    add_left(&mut terms, x, x, y)?;
+    add_left(&mut terms, y, x, y)?;
+    Ok(terms)
+}
+
+/// The ways in which x - y, over variables, may have the normal form of z - w or of its negative.
+fn matches_of_sums(
+    alloc: Global,
+    x: &[Mono],
+    y: &[Mono],
+    z: &[Mono],
+    w: &[Mono],
+) -> Result<MatchList, AllocError>
+    ensures { IfOk result (λ v. CoverSums x.now y.now z.now w.now v.items) }
+{
+    let terms = left(alloc, z, w)?;
+    match terms.as_slice() {
+        [] => cancellations(alloc, x, y),
+        [term] => matches_in_sums(alloc, x, y, *term),
+        [first, second, ..] => {
+            let one = matches_in_sums(alloc, x, y, *first)?;
+            let other = matches_in_sums(alloc, x, y, *second)?;
+            product(alloc, &one, &other)
+        }
+    }
+}
+
+/// The ways in which the atom of a row may be the goal's.
+fn matches_of_shape(
+    alloc: Global,
+    row: &Row,
+    shape: &Shape,
+    goal: &Atom,
+) -> Result<MatchList, AllocError>
+    ensures { IfOk result (λ v. CoverAtom (row_of row.now) (atom_of shape.now) goal.now v.items) }
+{
+    match (shape, goal) {
+        (Shape::MagEq(x, y), Atom::MagEq(z, w)) | (Shape::MagLt(x, y), Atom::MagLt(z, w)) => {
+            matches_of_sums(alloc, x, y, z.items(), w.items())
+        }
+        (shape, goal) => {
+            let mut matches = Vec::new(alloc);
+            add_some(&mut matches, equations_of_atom(alloc, row, shape, goal)?)?;
+            Ok(matches)
+        }
+    }
+}
+
+/// The ways in which the pattern, or its negation, may be the goal.
+pub fn matches(
+    alloc: Global,
+    row: &Row,
+    pattern: &Pattern,
+    negated: bool,
+    goal: &Lit,
+) -> Result<MatchList, AllocError>
+    ensures { IfOk result (λ v. Cover (row_of row.now) (if negated then negation (lit_of pattern.now) else lit_of pattern.now) goal.now v.items) }
+{
+    let (neg, shape) = match pattern {
+        Pattern::Is(shape) => (negated, shape),
+        Pattern::Not(shape) => (!negated, shape),
+    };
+    if neg != goal.neg {
+        return Ok(Vec::new(alloc));
+    }
+    matches_of_shape(alloc, row, shape, &goal.atom)
+}

@@ -1,0 +1,157 @@
+// The search through all places of all transfer clauses.
+
+ghost use Rattle.std.specs.Prelude.{◌≡◌, ◌<◌, ◌+◌, length, slice_get, IfOk, IsTrue, Some};
+ghost use Rattle.e_clause.specs.Instance.{clause_of};
+ghost use Rattle.e_clause.specs.RuleKinds.{is_transfer};
+ghost use Rattle.e_clause.specs.Table.{table};
+ghost use Rattle.e_clause.specs.Views.{row_of};
+ghost use Rattle.e_transfer.specs.GivenGoals.{RuleSearchIs, NoneWithBindings, NoneWithEquations, NoneAt, NoneOf, NoneGives};
+ghost use Rattle.e_transfer.specs.inner.Plans.{total_of};
+
+use crate::areas::place_of_areas;
+use crate::clause::{clause_len, pattern_at};
+use crate::equations::Equation;
+use crate::instance_search::InstanceSearch;
+use crate::marks::may_all_hold;
+use crate::matches::matches;
+use crate::order::order;
+use crate::plan::make_plan;
+use crate::query::Query;
+use crate::unify::{Binding, unify};
+use crate::walk::{Verdict, search};
+use e_clause::{Row, Rule, TransferCert};
+use std::alloc::{AllocError, Global};
+
+/// The instances that have the goal at a place of the clause, and whose variables are bound so.
+fn search_with_bindings(
+    alloc: Global,
+    query: &Query,
+    rule: Rule,
+    row: &Row,
+    preferred: &[u8],
+    place: usize,
+    bindings: &[Binding],
+) -> Result<Verdict<TransferCert>, AllocError>
+    requires of_table { slice_get table rule ≡ Some (row_of row.now) }
+    requires transfer { IsTrue (is_transfer rule) }
+    requires total { length bindings.now ≡ total_of (row_of row.now) }
+    ensures { IfOk result (RuleSearchIs query.now.strength query.now.scope query.now.facts.now query.now.goal.now (NoneWithBindings query.now.strength query.now.scope query.now.facts.now query.now.goal.now rule place bindings.now)) }
+{
+    let plan = make_plan(alloc, row, query.scope, bindings, preferred)?;
+    let task = InstanceSearch {
+        query: *query,
+        rule,
+        place,
+        plan: &plan,
+        areas: place_of_areas(row),
+    };
+    let mut chosen = Vec::new(alloc);
+    match search(alloc, &task, &plan.spans, &mut chosen)? {
+        Verdict::Yes(Some(cert)) => Ok(Verdict::Yes(cert)),
+        Verdict::Yes(None) => unreachable!(),
+        Verdict::No => Ok(Verdict::No),
+        Verdict::TooWide(width) => Ok(Verdict::TooWide(width)),
+    }
+}
+
+/// The instances that have the goal at a place of the clause, and whose variables are bound so.
+fn search_with_equations(
+    alloc: Global,
+    query: &Query,
+    rule: Rule,
+    row: &Row,
+    preferred: &[u8],
+    place: usize,
+    equations: &[Equation],
+) -> Result<Verdict<TransferCert>, AllocError>
+    requires of_table { slice_get table rule ≡ Some (row_of row.now) }
+    requires transfer { IsTrue (is_transfer rule) }
+    ensures { IfOk result (RuleSearchIs query.now.strength query.now.scope query.now.facts.now query.now.goal.now (NoneWithEquations query.now.strength query.now.scope query.now.facts.now query.now.goal.now rule place equations.now)) }
+{
+    let total = row.points as usize + row.lines as usize + row.circles as usize;
+    match unify(alloc, total, equations)? {
+        Some(bindings) => search_with_bindings(
+            alloc,
+            query,
+            rule,
+            row,
+            preferred,
+            place,
+            bindings.items(),
+        ),
+        None => Ok(Verdict::No),
+    }
+}
+
+/// The instances that have the goal at a place of the clause.
+fn search_place(
+    alloc: Global,
+    query: &Query,
+    rule: Rule,
+    row: &Row,
+    preferred: &[u8],
+    place: usize,
+) -> Result<Verdict<TransferCert>, AllocError>
+    requires of_table { slice_get table rule ≡ Some (row_of row.now) }
+    requires transfer { IsTrue (is_transfer rule) }
+    requires in_clause { place < length (clause_of (row_of row.now)) }
+    ensures { IfOk result (RuleSearchIs query.now.strength query.now.scope query.now.facts.now query.now.goal.now (NoneAt query.now.strength query.now.scope query.now.facts.now query.now.goal.now rule place)) }
+{
+    if !may_all_hold(query, rule, row, place) {
+        return Ok(Verdict::No);
+    }
+    let (pattern, negated) = pattern_at(row, place);
+    let matches = matches(alloc, row, &pattern, negated, query.goal)?;
+    for i in 0..matches.len() {
+        match search_with_equations(
+            alloc,
+            query,
+            rule,
+            row,
+            preferred,
+            place,
+            matches[i].items(),
+        )? {
+            Verdict::No => {}
+            Verdict::Yes(cert) => return Ok(Verdict::Yes(cert)),
+            Verdict::TooWide(width) => return Ok(Verdict::TooWide(width)),
+        }
+    }
+    Ok(Verdict::No)
+}
+
+/// The instances of a rule that have the goal.
+fn search_rule(
+    alloc: Global,
+    query: &Query,
+    rule: Rule,
+    preferred: &[u8],
+) -> Result<Verdict<TransferCert>, AllocError>
+    requires { IsTrue (is_transfer rule) }
+    ensures { IfOk result (RuleSearchIs query.now.strength query.now.scope query.now.facts.now query.now.goal.now (NoneOf query.now.strength query.now.scope query.now.facts.now query.now.goal.now rule)) }
+{
+    let row = rule.row();
+    for place in 0..clause_len(row) {
+        match search_place(alloc, query, rule, row, preferred, place)? {
+            Verdict::No => {}
+            Verdict::Yes(cert) => return Ok(Verdict::Yes(cert)),
+            Verdict::TooWide(width) => return Ok(Verdict::TooWide(width)),
+        }
+    }
+    Ok(Verdict::No)
+}
+
+/// The instances of all transfer clauses that have the goal: one that gives it, or none, or one that needs a literal
+/// with a wide system, if such are not passed over.
+pub fn search_rules(alloc: Global, query: &Query) -> Result<Verdict<TransferCert>, AllocError>
+    ensures { IfOk result (RuleSearchIs query.now.strength query.now.scope query.now.facts.now query.now.goal.now (NoneGives query.now.strength query.now.scope query.now.facts.now query.now.goal.now)) }
+{
+    for at in 0..29u8 {
+        match search_rule(alloc, query, Rule::transfer(at), order(at))? {
+            Verdict::No => {}
+            Verdict::Yes(cert) => return Ok(Verdict::Yes(cert)),
+            Verdict::TooWide(width) => return Ok(Verdict::TooWide(width)),
+        }
+    }
+    Ok(Verdict::No)
+}
