@@ -1,4 +1,4 @@
--- Blocks whose lines are judged one after another, and what the code says of them.
+-- Blocks whose steps are licensed one after another, and what the code says of them.
 use Rattle.std.proofs.Common.{◌≡◌, ℕ, ◌+◌, ◌≤◌, ◌<◌, ◌^◌, List, [], ◌∷◌, ◌++◌, length, drop, get_or, refl, sym, ap, ◌∙◌, subst, Option, Result, Ok, Err, arith, Box, Global}
 use Rattle.std.proofs.lemmas.Grind.{common_steps}
 use Rattle.std.specs.Prelude.{IfOk, OnOk, take}
@@ -21,18 +21,18 @@ use Rattle.e_deriv.specs.declared.stop.Stop.{Stop}
 use Rattle.e_deriv.specs.Script.{Script, Claim, Superposed, Cases, script_of, step_script, steps_script, close_script, size}
 use Rattle.e_deriv.specs.Goal.{Goal, goal_of}
 use Rattle.e_deriv.proofs.Scripts.{steps_at, steps_script-append, step_script-Claim, step_script-Superposed, close_script-Cases}
-use Rattle.e_prove.specs.declared.halt.Halt.{Halt}
-use Rattle.e_prove.specs.declared.standing.Standing.{Standing}
+use Rattle.e_prove.specs.declared.step_stop.StepStop.{StepStop}
+use Rattle.e_prove.specs.declared.step_state.StepState.{StepState}
 use Rattle.e_deriv.specs.declared.names.Names.{Names}
 use Rattle.e_prove.specs.declared.block.ProvedBlock.{ProvedBlock}
 use Rattle.e_prove.specs.declared.block.ProvedStep.{ProvedStep}
 use Rattle.e_prove.specs.declared.block.ProvedClose.{ProvedClose}
-use Rattle.e_prove.specs.Contexts.{after_literal, after_superposed, held_at, IsLeftWith}
-use Rattle.e_prove.specs.Halts.{HaltsIn, UnlessNoMemory, StopOf}
-use Rattle.e_prove.specs.Passing.{IsReadyFor, IsReadyStep, IsDerived, KeepsHeld, StopsWithin, IsPassed, StepStops}
-use Rattle.e_prove.proofs.Holding.{behind_is}
-use Rattle.e_prove.proofs.Passing.{passed_none, passed_more, passed_as, stops_first, same_names}
-use Rattle.e_prove.proofs.Inside.{ClaimReady, claim_stops, passed_claim, SuperposedReady, Certifies, superposed_stops, passed_superposed, superposed_halts, SplitReady, split_ready, split_other, split_derives, split_first, split_second}
+use Rattle.e_prove.specs.inner.StepStates.{after_literal, after_superposed, held_at, IsLeftWith}
+use Rattle.e_prove.specs.inner.StopsOfSteps.{StepStopsAmong, UnlessNoMemory, StopOf}
+use Rattle.e_prove.specs.inner.PassedSteps.{IsReadyFor, IsReadyStep, IsDerived, KeepsHeld, StopsWithin, IsPassed, StepStops}
+use Rattle.e_prove.proofs.HeldStates.{after_is}
+use Rattle.e_prove.proofs.PassedSteps.{passed_none, passed_more, passed_as, stops_first, same_names}
+use Rattle.e_prove.proofs.InnerBlocks.{ClaimReady, claim_stops, passed_claim, SuperposedReady, Certifies, superposed_stops, passed_superposed, superposed_step_stops, SplitReady, split_ready, split_other, split_derives, split_first, split_second}
 use Rattle.e_book.proofs.KeptBlocks.{size_split}
 
 pub on_ok : {A E : Type 0} (p : Type 0) (r : Result A E) → p → OnOk r p
@@ -41,7 +41,7 @@ on_ok p (Err e) h = tt
 
 -- ---- the steps of a block
 
--- the step at this place behind those before it
+-- the step at this place after those before it
 front : (items seen : List Step) (i : ℕ) (s : Step) (d : Script) → seen ≡ items → i < length seen → s ≡ get_or seen i s →
     steps_script (take i items) (step_script s d) ≡ steps_script (take (i + 1) items) d
 front items seen i s d same lt is =
@@ -58,12 +58,12 @@ whole : (items seen : List Step) (i : ℕ) (s : Step) (d : Script) → seen ≡ 
     steps_script (take i items) (step_script s (steps_script (drop (i + 1) items) d)) ≡ steps_script items d
 whole items seen i s d same lt is = ap (steps_script (take i items)) (sym (steps_at items seen d i s same lt is)) ∙ parts items i d
 
-pub passed_start : (before : List Stated) (items new : List Step) (x : Standing) (n : ℕ) → new ≡ [] → IsPassed before (steps_script (take 0 items)) x n (steps_script new) x n
+pub passed_start : (before : List Stated) (items new : List Step) (x : StepState) (n : ℕ) → new ≡ [] → IsPassed before (steps_script (take 0 items)) x n (steps_script new) x n
 passed_start before items new x n e =
     passed_as before (λ d. d) (λ d. d) (steps_script (take 0 items)) (steps_script new) x x n n (λ d. refl) (λ d. ap (λ xs. steps_script xs d) (sym e))
     (passed_none before x n refl)
 
-pub step_ready : (before : List Stated) (items seen done : List Step) (close : Script) (i : ℕ) (s : Step) (x y : Standing) (goal : Goal) (first n : ℕ) → seen ≡ items → i < length seen → s ≡ get_or seen i s →
+pub step_ready : (before : List Stated) (items seen done : List Step) (close : Script) (i : ℕ) (s : Step) (x y : StepState) (goal : Goal) (first n : ℕ) → seen ≡ items → i < length seen → s ≡ get_or seen i s →
     IsPassed before (steps_script (take i items)) x first (steps_script done) y n → IsReadyFor before (steps_script items close) x goal → first + size (steps_script items close) < 2 ^ 32 → IsReadyStep before s y n
 step_ready before items seen done close i s x y goal first n same lt is p r few =
     let left = steps_script (drop (i + 1) items) close in
@@ -77,7 +77,7 @@ step_ready before items seen done close i s x y goal first n same lt is p r few 
       few = omega (arith, count, size_is, few);
     }
 
-pub step_stops : (before : List Stated) (items seen done : List Step) (close : Script) (i : ℕ) (s : Step) (x y : Standing) (goal : Goal) (first n : ℕ) (t : Stop) → seen ≡ items → i < length seen → s ≡ get_or seen i s →
+pub step_stops : (before : List Stated) (items seen done : List Step) (close : Script) (i : ℕ) (s : Step) (x y : StepState) (goal : Goal) (first n : ℕ) (t : Stop) → seen ≡ items → i < length seen → s ≡ get_or seen i s →
     IsPassed before (steps_script (take i items)) x first (steps_script done) y n → IsReadyFor before (steps_script items close) x goal → StepStops before s y n t → StopsWithin before (steps_script items close) x goal first t
 step_stops before items seen done close i s x y goal first n t same lt is p r k =
     let left = steps_script (drop (i + 1) items) close in
@@ -85,7 +85,7 @@ step_stops before items seen done close i s x y goal first n t same lt is p r k 
     let ready = subst (λ d. IsReadyFor before d x goal) (sym e) r in
     subst (λ d. StopsWithin before d x goal first t) e (p.stops (step_script s left) goal t ready (k left goal (p.ready (step_script s left) goal ready)))
 
-pub step_passed : (before : List Stated) (items seen done grown : List Step) (i : ℕ) (s d : Step) (x y z : Standing) (first n m : ℕ) → seen ≡ items → i < length seen → s ≡ get_or seen i s → grown ≡ done ++ d ∷ [] →
+pub step_passed : (before : List Stated) (items seen done grown : List Step) (i : ℕ) (s d : Step) (x y z : StepState) (first n m : ℕ) → seen ≡ items → i < length seen → s ≡ get_or seen i s → grown ≡ done ++ d ∷ [] →
     IsPassed before (steps_script (take i items)) x first (steps_script done) y n → IsPassed before (step_script s) y n (step_script d) z m →
     IsPassed before (steps_script (take (i + 1) items)) x first (steps_script grown) z m
 step_passed before items seen done grown i s d x y z first n m same lt is more p q =
@@ -100,40 +100,40 @@ all_taken items seen i d same le =
     let e : take i seen ≡ seen = grind (arith, common_steps) in
     ap (λ xs. steps_script xs d) (subst (λ xs. take i xs ≡ xs) same e)
 
-pub close_ready : (before : List Stated) (items seen done : List Step) (close : Script) (i : ℕ) (x y : Standing) (goal : Goal) (first n : ℕ) → seen ≡ items → length seen ≤ i →
+pub close_ready : (before : List Stated) (items seen done : List Step) (close : Script) (i : ℕ) (x y : StepState) (goal : Goal) (first n : ℕ) → seen ≡ items → length seen ≤ i →
     IsPassed before (steps_script (take i items)) x first (steps_script done) y n → IsReadyFor before (steps_script items close) x goal → IsReadyFor before close y goal
 close_ready before items seen done close i x y goal first n same le p r =
     p.ready close goal (subst (λ d. IsReadyFor before d x goal) (sym (all_taken items seen i close same le)) r)
 
-pub close_few : (before : List Stated) (items seen done : List Step) (close : Script) (i : ℕ) (x y : Standing) (first n : ℕ) → seen ≡ items → length seen ≤ i →
+pub close_few : (before : List Stated) (items seen done : List Step) (close : Script) (i : ℕ) (x y : StepState) (first n : ℕ) → seen ≡ items → length seen ≤ i →
     IsPassed before (steps_script (take i items)) x first (steps_script done) y n → first + size (steps_script items close) ≡ n + size close
 close_few before items seen done close i x y first n same le p =
     ap (λ d. first + size d) (sym (all_taken items seen i close same le)) ∙ p.number close
 
-pub close_derived : (before : List Stated) (items seen done : List Step) (close derived : Script) (i : ℕ) (x y : Standing) (goal : Goal) (first n : ℕ) → seen ≡ items → length seen ≤ i →
+pub close_derived : (before : List Stated) (items seen done : List Step) (close derived : Script) (i : ℕ) (x y : StepState) (goal : Goal) (first n : ℕ) → seen ≡ items → length seen ≤ i →
     IsPassed before (steps_script (take i items)) x first (steps_script done) y n → IsReadyFor before (steps_script items close) x goal → IsDerived before close y goal derived →
     IsDerived before (steps_script items close) x goal (steps_script done derived)
 close_derived before items seen done close derived i x y goal first n same le p r d =
     let e = all_taken items seen i close same le in
     subst (λ w. IsDerived before w x goal (steps_script done derived)) e (p.derives close derived goal (subst (λ w. IsReadyFor before w x goal) (sym e) r) d)
 
-pub close_stops : (before : List Stated) (items seen done : List Step) (close : Script) (i : ℕ) (x y : Standing) (goal : Goal) (first n : ℕ) (t : Stop) → seen ≡ items → length seen ≤ i →
+pub close_stops : (before : List Stated) (items seen done : List Step) (close : Script) (i : ℕ) (x y : StepState) (goal : Goal) (first n : ℕ) (t : Stop) → seen ≡ items → length seen ≤ i →
     IsPassed before (steps_script (take i items)) x first (steps_script done) y n → IsReadyFor before (steps_script items close) x goal → StopsWithin before close y goal n t → StopsWithin before (steps_script items close) x goal first t
 close_stops before items seen done close i x y goal first n t same le p r k =
     let e = all_taken items seen i close same le in
     subst (λ w. StopsWithin before w x goal first t) e (p.stops close goal t (subst (λ w. IsReadyFor before w x goal) (sym e) r) k)
 
-pub kept_on : (x y z : Standing) → KeepsHeld x y → KeepsHeld y z → KeepsHeld x z
+pub kept_on : (x y z : StepState) → KeepsHeld x y → KeepsHeld y z → KeepsHeld x z
 kept_on x y z h k = k ∙ h
 
 -- ---- blocks that are left
 
-pub kept_literal : (lit : Lit) (x y z : Standing) → y ≡ after_literal lit x → KeepsHeld y z → KeepsHeld x z
+pub kept_literal : (lit : Lit) (x y z : StepState) → y ≡ after_literal lit x → KeepsHeld y z → KeepsHeld x z
 kept_literal lit x y z e k = k ∙ ap (λ w. w.context.held) e
 
 -- ---- a claim
 
-pub claim_passed : (before : List Stated) (step : Step) (shown seen : List Lit) (inner : Box Block Global) (x z after : Standing) (n : ℕ) (o : Names) (proved : ProvedBlock) (r : Result ProvedStep Stop) →
+pub claim_passed : (before : List Stated) (step : Step) (shown seen : List Lit) (inner : Box Block Global) (x z after : StepState) (n : ℕ) (o : Names) (proved : ProvedBlock) (r : Result ProvedStep Stop) →
     step ≡ ClaimStep shown inner → seen ≡ shown → ClaimReady before shown (script_of inner.value) x → IsDerived before (script_of inner.value) x (goal_of shown) (script_of proved.block) →
     proved.next ≡ n + 1 + size (script_of inner.value) → o ≡ x.names → KeepsHeld (held_at x) z → IfOk r (λ p. (rest : Script) → step_script p.step rest ≡ Claim seen (script_of proved.block) rest) →
     IfOk r (λ p. p.next ≡ proved.next) → OnOk r (IsLeftWith o seen z after) → IfOk r (λ p. IsPassed before (step_script step) x n (step_script p.step) after p.next)
@@ -142,12 +142,12 @@ claim_passed before step shown seen inner x z after n o proved (Ok p) is same re
     let S = script_of inner.value in
     let D = script_of proved.block in
     let base = passed_claim before shown S D x n proved.next ready.over d count in
-    let here = subst (λ w. IsPassed before (Claim shown S) x n (Claim shown D) w proved.next) (sym (behind_is o x z after shown seen e k same c)) base in
+    let here = subst (λ w. IsPassed before (Claim shown S) x n (Claim shown D) w proved.next) (sym (after_is o x z after shown seen e k same c)) base in
     passed_as before (Claim shown S) (Claim shown D) (step_script step) (step_script p.step) x after n p.next
     (λ w. sym (ap (λ s. step_script s w) is ∙ step_script-Claim shown inner w)) (λ w. sym (a w ∙ ap (λ ls. Claim ls D w) same))
     (subst (λ m. IsPassed before (Claim shown S) x n (Claim shown D) after m) (sym b) here)
 
-pub claim_stopped : (before : List Stated) (step : Step) (shown : List Lit) (inner : Box Block Global) (x : Standing) (n : ℕ) (t : Stop) → step ≡ ClaimStep shown inner → ClaimReady before shown (script_of inner.value) x →
+pub claim_stopped : (before : List Stated) (step : Step) (shown : List Lit) (inner : Box Block Global) (x : StepState) (n : ℕ) (t : Stop) → step ≡ ClaimStep shown inner → ClaimReady before shown (script_of inner.value) x →
     StopsWithin before (script_of inner.value) x (goal_of shown) (n + 1) t → StepStops before step x n t
 claim_stopped before step shown inner x n t is ready k rest goal r =
     subst (λ w. StopsWithin before w x goal n t) (sym (ap (λ s. step_script s rest) is ∙ step_script-Claim shown inner rest))
@@ -155,7 +155,7 @@ claim_stopped before step shown inner x n t is ready k rest goal r =
 
 -- ---- a superposition
 
-pub superposed_passed : (before : List Stated) (step : Step) (form : Superpose) (names named : List (List ℕ)) (shown seen : List Lit) (written certs : List Cert) (inner : Box Block Global) (x z after : Standing) (n : ℕ) (o : Names) (proved : ProvedBlock)
+pub superposed_passed : (before : List Stated) (step : Step) (form : Superpose) (names named : List (List ℕ)) (shown seen : List Lit) (written certs : List Cert) (inner : Box Block Global) (x z after : StepState) (n : ℕ) (o : Names) (proved : ProvedBlock)
     (r : Result ProvedStep Stop) → step ≡ SuperposedStep form names shown written inner → named ≡ names → seen ≡ shown → SuperposedReady before form names shown (script_of inner.value) x → Certifies form x certs →
     IsDerived before (script_of inner.value) (after_superposed form names x) (goal_of shown) (script_of proved.block) → proved.next ≡ n + 1 + size (script_of inner.value) → o ≡ x.names → KeepsHeld (held_at x) z →
     IfOk r (λ p. (rest : Script) → step_script p.step rest ≡ Superposed form named seen certs (script_of proved.block) rest) → IfOk r (λ p. p.next ≡ proved.next) → OnOk r (IsLeftWith o seen z after) →
@@ -165,34 +165,34 @@ superposed_passed before step form names named shown seen written certs inner x 
     let S = script_of inner.value in
     let D = script_of proved.block in
     let base = passed_superposed before form names shown written certs S D x n proved.next ready.fits ready.over cs d count in
-    let here = subst (λ w. IsPassed before (Superposed form names shown written S) x n (Superposed form names shown certs D) w proved.next) (sym (behind_is o x z after shown seen e k same c)) base in
+    let here = subst (λ w. IsPassed before (Superposed form names shown written S) x n (Superposed form names shown certs D) w proved.next) (sym (after_is o x z after shown seen e k same c)) base in
     passed_as before (Superposed form names shown written S) (Superposed form names shown certs D) (step_script step) (step_script p.step) x after n p.next
     (λ w. sym (ap (λ s. step_script s w) is ∙ step_script-Superposed form names shown written inner w))
     (λ w. sym (a w ∙ ap (λ ns. Superposed form ns seen certs D w) given ∙ ap (λ ls. Superposed form names ls certs D w) same))
     (subst (λ m. IsPassed before (Superposed form names shown written S) x n (Superposed form names shown certs D) after m) (sym b) here)
 
-pub superposed_stopped : (before : List Stated) (step : Step) (form : Superpose) (names : List (List ℕ)) (shown : List Lit) (written certs : List Cert) (inner : Box Block Global) (x : Standing) (n : ℕ) (t : Stop) →
+pub superposed_stopped : (before : List Stated) (step : Step) (form : Superpose) (names : List (List ℕ)) (shown : List Lit) (written certs : List Cert) (inner : Box Block Global) (x : StepState) (n : ℕ) (t : Stop) →
     step ≡ SuperposedStep form names shown written inner → SuperposedReady before form names shown (script_of inner.value) x → Certifies form x certs →
     StopsWithin before (script_of inner.value) (after_superposed form names x) (goal_of shown) (n + 1) t → StepStops before step x n t
 superposed_stopped before step form names shown written certs inner x n t is ready cs k rest goal r =
     subst (λ w. StopsWithin before w x goal n t) (sym (ap (λ s. step_script s rest) is ∙ step_script-Superposed form names shown written inner rest))
     (superposed_stops before form names shown written certs (script_of inner.value) rest x goal n t ready.fits ready.over cs k)
 
-pub superposed_refused : (before : List Stated) (step : Step) (form : Superpose) (names : List (List ℕ)) (shown : List Lit) (written : List Cert) (inner : Box Block Global) (x after : Standing) (n : ℕ) (h : Halt) (t : Stop) →
-    step ≡ SuperposedStep form names shown written inner → HaltsIn x.context (superposing.needs form) h → UnlessNoMemory (after.names ≡ x.names) h → StopOf h n after.names t → StepStops before step x n t
+pub superposed_refused : (before : List Stated) (step : Step) (form : Superpose) (names : List (List ℕ)) (shown : List Lit) (written : List Cert) (inner : Box Block Global) (x after : StepState) (n : ℕ) (h : StepStop) (t : Stop) →
+    step ≡ SuperposedStep form names shown written inner → StepStopsAmong x.context (superposing.needs form) h → UnlessNoMemory (after.names ≡ x.names) h → StopOf h n after.names t → StepStops before step x n t
 superposed_refused before step form names shown written inner x after n h t is k m e rest goal r =
     subst (λ w. StopsWithin before w x goal n t) (sym (ap (λ s. step_script s rest) is ∙ step_script-Superposed form names shown written inner rest))
-    (stops_first before (Superposed form names shown written (script_of inner.value) rest) x goal n h t (superposed_halts before form names shown written (script_of inner.value) rest (Superposed form names shown written (script_of inner.value) rest) x goal h k) (same_names h n x after t m e))
+    (stops_first before (Superposed form names shown written (script_of inner.value) rest) x goal n h t (superposed_step_stops before form names shown written (script_of inner.value) rest (Superposed form names shown written (script_of inner.value) rest) x goal h k) (same_names h n x after t m e))
 
 -- ---- a split
 
-pub split_parts : (before : List Stated) (close : Close) (lit : Lit) (first second : Box Block Global) (x : Standing) (goal : Goal) → close ≡ CasesClose lit first second → IsReadyFor before (close_script close) x goal →
+pub split_parts : (before : List Stated) (close : Close) (lit : Lit) (first second : Box Block Global) (x : StepState) (goal : Goal) → close ≡ CasesClose lit first second → IsReadyFor before (close_script close) x goal →
     SplitReady before lit (script_of first.value) x goal
 split_parts before close lit first second x goal is r =
     split_ready before lit (script_of first.value) (script_of second.value) x goal (subst (λ d. IsReadyFor before d x goal) (ap close_script is ∙ close_script-Cases lit first second) r)
 
 -- the second block, where the first is derived
-pub split_second_ready : (before : List Stated) (close : Close) (lit : Lit) (first second : Box Block Global) (derived : Script) (x : Standing) (goal : Goal) → close ≡ CasesClose lit first second →
+pub split_second_ready : (before : List Stated) (close : Close) (lit : Lit) (first second : Box Block Global) (derived : Script) (x : StepState) (goal : Goal) → close ≡ CasesClose lit first second →
     IsDerived before (script_of first.value) (after_literal lit x) goal derived → IsReadyFor before (close_script close) x goal → IsReadyFor before (script_of second.value) (after_literal (negation lit) x) goal
 split_second_ready before close lit first second derived x goal is d r =
     split_other before lit (script_of first.value) (script_of second.value) derived x goal d (subst (λ w. IsReadyFor before w x goal) (ap close_script is ∙ close_script-Cases lit first second) r)
@@ -201,7 +201,7 @@ pub split_size : (close : Close) (lit : Lit) (first second : Box Block Global) �
 split_size close lit first second is =
     ap size (ap close_script is ∙ close_script-Cases lit first second) ∙ size_split lit (script_of first.value) (script_of second.value)
 
-pub split_derived : (before : List Stated) (close : Close) (lit : Lit) (first second : Box Block Global) (one other : Block) (x : Standing) (goal : Goal) (r : Result ProvedClose Stop) → close ≡ CasesClose lit first second →
+pub split_derived : (before : List Stated) (close : Close) (lit : Lit) (first second : Box Block Global) (one other : Block) (x : StepState) (goal : Goal) (r : Result ProvedClose Stop) → close ≡ CasesClose lit first second →
     SplitReady before lit (script_of first.value) x goal → IsDerived before (script_of first.value) (after_literal lit x) goal (script_of one) →
     IsDerived before (script_of second.value) (after_literal (negation lit) x) goal (script_of other) → IfOk r (λ p. close_script p.close ≡ Cases lit (script_of one) (script_of other)) →
     IfOk r (λ p. IsDerived before (close_script close) x goal (close_script p.close))
@@ -211,20 +211,20 @@ split_derived before close lit first second one other x goal (Ok p) is ready d e
     (subst (IsDerived before (Cases lit (script_of first.value) (script_of second.value)) x goal) (sym a)
     (split_derives before lit (script_of first.value) (script_of second.value) (script_of one) (script_of other) x goal ready.over d e))
 
-pub split_stops_first : (before : List Stated) (close : Close) (lit : Lit) (first second : Box Block Global) (x : Standing) (goal : Goal) (n : ℕ) (t : Stop) → close ≡ CasesClose lit first second →
+pub split_stops_first : (before : List Stated) (close : Close) (lit : Lit) (first second : Box Block Global) (x : StepState) (goal : Goal) (n : ℕ) (t : Stop) → close ≡ CasesClose lit first second →
     SplitReady before lit (script_of first.value) x goal → StopsWithin before (script_of first.value) (after_literal lit x) goal (n + 1) t → StopsWithin before (close_script close) x goal n t
 split_stops_first before close lit first second x goal n t is ready k =
     subst (λ w. StopsWithin before w x goal n t) (sym (ap close_script is ∙ close_script-Cases lit first second))
     (split_first before lit (script_of first.value) (script_of second.value) x goal n t ready.over k)
 
-pub split_stops_second : (before : List Stated) (close : Close) (lit : Lit) (first second : Box Block Global) (one : Block) (x : Standing) (goal : Goal) (n next : ℕ) (t : Stop) → close ≡ CasesClose lit first second →
+pub split_stops_second : (before : List Stated) (close : Close) (lit : Lit) (first second : Box Block Global) (one : Block) (x : StepState) (goal : Goal) (n next : ℕ) (t : Stop) → close ≡ CasesClose lit first second →
     SplitReady before lit (script_of first.value) x goal → IsDerived before (script_of first.value) (after_literal lit x) goal (script_of one) → next ≡ n + 1 + size (script_of first.value) →
     StopsWithin before (script_of second.value) (after_literal (negation lit) x) goal next t → StopsWithin before (close_script close) x goal n t
 split_stops_second before close lit first second one x goal n next t is ready d count k =
     subst (λ w. StopsWithin before w x goal n t) (sym (ap close_script is ∙ close_script-Cases lit first second))
     (split_second before lit (script_of first.value) (script_of second.value) (script_of one) x goal n next t ready.over d count k)
 
--- ---- lines alone
+-- ---- steps alone
 
 pub cite_one : (by : By) (rest : Script) → size (step_script (CiteStep by) rest) ≡ 1 + size rest
 unfolding step_script size

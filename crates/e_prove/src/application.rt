@@ -1,4 +1,4 @@
-//! Judging an application of an earlier theorem.
+//! Licensing an application of an earlier theorem.
 ghost use Rattle.std.specs.Prelude.{◌≡◌, List, IfOk, IfErr, IsTrue, IsFalse, MatchOption, Some, map};
 ghost use Rattle.std.specs.List.{list_all};
 ghost use Rattle.e_literal.specs.Use.{Stated, are_arguments, needs_of_use, gives_of_use};
@@ -12,14 +12,14 @@ ghost use Rattle.e_deriv.specs.Lines.{theorem_at};
 ghost use Rattle.e_deriv.specs.Parts;
 ghost use Rattle.e_deriv.specs.Parts.{has_no_blank};
 ghost use Rattle.e_clause.specs.Written.{is_good_cert};
-ghost use Rattle.e_prove.specs.Applying.{CanApply, IsUse};
-ghost use Rattle.e_prove.specs.Halts.{HaltsIn, HaltsFilling, HaltsApplying, UnlessNoMemory};
-ghost use Rattle.e_prove.specs.Halts;
-ghost use Rattle.e_prove.specs.Judging.{IsJudged, StepHalts};
+ghost use Rattle.e_prove.specs.inner.Applications.{CanApply, IsUse};
+ghost use Rattle.e_prove.specs.inner.StopsOfSteps.{StepStopsAmong, StepStopsFilling, StepStopsApplying, UnlessNoMemory};
+ghost use Rattle.e_prove.specs.inner.StopsOfSteps;
+ghost use Rattle.e_prove.specs.inner.LicensedSteps.{IsLicensedStep, IsStopOfStep};
 
-use crate::halt::Halt;
 use crate::licence::licences;
-use crate::standing::Standing;
+use crate::step_state::StepState;
+use crate::step_stop::StepStop;
 use e_clause::Cert;
 use e_deriv::{Step, Wanted};
 use e_licence::{Context, Filled, match_blanks};
@@ -53,18 +53,18 @@ pub fn apply(
     alloc: Global,
     application: &Application,
     statement: &Statement,
-    standing: &mut Standing,
-) -> Result<Step, Halt>
-    requires { CanApply (stated statement.now) application.now.args.now standing.old.context }
-    ensures ok { IfOk result (λ d. (before : List Stated) (certs : List Certificate) → theorem_at before application.now.theorem ≡ stated statement.now → IsJudged before (Apply application.now.theorem application.now.args.now application.now.names.now certs) standing.old d standing.new) }
-    ensures err { IfErr result (λ h. (before : List Stated) (certs : List Certificate) → theorem_at before application.now.theorem ≡ stated statement.now → StepHalts before (Apply application.now.theorem application.now.args.now application.now.names.now certs) standing.old h) }
-    ensures kept { IfErr result (UnlessNoMemory (standing.new ≡ standing.old)) }
+    state: &mut StepState,
+) -> Result<Step, StepStop>
+    requires { CanApply (stated statement.now) application.now.args.now state.old.context }
+    ensures ok { IfOk result (λ d. (before : List Stated) (certs : List Certificate) → theorem_at before application.now.theorem ≡ stated statement.now → IsLicensedStep before (Apply application.now.theorem application.now.args.now application.now.names.now certs) state.old d state.new) }
+    ensures err { IfErr result (λ h. (before : List Stated) (certs : List Certificate) → theorem_at before application.now.theorem ≡ stated statement.now → IsStopOfStep before (Apply application.now.theorem application.now.args.now application.now.names.now certs) state.old h) }
+    ensures kept { IfErr result (UnlessNoMemory (state.new ≡ state.old)) }
 {
-    let used = used(alloc, statement, application.args, &mut standing.context)?;
+    let used = used(alloc, statement, application.args, &mut state.context)?;
     let args = without_blanks(alloc, used.args.items())?;
     let names = Vec::from_slice(alloc, application.names)?;
-    standing.grow(statement.made.items(), application.names)?;
-    standing.join_equal(alloc, used.gives.items())?;
+    state.grow(statement.made.items(), application.names)?;
+    state.join_equal(alloc, used.gives.items())?;
     Ok(Step::Apply {
         theorem: application.theorem,
         args,
@@ -79,10 +79,10 @@ fn used(
     statement: &Statement,
     pattern: &[Option<Obj>],
     context: &mut Context,
-) -> Result<Use, Halt>
+) -> Result<Use, StepStop>
     requires { CanApply (stated statement.now) pattern.now context.old }
     ensures ok { IfOk result (IsUse (stated statement.now) pattern.now context.old) }
-    ensures err { IfErr result (HaltsApplying (stated statement.now) context.old pattern.now) }
+    ensures err { IfErr result (StepStopsApplying (stated statement.now) context.old pattern.now) }
     ensures kept { context.new ≡ context.old }
 {
     match written(alloc, pattern)? {
@@ -97,57 +97,57 @@ fn filled(
     statement: &Statement,
     pattern: &[Option<Obj>],
     context: &mut Context,
-) -> Result<Use, Halt>
+) -> Result<Use, StepStop>
     requires { CanApply (stated statement.now) pattern.now context.old }
     ensures ok { IfOk result (IsUse (stated statement.now) pattern.now context.old) }
-    ensures err { IfErr result (HaltsFilling (stated statement.now) context.old pattern.now) }
+    ensures err { IfErr result (StepStopsFilling (stated statement.now) context.old pattern.now) }
     ensures kept { context.new ≡ context.old }
 {
     context.solve(alloc)?;
     filled_by_least(alloc, statement, pattern, context)
 }
 
-/// The same, where what the facts tell is solved, so that it need not be for each choice anew.
+/// The same, where the facts are solved, so that they need not be for each choice anew.
 fn filled_by_least(
     alloc: Global,
     statement: &Statement,
     pattern: &[Option<Obj>],
     context: &mut Context,
-) -> Result<Use, Halt>
+) -> Result<Use, StepStop>
     requires { CanApply (stated statement.now) pattern.now context.old }
     ensures ok { IfOk result (IsUse (stated statement.now) pattern.now context.old) }
-    ensures err { IfErr result (HaltsFilling (stated statement.now) context.old pattern.now) }
+    ensures err { IfErr result (StepStopsFilling (stated statement.now) context.old pattern.now) }
     ensures kept { context.new ≡ context.old }
 {
     match match_blanks(alloc, context, statement, pattern)? {
         Filled::Found(args) => match used_at(alloc, statement, args, context) {
             Ok(used) => Ok(used),
-            Err(halt) => Err(as_match(halt)),
+            Err(step_stop) => Err(as_match(step_stop)),
         },
-        Filled::None => Err(Halt::Lacks {
+        Filled::None => Err(StepStop::Lacks {
             wanted: Wanted::Match,
             values: None,
         }),
-        Filled::TooWide(width) => Err(Halt::TooWide {
+        Filled::TooWide(width) => Err(StepStop::TooWide {
             wanted: Wanted::Match,
             width,
         }),
     }
 }
 
-/// The halt of an application at a good choice for its blanks: what is too wide there is a match that is too wide.
-fn as_match(halt: Halt) -> Halt
-    ensures { result ≡ Halts.as_match halt }
+/// The stop of an application at a good choice for its blanks: what is too wide there is a match that is too wide.
+fn as_match(step_stop: StepStop) -> StepStop
+    ensures { result ≡ StopsOfSteps.as_match step_stop }
 {
-    match halt {
-        Halt::TooWide { wanted, width } => {
+    match step_stop {
+        StepStop::TooWide { wanted, width } => {
             mem::drop(wanted);
-            Halt::TooWide {
+            StepStop::TooWide {
                 wanted: Wanted::Match,
                 width,
             }
         }
-        halt => halt,
+        step_stop => step_stop,
     }
 }
 
@@ -157,7 +157,7 @@ fn used_at(
     statement: &Statement,
     args: Items<Obj>,
     context: &mut Context,
-) -> Result<Use, Halt>
+) -> Result<Use, StepStop>
     requires statement { IsTrue (is_small_statement (stated statement.now)) }
     requires scope { IsTrue (is_small context.old.scope) }
     requires fit { IsTrue (are_arguments (stated statement.now) context.old.scope args) }
@@ -166,7 +166,7 @@ fn used_at(
     ensures certified { IfOk result (λ u. IsTrue (certify_all context.old.scope context.old.facts (needs_of_use (stated statement.now) args context.old.scope) u.certs.items)) }
     ensures written { IfOk result (λ u. IsTrue (list_all is_good_cert u.certs.items)) }
     ensures gives { IfOk result (λ u. u.gives ≡ gives_of_use (stated statement.now) args context.old.scope) }
-    ensures err { IfErr result (HaltsIn context.old (needs_of_use (stated statement.now) args context.old.scope)) }
+    ensures err { IfErr result (StepStopsAmong context.old (needs_of_use (stated statement.now) args context.old.scope)) }
     ensures kept { context.new ≡ context.old }
 {
     match use_of(alloc, statement, args.items(), context.scope()) {
@@ -175,7 +175,7 @@ fn used_at(
             Ok(Use { args, certs, gives })
         }
         Err(UseFault::BadArgs) => unreachable!(),
-        Err(UseFault::NoMemory) => Err(Halt::NoMemory),
+        Err(UseFault::NoMemory) => Err(StepStop::NoMemory),
     }
 }
 

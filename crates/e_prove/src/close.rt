@@ -1,4 +1,4 @@
-//! Judging a close without blocks.
+//! Licensing a close without blocks.
 ghost use Rattle.std.specs.Prelude.{◌≡◌, List, Option, IfOk, IfErr, IsTrue, map};
 ghost use Rattle.e_literal.specs.Use.{Stated};
 ghost use Rattle.e_clause.specs.declared.cert.Against.{Against};
@@ -6,11 +6,12 @@ ghost use Rattle.e_clause.specs.declared.cert.Cert.{Cert};
 ghost use Rattle.e_clause.specs.Judged.{are_good};
 ghost use Rattle.e_deriv.specs.declared.block.Close.TheVariants.{Qed, Contradiction};
 ghost use Rattle.e_deriv.specs.Goal.{Goal as BlockGoal, are_for};
-ghost use Rattle.e_prove.specs.Contexts.{goal_said};
-ghost use Rattle.e_prove.specs.Judging.{IsClosed, CloseHalts};
+ghost use Rattle.e_prove.specs.inner.StepStates.{goal_view};
+ghost use Rattle.e_prove.specs.inner.StopsOfSteps.{contradiction_by};
+ghost use Rattle.e_prove.specs.inner.LicensedSteps.{IsClosed, IsStopOfClose};
 
-use crate::halt::Halt;
 use crate::licence::licences;
+use crate::step_stop::StepStop;
 use e_deriv::{Close, Wanted};
 use e_licence::{Context, Refuted};
 use e_literal::{Items, Lit, Map, Obj};
@@ -31,11 +32,11 @@ pub fn qed(
     objects: &[Obj],
     goal: &Goal,
     context: &mut Context,
-) -> Result<Close, Halt>
-    requires form { IsTrue (are_for (goal_said goal.now) context.old.scope objects.now) }
-    requires lits { IsTrue (are_good context.old.scope (Rattle.e_deriv.specs.Goal.goal_with (goal_said goal.now) objects.now)) }
-    ensures ok { IfOk result (λ d. (before : List Stated) (certs : List Cert) → IsClosed before (Qed objects.now certs) context.old (goal_said goal.now) d) }
-    ensures err { IfErr result (λ h. (before : List Stated) (certs : List Cert) → CloseHalts before (Qed objects.now certs) context.old (goal_said goal.now) h) }
+) -> Result<Close, StepStop>
+    requires form { IsTrue (are_for (goal_view goal.now) context.old.scope objects.now) }
+    requires lits { IsTrue (are_good context.old.scope (Rattle.e_deriv.specs.Goal.goal_with (goal_view goal.now) objects.now)) }
+    ensures ok { IfOk result (λ d. (before : List Stated) (certs : List Cert) → IsClosed before (Qed objects.now certs) context.old (goal_view goal.now) d) }
+    ensures err { IfErr result (λ h. (before : List Stated) (certs : List Cert) → IsStopOfClose before (Qed objects.now certs) context.old (goal_view goal.now) h) }
     ensures kept { context.new ≡ context.old }
 {
     let wanted = goal_with(alloc, goal, objects)?;
@@ -47,30 +48,40 @@ pub fn qed(
 }
 
 /// A contradiction: the facts contradict each other.
-pub fn contradiction(alloc: Global, context: &mut Context) -> Result<Close, Halt>
+pub fn contradiction(alloc: Global, context: &mut Context) -> Result<Close, StepStop>
     ensures ok { IfOk result (λ d. (before : List Stated) (goal : BlockGoal) (written : Option Against) → IsClosed before (Contradiction written) context.old goal d) }
-    ensures err { IfErr result (λ h. (before : List Stated) (goal : BlockGoal) (written : Option Against) → CloseHalts before (Contradiction written) context.old goal h) }
+    ensures err { IfErr result (λ h. (before : List Stated) (goal : BlockGoal) (written : Option Against) → IsStopOfClose before (Contradiction written) context.old goal h) }
     ensures kept { context.new ≡ context.old }
 {
-    match context.against(alloc)? {
-        Refuted::Yes(against) => Ok(Close::Contradiction {
-            against: Some(against),
-        }),
-        Refuted::No(values) => Err(Halt::Lacks {
-            wanted: Wanted::Contradiction,
-            values: Some(values),
-        }),
-        Refuted::TooWide(width) => Err(Halt::TooWide {
-            wanted: Wanted::Contradiction,
-            width,
-        }),
+    let answer = context.against(alloc)?;
+    close_by(answer)
+}
+
+/// The close that an answer on a contradiction makes, or why it stops.
+fn close_by(answer: Refuted) -> Result<Close, StepStop>
+    ensures { result ≡ contradiction_by answer }
+{
+    match answer {
+        Refuted::Yes(against) => {
+            let against = Some(against);
+            Ok(Close::Contradiction { against })
+        }
+        Refuted::No(values) => {
+            let wanted = Wanted::Contradiction;
+            let values = Some(values);
+            Err(StepStop::Lacks { wanted, values })
+        }
+        Refuted::TooWide(width) => {
+            let wanted = Wanted::Contradiction;
+            Err(StepStop::TooWide { wanted, width })
+        }
     }
 }
 
 /// The literals of the goal with these objects for its made ones.
 fn goal_with(alloc: Global, goal: &Goal, objects: &[Obj]) -> Result<Vec<Lit>, AllocError>
     requires one_sort { map (λ o. o.sort) goal.now.made.now ≡ map (λ o. o.sort) objects.now }
-    ensures { IfOk result (λ lits. lits.items ≡ Rattle.e_deriv.specs.Goal.goal_with (goal_said goal.now) objects.now) }
+    ensures { IfOk result (λ lits. lits.items ≡ Rattle.e_deriv.specs.Goal.goal_with (goal_view goal.now) objects.now) }
 {
     let images = Map::paired(alloc, goal.made, objects)?;
     all_renamed(alloc, goal.shown, &images)

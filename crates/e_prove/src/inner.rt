@@ -2,10 +2,10 @@
 ghost use Rattle.std.specs.Prelude.{◌≡◌, ◌<◌, List, length, IfOk, IfErr, OnOk};
 ghost use Rattle.e_deriv.specs.Script.{Script, Claim, Superposed, Cases, script_of, step_script, close_script};
 ghost use Rattle.e_deriv.specs.declared.stop.Stop.TheVariants.{NoMemory};
-ghost use Rattle.e_prove.specs.Contexts.{CanJoinLast, IsLeftWith};
+ghost use Rattle.e_prove.specs.inner.StepStates.{CanJoinLast, IsLeftWith};
 
 use crate::block::{ProvedBlock, ProvedClose, ProvedStep};
-use crate::standing::Standing;
+use crate::step_state::StepState;
 use e_clause::Cert;
 use e_construct::Superpose;
 use e_deriv::{Block, Close, Names, Step, Stop, copy_lits};
@@ -22,20 +22,20 @@ pub struct Head<'a> {
     pub certs: Vec<Cert>,
 }
 
-/// The block ends, and what it shows are facts where it was entered; hands out equal literals. It fails only for want of
-/// memory; nothing is said of what holds then.
-fn shown_behind(
+/// The block ends, and what it shows are facts where it was entered; hands out equal literals. It fails only out of
+/// memory; no clause says what holds then.
+fn show_after(
     alloc: Global,
     shown: &[Lit],
     outer: Names,
-    standing: &mut Standing,
+    state: &mut StepState,
 ) -> Result<Items<Lit>, AllocError>
-    requires held { 0 < length standing.old.context.held }
-    requires good { CanJoinLast shown.now standing.old }
+    requires held { 0 < length state.old.context.held }
+    requires good { CanJoinLast shown.now state.old }
     ensures shown { IfOk result (λ ls. ls ≡ shown.now) }
-    ensures after { OnOk result (IsLeftWith outer shown.now standing.old standing.new) }
+    ensures after { OnOk result (IsLeftWith outer shown.now state.old state.new) }
 {
-    standing.release_with(alloc, outer, shown)?;
+    state.release_with(alloc, outer, shown)?;
     copy_lits(alloc, shown)
 }
 
@@ -46,17 +46,17 @@ pub fn claimed(
     shown: &[Lit],
     proved: ProvedBlock,
     outer: Names,
-    standing: &mut Standing,
+    state: &mut StepState,
 ) -> Result<ProvedStep, Stop>
-    requires held { 0 < length standing.old.context.held }
-    requires good { CanJoinLast shown.now standing.old }
+    requires held { 0 < length state.old.context.held }
+    requires good { CanJoinLast shown.now state.old }
     ensures step { IfOk result (λ p. (rest : Script) → step_script p.step rest ≡ Claim shown.now (script_of proved.block) rest) }
     ensures next { IfOk result (λ p. p.next ≡ proved.next) }
-    ensures after { OnOk result (IsLeftWith outer shown.now standing.old standing.new) }
+    ensures after { OnOk result (IsLeftWith outer shown.now state.old state.new) }
     ensures err { IfErr result (λ s. s ≡ NoMemory) }
 {
     let ProvedBlock { block, next } = proved;
-    let shown = match shown_behind(alloc, shown, outer, standing) {
+    let shown = match show_after(alloc, shown, outer, state) {
         Ok(shown) => shown,
         Err(_) => {
             mem::drop(block);
@@ -76,18 +76,18 @@ pub fn superposed(
     shown: &[Lit],
     proved: ProvedBlock,
     outer: Names,
-    standing: &mut Standing,
+    state: &mut StepState,
 ) -> Result<ProvedStep, Stop>
-    requires held { 0 < length standing.old.context.held }
-    requires good { CanJoinLast shown.now standing.old }
+    requires held { 0 < length state.old.context.held }
+    requires good { CanJoinLast shown.now state.old }
     ensures step { IfOk result (λ p. (rest : Script) → step_script p.step rest ≡ Superposed head.entry.form.now head.entry.names.now shown.now head.entry.certs.items (script_of proved.block) rest) }
     ensures next { IfOk result (λ p. p.next ≡ proved.next) }
-    ensures after { OnOk result (IsLeftWith outer shown.now standing.old standing.new) }
+    ensures after { OnOk result (IsLeftWith outer shown.now state.old state.new) }
     ensures err { IfErr result (λ s. s ≡ NoMemory) }
 {
     let Head { form, names, certs } = head;
     let ProvedBlock { block, next } = proved;
-    let shown = match shown_behind(alloc, shown, outer, standing) {
+    let shown = match show_after(alloc, shown, outer, state) {
         Ok(shown) => shown,
         Err(_) => {
             mem::drop(block);

@@ -1,19 +1,19 @@
-//! The derivation of a theorem: each line of its script judged in order.
+//! The derivation of a theorem: each step of its script licensed in order.
 #![tactic(auto)]
 
 mod application;
 mod block;
 mod close;
-mod halt;
 mod inner;
 mod laws;
 mod licence;
 mod prover;
-mod standing;
 mod step;
+mod step_state;
+mod step_stop;
 
 pub use laws::{
-    derived_stops_for_memory, licensed_stops_for_memory, licensed_stops_for_want,
+    derived_stops_for_memory, licensed_is_not_refused, licensed_stops_for_memory,
     refused_stops_there,
 };
 pub use prover::prove;

@@ -8,9 +8,9 @@ ghost use Rattle.e_clause.specs.Judged.{is_good, are_good};
 ghost use Rattle.e_deriv.specs.Steps.{instance_gives};
 ghost use Rattle.e_clause.specs.Written.{is_good_cert};
 ghost use Rattle.e_licence.specs.Licences.{IsLicence};
-ghost use Rattle.e_prove.specs.Halts.{HaltsIn};
+ghost use Rattle.e_prove.specs.inner.StopsOfSteps.{StepStopsAmong};
 
-use crate::halt::Halt;
+use crate::step_stop::StepStop;
 use e_clause::{By, Cert, InstanceFault, instance};
 use e_deriv::Wanted;
 use e_facts::Facts;
@@ -20,24 +20,24 @@ use std::alloc::{AllocError, Global};
 use std::mem;
 
 /// A certificate of the literal, where it is allowed. The literals that it names are well formed.
-pub fn licensed(alloc: Global, context: &mut Context, lit: &Lit) -> Result<Cert, Halt>
+pub fn licensed(alloc: Global, context: &mut Context, lit: &Lit) -> Result<Cert, StepStop>
     requires { IsTrue (is_good context.old.scope lit.now) }
     ensures ok { IfOk result (λ c. IsTrue (certifies context.old.scope context.old.facts lit.now c)) }
     ensures written { IfOk result (λ c. IsTrue (is_good_cert c)) }
-    ensures err { IfErr result (HaltsIn context.old (lit.now ∷ [])) }
+    ensures err { IfErr result (StepStopsAmong context.old (lit.now ∷ [])) }
     ensures kept { context.new ≡ context.old }
 {
     let answer = context.licence(alloc, lit)?;
-    told(alloc, context, lit, answer)
+    to_cert(alloc, context, lit, answer)
 }
 
-/// A certificate of each literal, where each is allowed. They are judged in order, and the first that is not allowed, or
-/// too wide to be judged, halts.
-pub fn licences(alloc: Global, context: &mut Context, lits: &[Lit]) -> Result<Vec<Cert>, Halt>
+/// A certificate of each literal, where each is allowed. They are licensed in order, and the first that is not allowed, or
+/// too wide to be decided, stops it.
+pub fn licences(alloc: Global, context: &mut Context, lits: &[Lit]) -> Result<Vec<Cert>, StepStop>
     requires { IsTrue (are_good context.old.scope lits.now) }
     ensures ok { IfOk result (λ cs. IsTrue (certify_all context.old.scope context.old.facts lits.now cs.items)) }
     ensures written { IfOk result (λ cs. IsTrue (list_all is_good_cert cs.items)) }
-    ensures err { IfErr result (HaltsIn context.old lits.now) }
+    ensures err { IfErr result (StepStopsAmong context.old lits.now) }
     ensures kept { context.new ≡ context.old }
 {
     let mut certs = Vec::new(alloc);
@@ -48,22 +48,22 @@ pub fn licences(alloc: Global, context: &mut Context, lits: &[Lit]) -> Result<Ve
     Ok(certs)
 }
 
-/// What is answered on a literal: its certificate, or a halt.
-fn told(alloc: Global, context: &Context, lit: &Lit, answer: Licensed) -> Result<Cert, Halt>
+/// What is answered on a literal: its certificate, or a stop.
+fn to_cert(alloc: Global, context: &Context, lit: &Lit, answer: Licensed) -> Result<Cert, StepStop>
     requires { IsLicence context.now lit.now answer }
     ensures ok { IfOk result (λ c. IsTrue (certifies context.now.scope context.now.facts lit.now c)) }
     ensures written { IfOk result (λ c. IsTrue (is_good_cert c)) }
-    ensures err { IfErr result (HaltsIn context.now (lit.now ∷ [])) }
+    ensures err { IfErr result (StepStopsAmong context.now (lit.now ∷ [])) }
 {
     match answer {
         Licensed::Yes(cert) => Ok(cert),
         Licensed::No(values) => {
             let wanted = Wanted::Literal(copy(alloc, lit)?);
-            Err(Halt::Lacks { wanted, values })
+            Err(StepStop::Lacks { wanted, values })
         }
         Licensed::TooWide(width) => {
             let wanted = Wanted::Literal(copy(alloc, lit)?);
-            Err(Halt::TooWide { wanted, width })
+            Err(StepStop::TooWide { wanted, width })
         }
     }
 }
@@ -100,14 +100,19 @@ fn others_fail(alloc: Global, facts: &Facts, lit: &Lit, lits: &[Lit]) -> Result<
     ensures { IfOk result (λ b. b ≡ has_all facts.now (map negation (others lits.now lit.now))) }
 {
     for m in lits {
-        if !same(m, lit) {
-            let opposite = negate(copy(alloc, m)?);
-            let fails = facts.has(&opposite);
-            mem::drop(opposite);
-            if !fails {
-                return Ok(false);
-            }
+        if !same(m, lit) && !has_negation(alloc, facts, m)? {
+            return Ok(false);
         }
     }
     Ok(true)
+}
+
+/// Whether the negation of the literal is a fact.
+fn has_negation(alloc: Global, facts: &Facts, lit: &Lit) -> Result<bool, AllocError>
+    ensures { IfOk result (λ b. b ≡ has facts.now (negation lit.now)) }
+{
+    let opposite = negate(copy(alloc, lit)?);
+    let is_there = facts.has(&opposite);
+    mem::drop(opposite);
+    Ok(is_there)
 }

@@ -14,7 +14,7 @@ ghost use Rattle.e_deriv.specs.Written.{has_good_certs};
 
 use crate::block::prove_block;
 use crate::close::Goal;
-use crate::standing::Standing;
+use crate::step_state::StepState;
 use e_book::Theorem;
 use e_deriv::{Block, Names, Stop};
 use e_literal::next_objects;
@@ -22,14 +22,14 @@ use e_theorem::Statement;
 use std::alloc::Global;
 use std::mem;
 
-/// The derivation of a theorem by its own script, from the statements before it: each line judged in order,
+/// The derivation of a theorem by its own script, from the statements before it: each step licensed in order,
 /// with a certificate for each literal that it needs. Without its certificates it is the script, with the blanks of each
 /// application filled by the least good choice. Where the literals of the script are well formed, each literal that the
 /// derivation names is.
 ///
-/// `Unlicensed` comes only at the first line that is not licensed, with what it lacks, the values that show it where that
-/// is a metric literal or a contradiction, and the names in scope before it. `TooWide` comes only where each line before
-/// is licensed and the line is wide. The forms of the script's lines fit where they stand, and so do the literals, as
+/// `Unlicensed` comes only at the first step that is not licensed, with what it lacks, the values that show it where that
+/// is a metric literal or a contradiction, and the names in scope before it. `TooWide` comes only where each step before
+/// is licensed and the step is wide. The forms of the script's steps fit in their places, and so do the literals, as
 /// those of a theorem that is read do (System E 2009, section 3.4).
 pub fn prove(alloc: Global, before: &[Statement], theorem: &Theorem) -> Result<Block, Stop>
     requires { IsFitting (all_stated before.now) (stated theorem.now.statement) (script_of theorem.now.block) }
@@ -49,7 +49,7 @@ pub fn prove(alloc: Global, before: &[Statement], theorem: &Theorem) -> Result<B
     )
 }
 
-/// The derivation of a statement by a script: each line judged in order, with a certificate for each literal that it needs.
+/// The derivation of a statement by a script: each step licensed in order, with a certificate for each literal that it needs.
 pub(crate) fn prove_parts(
     alloc: Global,
     before: &[Statement],
@@ -65,11 +65,11 @@ pub(crate) fn prove_parts(
     ensures stop { IfErr result (StopIs (all_stated before.now) (stated statement.now) (script_of block.now)) }
     ensures names { IfErr result (HasNames (all_stated before.now) (stated statement.now) names.now (script_of block.now)) }
 {
-    let mut standing = Standing::first(alloc, statement, names)?;
-    let made = match next_objects(alloc, standing.context.scope(), statement.made.items()) {
+    let mut state = StepState::first(alloc, statement, names)?;
+    let made = match next_objects(alloc, state.context.scope(), statement.made.items()) {
         Ok(made) => made,
         Err(_) => {
-            mem::drop(standing);
+            mem::drop(state);
             return Err(Stop::NoMemory);
         }
     };
@@ -77,13 +77,13 @@ pub(crate) fn prove_parts(
         made: &made,
         shown: statement.shown.items(),
     };
-    match prove_block(alloc, before, block, &goal, &mut standing, 1) {
+    match prove_block(alloc, before, block, &goal, &mut state, 1) {
         Ok(proved) => {
-            mem::drop(standing);
+            mem::drop(state);
             Ok(proved.block)
         }
         Err(stop) => {
-            mem::drop(standing);
+            mem::drop(state);
             Err(stop)
         }
     }

@@ -13,8 +13,8 @@ use Rattle.e_literal.specs.Rows.{Summands, coefficient, normal_summands, times, 
 use Rattle.e_literal.proofs.Arith.{sums, mul_add, mul_neg, neg_mul, mul_one, size_negative, product_size}
 use Rattle.e_literal.proofs.Booleans.{and_left, and_right}
 use Rattle.e_literal.proofs.Valued.{coefficient_negative}
-use Rattle.e_verify.specs.Small.{are_small, is_small}
-use Rattle.e_verify.specs.Views.{row_said}
+use Rattle.e_verify.specs.inner.Small.{are_small, is_small}
+use Rattle.e_verify.specs.inner.Views.{row_said}
 use Rattle.e_verify.specs.declared.rows.Row.{Row}
 use Rattle.e_verify.specs.declared.rows.Row.TheVariants.{Sums, Pos, Top, Right as RightRow, Least}
 use Rattle.e_verify.specs.declared.rows.Says.{Says}

@@ -8,7 +8,7 @@ use Rattle.e_literal.specs.declared.literal.Atom.TheVariants.{On, OnC, Inside, C
 use Rattle.e_literal.specs.Same.{agree, same_atom, same_neg, same_lit}
 use Rattle.e_literal.proofs.Valued.{same_difference}
 use Rattle.e_literal.proofs.Booleans.{and_left, and_right, eqb_self}
-use Rattle.e_verify.specs.Fingerprint.{number_of, weight_of, placed, fingerprint_of}
+use Rattle.e_verify.specs.inner.Fingerprint.{number_of, weight_of, placed, fingerprint_of}
 
 apart_moved : (a b c d : ℕ) → a + d ≡ c + b → abs_diff a b ≡ abs_diff c d
 apart_moved a b c d e = omega (arith, e)

@@ -18,7 +18,7 @@ use Rattle.e_deriv.specs.Lines.{Line, lines, theorem_at}
 use Rattle.e_deriv.specs.Parts.{written}
 use Rattle.e_deriv.specs.Certified.{is_certified}
 use Rattle.e_verify.specs.declared.standing.Standing.{Standing}
-use Rattle.e_verify.specs.Standing.{with_facts, after_superposed}
+use Rattle.e_verify.specs.inner.Standing.{with_facts, after_superposed}
 use Rattle.e_verify.specs.Checking.{line_at, lines_at, IsChecked, KeepsFacts}
 
 pub cite_lines : (before : List Stated) (by : By) (x : Standing) (rest : Script) (goal : Goal)

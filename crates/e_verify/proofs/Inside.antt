@@ -31,7 +31,7 @@ use Rattle.e_verify.specs.declared.reject.Reject.{Reject}
 use Rattle.e_verify.specs.declared.reject.Reject.TheVariants.{Bad}
 use Rattle.e_verify.specs.declared.standing.Standing.{Standing}
 use Rattle.e_verify.specs.declared.standing.Outer.{Outer}
-use Rattle.e_verify.specs.Standing.{with_facts, after_superposed, outer_of, left_for}
+use Rattle.e_verify.specs.inner.Standing.{with_facts, after_superposed, outer_of, left_for}
 use Rattle.e_clause.specs.Written.{is_good_cert, is_good_against}
 use Rattle.e_verify.specs.Checking.{line_at, verdict_at, RejectIs, IsReadyFor, IsReadyStep, KeepsFacts, IsPassed, StepRejects}
 use Rattle.e_verify.proofs.FirstLines.{some_lines, qed_lines, contradiction_lines}

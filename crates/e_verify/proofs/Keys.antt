@@ -10,8 +10,8 @@ use Rattle.e_literal.specs.declared.object.Term.TheVariants.{Seg, Ang, Area, Rig
 use Rattle.e_literal.specs.Same.{term_eq}
 use Rattle.e_literal.proofs.Booleans.{and_left, and_right, same_bool}
 use Rattle.e_literal.proofs.Terms.{term_eq_is, equal_terms}
-use Rattle.e_verify.specs.Fingerprint.{placed}
-use Rattle.e_verify.specs.Totals.{key_of, is_narrow}
+use Rattle.e_verify.specs.inner.Fingerprint.{placed}
+use Rattle.e_verify.specs.inner.Totals.{key_of, is_narrow}
 
 abbrev is_low : ℕ → Bool
 is_low n = nat_lt n 65536

@@ -28,7 +28,7 @@ use Rattle.e_deriv.proofs.Stops.{lines_length}
 use Rattle.e_verify.specs.declared.reject.Reject.{Reject}
 use Rattle.e_verify.specs.declared.reject.Reject.TheVariants.{Bad, NoMemory}
 use Rattle.e_verify.specs.declared.standing.Standing.{Standing}
-use Rattle.e_verify.specs.Standing.{with_facts, after_superposed}
+use Rattle.e_verify.specs.inner.Standing.{with_facts, after_superposed}
 use Rattle.e_clause.specs.Written.{is_good_cert, is_good_against}
 use Rattle.e_deriv.specs.Written.{is_written_well}
 use Rattle.e_verify.specs.Checking.{line_at, lines_at, verdict_at, RejectIs, IsReadyFor, IsChecked, IsPassed, StepRejects}

@@ -11,7 +11,7 @@ use Rattle.e_literal.specs.declared.object.Mono.{Mono}
 use Rattle.e_literal.specs.Literal.{kind_of_term, kind_of_sums}
 use Rattle.e_literal.specs.WellFormed.{same_kind, is_good_coefficient, are_good_sums}
 use Rattle.e_literal.proofs.Booleans.{and_left, and_right}
-use Rattle.e_verify.specs.Small.{are_small}
+use Rattle.e_verify.specs.inner.Small.{are_small}
 
 abbrev fits_kind : Kind → Mono → Bool
 fits_kind k m = same_kind (kind_of_term m.term) k && is_good_coefficient m.coeff

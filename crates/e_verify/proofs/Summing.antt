@@ -17,9 +17,9 @@ use Rattle.e_literal.proofs.Arith.{sums, zero_is, product_size}
 use Rattle.e_literal.proofs.Booleans.{or_not_left, or_not_right, and_left, and_right, same_bool, all_hold}
 use Rattle.e_clause.specs.declared.cert.RowName.{RowName}
 use Rattle.e_clause.specs.Sum.{Place, row_named, weighed_rows, is_good_multiplier, is_good_size, refutes}
-use Rattle.e_verify.specs.Totals.{at}
-use Rattle.e_verify.specs.Small.{is_small}
-use Rattle.e_verify.specs.Views.{row_said}
+use Rattle.e_verify.specs.inner.Totals.{at}
+use Rattle.e_verify.specs.inner.Small.{is_small}
+use Rattle.e_verify.specs.inner.Views.{row_said}
 use Rattle.e_verify.specs.declared.rows.Row.{Row as CodeRow}
 use Rattle.e_verify.proofs.Added.{abs_sum, times_none, row_size}
 

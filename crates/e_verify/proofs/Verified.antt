@@ -15,7 +15,7 @@ use Rattle.e_deriv.specs.Certified.{Certified, derivation_lines, is_certified, v
 use Rattle.e_deriv.specs.Fitting.{is_small, is_small_statement, all_objects}
 use Rattle.e_deriv.proofs.Smallness.{few_objects}
 use Rattle.e_verify.specs.declared.standing.Standing.{Standing}
-use Rattle.e_verify.specs.Standing.{start_of}
+use Rattle.e_verify.specs.inner.Standing.{start_of}
 use Rattle.e_verify.specs.Checking.{verdict_at, IsReadyFor}
 use Rattle.e_verify.specs.Verdicts.{IsVerifiable}
 use Rattle.e_verify.proofs.Passing.{all_pass}

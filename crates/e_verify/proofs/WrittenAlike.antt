@@ -10,7 +10,7 @@ use Rattle.e_literal.specs.Same.{term_eq, same_atom, same_neg, same_lit}
 use Rattle.e_literal.proofs.Terms.{term_eq_is}
 use Rattle.e_literal.proofs.Agreeing.{same_atom_self}
 use Rattle.e_literal.proofs.Booleans.{and_left, and_right}
-use Rattle.e_verify.specs.Alike.{are_alike_monos, are_alike_sums, are_alike_atoms, are_alike}
+use Rattle.e_verify.specs.inner.Alike.{are_alike_monos, are_alike_sums, are_alike_atoms, are_alike}
 
 one_mono : (m n : Mono) → are_alike_monos m n ≡ true → m ≡ n
 one_mono m n h = ap₂ (λ c (t : Term). let r : Mono = record { coeff = c; term = t } in r) (eqb-true m.coeff n.coeff (and_left (eqb m.coeff n.coeff) (term_eq m.term n.term) h)) (term_eq_is m.term n.term (and_right (eqb m.coeff n.coeff) (term_eq m.term n.term) h))

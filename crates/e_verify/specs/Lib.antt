@@ -1,9 +1,3 @@
-pub mod Totals
-pub mod Small
-pub mod Views
-pub mod Placed
-pub mod Fingerprint
-pub mod Alike
-pub mod Standing
 pub mod Checking
 pub mod Verdicts
+pub mod inner

@@ -4,9 +4,9 @@ ghost use Rattle.std.specs.Prelude.{◌≡◌, ◌≤◌, ◌^◌, ◌++◌, IsT
 ghost use Rattle.e_literal.specs.Rows;
 ghost use Rattle.e_literal.specs.declared.object.Term.{Term as ATerm};
 ghost use Rattle.e_literal.specs.Rows.{coefficient, normal_summands};
-ghost use Rattle.e_verify.specs.Totals.{at};
-ghost use Rattle.e_verify.specs.Small.{are_small, is_small};
-ghost use Rattle.e_verify.specs.Views.{row_said};
+ghost use Rattle.e_verify.specs.inner.Totals.{at};
+ghost use Rattle.e_verify.specs.inner.Small.{are_small, is_small};
+ghost use Rattle.e_verify.specs.inner.Views.{row_said};
 
 use crate::rows::Row;
 use crate::totals::Totals;

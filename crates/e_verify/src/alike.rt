@@ -2,7 +2,7 @@
 
 ghost use Rattle.std.specs.Prelude.{◌≡◌, IsTrue};
 ghost use Rattle.e_literal.specs.Same.{same_lit};
-ghost use Rattle.e_verify.specs.Alike.{are_alike_monos, are_alike_sums, are_alike_atoms, are_alike};
+ghost use Rattle.e_verify.specs.inner.Alike.{are_alike_monos, are_alike_sums, are_alike_atoms, are_alike};
 
 use e_literal::{Atom, Lit, Mono, same};
 

@@ -7,7 +7,7 @@ ghost use Rattle.e_deriv.specs.Fitting.{is_small_statement};
 ghost use Rattle.e_deriv.specs.Script.{script_of, step_script, close_script};
 ghost use Rattle.e_verify.specs.declared.reject.Reject.TheVariants.{Bad as IsBad};
 ghost use Rattle.e_verify.specs.Checking.{IsReadyFor, IsReadyStep, IsPassed, KeepsFacts, RejectIs, StepRejects, verdict_at};
-ghost use Rattle.e_verify.specs.Standing.{goal_said};
+ghost use Rattle.e_verify.specs.inner.Standing.{goal_said};
 
 use crate::closes::{contradiction, qed};
 use crate::reject::Reject;

@@ -10,7 +10,7 @@ ghost use Rattle.e_deriv.specs.Certified.{is_certified};
 ghost use Rattle.e_deriv.specs.Goal.{Goal as BlockGoal};
 ghost use Rattle.e_deriv.specs.Script.{Qed, Contradiction};
 ghost use Rattle.e_verify.specs.Checking.{line_at};
-ghost use Rattle.e_verify.specs.Standing.{goal_said};
+ghost use Rattle.e_verify.specs.inner.Standing.{goal_said};
 ghost use Rattle.e_clause.specs.Written.{is_good_cert, is_good_against};
 
 use crate::certificate::{certifies_against, certify_all};

@@ -5,7 +5,7 @@ ghost use Rattle.std.specs.List.{list_any};
 ghost use Rattle.e_literal.specs.Facts.{has, has_all, joined, joined_all, are_equal_points};
 ghost use Rattle.e_literal.specs.Literal.{negation};
 ghost use Rattle.e_literal.specs.Same.{same_lit, term_eq};
-ghost use Rattle.e_verify.specs.Fingerprint.{fingerprint_of};
+ghost use Rattle.e_verify.specs.inner.Fingerprint.{fingerprint_of};
 ghost use Rattle.e_clause.specs.Assignment.{terms_of_atom, terms_of_lits};
 
 use crate::alike::are_same;
@@ -25,7 +25,7 @@ struct Fact {
 impl Model for Fact {
     ghost use Rattle.std.specs.Prelude.{◌≡◌};
     ghost use Rattle.e_literal.specs.declared.literal.Lit.{Lit};
-    ghost use Rattle.e_verify.specs.Fingerprint.{fingerprint_of};
+    ghost use Rattle.e_verify.specs.inner.Fingerprint.{fingerprint_of};
 
     ghost Value = { Lit };
 

@@ -2,14 +2,13 @@
 
 ghost use Rattle.std.specs.Prelude.{◌≡◌, ◌*◌, ◌<◌, ◌≤◌, ◌^◌};
 ghost use Rattle.e_literal.specs.Solution.{carried};
-ghost use Rattle.e_verify.specs.Fingerprint.{mixed, number_of, weight_of, placed, fingerprint_of};
+ghost use Rattle.e_verify.specs.inner.Fingerprint.{mixed, number_of, weight_of, placed, fingerprint_of};
 
 use crate::key::placed;
-use e_literal::compare::{canonical, is_degenerate};
-use e_literal::{Atom, Lit, Mono, Term};
+use e_literal::{Atom, Lit, Mono, Term, canonical, is_degenerate};
 
 /// The square, by a prime below 2^30.
-#[tactic(auto, unfolding(crate::specs::Fingerprint::mixed))]
+#[tactic(auto, unfolding(crate::specs::inner::Fingerprint::mixed))]
 fn mixed(n: u64) -> u64
     requires { n < 2 ^ 32 }
     ensures value { result ≡ mixed n }
@@ -71,7 +70,7 @@ fn number_for(kind: u16, a: u16, b: u16, c: u16) -> u128
 }
 
 /// The fingerprint of a literal: literals that are the same have one.
-#[tactic(auto, unfolding(crate::specs::Fingerprint::fingerprint_of))]
+#[tactic(auto, unfolding(crate::specs::inner::Fingerprint::fingerprint_of))]
 pub(crate) fn fingerprint_of(lit: &Lit) -> u128
     ensures { result ≡ fingerprint_of lit.now.atom }
 {

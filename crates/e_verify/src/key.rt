@@ -1,8 +1,8 @@
 // Terms as numbers, which are compared at once.
 
 ghost use Rattle.std.specs.Prelude.{◌≡◌, IsTrue};
-ghost use Rattle.e_verify.specs.Fingerprint.{placed};
-ghost use Rattle.e_verify.specs.Totals.{key_of, is_narrow};
+ghost use Rattle.e_verify.specs.inner.Fingerprint.{placed};
+ghost use Rattle.e_verify.specs.inner.Totals.{key_of, is_narrow};
 
 use e_literal::Term;
 

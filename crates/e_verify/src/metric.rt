@@ -5,8 +5,8 @@ ghost use Rattle.std.specs.Option.{option_map, option_map_or, option_copied};
 ghost use Rattle.e_literal.specs.WellFormed.{is_well_formed};
 ghost use Rattle.e_clause.specs.Sum.{says_differ};
 ghost use Rattle.e_clause.specs.MetricCertificate;
-ghost use Rattle.e_verify.specs.Small.{is_small, is_short};
-ghost use Rattle.e_verify.specs.Views.{row_said, comparison_said};
+ghost use Rattle.e_verify.specs.inner.Small.{is_small, is_short};
+ghost use Rattle.e_verify.specs.inner.Views.{row_said, comparison_said};
 ghost use Rattle.e_clause.specs.Written.{is_good_name, is_good_sum, is_good_sums};
 
 use crate::facts::Facts;

@@ -7,10 +7,10 @@ ghost use Rattle.e_literal.specs.Rows.{row_of_atom};
 ghost use Rattle.e_literal.specs.WellFormed.{is_good_atom, is_well_formed};
 ghost use Rattle.e_clause.specs.Sum;
 ghost use Rattle.e_clause.specs.declared.cert.RowName.TheVariants.{Least};
-ghost use Rattle.e_verify.specs.Small.{is_small, is_short};
-ghost use Rattle.e_verify.specs.Views.{row_said, comparison_said, says_of, place_said};
+ghost use Rattle.e_verify.specs.inner.Small.{is_small, is_short};
+ghost use Rattle.e_verify.specs.inner.Views.{row_said, comparison_said, says_of, place_said};
 ghost use Rattle.e_clause.specs.Written.{is_good_name};
-ghost use Rattle.e_verify.specs.Placed.{is_good_place};
+ghost use Rattle.e_verify.specs.inner.Placed.{is_good_place};
 
 use crate::facts::{Facts, stands_in};
 use e_clause::RowName;

@@ -3,7 +3,7 @@
 ghost use Rattle.std.specs.Prelude.{◌≡◌, OnOk};
 ghost use Rattle.e_literal.specs.Literal.{negation};
 ghost use Rattle.e_literal.specs.Facts.{joined, joined_all};
-ghost use Rattle.e_verify.specs.Standing.{outer_of, left_for, with_facts};
+ghost use Rattle.e_verify.specs.inner.Standing.{outer_of, left_for, with_facts};
 
 use crate::facts::Facts;
 use e_literal::{Lit, Obj, Scope, copy, negate};

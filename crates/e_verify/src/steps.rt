@@ -15,7 +15,7 @@ ghost use Rattle.e_deriv.specs.Script.{Script, Cite, Hence, Make, Apply, Superpo
 ghost use Rattle.e_deriv.specs.Steps;
 ghost use Rattle.e_deriv.specs.Steps.{is_citation};
 ghost use Rattle.e_verify.specs.Checking.{IsChecked, line_at};
-ghost use Rattle.e_verify.specs.Standing.{after_superposed};
+ghost use Rattle.e_verify.specs.inner.Standing.{after_superposed};
 ghost use Rattle.e_clause.specs.Written.{is_good_cert};
 
 use crate::certificate::{certifies, certify_all};

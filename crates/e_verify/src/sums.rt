@@ -4,9 +4,9 @@ ghost use Rattle.std.specs.Prelude.{◌≡◌, IfOk, IsTrue};
 ghost use Rattle.std.specs.List.{list_all};
 ghost use Rattle.e_literal.specs.Absurd;
 ghost use Rattle.e_clause.specs.Sum;
-ghost use Rattle.e_verify.specs.Views.{says_of, place_said};
+ghost use Rattle.e_verify.specs.inner.Views.{says_of, place_said};
 ghost use Rattle.e_clause.specs.Written.{is_good_sum};
-ghost use Rattle.e_verify.specs.Placed.{is_good_place};
+ghost use Rattle.e_verify.specs.inner.Placed.{is_good_place};
 
 use crate::adding::add_row;
 use crate::rows::{Place, Says, row_named};

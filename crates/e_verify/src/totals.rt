@@ -8,12 +8,11 @@ ghost use Rattle.e_literal.specs.Rows;
 ghost use Rattle.std.specs.BTreeMap.{values, IsOrdered};
 ghost use Rattle.std.specs.Ordering.{int_eq, nat_cmp};
 ghost use Rattle.e_literal.specs.Same;
-ghost use Rattle.e_verify.specs.Totals.{at};
-ghost use Rattle.e_verify.specs.Small.{are_small};
+ghost use Rattle.e_verify.specs.inner.Totals.{at};
+ghost use Rattle.e_verify.specs.inner.Small.{are_small};
 
 use crate::key::key_of;
-use e_literal::Term;
-use e_literal::compare::{canonical, is_degenerate};
+use e_literal::{Term, canonical, is_degenerate};
 use std::alloc::{AllocError, Global};
 use std::collections::BTreeMap;
 use std::marker::Model;
@@ -28,7 +27,7 @@ impl Model for Totals {
     ghost use Rattle.std.specs.Prelude.{List, ℕ, ℤ};
     ghost use Rattle.std.specs.List.{All};
     ghost use Rattle.std.specs.Map.{keys_of};
-    ghost use Rattle.e_verify.specs.Totals.{IsKey};
+    ghost use Rattle.e_verify.specs.inner.Totals.{IsKey};
 
     ghost Value = { List (ℕ × ℤ) };
 

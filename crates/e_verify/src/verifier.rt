@@ -8,7 +8,7 @@ ghost use Rattle.e_deriv.specs.Proves.{IsProof};
 ghost use Rattle.e_deriv.specs.Script.{script_of};
 ghost use Rattle.e_verify.specs.Checking.{RejectIs};
 ghost use Rattle.e_verify.specs.Verdicts.{IsVerifiable};
-ghost use Rattle.e_verify.specs.Standing.{start_of};
+ghost use Rattle.e_verify.specs.inner.Standing.{start_of};
 
 use crate::block::verify_block;
 use crate::facts::Facts;

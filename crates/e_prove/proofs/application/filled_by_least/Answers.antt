@@ -1,7 +1,7 @@
 use Rattle.std.proofs.Common.{arith, subst}
 use Rattle.e_theorem.specs.Statements.{stated}
-use Rattle.e_licence.specs.Fills.{FilledIs}
-use Rattle.e_prove.proofs.Applying.{match_halts_so}
+use Rattle.e_licence.specs.FilledBlanks.{FilledIs}
+use Rattle.e_prove.proofs.Applications.{match_stops_so}
 use Rattle.e_prove.proofs.application.filled_by_least.Goals as goal
 use Rattle.e_deriv.proofs.Smallness.{few_objects}
 
@@ -12,4 +12,4 @@ pub returns-in-Err-clause-err : goal.returns-in-Err-clause-err
 returns-in-Err-clause-err c =
     let t = stated c.args.statement.now in
     let x = c.args.context.now in
-    match_halts_so t x c.args.pattern.now c.in-Found.args c.in-Err.halt c.as_match.result (subst (FilledIs t x c.args.pattern.now) c.in-Found.is c.in_ok-args.ensures) c.in-Err.ensures.err c.as_match.ensures
+    match_stops_so t x c.args.pattern.now c.in-Found.args c.in-Err.step_stop c.as_match.result (subst (FilledIs t x c.args.pattern.now) c.in-Found.is c.in_ok-args.ensures) c.in-Err.ensures.err c.as_match.ensures

@@ -1,6 +1,6 @@
 use Rattle.e_theorem.specs.Statements.{stated}
-use Rattle.e_prove.proofs.Licensing.{err_map}
-use Rattle.e_prove.proofs.Applying.{written_is, used_is_written, halts_without, written_fits, written_needs}
+use Rattle.e_prove.proofs.LicensedLiterals.{err_map}
+use Rattle.e_prove.proofs.Applications.{written_is, used_is_written, stops_without, written_fits, written_needs}
 use Rattle.e_prove.proofs.application.used.Goals as goal
 
 pub used_at-requires-clause-fit : goal.used_at-requires-clause-fit
@@ -21,4 +21,4 @@ returns-in-Some-clause-ok c =
 pub returns-in-Some-clause-err : goal.returns-in-Some-clause-err
 returns-in-Some-clause-err c =
     let w = written_is c.args.pattern.now c.in_ok-args.field-0 c.in-Some.args c.in_ok-args.ensures c.in-Some.is in
-    err_map _ _ c.used_at.result (λ h k. halts_without (stated c.args.statement.now) c.args.context.now c.args.pattern.now c.in-Some.args h w.no_blank w.is k) c.used_at.ensures.err
+    err_map _ _ c.used_at.result (λ h k. stops_without (stated c.args.statement.now) c.args.context.now c.args.pattern.now c.in-Some.args h w.no_blank w.is k) c.used_at.ensures.err

@@ -1,5 +1,10 @@
+use Rattle.std.proofs.Common.{◌≡◌, sym, subst, true}
+use Rattle.std.proofs.lemmas.Result.{err_from_is_err_and}
+use Rattle.e_clause.specs.Certify.{certify_all}
+use Rattle.e_clause.specs.Judged.{are_good}
 use Rattle.e_theorem.specs.Statements.{stated}
-use Rattle.e_prove.proofs.Applying.{room_for}
+use Rattle.e_prove.specs.inner.StopsOfSteps.{StepStopsAmong}
+use Rattle.e_prove.proofs.Applications.{room_for, needs_there}
 use Rattle.e_prove.proofs.application.used_at.Goals as goal
 
 pub use_of-requires-clause-few : goal.use_of-requires-clause-few
@@ -13,3 +18,22 @@ use_of-requires-clause-lines c = (room_for (stated c.args.statement.now) c.args.
 
 pub use_of-requires-clause-circles : goal.use_of-requires-clause-circles
 use_of-requires-clause-circles c = (room_for (stated c.args.statement.now) c.args.context.now.scope c.scope.result c.requires.statement c.requires.scope c.scope.ensures).circles
+
+pub licences-requires : goal.licences-requires
+licences-requires c =
+    let x = c.args.context.now in
+    let all = needs_there (stated c.args.statement.now) x.scope c.scope.result c.args.args c.items.result.now c.in-Ok.field-0.needs c.items-in-Ok.result.now c.items.ensures c.scope.ensures c.in-Ok.ensures.needs c.items-in-Ok.ensures in
+    subst (λ ls. are_good x.scope ls ≡ true) (sym all) c.requires.needs
+
+pub returns-in_err-certs-in-Ok-clause-err : goal.returns-in_err-certs-in-Ok-clause-err
+returns-in_err-certs-in-Ok-clause-err c =
+    let x = c.args.context.now in
+    let all = needs_there (stated c.args.statement.now) x.scope c.scope.result c.args.args c.items.result.now c.in-Ok.field-0.needs c.items-in-Ok.result.now c.items.ensures c.scope.ensures c.in-Ok.ensures.needs c.items-in-Ok.ensures in
+    let p = err_from_is_err_and c.from_residual.result c.from_residual.ensures.1 in
+    rw (p.1, p.2) (subst (λ ls. StepStopsAmong x ls c.in_err-certs-in-Ok.field-0.0) all c.in_err-certs-in-Ok.ensures.err)
+
+pub returns-in_ok-certs-in-Ok-clause-certified : goal.returns-in_ok-certs-in-Ok-clause-certified
+returns-in_ok-certs-in-Ok-clause-certified c =
+    let x = c.args.context.now in
+    let all = needs_there (stated c.args.statement.now) x.scope c.scope.result c.args.args c.items.result.now c.in-Ok.field-0.needs c.items-in-Ok.result.now c.items.ensures c.scope.ensures c.in-Ok.ensures.needs c.items-in-Ok.ensures in
+    subst (λ ls. certify_all x.scope x.facts ls c.in_ok-certs-in-Ok.certs.items ≡ true) all c.in_ok-certs-in-Ok.ensures.ok

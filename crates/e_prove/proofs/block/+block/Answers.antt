@@ -10,43 +10,43 @@ use Rattle.e_deriv.specs.declared.block.Close.TheVariants.{Qed}
 use Rattle.e_deriv.specs.Script.{script_of, step_script, close_script, size}
 use Rattle.e_deriv.specs.Goal.{goal_of, are_for, goal_with}
 use Rattle.e_construct.specs.Superposing as superposing
-use Rattle.e_prove.specs.Contexts.{HasRoom, goal_said, after_literal, after_superposed}
-use Rattle.e_prove.specs.Applying.{CanApply}
-use Rattle.e_prove.specs.Judging.{IsJudged, CloseHalts, StepHalts}
-use Rattle.e_prove.specs.Passing.{IsReadyFor, IsReadyStep, IsDerived, IsPassed, StopsWithin}
-use Rattle.e_prove.proofs.Licensing.{ok_map, err_map}
-use Rattle.e_prove.proofs.Closing.{qed_fits}
-use Rattle.e_prove.proofs.Passing.{told_passed, told_stops, told_close_stops, stops_for_memory, stops_as_memory}
-use Rattle.e_prove.proofs.Ready.{cite_good, hence_good, one_good, make_good, make_room, claim_parts, claim_lines, claim_after, superposed_parts, superposed_lines, superposed_after, block_facts, room_of_small, apply_good, as_many, theorem_is}
+use Rattle.e_prove.specs.inner.StepStates.{HasRoom, goal_view, after_literal, after_superposed}
+use Rattle.e_prove.specs.inner.Applications.{CanApply}
+use Rattle.e_prove.specs.inner.LicensedSteps.{IsLicensedStep, IsStopOfClose, IsStopOfStep}
+use Rattle.e_prove.specs.inner.PassedSteps.{IsReadyFor, IsReadyStep, IsDerived, IsPassed, StopsWithin}
+use Rattle.e_prove.proofs.LicensedLiterals.{ok_map, err_map}
+use Rattle.e_prove.proofs.Closes.{qed_fits}
+use Rattle.e_prove.proofs.PassedSteps.{numbered_passed, numbered_stops, numbered_close_stops, stops_for_memory, stops_as_memory}
+use Rattle.e_prove.proofs.ReadySteps.{cite_good, hence_good, one_good, make_good, make_room, claim_parts, claim_lines, claim_after, superposed_parts, superposed_lines, superposed_after, block_facts, room_of_small, apply_good, as_many, theorem_is}
 use Rattle.e_prove.proofs.Blocks.{on_ok, passed_start, step_ready, step_stops, step_passed, close_ready, close_few, close_derived, close_stops, kept_on, kept_literal, claim_passed, claim_stopped, superposed_passed, superposed_stopped, superposed_refused, split_parts, split_second_ready, split_size, split_derived, split_stops_first, split_stops_second, cite_one, hence_one, make_one, apply_one, qed_one, contradiction_one}
 use Rattle.e_licence.specs.Contexts.{state_of}
-use Rattle.e_prove.proofs.Holding.{ready_inside, derived_outside, stops_outside, halts_outside, names_outside, kept_inside, some_held, left_is, good_behind}
+use Rattle.e_prove.proofs.HeldStates.{ready_inside, derived_outside, stops_outside, step_stops_outside, names_outside, kept_inside, some_held, left_is, good_after}
 use Rattle.e_prove.proofs.block.+block.Goals as goal
 use Rattle.e_book.proofs.ScriptParts.{at_least}
 
 -- ---- a block
 
 pub prove_block-loop-step-init : goal.prove_block-loop-step-init
-prove_block-loop-step-init t c = record { passed = passed_start (all_stated c.args.before.now) c.args.block.now.steps.items c.new-steps.result.items c.args.standing.now c.args.first c.new-steps.ensures.items }
+prove_block-loop-step-init t c = record { passed = passed_start (all_stated c.args.before.now) c.args.block.now.steps.items c.new-steps.result.items c.args.state.now c.args.first c.new-steps.ensures.items }
 
 pub prove_block-prove_step-requires : goal.prove_block-prove_step-requires
 prove_block-prove_step-requires t c = (
   search (rules, the_lemmas),
-  step_ready (all_stated c.args.before.now) c.args.block.now.steps.items c.deref-step-items.result.now c.loop-step.steps.items (close_script c.args.block.now.close) c.loop-step.step-index c.step-item.result c.args.standing.now c.loop-step.standing
-      (goal_said c.args.goal.now) c.args.first c.loop-step.number c.deref-step-items.ensures.value c.loop-step-test.true c.step-item.is c.loop-step.invariant.passed c.requires.ready c.requires.few,
+  step_ready (all_stated c.args.before.now) c.args.block.now.steps.items c.deref-step-items.result.now c.loop-step.steps.items (close_script c.args.block.now.close) c.loop-step.step-index c.step-item.result c.args.state.now c.loop-step.state
+      (goal_view c.args.goal.now) c.args.first c.loop-step.number c.deref-step-items.ensures.value c.loop-step-test.true c.step-item.is c.loop-step.invariant.passed c.requires.ready c.requires.few,
 )
 
 pub prove_block-returns-in-Err-clause-err : goal.prove_block-returns-in-Err-clause-err
 prove_block-returns-in-Err-clause-err t c =
-    step_stops (all_stated c.args.before.now) c.args.block.now.steps.items c.deref-step-items.result.now c.loop-step.steps.items (close_script c.args.block.now.close) c.loop-step.step-index c.step-item.result c.args.standing.now c.loop-step.standing
-    (goal_said c.args.goal.now) c.args.first c.loop-step.number c.in-Err.stop c.deref-step-items.ensures.value c.loop-step-test.true c.step-item.is c.loop-step.invariant.passed c.requires.ready c.in-Err.ensures.err
+    step_stops (all_stated c.args.before.now) c.args.block.now.steps.items c.deref-step-items.result.now c.loop-step.steps.items (close_script c.args.block.now.close) c.loop-step.step-index c.step-item.result c.args.state.now c.loop-step.state
+    (goal_view c.args.goal.now) c.args.first c.loop-step.number c.in-Err.stop c.deref-step-items.ensures.value c.loop-step-test.true c.step-item.is c.loop-step.invariant.passed c.requires.ready c.in-Err.ensures.err
 
 pub prove_block-loop-step-preserved : goal.prove_block-loop-step-preserved
 prove_block-loop-step-preserved t c =
     record {
       passed =
-          step_passed (all_stated c.args.before.now) c.args.block.now.steps.items c.deref-step-items.result.now c.loop-step.steps.items c.push.new.self.items c.loop-step.step-index c.step-item.result c.in-Ok.proved.step c.args.standing.now c.loop-step.standing
-          c.prove_step.new.standing c.args.first c.loop-step.number c.in-Ok.proved.next c.deref-step-items.ensures.value c.loop-step-test.true c.step-item.is c.in_ok-push-in-Ok.ensures.items c.loop-step.invariant.passed c.in-Ok.ensures.ok;
+          step_passed (all_stated c.args.before.now) c.args.block.now.steps.items c.deref-step-items.result.now c.loop-step.steps.items c.push.new.self.items c.loop-step.step-index c.step-item.result c.in-Ok.proved.step c.args.state.now c.loop-step.state
+          c.prove_step.new.state c.args.first c.loop-step.number c.in-Ok.proved.next c.deref-step-items.ensures.value c.loop-step-test.true c.step-item.is c.in_ok-push-in-Ok.ensures.items c.loop-step.invariant.passed c.in-Ok.ensures.ok;
     }
 
 pub prove_block-prove_close-requires : goal.prove_block-prove_close-requires
@@ -55,10 +55,10 @@ prove_block-prove_close-requires t c =
     let close = close_script c.args.block.now.close in
     let i = c.loop-step.step-index in
     let p = c.loop-step.invariant.passed in
-    let few = close_few (all_stated c.args.before.now) items c.deref-step-items.result.now c.loop-step.steps.items close i c.args.standing.now c.loop-step.standing c.args.first c.loop-step.number c.deref-step-items.ensures.value c.loop-step-test.false p in (
+    let few = close_few (all_stated c.args.before.now) items c.deref-step-items.result.now c.loop-step.steps.items close i c.args.state.now c.loop-step.state c.args.first c.loop-step.number c.deref-step-items.ensures.value c.loop-step-test.false p in (
       search (rules, the_lemmas),
       (
-        close_ready (all_stated c.args.before.now) items c.deref-step-items.result.now c.loop-step.steps.items close i c.args.standing.now c.loop-step.standing (goal_said c.args.goal.now) c.args.first c.loop-step.number c.deref-step-items.ensures.value c.loop-step-test.false p
+        close_ready (all_stated c.args.before.now) items c.deref-step-items.result.now c.loop-step.steps.items close i c.args.state.now c.loop-step.state (goal_view c.args.goal.now) c.args.first c.loop-step.number c.deref-step-items.ensures.value c.loop-step-test.false p
             c.requires.ready,
         omega (arith, few, c.requires.few),
       ),
@@ -66,65 +66,65 @@ prove_block-prove_close-requires t c =
 
 pub prove_block-returns-in-Ok-prove_close-clause-derived : goal.prove_block-returns-in-Ok-prove_close-clause-derived
 prove_block-returns-in-Ok-prove_close-clause-derived t c =
-    close_derived (all_stated c.args.before.now) c.args.block.now.steps.items c.deref-step-items.result.now c.loop-step.steps.items (close_script c.args.block.now.close) (close_script c.in-Ok-prove_close.proved.close) c.loop-step.step-index c.args.standing.now c.loop-step.standing
-    (goal_said c.args.goal.now) c.args.first c.loop-step.number c.deref-step-items.ensures.value c.loop-step-test.false c.loop-step.invariant.passed c.requires.ready c.in-Ok-prove_close.ensures.derived
+    close_derived (all_stated c.args.before.now) c.args.block.now.steps.items c.deref-step-items.result.now c.loop-step.steps.items (close_script c.args.block.now.close) (close_script c.in-Ok-prove_close.proved.close) c.loop-step.step-index c.args.state.now c.loop-step.state
+    (goal_view c.args.goal.now) c.args.first c.loop-step.number c.deref-step-items.ensures.value c.loop-step-test.false c.loop-step.invariant.passed c.requires.ready c.in-Ok-prove_close.ensures.derived
 
 pub prove_block-returns-in-Ok-prove_close-clause-next : goal.prove_block-returns-in-Ok-prove_close-clause-next
 prove_block-returns-in-Ok-prove_close-clause-next t c =
     c.in-Ok-prove_close.ensures.next
-    ∙ sym (close_few (all_stated c.args.before.now) c.args.block.now.steps.items c.deref-step-items.result.now c.loop-step.steps.items (close_script c.args.block.now.close) c.loop-step.step-index c.args.standing.now c.loop-step.standing c.args.first c.loop-step.number
+    ∙ sym (close_few (all_stated c.args.before.now) c.args.block.now.steps.items c.deref-step-items.result.now c.loop-step.steps.items (close_script c.args.block.now.close) c.loop-step.step-index c.args.state.now c.loop-step.state c.args.first c.loop-step.number
     c.deref-step-items.ensures.value c.loop-step-test.false c.loop-step.invariant.passed)
 
 pub prove_block-returns-in-Ok-prove_close-clause-kept : goal.prove_block-returns-in-Ok-prove_close-clause-kept
 prove_block-returns-in-Ok-prove_close-clause-kept t c =
-    kept_on c.args.standing.now c.loop-step.standing c.prove_close.new.standing c.loop-step.invariant.passed.kept c.in-Ok-prove_close.ensures.kept
+    kept_on c.args.state.now c.loop-step.state c.prove_close.new.state c.loop-step.invariant.passed.kept c.in-Ok-prove_close.ensures.kept
 
 pub prove_block-returns-in-Err-prove_close-clause-err : goal.prove_block-returns-in-Err-prove_close-clause-err
 prove_block-returns-in-Err-prove_close-clause-err t c =
-    close_stops (all_stated c.args.before.now) c.args.block.now.steps.items c.deref-step-items.result.now c.loop-step.steps.items (close_script c.args.block.now.close) c.loop-step.step-index c.args.standing.now c.loop-step.standing (goal_said c.args.goal.now) c.args.first
+    close_stops (all_stated c.args.before.now) c.args.block.now.steps.items c.deref-step-items.result.now c.loop-step.steps.items (close_script c.args.block.now.close) c.loop-step.step-index c.args.state.now c.loop-step.state (goal_view c.args.goal.now) c.args.first
     c.loop-step.number c.in-Err-prove_close.stop c.deref-step-items.ensures.value c.loop-step-test.false c.loop-step.invariant.passed c.requires.ready c.in-Err-prove_close.ensures.err
 
 pub prove_block-returns-in_err-push-in-Ok-clause-err : goal.prove_block-returns-in_err-push-in-Ok-clause-err
-prove_block-returns-in_err-push-in-Ok-clause-err t c = stops_as_memory (all_stated c.args.before.now) (script_of c.args.block.now) c.args.standing.now (goal_said c.args.goal.now) c.args.first c.from_residual.result (search rules)
+prove_block-returns-in_err-push-in-Ok-clause-err t c = stops_as_memory (all_stated c.args.before.now) (script_of c.args.block.now) c.args.state.now (goal_view c.args.goal.now) c.args.first c.from_residual.result (search rules)
 
 -- ---- a close
 
 pub prove_close-returns-in_err-outer-in-Cases-clause-err : goal.prove_close-returns-in_err-outer-in-Cases-clause-err
-prove_close-returns-in_err-outer-in-Cases-clause-err t c = stops_as_memory (all_stated c.args.before.now) (close_script c.args.close.now) c.args.standing.now (goal_said c.args.goal.now) c.args.number c.from_residual.result (search rules)
+prove_close-returns-in_err-outer-in-Cases-clause-err t c = stops_as_memory (all_stated c.args.before.now) (close_script c.args.close.now) c.args.state.now (goal_view c.args.goal.now) c.args.number c.from_residual.result (search rules)
 
-pub prove_close-returns-in_err-suppose-in-Cases-clause-err : goal.prove_close-returns-in_err-suppose-in-Cases-clause-err
-prove_close-returns-in_err-suppose-in-Cases-clause-err t c = stops_as_memory (all_stated c.args.before.now) (close_script c.args.close.now) c.args.standing.now (goal_said c.args.goal.now) c.args.number c.from_residual-in_err-suppose-in-Cases.result (search rules)
+pub prove_close-returns-in_err-assume-in-Cases-clause-err : goal.prove_close-returns-in_err-assume-in-Cases-clause-err
+prove_close-returns-in_err-assume-in-Cases-clause-err t c = stops_as_memory (all_stated c.args.before.now) (close_script c.args.close.now) c.args.state.now (goal_view c.args.goal.now) c.args.number c.from_residual-in_err-assume-in-Cases.result (search rules)
 
-pub prove_close-returns-in-Err-suppose_not-clause-err : goal.prove_close-returns-in-Err-suppose_not-clause-err
-prove_close-returns-in-Err-suppose_not-clause-err t c = stops_for_memory (all_stated c.args.before.now) (close_script c.args.close.now) c.args.standing.now (goal_said c.args.goal.now) c.args.number
+pub prove_close-returns-in-Err-assume_not-clause-err : goal.prove_close-returns-in-Err-assume_not-clause-err
+prove_close-returns-in-Err-assume_not-clause-err t c = stops_for_memory (all_stated c.args.before.now) (close_script c.args.close.now) c.args.state.now (goal_view c.args.goal.now) c.args.number
 
 pub prove_close-returns-in-Ok-prove_block-clause-err : goal.prove_close-returns-in-Ok-prove_block-clause-err
-prove_close-returns-in-Ok-prove_block-clause-err t c = stops_as_memory (all_stated c.args.before.now) (close_script c.args.close.now) c.args.standing.now (goal_said c.args.goal.now) c.args.number c.split.result c.split.ensures.err
+prove_close-returns-in-Ok-prove_block-clause-err t c = stops_as_memory (all_stated c.args.before.now) (close_script c.args.close.now) c.args.state.now (goal_view c.args.goal.now) c.args.number c.split.result c.split.ensures.err
 
-pub prove_close-qed-judged-requires-clause-form : goal.prove_close-qed-judged-requires-clause-form
-prove_close-qed-judged-requires-clause-form t c =
-    let x = c.args.standing.now in
-    let goal = goal_said c.args.goal.now in
+pub prove_close-qed-answered-requires-clause-form : goal.prove_close-qed-answered-requires-clause-form
+prove_close-qed-answered-requires-clause-form t c =
+    let x = c.args.state.now in
+    let goal = goal_view c.args.goal.now in
     let fit = qed_fits (all_stated c.args.before.now) c.in-Qed.objects c.in-Qed.certs x goal (subst (λ close. IsReadyFor (all_stated c.args.before.now) (close_script close) x goal) c.in-Qed.is c.requires.ready) in
     subst (λ os. are_for goal x.context.scope os ≡ true) (sym c.items.ensures) fit.form
 
-pub prove_close-qed-judged-requires-clause-lits : goal.prove_close-qed-judged-requires-clause-lits
-prove_close-qed-judged-requires-clause-lits t c =
-    let x = c.args.standing.now in
-    let goal = goal_said c.args.goal.now in
+pub prove_close-qed-answered-requires-clause-lits : goal.prove_close-qed-answered-requires-clause-lits
+prove_close-qed-answered-requires-clause-lits t c =
+    let x = c.args.state.now in
+    let goal = goal_view c.args.goal.now in
     let fit = qed_fits (all_stated c.args.before.now) c.in-Qed.objects c.in-Qed.certs x goal (subst (λ close. IsReadyFor (all_stated c.args.before.now) (close_script close) x goal) c.in-Qed.is c.requires.ready) in
     subst (λ os. are_good x.context.scope (goal_with goal os) ≡ true) (sym c.items.ensures) fit.lits
 
-pub prove_close-told_close-requires : goal.prove_close-told_close-requires
-prove_close-told_close-requires t c = let one = at_least (close_script c.args.close.now) in omega (arith, one, c.requires.few)
+pub prove_close-close_with_number-requires : goal.prove_close-close_with_number-requires
+prove_close-close_with_number-requires t c = let one = at_least (close_script c.args.close.now) in omega (arith, one, c.requires.few)
 
-pub prove_close-told_close-requires-in-Contradiction : goal.prove_close-told_close-requires-in-Contradiction
-prove_close-told_close-requires-in-Contradiction t c = let one = at_least (close_script c.args.close.now) in omega (arith, one, c.requires.few)
+pub prove_close-close_with_number-requires-in-Contradiction : goal.prove_close-close_with_number-requires-in-Contradiction
+prove_close-close_with_number-requires-in-Contradiction t c = let one = at_least (close_script c.args.close.now) in omega (arith, one, c.requires.few)
 
-pub prove_close-suppose-requires : goal.prove_close-suppose-requires
-prove_close-suppose-requires t c =
-    let x = c.args.standing.now in
-    let goal = goal_said c.args.goal.now in
+pub prove_close-assume-requires : goal.prove_close-assume-requires
+prove_close-assume-requires t c =
+    let x = c.args.state.now in
+    let goal = goal_view c.args.goal.now in
     let parts = split_parts (all_stated c.args.before.now) c.args.close.now c.in-Cases.lit c.in-Cases.first c.in-Cases.second x goal c.in-Cases.is c.requires.ready in
     let good = block_facts (all_stated c.args.before.now) (script_of c.in-Cases.first.value) (after_literal c.in-Cases.lit x) goal parts.one in
     subst (λ y. are_good_facts y.context.scope (joined y.context.facts c.in-Cases.lit) ≡ true) (sym c.in_ok-outer-in-Cases.ensures.held) good
@@ -134,85 +134,85 @@ prove_close-overflow_add-number t c = let one = at_least (close_script c.args.cl
 
 pub prove_close-prove_block-requires : goal.prove_close-prove_block-requires
 prove_close-prove_block-requires t c =
-    let x = c.args.standing.now in
-    let goal = goal_said c.args.goal.now in
+    let x = c.args.state.now in
+    let goal = goal_view c.args.goal.now in
     let hs = x.context.held ++ state_of x.context ∷ [] in
     let first = after_literal c.in-Cases.lit x in
-    let entered = c.in_ok-suppose-in-Cases.ensures ∙ ap (after_literal c.in-Cases.lit) c.in_ok-outer-in-Cases.ensures.held in
+    let entered = c.in_ok-assume-in-Cases.ensures ∙ ap (after_literal c.in-Cases.lit) c.in_ok-outer-in-Cases.ensures.held in
     let parts = split_parts (all_stated c.args.before.now) c.args.close.now c.in-Cases.lit c.in-Cases.first c.in-Cases.second x goal c.in-Cases.is c.requires.ready in
     let count = split_size c.args.close.now c.in-Cases.lit c.in-Cases.first c.in-Cases.second c.in-Cases.is in
     let same = ap (λ b. size (script_of b)) c.deref.ensures in (
       search (rules, the_lemmas),
       (
-        subst (λ b. IsReadyFor (all_stated c.args.before.now) (script_of b) c.suppose.new.self goal) (sym c.deref.ensures)
-            (ready_inside (all_stated c.args.before.now) (script_of c.in-Cases.first.value) first c.suppose.new.self goal hs entered parts.one),
+        subst (λ b. IsReadyFor (all_stated c.args.before.now) (script_of b) c.assume.new.self goal) (sym c.deref.ensures)
+            (ready_inside (all_stated c.args.before.now) (script_of c.in-Cases.first.value) first c.assume.new.self goal hs entered parts.one),
         omega (arith, count, same, c.requires.few),
       ),
     )
 
 pub prove_close-returns-in-Err-clause-err : goal.prove_close-returns-in-Err-clause-err
 prove_close-returns-in-Err-clause-err t c =
-    let x = c.args.standing.now in
-    let goal = goal_said c.args.goal.now in
+    let x = c.args.state.now in
+    let goal = goal_view c.args.goal.now in
     let hs = x.context.held ++ state_of x.context ∷ [] in
     let first = after_literal c.in-Cases.lit x in
-    let entered = c.in_ok-suppose-in-Cases.ensures ∙ ap (after_literal c.in-Cases.lit) c.in_ok-outer-in-Cases.ensures.held in
+    let entered = c.in_ok-assume-in-Cases.ensures ∙ ap (after_literal c.in-Cases.lit) c.in_ok-outer-in-Cases.ensures.held in
     let parts = split_parts (all_stated c.args.before.now) c.args.close.now c.in-Cases.lit c.in-Cases.first c.in-Cases.second x goal c.in-Cases.is c.requires.ready in
     split_stops_first (all_stated c.args.before.now) c.args.close.now c.in-Cases.lit c.in-Cases.first c.in-Cases.second x goal c.args.number c.in-Err.stop c.in-Cases.is parts
-    (stops_outside (all_stated c.args.before.now) (script_of c.in-Cases.first.value) first c.suppose.new.self goal (c.args.number + 1) c.in-Err.stop hs entered
-    (subst (λ b. StopsWithin (all_stated c.args.before.now) (script_of b) c.suppose.new.self goal (c.args.number + 1) c.in-Err.stop) c.deref.ensures c.in-Err.ensures.err))
+    (stops_outside (all_stated c.args.before.now) (script_of c.in-Cases.first.value) first c.assume.new.self goal (c.args.number + 1) c.in-Err.stop hs entered
+    (subst (λ b. StopsWithin (all_stated c.args.before.now) (script_of b) c.assume.new.self goal (c.args.number + 1) c.in-Err.stop) c.deref.ensures c.in-Err.ensures.err))
 
 pub prove_close-release-requires : goal.prove_close-release-requires
 prove_close-release-requires t c =
-    let x = c.args.standing.now in
-    let entered = c.in_ok-suppose-in-Cases.ensures ∙ ap (after_literal c.in-Cases.lit) c.in_ok-outer-in-Cases.ensures.held in
-    some_held x c.prove_block.new.standing (c.in-Ok.ensures.kept ∙ ap (λ w. w.context.held) entered)
+    let x = c.args.state.now in
+    let entered = c.in_ok-assume-in-Cases.ensures ∙ ap (after_literal c.in-Cases.lit) c.in_ok-outer-in-Cases.ensures.held in
+    some_held x c.prove_block.new.state (c.in-Ok.ensures.kept ∙ ap (λ w. w.context.held) entered)
 
-pub prove_close-suppose_not-requires : goal.prove_close-suppose_not-requires
-prove_close-suppose_not-requires t c =
-    let x = c.args.standing.now in
-    let goal = goal_said c.args.goal.now in
+pub prove_close-assume_not-requires : goal.prove_close-assume_not-requires
+prove_close-assume_not-requires t c =
+    let x = c.args.state.now in
+    let goal = goal_view c.args.goal.now in
     let hs = x.context.held ++ state_of x.context ∷ [] in
     let first = after_literal c.in-Cases.lit x in
-    let entered = c.in_ok-suppose-in-Cases.ensures ∙ ap (after_literal c.in-Cases.lit) c.in_ok-outer-in-Cases.ensures.held in
+    let entered = c.in_ok-assume-in-Cases.ensures ∙ ap (after_literal c.in-Cases.lit) c.in_ok-outer-in-Cases.ensures.held in
     let lit = c.in-Cases.lit in
     let other =
     split_second_ready (all_stated c.args.before.now) c.args.close.now lit c.in-Cases.first c.in-Cases.second (script_of c.in-Ok.one.block) x goal c.in-Cases.is
-    (derived_outside (all_stated c.args.before.now) (script_of c.in-Cases.first.value) first c.suppose.new.self goal (script_of c.in-Ok.one.block) hs entered
-    (subst (λ b. IsDerived (all_stated c.args.before.now) (script_of b) c.suppose.new.self goal (script_of c.in-Ok.one.block)) c.deref.ensures c.in-Ok.ensures.derived))
+    (derived_outside (all_stated c.args.before.now) (script_of c.in-Cases.first.value) first c.assume.new.self goal (script_of c.in-Ok.one.block) hs entered
+    (subst (λ b. IsDerived (all_stated c.args.before.now) (script_of b) c.assume.new.self goal (script_of c.in-Ok.one.block)) c.deref.ensures c.in-Ok.ensures.derived))
     c.requires.ready
     in
     let back =
-    left_is c.in_ok-outer-in-Cases.outer x c.prove_block.new.standing c.release.new.self c.in_ok-outer-in-Cases.ensures.names
+    left_is c.in_ok-outer-in-Cases.outer x c.prove_block.new.state c.release.new.self c.in_ok-outer-in-Cases.ensures.names
     (c.in-Ok.ensures.kept ∙ ap (λ w. w.context.held) entered) c.release.ensures
     in
     subst (λ y. are_good_facts y.context.scope (joined y.context.facts (negation lit)) ≡ true) (sym back) (block_facts (all_stated c.args.before.now) (script_of c.in-Cases.second.value) (after_literal (negation lit) x) goal other)
 
 pub prove_close-prove_block-requires-in-Cases : goal.prove_close-prove_block-requires-in-Cases
 prove_close-prove_block-requires-in-Cases t c =
-    let x = c.args.standing.now in
-    let goal = goal_said c.args.goal.now in
+    let x = c.args.state.now in
+    let goal = goal_view c.args.goal.now in
     let hs = x.context.held ++ state_of x.context ∷ [] in
     let first = after_literal c.in-Cases.lit x in
-    let entered = c.in_ok-suppose-in-Cases.ensures ∙ ap (after_literal c.in-Cases.lit) c.in_ok-outer-in-Cases.ensures.held in
+    let entered = c.in_ok-assume-in-Cases.ensures ∙ ap (after_literal c.in-Cases.lit) c.in_ok-outer-in-Cases.ensures.held in
     let lit = c.in-Cases.lit in
     let other =
     split_second_ready (all_stated c.args.before.now) c.args.close.now lit c.in-Cases.first c.in-Cases.second (script_of c.in-Ok.one.block) x goal c.in-Cases.is
-    (derived_outside (all_stated c.args.before.now) (script_of c.in-Cases.first.value) first c.suppose.new.self goal (script_of c.in-Ok.one.block) hs entered
-    (subst (λ b. IsDerived (all_stated c.args.before.now) (script_of b) c.suppose.new.self goal (script_of c.in-Ok.one.block)) c.deref.ensures c.in-Ok.ensures.derived))
+    (derived_outside (all_stated c.args.before.now) (script_of c.in-Cases.first.value) first c.assume.new.self goal (script_of c.in-Ok.one.block) hs entered
+    (subst (λ b. IsDerived (all_stated c.args.before.now) (script_of b) c.assume.new.self goal (script_of c.in-Ok.one.block)) c.deref.ensures c.in-Ok.ensures.derived))
     c.requires.ready
     in
     let count = split_size c.args.close.now lit c.in-Cases.first c.in-Cases.second c.in-Cases.is in
     let back =
-    left_is c.in_ok-outer-in-Cases.outer x c.prove_block.new.standing c.release.new.self c.in_ok-outer-in-Cases.ensures.names
+    left_is c.in_ok-outer-in-Cases.outer x c.prove_block.new.state c.release.new.self c.in_ok-outer-in-Cases.ensures.names
     (c.in-Ok.ensures.kept ∙ ap (λ w. w.context.held) entered) c.release.ensures
     in
-    let begun = c.in-Ok-suppose_not.ensures ∙ ap (after_literal (negation lit)) back in
+    let begun = c.in-Ok-assume_not.ensures ∙ ap (after_literal (negation lit)) back in
     let same = ap (λ b. size (script_of b)) c.deref.ensures in
     let count_other = ap (λ b. size (script_of b)) c.deref-in-Cases.ensures in (
       search (rules, the_lemmas),
       (
-        subst (λ b. IsReadyFor (all_stated c.args.before.now) (script_of b) c.suppose_not.new.self goal) (sym c.deref-in-Cases.ensures)
+        subst (λ b. IsReadyFor (all_stated c.args.before.now) (script_of b) c.assume_not.new.self goal) (sym c.deref-in-Cases.ensures)
             (subst (λ y. IsReadyFor (all_stated c.args.before.now) (script_of c.in-Cases.second.value) y goal) (sym begun) other),
         omega (arith, count, same, count_other, c.in-Ok.ensures.next, c.requires.few),
       ),
@@ -221,56 +221,56 @@ prove_close-prove_block-requires-in-Cases t c =
 pub prove_close-returns-in-Qed-clause-next : goal.prove_close-returns-in-Qed-clause-next
 prove_close-returns-in-Qed-clause-next t c =
     let one = ap (λ k. size (close_script k)) c.in-Qed.is ∙ qed_one c.in-Qed.objects c.in-Qed.certs in
-    ok_map _ _ c.told_close.result (λ p e. omega (arith, e, one)) c.told_close.ensures.next
+    ok_map _ _ c.close_with_number.result (λ p e. omega (arith, e, one)) c.close_with_number.ensures.next
 
 pub prove_close-returns-in-Qed-clause-err : goal.prove_close-returns-in-Qed-clause-err
 prove_close-returns-in-Qed-clause-err t c =
-    let x = c.args.standing.now in
-    let goal = goal_said c.args.goal.now in
-    told_close_stops (all_stated c.args.before.now) c.args.close.now x goal c.args.number c.qed-judged.result c.told_close.result
-    (err_map _ _ c.qed-judged.result
-    (λ h k. subst (λ close. CloseHalts (all_stated c.args.before.now) close x.context goal h) (sym c.in-Qed.is) (subst (λ os. CloseHalts (all_stated c.args.before.now) (Qed os c.in-Qed.certs) x.context goal h) c.items.ensures (k (all_stated c.args.before.now) c.in-Qed.certs)))
-    c.qed-judged.ensures.err)
-    c.told_close.ensures.err
+    let x = c.args.state.now in
+    let goal = goal_view c.args.goal.now in
+    numbered_close_stops (all_stated c.args.before.now) c.args.close.now x goal c.args.number c.qed-answered.result c.close_with_number.result
+    (err_map _ _ c.qed-answered.result
+    (λ h k. subst (λ close. IsStopOfClose (all_stated c.args.before.now) close x.context goal h) (sym c.in-Qed.is) (subst (λ os. IsStopOfClose (all_stated c.args.before.now) (Qed os c.in-Qed.certs) x.context goal h) c.items.ensures (k (all_stated c.args.before.now) c.in-Qed.certs)))
+    c.qed-answered.ensures.err)
+    c.close_with_number.ensures.err
 
 pub prove_close-returns-in-Qed-clause-kept : goal.prove_close-returns-in-Qed-clause-kept
-prove_close-returns-in-Qed-clause-kept t c = on_ok _ c.told_close.result (ap (λ b. b.held) c.qed-judged.ensures.kept)
+prove_close-returns-in-Qed-clause-kept t c = on_ok _ c.close_with_number.result (ap (λ b. b.held) c.qed-answered.ensures.kept)
 
 pub prove_close-returns-in-Contradiction-clause-kept : goal.prove_close-returns-in-Contradiction-clause-kept
-prove_close-returns-in-Contradiction-clause-kept t c = on_ok _ c.told_close-in-Contradiction.result (ap (λ b. b.held) c.contradiction-judged.ensures.kept)
+prove_close-returns-in-Contradiction-clause-kept t c = on_ok _ c.close_with_number-in-Contradiction.result (ap (λ b. b.held) c.contradiction-answered.ensures.kept)
 
 pub prove_close-returns-in-Contradiction-clause-next : goal.prove_close-returns-in-Contradiction-clause-next
 prove_close-returns-in-Contradiction-clause-next t c =
     let one = ap (λ k. size (close_script k)) c.in-Contradiction.is ∙ contradiction_one c.in-Contradiction.against in
-    ok_map _ _ c.told_close-in-Contradiction.result (λ p e. omega (arith, e, one)) c.told_close-in-Contradiction.ensures.next
+    ok_map _ _ c.close_with_number-in-Contradiction.result (λ p e. omega (arith, e, one)) c.close_with_number-in-Contradiction.ensures.next
 
 pub prove_close-returns-in-Contradiction-clause-err : goal.prove_close-returns-in-Contradiction-clause-err
 prove_close-returns-in-Contradiction-clause-err t c =
-    let x = c.args.standing.now in
-    let goal = goal_said c.args.goal.now in
-    told_close_stops (all_stated c.args.before.now) c.args.close.now x goal c.args.number c.contradiction-judged.result c.told_close-in-Contradiction.result
-    (err_map _ _ c.contradiction-judged.result (λ h k. subst (λ close. CloseHalts (all_stated c.args.before.now) close x.context goal h) (sym c.in-Contradiction.is) (k (all_stated c.args.before.now) goal c.in-Contradiction.against)) c.contradiction-judged.ensures.err)
-    c.told_close-in-Contradiction.ensures.err
+    let x = c.args.state.now in
+    let goal = goal_view c.args.goal.now in
+    numbered_close_stops (all_stated c.args.before.now) c.args.close.now x goal c.args.number c.contradiction-answered.result c.close_with_number-in-Contradiction.result
+    (err_map _ _ c.contradiction-answered.result (λ h k. subst (λ close. IsStopOfClose (all_stated c.args.before.now) close x.context goal h) (sym c.in-Contradiction.is) (k (all_stated c.args.before.now) goal c.in-Contradiction.against)) c.contradiction-answered.ensures.err)
+    c.close_with_number-in-Contradiction.ensures.err
 
 pub prove_close-returns-in-Ok-prove_block-clause-derived : goal.prove_close-returns-in-Ok-prove_block-clause-derived
 prove_close-returns-in-Ok-prove_block-clause-derived t c =
-    let x = c.args.standing.now in
-    let goal = goal_said c.args.goal.now in
+    let x = c.args.state.now in
+    let goal = goal_view c.args.goal.now in
     let hs = x.context.held ++ state_of x.context ∷ [] in
     let first = after_literal c.in-Cases.lit x in
-    let entered = c.in_ok-suppose-in-Cases.ensures ∙ ap (after_literal c.in-Cases.lit) c.in_ok-outer-in-Cases.ensures.held in
+    let entered = c.in_ok-assume-in-Cases.ensures ∙ ap (after_literal c.in-Cases.lit) c.in_ok-outer-in-Cases.ensures.held in
     let lit = c.in-Cases.lit in
     let parts = split_parts (all_stated c.args.before.now) c.args.close.now lit c.in-Cases.first c.in-Cases.second x goal c.in-Cases.is c.requires.ready in
     let back =
-    left_is c.in_ok-outer-in-Cases.outer x c.prove_block.new.standing c.release.new.self c.in_ok-outer-in-Cases.ensures.names
+    left_is c.in_ok-outer-in-Cases.outer x c.prove_block.new.state c.release.new.self c.in_ok-outer-in-Cases.ensures.names
     (c.in-Ok.ensures.kept ∙ ap (λ w. w.context.held) entered) c.release.ensures
     in
-    let begun = c.in-Ok-suppose_not.ensures ∙ ap (after_literal (negation lit)) back in
+    let begun = c.in-Ok-assume_not.ensures ∙ ap (after_literal (negation lit)) back in
     split_derived (all_stated c.args.before.now) c.args.close.now lit c.in-Cases.first c.in-Cases.second c.in-Ok.one.block c.in-Ok-prove_block.other.block x goal c.split.result c.in-Cases.is parts
-    (derived_outside (all_stated c.args.before.now) (script_of c.in-Cases.first.value) first c.suppose.new.self goal (script_of c.in-Ok.one.block) hs entered
-    (subst (λ b. IsDerived (all_stated c.args.before.now) (script_of b) c.suppose.new.self goal (script_of c.in-Ok.one.block)) c.deref.ensures c.in-Ok.ensures.derived))
+    (derived_outside (all_stated c.args.before.now) (script_of c.in-Cases.first.value) first c.assume.new.self goal (script_of c.in-Ok.one.block) hs entered
+    (subst (λ b. IsDerived (all_stated c.args.before.now) (script_of b) c.assume.new.self goal (script_of c.in-Ok.one.block)) c.deref.ensures c.in-Ok.ensures.derived))
     (subst (λ y. IsDerived (all_stated c.args.before.now) (script_of c.in-Cases.second.value) y goal (script_of c.in-Ok-prove_block.other.block)) begun
-    (subst (λ b. IsDerived (all_stated c.args.before.now) (script_of b) c.suppose_not.new.self goal (script_of c.in-Ok-prove_block.other.block)) c.deref-in-Cases.ensures c.in-Ok-prove_block.ensures.derived))
+    (subst (λ b. IsDerived (all_stated c.args.before.now) (script_of b) c.assume_not.new.self goal (script_of c.in-Ok-prove_block.other.block)) c.deref-in-Cases.ensures c.in-Ok-prove_block.ensures.derived))
     c.split.ensures.close
 
 pub prove_close-returns-in-Ok-prove_block-clause-next : goal.prove_close-returns-in-Ok-prove_block-clause-next
@@ -282,131 +282,131 @@ prove_close-returns-in-Ok-prove_block-clause-next t c =
 
 pub prove_close-returns-in-Ok-prove_block-clause-kept : goal.prove_close-returns-in-Ok-prove_block-clause-kept
 prove_close-returns-in-Ok-prove_block-clause-kept t c =
-    let x = c.args.standing.now in
+    let x = c.args.state.now in
     let hs = x.context.held ++ state_of x.context ∷ [] in
     let first = after_literal c.in-Cases.lit x in
-    let entered = c.in_ok-suppose-in-Cases.ensures ∙ ap (after_literal c.in-Cases.lit) c.in_ok-outer-in-Cases.ensures.held in
+    let entered = c.in_ok-assume-in-Cases.ensures ∙ ap (after_literal c.in-Cases.lit) c.in_ok-outer-in-Cases.ensures.held in
     let lit = c.in-Cases.lit in
     let back =
-    left_is c.in_ok-outer-in-Cases.outer x c.prove_block.new.standing c.release.new.self c.in_ok-outer-in-Cases.ensures.names
+    left_is c.in_ok-outer-in-Cases.outer x c.prove_block.new.state c.release.new.self c.in_ok-outer-in-Cases.ensures.names
     (c.in-Ok.ensures.kept ∙ ap (λ w. w.context.held) entered) c.release.ensures
     in
-    on_ok _ c.split.result (kept_literal (negation lit) x c.suppose_not.new.self c.prove_block-in-Cases.new.standing (c.in-Ok-suppose_not.ensures ∙ ap (after_literal (negation lit)) back) c.in-Ok-prove_block.ensures.kept)
+    on_ok _ c.split.result (kept_literal (negation lit) x c.assume_not.new.self c.prove_block-in-Cases.new.state (c.in-Ok-assume_not.ensures ∙ ap (after_literal (negation lit)) back) c.in-Ok-prove_block.ensures.kept)
 
 pub prove_close-returns-in-Err-prove_block-clause-err : goal.prove_close-returns-in-Err-prove_block-clause-err
 prove_close-returns-in-Err-prove_block-clause-err t c =
-    let x = c.args.standing.now in
-    let goal = goal_said c.args.goal.now in
+    let x = c.args.state.now in
+    let goal = goal_view c.args.goal.now in
     let hs = x.context.held ++ state_of x.context ∷ [] in
     let first = after_literal c.in-Cases.lit x in
-    let entered = c.in_ok-suppose-in-Cases.ensures ∙ ap (after_literal c.in-Cases.lit) c.in_ok-outer-in-Cases.ensures.held in
+    let entered = c.in_ok-assume-in-Cases.ensures ∙ ap (after_literal c.in-Cases.lit) c.in_ok-outer-in-Cases.ensures.held in
     let lit = c.in-Cases.lit in
     let parts = split_parts (all_stated c.args.before.now) c.args.close.now lit c.in-Cases.first c.in-Cases.second x goal c.in-Cases.is c.requires.ready in
     let back =
-    left_is c.in_ok-outer-in-Cases.outer x c.prove_block.new.standing c.release.new.self c.in_ok-outer-in-Cases.ensures.names
+    left_is c.in_ok-outer-in-Cases.outer x c.prove_block.new.state c.release.new.self c.in_ok-outer-in-Cases.ensures.names
     (c.in-Ok.ensures.kept ∙ ap (λ w. w.context.held) entered) c.release.ensures
     in
-    let begun = c.in-Ok-suppose_not.ensures ∙ ap (after_literal (negation lit)) back in
+    let begun = c.in-Ok-assume_not.ensures ∙ ap (after_literal (negation lit)) back in
     let same = ap (λ b. size (script_of b)) c.deref.ensures in
     split_stops_second (all_stated c.args.before.now) c.args.close.now lit c.in-Cases.first c.in-Cases.second c.in-Ok.one.block x goal c.args.number c.in-Ok.one.next c.in-Err-prove_block.stop c.in-Cases.is parts
-    (derived_outside (all_stated c.args.before.now) (script_of c.in-Cases.first.value) first c.suppose.new.self goal (script_of c.in-Ok.one.block) hs entered
-    (subst (λ b. IsDerived (all_stated c.args.before.now) (script_of b) c.suppose.new.self goal (script_of c.in-Ok.one.block)) c.deref.ensures c.in-Ok.ensures.derived))
+    (derived_outside (all_stated c.args.before.now) (script_of c.in-Cases.first.value) first c.assume.new.self goal (script_of c.in-Ok.one.block) hs entered
+    (subst (λ b. IsDerived (all_stated c.args.before.now) (script_of b) c.assume.new.self goal (script_of c.in-Ok.one.block)) c.deref.ensures c.in-Ok.ensures.derived))
     (omega (arith, same, c.in-Ok.ensures.next))
     (subst (λ y. StopsWithin (all_stated c.args.before.now) (script_of c.in-Cases.second.value) y goal c.in-Ok.one.next c.in-Err-prove_block.stop) begun
-    (subst (λ b. StopsWithin (all_stated c.args.before.now) (script_of b) c.suppose_not.new.self goal c.in-Ok.one.next c.in-Err-prove_block.stop) c.deref-in-Cases.ensures c.in-Err-prove_block.ensures.err))
+    (subst (λ b. StopsWithin (all_stated c.args.before.now) (script_of b) c.assume_not.new.self goal c.in-Ok.one.next c.in-Err-prove_block.stop) c.deref-in-Cases.ensures c.in-Err-prove_block.ensures.err))
 
--- ---- steps of one line
+-- ---- steps that have no block inside
 
-pub prove_step-cite-judged-requires : goal.prove_step-cite-judged-requires
-prove_step-cite-judged-requires t c = cite_good (all_stated c.args.before.now) c.in-Cite.by c.args.standing.now c.args.number (subst (λ s. IsReadyStep (all_stated c.args.before.now) s c.args.standing.now c.args.number) c.in-Cite.is c.requires)
+pub prove_step-cite-answered-requires : goal.prove_step-cite-answered-requires
+prove_step-cite-answered-requires t c = cite_good (all_stated c.args.before.now) c.in-Cite.by c.args.state.now c.args.number (subst (λ s. IsReadyStep (all_stated c.args.before.now) s c.args.state.now c.args.number) c.in-Cite.is c.requires)
 
-pub prove_step-told-requires : goal.prove_step-told-requires
-prove_step-told-requires t c = let one = at_least (step_script c.args.step.now c.requires.rest) in omega (arith, one, c.requires.few)
+pub prove_step-step_with_number-requires : goal.prove_step-step_with_number-requires
+prove_step-step_with_number-requires t c = let one = at_least (step_script c.args.step.now c.requires.rest) in omega (arith, one, c.requires.few)
 
-pub prove_step-hence-judged-requires-clause-lit : goal.prove_step-hence-judged-requires-clause-lit
-prove_step-hence-judged-requires-clause-lit t c =
-    one_good c.args.standing.now.context.scope c.in-Hence.lit
-    (hence_good (all_stated c.args.before.now) c.in-Hence.lit c.in-Hence.cert c.args.standing.now c.args.number (subst (λ s. IsReadyStep (all_stated c.args.before.now) s c.args.standing.now c.args.number) c.in-Hence.is c.requires)).needs
+pub prove_step-hence-answered-requires-clause-lit : goal.prove_step-hence-answered-requires-clause-lit
+prove_step-hence-answered-requires-clause-lit t c =
+    one_good c.args.state.now.context.scope c.in-Hence.lit
+    (hence_good (all_stated c.args.before.now) c.in-Hence.lit c.in-Hence.cert c.args.state.now c.args.number (subst (λ s. IsReadyStep (all_stated c.args.before.now) s c.args.state.now c.args.number) c.in-Hence.is c.requires)).needs
 
-pub prove_step-hence-judged-requires-clause-after : goal.prove_step-hence-judged-requires-clause-after
-prove_step-hence-judged-requires-clause-after t c =
-    (hence_good (all_stated c.args.before.now) c.in-Hence.lit c.in-Hence.cert c.args.standing.now c.args.number (subst (λ s. IsReadyStep (all_stated c.args.before.now) s c.args.standing.now c.args.number) c.in-Hence.is c.requires)).after
+pub prove_step-hence-answered-requires-clause-after : goal.prove_step-hence-answered-requires-clause-after
+prove_step-hence-answered-requires-clause-after t c =
+    (hence_good (all_stated c.args.before.now) c.in-Hence.lit c.in-Hence.cert c.args.state.now c.args.number (subst (λ s. IsReadyStep (all_stated c.args.before.now) s c.args.state.now c.args.number) c.in-Hence.is c.requires)).after
 
-pub prove_step-told-requires-in-Hence : goal.prove_step-told-requires-in-Hence
-prove_step-told-requires-in-Hence t c = let one = at_least (step_script c.args.step.now c.requires.rest) in omega (arith, one, c.requires.few)
+pub prove_step-step_with_number-requires-in-Hence : goal.prove_step-step_with_number-requires-in-Hence
+prove_step-step_with_number-requires-in-Hence t c = let one = at_least (step_script c.args.step.now c.requires.rest) in omega (arith, one, c.requires.few)
 
-pub prove_step-make-judged-requires-clause-room : goal.prove_step-make-judged-requires-clause-room
-prove_step-make-judged-requires-clause-room t c =
-    make_room (all_stated c.args.before.now) c.in-Make.form c.in-Make.names c.in-Make.certs c.args.standing.now c.args.number (subst (λ s. IsReadyStep (all_stated c.args.before.now) s c.args.standing.now c.args.number) c.in-Make.is c.requires)
+pub prove_step-make-answered-requires-clause-room : goal.prove_step-make-answered-requires-clause-room
+prove_step-make-answered-requires-clause-room t c =
+    make_room (all_stated c.args.before.now) c.in-Make.form c.in-Make.names c.in-Make.certs c.args.state.now c.args.number (subst (λ s. IsReadyStep (all_stated c.args.before.now) s c.args.state.now c.args.number) c.in-Make.is c.requires)
 
-pub prove_step-make-judged-requires-clause-needs : goal.prove_step-make-judged-requires-clause-needs
-prove_step-make-judged-requires-clause-needs t c =
-    (make_good (all_stated c.args.before.now) c.in-Make.form c.in-Make.names c.in-Make.certs c.args.standing.now c.args.number (subst (λ s. IsReadyStep (all_stated c.args.before.now) s c.args.standing.now c.args.number) c.in-Make.is c.requires)).needs
+pub prove_step-make-answered-requires-clause-needs : goal.prove_step-make-answered-requires-clause-needs
+prove_step-make-answered-requires-clause-needs t c =
+    (make_good (all_stated c.args.before.now) c.in-Make.form c.in-Make.names c.in-Make.certs c.args.state.now c.args.number (subst (λ s. IsReadyStep (all_stated c.args.before.now) s c.args.state.now c.args.number) c.in-Make.is c.requires)).needs
 
-pub prove_step-make-judged-requires-clause-after : goal.prove_step-make-judged-requires-clause-after
-prove_step-make-judged-requires-clause-after t c =
-    (make_good (all_stated c.args.before.now) c.in-Make.form c.in-Make.names c.in-Make.certs c.args.standing.now c.args.number (subst (λ s. IsReadyStep (all_stated c.args.before.now) s c.args.standing.now c.args.number) c.in-Make.is c.requires)).after
+pub prove_step-make-answered-requires-clause-after : goal.prove_step-make-answered-requires-clause-after
+prove_step-make-answered-requires-clause-after t c =
+    (make_good (all_stated c.args.before.now) c.in-Make.form c.in-Make.names c.in-Make.certs c.args.state.now c.args.number (subst (λ s. IsReadyStep (all_stated c.args.before.now) s c.args.state.now c.args.number) c.in-Make.is c.requires)).after
 
-pub prove_step-told-requires-in-Make : goal.prove_step-told-requires-in-Make
-prove_step-told-requires-in-Make t c = let one = at_least (step_script c.args.step.now c.requires.rest) in omega (arith, one, c.requires.few)
+pub prove_step-step_with_number-requires-in-Make : goal.prove_step-step_with_number-requires-in-Make
+prove_step-step_with_number-requires-in-Make t c = let one = at_least (step_script c.args.step.now c.requires.rest) in omega (arith, one, c.requires.few)
 
 pub prove_step-returns-in-Cite-clause-ok : goal.prove_step-returns-in-Cite-clause-ok
 prove_step-returns-in-Cite-clause-ok t c =
-    let x = c.args.standing.now in
-    let after = c.cite-judged.new.standing in
-    subst (λ s. IfOk c.told.result (λ p. IsPassed (all_stated c.args.before.now) (step_script s) x c.args.number (step_script p.step) after p.next)) (sym c.in-Cite.is)
-    (told_passed (all_stated c.args.before.now) (Cite c.in-Cite.by) x after c.args.number c.cite-judged.result c.told.result (cite_one c.in-Cite.by) (ok_map _ _ c.cite-judged.result (λ d h. h (all_stated c.args.before.now)) c.cite-judged.ensures.ok) c.told.ensures.step c.told.ensures.next)
+    let x = c.args.state.now in
+    let after = c.cite-answered.new.state in
+    subst (λ s. IfOk c.step_with_number.result (λ p. IsPassed (all_stated c.args.before.now) (step_script s) x c.args.number (step_script p.step) after p.next)) (sym c.in-Cite.is)
+    (numbered_passed (all_stated c.args.before.now) (Cite c.in-Cite.by) x after c.args.number c.cite-answered.result c.step_with_number.result (cite_one c.in-Cite.by) (ok_map _ _ c.cite-answered.result (λ d h. h (all_stated c.args.before.now)) c.cite-answered.ensures.ok) c.step_with_number.ensures.step c.step_with_number.ensures.next)
 
 pub prove_step-returns-in-Cite-clause-err : goal.prove_step-returns-in-Cite-clause-err
 prove_step-returns-in-Cite-clause-err t c =
-    let x = c.args.standing.now in
-    told_stops (all_stated c.args.before.now) c.args.step.now x c.cite-judged.new.standing c.args.number c.cite-judged.result c.told.result
-    (err_map _ _ c.cite-judged.result (λ h k. subst (λ s. StepHalts (all_stated c.args.before.now) s x h) (sym c.in-Cite.is) (k (all_stated c.args.before.now))) c.cite-judged.ensures.err) c.cite-judged.ensures.kept c.told.ensures.err
+    let x = c.args.state.now in
+    numbered_stops (all_stated c.args.before.now) c.args.step.now x c.cite-answered.new.state c.args.number c.cite-answered.result c.step_with_number.result
+    (err_map _ _ c.cite-answered.result (λ h k. subst (λ s. IsStopOfStep (all_stated c.args.before.now) s x h) (sym c.in-Cite.is) (k (all_stated c.args.before.now))) c.cite-answered.ensures.err) c.cite-answered.ensures.kept c.step_with_number.ensures.err
 
 pub prove_step-returns-in-Hence-clause-ok : goal.prove_step-returns-in-Hence-clause-ok
 prove_step-returns-in-Hence-clause-ok t c =
-    let x = c.args.standing.now in
-    let after = c.hence-judged.new.standing in
-    subst (λ s. IfOk c.told-in-Hence.result (λ p. IsPassed (all_stated c.args.before.now) (step_script s) x c.args.number (step_script p.step) after p.next)) (sym c.in-Hence.is)
-    (told_passed (all_stated c.args.before.now) (Hence c.in-Hence.lit c.in-Hence.cert) x after c.args.number c.hence-judged.result c.told-in-Hence.result (hence_one c.in-Hence.lit c.in-Hence.cert)
-    (ok_map _ _ c.hence-judged.result (λ d h. h (all_stated c.args.before.now) c.in-Hence.cert) c.hence-judged.ensures.ok) c.told-in-Hence.ensures.step c.told-in-Hence.ensures.next)
+    let x = c.args.state.now in
+    let after = c.hence-answered.new.state in
+    subst (λ s. IfOk c.step_with_number-in-Hence.result (λ p. IsPassed (all_stated c.args.before.now) (step_script s) x c.args.number (step_script p.step) after p.next)) (sym c.in-Hence.is)
+    (numbered_passed (all_stated c.args.before.now) (Hence c.in-Hence.lit c.in-Hence.cert) x after c.args.number c.hence-answered.result c.step_with_number-in-Hence.result (hence_one c.in-Hence.lit c.in-Hence.cert)
+    (ok_map _ _ c.hence-answered.result (λ d h. h (all_stated c.args.before.now) c.in-Hence.cert) c.hence-answered.ensures.ok) c.step_with_number-in-Hence.ensures.step c.step_with_number-in-Hence.ensures.next)
 
 pub prove_step-returns-in-Hence-clause-err : goal.prove_step-returns-in-Hence-clause-err
 prove_step-returns-in-Hence-clause-err t c =
-    let x = c.args.standing.now in
-    told_stops (all_stated c.args.before.now) c.args.step.now x c.hence-judged.new.standing c.args.number c.hence-judged.result c.told-in-Hence.result
-    (err_map _ _ c.hence-judged.result (λ h k. subst (λ s. StepHalts (all_stated c.args.before.now) s x h) (sym c.in-Hence.is) (k (all_stated c.args.before.now) c.in-Hence.cert)) c.hence-judged.ensures.err) c.hence-judged.ensures.kept c.told-in-Hence.ensures.err
+    let x = c.args.state.now in
+    numbered_stops (all_stated c.args.before.now) c.args.step.now x c.hence-answered.new.state c.args.number c.hence-answered.result c.step_with_number-in-Hence.result
+    (err_map _ _ c.hence-answered.result (λ h k. subst (λ s. IsStopOfStep (all_stated c.args.before.now) s x h) (sym c.in-Hence.is) (k (all_stated c.args.before.now) c.in-Hence.cert)) c.hence-answered.ensures.err) c.hence-answered.ensures.kept c.step_with_number-in-Hence.ensures.err
 
 pub prove_step-returns-in-Make-clause-ok : goal.prove_step-returns-in-Make-clause-ok
 prove_step-returns-in-Make-clause-ok t c =
-    let x = c.args.standing.now in
-    let after = c.make-judged.new.standing in
-    subst (λ s. IfOk c.told-in-Make.result (λ p. IsPassed (all_stated c.args.before.now) (step_script s) x c.args.number (step_script p.step) after p.next)) (sym c.in-Make.is)
-    (told_passed (all_stated c.args.before.now) (Make c.in-Make.form c.in-Make.names c.in-Make.certs) x after c.args.number c.make-judged.result c.told-in-Make.result (make_one c.in-Make.form c.in-Make.names c.in-Make.certs)
-    (ok_map _ _ c.make-judged.result (λ d h. subst (λ ns. IsJudged (all_stated c.args.before.now) (Make c.in-Make.form ns c.in-Make.certs) x d after) c.items.ensures (h (all_stated c.args.before.now) c.in-Make.certs)) c.make-judged.ensures.ok) c.told-in-Make.ensures.step c.told-in-Make.ensures.next)
+    let x = c.args.state.now in
+    let after = c.make-answered.new.state in
+    subst (λ s. IfOk c.step_with_number-in-Make.result (λ p. IsPassed (all_stated c.args.before.now) (step_script s) x c.args.number (step_script p.step) after p.next)) (sym c.in-Make.is)
+    (numbered_passed (all_stated c.args.before.now) (Make c.in-Make.form c.in-Make.names c.in-Make.certs) x after c.args.number c.make-answered.result c.step_with_number-in-Make.result (make_one c.in-Make.form c.in-Make.names c.in-Make.certs)
+    (ok_map _ _ c.make-answered.result (λ d h. subst (λ ns. IsLicensedStep (all_stated c.args.before.now) (Make c.in-Make.form ns c.in-Make.certs) x d after) c.items.ensures (h (all_stated c.args.before.now) c.in-Make.certs)) c.make-answered.ensures.ok) c.step_with_number-in-Make.ensures.step c.step_with_number-in-Make.ensures.next)
 
 pub prove_step-returns-in-Make-clause-err : goal.prove_step-returns-in-Make-clause-err
 prove_step-returns-in-Make-clause-err t c =
-    let x = c.args.standing.now in
-    told_stops (all_stated c.args.before.now) c.args.step.now x c.make-judged.new.standing c.args.number c.make-judged.result c.told-in-Make.result
-    (err_map _ _ c.make-judged.result (λ h k. subst (λ s. StepHalts (all_stated c.args.before.now) s x h) (sym c.in-Make.is) (subst (λ ns. StepHalts (all_stated c.args.before.now) (Make c.in-Make.form ns c.in-Make.certs) x h) c.items.ensures (k (all_stated c.args.before.now) c.in-Make.certs))) c.make-judged.ensures.err)
-    c.make-judged.ensures.kept c.told-in-Make.ensures.err
+    let x = c.args.state.now in
+    numbered_stops (all_stated c.args.before.now) c.args.step.now x c.make-answered.new.state c.args.number c.make-answered.result c.step_with_number-in-Make.result
+    (err_map _ _ c.make-answered.result (λ h k. subst (λ s. IsStopOfStep (all_stated c.args.before.now) s x h) (sym c.in-Make.is) (subst (λ ns. IsStopOfStep (all_stated c.args.before.now) (Make c.in-Make.form ns c.in-Make.certs) x h) c.items.ensures (k (all_stated c.args.before.now) c.in-Make.certs))) c.make-answered.ensures.err)
+    c.make-answered.ensures.kept c.step_with_number-in-Make.ensures.err
 
 -- ---- an application
 
 pub prove_step-bounds-before-theorem : goal.prove_step-bounds-before-theorem
 prove_step-bounds-before-theorem t c =
     let y = c.in-Apply in
-    let ready = apply_good (all_stated c.args.before.now) y.theorem y.args y.names y.certs c.args.standing.now c.args.number (subst (λ s. IsReadyStep (all_stated c.args.before.now) s c.args.standing.now c.args.number) y.is c.requires) in
+    let ready = apply_good (all_stated c.args.before.now) y.theorem y.args y.names y.certs c.args.state.now c.args.number (subst (λ s. IsReadyStep (all_stated c.args.before.now) s c.args.state.now c.args.number) y.is c.requires) in
     let many = as_many c.args.before.now in
     omega (arith, many, ready.place)
 
-pub prove_step-told-requires-in-Apply : goal.prove_step-told-requires-in-Apply
-prove_step-told-requires-in-Apply t c = let one = at_least (step_script c.args.step.now c.requires.rest) in omega (arith, one, c.requires.few)
+pub prove_step-step_with_number-requires-in-Apply : goal.prove_step-step_with_number-requires-in-Apply
+prove_step-step_with_number-requires-in-Apply t c = let one = at_least (step_script c.args.step.now c.requires.rest) in omega (arith, one, c.requires.few)
 
-pub prove_step-apply-judged-requires : goal.prove_step-apply-judged-requires
-prove_step-apply-judged-requires t c =
-    let x = c.args.standing.now in
+pub prove_step-apply-answered-requires : goal.prove_step-apply-answered-requires
+prove_step-apply-answered-requires t c =
+    let x = c.args.state.now in
     let y = c.in-Apply in
     let ready = apply_good (all_stated c.args.before.now) y.theorem y.args y.names y.certs x c.args.number (subst (λ s. IsReadyStep (all_stated c.args.before.now) s x c.args.number) y.is c.requires) in
     let many = as_many c.args.before.now in
@@ -416,36 +416,36 @@ prove_step-apply-judged-requires t c =
 
 pub prove_step-returns-in-Apply-clause-ok : goal.prove_step-returns-in-Apply-clause-ok
 prove_step-returns-in-Apply-clause-ok t c =
-    let x = c.args.standing.now in
+    let x = c.args.state.now in
     let y = c.in-Apply in
     let ready = apply_good (all_stated c.args.before.now) y.theorem y.args y.names y.certs x c.args.number (subst (λ s. IsReadyStep (all_stated c.args.before.now) s x c.args.number) y.is c.requires) in
     let many = as_many c.args.before.now in
     let place : y.theorem < length c.args.before.now = omega (arith, many, ready.place) in
     let is = theorem_is c.args.before.now y.theorem c.index-before-theorem.result place c.index-before-theorem.is in
-    let after = c.apply-judged.new.standing in
-    subst (λ s. IfOk c.told-in-Apply.result (λ p. IsPassed (all_stated c.args.before.now) (step_script s) x c.args.number (step_script p.step) after p.next)) (sym y.is)
-    (told_passed (all_stated c.args.before.now) (Apply y.theorem y.args y.names y.certs) x after c.args.number c.apply-judged.result c.told-in-Apply.result (apply_one y.theorem y.args y.names y.certs)
-    (ok_map _ _ c.apply-judged.result
-    (λ d h. subst (λ ns. IsJudged (all_stated c.args.before.now) (Apply y.theorem y.args ns y.certs) x d after) c.items-in-Apply-2.ensures
-    (subst (λ es. IsJudged (all_stated c.args.before.now) (Apply y.theorem es c.items-in-Apply-2.result.now y.certs) x d after) c.items-in-Apply.ensures (h (all_stated c.args.before.now) y.certs is)))
-    c.apply-judged.ensures.ok)
-    c.told-in-Apply.ensures.step c.told-in-Apply.ensures.next)
+    let after = c.apply-answered.new.state in
+    subst (λ s. IfOk c.step_with_number-in-Apply.result (λ p. IsPassed (all_stated c.args.before.now) (step_script s) x c.args.number (step_script p.step) after p.next)) (sym y.is)
+    (numbered_passed (all_stated c.args.before.now) (Apply y.theorem y.args y.names y.certs) x after c.args.number c.apply-answered.result c.step_with_number-in-Apply.result (apply_one y.theorem y.args y.names y.certs)
+    (ok_map _ _ c.apply-answered.result
+    (λ d h. subst (λ ns. IsLicensedStep (all_stated c.args.before.now) (Apply y.theorem y.args ns y.certs) x d after) c.items-in-Apply-2.ensures
+    (subst (λ es. IsLicensedStep (all_stated c.args.before.now) (Apply y.theorem es c.items-in-Apply-2.result.now y.certs) x d after) c.items-in-Apply.ensures (h (all_stated c.args.before.now) y.certs is)))
+    c.apply-answered.ensures.ok)
+    c.step_with_number-in-Apply.ensures.step c.step_with_number-in-Apply.ensures.next)
 
 pub prove_step-returns-in-Apply-clause-err : goal.prove_step-returns-in-Apply-clause-err
 prove_step-returns-in-Apply-clause-err t c =
-    let x = c.args.standing.now in
+    let x = c.args.state.now in
     let y = c.in-Apply in
     let ready = apply_good (all_stated c.args.before.now) y.theorem y.args y.names y.certs x c.args.number (subst (λ s. IsReadyStep (all_stated c.args.before.now) s x c.args.number) y.is c.requires) in
     let many = as_many c.args.before.now in
     let place : y.theorem < length c.args.before.now = omega (arith, many, ready.place) in
     let is = theorem_is c.args.before.now y.theorem c.index-before-theorem.result place c.index-before-theorem.is in
-    told_stops (all_stated c.args.before.now) c.args.step.now x c.apply-judged.new.standing c.args.number c.apply-judged.result c.told-in-Apply.result
-    (err_map _ _ c.apply-judged.result
-    (λ h k. subst (λ s. StepHalts (all_stated c.args.before.now) s x h) (sym y.is)
-    (subst (λ ns. StepHalts (all_stated c.args.before.now) (Apply y.theorem y.args ns y.certs) x h) c.items-in-Apply-2.ensures
-    (subst (λ es. StepHalts (all_stated c.args.before.now) (Apply y.theorem es c.items-in-Apply-2.result.now y.certs) x h) c.items-in-Apply.ensures (k (all_stated c.args.before.now) y.certs is))))
-    c.apply-judged.ensures.err)
-    c.apply-judged.ensures.kept c.told-in-Apply.ensures.err
+    numbered_stops (all_stated c.args.before.now) c.args.step.now x c.apply-answered.new.state c.args.number c.apply-answered.result c.step_with_number-in-Apply.result
+    (err_map _ _ c.apply-answered.result
+    (λ h k. subst (λ s. IsStopOfStep (all_stated c.args.before.now) s x h) (sym y.is)
+    (subst (λ ns. IsStopOfStep (all_stated c.args.before.now) (Apply y.theorem y.args ns y.certs) x h) c.items-in-Apply-2.ensures
+    (subst (λ es. IsStopOfStep (all_stated c.args.before.now) (Apply y.theorem es c.items-in-Apply-2.result.now y.certs) x h) c.items-in-Apply.ensures (k (all_stated c.args.before.now) y.certs is))))
+    c.apply-answered.ensures.err)
+    c.apply-answered.ensures.kept c.step_with_number-in-Apply.ensures.err
 
 -- ---- a claim
 
@@ -454,7 +454,7 @@ prove_step-overflow_add-number t c = let one = at_least (step_script c.args.step
 
 pub prove_step-prove_block-requires : goal.prove_step-prove_block-requires
 prove_step-prove_block-requires t c =
-    let x = c.args.standing.now in
+    let x = c.args.state.now in
     let hs = x.context.held ++ state_of x.context ∷ [] in
     let ready = subst (λ s. IsReadyStep (all_stated c.args.before.now) s x c.args.number) c.in-Claim.is c.requires in
     let parts = claim_parts (all_stated c.args.before.now) c.in-Claim.shown c.in-Claim.inner x c.args.number ready in
@@ -471,15 +471,15 @@ prove_step-prove_block-requires t c =
 
 pub prove_step-claimed-requires-clause-held : goal.prove_step-claimed-requires-clause-held
 prove_step-claimed-requires-clause-held t c =
-    let x = c.args.standing.now in
-    some_held x c.prove_block.new.standing (kept_inside x c.hold.new.self c.prove_block.new.standing c.in_ok-outer-in-Claim.ensures.held c.in-Ok.ensures.kept)
+    let x = c.args.state.now in
+    some_held x c.prove_block.new.state (kept_inside x c.hold.new.self c.prove_block.new.state c.in_ok-outer-in-Claim.ensures.held c.in-Ok.ensures.kept)
 
 pub prove_step-claimed-requires-clause-good : goal.prove_step-claimed-requires-clause-good
 prove_step-claimed-requires-clause-good t c =
-    let x = c.args.standing.now in
+    let x = c.args.state.now in
     let hs = x.context.held ++ state_of x.context ∷ [] in
     let ready = subst (λ s. IsReadyStep (all_stated c.args.before.now) s x c.args.number) c.in-Claim.is c.requires in
-    good_behind x c.prove_block.new.standing c.in-Claim.shown c.items-in-Ok.result.now (kept_inside x c.hold.new.self c.prove_block.new.standing c.in_ok-outer-in-Claim.ensures.held c.in-Ok.ensures.kept) c.items-in-Ok.ensures
+    good_after x c.prove_block.new.state c.in-Claim.shown c.items-in-Ok.result.now (kept_inside x c.hold.new.self c.prove_block.new.state c.in_ok-outer-in-Claim.ensures.held c.in-Ok.ensures.kept) c.items-in-Ok.ensures
     (claim_after (all_stated c.args.before.now) c.in-Claim.shown c.in-Claim.inner (script_of c.in-Ok.proved.block) x c.args.number
     (derived_outside (all_stated c.args.before.now) (script_of c.in-Claim.inner.value) x c.hold.new.self (goal_of c.in-Claim.shown) (script_of c.in-Ok.proved.block) hs c.in_ok-outer-in-Claim.ensures.held
     (subst (λ ls. IsDerived (all_stated c.args.before.now) (script_of c.in-Claim.inner.value) c.hold.new.self (goal_of ls) (script_of c.in-Ok.proved.block)) c.items-in-Claim.ensures
@@ -487,20 +487,20 @@ prove_step-claimed-requires-clause-good t c =
 
 pub prove_step-returns-in-Ok-clause-ok : goal.prove_step-returns-in-Ok-clause-ok
 prove_step-returns-in-Ok-clause-ok t c =
-    let x = c.args.standing.now in
+    let x = c.args.state.now in
     let hs = x.context.held ++ state_of x.context ∷ [] in
     let ready = subst (λ s. IsReadyStep (all_stated c.args.before.now) s x c.args.number) c.in-Claim.is c.requires in
     let same = ap (λ b. size (script_of b)) c.deref.ensures in
-    claim_passed (all_stated c.args.before.now) c.args.step.now c.in-Claim.shown c.items-in-Ok.result.now c.in-Claim.inner x c.prove_block.new.standing c.claimed.new.standing c.args.number c.in_ok-outer-in-Claim.outer c.in-Ok.proved c.claimed.result
+    claim_passed (all_stated c.args.before.now) c.args.step.now c.in-Claim.shown c.items-in-Ok.result.now c.in-Claim.inner x c.prove_block.new.state c.claimed.new.state c.args.number c.in_ok-outer-in-Claim.outer c.in-Ok.proved c.claimed.result
     c.in-Claim.is c.items-in-Ok.ensures (claim_parts (all_stated c.args.before.now) c.in-Claim.shown c.in-Claim.inner x c.args.number ready)
     (derived_outside (all_stated c.args.before.now) (script_of c.in-Claim.inner.value) x c.hold.new.self (goal_of c.in-Claim.shown) (script_of c.in-Ok.proved.block) hs c.in_ok-outer-in-Claim.ensures.held
     (subst (λ ls. IsDerived (all_stated c.args.before.now) (script_of c.in-Claim.inner.value) c.hold.new.self (goal_of ls) (script_of c.in-Ok.proved.block)) c.items-in-Claim.ensures
     (subst (λ b. IsDerived (all_stated c.args.before.now) (script_of b) c.hold.new.self (goal_of c.items-in-Claim.result.now) (script_of c.in-Ok.proved.block)) c.deref.ensures c.in-Ok.ensures.derived)))
-    (omega (arith, same, c.in-Ok.ensures.next)) c.in_ok-outer-in-Claim.ensures.names (kept_inside x c.hold.new.self c.prove_block.new.standing c.in_ok-outer-in-Claim.ensures.held c.in-Ok.ensures.kept) c.claimed.ensures.step c.claimed.ensures.next c.claimed.ensures.after
+    (omega (arith, same, c.in-Ok.ensures.next)) c.in_ok-outer-in-Claim.ensures.names (kept_inside x c.hold.new.self c.prove_block.new.state c.in_ok-outer-in-Claim.ensures.held c.in-Ok.ensures.kept) c.claimed.ensures.step c.claimed.ensures.next c.claimed.ensures.after
 
 pub prove_step-returns-in-Err-clause-err : goal.prove_step-returns-in-Err-clause-err
 prove_step-returns-in-Err-clause-err t c =
-    let x = c.args.standing.now in
+    let x = c.args.state.now in
     let hs = x.context.held ++ state_of x.context ∷ [] in
     let ready = subst (λ s. IsReadyStep (all_stated c.args.before.now) s x c.args.number) c.in-Claim.is c.requires in
     claim_stopped (all_stated c.args.before.now) c.args.step.now c.in-Claim.shown c.in-Claim.inner x c.args.number c.in-Err.stop c.in-Claim.is (claim_parts (all_stated c.args.before.now) c.in-Claim.shown c.in-Claim.inner x c.args.number ready)
@@ -512,14 +512,14 @@ prove_step-returns-in-Err-clause-err t c =
 
 pub prove_step-superpose-requires-clause-room : goal.prove_step-superpose-requires-clause-room
 prove_step-superpose-requires-clause-room t c =
-    let x = c.args.standing.now in
+    let x = c.args.state.now in
     let y = c.in-Superposed in
     let parts = superposed_parts (all_stated c.args.before.now) y.form y.names y.shown y.certs y.inner x c.args.number (subst (λ s. IsReadyStep (all_stated c.args.before.now) s x c.args.number) y.is c.requires) in
     subst (λ z. HasRoom z.context.scope) (sym c.in_ok-outer-in-Superposed.ensures.held) (room_of_small x.context.scope parts.scope)
 
 pub prove_step-superpose-requires-clause-needs : goal.prove_step-superpose-requires-clause-needs
 prove_step-superpose-requires-clause-needs t c =
-    let x = c.args.standing.now in
+    let x = c.args.state.now in
     let y = c.in-Superposed in
     let needs =
     (superposed_parts (all_stated c.args.before.now) y.form y.names y.shown y.certs y.inner x c.args.number (subst (λ s. IsReadyStep (all_stated c.args.before.now) s x c.args.number) y.is c.requires)).needs
@@ -528,7 +528,7 @@ prove_step-superpose-requires-clause-needs t c =
 
 pub prove_step-superpose-requires-clause-after : goal.prove_step-superpose-requires-clause-after
 prove_step-superpose-requires-clause-after t c =
-    let x = c.args.standing.now in
+    let x = c.args.state.now in
     let y = c.in-Superposed in
     let parts = superposed_parts (all_stated c.args.before.now) y.form y.names y.shown y.certs y.inner x c.args.number (subst (λ s. IsReadyStep (all_stated c.args.before.now) s x c.args.number) y.is c.requires) in
     let good =
@@ -538,20 +538,20 @@ prove_step-superpose-requires-clause-after t c =
 
 pub prove_step-returns-in-Err-superpose-clause-err : goal.prove_step-returns-in-Err-superpose-clause-err
 prove_step-returns-in-Err-superpose-clause-err t c =
-    let x = c.args.standing.now in
+    let x = c.args.state.now in
     let y = c.in-Superposed in
-    let h = c.in-Err-superpose.halt in
+    let h = c.in-Err-superpose.step_stop in
     let hs = x.context.held ++ state_of x.context ∷ [] in
-    superposed_refused (all_stated c.args.before.now) c.args.step.now y.form y.names y.shown y.certs y.inner x c.superpose.new.standing c.args.number h c.stop_at.result y.is
-    (halts_outside hs x c.hold-in-Superposed.new.self (superposing.needs y.form) h c.in_ok-outer-in-Superposed.ensures.held c.in-Err-superpose.ensures.err)
-    (names_outside hs x c.hold-in-Superposed.new.self c.superpose.new.standing h c.in_ok-outer-in-Superposed.ensures.held c.in-Err-superpose.ensures.kept) c.stop_at.ensures
+    superposed_refused (all_stated c.args.before.now) c.args.step.now y.form y.names y.shown y.certs y.inner x c.superpose.new.state c.args.number h c.stop_at.result y.is
+    (step_stops_outside hs x c.hold-in-Superposed.new.self (superposing.needs y.form) h c.in_ok-outer-in-Superposed.ensures.held c.in-Err-superpose.ensures.err)
+    (names_outside hs x c.hold-in-Superposed.new.self c.superpose.new.state h c.in_ok-outer-in-Superposed.ensures.held c.in-Err-superpose.ensures.kept) c.stop_at.ensures
 
 pub prove_step-overflow_add-number-in-Superposed : goal.prove_step-overflow_add-number-in-Superposed
 prove_step-overflow_add-number-in-Superposed t c = let one = at_least (step_script c.args.step.now c.requires.rest) in omega (arith, one, c.requires.few)
 
 pub prove_step-prove_block-requires-in-Superposed : goal.prove_step-prove_block-requires-in-Superposed
 prove_step-prove_block-requires-in-Superposed t c =
-    let x = c.args.standing.now in
+    let x = c.args.state.now in
     let y = c.in-Superposed in
     let ready = subst (λ s. IsReadyStep (all_stated c.args.before.now) s x c.args.number) y.is c.requires in
     let parts = superposed_parts (all_stated c.args.before.now) y.form y.names y.shown y.certs y.inner x c.args.number ready in
@@ -562,56 +562,56 @@ prove_step-prove_block-requires-in-Superposed t c =
     let same = ap (λ b. size (script_of b)) c.deref-in-Superposed.ensures in (
       search (rules, the_lemmas),
       (
-        subst (λ b. IsReadyFor (all_stated c.args.before.now) (script_of b) c.superpose.new.standing (goal_of c.items-in-Superposed-2.result.now)) (sym c.deref-in-Superposed.ensures)
-            (subst (λ ls. IsReadyFor (all_stated c.args.before.now) (script_of y.inner.value) c.superpose.new.standing (goal_of ls)) (sym c.items-in-Superposed-2.ensures)
-            (ready_inside (all_stated c.args.before.now) (script_of y.inner.value) inside c.superpose.new.standing (goal_of y.shown) hs begun parts.block)),
+        subst (λ b. IsReadyFor (all_stated c.args.before.now) (script_of b) c.superpose.new.state (goal_of c.items-in-Superposed-2.result.now)) (sym c.deref-in-Superposed.ensures)
+            (subst (λ ls. IsReadyFor (all_stated c.args.before.now) (script_of y.inner.value) c.superpose.new.state (goal_of ls)) (sym c.items-in-Superposed-2.ensures)
+            (ready_inside (all_stated c.args.before.now) (script_of y.inner.value) inside c.superpose.new.state (goal_of y.shown) hs begun parts.block)),
         omega (arith, same, few),
       ),
     )
 
 pub prove_step-superposed-requires-clause-held : goal.prove_step-superposed-requires-clause-held
 prove_step-superposed-requires-clause-held t c =
-    let x = c.args.standing.now in
+    let x = c.args.state.now in
     let y = c.in-Superposed in
     let hs = x.context.held ++ state_of x.context ∷ [] in
     let inside = after_superposed y.form y.names x in
     let begun = c.in-Ok-superpose.ensures.after ∙ ap (λ ns. after_superposed y.form ns c.hold-in-Superposed.new.self) c.items-in-Superposed.ensures ∙ ap (after_superposed y.form y.names) c.in_ok-outer-in-Superposed.ensures.held in
-    some_held x c.prove_block-in-Superposed.new.standing (c.in-Ok-prove_block.ensures.kept ∙ ap (λ w. w.context.held) begun)
+    some_held x c.prove_block-in-Superposed.new.state (c.in-Ok-prove_block.ensures.kept ∙ ap (λ w. w.context.held) begun)
 
 pub prove_step-superposed-requires-clause-good : goal.prove_step-superposed-requires-clause-good
 prove_step-superposed-requires-clause-good t c =
-    let x = c.args.standing.now in
+    let x = c.args.state.now in
     let y = c.in-Superposed in
     let hs = x.context.held ++ state_of x.context ∷ [] in
     let inside = after_superposed y.form y.names x in
     let begun = c.in-Ok-superpose.ensures.after ∙ ap (λ ns. after_superposed y.form ns c.hold-in-Superposed.new.self) c.items-in-Superposed.ensures ∙ ap (after_superposed y.form y.names) c.in_ok-outer-in-Superposed.ensures.held in
-    good_behind x c.prove_block-in-Superposed.new.standing y.shown c.items-in-Ok-prove_block-2.result.now (c.in-Ok-prove_block.ensures.kept ∙ ap (λ w. w.context.held) begun) c.items-in-Ok-prove_block-2.ensures
+    good_after x c.prove_block-in-Superposed.new.state y.shown c.items-in-Ok-prove_block-2.result.now (c.in-Ok-prove_block.ensures.kept ∙ ap (λ w. w.context.held) begun) c.items-in-Ok-prove_block-2.ensures
     (superposed_after (all_stated c.args.before.now) y.form y.names y.shown y.certs y.inner (script_of c.in-Ok-prove_block.proved.block) x c.args.number
-    (derived_outside (all_stated c.args.before.now) (script_of y.inner.value) inside c.superpose.new.standing (goal_of y.shown) (script_of c.in-Ok-prove_block.proved.block) hs begun
-    (subst (λ ls. IsDerived (all_stated c.args.before.now) (script_of y.inner.value) c.superpose.new.standing (goal_of ls) (script_of c.in-Ok-prove_block.proved.block)) c.items-in-Superposed-2.ensures
-    (subst (λ b. IsDerived (all_stated c.args.before.now) (script_of b) c.superpose.new.standing (goal_of c.items-in-Superposed-2.result.now) (script_of c.in-Ok-prove_block.proved.block)) c.deref-in-Superposed.ensures c.in-Ok-prove_block.ensures.derived)))
+    (derived_outside (all_stated c.args.before.now) (script_of y.inner.value) inside c.superpose.new.state (goal_of y.shown) (script_of c.in-Ok-prove_block.proved.block) hs begun
+    (subst (λ ls. IsDerived (all_stated c.args.before.now) (script_of y.inner.value) c.superpose.new.state (goal_of ls) (script_of c.in-Ok-prove_block.proved.block)) c.items-in-Superposed-2.ensures
+    (subst (λ b. IsDerived (all_stated c.args.before.now) (script_of b) c.superpose.new.state (goal_of c.items-in-Superposed-2.result.now) (script_of c.in-Ok-prove_block.proved.block)) c.deref-in-Superposed.ensures c.in-Ok-prove_block.ensures.derived)))
     (subst (λ s. IsReadyStep (all_stated c.args.before.now) s x c.args.number) y.is c.requires))
 
 pub prove_step-returns-in-Ok-prove_block-clause-ok : goal.prove_step-returns-in-Ok-prove_block-clause-ok
 prove_step-returns-in-Ok-prove_block-clause-ok t c =
-    let x = c.args.standing.now in
+    let x = c.args.state.now in
     let y = c.in-Superposed in
     let hs = x.context.held ++ state_of x.context ∷ [] in
     let certified = subst (λ z. certify_all z.context.scope z.context.facts (superposing.needs y.form) c.in-Ok-superpose.certs.items ≡ true) c.in_ok-outer-in-Superposed.ensures.held c.in-Ok-superpose.ensures.certs in
     let inside = after_superposed y.form y.names x in
     let begun = c.in-Ok-superpose.ensures.after ∙ ap (λ ns. after_superposed y.form ns c.hold-in-Superposed.new.self) c.items-in-Superposed.ensures ∙ ap (after_superposed y.form y.names) c.in_ok-outer-in-Superposed.ensures.held in
     let same = ap (λ b. size (script_of b)) c.deref-in-Superposed.ensures in
-    superposed_passed (all_stated c.args.before.now) c.args.step.now y.form y.names c.items-in-Ok-prove_block.result.now y.shown c.items-in-Ok-prove_block-2.result.now y.certs c.in-Ok-superpose.certs.items y.inner x c.prove_block-in-Superposed.new.standing c.superposed.new.standing c.args.number c.in_ok-outer-in-Superposed.outer c.in-Ok-prove_block.proved
+    superposed_passed (all_stated c.args.before.now) c.args.step.now y.form y.names c.items-in-Ok-prove_block.result.now y.shown c.items-in-Ok-prove_block-2.result.now y.certs c.in-Ok-superpose.certs.items y.inner x c.prove_block-in-Superposed.new.state c.superposed.new.state c.args.number c.in_ok-outer-in-Superposed.outer c.in-Ok-prove_block.proved
     c.superposed.result y.is c.items-in-Ok-prove_block.ensures c.items-in-Ok-prove_block-2.ensures (superposed_parts (all_stated c.args.before.now) y.form y.names y.shown y.certs y.inner x c.args.number (subst (λ s. IsReadyStep (all_stated c.args.before.now) s x c.args.number) y.is c.requires)) (certified, c.in-Ok-superpose.ensures.written)
-    (derived_outside (all_stated c.args.before.now) (script_of y.inner.value) inside c.superpose.new.standing (goal_of y.shown) (script_of c.in-Ok-prove_block.proved.block) hs begun
-    (subst (λ ls. IsDerived (all_stated c.args.before.now) (script_of y.inner.value) c.superpose.new.standing (goal_of ls) (script_of c.in-Ok-prove_block.proved.block)) c.items-in-Superposed-2.ensures
-    (subst (λ b. IsDerived (all_stated c.args.before.now) (script_of b) c.superpose.new.standing (goal_of c.items-in-Superposed-2.result.now) (script_of c.in-Ok-prove_block.proved.block)) c.deref-in-Superposed.ensures c.in-Ok-prove_block.ensures.derived)))
+    (derived_outside (all_stated c.args.before.now) (script_of y.inner.value) inside c.superpose.new.state (goal_of y.shown) (script_of c.in-Ok-prove_block.proved.block) hs begun
+    (subst (λ ls. IsDerived (all_stated c.args.before.now) (script_of y.inner.value) c.superpose.new.state (goal_of ls) (script_of c.in-Ok-prove_block.proved.block)) c.items-in-Superposed-2.ensures
+    (subst (λ b. IsDerived (all_stated c.args.before.now) (script_of b) c.superpose.new.state (goal_of c.items-in-Superposed-2.result.now) (script_of c.in-Ok-prove_block.proved.block)) c.deref-in-Superposed.ensures c.in-Ok-prove_block.ensures.derived)))
     (omega (arith, same, c.in-Ok-prove_block.ensures.next)) c.in_ok-outer-in-Superposed.ensures.names (c.in-Ok-prove_block.ensures.kept ∙ ap (λ w. w.context.held) begun)
     c.superposed.ensures.step c.superposed.ensures.next c.superposed.ensures.after
 
 pub prove_step-returns-in-Err-prove_block-clause-err : goal.prove_step-returns-in-Err-prove_block-clause-err
 prove_step-returns-in-Err-prove_block-clause-err t c =
-    let x = c.args.standing.now in
+    let x = c.args.state.now in
     let y = c.in-Superposed in
     let hs = x.context.held ++ state_of x.context ∷ [] in
     let certified = subst (λ z. certify_all z.context.scope z.context.facts (superposing.needs y.form) c.in-Ok-superpose.certs.items ≡ true) c.in_ok-outer-in-Superposed.ensures.held c.in-Ok-superpose.ensures.certs in
@@ -619,6 +619,6 @@ prove_step-returns-in-Err-prove_block-clause-err t c =
     let begun = c.in-Ok-superpose.ensures.after ∙ ap (λ ns. after_superposed y.form ns c.hold-in-Superposed.new.self) c.items-in-Superposed.ensures ∙ ap (after_superposed y.form y.names) c.in_ok-outer-in-Superposed.ensures.held in
     superposed_stopped (all_stated c.args.before.now) c.args.step.now y.form y.names y.shown y.certs c.in-Ok-superpose.certs.items y.inner x c.args.number c.in-Err-prove_block.stop y.is
     (superposed_parts (all_stated c.args.before.now) y.form y.names y.shown y.certs y.inner x c.args.number (subst (λ s. IsReadyStep (all_stated c.args.before.now) s x c.args.number) y.is c.requires)) (certified, c.in-Ok-superpose.ensures.written)
-    (stops_outside (all_stated c.args.before.now) (script_of y.inner.value) inside c.superpose.new.standing (goal_of y.shown) (c.args.number + 1) c.in-Err-prove_block.stop hs begun
-    (subst (λ ls. StopsWithin (all_stated c.args.before.now) (script_of y.inner.value) c.superpose.new.standing (goal_of ls) (c.args.number + 1) c.in-Err-prove_block.stop) c.items-in-Superposed-2.ensures
-    (subst (λ b. StopsWithin (all_stated c.args.before.now) (script_of b) c.superpose.new.standing (goal_of c.items-in-Superposed-2.result.now) (c.args.number + 1) c.in-Err-prove_block.stop) c.deref-in-Superposed.ensures c.in-Err-prove_block.ensures.err)))
+    (stops_outside (all_stated c.args.before.now) (script_of y.inner.value) inside c.superpose.new.state (goal_of y.shown) (c.args.number + 1) c.in-Err-prove_block.stop hs begun
+    (subst (λ ls. StopsWithin (all_stated c.args.before.now) (script_of y.inner.value) c.superpose.new.state (goal_of ls) (c.args.number + 1) c.in-Err-prove_block.stop) c.items-in-Superposed-2.ensures
+    (subst (λ b. StopsWithin (all_stated c.args.before.now) (script_of b) c.superpose.new.state (goal_of c.items-in-Superposed-2.result.now) (c.args.number + 1) c.in-Err-prove_block.stop) c.deref-in-Superposed.ensures c.in-Err-prove_block.ensures.err)))

@@ -1,7 +1,7 @@
 use Rattle.std.specs.Prelude.{take}
 use Rattle.e_theorem.specs.Statements.{all_stated}
 use Rattle.e_deriv.specs.Script.{steps_script}
-use Rattle.e_prove.specs.Passing.{IsPassed}
+use Rattle.e_prove.specs.inner.PassedSteps.{IsPassed}
 use Rattle.e_prove.proofs.block.+block.Given as goal
 
 abbrev pub decreases-prove_block : goal.decreases-prove_block
@@ -16,5 +16,5 @@ decreases-prove_step l = goal.size-prove_step l
 abbrev pub invariant-prove_block-loop-step : goal.invariant-prove_block-loop-step
 invariant-prove_block-loop-step l =
     record {
-      passed : IsPassed (all_stated l.before) (steps_script (take l.step-index l.block.steps.items)) l.initial.standing l.first (steps_script l.steps.items) l.standing l.number;
+      passed : IsPassed (all_stated l.before) (steps_script (take l.step-index l.block.steps.items)) l.initial.state l.first (steps_script l.steps.items) l.state l.number;
     }

@@ -1,4 +1,4 @@
-use Rattle.e_prove.proofs.Answering.{memory_of_licensed}
+use Rattle.e_prove.proofs.RightStops.{memory_of_licensed}
 use Rattle.e_prove.proofs.laws.licensed_stops_for_memory.Goals as goal
 
 pub returns : goal.returns

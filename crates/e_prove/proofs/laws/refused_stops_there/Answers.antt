@@ -1,4 +1,4 @@
-use Rattle.e_prove.proofs.Answering.{refused_there}
+use Rattle.e_prove.proofs.RightStops.{refused_there}
 use Rattle.e_prove.proofs.laws.refused_stops_there.Goals as goal
 
 pub returns : goal.returns

@@ -2,19 +2,19 @@ use Rattle.std.proofs.Common.{◌≡◌, ◌∷◌, [], ◌∙◌, subst, true}
 use Rattle.std.proofs.lemmas.Result.{err_from_is_err_and}
 use Rattle.e_clause.specs.Certify.{certifies}
 use Rattle.e_licence.specs.Contexts.{Basis}
-use Rattle.e_prove.specs.Halts.{HaltsIn}
-use Rattle.e_prove.proofs.Licensing.{certify_next, halts_among}
-use Rattle.e_prove.proofs.Written.{certs_more}
+use Rattle.e_prove.specs.inner.StopsOfSteps.{StepStopsAmong}
+use Rattle.e_prove.proofs.LicensedLiterals.{certify_next, stops_among}
+use Rattle.e_prove.proofs.WrittenCertificates.{certs_more}
 use Rattle.e_prove.proofs.licence.licences.Goals as goal
 
 pub returns-in_err-cert-clause-err : goal.returns-in_err-cert-clause-err
 returns-in_err-cert-clause-err c =
     let l = c.lit-item.result in
-    let halt = c.in_err-cert.field-0.0 in
+    let step_stop = c.in_err-cert.field-0.0 in
     let p = err_from_is_err_and c.from_residual.result c.from_residual.ensures.1 in
     rw (p.1, p.2)
-    (halts_among c.args.context.now c.args.lits.now c.loop-lit.lit-index c.loop-lit.certs.items l halt
-    c.loop-lit-test.true c.lit-item.is c.loop-lit.invariant.certified (subst (λ (b : Basis). HaltsIn b (l ∷ []) halt) c.loop-lit.invariant.same c.in_err-cert.ensures.err))
+    (stops_among c.args.context.now c.args.lits.now c.loop-lit.lit-index c.loop-lit.certs.items l step_stop
+    c.loop-lit-test.true c.lit-item.is c.loop-lit.invariant.certified (subst (λ (b : Basis). StepStopsAmong b (l ∷ []) step_stop) c.loop-lit.invariant.same c.in_err-cert.ensures.err))
 
 pub returns-in_err-cert-clause-kept : goal.returns-in_err-cert-clause-kept
 returns-in_err-cert-clause-kept c = c.in_err-cert.ensures.kept ∙ c.loop-lit.invariant.same

@@ -1,5 +1,5 @@
 use Rattle.e_deriv.specs.Script.{script_of}
-use Rattle.e_prove.proofs.Written.{each_written_well}
+use Rattle.e_prove.proofs.WrittenCertificates.{each_written_well}
 use Rattle.e_prove.proofs.prover.prove.Goals as goal
 
 pub returns-clause-written : goal.returns-clause-written

@@ -1,8 +1,8 @@
 use Rattle.std.proofs.Common.{◌≡◌, ◌∙◌, ap, length, arith}
 use Rattle.e_theorem.specs.Statements.{stated, all_stated}
 use Rattle.e_deriv.specs.Script.{script_of}
-use Rattle.e_prove.specs.Contexts.{goal_said}
-use Rattle.e_prove.proofs.Proving.{few_declared, given_good, made_fit, ready_at_start, goal_is, names_are}
+use Rattle.e_prove.specs.inner.StepStates.{goal_view}
+use Rattle.e_prove.proofs.WholeProofs.{few_declared, given_good, made_fit, ready_at_start, goal_is, names_are}
 use Rattle.e_prove.proofs.prover.prove_parts.Goals as goal
 
 pub first-requires-clause-few : goal.first-requires-clause-few
@@ -13,19 +13,19 @@ first-requires-clause-good c = given_good (all_stated c.args.before.now) (stated
 
 pub next_objects-requires-clause-points : goal.next_objects-requires-clause-points
 next_objects-requires-clause-points c =
-    let fit = made_fit (all_stated c.args.before.now) (stated c.args.statement.now) (script_of c.args.block.now) c.scope.result (c.scope.ensures ∙ ap (λ x. x.context.scope) c.in_ok-standing.ensures) c.requires in
+    let fit = made_fit (all_stated c.args.before.now) (stated c.args.statement.now) (script_of c.args.block.now) c.scope.result (c.scope.ensures ∙ ap (λ x. x.context.scope) c.in_ok-state.ensures) c.requires in
     let same : length c.items.result.now ≡ length c.args.statement.now.made = ap length c.items.ensures in
     omega (arith, same, fit.points)
 
 pub next_objects-requires-clause-lines : goal.next_objects-requires-clause-lines
 next_objects-requires-clause-lines c =
-    let fit = made_fit (all_stated c.args.before.now) (stated c.args.statement.now) (script_of c.args.block.now) c.scope.result (c.scope.ensures ∙ ap (λ x. x.context.scope) c.in_ok-standing.ensures) c.requires in
+    let fit = made_fit (all_stated c.args.before.now) (stated c.args.statement.now) (script_of c.args.block.now) c.scope.result (c.scope.ensures ∙ ap (λ x. x.context.scope) c.in_ok-state.ensures) c.requires in
     let same : length c.items.result.now ≡ length c.args.statement.now.made = ap length c.items.ensures in
     omega (arith, same, fit.lines)
 
 pub next_objects-requires-clause-circles : goal.next_objects-requires-clause-circles
 next_objects-requires-clause-circles c =
-    let fit = made_fit (all_stated c.args.before.now) (stated c.args.statement.now) (script_of c.args.block.now) c.scope.result (c.scope.ensures ∙ ap (λ x. x.context.scope) c.in_ok-standing.ensures) c.requires in
+    let fit = made_fit (all_stated c.args.before.now) (stated c.args.statement.now) (script_of c.args.block.now) c.scope.result (c.scope.ensures ∙ ap (λ x. x.context.scope) c.in_ok-state.ensures) c.requires in
     let same : length c.items.result.now ≡ length c.args.statement.now.made = ap length c.items.ensures in
     omega (arith, same, fit.circles)
 
@@ -33,16 +33,16 @@ pub prove_block-requires-clause-ready : goal.prove_block-requires-clause-ready
 prove_block-requires-clause-ready c =
     let t = stated c.args.statement.now in
     let same =
-    goal_is t c.items.result.now c.scope.result c.deref.result.now c.in-Ok.made.items c.items-2.result.now (c.scope.ensures ∙ ap (λ x. x.context.scope) c.in_ok-standing.ensures) c.items.ensures c.in-Ok.ensures c.deref.ensures.value
+    goal_is t c.items.result.now c.scope.result c.deref.result.now c.in-Ok.made.items c.items-2.result.now (c.scope.ensures ∙ ap (λ x. x.context.scope) c.in_ok-state.ensures) c.items.ensures c.in-Ok.ensures c.deref.ensures.value
     c.items-2.ensures
     in
-    ready_at_start (all_stated c.args.before.now) t c.args.names.now (script_of c.args.block.now) c.in_ok-standing.standing (goal_said (record { made = c.deref.result; shown = c.items-2.result })) c.in_ok-standing.ensures same c.requires
+    ready_at_start (all_stated c.args.before.now) t c.args.names.now (script_of c.args.block.now) c.in_ok-state.state (goal_view (record { made = c.deref.result; shown = c.items-2.result })) c.in_ok-state.ensures same c.requires
 
 pub returns-clause-names : goal.returns-clause-names
 returns-clause-names c =
     let t = stated c.args.statement.now in
     let same =
-    goal_is t c.items.result.now c.scope.result c.deref.result.now c.in-Ok.made.items c.items-2.result.now (c.scope.ensures ∙ ap (λ x. x.context.scope) c.in_ok-standing.ensures) c.items.ensures c.in-Ok.ensures c.deref.ensures.value
+    goal_is t c.items.result.now c.scope.result c.deref.result.now c.in-Ok.made.items c.items-2.result.now (c.scope.ensures ∙ ap (λ x. x.context.scope) c.in_ok-state.ensures) c.items.ensures c.in-Ok.ensures c.deref.ensures.value
     c.items-2.ensures
     in
-    names_are (all_stated c.args.before.now) t c.args.names.now (script_of c.args.block.now) c.in_ok-standing.standing (goal_said (record { made = c.deref.result; shown = c.items-2.result })) c.in-Err-prove_block.stop c.in_ok-standing.ensures same c.in-Err-prove_block.ensures.err
+    names_are (all_stated c.args.before.now) t c.args.names.now (script_of c.args.block.now) c.in_ok-state.state (goal_view (record { made = c.deref.result; shown = c.items-2.result })) c.in-Err-prove_block.stop c.in_ok-state.ensures same c.in-Err-prove_block.ensures.err

@@ -2,21 +2,21 @@ use Rattle.std.proofs.Common.{◌≡◌, sym, ap, ◌∙◌, subst, true}
 use Rattle.e_literal.specs.Facts.{joined}
 use Rattle.e_clause.specs.Judged.{are_good_facts}
 use Rattle.e_licence.specs.Contexts.{Basis}
-use Rattle.e_prove.specs.Contexts.{after_literal}
-use Rattle.e_prove.proofs.Holding.{unless}
-use Rattle.e_prove.proofs.Judging.{judged_hence}
+use Rattle.e_prove.specs.inner.StepStates.{after_literal}
+use Rattle.e_prove.proofs.HeldStates.{unless}
+use Rattle.e_prove.proofs.LicensedSteps.{licensed_hence}
 use Rattle.e_prove.proofs.step.hence.Goals as goal
 
 -- what is solved for the literal changes nothing that is seen
 pub returns-in_err-cert-clause-kept : goal.returns-in_err-cert-clause-kept
-returns-in_err-cert-clause-kept c = unless _ c.from_residual.result (ap (λ (b : Basis). record c.args.standing.now { context = b }) c.in_err-cert.ensures.kept)
+returns-in_err-cert-clause-kept c = unless _ c.from_residual.result (ap (λ (b : Basis). record c.args.state.now { context = b }) c.in_err-cert.ensures.kept)
 
-pub supposed-requires : goal.supposed-requires
-supposed-requires c = subst (λ (b : Basis). are_good_facts b.scope (joined b.facts c.args.lit.now) ≡ true) (sym c.in_ok-cert.ensures.kept) c.requires.after
+pub assumed-requires : goal.assumed-requires
+assumed-requires c = subst (λ (b : Basis). are_good_facts b.scope (joined b.facts c.args.lit.now) ≡ true) (sym c.in_ok-cert.ensures.kept) c.requires.after
 
 pub returns-in-Ok-clause-ok : goal.returns-in-Ok-clause-ok
 returns-in-Ok-clause-ok c before written =
-    let x = c.args.standing.now in
+    let x = c.args.state.now in
     let l = c.args.lit.now in
-    judged_hence before l c.in-Ok.lit written c.in_ok-cert.cert x _ c.in-Ok.ensures.lit c.in_ok-cert.ensures.ok c.in_ok-cert.ensures.written
+    licensed_hence before l c.in-Ok.lit written c.in_ok-cert.cert x _ c.in-Ok.ensures.lit c.in_ok-cert.ensures.ok c.in_ok-cert.ensures.written
     (c.in-Ok.ensures.after ∙ ap (λ (b : Basis). after_literal l (record x { context = b })) c.in_ok-cert.ensures.kept)

@@ -6,13 +6,13 @@ use Rattle.e_clause.specs.Certify.{certify_all}
 use Rattle.e_construct.specs.Construct.{gives}
 use Rattle.e_construct.proofs.Sizes.{few_made}
 use Rattle.e_licence.specs.Contexts.{Basis}
-use Rattle.e_prove.proofs.Contexts.{made_after, good_given}
-use Rattle.e_prove.proofs.Holding.{unless}
-use Rattle.e_prove.proofs.Judging.{judged_make}
+use Rattle.e_prove.proofs.StepStates.{made_after, good_given}
+use Rattle.e_prove.proofs.HeldStates.{unless}
+use Rattle.e_prove.proofs.LicensedSteps.{licensed_make}
 use Rattle.e_prove.proofs.step.make.Goals as goal
 
 pub returns-in_err-certs-clause-kept : goal.returns-in_err-certs-clause-kept
-returns-in_err-certs-clause-kept c = unless _ c.from_residual-in_err-certs.result (ap (λ (b : Basis). record c.args.standing.now { context = b }) c.in_err-certs.ensures.kept)
+returns-in_err-certs-clause-kept c = unless _ c.from_residual-in_err-certs.result (ap (λ (b : Basis). record c.args.state.now { context = b }) c.in_err-certs.ensures.kept)
 
 pub gives-requires-clause-points : goal.gives-requires-clause-points
 gives-requires-clause-points c =
@@ -52,18 +52,18 @@ join-requires c =
     let form = c.args.form.now in
     let sorts = c.made.result.now in
     let same = c.in_ok-certs.ensures.kept in
-    good_given form c.args.standing.now.context c.grow.new.self.context sorts c.in_ok-given.given.items c.made.ensures
+    good_given form c.args.state.now.context c.grow.new.self.context sorts c.in_ok-given.given.items c.made.ensures
     (c.in_ok-given.ensures ∙ ap (gives form) (c.scope.ensures ∙ ap (λ (b : Basis). b.scope) same))
     (c.in_ok-grow.ensures.scope ∙ ap (λ (b : Basis). record b { scope = grown b.scope sorts }) same) c.requires.after
 
 pub returns-clause-ok : goal.returns-clause-ok
 returns-clause-ok c before written =
-    let x = c.args.standing.now in
+    let x = c.args.state.now in
     let form = c.args.form.now in
     let sorts = c.made.result.now in
     let same = c.in_ok-certs.ensures.kept in
     let certs = c.in_ok-certs.certs.items in
-    judged_make before form c.in_ok-derived.derived c.args.names.now c.new.result written certs c.new-2.result c.in_ok-needs.needs.items x c.join.new.self
+    licensed_make before form c.in_ok-derived.derived c.args.names.now c.new.result written certs c.new-2.result c.in_ok-needs.needs.items x c.join.new.self
     c.in_ok-derived.ensures (c.new.ensures ∙ c.in_ok-copied.ensures.items) c.new-2.ensures c.in_ok-needs.ensures
     (subst (λ ls. IsTrue (certify_all x.context.scope x.context.facts ls certs)) c.deref.ensures.value c.in_ok-certs.ensures.ok) c.in_ok-certs.ensures.written
     (made_after form c.args.names.now x c.grow.new.self c.join.new.self sorts c.in_ok-given.given.items c.made.ensures

@@ -3,12 +3,12 @@ use Rattle.e_literal.specs.declared.object.Scope.{Scope}
 use Rattle.e_literal.specs.Scopes.{grown}
 use Rattle.e_construct.specs.Superposing as superposing
 use Rattle.e_licence.specs.Contexts.{Basis}
-use Rattle.e_prove.proofs.Contexts.{superposed_after, good_superposed}
-use Rattle.e_prove.proofs.Holding.{unless}
+use Rattle.e_prove.proofs.StepStates.{superposed_after, good_superposed}
+use Rattle.e_prove.proofs.HeldStates.{unless}
 use Rattle.e_prove.proofs.step.superpose.Goals as goal
 
 pub returns-in_err-certs-clause-kept : goal.returns-in_err-certs-clause-kept
-returns-in_err-certs-clause-kept c = unless _ c.from_residual-in_err-certs.result (ap (λ (b : Basis). record c.args.standing.now { context = b }) c.in_err-certs.ensures.kept)
+returns-in_err-certs-clause-kept c = unless _ c.from_residual-in_err-certs.result (ap (λ (b : Basis). record c.args.state.now { context = b }) c.in_err-certs.ensures.kept)
 
 pub gives-requires : goal.gives-requires
 gives-requires c =
@@ -38,7 +38,7 @@ join-requires c =
     let form = c.args.form.now in
     let sorts = c.made.result.now in
     let same = c.in_ok-certs.ensures.kept in
-    good_superposed form c.args.standing.now.context c.grow.new.self.context sorts c.in_ok-given.given.items c.made.ensures
+    good_superposed form c.args.state.now.context c.grow.new.self.context sorts c.in_ok-given.given.items c.made.ensures
     (c.in_ok-given.ensures ∙ ap (superposing.gives form) (c.scope.ensures ∙ ap (λ (b : Basis). b.scope) same))
     (c.in_ok-grow.ensures.scope ∙ ap (λ (b : Basis). record b { scope = grown b.scope sorts }) same) c.requires.after
 
@@ -47,6 +47,6 @@ returns-clause-after c =
     let form = c.args.form.now in
     let sorts = c.made.result.now in
     let same = c.in_ok-certs.ensures.kept in
-    superposed_after form c.args.names.now c.args.standing.now c.grow.new.self c.join.new.self sorts c.in_ok-given.given.items c.made.ensures
+    superposed_after form c.args.names.now c.args.state.now c.grow.new.self c.join.new.self sorts c.in_ok-given.given.items c.made.ensures
     (c.in_ok-given.ensures ∙ ap (superposing.gives form) (c.scope.ensures ∙ ap (λ (b : Basis). b.scope) same))
     (c.in_ok-grow.ensures.scope ∙ ap (λ (b : Basis). record b { scope = grown b.scope sorts }) same) c.in_ok-grow.ensures.names c.in_ok-join.ensures

@@ -1,7 +1,7 @@
 use Rattle.std.proofs.Common.{◌≡◌, ◌+ℤ◌, ◌*ℤ◌, take}
 use Rattle.e_literal.specs.declared.object.Term.{Term}
 use Rattle.e_literal.specs.Rows.{coefficient, normal_summands, plus}
-use Rattle.e_verify.specs.Totals.{at}
+use Rattle.e_verify.specs.inner.Totals.{at}
 use Rattle.e_verify.proofs.adding.add_sum.Given as goal
 
 abbrev pub invariant-loop-m : goal.invariant-loop-m

@@ -1,9 +1,8 @@
-use Rattle.std.proofs.Common.{rules, arith, refl, sym, ap, ◌∙◌, subst, true, false}
+use Rattle.std.proofs.Common.{rules, arith, refl, sym, ap, ◌∙◌, subst}
 use Rattle.e_theorem.specs.Statements.{all_stated}
 use Rattle.e_deriv.specs.declared.block.Close.TheViews.{the_lemmas}
 use Rattle.e_deriv.specs.Script.{script_of, close_script, Cite, Hence, Make, Apply}
-use Rattle.e_deriv.specs.Steps.{are_over}
-use Rattle.e_verify.specs.Standing.{goal_said}
+use Rattle.e_verify.specs.inner.Standing.{goal_said}
 use Rattle.e_verify.specs.Checking.{verdict_at, IsReadyFor, IsChecked}
 use Rattle.e_deriv.proofs.Keeping.{all_stay}
 use Rattle.e_verify.proofs.Passing.{cite_line, hence_line, make_line, apply_line, told_passed, told_bad}

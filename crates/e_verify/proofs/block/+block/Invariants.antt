@@ -1,7 +1,7 @@
 use Rattle.std.proofs.Common.{◌≡◌, drop}
 use Rattle.e_theorem.specs.Statements.{all_stated}
 use Rattle.e_deriv.specs.Script.{script_of, steps_script, close_script}
-use Rattle.e_verify.specs.Standing.{goal_said}
+use Rattle.e_verify.specs.inner.Standing.{goal_said}
 use Rattle.e_verify.specs.Checking.{verdict_at, IsReadyFor, KeepsFacts}
 use Rattle.e_verify.proofs.block.+block.Given as goal
 

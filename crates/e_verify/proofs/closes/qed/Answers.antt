@@ -3,7 +3,7 @@ use Rattle.std.specs.Prelude.{IfOk}
 use Rattle.std.specs.List.{list_all}
 use Rattle.e_literal.specs.WellFormed.{is_well_formed}
 use Rattle.e_clause.specs.Certify.{certify_all}
-use Rattle.e_verify.specs.Standing.{goal_said}
+use Rattle.e_verify.specs.inner.Standing.{goal_said}
 use Rattle.e_deriv.proofs.Sorts.{sorts_agree}
 use Rattle.e_verify.proofs.Closing.{goal_formed, qed_certified}
 use Rattle.e_verify.proofs.closes.qed.Goals as goal

@@ -1,7 +1,7 @@
 use Rattle.std.proofs.Common.{◌≡◌, ◌+◌, ◌*◌, ◌≤◌, drop}
 use Rattle.e_literal.specs.Truth.{value_of}
 use Rattle.e_literal.specs.Solution.{carried}
-use Rattle.e_verify.specs.Fingerprint.{number_of}
+use Rattle.e_verify.specs.inner.Fingerprint.{number_of}
 use Rattle.e_verify.proofs.fingerprint.weight_of.Given as goal
 
 abbrev pub invariant-loop-mono : goal.invariant-loop-mono

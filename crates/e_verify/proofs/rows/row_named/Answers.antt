@@ -2,7 +2,7 @@ use Rattle.std.specs.Option.{option_map_or, option_copied}
 use Rattle.std.proofs.Common.{true, ◌&&◌}
 use Rattle.e_literal.specs.WellFormed.{is_well_formed}
 use Rattle.e_literal.proofs.Booleans.{and_right}
-use Rattle.e_verify.specs.Small.{is_small}
+use Rattle.e_verify.specs.inner.Small.{is_small}
 use Rattle.e_verify.proofs.Smallness.{if_some}
 use Rattle.e_verify.proofs.rows.row_named.Goals as goal
 

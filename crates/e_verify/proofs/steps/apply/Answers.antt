@@ -1,4 +1,4 @@
-use Rattle.std.proofs.Common.{ap, sym, ◌∙◌, length, true, subst, ◌+◌, ◌<◌, ◌^◌}
+use Rattle.std.proofs.Common.{ap, sym, ◌∙◌, length, subst, ◌+◌, ◌<◌, ◌^◌}
 use Rattle.std.specs.Prelude.{List}
 use Rattle.std.specs.Option.{option_map}
 use Rattle.std.specs.List.{list_all}

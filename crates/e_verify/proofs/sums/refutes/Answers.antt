@@ -1,9 +1,8 @@
-use Rattle.std.proofs.Common.{◌≡◌, ap, sym, ◌∙◌, true, false, ◌&&◌, ◌||◌, SFits, to_z-of_z, rules}
+use Rattle.std.proofs.Common.{◌≡◌, ap, sym, ◌∙◌, ◌&&◌, ◌||◌, SFits, to_z-of_z, rules}
 use Rattle.std.specs.Option.{option_map}
 use mir.Syntax.{w128}
 use Rattle.e_literal.specs.Absurd.{is_good_sign, is_strict}
-use Rattle.e_clause.specs.Sum.{row_named}
-use Rattle.e_verify.specs.Views.{place_said, row_said}
+use Rattle.e_verify.specs.inner.Views.{place_said, row_said}
 use Rattle.e_verify.proofs.Summing.{not_named, bad_sign, one_added, good_multiplier, whole, all_taken}
 use Rattle.e_verify.proofs.sums.refutes.Goals as goal
 use Rattle.e_verify.proofs.sums.refutes.Goals.{then-strict, else-strict, then-strict-2, else-strict-2}

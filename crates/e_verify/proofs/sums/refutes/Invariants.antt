@@ -1,5 +1,5 @@
 use Rattle.std.proofs.Common.{take}
-use Rattle.e_verify.specs.Views.{place_said}
+use Rattle.e_verify.specs.inner.Views.{place_said}
 use Rattle.e_verify.proofs.Summing.{IsAdded}
 use Rattle.e_verify.proofs.sums.refutes.Given as goal
 

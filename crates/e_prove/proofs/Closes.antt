@@ -1,0 +1,120 @@
+-- What a qed is licensed as.
+use Rattle.std.proofs.Common.{◌≡◌, ℕ, Option, Some, List, refl, subst, true}
+use Rattle.std.specs.Prelude.{IsTrue, IfOk, IfErr}
+use Rattle.std.specs.List.{list_all}
+use Rattle.std.proofs.lemmas.Bool.{and_from}
+use Rattle.e_literal.specs.declared.object.Obj.{Obj}
+use Rattle.e_literal.specs.declared.literal.Lit.{Lit}
+use Rattle.e_literal.specs.Use.{Stated}
+use Rattle.e_clause.specs.declared.cert.Cert.{Cert}
+use Rattle.e_clause.specs.declared.cert.Against.{Against}
+use Rattle.e_clause.specs.Certify.{certify_all}
+use Rattle.e_clause.specs.Judged.{are_good}
+use Rattle.e_clause.proofs.Sound.{all_allowed_of_certified, contradictory_of_certified}
+use Rattle.e_clause.specs.Wide.{IsTooWideContradiction}
+use Rattle.e_literal.specs.declared.object.Term.{Term}
+use Rattle.e_literal.proofs.Booleans.{and_left}
+use Rattle.e_clause.specs.Written.{is_good_cert}
+use Rattle.e_licence.specs.declared.contradiction.Refuted.{Refuted}
+use Rattle.e_licence.specs.declared.contradiction.Refuted.TheVariants as refuted
+use Rattle.e_licence.specs.Licences.{IsCertifiedAgainst, IsConsistentBy, IsRefuted}
+use Rattle.e_deriv.specs.declared.block.Close.TheVariants.{Qed as QedClose, Contradiction as ContradictionClose}
+use Rattle.e_deriv.specs.declared.stop.Wanted.TheVariants.{Literal, Match, Contradiction as AContradiction}
+use Rattle.e_deriv.specs.Script.{Qed, close_script, erased}
+use Rattle.e_prove.specs.declared.step_state.StepState.{StepState}
+use Rattle.e_prove.specs.inner.PassedSteps.{IsReadyFor}
+use Rattle.e_deriv.specs.Goal.{Goal, are_for, goal_with}
+use Rattle.e_deriv.specs.Parts.{filled_by}
+use Rattle.e_deriv.specs.Lines.{lines}
+use Rattle.e_deriv.specs.Written.{has_good_certs}
+use Rattle.e_licence.specs.Contexts.{Basis}
+use Rattle.e_prove.specs.declared.step_stop.StepStop.{StepStop}
+use Rattle.e_prove.specs.declared.step_stop.StepStop.TheVariants as step_stop
+use Rattle.e_prove.specs.inner.StopsOfSteps.{StepStopsAmong, contradiction_by}
+use Rattle.e_prove.specs.inner.LicensedSteps.{IsClosed, IsStopOfClose}
+
+-- what a qed that is ready says
+pub record QedFits (objects : List Obj) (x : Basis) (goal : Goal) : Type 0 where
+  pub form : are_for goal x.scope objects ≡ true
+  pub lits : are_good x.scope (goal_with goal objects) ≡ true
+
+qed_lines : (before : List Stated) (objects : List Obj) (certs : List Cert) (x : StepState) (goal : Goal) → IsReadyFor before (Qed objects certs) x goal → QedFits objects x.context goal
+unfolding lines
+qed_lines before objects certs x goal r =
+    let form = and_left (are_for goal x.context.scope objects) true r.forms in
+    record { form = form; lits = ((r.lits (Qed objects certs)).1 form).0 }
+
+pub qed_fits : (before : List Stated) (objects : List Obj) (certs : List Cert) (x : StepState) (goal : Goal) → IsReadyFor before (close_script (QedClose objects certs)) x goal → QedFits objects x.context goal
+unfolding close_script
+qed_fits before objects certs x goal r = qed_lines before objects certs x goal r
+
+closed_by : (before : List Stated) (objects : List Obj) (written certs : List Cert) (x : Basis) (goal : Goal) → are_for goal x.scope objects ≡ true →
+    IsTrue (certify_all x.scope x.facts (goal_with goal objects) certs) → IsTrue (list_all is_good_cert certs) → IsClosed before (QedClose objects written) x goal (QedClose objects certs)
+unfolding lines erased filled_by close_script has_good_certs
+closed_by before objects written certs x goal form h g =
+    record {
+      licensed = (record { fits = form; allowed = all_allowed_of_certified x.scope x.facts (goal_with goal objects) certs h; beside = tt }, tt);
+      certified = and_from _ _ (and_from _ _ form (and_from _ _ h refl)) refl;
+      erased = refl;
+      written = g;
+    }
+
+-- a qed of which each literal has its certificate
+pub closed_qed : (before : List Stated) (objects kept : List Obj) (written certs given : List Cert) (wanted : List Lit) (x : Basis) (goal : Goal) →
+    kept ≡ objects → given ≡ certs → wanted ≡ goal_with goal objects → are_for goal x.scope objects ≡ true → IsTrue (certify_all x.scope x.facts wanted certs) →
+    IsTrue (list_all is_good_cert certs) → IsClosed before (QedClose objects written) x goal (QedClose kept given)
+closed_qed before objects kept written certs given wanted x goal same these all form h g =
+    rw (same, these) (closed_by before objects written certs x goal form (subst (λ ls. certify_all x.scope x.facts ls certs ≡ true) all h) g)
+
+qed_stops_by : (before : List Stated) (objects : List Obj) (written : List Cert) (x : Basis) (goal : Goal) (h : StepStop) → StepStopsAmong x (goal_with goal objects) h →
+    IsStopOfClose before (QedClose objects written) x goal h
+unfolding close_script
+qed_stops_by before objects written x goal (step_stop.Lacks (Literal l) values) k filled = (k.0, k.1)
+qed_stops_by before objects written x goal (step_stop.Lacks Match values) k filled = absurd k
+qed_stops_by before objects written x goal (step_stop.Lacks AContradiction values) k filled = absurd k
+qed_stops_by before objects written x goal (step_stop.TooWide (Literal l) width) k filled = (k.0, k.1)
+qed_stops_by before objects written x goal (step_stop.TooWide Match width) k filled = absurd k
+qed_stops_by before objects written x goal (step_stop.TooWide AContradiction width) k filled = absurd k
+qed_stops_by before objects written x goal step_stop.NoMemory k filled = tt
+
+-- where licensing the literals of its goal stops, the qed does
+pub qed_stops : (before : List Stated) (objects : List Obj) (written : List Cert) (wanted : List Lit) (x : Basis) (goal : Goal) (h : StepStop) → wanted ≡ goal_with goal objects → StepStopsAmong x wanted h →
+    IsStopOfClose before (QedClose objects written) x goal h
+qed_stops before objects written wanted x goal h all k = qed_stops_by before objects written x goal h (subst (λ ls. StepStopsAmong x ls h) all k)
+
+-- a contradiction with its certificate
+closed_by_against : (before : List Stated) (written : Option Against) (a : Against) (x : Basis) (goal : Goal) → IsCertifiedAgainst x a →
+    IsClosed before (ContradictionClose written) x goal (ContradictionClose (Some a))
+unfolding lines erased filled_by close_script has_good_certs
+closed_by_against before written a x goal h =
+    record {
+      licensed = (record { fits = refl; allowed = tt; beside = contradictory_of_certified x.scope x.facts a h.certifies }, tt);
+      certified = and_from _ _ h.certifies refl;
+      erased = refl;
+      written = h.written;
+    }
+
+-- facts that do not contradict each other
+contradiction_lacks : (before : List Stated) (written : Option Against) (x : Basis) (goal : Goal) (values : List (Term × ℕ)) → IsConsistentBy x.facts values →
+    IsStopOfClose before (ContradictionClose written) x goal (step_stop.Lacks AContradiction (Some values))
+unfolding close_script
+contradiction_lacks before written x goal values h filled = (h.not_contradictory, h.shown)
+
+-- or one that is too wide
+contradiction_wide : (before : List Stated) (written : Option Against) (x : Basis) (goal : Goal) (width : ℕ) → IsTooWideContradiction x.facts width →
+    IsStopOfClose before (ContradictionClose written) x goal (step_stop.TooWide AContradiction width)
+unfolding close_script
+contradiction_wide before written x goal width h filled = h
+
+-- what the answer on a contradiction makes of the close is right
+pub closed_so : (x : Basis) (a : Refuted) → IsRefuted x a →
+    IfOk (contradiction_by a) (λ d. (before : List Stated) (goal : Goal) (written : Option Against) → IsClosed before (ContradictionClose written) x goal d)
+closed_so x (refuted.Yes against) h = λ before goal written. closed_by_against before written against x goal h
+closed_so x (refuted.No values) h = tt
+closed_so x (refuted.TooWide width) h = tt
+
+pub stopped_so : (x : Basis) (a : Refuted) → IsRefuted x a →
+    IfErr (contradiction_by a) (λ h. (before : List Stated) (goal : Goal) (written : Option Against) → IsStopOfClose before (ContradictionClose written) x goal h)
+stopped_so x (refuted.Yes against) h = tt
+stopped_so x (refuted.No values) h = λ before goal written. contradiction_lacks before written x goal values h
+stopped_so x (refuted.TooWide width) h = λ before goal written. contradiction_wide before written x goal width h

@@ -1,0 +1,420 @@
+-- Claims, superpositions and splits, whose blocks are licensed.
+use Rattle.std.proofs.Common.{◌≡◌, ℕ, ◌+◌, List, [], ◌++◌, refl, ap₂, subst, Bool, true, arith}
+use Rattle.std.specs.Prelude.{IsTrue}
+use Rattle.std.specs.List.{list_all}
+use Rattle.std.proofs.lemmas.Bool.{and_from}
+use Rattle.e_literal.specs.declared.literal.Lit.{Lit}
+use Rattle.e_literal.specs.Literal.{negation, all_in_scope}
+use Rattle.e_literal.specs.Facts.{joined, joined_all}
+use Rattle.e_literal.specs.Scopes.{grown}
+use Rattle.e_literal.specs.Use.{Stated}
+use Rattle.e_literal.proofs.Booleans.{and_left, and_right, all_left, all_right}
+use Rattle.e_clause.specs.declared.cert.Cert.{Cert}
+use Rattle.e_clause.specs.Certify.{certify_all}
+use Rattle.e_clause.specs.Judged.{are_good}
+use Rattle.e_clause.proofs.Sound.{all_allowed_of_certified}
+use Rattle.e_clause.specs.Written.{is_good_cert}
+use Rattle.e_construct.specs.declared.superpose.Superpose.{Superpose}
+use Rattle.e_construct.specs.Superposing as superposing
+use Rattle.e_deriv.specs.declared.stop.Stop.{Stop}
+use Rattle.e_deriv.specs.Script.{Script, Claim, Superposed, Cases, size, erased}
+use Rattle.e_deriv.specs.Goal.{Goal, goal_of}
+use Rattle.e_deriv.specs.Lines.{Line, lines}
+use Rattle.e_deriv.specs.Steps.{are_over}
+use Rattle.e_deriv.specs.Naming.{named, names_lines}
+use Rattle.e_deriv.specs.Licensed.{Licensed}
+use Rattle.e_deriv.specs.Certified.{is_certified}
+use Rattle.e_deriv.specs.Parts.{filled_by}
+use Rattle.e_deriv.specs.Fitting.{is_small}
+use Rattle.e_deriv.proofs.Agreement.{both_licensed}
+use Rattle.e_deriv.proofs.Stops.{lines_length}
+use Rattle.e_prove.specs.declared.step_stop.StepStop.{StepStop}
+use Rattle.e_prove.specs.declared.step_stop.StepStop.TheVariants as step_stop
+use Rattle.e_deriv.specs.declared.stop.Wanted.TheVariants.{Literal, Match, Contradiction}
+use Rattle.e_prove.specs.declared.step_state.StepState.{StepState}
+use Rattle.e_prove.specs.inner.StepStates.{after_literal, after_superposed, after_block}
+use Rattle.e_prove.specs.inner.StopsOfSteps.{StepStopsAt, StepStopsAmong}
+use Rattle.e_prove.specs.inner.LicensedSteps.{line_at, has_form}
+use Rattle.e_prove.specs.inner.PassedSteps.{IsReadyFor, IsDerived, StopIn, StopsWithin, IsPassed}
+use Rattle.e_prove.proofs.StopsInLists.{stop_after, stop_left, stop_right, names_length, all_both, lits_first, lits_second}
+use Rattle.e_deriv.specs.Written.{has_good_certs}
+
+-- few objects are in scope before the step
+abbrev few_before : Line → Bool
+few_before y = is_small y.scope
+
+-- ---- a claim
+
+-- what the steps of a claim say of its block and of what comes after it
+pub record ClaimReady (before : List Stated) (shown : List Lit) (inner : Script) (x : StepState) : Type 0 where
+  pub over : are_over x.context.scope shown ≡ true
+  pub block : IsReadyFor before inner x (goal_of shown)
+
+pub claim_ready : (before : List Stated) (shown : List Lit) (inner rest : Script) (x : StepState) (goal : Goal) → IsReadyFor before (Claim shown inner rest) x goal → ClaimReady before shown inner x
+unfolding lines
+claim_ready before shown inner rest x goal r =
+    let s = x.context.scope in
+    let facts = x.context.facts in
+    let y = line_at (Claim shown inner rest) (Claim shown inner rest) x.context goal in
+    let one = lines before inner inner s facts (goal_of shown) in
+    let other = lines before rest rest s (joined_all facts shown) goal in
+    let over = and_left (has_form before y) (list_all (has_form before) (one ++ other)) r.forms in
+    record {
+      over = over;
+      block = record {
+        forms = all_left (has_form before) one other (and_right (has_form before y) (list_all (has_form before) (one ++ other)) r.forms);
+        lits = λ w. lits_first before (lines before inner w s facts (goal_of shown)) other ((r.lits (Claim shown w rest)).1 over).1;
+        scopes = all_left few_before one other (and_right (few_before y) (list_all few_before (one ++ other)) r.scopes);
+        statements = r.statements;
+      };
+    }
+
+pub claim_rest : (before : List Stated) (shown : List Lit) (inner derived rest : Script) (x : StepState) (goal : Goal) → IsDerived before inner x (goal_of shown) derived → IsReadyFor before (Claim shown inner rest) x goal →
+    IsReadyFor before rest (after_block shown x) goal
+unfolding lines
+claim_rest before shown inner derived rest x goal d r =
+    let s = x.context.scope in
+    let facts = x.context.facts in
+    let y = line_at (Claim shown inner rest) (Claim shown inner rest) x.context goal in
+    let one = lines before inner inner s facts (goal_of shown) in
+    let other = lines before rest rest s (joined_all facts shown) goal in
+    let over = and_left (has_form before y) (list_all (has_form before) (one ++ other)) r.forms in
+    record {
+      forms = all_right (has_form before) one other (and_right (has_form before y) (list_all (has_form before) (one ++ other)) r.forms);
+      lits = λ w. lits_second before (lines before inner derived s facts (goal_of shown)) (lines before rest w s (joined_all facts shown) goal) d.licensed ((r.lits (Claim shown derived w)).1 over).1;
+      scopes = all_right few_before one other (and_right (few_before y) (list_all few_before (one ++ other)) r.scopes);
+      statements = r.statements;
+    }
+
+claim_derives : (before : List Stated) (shown : List Lit) (inner derived rest more : Script) (x : StepState) (goal : Goal) → are_over x.context.scope shown ≡ true → IsDerived before inner x (goal_of shown) derived →
+    IsDerived before rest (after_block shown x) goal more → IsDerived before (Claim shown inner rest) x goal (Claim shown derived more)
+unfolding lines erased filled_by has_good_certs
+claim_derives before shown inner derived rest more x goal over d m =
+    let s = x.context.scope in
+    let facts = x.context.facts in
+    record {
+      licensed = (
+        record { fits = over; allowed = tt; beside = tt },
+        both_licensed before (lines before inner derived s facts (goal_of shown)) (lines before rest more s (joined_all facts shown) goal) d.licensed m.licensed,
+      );
+      certified =
+          and_from _ _ (and_from _ _ over refl)
+          (all_both (is_certified before) (lines before derived derived s facts (goal_of shown)) (lines before more more s (joined_all facts shown) goal) d.certified m.certified);
+      erased = ap₂ (Claim shown) d.erased m.erased;
+      written = and_from _ _ d.written m.written;
+    }
+
+-- a stop in its block
+pub claim_stops : (before : List Stated) (shown : List Lit) (inner rest : Script) (x : StepState) (goal : Goal) (n : ℕ) (stop : Stop) → are_over x.context.scope shown ≡ true →
+    StopsWithin before inner x (goal_of shown) (n + 1) stop → StopsWithin before (Claim shown inner rest) x goal n stop
+unfolding lines names_lines
+claim_stops before shown inner rest x goal n stop over k =
+    let s = x.context.scope in
+    let facts = x.context.facts in
+    let one = lines before inner k.filled s facts (goal_of shown) in
+    let other = lines before rest rest s (joined_all facts shown) goal in
+    let ns = names_lines before x.names inner in
+    let ms = names_lines before x.names rest in
+    record {
+      filled = Claim shown k.filled rest;
+      stops =
+          stop_after before (line_at (Claim shown inner rest) (Claim shown k.filled rest) x.context goal) (one ++ other) x.names (ns ++ ms) n stop (record { fits = over; allowed = tt; beside = tt })
+          (stop_left before one other ns ms (n + 1) stop k.stops);
+    }
+
+-- a stop after it
+claim_later : (before : List Stated) (shown : List Lit) (inner derived rest : Script) (x : StepState) (goal : Goal) (n next : ℕ) (stop : Stop) → are_over x.context.scope shown ≡ true →
+    IsDerived before inner x (goal_of shown) derived → next ≡ n + 1 + size inner → StopsWithin before rest (after_block shown x) goal next stop → StopsWithin before (Claim shown inner rest) x goal n stop
+unfolding lines names_lines
+claim_later before shown inner derived rest x goal n next stop over d count k =
+    let s = x.context.scope in
+    let facts = x.context.facts in
+    let one = lines before inner derived s facts (goal_of shown) in
+    let other = lines before rest k.filled s (joined_all facts shown) goal in
+    let ns = names_lines before x.names inner in
+    let ms = names_lines before x.names rest in
+    record {
+      filled = Claim shown derived k.filled;
+      stops =
+          stop_after before (line_at (Claim shown inner rest) (Claim shown derived k.filled) x.context goal) (one ++ other) x.names (ns ++ ms) n stop (record { fits = over; allowed = tt; beside = tt })
+          (stop_right before one other ns ms (size inner) (n + 1) stop (lines_length before inner derived s facts (goal_of shown)) (names_length before x.names inner) d.licensed
+          (subst (λ m. StopIn before other ms m stop) count k.stops));
+    }
+
+claim_size : (shown : List Lit) (inner rest : Script) → size (Claim shown inner rest) ≡ 1 + size inner + size rest
+unfolding size
+claim_size shown inner rest = refl
+
+pub passed_claim : (before : List Stated) (shown : List Lit) (inner derived : Script) (x : StepState) (n next : ℕ) → are_over x.context.scope shown ≡ true → IsDerived before inner x (goal_of shown) derived →
+    next ≡ n + 1 + size inner → IsPassed before (Claim shown inner) x n (Claim shown derived) (after_block shown x) next
+passed_claim before shown inner derived x n next over d count =
+    record {
+      ready = λ rest goal r. claim_rest before shown inner derived rest x goal d r;
+      derives = λ rest more goal r m. claim_derives before shown inner derived rest more x goal over d m;
+      stops = λ rest goal stop r k. claim_later before shown inner derived rest x goal n next stop over d count k;
+      number = λ rest. let e = claim_size shown inner rest in omega (arith, e, count);
+      kept = refl;
+    }
+
+-- ---- a superposition
+
+-- what its steps say of it, of its block and of what comes after it
+pub record SuperposedReady (before : List Stated) (form : Superpose) (names : List (List ℕ)) (shown : List Lit) (inner : Script) (x : StepState) : Type 0 where
+  pub fits : superposing.fits form x.context.scope ≡ true
+  pub over : are_over x.context.scope shown ≡ true
+  pub needs : are_good x.context.scope (superposing.needs form) ≡ true
+  pub block : IsReadyFor before inner (after_superposed form names x) (goal_of shown)
+  pub scope : is_small x.context.scope ≡ true
+
+pub superposed_ready : (before : List Stated) (form : Superpose) (names : List (List ℕ)) (shown : List Lit) (certs : List Cert) (inner rest : Script) (x : StepState) (goal : Goal) →
+    IsReadyFor before (Superposed form names shown certs inner rest) x goal → SuperposedReady before form names shown inner x
+unfolding lines
+superposed_ready before form names shown certs inner rest x goal r =
+    let s = x.context.scope in
+    let facts = x.context.facts in
+    let here = Superposed form names shown certs inner rest in
+    let y = line_at here here x.context goal in
+    let t = grown s superposing.made in
+    let given = joined_all facts (superposing.gives form s) in
+    let one = lines before inner inner t given (goal_of shown) in
+    let other = lines before rest rest s (joined_all facts shown) goal in
+    let form_fits = and_left (has_form before y) (list_all (has_form before) (one ++ other)) r.forms in
+    record {
+      fits = and_left (superposing.fits form s) (are_over s shown) form_fits;
+      over = and_right (superposing.fits form s) (are_over s shown) form_fits;
+      needs = ((r.lits here).1 form_fits).0;
+      block = record {
+        forms = all_left (has_form before) one other (and_right (has_form before y) (list_all (has_form before) (one ++ other)) r.forms);
+        lits = λ w. lits_first before (lines before inner w t given (goal_of shown)) other ((r.lits (Superposed form names shown certs w rest)).1 form_fits).1;
+        scopes = all_left few_before one other (and_right (few_before y) (list_all few_before (one ++ other)) r.scopes);
+        statements = r.statements;
+      };
+      scope = and_left (few_before y) (list_all few_before (one ++ other)) r.scopes;
+    }
+
+pub superposed_rest : (before : List Stated) (form : Superpose) (names : List (List ℕ)) (shown : List Lit) (certs : List Cert) (inner derived rest : Script) (x : StepState) (goal : Goal) →
+    IsDerived before inner (after_superposed form names x) (goal_of shown) derived → IsReadyFor before (Superposed form names shown certs inner rest) x goal → IsReadyFor before rest (after_block shown x) goal
+unfolding lines
+superposed_rest before form names shown certs inner derived rest x goal d r =
+    let s = x.context.scope in
+    let facts = x.context.facts in
+    let here = Superposed form names shown certs inner rest in
+    let y = line_at here here x.context goal in
+    let t = grown s superposing.made in
+    let given = joined_all facts (superposing.gives form s) in
+    let one = lines before inner inner t given (goal_of shown) in
+    let other = lines before rest rest s (joined_all facts shown) goal in
+    let form_fits = and_left (has_form before y) (list_all (has_form before) (one ++ other)) r.forms in
+    record {
+      forms = all_right (has_form before) one other (and_right (has_form before y) (list_all (has_form before) (one ++ other)) r.forms);
+      lits = λ w.
+          lits_second before (lines before inner derived t given (goal_of shown)) (lines before rest w s (joined_all facts shown) goal) d.licensed
+          ((r.lits (Superposed form names shown certs derived w)).1 form_fits).1;
+      scopes = all_right few_before one other (and_right (few_before y) (list_all few_before (one ++ other)) r.scopes);
+      statements = r.statements;
+    }
+
+-- it is certified where its needs are, by certificates that name literals that are well formed
+abbrev pub Certifies : Superpose → StepState → List Cert → Type 0
+Certifies form x certs = IsTrue (certify_all x.context.scope x.context.facts (superposing.needs form) certs) × IsTrue (list_all is_good_cert certs)
+
+superposed_licensed : (before : List Stated) (form : Superpose) (names : List (List ℕ)) (shown : List Lit) (written certs : List Cert) (inner rest f : Script) (x : StepState) (goal : Goal) →
+    superposing.fits form x.context.scope ≡ true → are_over x.context.scope shown ≡ true → Certifies form x certs →
+    Licensed before (line_at (Superposed form names shown written inner rest) f x.context goal)
+superposed_licensed before form names shown written certs inner rest f x goal fit over c =
+    record { fits = and_from _ _ fit over; allowed = all_allowed_of_certified x.context.scope x.context.facts (superposing.needs form) certs c.0; beside = tt }
+
+superposed_derives : (before : List Stated) (form : Superpose) (names : List (List ℕ)) (shown : List Lit) (written certs : List Cert) (inner derived rest more : Script) (x : StepState) (goal : Goal) →
+    superposing.fits form x.context.scope ≡ true → are_over x.context.scope shown ≡ true → Certifies form x certs → IsDerived before inner (after_superposed form names x) (goal_of shown) derived →
+    IsDerived before rest (after_block shown x) goal more → IsDerived before (Superposed form names shown written inner rest) x goal (Superposed form names shown certs derived more)
+unfolding lines erased filled_by has_good_certs
+superposed_derives before form names shown written certs inner derived rest more x goal fit over c d m =
+    let s = x.context.scope in
+    let facts = x.context.facts in
+    let t = grown s superposing.made in
+    let given = joined_all facts (superposing.gives form s) in
+    record {
+      licensed = (
+        superposed_licensed before form names shown written certs inner rest (Superposed form names shown certs derived more) x goal fit over c,
+        both_licensed before (lines before inner derived t given (goal_of shown)) (lines before rest more s (joined_all facts shown) goal) d.licensed m.licensed,
+      );
+      certified =
+          and_from _ _ (and_from _ _ (and_from _ _ fit over) (and_from _ _ c.0 refl))
+          (all_both (is_certified before) (lines before derived derived t given (goal_of shown)) (lines before more more s (joined_all facts shown) goal) d.certified m.certified);
+      erased = ap₂ (Superposed form names shown []) d.erased m.erased;
+      written = and_from _ _ c.1 (and_from _ _ d.written m.written);
+    }
+
+-- a stop in its block
+pub superposed_stops : (before : List Stated) (form : Superpose) (names : List (List ℕ)) (shown : List Lit) (written certs : List Cert) (inner rest : Script) (x : StepState) (goal : Goal) (n : ℕ) (stop : Stop) →
+    superposing.fits form x.context.scope ≡ true → are_over x.context.scope shown ≡ true → Certifies form x certs →
+    StopsWithin before inner (after_superposed form names x) (goal_of shown) (n + 1) stop → StopsWithin before (Superposed form names shown written inner rest) x goal n stop
+unfolding lines names_lines
+superposed_stops before form names shown written certs inner rest x goal n stop fit over c k =
+    let s = x.context.scope in
+    let facts = x.context.facts in
+    let t = grown s superposing.made in
+    let given = joined_all facts (superposing.gives form s) in
+    let one = lines before inner k.filled t given (goal_of shown) in
+    let other = lines before rest rest s (joined_all facts shown) goal in
+    let ns = names_lines before (named x.names superposing.made names) inner in
+    let ms = names_lines before x.names rest in
+    let f = Superposed form names shown certs k.filled rest in
+    record {
+      filled = f;
+      stops =
+          stop_after before (line_at (Superposed form names shown written inner rest) f x.context goal) (one ++ other) x.names (ns ++ ms) n stop
+          (superposed_licensed before form names shown written certs inner rest f x goal fit over c) (stop_left before one other ns ms (n + 1) stop k.stops);
+    }
+
+superposed_later : (before : List Stated) (form : Superpose) (names : List (List ℕ)) (shown : List Lit) (written certs : List Cert) (inner derived rest : Script) (x : StepState) (goal : Goal) (n next : ℕ) (stop : Stop) →
+    superposing.fits form x.context.scope ≡ true → are_over x.context.scope shown ≡ true → Certifies form x certs → IsDerived before inner (after_superposed form names x) (goal_of shown) derived →
+    next ≡ n + 1 + size inner → StopsWithin before rest (after_block shown x) goal next stop → StopsWithin before (Superposed form names shown written inner rest) x goal n stop
+unfolding lines names_lines
+superposed_later before form names shown written certs inner derived rest x goal n next stop fit over c d count k =
+    let s = x.context.scope in
+    let facts = x.context.facts in
+    let t = grown s superposing.made in
+    let given = joined_all facts (superposing.gives form s) in
+    let one = lines before inner derived t given (goal_of shown) in
+    let other = lines before rest k.filled s (joined_all facts shown) goal in
+    let inside = named x.names superposing.made names in
+    let ns = names_lines before inside inner in
+    let ms = names_lines before x.names rest in
+    let f = Superposed form names shown certs derived k.filled in
+    record {
+      filled = f;
+      stops =
+          stop_after before (line_at (Superposed form names shown written inner rest) f x.context goal) (one ++ other) x.names (ns ++ ms) n stop
+          (superposed_licensed before form names shown written certs inner rest f x goal fit over c)
+          (stop_right before one other ns ms (size inner) (n + 1) stop (lines_length before inner derived t given (goal_of shown)) (names_length before inside inner) d.licensed
+          (subst (λ m. StopIn before other ms m stop) count k.stops));
+    }
+
+superposed_size : (form : Superpose) (names : List (List ℕ)) (shown : List Lit) (certs : List Cert) (inner rest : Script) → size (Superposed form names shown certs inner rest) ≡ 1 + size inner + size rest
+unfolding size
+superposed_size form names shown certs inner rest = refl
+
+pub passed_superposed : (before : List Stated) (form : Superpose) (names : List (List ℕ)) (shown : List Lit) (written certs : List Cert) (inner derived : Script) (x : StepState) (n next : ℕ) →
+    superposing.fits form x.context.scope ≡ true → are_over x.context.scope shown ≡ true → Certifies form x certs → IsDerived before inner (after_superposed form names x) (goal_of shown) derived →
+    next ≡ n + 1 + size inner → IsPassed before (Superposed form names shown written inner) x n (Superposed form names shown certs derived) (after_block shown x) next
+passed_superposed before form names shown written certs inner derived x n next fit over c d count =
+    record {
+      ready = λ rest goal r. superposed_rest before form names shown written inner derived rest x goal d r;
+      derives = λ rest more goal r m. superposed_derives before form names shown written certs inner derived rest more x goal fit over c d m;
+      stops = λ rest goal stop r k. superposed_later before form names shown written certs inner derived rest x goal n next stop fit over c d count k;
+      number = λ rest. let e = superposed_size form names shown written inner rest in omega (arith, e, count);
+      kept = refl;
+    }
+
+-- what stops at its needs
+pub superposed_step_stops : (before : List Stated) (form : Superpose) (names : List (List ℕ)) (shown : List Lit) (written : List Cert) (inner rest f : Script) (x : StepState) (goal : Goal) (h : StepStop) → StepStopsAmong x.context (superposing.needs form) h →
+    StepStopsAt before (line_at (Superposed form names shown written inner rest) f x.context goal) h
+superposed_step_stops before form names shown written inner rest f x goal (step_stop.Lacks (Literal l) values) k = k
+superposed_step_stops before form names shown written inner rest f x goal (step_stop.Lacks Match values) k = absurd k
+superposed_step_stops before form names shown written inner rest f x goal (step_stop.Lacks Contradiction values) k = absurd k
+superposed_step_stops before form names shown written inner rest f x goal (step_stop.TooWide (Literal l) width) k = k
+superposed_step_stops before form names shown written inner rest f x goal (step_stop.TooWide Match width) k = absurd k
+superposed_step_stops before form names shown written inner rest f x goal (step_stop.TooWide Contradiction width) k = absurd k
+superposed_step_stops before form names shown written inner rest f x goal step_stop.NoMemory k = tt
+
+-- ---- a split
+
+pub record SplitReady (before : List Stated) (lit : Lit) (first : Script) (x : StepState) (goal : Goal) : Type 0 where
+  pub over : all_in_scope x.context.scope lit ≡ true
+  pub one : IsReadyFor before first (after_literal lit x) goal
+
+pub split_ready : (before : List Stated) (lit : Lit) (first second : Script) (x : StepState) (goal : Goal) → IsReadyFor before (Cases lit first second) x goal → SplitReady before lit first x goal
+unfolding lines
+split_ready before lit first second x goal r =
+    let s = x.context.scope in
+    let facts = x.context.facts in
+    let y = line_at (Cases lit first second) (Cases lit first second) x.context goal in
+    let one = lines before first first s (joined facts lit) goal in
+    let other = lines before second second s (joined facts (negation lit)) goal in
+    let over = and_left (has_form before y) (list_all (has_form before) (one ++ other)) r.forms in
+    record {
+      over = over;
+      one = record {
+        forms = all_left (has_form before) one other (and_right (has_form before y) (list_all (has_form before) (one ++ other)) r.forms);
+        lits = λ w. lits_first before (lines before first w s (joined facts lit) goal) other ((r.lits (Cases lit w second)).1 over).1;
+        scopes = all_left few_before one other (and_right (few_before y) (list_all few_before (one ++ other)) r.scopes);
+        statements = r.statements;
+      };
+    }
+
+-- the second block, where the first is derived
+pub split_other : (before : List Stated) (lit : Lit) (first second derived : Script) (x : StepState) (goal : Goal) → IsDerived before first (after_literal lit x) goal derived → IsReadyFor before (Cases lit first second) x goal →
+    IsReadyFor before second (after_literal (negation lit) x) goal
+unfolding lines
+split_other before lit first second derived x goal d r =
+    let s = x.context.scope in
+    let facts = x.context.facts in
+    let y = line_at (Cases lit first second) (Cases lit first second) x.context goal in
+    let one = lines before first first s (joined facts lit) goal in
+    let other = lines before second second s (joined facts (negation lit)) goal in
+    let over = and_left (has_form before y) (list_all (has_form before) (one ++ other)) r.forms in
+    record {
+      forms = all_right (has_form before) one other (and_right (has_form before y) (list_all (has_form before) (one ++ other)) r.forms);
+      lits = λ w. lits_second before (lines before first derived s (joined facts lit) goal) (lines before second w s (joined facts (negation lit)) goal) d.licensed ((r.lits (Cases lit derived w)).1 over).1;
+      scopes = all_right few_before one other (and_right (few_before y) (list_all few_before (one ++ other)) r.scopes);
+      statements = r.statements;
+    }
+
+pub split_derives : (before : List Stated) (lit : Lit) (first second one other : Script) (x : StepState) (goal : Goal) → all_in_scope x.context.scope lit ≡ true → IsDerived before first (after_literal lit x) goal one →
+    IsDerived before second (after_literal (negation lit) x) goal other → IsDerived before (Cases lit first second) x goal (Cases lit one other)
+unfolding lines erased filled_by has_good_certs
+split_derives before lit first second one other x goal over d e =
+    let s = x.context.scope in
+    let facts = x.context.facts in
+    record {
+      licensed = (
+        record { fits = over; allowed = tt; beside = tt },
+        both_licensed before (lines before first one s (joined facts lit) goal) (lines before second other s (joined facts (negation lit)) goal) d.licensed e.licensed,
+      );
+      certified =
+          and_from _ _ (and_from _ _ over refl)
+          (all_both (is_certified before) (lines before one one s (joined facts lit) goal) (lines before other other s (joined facts (negation lit)) goal) d.certified e.certified);
+      erased = ap₂ (Cases lit) d.erased e.erased;
+      written = and_from _ _ d.written e.written;
+    }
+
+-- a stop in the first block
+pub split_first : (before : List Stated) (lit : Lit) (first second : Script) (x : StepState) (goal : Goal) (n : ℕ) (stop : Stop) → all_in_scope x.context.scope lit ≡ true →
+    StopsWithin before first (after_literal lit x) goal (n + 1) stop → StopsWithin before (Cases lit first second) x goal n stop
+unfolding lines names_lines
+split_first before lit first second x goal n stop over k =
+    let s = x.context.scope in
+    let facts = x.context.facts in
+    let one = lines before first k.filled s (joined facts lit) goal in
+    let other = lines before second second s (joined facts (negation lit)) goal in
+    let ns = names_lines before x.names first in
+    let ms = names_lines before x.names second in
+    let f = Cases lit k.filled second in
+    record {
+      filled = f;
+      stops =
+          stop_after before (line_at (Cases lit first second) f x.context goal) (one ++ other) x.names (ns ++ ms) n stop (record { fits = over; allowed = tt; beside = tt })
+          (stop_left before one other ns ms (n + 1) stop k.stops);
+    }
+
+-- and in the second, where the first is derived
+pub split_second : (before : List Stated) (lit : Lit) (first second derived : Script) (x : StepState) (goal : Goal) (n next : ℕ) (stop : Stop) → all_in_scope x.context.scope lit ≡ true →
+    IsDerived before first (after_literal lit x) goal derived → next ≡ n + 1 + size first → StopsWithin before second (after_literal (negation lit) x) goal next stop →
+    StopsWithin before (Cases lit first second) x goal n stop
+unfolding lines names_lines
+split_second before lit first second derived x goal n next stop over d count k =
+    let s = x.context.scope in
+    let facts = x.context.facts in
+    let one = lines before first derived s (joined facts lit) goal in
+    let other = lines before second k.filled s (joined facts (negation lit)) goal in
+    let ns = names_lines before x.names first in
+    let ms = names_lines before x.names second in
+    let f = Cases lit derived k.filled in
+    record {
+      filled = f;
+      stops =
+          stop_after before (line_at (Cases lit first second) f x.context goal) (one ++ other) x.names (ns ++ ms) n stop (record { fits = over; allowed = tt; beside = tt })
+          (stop_right before one other ns ms (size first) (n + 1) stop (lines_length before first derived s (joined facts lit) goal) (names_length before x.names first) d.licensed
+          (subst (λ m. StopIn before other ms m stop) count k.stops));
+    }

@@ -1,0 +1,89 @@
+-- What a step is licensed as.
+use Rattle.std.proofs.Common.{◌≡◌, ℕ, List, [], refl, ap, subst, true, Option, Some, None}
+use Rattle.std.specs.Prelude.{IsTrue}
+use Rattle.std.specs.List.{list_all}
+use Rattle.std.proofs.lemmas.Bool.{and_from}
+use Rattle.e_literal.specs.declared.literal.Lit.{Lit}
+use Rattle.e_literal.specs.Use.{Stated}
+use Rattle.e_construct.specs.declared.construction.Construction.{Construction}
+use Rattle.e_construct.specs.Construct.{needs}
+use Rattle.e_clause.specs.declared.cert.By.{By}
+use Rattle.e_clause.specs.declared.cert.Cert.{Cert}
+use Rattle.e_clause.specs.Certify.{certifies, certify_all}
+use Rattle.e_clause.proofs.Sound.{allowed_of_certified, all_allowed_of_certified}
+use Rattle.e_deriv.specs.declared.block.Step.TheVariants.{Cite as CiteStep, Hence as HenceStep, Make as MakeStep}
+use Rattle.e_deriv.specs.Script.{Cite, Hence, Make, step_script, erased}
+use Rattle.e_deriv.specs.Parts.{filled_by}
+use Rattle.e_deriv.specs.Lines.{lines}
+use Rattle.e_deriv.specs.Steps.{is_cited}
+use Rattle.e_deriv.specs.Naming.{names_lines}
+use Rattle.e_clause.specs.Written.{is_good_cert}
+use Rattle.e_prove.specs.declared.step_state.StepState.{StepState}
+use Rattle.e_prove.specs.inner.StepStates.{after_literal, after_make}
+use Rattle.e_prove.specs.inner.LicensedSteps.{IsLicensedStep}
+use Rattle.e_deriv.specs.Written.{has_good_certs}
+
+-- ---- a citation
+
+licensed_by : (before : List Stated) (by : By) (x : StepState) → is_cited x.context.facts by ≡ true → IsLicensedStep before (CiteStep by) x (CiteStep by) (after_literal by.lit x)
+unfolding lines erased filled_by names_lines step_script has_good_certs
+licensed_by before by x h =
+    record {
+      licensed = λ rest more goal form. record { fits = form; allowed = tt; beside = h };
+      certified = λ rest more goal form. and_from _ _ form h;
+      erased = λ rest more e. ap (Cite by) e;
+      written = λ more k. k;
+      next = λ rest more goal. refl;
+      derived_next = λ more goal. refl;
+      named = λ rest. refl;
+      kept = refl;
+    }
+
+pub licensed_cite : (before : List Stated) (by derived : By) (x after : StepState) → derived ≡ by → is_cited x.context.facts by ≡ true → after ≡ after_literal by.lit x →
+    IsLicensedStep before (CiteStep by) x (CiteStep derived) after
+licensed_cite before by derived x after same h gives = rw (same, gives) (licensed_by before by x h)
+
+-- ---- a hence
+
+licensed_by_cert : (before : List Stated) (lit : Lit) (written : Option Cert) (cert : Cert) (x : StepState) → IsTrue (certifies x.context.scope x.context.facts lit cert) → IsTrue (is_good_cert cert) →
+    IsLicensedStep before (HenceStep lit written) x (HenceStep lit (Some cert)) (after_literal lit x)
+unfolding lines erased filled_by names_lines step_script has_good_certs
+licensed_by_cert before lit written cert x h g =
+    record {
+      licensed = λ rest more goal form. record { fits = form; allowed = (allowed_of_certified x.context.scope x.context.facts lit cert h, tt); beside = tt };
+      certified = λ rest more goal form. and_from _ _ form (and_from _ _ (and_from _ _ h refl) refl);
+      erased = λ rest more e. ap (Hence lit None) e;
+      written = λ more k. and_from _ _ g k;
+      next = λ rest more goal. refl;
+      derived_next = λ more goal. refl;
+      named = λ rest. refl;
+      kept = refl;
+    }
+
+pub licensed_hence : (before : List Stated) (lit derived : Lit) (written : Option Cert) (cert : Cert) (x after : StepState) → derived ≡ lit →
+    IsTrue (certifies x.context.scope x.context.facts lit cert) → IsTrue (is_good_cert cert) → after ≡ after_literal lit x →
+    IsLicensedStep before (HenceStep lit written) x (HenceStep derived (Some cert)) after
+licensed_hence before lit derived written cert x after same h g gives = rw (same, gives) (licensed_by_cert before lit written cert x h g)
+
+-- ---- a construction
+
+licensed_by_certs : (before : List Stated) (form : Construction) (names : List (List ℕ)) (written certs : List Cert) (x : StepState) → IsTrue (certify_all x.context.scope x.context.facts (needs form) certs) →
+    IsTrue (list_all is_good_cert certs) → IsLicensedStep before (MakeStep form names written) x (MakeStep form names certs) (after_make form names x)
+unfolding lines erased filled_by names_lines step_script has_good_certs
+licensed_by_certs before form names written certs x h g =
+    record {
+      licensed = λ rest more goal fit. record { fits = fit; allowed = all_allowed_of_certified x.context.scope x.context.facts (needs form) certs h; beside = tt };
+      certified = λ rest more goal fit. and_from _ _ fit (and_from _ _ h refl);
+      erased = λ rest more e. ap (Make form names []) e;
+      written = λ more k. and_from _ _ g k;
+      next = λ rest more goal. refl;
+      derived_next = λ more goal. refl;
+      named = λ rest. refl;
+      kept = refl;
+    }
+
+pub licensed_make : (before : List Stated) (form derived : Construction) (names kept : List (List ℕ)) (written certs given : List Cert) (needed : List Lit) (x after : StepState) →
+    derived ≡ form → kept ≡ names → given ≡ certs → needed ≡ needs form → IsTrue (certify_all x.context.scope x.context.facts needed certs) → IsTrue (list_all is_good_cert certs) → after ≡ after_make form names x →
+    IsLicensedStep before (MakeStep form names written) x (MakeStep derived kept given) after
+licensed_make before form derived names kept written certs given needed x after same these those all h g gives =
+    rw (same, these, those, gives) (licensed_by_certs before form names written certs x (subst (λ ls. certify_all x.context.scope x.context.facts ls certs ≡ true) all h) g)

@@ -1,0 +1,229 @@
+-- Lists of steps, one after the other, and where licensing stops in them.
+use Rattle.std.proofs.Common.{◌≡◌, ℕ, zero, suc, ◌+◌, List, [], ◌∷◌, ◌++◌, length, refl, sym, ap, ap₂, ◌∙◌, subst, Bool, true, ◌&&◌, Some, arith, length-append}
+use Rattle.std.specs.Prelude.{take, slice_get}
+use Rattle.std.specs.List.{list_all}
+use Rattle.std.proofs.lemmas.List.Folds.{list_all-append}
+use Rattle.std.proofs.lemmas.Bool.{and_from}
+use Rattle.std.proofs.lemmas.Option.{none-some}
+use Rattle.e_literal.specs.declared.object.Scope.{Scope}
+use Rattle.e_literal.specs.declared.literal.Lit.{Lit}
+use Rattle.e_literal.specs.Literal.{negation}
+use Rattle.e_literal.specs.Facts.{joined, joined_all}
+use Rattle.e_literal.specs.Scopes.{grown}
+use Rattle.e_literal.specs.Use.{Stated, gives_of_use}
+use Rattle.e_construct.specs.Construct.{made, gives}
+use Rattle.e_construct.specs.Superposing as superposing
+use Rattle.e_deriv.specs.declared.names.Names.{Names}
+use Rattle.e_deriv.specs.declared.stop.Stop.{Stop}
+use Rattle.e_deriv.specs.declared.stop.Stop.TheVariants as stop
+use Rattle.e_deriv.specs.Script.{Script, Cite, Hence, Make, Apply, Claim, Superposed, Qed, Contradiction, Cases, size}
+use Rattle.e_deriv.specs.Goal.{Goal, goal_of}
+use Rattle.e_deriv.specs.Parts.{rest_of, inner_of, args_of}
+use Rattle.e_deriv.specs.Lines.{Line, line, lines, theorem_at}
+use Rattle.e_deriv.specs.Naming.{named, names_lines}
+use Rattle.e_deriv.specs.Licensed.{Licensed, AllLicensed}
+use Rattle.e_deriv.specs.Fitting.{LitsFit, is_small}
+use Rattle.e_deriv.proofs.Agreement.{both_licensed}
+use Rattle.e_prove.specs.declared.step_stop.StepStop.{StepStop}
+use Rattle.e_prove.specs.declared.step_stop.StepStop.TheVariants as step_stop
+use Rattle.e_prove.specs.inner.StopsOfSteps.{StepStopsAt, StopOf, stop_of}
+use Rattle.e_prove.specs.inner.LicensedSteps.{has_form}
+use Rattle.e_prove.specs.inner.PassedSteps.{StepStopIn, StopIn}
+
+-- ---- places
+
+at_left : {A : Type 0} (xs ys : List A) (p : ℕ) (x : A) → slice_get xs p ≡ Some x → slice_get (xs ++ ys) p ≡ Some x
+at_left [] ys p x e = absurd (none-some x e)
+at_left (a ∷ xs) ys zero x e = e
+at_left (a ∷ xs) ys (suc p) x e = at_left xs ys p x e
+
+at_right : {A : Type 0} (xs ys : List A) (p q : ℕ) → q ≡ length xs + p → slice_get (xs ++ ys) q ≡ slice_get ys p
+at_right [] ys p q e = ap (slice_get ys) (omega (arith, e))
+at_right (a ∷ xs) ys p zero e = absurd (omega (arith, e))
+at_right (a ∷ xs) ys p (suc q) e = at_right xs ys p q (omega (arith, e))
+
+take_left : {A : Type 0} (xs ys : List A) (p : ℕ) (x : A) → slice_get xs p ≡ Some x → take p (xs ++ ys) ≡ take p xs
+take_left [] ys p x e = absurd (none-some x e)
+take_left (a ∷ xs) ys zero x e = refl
+take_left (a ∷ xs) ys (suc p) x e = ap (λ zs. a ∷ zs) (take_left xs ys p x e)
+
+take_right : {A : Type 0} (xs ys : List A) (p q : ℕ) → q ≡ length xs + p → take q (xs ++ ys) ≡ xs ++ take p ys
+take_right [] ys p q e = ap (λ n. take n ys) (omega (arith, e))
+take_right (a ∷ xs) ys p zero e = absurd (omega (arith, e))
+take_right (a ∷ xs) ys p (suc q) e = ap (λ zs. a ∷ zs) (take_right xs ys p q (omega (arith, e)))
+
+-- ---- stops
+
+-- at the first step
+pub step_stop_first : (before : List Stated) (x : Line) (xs : List Line) (m : Names) (ns : List Names) (first : ℕ) (h : StepStop) → StepStopsAt before x h → StepStopIn before (x ∷ xs) (m ∷ ns) first h first m
+step_stop_first before x xs m ns first h k = record { place = 0; number = omega arith; line = x; at = refl; earlier = tt; stops_at = k; named = refl }
+
+-- after a step that is licensed
+step_stop_after : (before : List Stated) (x : Line) (xs : List Line) (m : Names) (ns : List Names) (first : ℕ) (h : StepStop) (n : ℕ) (names : Names) →
+    Licensed before x → StepStopIn before xs ns (first + 1) h n names → StepStopIn before (x ∷ xs) (m ∷ ns) first h n names
+step_stop_after before x xs m ns first h n names l k =
+    record { place = suc k.place; number = omega (arith, k.number); line = k.line; at = k.at; earlier = (l, k.earlier); stops_at = k.stops_at; named = k.named }
+
+-- in the first of two lists
+step_stop_left : (before : List Stated) (xs ys : List Line) (ns ms : List Names) (first : ℕ) (h : StepStop) (n : ℕ) (names : Names) →
+    StepStopIn before xs ns first h n names → StepStopIn before (xs ++ ys) (ns ++ ms) first h n names
+step_stop_left before xs ys ns ms first h n names k =
+    record {
+      place = k.place;
+      number = k.number;
+      line = k.line;
+      at = at_left xs ys k.place k.line k.at;
+      earlier = subst (AllLicensed before) (sym (take_left xs ys k.place k.line k.at)) k.earlier;
+      stops_at = k.stops_at;
+      named = at_left ns ms k.place names k.named;
+    }
+
+-- in the second, where the steps of the first are licensed
+step_stop_right : (before : List Stated) (xs ys : List Line) (ns ms : List Names) (k first : ℕ) (h : StepStop) (n : ℕ) (names : Names) → length xs ≡ k → length ns ≡ k →
+    AllLicensed before xs → StepStopIn before ys ms (first + k) h n names → StepStopIn before (xs ++ ys) (ns ++ ms) first h n names
+step_stop_right before xs ys ns ms k first h n names e d l r =
+    record {
+      place = k + r.place;
+      number = omega (arith, r.number);
+      line = r.line;
+      at = at_right xs ys r.place (k + r.place) (omega (arith, e)) ∙ r.at;
+      earlier = subst (AllLicensed before) (sym (take_right xs ys r.place (k + r.place) (omega (arith, e)))) (both_licensed before xs (take r.place ys) l r.earlier);
+      stops_at = r.stops_at;
+      named = at_right ns ms r.place (k + r.place) (omega (arith, d)) ∙ r.named;
+    }
+
+-- ---- stops
+
+stop_map : (before : List Stated) (xs ys : List Line) (ns ms : List Names) (first second : ℕ) (s : Stop) →
+    ((h : StepStop) (n : ℕ) (names : Names) → StepStopIn before xs ns first h n names → StepStopIn before ys ms second h n names) → StopIn before xs ns first s → StopIn before ys ms second s
+stop_map before xs ys ns ms first second (stop.Unlicensed n wanted values names) f k = f (step_stop.Lacks wanted values) n names k
+stop_map before xs ys ns ms first second (stop.TooWide n wanted width names) f k = f (step_stop.TooWide wanted width) n names k
+stop_map before xs ys ns ms first second stop.NoMemory f k = tt
+
+pub stop_after : (before : List Stated) (x : Line) (xs : List Line) (m : Names) (ns : List Names) (first : ℕ) (s : Stop) → Licensed before x → StopIn before xs ns (first + 1) s → StopIn before (x ∷ xs) (m ∷ ns) first s
+stop_after before x xs m ns first s l k =
+    stop_map before xs (x ∷ xs) ns (m ∷ ns) (first + 1) first s (λ h n names. step_stop_after before x xs m ns first h n names l) k
+
+pub stop_left : (before : List Stated) (xs ys : List Line) (ns ms : List Names) (first : ℕ) (s : Stop) → StopIn before xs ns first s → StopIn before (xs ++ ys) (ns ++ ms) first s
+stop_left before xs ys ns ms first s k = stop_map before xs (xs ++ ys) ns (ns ++ ms) first first s (step_stop_left before xs ys ns ms first) k
+
+pub stop_right : (before : List Stated) (xs ys : List Line) (ns ms : List Names) (k first : ℕ) (s : Stop) → length xs ≡ k → length ns ≡ k → AllLicensed before xs → StopIn before ys ms (first + k) s → StopIn before (xs ++ ys) (ns ++ ms) first s
+stop_right before xs ys ns ms k first s e d l r = stop_map before ys (xs ++ ys) ms (ns ++ ms) (first + k) first s (λ h n names. step_stop_right before xs ys ns ms k first h n names e d l) r
+
+-- at the first step, with these names before it
+stop_at_first : (before : List Stated) (x : Line) (xs : List Line) (m : Names) (ns : List Names) (first : ℕ) (h : StepStop) → StepStopsAt before x h → StopIn before (x ∷ xs) (m ∷ ns) first (stop_of h first m)
+stop_at_first before x xs m ns first (step_stop.Lacks wanted values) k = step_stop_first before x xs m ns first (step_stop.Lacks wanted values) k
+stop_at_first before x xs m ns first (step_stop.TooWide wanted width) k = step_stop_first before x xs m ns first (step_stop.TooWide wanted width) k
+stop_at_first before x xs m ns first step_stop.NoMemory k = tt
+
+pub stop_first : (before : List Stated) (x : Line) (xs : List Line) (m : Names) (ns : List Names) (first : ℕ) (h : StepStop) (s : Stop) → StepStopsAt before x h → StopOf h first m s → StopIn before (x ∷ xs) (m ∷ ns) first s
+stop_first before x xs m ns first h (stop.Unlicensed n wanted values names) k e = subst (StopIn before (x ∷ xs) (m ∷ ns) first) (sym e) (stop_at_first before x xs m ns first h k)
+stop_first before x xs m ns first h (stop.TooWide n wanted width names) k e = subst (StopIn before (x ∷ xs) (m ∷ ns) first) (sym e) (stop_at_first before x xs m ns first h k)
+stop_first before x xs m ns first h stop.NoMemory k e = tt
+
+-- ---- how many steps there are
+
+pub names_length : (before : List Stated) (ns : Names) (d : Script) → length (names_lines before ns d) ≡ size d
+unfolding names_lines size
+names_length before ns (Cite by rest) = let h = names_length before ns rest in omega (arith, h)
+names_length before ns (Hence lit cert rest) = let h = names_length before ns rest in omega (arith, h)
+names_length before ns (Make form names certs rest) = let h = names_length before (named ns (made form) names) rest in omega (arith, h)
+names_length before ns (Apply theorem args names certs rest) = let h = names_length before (named ns (theorem_at before theorem).made names) rest in omega (arith, h)
+names_length before ns (Claim shown inner rest) =
+    let h = names_length before ns inner in
+    let k = names_length before ns rest in
+    omega (arith, h, k, length-append (names_lines before ns inner) (names_lines before ns rest))
+names_length before ns (Superposed form names shown certs inner rest) =
+    let ms = named ns superposing.made names in
+    let h = names_length before ms inner in
+    let k = names_length before ns rest in
+    omega (arith, h, k, length-append (names_lines before ms inner) (names_lines before ns rest))
+names_length before ns (Qed objects certs) = refl
+names_length before ns (Contradiction against) = refl
+names_length before ns (Cases lit first second) =
+    let h = names_length before ns first in
+    let k = names_length before ns second in
+    omega (arith, h, k, length-append (names_lines before ns first) (names_lines before ns second))
+
+-- ---- tests of all steps
+
+pub all_both : (p : Line → Bool) (xs ys : List Line) → list_all p xs ≡ true → list_all p ys ≡ true → list_all p (xs ++ ys) ≡ true
+all_both p xs ys h k = list_all-append p xs ys ∙ and_from _ _ h k
+
+-- ---- tests that look neither at the facts nor at how blanks are filled
+
+pub record IsBlind (p : Line → Bool) : Type 0 where
+  pub same : (here f f' : Script) (s : Scope) (facts facts' : List Lit) (goal : Goal) → p (line here f s facts goal) ≡ p (line here f' s facts' goal)
+
+both_same : (a b c d : Bool) → a ≡ b → c ≡ d → (a && c) ≡ (b && d)
+both_same a b c d e f = ap₂ (λ x y. x && y) e f
+
+both_lists : (p : Line → Bool) (xs xs' ys ys' : List Line) → list_all p xs ≡ list_all p xs' → list_all p ys ≡ list_all p ys' → list_all p (xs ++ ys) ≡ list_all p (xs' ++ ys')
+both_lists p xs xs' ys ys' e f = list_all-append p xs ys ∙ both_same _ _ _ _ e f ∙ sym (list_all-append p xs' ys')
+
+pub tests_again : (before : List Stated) (p : Line → Bool) → IsBlind p → (d f f' : Script) (s : Scope) (facts facts' : List Lit) (goal : Goal) →
+    list_all p (lines before d f s facts goal) ≡ list_all p (lines before d f' s facts' goal)
+unfolding lines
+tests_again before p b (Cite by rest) f f' s facts facts' goal =
+    both_same _ _ _ _ (b.same (Cite by rest) f f' s facts facts' goal) (tests_again before p b rest (rest_of f) (rest_of f') s (joined facts by.lit) (joined facts' by.lit) goal)
+tests_again before p b (Hence lit cert rest) f f' s facts facts' goal =
+    both_same _ _ _ _ (b.same (Hence lit cert rest) f f' s facts facts' goal) (tests_again before p b rest (rest_of f) (rest_of f') s (joined facts lit) (joined facts' lit) goal)
+tests_again before p b (Make form names certs rest) f f' s facts facts' goal =
+    both_same _ _ _ _ (b.same (Make form names certs rest) f f' s facts facts' goal)
+    (tests_again before p b rest (rest_of f) (rest_of f') (grown s (made form)) (joined_all facts (gives form s)) (joined_all facts' (gives form s)) goal)
+tests_again before p b (Apply theorem args names certs rest) f f' s facts facts' goal =
+    let t = theorem_at before theorem in
+    both_same _ _ _ _ (b.same (Apply theorem args names certs rest) f f' s facts facts' goal)
+    (tests_again before p b rest (rest_of f) (rest_of f') (grown s t.made) (joined_all facts (gives_of_use t (args_of f) s)) (joined_all facts' (gives_of_use t (args_of f') s)) goal)
+tests_again before p b (Claim shown inner rest) f f' s facts facts' goal =
+    both_same _ _ _ _ (b.same (Claim shown inner rest) f f' s facts facts' goal)
+    (both_lists p (lines before inner (inner_of f) s facts (goal_of shown)) (lines before inner (inner_of f') s facts' (goal_of shown))
+    (lines before rest (rest_of f) s (joined_all facts shown) goal) (lines before rest (rest_of f') s (joined_all facts' shown) goal)
+    (tests_again before p b inner (inner_of f) (inner_of f') s facts facts' (goal_of shown))
+    (tests_again before p b rest (rest_of f) (rest_of f') s (joined_all facts shown) (joined_all facts' shown) goal))
+tests_again before p b (Superposed form names shown certs inner rest) f f' s facts facts' goal =
+    let g = grown s superposing.made in
+    let given = superposing.gives form s in
+    both_same _ _ _ _ (b.same (Superposed form names shown certs inner rest) f f' s facts facts' goal)
+    (both_lists p (lines before inner (inner_of f) g (joined_all facts given) (goal_of shown)) (lines before inner (inner_of f') g (joined_all facts' given) (goal_of shown))
+    (lines before rest (rest_of f) s (joined_all facts shown) goal) (lines before rest (rest_of f') s (joined_all facts' shown) goal)
+    (tests_again before p b inner (inner_of f) (inner_of f') g (joined_all facts given) (joined_all facts' given) (goal_of shown))
+    (tests_again before p b rest (rest_of f) (rest_of f') s (joined_all facts shown) (joined_all facts' shown) goal))
+tests_again before p b (Qed objects certs) f f' s facts facts' goal = both_same _ _ _ _ (b.same (Qed objects certs) f f' s facts facts' goal) refl
+tests_again before p b (Contradiction against) f f' s facts facts' goal = both_same _ _ _ _ (b.same (Contradiction against) f f' s facts facts' goal) refl
+tests_again before p b (Cases lit first second) f f' s facts facts' goal =
+    let not_so = negation lit in
+    both_same _ _ _ _ (b.same (Cases lit first second) f f' s facts facts' goal)
+    (both_lists p (lines before first (inner_of f) s (joined facts lit) goal) (lines before first (inner_of f') s (joined facts' lit) goal)
+    (lines before second (rest_of f) s (joined facts not_so) goal) (lines before second (rest_of f') s (joined facts' not_so) goal)
+    (tests_again before p b first (inner_of f) (inner_of f') s (joined facts lit) (joined facts' lit) goal)
+    (tests_again before p b second (rest_of f) (rest_of f') s (joined facts not_so) (joined facts' not_so) goal))
+
+-- whether a step has its form, and whether few objects are in scope before it
+pub form_is_blind : (before : List Stated) → IsBlind (has_form before)
+form_is_blind before = record { same = by_form }
+  where
+    by_form : (here f f' : Script) (s : Scope) (facts facts' : List Lit) (goal : Goal) → has_form before (line here f s facts goal) ≡ has_form before (line here f' s facts' goal)
+    by_form (Cite by rest) f f' s facts facts' goal = refl
+    by_form (Hence lit cert rest) f f' s facts facts' goal = refl
+    by_form (Make form names certs rest) f f' s facts facts' goal = refl
+    by_form (Apply theorem args names certs rest) f f' s facts facts' goal = refl
+    by_form (Claim shown inner rest) f f' s facts facts' goal = refl
+    by_form (Superposed form names shown certs inner rest) f f' s facts facts' goal = refl
+    by_form (Qed objects certs) f f' s facts facts' goal = refl
+    by_form (Contradiction against) f f' s facts facts' goal = refl
+    by_form (Cases lit first second) f f' s facts facts' goal = refl
+
+pub scope_is_blind : IsBlind (λ y. is_small y.scope)
+scope_is_blind = record { same = λ here f f' s facts facts' goal. refl }
+
+-- ---- literals that fit, in lists of steps
+
+pub lits_first : (before : List Stated) (xs ys : List Line) → LitsFit before (xs ++ ys) → LitsFit before xs
+lits_first before [] ys h = tt
+lits_first before (x ∷ xs) ys h = (h.0, λ fit. ((h.1 fit).0, lits_first before xs ys (h.1 fit).1))
+
+-- in the second, where the steps of the first are licensed
+pub lits_second : (before : List Stated) (xs ys : List Line) → AllLicensed before xs → LitsFit before (xs ++ ys) → LitsFit before ys
+lits_second before [] ys l h = h
+lits_second before (x ∷ xs) ys l h = lits_second before xs ys l.1 (h.1 l.0.fits).1

@@ -1,0 +1,17 @@
+use Rattle.std.proofs.Common.{ap, subst}
+use Rattle.e_deriv.specs.declared.stop.Wanted.TheVariants.{Literal}
+use Rattle.e_licence.specs.Licences.{IsLicence}
+use Rattle.e_prove.proofs.LicensedLiterals.{one_lacks, one_too_wide}
+use Rattle.e_prove.proofs.licence.to_cert.Goals as goal
+
+pub returns-in_ok-copy-in-No-clause-err : goal.returns-in_ok-copy-in-No-clause-err
+returns-in_ok-copy-in-No-clause-err c =
+    let x = c.args.context.now in
+    let l = c.args.lit.now in
+    one_lacks x l _ c.in-No.values (ap Literal c.in_ok-copy-in-No.ensures) (subst (IsLicence x l) c.in-No.is c.requires)
+
+pub returns-in_ok-copy-in-TooWide-clause-err : goal.returns-in_ok-copy-in-TooWide-clause-err
+returns-in_ok-copy-in-TooWide-clause-err c =
+    let x = c.args.context.now in
+    let l = c.args.lit.now in
+    one_too_wide x l _ c.in-TooWide.width (ap Literal c.in_ok-copy-in-TooWide.ensures) (subst (IsLicence x l) c.in-TooWide.is c.requires)

@@ -1,0 +1,16 @@
+use Rattle.std.proofs.Common.{ap, ◌∙◌}
+use Rattle.e_literal.specs.Scopes.{grown}
+use Rattle.e_prove.proofs.StepStates.{within_grown}
+use Rattle.e_prove.proofs.Blocks.{on_ok}
+use Rattle.e_prove.proofs.step_state.StepState.grow.Goals as goal
+
+pub widen-requires : goal.widen-requires
+widen-requires c =
+    let sorts = c.args.sorts.now in
+    within_grown c.args.self.now.context.scope c.grown-scope.result sorts (c.grown-scope.ensures ∙ ap (λ s. grown s sorts) c.scope.ensures)
+
+pub returns-clause-scope : goal.returns-clause-scope
+returns-clause-scope c =
+    let x = c.args.self.now.context in
+    let sorts = c.args.sorts.now in
+    on_ok _ c.name_all.result (c.in_ok-widen.ensures.ok ∙ ap (λ s. record x { scope = s }) (c.grown-scope.ensures ∙ ap (λ s. grown s sorts) c.scope.ensures))

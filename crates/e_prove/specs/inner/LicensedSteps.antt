@@ -1,0 +1,69 @@
+-- What it is to license a step, or a close, in its place: whatever comes after it.
+use Rattle.std.specs.Prelude.{◌≡◌, List, ◌∷◌, Bool, IsTrue}
+use Rattle.std.specs.List.{list_all}
+use Rattle.e_literal.specs.Use.{Stated}
+use Rattle.e_deriv.specs.declared.block.Step.{Step}
+use Rattle.e_deriv.specs.declared.block.Close.{Close}
+use Rattle.e_deriv.specs.Script.{Script, step_script, close_script, erased}
+use Rattle.e_deriv.specs.Parts.{filled_by}
+use Rattle.e_deriv.specs.Goal.{Goal}
+use Rattle.e_deriv.specs.Lines.{Line, line, lines}
+use Rattle.e_deriv.specs.Naming.{names_lines}
+use Rattle.e_deriv.specs.Licensed.{Licensed, AllLicensed}
+use Rattle.e_deriv.specs.Certified.{is_certified}
+use Rattle.e_deriv.specs.Fitting.{form_fits}
+use Rattle.e_deriv.specs.Written.{has_good_certs}
+use Rattle.e_licence.specs.Contexts.{Basis}
+use Rattle.e_prove.specs.declared.step_state.StepState.{StepState}
+use Rattle.e_prove.specs.declared.step_stop.StepStop.{StepStop}
+use Rattle.e_prove.specs.inner.StopsOfSteps.{StepStopsAt}
+
+-- the steps of a script where this holds, whose blanks are filled as in the second one
+abbrev pub lines_at : List Stated → Script → Script → Basis → Goal → List Line
+lines_at before script filled x goal = lines before script filled x.scope x.facts goal
+
+-- the first of them
+abbrev pub line_at : Script → Script → Basis → Goal → Line
+line_at script filled x goal = line script filled x.scope x.facts goal
+
+-- the step's form fits, whatever its blanks are filled with
+abbrev pub has_form : List Stated → Line → Bool
+has_form before y = form_fits before y y.here
+
+-- where the step has its form it is licensed, with its blanks filled as in the derived one, and the derived one is certified;
+-- without certificates the derived one is the step with its blanks filled; its certificates name literals that are well formed;
+-- this holds after
+pub record IsLicensedStep (before : List Stated) (step : Step) (x : StepState) (derived : Step) (after : StepState) : Type 0 where
+  pub licensed : (rest more : Script) (goal : Goal) →
+      IsTrue (has_form before (line_at (step_script step rest) (step_script derived more) x.context goal)) →
+      Licensed before (line_at (step_script step rest) (step_script derived more) x.context goal)
+  pub certified : (rest more : Script) (goal : Goal) →
+      IsTrue (has_form before (line_at (step_script step rest) (step_script derived more) x.context goal)) →
+      IsTrue (is_certified before (line_at (step_script derived more) (step_script derived more) x.context goal))
+  pub erased : (rest more : Script) → erased more ≡ filled_by (erased rest) more →
+      erased (step_script derived more) ≡ filled_by (erased (step_script step rest)) (step_script derived more)
+  pub written : (more : Script) → IsTrue (has_good_certs more) → IsTrue (has_good_certs (step_script derived more))
+  pub next : (rest more : Script) (goal : Goal) →
+      lines_at before (step_script step rest) (step_script derived more) x.context goal
+      ≡ line_at (step_script step rest) (step_script derived more) x.context goal ∷ lines_at before rest more after.context goal
+  pub derived_next : (more : Script) (goal : Goal) →
+      lines_at before (step_script derived more) (step_script derived more) x.context goal
+      ≡ line_at (step_script derived more) (step_script derived more) x.context goal ∷ lines_at before more more after.context goal
+  pub named : (rest : Script) → names_lines before x.names (step_script step rest) ≡ x.names ∷ names_lines before after.names rest
+  pub kept : after.context.held ≡ x.context.held
+
+-- where this holds licensing stops so at the step, however its blanks are filled
+abbrev pub IsStopOfStep : List Stated → Step → StepState → StepStop → Type 0
+IsStopOfStep before step x h = (rest filled : Script) (goal : Goal) → StepStopsAt before (line_at (step_script step rest) filled x.context goal) h
+
+-- where this holds the close is licensed, and the derived one certified, by certificates that name literals that are well formed;
+-- both are one without certificates
+pub record IsClosed (before : List Stated) (close : Close) (x : Basis) (goal : Goal) (derived : Close) : Type 0 where
+  pub licensed : AllLicensed before (lines_at before (close_script close) (close_script derived) x goal)
+  pub certified : IsTrue (list_all (is_certified before) (lines_at before (close_script derived) (close_script derived) x goal))
+  pub erased : erased (close_script derived) ≡ filled_by (erased (close_script close)) (close_script derived)
+  pub written : IsTrue (has_good_certs (close_script derived))
+
+-- where this holds licensing stops so at the close
+abbrev pub IsStopOfClose : List Stated → Close → Basis → Goal → StepStop → Type 0
+IsStopOfClose before close x goal h = (filled : Script) → StepStopsAt before (line_at (close_script close) filled x goal) h

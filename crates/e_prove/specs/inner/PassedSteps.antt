@@ -1,0 +1,87 @@
+-- What it is to license the steps of a script one after another, with the blocks inside it.
+use Rattle.std.specs.Prelude.{◌≡◌, ℕ, ◌+◌, ◌<◌, ◌^◌, List, take, slice_get, IsTrue, Some}
+use Rattle.std.specs.List.{list_all}
+use Rattle.e_literal.specs.Use.{Stated}
+use Rattle.e_deriv.specs.declared.block.Step.{Step}
+use Rattle.e_deriv.specs.declared.names.Names.{Names}
+use Rattle.e_deriv.specs.declared.stop.Stop.{Stop}
+use Rattle.e_deriv.specs.declared.stop.Stop.TheVariants as stop
+use Rattle.e_deriv.specs.Script.{Script, step_script, size, erased}
+use Rattle.e_deriv.specs.Parts.{filled_by}
+use Rattle.e_deriv.specs.Goal.{Goal}
+use Rattle.e_deriv.specs.Lines.{Line}
+use Rattle.e_deriv.specs.Naming.{names_lines}
+use Rattle.e_deriv.specs.Licensed.{AllLicensed}
+use Rattle.e_deriv.specs.Certified.{is_certified}
+use Rattle.e_deriv.specs.Fitting.{LitsFit, is_small, is_small_statement}
+use Rattle.e_deriv.specs.Written.{has_good_certs}
+use Rattle.e_prove.specs.declared.step_stop.StepStop.{StepStop}
+use Rattle.e_prove.specs.declared.step_stop.StepStop.TheVariants.{Lacks, TooWide}
+use Rattle.e_prove.specs.declared.step_state.StepState.{StepState}
+use Rattle.e_prove.specs.inner.StopsOfSteps.{StepStopsAt}
+use Rattle.e_prove.specs.inner.LicensedSteps.{lines_at, has_form}
+
+-- each step of the script has its form in its place, and its literals fit, however blanks are filled; there are numbers for
+-- all objects
+pub record IsReadyFor (before : List Stated) (script : Script) (x : StepState) (goal : Goal) : Type 0 where
+  pub forms : IsTrue (list_all (has_form before) (lines_at before script script x.context goal))
+  pub lits : (filled : Script) → LitsFit before (lines_at before script filled x.context goal)
+  pub scopes : IsTrue (list_all (λ y. is_small y.scope) (lines_at before script script x.context goal))
+  pub statements : IsTrue (list_all is_small_statement before)
+
+-- before something the step is ready, and there are numbers for the steps from this one on
+pub record IsReadyStep (before : List Stated) (step : Step) (x : StepState) (first : ℕ) : Type 0 where
+  pub rest : Script
+  pub goal : Goal
+  pub ready : IsReadyFor before (step_script step rest) x goal
+  pub few : first + size (step_script step rest) < 2 ^ 32
+
+-- the script is licensed, with its blanks filled as in the derived one, and the derived one is certified; without certificates
+-- that is the script with its blanks filled; its certificates name literals that are well formed
+pub record IsDerived (before : List Stated) (script : Script) (x : StepState) (goal : Goal) (derived : Script) : Type 0 where
+  pub licensed : AllLicensed before (lines_at before script derived x.context goal)
+  pub certified : IsTrue (list_all (is_certified before) (lines_at before derived derived x.context goal))
+  pub erased : erased derived ≡ filled_by (erased script) derived
+  pub written : IsTrue (has_good_certs derived)
+
+-- the states that are held are those from before
+abbrev pub KeepsHeld : StepState → StepState → Type 0
+KeepsHeld x after = after.context.held ≡ x.context.held
+
+-- ---- stops
+
+-- at one of the steps, before which all are licensed, licensing stops so; the first step has this number and this one that, and
+-- these are the names in scope before it
+pub record StepStopIn (before : List Stated) (xs : List Line) (ns : List Names) (first : ℕ) (h : StepStop) (n : ℕ) (names : Names) : Type 0 where
+  pub place : ℕ
+  pub number : n ≡ first + place
+  pub line : Line
+  pub at : slice_get xs place ≡ Some line
+  pub earlier : AllLicensed before (take place xs)
+  pub stops_at : StepStopsAt before line h
+  pub named : slice_get ns place ≡ Some names
+
+abbrev pub StopIn : List Stated → List Line → List Names → ℕ → Stop → Type 0
+StopIn before xs ns first (stop.Unlicensed n wanted values names) = StepStopIn before xs ns first (Lacks wanted values) n names
+StopIn before xs ns first (stop.TooWide n wanted width names) = StepStopIn before xs ns first (TooWide wanted width) n names
+StopIn before xs ns first stop.NoMemory = Unit {0}
+
+-- licensing stops so at a step of the script, with the blanks before it filled so
+pub record StopsWithin (before : List Stated) (script : Script) (x : StepState) (goal : Goal) (first : ℕ) (s : Stop) : Type 0 where
+  pub filled : Script
+  pub stops : StopIn before (lines_at before script filled x.context goal) (names_lines before x.names script) first s
+
+-- ---- what has been licensed
+
+-- Steps before a script have been licensed where this held, and now that holds, and the next step has that number: whatever comes
+-- after them, what is derived from it is derived from the whole, and a stop in it is one of the whole.
+pub record IsPassed (before : List Stated) (whole : Script → Script) (x : StepState) (first : ℕ) (derived : Script → Script) (after : StepState) (next : ℕ) : Type 0 where
+  pub ready : (rest : Script) (goal : Goal) → IsReadyFor before (whole rest) x goal → IsReadyFor before rest after goal
+  pub derives : (rest more : Script) (goal : Goal) → IsReadyFor before (whole rest) x goal → IsDerived before rest after goal more → IsDerived before (whole rest) x goal (derived more)
+  pub stops : (rest : Script) (goal : Goal) (s : Stop) → IsReadyFor before (whole rest) x goal → StopsWithin before rest after goal next s → StopsWithin before (whole rest) x goal first s
+  pub number : (rest : Script) → first + size (whole rest) ≡ next + size rest
+  pub kept : KeepsHeld x after
+
+-- the step stops so, whatever comes after it
+abbrev pub StepStops : List Stated → Step → StepState → ℕ → Stop → Type 0
+StepStops before step x first s = (rest : Script) (goal : Goal) → IsReadyFor before (step_script step rest) x goal → StopsWithin before (step_script step rest) x goal first s

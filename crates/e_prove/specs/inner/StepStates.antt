@@ -1,0 +1,89 @@
+-- What holds before a step, and after it.
+use Rattle.std.specs.Prelude.{◌≡◌, ℕ, ◌+◌, ◌<◌, ◌^◌, List, [], ◌∷◌, ◌++◌, IsTrue}
+use Rattle.e_literal.specs.declared.object.Obj.{Obj}
+use Rattle.e_literal.specs.declared.object.Scope.{Scope}
+use Rattle.e_literal.specs.declared.literal.Lit.{Lit}
+use Rattle.e_literal.specs.Facts.{joined, joined_all}
+use Rattle.e_literal.specs.Scopes.{grown}
+use Rattle.e_literal.specs.Use.{Stated, scope_of, gives_of_use}
+use Rattle.e_clause.specs.Judged.{are_good_facts}
+use Rattle.e_construct.specs.declared.construction.Construction.{Construction}
+use Rattle.e_construct.specs.Construct.{made, gives}
+use Rattle.e_construct.specs.declared.superpose.Superpose.{Superpose}
+use Rattle.e_construct.specs.Superposing as superposing
+use Rattle.e_deriv.specs.declared.names.Names.{Names}
+use Rattle.e_deriv.specs.Goal.{Goal, facts_of_statement}
+use Rattle.e_deriv.specs.Naming.{named, declared_names}
+use Rattle.e_licence.specs.Contexts.{State, state_of}
+use Rattle.e_prove.specs.declared.step_state.StepState.{StepState}
+use Rattle.e_prove.specs.declared.close.Goal.{Goal as CodeGoal}
+
+-- before the first step of a statement's proof, where these are the names of its declared and made objects
+abbrev pub start_of : Stated → Names → StepState
+start_of t names = record { context = record { scope = scope_of t; facts = facts_of_statement t; held = [] }; names = declared_names t names }
+
+-- after a step that gives one literal
+abbrev pub after_literal : Lit → StepState → StepState
+after_literal l x = record x { context = record x.context { facts = joined x.context.facts l } }
+
+-- after a construction, whose new objects have these names
+abbrev pub after_make : Construction → List (List ℕ) → StepState → StepState
+after_make form names x =
+    record {
+      context = record x.context { scope = grown x.context.scope (made form); facts = joined_all x.context.facts (gives form x.context.scope) };
+      names = named x.names (made form) names;
+    }
+
+-- after an application of the statement at these arguments, whose new objects have these names
+abbrev pub after_apply : Stated → List Obj → List (List ℕ) → StepState → StepState
+after_apply t args names x =
+    record {
+      context = record x.context { scope = grown x.context.scope t.made; facts = joined_all x.context.facts (gives_of_use t args x.context.scope) };
+      names = named x.names t.made names;
+    }
+
+-- after a superposition, whose copied points have these names: what its block begins with
+abbrev pub after_superposed : Superpose → List (List ℕ) → StepState → StepState
+after_superposed form names x =
+    record {
+      context = record x.context { scope = grown x.context.scope superposing.made; facts = joined_all x.context.facts (superposing.gives form x.context.scope) };
+      names = named x.names superposing.made names;
+    }
+
+-- after an inner block that shows these literals
+abbrev pub after_block : List Lit → StepState → StepState
+after_block shown x = record x { context = record x.context { facts = joined_all x.context.facts shown } }
+
+-- with other held states
+abbrev pub with_held : List State → StepState → StepState
+with_held held x = record x { context = record x.context { held = held } }
+
+-- where a block inside begins: the present state is held
+abbrev pub held_at : StepState → StepState
+held_at x = with_held (x.context.held ++ state_of x.context ∷ []) x
+
+-- the last held state is there again, with these names
+abbrev pub IsLeft : Names → StepState → StepState → Type 0
+IsLeft names x after =
+    (before : List State) (last : State) → x.context.held ≡ before ++ last ∷ [] →
+    after ≡ record { context = record { scope = last.scope; facts = last.facts; held = before }; names = names }
+
+-- and these literals are facts there
+abbrev pub IsLeftWith : Names → List Lit → StepState → StepState → Type 0
+IsLeftWith names shown x after =
+    (before : List State) (last : State) → x.context.held ≡ before ++ last ∷ [] →
+    after ≡ record { context = record { scope = last.scope; facts = joined_all last.facts shown; held = before }; names = names }
+
+-- they may join the facts of the last held state
+abbrev pub CanJoinLast : List Lit → StepState → Type 0
+CanJoinLast shown x = (before : List State) (last : State) → x.context.held ≡ before ++ last ∷ [] → IsTrue (are_good_facts last.scope (joined_all last.facts shown))
+
+-- two objects more of each sort have numbers of 16 bits
+pub record HasRoom (s : Scope) : Type 0 where
+  pub points : s.points + 2 < 2 ^ 16
+  pub lines : s.lines + 2 < 2 ^ 16
+  pub circles : s.circles + 2 < 2 ^ 16
+
+-- the goal that the code writes
+abbrev pub goal_view : CodeGoal → Goal
+goal_view g = record { made = g.made.now; shown = g.shown.now }

@@ -1,0 +1,86 @@
+-- Why licensing stops at a step.
+use Rattle.std.specs.Prelude.{◌≡◌, ℕ, List, Contains, MatchBool, Option, Some, None, Result, Ok, Err}
+use Rattle.e_literal.specs.declared.object.Obj.{Obj}
+use Rattle.e_literal.specs.declared.literal.Lit.{Lit}
+use Rattle.e_literal.specs.Use.{Stated, needs_of_use}
+use Rattle.e_clause.specs.Wide.{IsTooWideLit}
+use Rattle.e_theorem.specs.Choice.{NoneIsGood}
+use Rattle.e_theorem.specs.WideChoice.{SomeChoiceIsTooWide}
+use Rattle.e_licence.specs.Contexts.{Basis}
+use Rattle.e_licence.specs.declared.contradiction.Refuted.{Refuted}
+use Rattle.e_licence.specs.declared.contradiction.Refuted.TheVariants as refuted
+use Rattle.e_deriv.specs.declared.block.Close.{Close}
+use Rattle.e_deriv.specs.declared.block.Close.TheVariants.{Contradiction as ContradictionClose}
+use Rattle.e_deriv.specs.declared.names.Names.{Names}
+use Rattle.e_deriv.specs.declared.stop.Wanted.TheVariants.{Literal, Match, Contradiction}
+use Rattle.e_deriv.specs.declared.stop.Stop.{Stop}
+use Rattle.e_deriv.specs.declared.stop.Stop.TheVariants as stop
+use Rattle.e_deriv.specs.Parts.{written, has_no_blank}
+use Rattle.e_deriv.specs.Lines.{Line}
+use Rattle.e_deriv.specs.Licensed.{Lacks as LineLacks, IsFirstNotAllowed}
+use Rattle.e_deriv.specs.Refused.{LiteralIsShown, IsShown, IsTooWide}
+use Rattle.e_prove.specs.declared.step_stop.StepStop.{StepStop}
+use Rattle.e_prove.specs.declared.step_stop.StepStop.TheVariants.{Lacks, TooWide, NoMemory}
+
+-- the step lacks this, and the values show it; or it is too wide at this; out of memory is free
+abbrev pub StepStopsAt : List Stated → Line → StepStop → Type 0
+StepStopsAt before x (Lacks wanted values) = LineLacks before x x.here wanted × IsShown x.here x.facts wanted values
+StepStopsAt before x (TooWide wanted width) = IsTooWide before x x.here wanted width
+StepStopsAt before x NoMemory = Unit {0}
+
+-- the first of the literals that is not allowed is lacked, or one of them is too wide; out of memory is free
+abbrev pub StepStopsAmong : Basis → List Lit → StepStop → Type 0
+StepStopsAmong x ls (Lacks (Literal l) values) = IsFirstNotAllowed x.scope x.facts ls l × LiteralIsShown x.facts l values
+StepStopsAmong x ls (TooWide (Literal l) width) = Contains ls l × IsTooWideLit x.scope x.facts l width
+StepStopsAmong x ls (Lacks Match values) = ⊥
+StepStopsAmong x ls (Lacks Contradiction values) = ⊥
+StepStopsAmong x ls (TooWide Match width) = ⊥
+StepStopsAmong x ls (TooWide Contradiction width) = ⊥
+StepStopsAmong x ls NoMemory = Unit {0}
+
+-- no choice for the blanks is good, or one that is not above the least good one is too wide; out of memory is free
+abbrev pub StepStopsFilling : Stated → Basis → List (Option Obj) → StepStop → Type 0
+StepStopsFilling t x pattern (Lacks Match values) = NoneIsGood t x.scope x.facts pattern × (values ≡ None)
+StepStopsFilling t x pattern (TooWide Match width) = SomeChoiceIsTooWide t x.scope x.facts pattern width
+StepStopsFilling t x pattern (Lacks (Literal l) values) = ⊥
+StepStopsFilling t x pattern (Lacks Contradiction values) = ⊥
+StepStopsFilling t x pattern (TooWide (Literal l) width) = ⊥
+StepStopsFilling t x pattern (TooWide Contradiction width) = ⊥
+StepStopsFilling t x pattern NoMemory = Unit {0}
+
+-- why an application of the statement stops: without blanks at one of its given literals, with blanks at their filling
+abbrev pub StepStopsApplying : Stated → Basis → List (Option Obj) → StepStop → Type 0
+StepStopsApplying t x pattern h = MatchBool (has_no_blank pattern) (StepStopsAmong x (needs_of_use t (written pattern) x.scope) h) (StepStopsFilling t x pattern h)
+
+-- the stop, where what is too wide is answered as a match that is
+abbrev pub as_match : StepStop → StepStop
+as_match (TooWide wanted width) = TooWide Match width
+as_match h = h
+
+-- what an answer on a contradiction makes of its close: the close with its certificate, or why it stops
+abbrev pub contradiction_by : Refuted → Result Close StepStop
+contradiction_by (refuted.Yes against) = Ok (ContradictionClose (Some against))
+contradiction_by (refuted.No values) = Err (Lacks Contradiction (Some values))
+contradiction_by (refuted.TooWide width) = Err (TooWide Contradiction width)
+
+-- the fact holds where memory did not run out
+abbrev pub UnlessNoMemory : Type 0 → StepStop → Type 0
+UnlessNoMemory p NoMemory = Unit {0}
+UnlessNoMemory p h = p
+
+-- the stop at the step with this number, where these names are in scope
+abbrev pub stop_of : StepStop → ℕ → Names → Stop
+stop_of (Lacks wanted values) n names = stop.Unlicensed n wanted values names
+stop_of (TooWide wanted width) n names = stop.TooWide n wanted width names
+stop_of NoMemory n names = stop.NoMemory
+
+-- the same, unless there was no memory for a copy of the names
+abbrev pub StopOf : StepStop → ℕ → Names → Stop → Type 0
+StopOf h n names stop.NoMemory = Unit {0}
+StopOf h n names s = s ≡ stop_of h n names
+
+-- what is answered on a step, with its number
+abbrev pub IsWithNumber : {A : Type 0} → Result A StepStop → ℕ → Names → Stop → Type 0
+IsWithNumber (Ok a) n names stop.NoMemory = Unit {0}
+IsWithNumber (Ok a) n names s = ⊥
+IsWithNumber (Err h) n names s = StopOf h n names s

@@ -1,0 +1,199 @@
+//! What holds before a step.
+ghost use Rattle.std.specs.Prelude.{◌≡◌, ◌<◌, ◌+◌, ◌^◌, length, OnOk, IfOk, [], IsTrue};
+ghost use Rattle.e_literal.specs.Literal.{negation};
+ghost use Rattle.e_literal.specs.Facts.{joined, joined_all};
+ghost use Rattle.e_literal.specs.Scopes;
+ghost use Rattle.e_literal.specs.Use.{scope_of};
+ghost use Rattle.e_clause.specs.Judged.{are_good_facts};
+ghost use Rattle.e_theorem.specs.Statements.{stated};
+ghost use Rattle.e_deriv.specs.Goal.{facts_of_statement};
+ghost use Rattle.e_deriv.specs.Naming.{named};
+ghost use Rattle.e_prove.specs.inner.StepStates.{start_of, held_at, IsLeft, IsLeftWith, CanJoinLast, after_literal};
+
+use e_deriv::Names;
+use e_facts::Facts;
+use e_licence::Context;
+use e_literal::{Lit, Scope, Sort, copy, grown, negate};
+use e_text::Name;
+use e_theorem::Statement;
+use std::alloc::{AllocError, Global};
+use std::mem;
+
+/// The objects in scope and the facts, and the names of the objects.
+#[derive(Drop)]
+pub struct StepState {
+    pub context: Context,
+    pub names: Names,
+}
+
+impl StepState {
+    /// What holds before the first step of a statement's proof: the declared objects have the first of the names.
+    pub fn first(
+        alloc: Global,
+        statement: &Statement,
+        names: &Names,
+    ) -> Result<StepState, AllocError>
+        requires few { length statement.now.declared < 2 ^ 16 }
+        requires good { IsTrue (are_good_facts (scope_of (stated statement.now)) (facts_of_statement (stated statement.now))) }
+        ensures { IfOk result (λ x. x ≡ start_of (stated statement.now) names.now) }
+    {
+        let nothing = Scope {
+            points: 0,
+            lines: 0,
+            circles: 0,
+        };
+        let scope = grown(nothing, statement.declared.items());
+        let names = names.first(alloc, scope)?;
+        let facts = facts_of(alloc, statement.given.items())?;
+        match Context::new(alloc, scope, facts) {
+            Ok(context) => Ok(StepState { context, names }),
+            Err((facts, error)) => {
+                mem::drop(facts);
+                mem::drop(names);
+                Err(error)
+            }
+        }
+    }
+
+    /// A block inside begins: the present state is held, and the names are handed out, which [`StepState::release`] takes back.
+    /// The facts are solved before, since each block inside would have to solve them else. It fails only out of
+    /// memory; no clause says what holds then.
+    pub fn hold(&mut self, alloc: Global) -> Result<Names, AllocError>
+        ensures names { IfOk result (λ names. names ≡ self.old.names) }
+        ensures held { OnOk result (self.new ≡ held_at self.old) }
+    {
+        self.context.solve(alloc)?;
+        let names = self.names.copy(alloc)?;
+        self.context.hold()?;
+        Ok(names)
+    }
+
+    /// The block inside ends: its objects, facts and names are gone.
+    pub fn release(&mut self, names: Names)
+        requires { 0 < length self.old.context.held }
+        ensures { IsLeft names self.old self.new }
+    {
+        self.context.release();
+        self.names = names;
+    }
+
+    /// The block inside ends, and what it shows are facts. It fails only out of memory; no clause says what holds then.
+    pub fn release_with(
+        &mut self,
+        alloc: Global,
+        names: Names,
+        shown: &[Lit],
+    ) -> Result<(), AllocError>
+        requires held { 0 < length self.old.context.held }
+        requires good { CanJoinLast shown.now self.old }
+        ensures { OnOk result (IsLeftWith names shown.now self.old self.new) }
+    {
+        self.release(names);
+        join_copies(alloc, &mut self.context, shown)
+    }
+
+    /// The literal is a fact. It fails only out of memory; no clause says what holds then.
+    pub fn assume(&mut self, alloc: Global, lit: &Lit) -> Result<(), AllocError>
+        requires { IsTrue (are_good_facts self.old.context.scope (joined self.old.context.facts lit.now)) }
+        ensures { OnOk result (self.new ≡ after_literal lit.now self.old) }
+    {
+        self.context.add(copy(alloc, lit)?)?;
+        Ok(())
+    }
+
+    /// The negation of the literal is a fact. It fails only out of memory; no clause says what holds then.
+    pub fn assume_not(&mut self, alloc: Global, lit: &Lit) -> Result<(), AllocError>
+        requires { IsTrue (are_good_facts self.old.context.scope (joined self.old.context.facts (negation lit.now))) }
+        ensures { OnOk result (self.new ≡ after_literal (negation lit.now) self.old) }
+    {
+        self.context.add(negate(copy(alloc, lit)?))?;
+        Ok(())
+    }
+
+    /// New objects of these sorts come into scope, with these names. It fails only out of memory; no clause speaks of
+    /// what holds then.
+    pub fn grow(&mut self, sorts: &[Sort], names: &[Name]) -> Result<(), AllocError>
+        requires points { self.old.context.scope.points + length sorts.now < 2 ^ 16 }
+        requires lines { self.old.context.scope.lines + length sorts.now < 2 ^ 16 }
+        requires circles { self.old.context.scope.circles + length sorts.now < 2 ^ 16 }
+        ensures scope { OnOk result (self.new.context ≡ record self.old.context { scope = Scopes.grown self.old.context.scope sorts.now }) }
+        ensures names { OnOk result (self.new.names ≡ named self.old.names sorts.now names.now) }
+    {
+        let scope = grown(self.context.scope(), sorts);
+        self.context.widen(scope)?;
+        name_all(&mut self.names, sorts, names)
+    }
+
+    /// The literals join the facts, one after the other. It fails only out of memory; no clause says what holds then.
+    pub fn join(&mut self, lits: Vec<Lit>) -> Result<(), AllocError>
+        requires { IsTrue (are_good_facts self.old.context.scope (joined_all self.old.context.facts lits.items)) }
+        ensures { OnOk result (self.new ≡ record self.old { context = record self.old.context { facts = joined_all self.old.context.facts lits.items } }) }
+    {
+        join_all(&mut self.context, lits)
+    }
+
+    /// Equal literals join the facts, one after the other. It fails only out of memory; no clause says what holds
+    /// then.
+    pub fn join_equal(&mut self, alloc: Global, lits: &[Lit]) -> Result<(), AllocError>
+        requires { IsTrue (are_good_facts self.old.context.scope (joined_all self.old.context.facts lits.now)) }
+        ensures { OnOk result (self.new ≡ record self.old { context = record self.old.context { facts = joined_all self.old.context.facts lits.now } }) }
+    {
+        join_copies(alloc, &mut self.context, lits)
+    }
+}
+
+/// Puts each name last among those of its sort.
+fn name_all(names: &mut Names, sorts: &[Sort], new: &[Name]) -> Result<(), AllocError>
+    ensures { OnOk result (names.new ≡ named names.old sorts.now new.now) }
+{
+    for (sort, name) in sorts.iter().zip(new) {
+        names.push(*sort, *name)?;
+    }
+    Ok(())
+}
+
+/// Adds each literal unless one the same is there.
+fn join_all(context: &mut Context, lits: Vec<Lit>) -> Result<(), AllocError>
+    requires { IsTrue (are_good_facts context.old.scope (joined_all context.old.facts lits.items)) }
+    ensures { OnOk result (context.new ≡ record context.old { facts = joined_all context.old.facts lits.items }) }
+{
+    for lit in lits {
+        context.add(lit)?;
+    }
+    Ok(())
+}
+
+/// Adds an equal literal for each, unless one the same is there.
+fn join_copies(alloc: Global, context: &mut Context, lits: &[Lit]) -> Result<(), AllocError>
+    requires { IsTrue (are_good_facts context.old.scope (joined_all context.old.facts lits.now)) }
+    ensures { OnOk result (context.new ≡ record context.old { facts = joined_all context.old.facts lits.now }) }
+{
+    for lit in lits {
+        context.add(copy(alloc, lit)?)?;
+    }
+    Ok(())
+}
+
+/// The literals, each put last unless one the same is there.
+fn facts_of(alloc: Global, lits: &[Lit]) -> Result<Facts, AllocError>
+    ensures { IfOk result (λ f. f ≡ joined_all [] lits.now) }
+{
+    let mut facts = Facts::new(alloc);
+    match add_copies(alloc, &mut facts, lits) {
+        Ok(()) => Ok(facts),
+        Err(error) => {
+            mem::drop(facts);
+            Err(error)
+        }
+    }
+}
+
+/// Puts an equal literal last for each, unless one the same is there.
+fn add_copies(alloc: Global, facts: &mut Facts, lits: &[Lit]) -> Result<(), AllocError>
+    ensures { OnOk result (facts.new ≡ joined_all facts.old lits.now) }
+{
+    for lit in lits {
+        facts.add(copy(alloc, lit)?)?;
+    }
+    Ok(())
+}

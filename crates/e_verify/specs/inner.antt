@@ -1,0 +1,8 @@
+-- Words of private contracts and of proofs: nothing here is part of any claim.
+pub mod Totals
+pub mod Small
+pub mod Views
+pub mod Placed
+pub mod Fingerprint
+pub mod Alike
+pub mod Standing
