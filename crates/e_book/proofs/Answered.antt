@@ -11,7 +11,7 @@ use Rattle.e_book.specs.declared.fault.What.{What}
 use Rattle.e_book.specs.declared.draft.Draft.{Draft}
 use Rattle.e_book.specs.Limits.{within}
 use Rattle.e_book.specs.Entry.{Entry}
-use Rattle.e_book.specs.Book.{put_at}
+use Rattle.e_book.specs.Grammar.{put_at}
 use Rattle.e_book.proofs.InScope.{read_ok}
 
 refused : (b : Bool) (what : What) (u : Unit {0}) → b ≡ true → cond b (Err (Limit what)) (read_ok tt) ≡ Ok u → ⊥

@@ -25,7 +25,8 @@ use Rattle.e_book.specs.declared.draft.Draft.{Draft}
 use Rattle.e_book.specs.Headed.{Headed, stated_by}
 use Rattle.e_book.specs.Scope.{scope_of_names}
 use Rattle.e_book.specs.Steps.{closed, stepped, step, begun}
-use Rattle.e_book.specs.Entry.{Entry, entry_of_draft}
+use Rattle.e_book.specs.DraftViews.{entry_of_draft}
+use Rattle.e_book.specs.Entry.{Entry}
 use Rattle.e_book.specs.Fits.{few_facts, few_terms}
 use Rattle.e_book.specs.Book.{line_step, is_done, read_from}
 use Rattle.e_book.specs.Fits.{count_monomials}

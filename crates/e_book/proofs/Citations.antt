@@ -60,11 +60,11 @@ parts_of p l c ps ls cs np nl nc h =
     subst (λ (x : ℕ). Parts x l c (ps ++ ls ++ cs)) np
     (subst (λ (x : ℕ). Parts (length ps) x c (ps ++ ls ++ cs)) nl (subst (λ (x : ℕ). Parts (length ps) (length ls) x (ps ++ ls ++ cs)) nc h))
 
-record GoodArgs (ns : Names) (s : Sig) (args : List Obj) : Type 0 where
-  within : list_all (is_in_scope (scope_of_names ns)) args ≡ true
-  sorts : Parts s.points s.lines s.circles args
+pub record GoodArgs (ns : Names) (s : Sig) (args : List Obj) : Type 0 where
+  pub within : list_all (is_in_scope (scope_of_names ns)) args ≡ true
+  pub sorts : Parts s.points s.lines s.circles args
 
-good_args : (ns : Names) (s : Sig) (names : List (List ℕ)) (args : List Obj) → length names ≡ s.points + s.lines + s.circles → args_in ns s names ≡ Ok args → GoodArgs ns s args
+pub good_args : (ns : Names) (s : Sig) (names : List (List ℕ)) (args : List Obj) → length names ≡ s.points + s.lines + s.circles → args_in ns s names ≡ Ok args → GoodArgs ns s args
 unfolding args_in
 good_args ns s names args n e =
     let p = take s.points names in

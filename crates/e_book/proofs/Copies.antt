@@ -9,7 +9,8 @@ use Rattle.e_book.specs.declared.draft.Draft.{Draft}
 use Rattle.e_book.specs.declared.superposes.RawSuperpose.{RawSuperpose}
 use Rattle.e_book.specs.Scope.{scope_of_names}
 use Rattle.e_book.specs.Superposes.{superpose_in}
-use Rattle.e_book.specs.Steps.{few_objects, copies_begun, superposed}
+use Rattle.e_book.specs.LineLimits.{few_objects}
+use Rattle.e_book.specs.Steps.{copies_begun, superposed}
 
 pub superposed_is : (d : Draft) (raw : RawSuperpose) (form : Superpose) (shown : List Lit) (u : Unit {0}) → superpose_in d.in_scope raw ≡ Ok (form, shown)
     → few_objects (named d.in_scope superposing.made raw.new) ≡ Ok u

@@ -31,12 +31,13 @@ use Rattle.e_book.specs.Reading.{◌>>=◌}
 use Rattle.e_book.specs.Limits.{most_of, within, count_monomials}
 use Rattle.e_book.specs.Headed.{Headed, headed, stated_by}
 use Rattle.e_book.specs.Scope.{scope_of_names}
-use Rattle.e_book.specs.Steps.{FewNamed, few_objects}
+use Rattle.e_book.specs.LineLimits.{FewNamed, few_objects}
 use Rattle.e_book.specs.declared.theorem.Theorem.{Theorem}
 use Rattle.e_book.specs.declared.fault.BookFault.{BookFault}
 use Rattle.e_book.specs.Entry.{Entry, entry_of}
 use Rattle.e_book.specs.Fits.{NewNamesFit, Fits}
-use Rattle.e_book.specs.Book.{read_from, BookReads}
+use Rattle.e_book.specs.Grammar.{BookReads}
+use Rattle.e_book.specs.Book.{read_from}
 use Rattle.e_book.proofs.Answered.{within_ok, answered, pair}
 use Rattle.e_book.proofs.InScope.{bind_ok}
 use Rattle.e_book.proofs.Building.{named_scope, declared_scope}

@@ -32,7 +32,7 @@ use Rattle.e_deriv.specs.Naming.{named}
 use Rattle.e_book.specs.Limits.{most_depth, most_facts, most_terms, most_blanks, monomials, count_monomials}
 use Rattle.e_book.specs.Scope.{scope_of_names, fresh}
 use Rattle.e_book.specs.Applies.{count_blanks}
-use Rattle.e_book.specs.Steps.{few_objects}
+use Rattle.e_book.specs.LineLimits.{few_objects}
 use Rattle.e_book.specs.Fits.{NewNamesFit, few_facts, few_terms, few_blanks, is_diagram_lit, has_good_literals}
 use Rattle.e_book.proofs.Building.{GoodLet, named_scope}
 

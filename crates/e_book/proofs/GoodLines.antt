@@ -94,7 +94,7 @@ plain_monomials n (atoms.MagEq x y) h = absurd cc
 plain_monomials n (atoms.MagLt x y) h = absurd cc
 plain_monomials n a h = refl
 
-plain_count : (ls : List Lit) → list_all is_plain ls ≡ true → count_monomials ls ≡ 0
+pub plain_count : (ls : List Lit) → list_all is_plain ls ≡ true → count_monomials ls ≡ 0
 plain_count [] h = refl
 plain_count (l ∷ ls) h =
     let p = and_parts (is_plain l) (list_all is_plain ls) h in

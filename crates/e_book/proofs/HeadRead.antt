@@ -16,7 +16,8 @@ use Rattle.e_book.specs.declared.draft.Draft.{Draft}
 use Rattle.e_book.specs.Reading.{◌>>=◌}
 use Rattle.e_book.specs.Limits.{most_of, most_theorems, most_facts, most_terms}
 use Rattle.e_book.specs.Headed.{Headed, is_known}
-use Rattle.e_book.specs.Steps.{count_monos, with_terms, allowed, declared, stepped, step, begin, begun, no_names}
+use Rattle.e_book.specs.LineLimits.{count_monos}
+use Rattle.e_book.specs.Steps.{with_terms, allowed, declared, stepped, step, begin, begun, no_names}
 use Rattle.e_book.specs.Fits.{monomials, count_monomials}
 use Rattle.e_book.specs.Book.{is_done}
 use Rattle.e_book.specs.Canonical.{raw_of, given_form, show_form}

@@ -126,13 +126,13 @@ equal_within s Circle m n hm hn = two s (obj Circle m) (obj Circle n) hm hn
 abbrev pub SumWithin : Scope → List Mono → Type 0
 SumWithin s ms = list_all (is_in_scope s) (objects_of_sum ms) ≡ true
 
-abbrev TermWithin : Scope → Term → Type 0
+abbrev pub TermWithin : Scope → Term → Type 0
 TermWithin s t = list_all (is_in_scope s) (objects_of_term t) ≡ true
 
 to_term : (s : Scope) (x t : Term) → TermWithin s x → read_ok x ≡ Ok t → TermWithin s t
 to_term s x t h e = subst (λ (y : Term). TermWithin s y) (ok_is x t e) h
 
-term_in_scope : (ns : Names) (r : RawTerm) (t : Term) → term_in ns r ≡ Ok t → TermWithin (scope_of_names ns) t
+pub term_in_scope : (ns : Names) (r : RawTerm) (t : Term) → term_in ns r ≡ Ok t → TermWithin (scope_of_names ns) t
 unfolding term_in
 term_in_scope ns (rawterms.Seg x y) t e =
     let p = bind_ok (number_of ns Point x) (λ p. number_of ns Point y >>= λ q. read_ok (terms.Seg p q)) t e in

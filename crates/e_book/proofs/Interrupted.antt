@@ -15,7 +15,7 @@ use Rattle.e_book.specs.declared.fault.Trouble.{Trouble}
 use Rattle.e_book.specs.declared.steps.CloseLine.{CloseLine}
 use Rattle.e_book.specs.declared.steps.CloseLine.TheVariants as closes
 use Rattle.e_book.specs.Reading.{◌>>=◌, Fails, Moves}
-use Rattle.e_book.specs.Entry.{script_of_close}
+use Rattle.e_book.specs.DraftViews.{script_of_close}
 use Rattle.e_book.specs.Limits.{most_facts, most_depth, within}
 use Rattle.e_book.specs.Steps.{terms_after, counted_from, resumed, closed_inside, closed, ClosesInside, FitsOuter, FitsScope}
 

@@ -37,10 +37,13 @@ use Rattle.e_book.specs.Limits.{most_theorems, most_of, most_facts, what_of, wit
 use Rattle.e_book.specs.Headed.{Headed, is_known, stated_by}
 use Rattle.e_book.specs.Scope.{scope_of_names, fresh, lit_in, lits_in}
 use Rattle.e_book.specs.Forms.{form_of}
-use Rattle.e_book.specs.Steps.{count_monos, few_monos, with_terms, allowed, declared, stepped, step, FewNamed, begin, begun}
-use Rattle.e_book.specs.Entry.{Entry, script_of_close, entry_of_draft, statement_of_draft}
+use Rattle.e_book.specs.LineLimits.{count_monos, few_monos, FewNamed}
+use Rattle.e_book.specs.Steps.{with_terms, allowed, declared, stepped, step, begin, begun}
+use Rattle.e_book.specs.DraftViews.{script_of_close, entry_of_draft, statement_of_draft}
+use Rattle.e_book.specs.Entry.{Entry}
 use Rattle.e_book.specs.Fits.{NamesDiffer, few_facts, few_terms, Fits}
-use Rattle.e_book.specs.Book.{is_skipped, line_step, put_at, is_last, is_done, read_from}
+use Rattle.e_book.specs.Grammar.{is_skipped, put_at}
+use Rattle.e_book.specs.Book.{line_step, is_last, is_done, read_from}
 use Rattle.e_book.proofs.Answered.{within_ok, passes, untaken, put_ok, answered, pair, first_is, skip_or, Answer}
 use Rattle.e_book.proofs.InScope.{bind_ok, ok_is, read_ok, each_length}
 use Rattle.e_book.proofs.SaidForms.{Said, form_said}
@@ -71,7 +74,7 @@ more_names ns Point new = ap (λ k. record { points = k; lines = length ns.lines
 more_names ns Line new = ap (λ k. record { points = length ns.points; lines = k; circles = length ns.circles }) (sym (length-append ns.lines new))
 more_names ns Circle new = ap (λ k. record { points = length ns.points; lines = length ns.lines; circles = k }) (sym (length-append ns.circles new))
 
-few_named : (ns : Names) (sort : Sort) (new : List (List ℕ)) → FewNamed ns → length (names_of_sort ns sort) + length new ≤ most_of sort → FewNamed (with_names ns sort (names_of_sort ns sort ++ new))
+pub few_named : (ns : Names) (sort : Sort) (new : List (List ℕ)) → FewNamed ns → length (names_of_sort ns sort) + length new ≤ most_of sort → FewNamed (with_names ns sort (names_of_sort ns sort ++ new))
 few_named ns Point new f le = record { points = omega (arith, le, length-append ns.points new); lines = f.lines; circles = f.circles }
 few_named ns Line new f le = record { points = f.points; lines = omega (arith, le, length-append ns.lines new); circles = f.circles }
 few_named ns Circle new f le = record { points = f.points; lines = f.lines; circles = omega (arith, le, length-append ns.circles new) }

@@ -37,8 +37,9 @@ use Rattle.e_book.specs.Blocks.{is_claim, has_claim, made_in}
 use Rattle.e_book.specs.Scope.{scope_of_names, lit_in, lits_in, by_in, let_in, qed_in}
 use Rattle.e_book.specs.Superposes.{superpose_in}
 use Rattle.e_book.specs.Applies.{count_blanks, apply_in}
-use Rattle.e_book.specs.Steps.{count_monos, few_monos, terms_after, with_terms, few_objects, with_step, built, used_by, applied, outer_of, deeper, claimed, superposed, split, counted_from, resumed, closed_inside, closed, shut, stepped}
-use Rattle.e_book.specs.Entry.{script_of_close}
+use Rattle.e_book.specs.LineLimits.{count_monos, few_monos, few_objects}
+use Rattle.e_book.specs.Steps.{terms_after, with_terms, with_step, built, used_by, applied, outer_of, deeper, claimed, superposed, split, counted_from, resumed, closed_inside, closed, shut, stepped}
+use Rattle.e_book.specs.DraftViews.{script_of_close}
 use Rattle.e_book.proofs.Answered.{within_ok}
 use Rattle.e_book.proofs.InScope.{bind_ok, ok_is, read_ok, lit_in_scope, each_all}
 use Rattle.e_book.proofs.SaidLits.{LitsSaid}
@@ -350,7 +351,7 @@ keeps_shut known d e close g at fit one h =
     let o = open_at known d at g.body in
     closes_block known x e d.outers d.steps close g.head at o.outers (o.steps (script_of_close close) fit) (omega (arith, o.lines, one, size_is d.steps (script_of_close close))) (within_ok _ _ _ w.0 w.1) o.shallow w.2
 
-one_line : (os : List Obj) → size (script_of_close (closes.Qed os)) ≡ 1
+pub one_line : (os : List Obj) → size (script_of_close (closes.Qed os)) ≡ 1
 unfolding size
 one_line os = refl
 

@@ -10,7 +10,8 @@ use Rattle.e_book.specs.declared.draft.Draft.{Draft}
 use Rattle.e_book.specs.Reading.{◌>>=◌}
 use Rattle.e_book.specs.Limits.{most_terms, within, monomials, count_monomials}
 use Rattle.e_book.specs.Scope.{lit_in, lits_in}
-use Rattle.e_book.specs.Steps.{are_short, are_small, count_monos, or_limit, few_monos, terms_behind, terms_after, with_terms}
+use Rattle.e_book.specs.LineLimits.{are_short, are_small, count_monos, or_limit, few_monos}
+use Rattle.e_book.specs.Steps.{terms_behind, terms_after, with_terms}
 use Rattle.e_book.proofs.Answered.{within_ok}
 use Rattle.e_book.proofs.InScope.{bind_ok, ok_is, read_ok}
 use Rattle.e_book.proofs.ShortLits.{count_first}

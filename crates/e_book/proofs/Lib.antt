@@ -60,4 +60,12 @@ pub mod FormsByWord
 pub mod SaidForms
 pub mod ReadSpelled
 pub mod ReadingOn
+pub mod FirstFault
+pub mod ParserState
+pub mod LimitTests
+pub mod BlockCounts
+pub mod BlockLines
+pub mod BlockEnds
+pub mod StatementLines
+pub mod GrammarRead
 mod Checks

@@ -7,7 +7,7 @@ use Rattle.e_literal.specs.declared.object.Sort.TheVariants as sorts
 use Rattle.e_book.specs.declared.form.Form.{Form}
 use Rattle.e_book.specs.declared.form.Form.TheVariants as forms
 use Rattle.e_book.specs.Canonical.{lit_words, form_words, line_of}
-use Rattle.e_book.specs.Book.{is_skipped}
+use Rattle.e_book.specs.Grammar.{is_skipped}
 use Rattle.e_book.proofs.LetsAgain.{names_tokens, append_tokens, let_tokens}
 use Rattle.e_book.proofs.LitsAgain.{lit_tokens, lits_tokens}
 use Rattle.e_book.proofs.SuperposesAgain.{superpose_tokens}

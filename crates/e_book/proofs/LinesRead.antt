@@ -31,8 +31,9 @@ use Rattle.e_book.specs.Blocks.{made_in}
 use Rattle.e_book.specs.Headed.{Headed, theorem_of}
 use Rattle.e_book.specs.Applies.{count_blanks}
 use Rattle.e_book.specs.Scope.{scope_of_names, object_as, objects_of_sorts, qed_in}
-use Rattle.e_book.specs.Steps.{count_monos, few_objects, with_step, with_terms, built, used_by, applied, deeper, claimed, superposed, split, counted_from, resumed, closed, shut, stepped, step}
-use Rattle.e_book.specs.Entry.{script_of_close}
+use Rattle.e_book.specs.LineLimits.{count_monos, few_objects}
+use Rattle.e_book.specs.Steps.{with_step, with_terms, built, used_by, applied, deeper, claimed, superposed, split, counted_from, resumed, closed, shut, stepped, step}
+use Rattle.e_book.specs.DraftViews.{script_of_close}
 use Rattle.e_book.specs.Fits.{is_diagram_lit}
 use Rattle.e_book.specs.Canonical.{raw_of, name_of_object, by_form, hence_form, let_form, apply_form, claim_form, superpose_form, cases_form, else_form, qed_form, contradiction_form}
 use Rattle.e_book.proofs.Respelled.{as_read}

@@ -45,9 +45,12 @@ use Rattle.e_book.specs.Headed.{Headed, is_known, theorem_of, title_at, place_in
 use Rattle.e_book.specs.Scope.{scope_of_names, fresh, lit_in, lits_in, by_in, let_in, qed_in}
 use Rattle.e_book.specs.Applies.{count_blanks, apply_in}
 use Rattle.e_book.specs.Forms.{form_of}
-use Rattle.e_book.specs.Steps.{count_monos, few_monos, terms_after, with_terms, allowed, declared, few_objects, with_step, built, used_by, applied, interrupted, deeper, claimed, superposed, split, counted_from, resumed, closed_inside, closed, shut, stepped, step, begin, begun}
-use Rattle.e_book.specs.Entry.{Entry, script_of_close, statement_of_draft, entry_of_draft}
-use Rattle.e_book.specs.Book.{is_skipped, line_step, put_at, is_last, is_done, read_from}
+use Rattle.e_book.specs.LineLimits.{count_monos, few_monos, few_objects}
+use Rattle.e_book.specs.Steps.{terms_after, with_terms, allowed, declared, with_step, built, used_by, applied, interrupted, deeper, claimed, superposed, split, counted_from, resumed, closed_inside, closed, shut, stepped, step, begin, begun}
+use Rattle.e_book.specs.DraftViews.{script_of_close, statement_of_draft, entry_of_draft}
+use Rattle.e_book.specs.Entry.{Entry}
+use Rattle.e_book.specs.Grammar.{is_skipped, put_at}
+use Rattle.e_book.specs.Book.{line_step, is_last, is_done, read_from}
 use Rattle.e_book.specs.HasSpelling.{HasSpelling, AreNames, is_plain, is_place, is_named_by_title, names_theorems}
 use Rattle.e_book.proofs.Answered.{within_ok, passes, untaken, put_ok, answered, pair, first_is, skip_or, Answer}
 use Rattle.e_book.proofs.InScope.{bind_ok, ok_is, read_ok, each_length}

@@ -16,8 +16,10 @@ use Rattle.e_book.specs.declared.theorem.Theorem.{Theorem}
 use Rattle.e_book.specs.Faults.{trouble_at, line_fault}
 use Rattle.e_book.specs.Reading.{Fails, ◌>>=◌}
 use Rattle.e_book.specs.Headed.{Headed}
-use Rattle.e_book.specs.Entry.{Entry, entry_of, entry_of_draft}
-use Rattle.e_book.specs.Book.{is_skipped, line_step, put_at, is_done, at_end, read_from, BookFails, IsBegun, TakesWords, TakesLine, ReadsOn, end_of}
+use Rattle.e_book.specs.DraftViews.{entry_of_draft}
+use Rattle.e_book.specs.Entry.{Entry, entry_of}
+use Rattle.e_book.specs.Grammar.{is_skipped, put_at, BookFails}
+use Rattle.e_book.specs.Book.{line_step, is_done, at_end, read_from, IsBegun, TakesWords, TakesLine, ReadsOn, end_of}
 use Rattle.e_book.specs.HasSpelling.{HasSpelling}
 use Rattle.e_book.proofs.Answered.{Answer, answered, pair}
 use Rattle.e_book.proofs.ReadSpelled.{read_is_spelled}

@@ -125,7 +125,7 @@ apply_said ws a e =
     subst (λ (x : RawApply). (is_title x.title ≡ true) × AreNames x.new) (ok_is (made t.0.0 args.0 new.0) a new.2)
     (title_said ws t.0 t.1, behind_as_said parts.2 parts.1 new.0 new.1)
 
-some_lits_said : (ws : List (List ℕ)) (ls : List RawLit) → lits_of ws ≡ Ok ls → (0 < length ls) × LitsSaid ls
+pub some_lits_said : (ws : List (List ℕ)) (ls : List RawLit) → lits_of ws ≡ Ok ls → (0 < length ls) × LitsSaid ls
 some_lits_said ws ls e =
     let n = each_length lit_of (slice_split is_semicolon ws) ls e in
     (omega (arith, n, length-slice_split is_semicolon ws), lits_said ws ls e)
@@ -160,7 +160,7 @@ head_said head rest s e =
     let shown = some_lits_said rest l.0 l.1 in
     subst (λ (x : RawSuperpose). Said (forms.Superpose x)) (ok_is (made n.0 a.0 l.0) s l.2) (names_said news n.0 n.1, count, shown.0, shown.1)
 
-superpose_said : (ws : List (List ℕ)) (s : RawSuperpose) → superpose_of ws ≡ Ok s → Said (forms.Superpose s)
+pub superpose_said : (ws : List (List ℕ)) (s : RawSuperpose) → superpose_of ws ≡ Ok s → Said (forms.Superpose s)
 unfolding superpose_of
 superpose_said ws s e = head_said (take 13 ws) (drop 13 ws) s e
 
@@ -251,7 +251,7 @@ atom_plain ns (raw.SumsEqual x y) a d e = absurd cc
 atom_plain ns (raw.SumsLess x y) a d e = absurd cc
 atom_plain ns (raw.SumsAtMost x y) a d e = absurd cc
 
-lit_plain : (ns : Names) (r : RawLit) (l : Lit) → is_diagram_raw r.atom ≡ true → lit_in ns r ≡ Ok l → is_diagram_lit l ≡ true
+pub lit_plain : (ns : Names) (r : RawLit) (l : Lit) → is_diagram_raw r.atom ≡ true → lit_in ns r ≡ Ok l → is_diagram_lit l ≡ true
 unfolding lit_in
 lit_plain ns r l d e =
     let a = bind_ok (atom_in ns r.atom) (λ a. read_ok (record { neg = negated_in r.atom r.neg; atom = a })) l e in

@@ -36,7 +36,8 @@ use Rattle.e_book.specs.Blocks.{made_in}
 use Rattle.e_book.specs.Headed.{Headed, stated_by, theorem_of}
 use Rattle.e_book.specs.Scope.{scope_of_names}
 use Rattle.e_book.specs.Applies.{count_blanks}
-use Rattle.e_book.specs.Steps.{few_objects, closed}
+use Rattle.e_book.specs.LineLimits.{few_objects}
+use Rattle.e_book.specs.Steps.{closed}
 use Rattle.e_book.specs.Book.{is_done}
 use Rattle.e_book.specs.Fits.{NewNamesFit, few_facts, few_terms, few_blanks, is_diagram_lit, has_good_literals}
 use Rattle.e_book.specs.Canonical.{script_forms, else_form}

@@ -16,7 +16,7 @@ use Rattle.e_deriv.specs.declared.names.Names.{Names}
 use Rattle.e_book.specs.declared.sum.RawMono.{RawMono}
 use Rattle.e_book.specs.Limits.{most_monomials, most_coefficient}
 use Rattle.e_book.specs.Literals.{monos_of}
-use Rattle.e_book.specs.Steps.{are_short, are_small, count_monos, few_monos}
+use Rattle.e_book.specs.LineLimits.{are_short, are_small, count_monos, few_monos}
 use Rattle.e_book.specs.Fits.{monomials, count_monomials}
 use Rattle.e_book.specs.Canonical.{raw_mono, raw_sum, raw_signed, raw_of}
 use Rattle.e_book.proofs.GoodSums.{is_good_mono, AreGood, GoodSums, good_sums, turned}

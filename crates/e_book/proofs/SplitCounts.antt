@@ -7,7 +7,8 @@ use Rattle.e_book.specs.declared.literal.RawLit.{RawLit}
 use Rattle.e_book.specs.Limits.{most_terms, monomials, within}
 use Rattle.e_book.specs.Literals.{monos_of}
 use Rattle.e_book.specs.Scope.{lit_in}
-use Rattle.e_book.specs.Steps.{count_monos, terms_behind}
+use Rattle.e_book.specs.LineLimits.{count_monos}
+use Rattle.e_book.specs.Steps.{terms_behind}
 use Rattle.e_book.proofs.Answered.{within_ok}
 use Rattle.e_book.proofs.InScope.{bind_ok, read_ok}
 use Rattle.e_book.proofs.WellRead.{lit_count}

@@ -27,7 +27,7 @@ use Rattle.e_book.specs.Limits.{most_monomials, most_coefficient}
 use Rattle.e_book.specs.Reading.{◌>>=◌, each}
 use Rattle.e_book.specs.Literals.{monos_of}
 use Rattle.e_book.specs.Scope.{number_of, term_in, kind_of_raw, first_kind, mono_in, sums_in, atom_in, negated_in, lit_in, lits_in}
-use Rattle.e_book.specs.Steps.{are_short, are_small, count_monos}
+use Rattle.e_book.specs.LineLimits.{are_short, are_small, count_monos}
 use Rattle.e_book.specs.Fits.{is_diagram_atom, monomials, count_monomials}
 use Rattle.e_book.proofs.InScope.{bind_ok, ok_is, read_ok, each_length, mono_read, sums_read}
 use Rattle.e_book.proofs.SaidLits.{SumSaid, SidesSaid, AtomSaid, LitsSaid}

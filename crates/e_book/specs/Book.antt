@@ -1,7 +1,7 @@
 -- A book, line by line.
-use Rattle.std.specs.Prelude.{◌≡◌, ℕ, ◌+◌, Bool, true, false, ◌==◌, List, [], ◌∷◌, ◌++◌, length, Option, Some, None, Result, Ok, Err, if◌then◌else◌}
+use Rattle.std.specs.Prelude.{◌≡◌, ℕ, Bool, true, false, List, [], ◌∷◌, ◌++◌, Option, Some, None, Result, Ok, Err, if◌then◌else◌}
 use Rattle.e_text.specs.Tokens.{tokens_of}
-use Rattle.e_text.specs.Lines.{Seen, Ahead, AreGood}
+use Rattle.e_text.specs.Lines.{Seen, AreGood}
 use Rattle.e_text.specs.declared.line.LineFault.{LineFault}
 use Rattle.e_book.specs.declared.fault.Kind.{Kind}
 use Rattle.e_book.specs.declared.fault.BookFault.{BookFault}
@@ -10,30 +10,19 @@ use Rattle.e_book.specs.declared.draft.Place.{Place}
 use Rattle.e_book.specs.declared.draft.Place.TheVariants as places
 use Rattle.e_book.specs.declared.draft.Draft.{Draft}
 use Rattle.e_book.specs.declared.theorem.Theorem.{Theorem}
-use Rattle.e_book.specs.Faults.{at_line, line_fault}
+use Rattle.e_book.specs.Faults.{line_fault}
 use Rattle.e_book.specs.Reading.{◌>>=◌}
 use Rattle.e_book.specs.Headed.{Headed}
-use Rattle.e_book.specs.Entry.{Entry, entry_of, entry_of_draft}
+use Rattle.e_book.specs.DraftViews.{entry_of_draft}
+use Rattle.e_book.specs.Entry.{Entry, entry_of}
 use Rattle.e_book.specs.Forms.{form_of}
+use Rattle.e_book.specs.Grammar.{is_skipped, put_at, BookFails}
 use Rattle.e_book.specs.Steps.{step, begin}
-
-abbrev pub starts_with_hash : List ℕ → Bool
-starts_with_hash [] = false
-starts_with_hash (b ∷ bs) = b == 35
-
--- a line without words, or whose first word begins with #, says nothing
-abbrev pub is_skipped : List (List ℕ) → Bool
-is_skipped [] = true
-is_skipped (w ∷ ws) = starts_with_hash w
 
 -- the first line of a theorem begins it, and each other goes on
 unfoldable pub line_step : List Headed → Option Draft → List (List ℕ) → Result Draft Kind
 line_step known None words = form_of words >>= λ f. begin known f
 line_step known (Some d) words = form_of words >>= λ f. step known d f
-
-abbrev pub put_at : {A : Type 0} → ℕ → Result A Kind → Result A BookFault
-put_at line (Ok x) = Ok x
-put_at line (Err kind) = Err (at_line line kind)
 
 abbrev pub is_last : Place → Bool
 is_last places.Done = true
@@ -54,24 +43,6 @@ read_from known last draft (Err f ∷ lines) = Err (line_fault f)
 read_from known last draft (Ok line ∷ lines) =
     if is_skipped (tokens_of line.bytes) then read_from known last draft lines else
     (put_at line.number (line_step known draft (tokens_of line.bytes)) >>= λ d. if is_done d then Ok (Some (entry_of_draft d, lines)) else read_from known last (Some d) lines)
-
-abbrev pub last_line : Ahead → ℕ
-last_line ahead = ahead.line + length ahead.lines
-
--- what was answered is what the grammar says, unless memory ran out
-abbrev pub BookFails : {Y : Type 0} → BookFault → Result Y BookFault → Type 0
-BookFails faults.NoMemory read = Unit {0}
-BookFails (faults.Malformed line) read = read ≡ Err (faults.Malformed line)
-BookFails (faults.UnknownName line) read = read ≡ Err (faults.UnknownName line)
-BookFails (faults.NameTaken line) read = read ≡ Err (faults.NameTaken line)
-BookFails (faults.WrongSort line) read = read ≡ Err (faults.WrongSort line)
-BookFails (faults.Limit line what) read = read ≡ Err (faults.Limit line what)
-BookFails (faults.Unended line) read = read ≡ Err (faults.Unended line)
-
-abbrev pub BookReads : Result (Option Theorem) BookFault → Ahead → Result (Option (Entry × List (Result Seen LineFault))) BookFault → Type 0
-BookReads (Ok (Some t)) new read = read ≡ Ok (Some (entry_of t, new.lines))
-BookReads (Ok None) new read = read ≡ Ok None
-BookReads (Err f) new read = BookFails f read
 
 -- ---- reading on from what has come of a theorem, whatever lines come
 

@@ -24,7 +24,7 @@ use Rattle.e_book.specs.Headed.{Headed, is_known, stated_by}
 pub use Rattle.e_book.specs.Scope.{scope_of_names}
 use Rattle.e_book.specs.Scope.{has, fresh}
 use Rattle.e_book.specs.Applies.{count_blanks}
-use Rattle.e_book.specs.Steps.{few_objects}
+use Rattle.e_book.specs.LineLimits.{few_objects}
 use Rattle.e_book.specs.Entry.{Entry}
 
 -- no two of the names are equal

@@ -1,6 +1,6 @@
 -- The forms of literals, by their spelling alone.
 use Rattle.std.specs.Prelude.{ℕ, Bool, true, false, ◌&&◌, ◌==◌, List, [], ◌∷◌, ◌++◌, length, take, drop, Option, Some, None, is_some, Result, Ok, Err, codes, if◌then◌else◌}
-use Rattle.std.specs.List.{slice_split, position_or_len}
+use Rattle.std.specs.List.{slice_split, position_or_len, list_all}
 use Rattle.std.specs.Str.{bytes_eq}
 use Rattle.e_text.specs.Names.{name_of}
 use Rattle.e_book.specs.declared.fault.Kind.{Kind}
@@ -116,6 +116,10 @@ is_semicolon word = bytes_eq word (codes ";")
 -- one or more literals between semicolons
 abbrev pub lits_of : List (List ℕ) → Result (List RawLit) Kind
 lits_of words = each lit_of (slice_split is_semicolon words)
+
+-- one or more diagram literals between semicolons
+unfoldable pub diagram_lits_of : List (List ℕ) → Result (List RawLit) Kind
+diagram_lits_of words = lits_of words >>= λ ls. if list_all (λ l. is_diagram_raw l.atom) ls then Ok ls else Err Malformed
 
 -- the monomials of a literal, from left to right
 abbrev pub monos_of : RawAtom → List RawMono

@@ -1,8 +1,6 @@
 -- A theorem while its lines come, one after another.
-use Rattle.std.specs.Prelude.{ℕ, ◌+◌, ◌≤◌, Bool, true, false, ◌≡◌, Option, List, [], ◌∷◌, ◌++◌, length, replicate, sum_by, nat_le, Some, None, Result, Ok, Err, if◌then◌else◌}
-use Rattle.std.specs.List.{list_all}
+use Rattle.std.specs.Prelude.{ℕ, ◌+◌, ◌≤◌, Bool, true, false, ◌≡◌, Option, List, [], ◌∷◌, ◌++◌, length, replicate, Some, None, Result, Ok, Err, if◌then◌else◌}
 use Rattle.e_literal.specs.declared.object.Sort.{Sort}
-use Rattle.e_literal.specs.declared.object.Sort.TheVariants as sorts
 use Rattle.e_literal.specs.declared.object.Obj.{Obj}
 use Rattle.e_literal.specs.declared.literal.Lit.{Lit}
 use Rattle.e_literal.specs.Use.{Stated}
@@ -13,8 +11,7 @@ use Rattle.e_deriv.specs.Naming.{names_of_sort, with_names, named, declared_name
 use Rattle.e_deriv.specs.PlainStep.{PlainStep, Cited, Inferred, Made, Applied, Claimed, Copied, all_before}
 use Rattle.e_deriv.specs.Script.{Script}
 use Rattle.e_book.specs.declared.fault.Kind.{Kind}
-use Rattle.e_book.specs.declared.fault.Kind.TheVariants.{Malformed, NameTaken, Limit}
-use Rattle.e_book.specs.declared.fault.What.{What}
+use Rattle.e_book.specs.declared.fault.Kind.TheVariants.{Malformed, NameTaken}
 use Rattle.e_book.specs.declared.fault.What.TheVariants as limits
 use Rattle.e_book.specs.declared.literal.RawLit.{RawLit}
 use Rattle.e_book.specs.declared.lets.RawLet.{RawLet}
@@ -33,11 +30,11 @@ use Rattle.e_book.specs.declared.draft.Draft.{Draft}
 use Rattle.e_book.specs.declared.inner.Around.{Around}
 use Rattle.e_book.specs.declared.fault.Trouble.{Trouble}
 use Rattle.e_book.specs.Reading.{◌>>=◌, with_front, Fails}
-use Rattle.e_book.specs.Literals.{monos_of}
-use Rattle.e_book.specs.Limits.{most_theorems, most_of, most_steps, most_depth, most_facts, most_monomials, most_coefficient, most_terms, most_blanks, what_of, within, monomials, count_monomials}
+use Rattle.e_book.specs.Limits.{most_theorems, most_of, most_steps, most_depth, most_facts, most_terms, most_blanks, what_of, within, monomials, count_monomials}
 use Rattle.e_theorem.specs.Statements.{stated}
 use Rattle.e_book.specs.Headed.{Headed, is_known, theorem_of}
-use Rattle.e_book.specs.Entry.{statement_of_draft, script_of_close}
+use Rattle.e_book.specs.DraftViews.{statement_of_draft, script_of_close}
+use Rattle.e_book.specs.LineLimits.{few_objects, count_monos, few_monos, FewNamed}
 use Rattle.e_book.specs.Blocks.{made_in}
 use Rattle.e_book.specs.Superposes.{superpose_in}
 use Rattle.e_book.specs.Scope.{scope_of_names, fresh, lit_in, lits_in, by_in, let_in, qed_in}
@@ -76,40 +73,12 @@ declared ns sort new = do
   few ← within (length (names_of_sort ns sort) + length new) (most_of sort) (what_of sort)
   Ok (with_names ns sort (names_of_sort ns sort ++ new))
 
--- the limits of objects in scope: points, then lines, then circles
-unfoldable pub few_objects : Names → Result (Unit {0}) Kind
-few_objects ns = do
-  points ← within (length ns.points) (most_of sorts.Point) limits.Points
-  lines ← within (length ns.lines) (most_of sorts.Line) limits.Lines
-  within (length ns.circles) (most_of sorts.Circle) limits.Circles
-
 -- one more step line, and so many more facts
 unfoldable pub with_step : Draft → PlainStep → ℕ → Result Draft Kind
 with_step d s given = do
   few ← within (d.lines + 1) most_steps limits.Steps
   none ← within (d.facts + given) most_facts limits.Facts
   Ok (record d { lines = d.lines + 1; steps = d.steps ++ s ∷ []; facts = d.facts + given })
-
--- no literal has more monomials than it may
-abbrev pub are_short : List RawLit → Bool
-are_short raws = list_all (λ l. nat_le (length (monos_of l.atom)) most_monomials) raws
-
--- no coefficient is larger than it may be
-abbrev pub are_small : List RawLit → Bool
-are_small raws = list_all (λ l. list_all (λ m. nat_le m.coeff most_coefficient) (monos_of l.atom)) raws
-
-abbrev pub count_monos : List RawLit → ℕ
-count_monos raws = sum_by (λ l. length (monos_of l.atom)) raws
-
-abbrev pub or_limit : Bool → What → Result (Unit {0}) Kind
-or_limit true what = Ok tt
-or_limit false what = Err (Limit what)
-
--- the limits of literals that are written
-unfoldable pub few_monos : List RawLit → Result (Unit {0}) Kind
-few_monos raws = do
-  short ← or_limit (are_short raws) limits.Monomials
-  or_limit (are_small raws) limits.Coefficient
 
 -- so many monomials and those of the literals, or the limit of all
 abbrev pub terms_behind : ℕ → List RawLit → Result ℕ Kind
@@ -314,12 +283,6 @@ stepped known d forms.End = Ok (record d { place = Done })
 -- a line at its place: its form there, then its names from left to right, then the limits
 unfoldable pub step : List Headed → Draft → Form → Result Draft Kind
 step known d form = if allowed d.place form then stepped known d form else Err Malformed
-
--- what the names and the counts are known to be: within the limits
-pub record FewNamed (ns : Names) : Type 0 where
-  pub points : length ns.points ≤ most_of sorts.Point
-  pub lines : length ns.lines ≤ most_of sorts.Line
-  pub circles : length ns.circles ≤ most_of sorts.Circle
 
 -- how many names there are
 abbrev pub count_names : Names → ℕ

@@ -7,7 +7,8 @@ ghost use Rattle.e_book.specs.Fits.{Fits};
 ghost use Rattle.e_theorem.specs.Statements.{stated};
 ghost use Rattle.e_deriv.specs.Script.{script_of};
 ghost use Rattle.e_deriv.specs.Fitting.{is_small_statement, IsFitting};
-ghost use Rattle.e_book.specs.Book.{read_from, last_line, BookReads};
+ghost use Rattle.e_book.specs.Grammar.{last_line, BookReads};
+ghost use Rattle.e_book.specs.Book.{read_from};
 
 use crate::fault::BookFault;
 use crate::known::Known;
@@ -69,7 +70,7 @@ pub fn next_theorem(
 ) -> Result<Option<Theorem>, BookFault>
     requires lines { last_line lines.old < 2 ^ 32 }
     requires known { IsTrue (list_all is_small_statement (stated_by known.now)) }
-    ensures read { BookReads result lines.new (read_from known.now (last_line lines.old) None lines.old.lines) }
+    ensures read { BookReads result lines.new (Rattle.e_book.specs.Grammar.read_from known.now (last_line lines.old) None lines.old.lines) }
     ensures last { OnOk result (last_line lines.new ≡ last_line lines.old) }
     ensures shorter { IfOk result (λ t. OnSome t (length lines.new.lines < length lines.old.lines)) }
     ensures fits { IfOk result (λ o. IfSome o (λ t. Fits known.now (entry_of t))) }

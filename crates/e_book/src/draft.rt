@@ -4,7 +4,8 @@ ghost use Rattle.e_book.specs.Reading.{Gives, Moves};
 ghost use Rattle.e_construct.specs.Construct.{gives};
 ghost use Rattle.e_book.specs.Scope.{names_of_sort, with_names};
 ghost use Rattle.e_deriv.specs.Naming.{named};
-ghost use Rattle.e_book.specs.Steps.{allowed, declared, no_names, count_names, few_objects, FewNamed};
+ghost use Rattle.e_book.specs.LineLimits.{few_objects, FewNamed};
+ghost use Rattle.e_book.specs.Steps.{allowed, declared, no_names, count_names};
 
 use crate::applies::{Application, RawApply, apply_in, count_blanks};
 use crate::blocks::Outers;
@@ -96,7 +97,8 @@ fn allowed(place: Place, form: &Form) -> bool
     }
 }
 
-fn no_names(alloc: Global) -> Names
+/// No names of any sort.
+pub fn no_names(alloc: Global) -> Names
     ensures { result ≡ no_names }
 {
     Names {
@@ -120,7 +122,7 @@ fn append_names(names: &mut Names, sort: Sort, new: &[Name]) -> Result<(), Alloc
 
 /// New objects of a sort: names that are free, and the limit of the sort.
 #[tactic(auto, unfolding(crate::specs::Steps::declared))]
-fn declare(names: &mut Names, sort: Sort, new: &[Name]) -> Result<(), Trouble>
+pub fn declare(names: &mut Names, sort: Sort, new: &[Name]) -> Result<(), Trouble>
     requires { FewNamed names.old }
     ensures count { OnOk result (count_names names.new ≡ count_names names.old + length new.now) }
     ensures value { Moves result names.new (declared names.old sort new.now) }
@@ -157,8 +159,10 @@ impl Draft {
     ghost use Rattle.e_deriv.specs.PlainStep.{plain_step};
     ghost use Rattle.e_theorem.specs.Statements.{stated};
     ghost use Rattle.e_book.specs.Limits.{most_theorems};
-    ghost use Rattle.e_book.specs.Steps.{FitsScope, begin, step, stepped, declares, supposes, makes, few_objects, proof_begun, cited, inferred, with_step, with_terms, built, used_by, applied};
-    ghost use Rattle.e_book.specs.Entry.{entry_of, entry_of_draft};
+    ghost use Rattle.e_book.specs.LineLimits.{few_objects};
+    ghost use Rattle.e_book.specs.Steps.{FitsScope, begin, step, stepped, declares, supposes, makes, proof_begun, cited, inferred, with_step, with_terms, built, used_by, applied};
+    ghost use Rattle.e_book.specs.DraftViews.{entry_of_draft};
+    ghost use Rattle.e_book.specs.Entry.{entry_of};
 
     /// A theorem begun by its first line.
     #[tactic(auto, unfolding(crate::specs::Steps::begin))]

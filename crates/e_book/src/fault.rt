@@ -48,6 +48,8 @@ pub enum What {
     Terms,
     /// Blanks of a line, at most 6.
     Blanks,
+    /// A number of a figure: at most 1,000,000 in size, and a square at most 10^12.
+    Number,
 }
 
 /// What is wrong with a line, or want of memory.
@@ -141,7 +143,7 @@ impl Trouble {
 }
 
 /// What a fault of a line's bytes is for a book.
-pub(crate) fn of_line(fault: LineFault) -> BookFault
+pub fn of_line(fault: LineFault) -> BookFault
     requires { fault_line fault < 2 ^ 32 }
     ensures { result ≡ line_fault fault }
 {

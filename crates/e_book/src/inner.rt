@@ -2,7 +2,7 @@
 ghost use Rattle.std.specs.Prelude.{◌≡◌, ◌≤◌, ◌+◌, ◌++◌, ◌∷◌, [], length, IfOk, OnOk, Ok, Err};
 ghost use Rattle.e_book.specs.Reading.{Gives, Moves};
 ghost use Rattle.e_deriv.specs.Naming.{named};
-ghost use Rattle.e_book.specs.Steps.{few_objects, FewNamed};
+ghost use Rattle.e_book.specs.LineLimits.{few_objects, FewNamed};
 
 use crate::blocks::{Closed, Opened, Outer};
 use crate::draft::{Draft, Place};
@@ -53,9 +53,10 @@ impl Draft {
     ghost use Rattle.e_deriv.specs.Naming.{named};
     ghost use Rattle.e_deriv.specs.PlainStep.{plain_step, Claimed, Copied, all_before};
     ghost use Rattle.e_book.specs.Limits.{most_depth, most_terms};
-    ghost use Rattle.e_book.specs.Steps.{FitsScope, FitsOuter, HasRoom, ClosesInside, few_objects, concluded, with_terms, room_inside, interrupted, begun_with, begun_terms, claimed, superposed, copies_begun, split, outer_with, resumed, second_begun, closed, shut};
+    ghost use Rattle.e_book.specs.LineLimits.{few_objects};
+    ghost use Rattle.e_book.specs.Steps.{FitsScope, FitsOuter, HasRoom, ClosesInside, concluded, with_terms, room_inside, interrupted, begun_with, begun_terms, claimed, superposed, copies_begun, split, outer_with, resumed, second_begun, closed, shut};
     ghost use Rattle.e_book.specs.Blocks.{made_in};
-    ghost use Rattle.e_book.specs.Entry.{script_of_close};
+    ghost use Rattle.e_book.specs.DraftViews.{script_of_close};
 
     /// The limits of a line that begins an inner block with so many facts: of steps, of depth and of facts.
     #[tactic(auto, unfolding(crate::specs::Steps::room_inside))]

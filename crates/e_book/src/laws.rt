@@ -1,5 +1,5 @@
 //! What holds of the grammar: each law is the contract of a function.
-ghost use Rattle.e_book.specs.Laws.{CanonicalLinesAreRead, ReadTheoremsHaveASpelling};
+ghost use Rattle.e_book.specs.Laws.{CanonicalLinesAreRead, ReadTheoremsHaveASpelling, FaultIsFirst, FaultIsOfTheFront};
 
 /// A theorem that has a spelling is read from its canonical lines, and the lines behind them are left.
 pub fn canonical_lines_are_read()
@@ -9,4 +9,14 @@ pub fn canonical_lines_are_read()
 /// A theorem that is read, from whatever lines, has a spelling: so its canonical lines are read as it.
 pub fn read_theorems_have_a_spelling()
     ensures { ReadTheoremsHaveASpelling }
+{}
+
+/// A fault is the first: the lines before it are taken, or all are, and they end inside a theorem.
+pub fn fault_is_first()
+    ensures { FaultIsFirst }
+{}
+
+/// A fault depends on the lines up to it alone: it is that fault whatever follows it.
+pub fn fault_is_of_the_front()
+    ensures { FaultIsOfTheFront }
 {}

@@ -28,16 +28,18 @@ mod words;
 pub use applies::{Application, RawApply, apply_in, put_made_names};
 pub use blocks::{Closed, Opened, Outer, Outers};
 pub use book::next_theorem;
-pub use draft::{Draft, Place};
-pub use fault::{BookFault, Kind, Trouble, What};
+pub use draft::{Draft, Place, declare, no_names};
+pub use fault::{BookFault, Kind, Trouble, What, of_line};
 pub use form::{Form, form_of};
 pub use known::Known;
-pub use laws::{canonical_lines_are_read, read_theorems_have_a_spelling};
+pub use laws::{
+    canonical_lines_are_read, fault_is_first, fault_is_of_the_front, read_theorems_have_a_spelling,
+};
 pub use lets::RawLet;
 pub use limits::few_monos;
-pub use literal::{RawAtom, RawLit, diagram_lit_of, lit_of};
-pub use reading::Reading;
-pub use scope::{args_in, let_in, lit_in, qed_in, scope_of_names};
+pub use literal::{RawAtom, RawLit, diagram_lit_of, diagram_lits_of, lit_of};
+pub use reading::{Reading, is_skipped};
+pub use scope::{args_in, let_in, lit_in, put_lits, qed_in, scope_of_names};
 pub use steps::{CloseLine, Steps};
 pub use sum::{RawMono, RawTerm, term_of};
 pub use superposes::{Placement, RawSuperpose, superpose_in, superposition_pieces};

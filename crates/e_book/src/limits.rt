@@ -5,7 +5,8 @@ ghost use Rattle.e_book.specs.Reading.{Gives};
 ghost use Rattle.e_book.specs.Literals.{monos_of};
 ghost use Rattle.e_book.specs.declared.fault.What.TheVariants as limits;
 ghost use Rattle.e_book.specs.Limits.{most_coefficient, most_facts, most_terms, most_of, what_of, within};
-ghost use Rattle.e_book.specs.Steps.{are_short, are_small, few_monos, terms_behind, terms_after, few_objects, FewNamed};
+ghost use Rattle.e_book.specs.LineLimits.{are_short, are_small, few_monos, few_objects, FewNamed};
+ghost use Rattle.e_book.specs.Steps.{terms_behind, terms_after};
 
 use crate::fault::{Kind, Trouble, What};
 use crate::literal::{RawAtom, RawLit};
@@ -76,7 +77,7 @@ pub(crate) fn what_of(sort: Sort) -> What
 }
 
 /// The limits of objects in scope: points, then lines, then circles.
-#[tactic(auto, unfolding(crate::specs::Steps::few_objects))]
+#[tactic(auto, unfolding(crate::specs::LineLimits::few_objects))]
 pub(crate) fn few_objects(names: &Names) -> Result<(), Trouble>
     ensures value { Gives (λ u. u) result (few_objects names.now) }
     ensures fits { IfOk result (λ u. FewNamed names.now) }
@@ -131,7 +132,7 @@ fn are_small(lits: &[RawLit]) -> bool
 }
 
 /// The limits of each literal: of its monomials, and then of the coefficients of all.
-#[tactic(auto, unfolding(crate::specs::Steps::few_monos))]
+#[tactic(auto, unfolding(crate::specs::LineLimits::few_monos))]
 pub fn few_monos(lits: &[RawLit]) -> Result<(), Trouble>
     ensures { Gives (λ u. u) result (few_monos lits.now) }
 {

@@ -1,8 +1,8 @@
 //! The forms of literals, told from their words by spelling alone.
 ghost use Rattle.std.specs.Prelude.{◌≡◌, ◌∷◌, ◌≤◌, List, length};
-ghost use Rattle.std.specs.List.{position_or_len};
+ghost use Rattle.std.specs.List.{list_all, position_or_len};
 ghost use Rattle.e_book.specs.Reading.{texts, Gives, Moves, with_front};
-ghost use Rattle.e_book.specs.Literals.{sign_of, is_sign, object_of, sums_of, sides_of, equal_sides, negation_of, sign_first, compared, related, signed_of, lit_of, is_diagram_raw, diagram_lit_of, lits_of};
+ghost use Rattle.e_book.specs.Literals.{sign_of, is_sign, object_of, sums_of, sides_of, equal_sides, negation_of, sign_first, compared, related, signed_of, lit_of, is_diagram_raw, diagram_lit_of, diagram_lits_of, lits_of};
 
 use crate::fault::{Kind, Trouble};
 use crate::sum::{RawMono, sum_of};
@@ -299,6 +299,26 @@ fn put_lits_of(alloc: Global, words: &[&[u8]], lits: &mut Items<RawLit>) -> Resu
         at = end + 1;
     }
     Ok(())
+}
+
+/// Whether the literals are of diagrams or of equal objects.
+fn are_diagrams_raw(lits: &[RawLit]) -> bool
+    ensures { result ≡ list_all (λ l. is_diagram_raw l.atom) lits.now }
+{
+    lits.iter().all(|lit| is_diagram_raw(&lit.atom))
+}
+
+/// One or more literals with semicolons between them, each of diagrams or of equal objects.
+#[tactic(auto, unfolding(crate::specs::Literals::diagram_lits_of))]
+pub fn diagram_lits_of(alloc: Global, words: &[&[u8]]) -> Result<Items<RawLit>, Trouble>
+    ensures { Gives (λ l. l) result (diagram_lits_of (texts words.now)) }
+{
+    let lits = lits_of(alloc, words)?;
+    if !are_diagrams_raw(lits.items()) {
+        mem::drop(lits);
+        return Err(Trouble::Fault(Kind::Malformed));
+    }
+    Ok(lits)
 }
 
 /// One or more literals with semicolons between them.

@@ -5,7 +5,8 @@ ghost use Rattle.e_text.specs.Tokens.{tokens_of};
 ghost use Rattle.e_book.specs.Limits.{most_theorems};
 ghost use Rattle.e_book.specs.Reading.{texts, Gives};
 ghost use Rattle.e_book.specs.Steps.{FitsScope};
-ghost use Rattle.e_book.specs.Book.{starts_with_hash, is_skipped, line_step, is_done, last_line, IsBegun, TakesWords, TakesLine, ReadsOn, end_of};
+ghost use Rattle.e_book.specs.Grammar.{starts_with_hash, is_skipped, last_line};
+ghost use Rattle.e_book.specs.Book.{line_step, is_done, IsBegun, TakesWords, TakesLine, ReadsOn, end_of};
 ghost use Rattle.e_book.specs.Entry.{entry_of};
 ghost use Rattle.e_book.specs.HasSpelling.{HasSpelling};
 
@@ -28,7 +29,8 @@ fn starts_with_hash(word: &[u8]) -> bool
     }
 }
 
-fn is_skipped(words: &[&[u8]]) -> bool
+/// Whether a line says nothing: it has no words, or its first begins with `#`.
+pub fn is_skipped(words: &[&[u8]]) -> bool
     ensures { result ≡ is_skipped (texts words.now) }
 {
     match words {

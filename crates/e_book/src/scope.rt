@@ -13,8 +13,7 @@ use crate::lets::RawLet;
 use crate::literal::{RawAtom, RawLit};
 use crate::terms::{Sides, sums_in};
 use e_clause::{By, Rule, Sig};
-use e_construct::naming::same_sort;
-use e_construct::{Construction, Shape, takes};
+use e_construct::{Construction, Shape, same_sort, takes};
 use e_deriv::Names;
 use e_literal::{Atom, Items, Lit, Obj, Scope, Sort};
 use e_text::{Name, Title, contains, place_of};
@@ -219,7 +218,7 @@ pub fn lit_in(alloc: Global, names: &Names, lit: &RawLit) -> Result<Lit, Trouble
 }
 
 /// Puts the literals with their objects last; the leftmost fault.
-pub(crate) fn put_lits(
+pub fn put_lits(
     alloc: Global,
     names: &Names,
     raw: &[RawLit],

@@ -3,7 +3,7 @@ use Rattle.std.specs.Prelude.{IfSome, OnSome}
 use Rattle.e_text.specs.Lines.{AreGood}
 use Rattle.e_book.specs.Limits.{most_theorems}
 use Rattle.e_book.specs.Steps.{FitsScope}
-use Rattle.e_book.specs.Book.{last_line}
+use Rattle.e_book.specs.Grammar.{last_line}
 use Rattle.e_book.proofs.ReadingOn.{Alike}
 use Rattle.e_book.proofs.reading.Reading.read_lines.Given as goal
 

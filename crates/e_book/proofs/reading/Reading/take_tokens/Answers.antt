@@ -1,6 +1,7 @@
 use Rattle.std.proofs.Common.{ℕ, List, sym, ap, subst, ◌∙◌}
 use Rattle.e_text.specs.Lines.{seen}
-use Rattle.e_book.specs.Book.{is_skipped, TakesWords}
+use Rattle.e_book.specs.Grammar.{is_skipped}
+use Rattle.e_book.specs.Book.{TakesWords}
 use Rattle.e_book.proofs.ReadingOn.{takes_skipped, takes_words}
 use Rattle.e_book.proofs.reading.Reading.take_tokens.Goals as goal
 

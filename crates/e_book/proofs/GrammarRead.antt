@@ -1,0 +1,283 @@
+-- Lines are read as the grammar says: the parser makes the same of each, and holds what the lines have said.
+use Rattle.std.proofs.Common.{◌≡◌, ℕ, ◌+◌, ◌<◌, Bool, true, false, cond, leb, List, [], ◌∷◌, length, map, Option, Some, None, Result, Ok, Err, refl, sym, ap, subst, ◌∙◌, arith}
+use Rattle.e_deriv.specs.declared.names.Names.{Names}
+use Rattle.e_text.specs.Tokens.{tokens_of}
+use Rattle.e_book.specs.declared.fault.Kind.{Kind}
+use Rattle.e_book.specs.declared.fault.Kind.TheVariants.{Malformed, NameTaken}
+use Rattle.e_book.specs.declared.fault.What.TheVariants as limits
+use Rattle.e_book.specs.declared.fault.BookFault.{BookFault}
+use Rattle.e_book.specs.declared.form.Form.{Form}
+use Rattle.e_book.specs.declared.form.Form.TheVariants as forms
+use Rattle.e_book.specs.declared.steps.CloseLine.TheVariants as closes
+use Rattle.e_book.specs.declared.draft.Draft.{Draft}
+use Rattle.e_book.specs.declared.draft.Place.{Place}
+use Rattle.e_book.specs.declared.draft.Place.TheVariants as places
+use Rattle.e_book.specs.Faults.{at_line}
+use Rattle.e_book.specs.Reading.{◌>>=◌, names_of, not_empty, some_names}
+use Rattle.e_book.specs.Literals.{is_diagram_raw}
+use Rattle.e_book.specs.Forms.{form_of}
+use Rattle.e_book.specs.Headed.{Headed, is_known}
+use Rattle.e_book.specs.Limits.{most_theorems, within}
+use Rattle.e_book.specs.DraftViews.{entry_of_draft}
+use Rattle.e_book.specs.Entry.{Entry}
+use Rattle.e_book.specs.LineLimits.{FewNamed}
+use Rattle.e_book.specs.Steps.{allowed, built, applied, claimed, superposed, split, cited, inferred, concluded, shut, stepped, step, begin, begun}
+use Rattle.e_book.specs.Open.{Open, Stating, Proving}
+use Rattle.e_book.specs.Grammar.{Rest, nothing_said, begins, goes_on, next, line_after, line_read, ended, or_more}
+use Rattle.e_book.specs.Grammar as grammar
+use Rattle.e_text.specs.Lines.{Ahead}
+use Rattle.e_book.specs.declared.theorem.Theorem.{Theorem}
+use Rattle.e_book.specs.Canonical.{forms_of, line_of}
+use Rattle.e_book.specs.HasSpelling.{HasSpelling}
+use Rattle.e_book.specs.Laws.{Shows}
+use Rattle.e_book.specs.Grammar.{is_skipped, put_at, BookReads}
+use Rattle.e_book.specs.Book.{line_step, is_last, is_done}
+use Rattle.e_book.specs.Book as parser
+use Rattle.e_book.proofs.InScope.{bind_ok, ok_is, read_ok}
+use Rattle.e_book.proofs.CanonicalRead.{canonical_lines_read}
+use Rattle.e_book.proofs.ReadSpelled.{read_is_spelled}
+use Rattle.e_book.proofs.FormsByWord.{OfEachForm, form_by_word}
+use Rattle.e_book.proofs.SaidForms.{some_lits_said}
+use Rattle.e_book.proofs.SaidLits.{diagram_said}
+use Rattle.e_book.proofs.ParserState.{around_of, head_of, open_there, open_of, BlockOf, UnprovedOf, Stands, Body, Tied, Alike, tied_there}
+use Rattle.e_book.proofs.LimitTests.{kept, then_limits, test, both_read}
+use Rattle.e_book.proofs.BlockLines.{by_alike, hence_alike, let_alike, apply_alike, claim_alike, superpose_alike, cases_alike}
+use Rattle.e_book.proofs.BlockEnds.{qed_alike, contradiction_alike, else_alike, end_alike}
+use Rattle.e_book.proofs.StatementLines.{declare_alike, give_alike, make_alike, show_alike, proof_alike}
+
+-- ---- what the spelling of a line says of its items
+
+abbrev HasItems : Form → Type 0
+HasItems (forms.Given raws) = 0 < length raws
+HasItems (forms.Made sort new) = 0 < length new
+HasItems (forms.Show raws) = 0 < length raws
+HasItems (forms.By rule names l) = is_diagram_raw l.atom ≡ true
+HasItems f = Unit {0}
+
+not_empty_some : (ns ms : List (List ℕ)) → not_empty ns ≡ Ok ms → 0 < length ms
+not_empty_some [] ms e = absurd cc
+not_empty_some (n ∷ ns) ms e = subst (λ (x : List (List ℕ)). 0 < length x) (ok_is (n ∷ ns) ms e) (omega arith)
+
+some_named : (ws ns : List (List ℕ)) → some_names ws ≡ Ok ns → 0 < length ns
+unfolding some_names
+some_named ws ns e =
+    let a = bind_ok (names_of ws) (λ ns. not_empty ns) ns e in
+    not_empty_some a.0 ns a.2
+
+has_items : OfEachForm HasItems
+has_items = record {
+  of_theorem = λ ws t e. tt;
+  of_declare = λ sort ws ns e. tt;
+  of_made = λ sort. some_named;
+  of_given = λ ws ls e. (some_lits_said ws ls e).0;
+  of_show = λ ws ls e. (some_lits_said ws ls e).0;
+  of_claim = λ ws ls e. tt;
+  of_by = λ rule names. diagram_said;
+  of_hence = λ ws l e. tt;
+  of_cases = λ ws l e. tt;
+  of_let = λ ws l e. tt;
+  of_apply = λ ws a e. tt;
+  of_superpose = λ ws s e. tt;
+  of_qed = λ names. tt;
+  of_proof = tt;
+  of_contradiction = tt;
+  of_else = tt;
+  of_end = tt;
+}
+
+items_read : (words : List (List ℕ)) (f : Form) → form_of words ≡ Ok f → HasItems f
+items_read = form_by_word HasItems has_items
+
+-- ---- a line at each place
+
+abbrev Line : List Headed → Place → Draft → Form → Type 0
+Line known p d f = Alike known (cond (allowed p f) (stepped known d f) (Err Malformed)) (next known (open_there d p) f >>= then_limits known f)
+
+at_declaring : (known : List Headed) (d : Draft) (f : Form) → d.place ≡ places.Declaring → Stands places.Declaring d → UnprovedOf d → FewNamed d.names → HasItems f → Line known places.Declaring d f
+unfolding stepped
+at_declaring known d (forms.Declare sort new) at s u few some = declare_alike known places.Declaring d sort new tt at s u few
+at_declaring known d (forms.Given raws) at s u few some = give_alike known places.Declaring d raws tt s u few some
+at_declaring known d (forms.Made sort new) at s u few some = make_alike known places.Declaring d sort new tt s u few some
+at_declaring known d (forms.Show raws) at s u few some = show_alike known places.Declaring d raws tt u few some
+at_declaring known d forms.Proof at s u few some = proof_alike known places.Declaring d tt s u few
+at_declaring known d f at s u few some = refl
+
+at_giving : (known : List Headed) (d : Draft) (f : Form) → d.place ≡ places.Giving → Stands places.Giving d → UnprovedOf d → FewNamed d.names → HasItems f → Line known places.Giving d f
+unfolding stepped
+at_giving known d (forms.Declare sort new) at s u few some = declare_alike known places.Giving d sort new tt at s u few
+at_giving known d (forms.Given raws) at s u few some = give_alike known places.Giving d raws tt s u few some
+at_giving known d (forms.Made sort new) at s u few some = make_alike known places.Giving d sort new tt s u few some
+at_giving known d (forms.Show raws) at s u few some = show_alike known places.Giving d raws tt u few some
+at_giving known d forms.Proof at s u few some = proof_alike known places.Giving d tt s u few
+at_giving known d f at s u few some = refl
+
+at_making : (known : List Headed) (d : Draft) (f : Form) → d.place ≡ places.Making → Stands places.Making d → UnprovedOf d → FewNamed d.names → HasItems f → Line known places.Making d f
+unfolding stepped
+at_making known d (forms.Declare sort new) at s u few some = declare_alike known places.Making d sort new tt at s u few
+at_making known d (forms.Given raws) at s u few some = give_alike known places.Making d raws tt s u few some
+at_making known d (forms.Made sort new) at s u few some = make_alike known places.Making d sort new tt s u few some
+at_making known d (forms.Show raws) at s u few some = show_alike known places.Making d raws tt u few some
+at_making known d forms.Proof at s u few some = proof_alike known places.Making d tt s u few
+at_making known d f at s u few some = refl
+
+at_showing : (known : List Headed) (d : Draft) (f : Form) → d.place ≡ places.Showing → Stands places.Showing d → UnprovedOf d → FewNamed d.names → HasItems f → Line known places.Showing d f
+unfolding stepped
+at_showing known d (forms.Declare sort new) at s u few some = declare_alike known places.Showing d sort new tt at s u few
+at_showing known d (forms.Given raws) at s u few some = give_alike known places.Showing d raws tt s u few some
+at_showing known d (forms.Made sort new) at s u few some = make_alike known places.Showing d sort new tt s u few some
+at_showing known d (forms.Show raws) at s u few some = show_alike known places.Showing d raws tt u few some
+at_showing known d forms.Proof at s u few some = proof_alike known places.Showing d tt s u few
+at_showing known d f at s u few some = refl
+
+-- a line of a block, in which the names are those of what has been said
+in_block : (known : List Headed) (d : Draft) (f : Form) (r : Result Draft Kind) → BlockOf known d → Alike known r (goes_on known d.in_scope (head_of d) (around_of d.outers) d.steps f >>= then_limits known f)
+    → Alike known r (next known (Proving (head_of d) (around_of d.outers) d.steps) f >>= then_limits known f)
+in_block known d f r t a =
+    subst (λ (ns : Names). Alike known r (goes_on known ns (head_of d) (around_of d.outers) d.steps f >>= then_limits known f)) t.counted.names a
+
+at_proving : (known : List Headed) (d : Draft) (f : Form) → d.place ≡ places.Proving → BlockOf known d → FewNamed d.names → HasItems f → Line known places.Proving d f
+unfolding stepped
+at_proving known d (forms.By rule names l) at t few plain = in_block known d (forms.By rule names l) (cited d rule names l) t (by_alike known d rule names l t at few plain)
+at_proving known d (forms.Hence l) at t few some = in_block known d (forms.Hence l) (inferred d l) t (hence_alike known d l t at few)
+at_proving known d (forms.Let l) at t few some = in_block known d (forms.Let l) (built d l) t (let_alike known d l t at few)
+at_proving known d (forms.Apply a) at t few some = in_block known d (forms.Apply a) (applied known d a) t (apply_alike known d a t at few)
+at_proving known d (forms.Claim ls) at t few some = in_block known d (forms.Claim ls) (claimed d ls) t (claim_alike known d ls t at few)
+at_proving known d (forms.Superpose s) at t few some = in_block known d (forms.Superpose s) (superposed d s) t (superpose_alike known d s t at few)
+at_proving known d (forms.Cases l) at t few some = in_block known d (forms.Cases l) (split d l) t (cases_alike known d l t at few)
+at_proving known d (forms.Qed names) at t few some = in_block known d (forms.Qed names) (concluded d names) t (qed_alike known d names t at few)
+at_proving known d forms.Contradiction at t few some = in_block known d forms.Contradiction (shut d closes.Contradiction) t (contradiction_alike known d t at few)
+at_proving known d f at t few some = refl
+
+at_splitting : (known : List Headed) (d : Draft) (f : Form) → Body known places.Splitting d → FewNamed d.names → Line known places.Splitting d f
+unfolding stepped
+at_splitting known d forms.Else b few = else_alike known d b.0 b.1 few
+at_splitting known d f b few = refl
+
+at_closed : (known : List Headed) (d : Draft) (f : Form) → Body known places.Closed d → FewNamed d.names → Line known places.Closed d f
+unfolding stepped
+at_closed known d forms.End b few = end_alike known d few b
+at_closed known d f b few = refl
+
+at_done : (known : List Headed) (d : Draft) (f : Form) → Line known places.Done d f
+at_done known d forms.End = refl
+at_done known d f = refl
+
+by_place : (known : List Headed) (p : Place) (d : Draft) (f : Form) → d.place ≡ p → Body known p d → FewNamed d.names → HasItems f → Line known p d f
+by_place known places.Declaring d f at b few some = at_declaring known d f at b.0 b.1 few some
+by_place known places.Giving d f at b few some = at_giving known d f at b.0 b.1 few some
+by_place known places.Making d f at b few some = at_making known d f at b.0 b.1 few some
+by_place known places.Showing d f at b few some = at_showing known d f at b.0 b.1 few some
+by_place known places.Proving d f at b few some = at_proving known d f at b few some
+by_place known places.Splitting d f at b few some = at_splitting known d f b few
+by_place known places.Closed d f at b few some = at_closed known d f b few
+by_place known places.Done d f at b few some = at_done known d f
+
+step_alike : (known : List Headed) (d : Draft) (f : Form) → Tied known d → HasItems f → Alike known (step known d f) (line_after known (Some (open_of d)) f)
+unfolding step
+step_alike known d f t some = by_place known d.place d f refl t.body t.names some
+
+-- ---- the first line
+
+free_title : (known : List Headed) (b : Bool) (x : Result Draft Kind) (y : Result Open Kind) → Alike known x y → Alike known (cond b (Err NameTaken) x) (cond b (Err NameTaken) y)
+free_title known true x y h = refl
+free_title known false x y h = h
+
+begun_tied : (known : List Headed) (t : List ℕ) → Alike known (read_ok (begun t)) (read_ok (Stating (nothing_said t)))
+begun_tied known t =
+    let few : FewNamed (begun t).names = record { points = omega arith; lines = omega arith; circles = omega arith } in
+    let none : UnprovedOf (begun t) = record { steps = refl; outers = refl; lines = refl; facts = refl; terms = refl; few_facts = omega arith; few_terms = omega arith } in
+    tied_there known (begun t) (Stating (nothing_said t)) places.Declaring refl few ((refl, refl, refl), none) refl
+
+abbrev begins_titled : List Headed → List ℕ → Result Open Kind
+begins_titled known t = kept ((leb (length known + 1) most_theorems, limits.Theorems) ∷ []) (Stating (nothing_said t))
+
+begin_alike : (known : List Headed) (f : Form) → Alike known (begin known f) (begins known f)
+unfolding begin
+begin_alike known (forms.Theorem t) =
+    let n = Stating (nothing_said t) in
+    free_title known (is_known known t) (within (length known + 1) most_theorems limits.Theorems >>= λ few. read_ok (begun t)) (begins_titled known t)
+    (test known (read_ok (begun t)) n (length known + 1) most_theorems limits.Theorems [] (λ w. begun_tied known t))
+begin_alike known f = refl
+
+-- ---- a line by its words
+
+abbrev said : Option Draft → Option Open
+said None = None
+said (Some d) = Some (open_of d)
+
+abbrev TiedSoFar : List Headed → Option Draft → Type 0
+TiedSoFar known None = Unit {0}
+TiedSoFar known (Some d) = Tied known d
+
+words_alike : (known : List Headed) (o : Option Draft) (words : List (List ℕ)) → TiedSoFar known o → Alike known (line_step known o words) (line_read known (said o) words)
+unfolding line_step
+words_alike known None words t = both_read known (form_of words) (λ f. begin known f) (λ f. begins known f) (λ f e. begin_alike known f)
+words_alike known (Some d) words t =
+    both_read known (form_of words) (λ f. step known d f) (λ f. line_after known (Some (open_of d)) f) (λ f e. step_alike known d f t (items_read words f e))
+
+-- ---- line after line
+
+abbrev Answer : Type 0
+Answer = Result (Option (Entry × Rest)) BookFault
+
+in_case : (b : Bool) (x y z w : Answer) → x ≡ z → y ≡ w → cond b x y ≡ cond b z w
+in_case true x y z w e h = e
+in_case false x y z w e h = h
+
+abbrev whole : Entry → Rest → Answer
+whole t lines = Ok (Some (t, lines))
+
+abbrev wrong_at : ℕ → Kind → Answer
+wrong_at number kind = Err (at_line number kind)
+
+-- a theorem ends, or its lines go on
+ends_alike : (d : Draft) (p : Place) (lines : Rest) (x y : Answer) → x ≡ y → cond (is_last p) (whole (entry_of_draft d) lines) x ≡ or_more (ended (open_there d p)) lines y
+ends_alike d places.Done lines x y e = refl
+ends_alike d p lines x y e = e
+
+after_alike : (known : List Headed) (last number : ℕ) (lines : Rest) (r : Result Draft Kind) (q : Result Open Kind) → Alike known r q
+    → ((e : Draft) → Tied known e → parser.read_from known last (Some e) lines ≡ grammar.read_from known last (Some (open_of e)) lines)
+    → (put_at number r >>= λ d. cond (is_done d) (whole (entry_of_draft d) lines) (parser.read_from known last (Some d) lines))
+    ≡ (put_at number q >>= λ n. or_more (ended n) lines (grammar.read_from known last (Some n) lines))
+after_alike known last number lines (Ok e) (Ok n) a more =
+    ends_alike e e.place lines (parser.read_from known last (Some e) lines) (grammar.read_from known last (Some (open_of e)) lines) (more e a.1)
+    ∙ ap (λ (o : Open). or_more (ended o) lines (grammar.read_from known last (Some o) lines)) a.0
+after_alike known last number lines (Err j) (Err k) a more = ap (λ (x : Kind). wrong_at number x) a
+after_alike known last number lines (Ok e) (Err k) a more = absurd a
+after_alike known last number lines (Err j) (Ok n) a more = absurd a
+
+read_alike : (known : List Headed) (last : ℕ) (o : Option Draft) (lines : Rest) → TiedSoFar known o → parser.read_from known last o lines ≡ grammar.read_from known last (said o) lines
+read_alike known last None [] t = refl
+read_alike known last (Some d) [] t = refl
+read_alike known last None (Err f ∷ lines) t = refl
+read_alike known last (Some d) (Err f ∷ lines) t = refl
+read_alike known last None (Ok line ∷ lines) t =
+    let words = tokens_of line.bytes in
+    in_case (is_skipped words) (parser.read_from known last None lines)
+    (put_at line.number (line_step known None words) >>= λ d. cond (is_done d) (whole (entry_of_draft d) lines) (parser.read_from known last (Some d) lines))
+    (grammar.read_from known last None lines) (put_at line.number (line_read known None words) >>= λ n. or_more (ended n) lines (grammar.read_from known last (Some n) lines))
+    (read_alike known last None lines t)
+    (after_alike known last line.number lines (line_step known None words) (line_read known None words) (words_alike known None words t) (λ e u. read_alike known last (Some e) lines u))
+read_alike known last (Some d) (Ok line ∷ lines) t =
+    let words = tokens_of line.bytes in
+    let o : Open = open_of d in
+    in_case (is_skipped words) (parser.read_from known last (Some d) lines)
+    (put_at line.number (line_step known (Some d) words) >>= λ x. cond (is_done x) (whole (entry_of_draft x) lines) (parser.read_from known last (Some x) lines))
+    (grammar.read_from known last (Some o) lines) (put_at line.number (line_read known (Some o) words) >>= λ n. or_more (ended n) lines (grammar.read_from known last (Some n) lines))
+    (read_alike known last (Some d) lines t)
+    (after_alike known last line.number lines (line_step known (Some d) words) (line_read known (Some o) words) (words_alike known (Some d) words t) (λ e u. read_alike known last (Some e) lines u))
+
+pub grammar_read : (known : List Headed) (last : ℕ) (lines : Rest) → parser.read_from known last None lines ≡ grammar.read_from known last None lines
+grammar_read known last lines = read_alike known last None lines tt
+
+-- ---- what is known of what the parser reads, of what the grammar reads
+
+pub reads_grammar : (known : List Headed) (last : ℕ) (lines : Rest) (result : Result (Option Theorem) BookFault) (new : Ahead) → BookReads result new (parser.read_from known last None lines)
+    → BookReads result new (grammar.read_from known last None lines)
+reads_grammar known last lines result new h = subst (λ (r : Answer). BookReads result new r) (grammar_read known last lines) h
+
+pub canonical_grammar : (known : List Headed) (last : ℕ) (t : Entry) (lines rest : Rest) → HasSpelling known t → Shows lines (map line_of (forms_of known t)) rest → grammar.read_from known last None lines ≡ whole t rest
+canonical_grammar known last t lines rest h s = sym (grammar_read known last lines) ∙ canonical_lines_read known last t lines rest h s
+
+pub spelled_grammar : (known : List Headed) (last : ℕ) (t : Entry) (lines rest : Rest) → grammar.read_from known last None lines ≡ whole t rest → HasSpelling known t
+spelled_grammar known last t lines rest e = read_is_spelled known last t lines rest (grammar_read known last lines ∙ e)

@@ -1,0 +1,5 @@
+use Rattle.e_book.proofs.FirstFault.{fault_is_first}
+use Rattle.e_book.proofs.laws.fault_is_first.Goals as goal
+
+pub returns : goal.returns
+returns c = fault_is_first
