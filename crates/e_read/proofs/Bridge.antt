@@ -8,8 +8,10 @@ use Rattle.e_book.specs.declared.fault.Kind.{Kind}
 use Rattle.e_book.specs.declared.draft.Draft.{Draft}
 use Rattle.e_book.specs.Reading.{◌>>=◌}
 use Rattle.e_book.specs.Headed.{Headed}
-use Rattle.e_book.specs.Entry.{Entry, entry_of_draft}
-use Rattle.e_book.specs.Book.{is_skipped, line_step, is_done, read_from}
+use Rattle.e_book.specs.DraftViews.{entry_of_draft}
+use Rattle.e_book.specs.Entry.{Entry}
+use Rattle.e_book.specs.Grammar.{is_skipped}
+use Rattle.e_book.specs.Book.{line_step, is_done, read_from}
 use Rattle.e_book.proofs.InScope.{bind_ok}
 use Rattle.e_read.specs.declared.kept.Kept.{Kept}
 use Rattle.e_read.specs.declared.reading.Reading.{Reading}

@@ -11,6 +11,7 @@ use Rattle.e_book.specs.Entry.{Entry, entry_of}
 use Rattle.e_book.specs.HasSpelling.{HasSpelling}
 use Rattle.e_book.proofs.Answered.{answered, pair}
 use Rattle.e_book.proofs.Fitting.{reading_states}
+use Rattle.e_book.proofs.GrammarRead.{grammar_read}
 use Rattle.e_book.proofs.ReadSpelled.{read_is_spelled}
 use Rattle.e_read.specs.declared.reader.Piece.{Piece}
 use Rattle.e_read.specs.declared.reader.Piece.TheVariants as pieces
@@ -37,7 +38,7 @@ bare_is known last lines rest t e =
 pub reads_as_book : (known : List Headed) (last : ℕ) (t : Entry) (lines rest : List (Result Seen LineFault)) → piece_from known last at_start lines ≡ derives t rest → ReadsAsBook known last t lines rest
 reads_as_book known last t lines rest e =
     let b = bare_is known last lines rest t e in
-    record { front = b.plain.front; all = b.plain.all; read = b.plain.read ∙ ap (λ (x : Entry). answered (pair x rest)) (sym b.same) }
+    record { front = b.plain.front; all = b.plain.all; read = sym (grammar_read known last (filter is_of_theorem b.plain.front ++ rest)) ∙ b.plain.read ∙ ap (λ (x : Entry). answered (pair x rest)) (sym b.same) }
 
 pub text_spelled : (known : List Headed) (last : ℕ) (lines rest : List (Result Seen LineFault)) (t : Entry) → piece_from known last at_start lines ≡ derives t rest → HasSpelling known (bare t)
 text_spelled known last lines rest t e = let b = bare_is known last lines rest t e in subst (λ (x : Entry). HasSpelling known x) (sym b.same) b.spelled

@@ -28,7 +28,7 @@ use Rattle.e_book.specs.declared.fault.Kind.TheVariants.{Malformed}
 use Rattle.e_book.specs.declared.literal.RawLit.{RawLit}
 use Rattle.e_book.specs.Reading.{◌>>=◌, or_malformed}
 use Rattle.e_book.specs.Scope.{lit_in, term_in, args_in, variables_of, right_count}
-use Rattle.e_book.specs.Steps.{few_monos}
+use Rattle.e_book.specs.LineLimits.{few_monos}
 use Rattle.e_book.proofs.InScope.{bind_ok, ok_is, read_ok}
 use Rattle.e_book.proofs.KeptSums.{few_ok, one_lit}
 use Rattle.e_book.proofs.SaidLits.{AtomSaid, lit_said}
@@ -55,19 +55,19 @@ use Rattle.e_read.proofs.MarkLits.{OfRow, OfMark, mark_lit}
 
 -- ---- what is said: no coefficient of a row's literal is 0
 
-abbrev Said : RawLit → Type 0
+abbrev pub Said : RawLit → Type 0
 Said l = AtomSaid l.atom
 
-abbrev Anything : RawLit → Type 0
+abbrev pub Anything : RawLit → Type 0
 Anything l = Unit {0}
 
-abbrev RowSaid : RawRow → Type 0
+abbrev pub RowSaid : RawRow → Type 0
 RowSaid row = OfRow Said row
 
-abbrev MarkSaid : Mark → Type 0
+abbrev pub MarkSaid : Mark → Type 0
 MarkSaid mark = OfMark Said Anything mark
 
-strict_said : (line : List ℕ) (ws : List (List ℕ)) (m : Mark) → strict_mark line ws ≡ Ok m → MarkSaid m
+pub strict_said : (line : List ℕ) (ws : List (List ℕ)) (m : Mark) → strict_mark line ws ≡ Ok m → MarkSaid m
 unfolding strict_mark
 strict_said line ws m e =
     let x = bind_ok (mark_of ws) (λ m. cond (is_strict_mark m && bytes_eq line (mark_line m)) (read_ok m) (Err Malformed)) m e in
@@ -84,10 +84,10 @@ good_fact ns raw l said e =
     let good = good_lits ns (raw ∷ []) (x.0 ∷ []) (one_lit ns raw x.0 x.1) (said, tt) few.short few.small in
     subst (λ (y : Lit). is_well_formed y ≡ true) (ok_is x.0 l f.2) (and_parts (is_well_formed x.0) true good).0
 
-abbrev GoodName : RowName → Type 0
+abbrev pub GoodName : RowName → Type 0
 GoodName r = is_good_name r ≡ true
 
-good_row : (ns : Names) (raw : RawRow) (r : RowName) → RowSaid raw → row_in ns raw ≡ Ok r → GoodName r
+pub good_row : (ns : Names) (raw : RawRow) (r : RowName) → RowSaid raw → row_in ns raw ≡ Ok r → GoodName r
 unfolding row_in
 good_row ns (rows.Fact raw) r said e =
     let l = bind_ok (fact_in ns raw) (λ l. read_ok (names.Fact l)) r e in

@@ -13,7 +13,8 @@ use Rattle.e_book.specs.declared.form.Form.TheVariants as forms
 use Rattle.e_book.specs.declared.draft.Draft.{Draft}
 use Rattle.e_book.specs.Reading.{◌>>=◌}
 use Rattle.e_book.specs.Headed.{Headed}
-use Rattle.e_book.specs.Entry.{Entry, entry_of_draft}
+use Rattle.e_book.specs.DraftViews.{entry_of_draft}
+use Rattle.e_book.specs.Entry.{Entry}
 use Rattle.e_book.specs.Book.{is_done}
 use Rattle.e_book.specs.Steps.{begin, step}
 use Rattle.e_book.specs.Scope.{lit_in, let_in}

@@ -8,8 +8,9 @@ pub mod Rooms
 pub mod GoalSorts
 pub mod GoodCerts
 pub mod MarkLits
-mod GoodMarks
+pub mod GoodMarks
 pub mod GoodReadings
 pub mod MadeNames
 pub mod Ends
 pub mod Pieces
+pub mod FirstGarbled

@@ -30,12 +30,13 @@ use Rattle.e_book.specs.declared.draft.Draft.{Draft}
 use Rattle.e_book.specs.Reading.{◌>>=◌, with_front}
 use Rattle.e_book.specs.Limits.{most_theorems, most_of, most_steps, most_depth, most_facts, most_blanks, what_of, within}
 use Rattle.e_book.specs.Headed.{Headed, is_known, theorem_of}
-use Rattle.e_book.specs.Entry.{script_of_close}
+use Rattle.e_book.specs.DraftViews.{script_of_close}
 use Rattle.e_book.specs.Blocks.{made_in}
 use Rattle.e_book.specs.Superposes.{superpose_in}
 use Rattle.e_book.specs.Applies.{count_blanks, apply_in}
 use Rattle.e_book.specs.Scope.{scope_of_names, fresh, lit_in, lits_in, by_in, let_in, qed_in}
-use Rattle.e_book.specs.Steps.{declared, few_monos, terms_behind, terms_after, few_objects, with_step, with_terms, built, used_by, applied, deeper, claimed, superposed, split, counted_from, resumed, closed_inside, closed, shut, supposes, shows, proof_begun, cited, inferred, concluded, makes, declares, stepped, step, begin, begun, allowed, count_names}
+use Rattle.e_book.specs.LineLimits.{few_monos, few_objects}
+use Rattle.e_book.specs.Steps.{declared, terms_behind, terms_after, with_step, with_terms, built, used_by, applied, deeper, claimed, superposed, split, counted_from, resumed, closed_inside, closed, shut, supposes, shows, proof_begun, cited, inferred, concluded, makes, declares, stepped, step, begin, begun, allowed, count_names}
 use Rattle.e_book.proofs.Answered.{passes, untaken}
 use Rattle.e_book.proofs.InScope.{bind_ok, ok_is, read_ok}
 

@@ -14,7 +14,8 @@ use Rattle.e_book.specs.Reading.{◌>>=◌}
 use Rattle.e_book.specs.Forms.{form_of, form_named}
 use Rattle.e_book.specs.Headed.{Headed}
 use Rattle.e_book.specs.Steps.{begin, step}
-use Rattle.e_book.specs.Book.{starts_with_hash, is_skipped, line_step}
+use Rattle.e_book.specs.Grammar.{starts_with_hash, is_skipped}
+use Rattle.e_book.specs.Book.{line_step}
 use Rattle.e_book.specs.Canonical.{line_of}
 use Rattle.e_book.proofs.InScope.{bind_ok, ok_is}
 use Rattle.e_book.proofs.Choices.{passed}

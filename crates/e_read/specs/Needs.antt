@@ -18,7 +18,7 @@ use Rattle.e_book.specs.declared.form.Form.TheVariants as forms
 use Rattle.e_book.specs.declared.draft.Draft.{Draft}
 use Rattle.e_book.specs.Reading.{◌>>=◌, each, or_malformed}
 use Rattle.e_book.specs.Headed.{Headed, theorem_of}
-use Rattle.e_book.specs.Entry.{statement_of_draft}
+use Rattle.e_book.specs.DraftViews.{statement_of_draft}
 use Rattle.e_book.specs.Blocks.{made_in}
 use Rattle.e_book.specs.Scope.{scope_of_names, lit_in, let_in, qed_in}
 use Rattle.e_book.specs.Superposes.{superpose_in}

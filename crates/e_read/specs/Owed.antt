@@ -22,7 +22,7 @@ use Rattle.e_book.specs.declared.fault.Kind.TheVariants.{Malformed}
 use Rattle.e_book.specs.declared.literal.RawLit.{RawLit}
 use Rattle.e_book.specs.Reading.{◌>>=◌, or_malformed}
 use Rattle.e_book.specs.Scope.{lit_in, term_in, args_in, variables_of, right_count}
-use Rattle.e_book.specs.Steps.{few_monos}
+use Rattle.e_book.specs.LineLimits.{few_monos}
 use Rattle.e_read.specs.declared.mark.RawRow.{RawRow}
 use Rattle.e_read.specs.declared.mark.RawRow.TheVariants as rows
 use Rattle.e_read.specs.declared.mark.Mark.{Mark}

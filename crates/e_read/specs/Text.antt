@@ -16,10 +16,12 @@ use Rattle.e_book.specs.declared.draft.Draft.{Draft}
 use Rattle.e_book.specs.declared.theorem.Theorem.{Theorem}
 use Rattle.e_book.specs.Reading.{◌>>=◌}
 use Rattle.e_book.specs.Headed.{Headed}
-use Rattle.e_book.specs.Entry.{Entry, entry_of, entry_of_draft}
+use Rattle.e_book.specs.DraftViews.{entry_of_draft}
+use Rattle.e_book.specs.Entry.{Entry, entry_of}
 use Rattle.e_book.specs.Scope.{FewNames}
 use Rattle.e_book.specs.Steps.{begin, step, no_names, count_names, FitsScope}
-use Rattle.e_book.specs.Book.{is_done, last_line}
+use Rattle.e_book.specs.Grammar.{last_line}
+use Rattle.e_book.specs.Book.{is_done}
 use Rattle.e_read.specs.declared.mark.Mark.{Mark}
 use Rattle.e_read.specs.declared.owed.Due.TheVariants as due
 use Rattle.e_read.specs.declared.owed.Owed.{Owed}

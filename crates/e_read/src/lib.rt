@@ -16,7 +16,7 @@ mod reading;
 mod strict;
 
 pub use kept::{Certs, Kept, KeptLines, Rows};
-pub use laws::derivations_are_of_books;
+pub use laws::{derivations_are_of_books, garbled_line_is_first};
 pub use mark::{Mark, RawRow};
 pub use owed::{Due, OpenSums, OpenTransfer, Owed};
 pub use reader::{Piece, TextFault, read};

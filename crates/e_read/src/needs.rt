@@ -8,7 +8,7 @@ ghost use Rattle.e_theorem.specs.Statements.{stated};
 ghost use Rattle.e_deriv.specs.Fitting.{is_small_statement};
 ghost use Rattle.e_deriv.specs.Goal;
 ghost use Rattle.e_deriv.specs.Goal.{goal_of_statement};
-ghost use Rattle.e_book.specs.Entry.{statement_of_draft};
+ghost use Rattle.e_book.specs.DraftViews.{statement_of_draft};
 ghost use Rattle.e_book.specs.Limits.{most_theorems};
 ghost use Rattle.e_book.specs.Headed.{stated_by};
 ghost use Rattle.e_book.specs.Reading.{Gives, each, or_malformed};

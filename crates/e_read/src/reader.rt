@@ -1,12 +1,12 @@
 //! Derivation texts, block by block.
-ghost use Rattle.std.specs.Prelude.{◌≡◌, ◌≤◌, ◌<◌, length, IfOk, OnOk, IsTrue};
+ghost use Rattle.std.specs.Prelude.{◌≡◌, ◌≤◌, ◌<◌, ◌-◌, ◌^◌, length, IfOk, OnOk, OnSome, IsTrue};
 ghost use Rattle.std.specs.List.{list_all};
 ghost use Rattle.e_text.specs.Lines.{seen};
 ghost use Rattle.e_theorem.specs.Statements.{stated};
 ghost use Rattle.e_deriv.specs.Fitting.{is_small_statement};
 ghost use Rattle.e_book.specs.Limits.{most_theorems};
 ghost use Rattle.e_book.specs.Headed.{stated_by};
-ghost use Rattle.e_book.specs.Book.{last_line};
+ghost use Rattle.e_book.specs.Grammar.{last_line};
 ghost use Rattle.e_book.specs.Entry.{entry_of};
 ghost use Rattle.e_book.specs.HasSpelling.{HasSpelling};
 ghost use Rattle.e_read.specs.Text.{at_start, garbled_at, taken, LineIs, LineReads, TurnIs, FitsReading, piece_from, bare, OfTheorem, TextReads};
@@ -80,10 +80,11 @@ fn take_line(
     line: Line<'_>,
 ) -> Result<(), TextFault>
     requires reading { FitsReading reading.old }
-    requires few { length known.now ≤ most_theorems }
+    requires few { OnSome reading.old.draft (length known.now ≤ most_theorems) }
     requires known { IsTrue (list_all is_small_statement (stated_by known.now)) }
     ensures value { LineReads result reading.new (garbled_at line.entry.number (taken known.now reading.old (seen line.entry))) }
     ensures fits { OnOk result (FitsReading reading.new) }
+    ensures few { OnOk result (OnSome reading.new.draft (length known.now ≤ most_theorems)) }
 {
     match reading.take(alloc, known, line) {
         Ok(()) => Ok(()),
@@ -100,10 +101,11 @@ fn turned(
     line: Line<'_>,
 ) -> Result<Turn, TextFault>
     requires reading { FitsReading reading.old }
-    requires few { length known.now ≤ most_theorems }
+    requires few { OnSome reading.old.draft (length known.now ≤ most_theorems) }
     requires known { IsTrue (list_all is_small_statement (stated_by known.now)) }
     ensures turn { TurnIs known.now reading.old (seen line.entry) reading.new result }
     ensures fits { OnOk result (FitsReading reading.new) }
+    ensures few { OnOk result (OnSome reading.new.draft (length known.now ≤ most_theorems)) }
 {
     if reading.is_end(alloc, known, line)? {
         return Ok(Turn::Last);
@@ -117,7 +119,7 @@ fn turned(
 
 /// Reads line by line, up to the end of a theorem or the last line.
 fn read_piece(alloc: Global, lines: &mut Lines, known: &Known) -> Result<Piece, TextFault>
-    requires few { length known.now ≤ most_theorems }
+    requires few { length known.now < 2 ^ 32 - 1 }
     requires known { IsTrue (list_all is_small_statement (stated_by known.now)) }
     ensures read { TextReads known.now result lines.new (piece_from known.now (last_line lines.old) at_start lines.old.lines) }
     ensures last { OnOk result (last_line lines.new ≡ last_line lines.old) }
@@ -145,9 +147,9 @@ fn read_piece(alloc: Global, lines: &mut Lines, known: &Known) -> Result<Piece, 
 ///
 /// It takes the lines up to the theorem's `end`, or the last line alone. A line is garbled where it is the first that has no form
 /// at its place; after that the lines are not used again. The lines are those of a text with at most 262,144 bytes a line.
-/// The known theorems are statements, as each is that is read.
+/// The known theorems are statements, as each is that is read, and may be more than a text may have: then none is read any more.
 pub fn read(alloc: Global, lines: &mut Lines, known: &Known) -> Result<Piece, TextFault>
-    requires few { length known.now ≤ most_theorems }
+    requires few { length known.now < 2 ^ 32 - 1 }
     requires known { IsTrue (list_all is_small_statement (stated_by known.now)) }
     ensures read { TextReads known.now result lines.new (piece_from known.now (last_line lines.old) at_start lines.old.lines) }
     ensures last { OnOk result (last_line lines.new ≡ last_line lines.old) }

@@ -1,5 +1,5 @@
 //! A block of a derivation text while its lines come.
-ghost use Rattle.std.specs.Prelude.{◌≡◌, ◌≤◌, length, IfOk, OnOk, IfSome, IsTrue, Some};
+ghost use Rattle.std.specs.Prelude.{◌≡◌, ◌≤◌, length, IfOk, OnOk, IfSome, OnSome, IsTrue, Some};
 ghost use Rattle.std.specs.List.{list_all};
 ghost use Rattle.e_text.specs.Lines.{seen};
 ghost use Rattle.e_text.specs.Tokens.{tokens_of};
@@ -66,10 +66,11 @@ fn gone_on(
     form: &Form,
 ) -> Result<Begun, Trouble>
     requires draft { IfSome draft FitsDraft }
-    requires few { length known.now ≤ most_theorems }
+    requires few { OnSome draft (length known.now ≤ most_theorems) }
     requires known { IsTrue (list_all is_small_statement (stated_by known.now)) }
     ensures value { Gives (λ b. (b.draft, b.owed)) result (gone_on known.now draft form.now) }
     ensures fits { IfOk result (λ b. FitsBegun b.draft b.owed) }
+    ensures few { OnOk result (length known.now ≤ most_theorems) }
 {
     match draft {
         None => {
@@ -114,6 +115,7 @@ fn next_line(alloc: Global, known: &Known, draft: Draft, form: &Form) -> Result<
     requires known { IsTrue (list_all is_small_statement (stated_by known.now)) }
     ensures value { Gives (λ b. (b.draft, b.owed)) result (gone_on known.now (Some draft) form.now) }
     ensures fits { IfOk result (λ b. FitsBegun b.draft b.owed) }
+    ensures few { OnOk result (length known.now ≤ most_theorems) }
 {
     if !is_apart(&draft, form) {
         mem::drop(draft);
@@ -192,10 +194,11 @@ impl Reading {
     ) -> Result<(), Trouble>
         requires words { texts words.now ≡ tokens_of line.now }
         requires reading { FitsReading self.old }
-        requires few { length known.now ≤ most_theorems }
+        requires few { OnSome self.old.draft (length known.now ≤ most_theorems) }
         requires known { IsTrue (list_all is_small_statement (stated_by known.now)) }
         ensures value { Moves result self.new (stepped known.now self.old line.now) }
         ensures fits { OnOk result (FitsReading self.new) }
+        ensures few { OnOk result (OnSome self.new.draft (length known.now ≤ most_theorems)) }
     {
         let form = strict_of(alloc, line, words)?;
         let taken = self.take_form(alloc, known, &form);
@@ -207,10 +210,11 @@ impl Reading {
     #[tactic(auto, unfolding(crate::specs::Text::with_form))]
     fn take_form(&mut self, alloc: Global, known: &Known, form: &Form) -> Result<(), Trouble>
         requires reading { FitsReading self.old }
-        requires few { length known.now ≤ most_theorems }
+        requires few { OnSome self.old.draft (length known.now ≤ most_theorems) }
         requires known { IsTrue (list_all is_small_statement (stated_by known.now)) }
         ensures value { Moves result self.new (with_form known.now self.old form.now) }
         ensures fits { OnOk result (FitsReading self.new) }
+        ensures few { OnOk result (OnSome self.new.draft (length known.now ≤ most_theorems)) }
     {
         self.settle(alloc)?;
         let draft = self.draft.take();
@@ -243,10 +247,11 @@ impl Reading {
     ) -> Result<(), Trouble>
         requires words { texts words.now ≡ tokens_of line.now }
         requires reading { FitsReading self.old }
-        requires few { length known.now ≤ most_theorems }
+        requires few { OnSome self.old.draft (length known.now ≤ most_theorems) }
         requires known { IsTrue (list_all is_small_statement (stated_by known.now)) }
         ensures value { Moves result self.new (worded known.now self.old line.now (texts words.now)) }
         ensures fits { OnOk result (FitsReading self.new) }
+        ensures few { OnOk result (OnSome self.new.draft (length known.now ≤ most_theorems)) }
     {
         match words {
             [] => Err(Trouble::Fault(Kind::Malformed)),
@@ -263,10 +268,11 @@ impl Reading {
     #[tactic(auto, unfolding(crate::specs::Text::spelled))]
     fn take_bytes(&mut self, alloc: Global, known: &Known, line: &[u8]) -> Result<(), Trouble>
         requires reading { FitsReading self.old }
-        requires few { length known.now ≤ most_theorems }
+        requires few { OnSome self.old.draft (length known.now ≤ most_theorems) }
         requires known { IsTrue (list_all is_small_statement (stated_by known.now)) }
         ensures value { Moves result self.new (spelled known.now self.old line.now) }
         ensures fits { OnOk result (FitsReading self.new) }
+        ensures few { OnOk result (OnSome self.new.draft (length known.now ≤ most_theorems)) }
     {
         let words = collected(alloc, line)?;
         self.take_words(alloc, known, line, &words)
@@ -281,10 +287,11 @@ impl Reading {
         line: Line<'_>,
     ) -> Result<(), Trouble>
         requires reading { FitsReading self.old }
-        requires few { length known.now ≤ most_theorems }
+        requires few { OnSome self.old.draft (length known.now ≤ most_theorems) }
         requires known { IsTrue (list_all is_small_statement (stated_by known.now)) }
         ensures value { Moves result self.new (taken known.now self.old (seen line.entry)) }
         ensures fits { OnOk result (FitsReading self.new) }
+        ensures few { OnOk result (OnSome self.new.draft (length known.now ≤ most_theorems)) }
     {
         match line.end {
             LineEnd::Lf => self.take_bytes(alloc, known, line.bytes),

@@ -10,7 +10,7 @@ use crate::lines::put_form;
 use crate::mark::{Mark, RawRow, mark_of};
 use crate::marks::put_mark;
 use e_book::{Draft, Form, Kind, RawAtom, RawLit, Trouble, form_of};
-use e_construct::naming::same_sort;
+use e_construct::same_sort;
 use e_literal::Sort;
 use e_text::Name;
 use std::alloc::{AllocError, Global};

@@ -17,7 +17,7 @@ use Rattle.e_deriv.specs.declared.names.Names.{Names}
 use Rattle.e_text.specs.Tokens.{joined}
 use Rattle.e_book.specs.Canonical.{text_of}
 use Rattle.e_spell.specs.Certificates.{row_line, sum_lines, sums_lines, metric_lines, part_lines, cert_lines, certs_lines, contradiction_lines}
-use Rattle.e_spell.specs.Parts.{bar_text, row_text, rows_text, sum_text, differs_text, sums_text, metric_text, part_text, parts_text, instance_text, cert_text, certs_text, against_text, contradiction_text}
+use Rattle.e_spell.specs.inner.Parts.{bar_text, row_text, rows_text, sum_text, differs_text, sums_text, metric_text, part_text, parts_text, instance_text, cert_text, certs_text, against_text, contradiction_text}
 
 -- the text of lines that are given by their words
 abbrev pub words_text : List (List (List ℕ)) → List ℕ

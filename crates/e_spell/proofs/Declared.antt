@@ -12,7 +12,7 @@ use Rattle.e_book.specs.declared.form.Form.{Form}
 use Rattle.e_book.specs.Canonical.{line_of, name_of_object, Group, group, grouped_before, grouped, declare_form, made_form, text_of}
 use Rattle.e_spell.specs.declared.declarations.Role.{Role}
 use Rattle.e_spell.specs.declared.declarations.Role.TheVariants.{Declared, Made}
-use Rattle.e_spell.specs.Parts.{role_words, opening, objects_rest, objects_text}
+use Rattle.e_spell.specs.inner.Parts.{role_words, opening, objects_rest, objects_text}
 
 -- the text of forms
 abbrev pub text : List Form → List ℕ

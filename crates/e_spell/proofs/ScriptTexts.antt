@@ -20,7 +20,7 @@ use Rattle.e_book.specs.Headed.{Headed, theorem_of}
 use Rattle.e_book.specs.Canonical.{name_of_object, text_of}
 use Rattle.e_spell.specs.Certificates.{certs_lines}
 use Rattle.e_spell.specs.Spelling.{script_lines}
-use Rattle.e_spell.specs.Parts.{lit_text, certs_text, construction_words, application_text, claim_text, superposition_words, superposition_text, script_text, step_text, steps_text, names_behind, names_after, qed_text, contradicted_text, split_text}
+use Rattle.e_spell.specs.inner.Parts.{lit_text, certs_text, construction_words, application_text, claim_text, superposition_words, superposition_text, script_text, step_text, steps_text, names_behind, names_after, qed_text, contradicted_text, split_text}
 use Rattle.e_spell.proofs.CertTexts.{of_certs, of_contradiction}
 
 pub of_lines : (xs ys : List (List ℕ)) → text_of (xs ++ ys) ≡ text_of xs ++ text_of ys

@@ -9,7 +9,7 @@ use Rattle.e_deriv.specs.declared.names.Names.{Names}
 use Rattle.e_deriv.specs.declared.stop.Wanted.{Wanted}
 use Rattle.e_book.specs.Canonical.{text_of}
 use Rattle.e_spell.specs.Spelling.{place_words, value_words, values_words, unlicensed_text, too_wide_text}
-use Rattle.e_spell.specs.Parts.{place_line, wanted_line, value_line, values_text, values_of_text, width_line}
+use Rattle.e_spell.specs.inner.Parts.{place_line, wanted_line, value_line, values_text, values_of_text, width_line}
 
 place_text : (what title : List ℕ) (step : ℕ) → place_line what title step ≡ joined (place_words what title step) ++ 10 ∷ []
 place_text what title step = sym (append_assoc what (spaced (title ∷ decimal step ∷ [])) (10 ∷ []))

@@ -14,7 +14,7 @@ use Rattle.e_text.specs.Tokens.{spaced}
 use Rattle.e_book.specs.Canonical.{line_of, lit_words, raw_of, given_form, show_form, grouped, declare_form, made_form, declared_objects, made_objects, given_forms, shown_forms, head_forms, names_of_proof, end_form, text_of}
 use Rattle.e_spell.specs.declared.declarations.Role.TheVariants.{Declared, Made}
 use Rattle.e_spell.specs.Spelling.{script_lines, spelled}
-use Rattle.e_spell.specs.Parts.{lits_text, script_text, proof_text, objects_text, title_text, statement_text, head_text, theorem_text}
+use Rattle.e_spell.specs.inner.Parts.{lits_text, script_text, proof_text, objects_text, title_text, statement_text, head_text, theorem_text}
 use Rattle.e_spell.proofs.ScriptTexts.{of_lines}
 use Rattle.e_spell.proofs.Declared.{text, declared_text, made_text}
 

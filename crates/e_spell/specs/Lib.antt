@@ -1,5 +1,4 @@
 pub mod Certificates
 pub mod Spelling
-pub mod Parts
-pub mod Counts
 pub mod Laws
+pub mod inner

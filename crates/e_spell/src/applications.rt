@@ -3,7 +3,7 @@ ghost use Rattle.std.specs.Prelude.{◌≡◌, ◌++◌, ◌∷◌, map, OnOk};
 ghost use Rattle.e_text.specs.Tokens.{spaced};
 ghost use Rattle.e_book.specs.Headed.{title_at};
 ghost use Rattle.e_book.specs.Canonical.{argument_name, argument_word, made_words};
-ghost use Rattle.e_spell.specs.Parts.{application_words, application_text};
+ghost use Rattle.e_spell.specs.inner.Parts.{application_words, application_text};
 
 use crate::literals::name_of_object;
 use e_book::{Known, put_made_names};

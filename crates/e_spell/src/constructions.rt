@@ -6,7 +6,7 @@ ghost use Rattle.e_literal.specs.Literal.{obj};
 ghost use Rattle.e_construct.specs.Views.{piece_said};
 ghost use Rattle.e_book.specs.Canonical.{filled, avoid_words, name_of_object, placed_names};
 ghost use Rattle.e_book.specs.Superposes.{superpose_pieces};
-ghost use Rattle.e_spell.specs.Parts.{construction_words, superposition_words, superposition_text};
+ghost use Rattle.e_spell.specs.inner.Parts.{construction_words, superposition_words, superposition_text};
 
 use crate::literals::{name_of_object, put_literals, put_objects};
 use e_book::superposition_pieces;

@@ -2,12 +2,12 @@
 ghost use Rattle.std.specs.Prelude.{◌≡◌, ◌++◌, ◌∷◌, [], ◌≤◌, ◌+◌, ◌-◌, ◌^◌, Some, None, length, OnOk, IfOk};
 ghost use Rattle.e_literal.specs.Literal.{count_of};
 ghost use Rattle.e_literal.specs.Scopes.{with_one, grown, next_objects};
-ghost use Rattle.e_spell.specs.Counts.{Below, AtMostMore, scope_of_counts};
-ghost use Rattle.e_spell.specs.Parts.{role_words, opening, closing, objects_text};
+ghost use Rattle.e_spell.specs.inner.Counts.{Below, AtMostMore, scope_of_counts};
+ghost use Rattle.e_spell.specs.inner.Parts.{role_words, opening, closing, objects_text};
 
 use crate::literals::name_of;
 use e_book::sort_word;
-use e_construct::naming::same_sort;
+use e_construct::same_sort;
 use e_deriv::Names;
 use e_literal::Sort;
 use e_words::{end_line, put};

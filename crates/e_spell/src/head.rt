@@ -2,8 +2,8 @@
 ghost use Rattle.std.specs.Prelude.{◌≡◌, ◌++◌, ◌∷◌, [], codes, IfOk, OnOk};
 ghost use Rattle.e_literal.specs.Use.{scope_of};
 ghost use Rattle.e_theorem.specs.Statements.{stated};
-ghost use Rattle.e_spell.specs.Counts.{scope_of_counts};
-ghost use Rattle.e_spell.specs.Parts.{title_text, statement_text, head_text};
+ghost use Rattle.e_spell.specs.inner.Counts.{scope_of_counts};
+ghost use Rattle.e_spell.specs.inner.Parts.{title_text, statement_text, head_text};
 
 use crate::declarations::{Counts, Role, put_objects_of};
 use crate::literals::put_literal_lines;

@@ -3,7 +3,7 @@ ghost use Rattle.std.specs.Prelude.{◌≡◌, ◌++◌, codes, map, true, OnOk}
 ghost use Rattle.e_deriv.specs.Naming.{names_of_sort};
 ghost use Rattle.e_text.specs.Tokens.{spaced};
 ghost use Rattle.e_book.specs.Canonical.{atom_words, lit_words, more_words, raw_atom, raw_signed, raw_of, name_at, name_of_object};
-ghost use Rattle.e_spell.specs.Parts.{lit_text, lits_text, list_words};
+ghost use Rattle.e_spell.specs.inner.Parts.{lit_text, lits_text, list_words};
 
 use crate::sums::put_sums;
 use e_deriv::Names;
@@ -119,8 +119,8 @@ fn put_not(out: &mut Vec<u8>, names: &Names, atom: &Atom) -> Result<(), AllocErr
     }
 }
 
-/// A literal with the names of its objects.
-pub(crate) fn put_literal(out: &mut Vec<u8>, names: &Names, lit: &Lit) -> Result<(), AllocError>
+/// Writes a literal with the names of its objects, each word behind a space. It fails only for want of memory.
+pub fn put_literal(out: &mut Vec<u8>, names: &Names, lit: &Lit) -> Result<(), AllocError>
     ensures { OnOk result (out.new.items ≡ out.old.items ++ spaced (lit_words (raw_of names.now lit.now))) }
 {
     if lit.neg {

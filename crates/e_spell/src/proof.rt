@@ -5,7 +5,7 @@ ghost use Rattle.e_text.specs.Tokens.{spaced};
 ghost use Rattle.e_deriv.specs.PlainStep.{plain_step};
 ghost use Rattle.e_deriv.specs.Script.{script_of, close_script};
 ghost use Rattle.e_book.specs.Canonical.{name_of_object};
-ghost use Rattle.e_spell.specs.Parts.{citation_words, construction_words, application_text, certs_text, claim_text, superposition_text, lit_text, qed_text, step_text, steps_text, names_after, script_text, contradicted_text, proof_text};
+ghost use Rattle.e_spell.specs.inner.Parts.{citation_words, construction_words, application_text, certs_text, claim_text, superposition_text, lit_text, qed_text, step_text, steps_text, names_after, script_text, contradicted_text, proof_text};
 
 use crate::applications::put_apply;
 use crate::certificates::{put_against_of, put_cert_of, put_certs};

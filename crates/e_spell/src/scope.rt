@@ -4,8 +4,8 @@ ghost use Rattle.e_construct.specs.Superposing.{made};
 ghost use Rattle.e_deriv.specs.Naming.{first_names, named};
 ghost use Rattle.e_deriv.specs.PlainStep.{plain_step};
 ghost use Rattle.e_book.specs.Headed.{theorem_of};
-ghost use Rattle.e_spell.specs.Counts.{scope_of_counts};
-ghost use Rattle.e_spell.specs.Parts.{names_behind};
+ghost use Rattle.e_spell.specs.inner.Counts.{scope_of_counts};
+ghost use Rattle.e_spell.specs.inner.Parts.{names_behind};
 
 use crate::declarations::Counts;
 use e_book::Known;

@@ -1,6 +1,6 @@
 //! The last lines of stops.
 ghost use Rattle.std.specs.Prelude.{◌≡◌, ◌++◌, IfOk, OnOk};
-ghost use Rattle.e_spell.specs.Parts.{place_line, wanted_line, value_line, values_text, values_of_text, width_line};
+ghost use Rattle.e_spell.specs.inner.Parts.{place_line, wanted_line, value_line, values_text, values_of_text, width_line};
 ghost use Rattle.e_spell.specs.Spelling.{unlicensed_text, too_wide_text, stop_text, IsStop};
 
 use crate::literals::put_literal;

@@ -2,7 +2,7 @@
 ghost use Rattle.std.specs.Prelude.{◌≡◌, ◌++◌, IfOk, OnOk};
 ghost use Rattle.e_deriv.specs.Script.{script_of};
 ghost use Rattle.e_book.specs.Entry.{entry_of};
-ghost use Rattle.e_spell.specs.Parts.{theorem_text};
+ghost use Rattle.e_spell.specs.inner.Parts.{theorem_text};
 ghost use Rattle.e_spell.specs.Spelling.{spelled};
 
 use crate::head::put_head;

@@ -10,5 +10,5 @@ returns c =
     let n = c.put_names.new.out.items in
     let end = c.put_literal.new.out.items in
     let said = lit_words c.args.lit.now in
-    word_after a b end c.args.rule (c.args.names.now ++ (58 ∷ []) ∷ said) (c.in_ok-put.ensures ∙ ap (λ (w : List ℕ). a ++ 32 ∷ w) c.bytes.ensures.bytes)
-    (after b n end c.args.names.now ((58 ∷ []) ∷ said) c.in_ok-put_names.ensures (word_after n c.put-2.new.out.items end (58 ∷ []) said c.in_ok-put-2.ensures c.in_ok-put_literal.ensures))
+    word_after a b end c.args.rule (c.args.names.now ++ (58 ∷ []) ∷ said) (c.in_ok-put.ensures.ok ∙ ap (λ (w : List ℕ). a ++ 32 ∷ w) c.bytes.ensures.bytes)
+    (after b n end c.args.names.now ((58 ∷ []) ∷ said) c.in_ok-put_names.ensures.ok (word_after n c.put-2.new.out.items end (58 ∷ []) said c.in_ok-put-2.ensures.ok c.in_ok-put_literal.ensures))

@@ -9,5 +9,5 @@ returns c =
     let b = c.put.new.out.items in
     let args = map argument_word c.args.args.now in
     let made = made_words c.args.new.now in
-    word_after a b c.put_made_names.new.out.items c.args.title (args ++ made) (c.in_ok-put.ensures ∙ ap (λ (w : List ℕ). a ++ 32 ∷ w) c.bytes.ensures.bytes)
+    word_after a b c.put_made_names.new.out.items c.args.title (args ++ made) (c.in_ok-put.ensures.ok ∙ ap (λ (w : List ℕ). a ++ 32 ∷ w) c.bytes.ensures.bytes)
     (after b c.put_arguments.new.out.items c.put_made_names.new.out.items args made c.in_ok-put_arguments.ensures c.in_ok-put_made_names.ensures)

@@ -2,7 +2,7 @@ use Rattle.std.proofs.Common.{◌≡◌, IfOk, List, Option, Some, sym, subst}
 use Rattle.e_literal.specs.declared.literal.Lit.{Lit}
 use Rattle.e_theorem.specs.Statements.{stated}
 use Rattle.e_deriv.specs.Goal.{goal_of_statement, goal_with}
-use Rattle.e_book.specs.Entry.{statement_of_draft}
+use Rattle.e_book.specs.DraftViews.{statement_of_draft}
 use Rattle.e_read.specs.Needs.{claimed, goal_or}
 use Rattle.e_read.proofs.needs.goal_with.Goals as goal
 

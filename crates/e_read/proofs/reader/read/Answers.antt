@@ -1,4 +1,4 @@
-use Rattle.e_book.specs.Book.{last_line}
+use Rattle.e_book.specs.Grammar.{last_line}
 use Rattle.e_read.proofs.Consequences.{answer_spelled, answer_states}
 use Rattle.e_read.proofs.reader.read.Goals as goal
 

@@ -1,5 +1,7 @@
 use Rattle.std.proofs.Common.{◌≡◌, ◌≤◌, length}
-use Rattle.e_book.specs.Book.{last_line}
+use Rattle.std.specs.Prelude.{OnSome}
+use Rattle.e_book.specs.Limits.{most_theorems}
+use Rattle.e_book.specs.Grammar.{last_line}
 use Rattle.e_read.specs.Text.{at_start, piece_from, FitsReading}
 use Rattle.e_read.proofs.reader.read_piece.Given as goal
 
@@ -9,6 +11,7 @@ invariant-loop-reading l = record {
   last : last_line l.lines ≡ last_line l.initial.lines;
   fewer : length l.lines.lines ≤ length l.initial.lines.lines;
   fits : FitsReading l.reading;
+  few : OnSome l.reading.draft (length l.known ≤ most_theorems);
 }
 
 abbrev pub decreases-loop-reading : goal.decreases-loop-reading

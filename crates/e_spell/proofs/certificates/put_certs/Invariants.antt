@@ -1,5 +1,5 @@
 use Rattle.std.proofs.Common.{◌≡◌, ◌++◌, drop}
-use Rattle.e_spell.specs.Parts.{certs_text}
+use Rattle.e_spell.specs.inner.Parts.{certs_text}
 use Rattle.e_spell.proofs.certificates.put_certs.Given as goal
 
 abbrev pub invariant-loop-cert : goal.invariant-loop-cert

@@ -1,5 +1,5 @@
 use Rattle.std.proofs.Common.{◌≡◌, ◌++◌, drop}
-use Rattle.e_spell.specs.Parts.{parts_text}
+use Rattle.e_spell.specs.inner.Parts.{parts_text}
 use Rattle.e_spell.proofs.certificates.put_parts.Given as goal
 
 abbrev pub invariant-loop-part : goal.invariant-loop-part

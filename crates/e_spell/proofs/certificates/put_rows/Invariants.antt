@@ -1,5 +1,5 @@
 use Rattle.std.proofs.Common.{◌≡◌, ◌++◌, drop}
-use Rattle.e_spell.specs.Parts.{rows_text}
+use Rattle.e_spell.specs.inner.Parts.{rows_text}
 use Rattle.e_spell.proofs.certificates.put_rows.Given as goal
 
 abbrev pub invariant-loop-row : goal.invariant-loop-row

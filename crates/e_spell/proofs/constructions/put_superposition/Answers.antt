@@ -1,6 +1,6 @@
 use Rattle.e_book.specs.Canonical.{filled, placed_names}
 use Rattle.e_book.specs.Superposes.{superpose_pieces}
-use Rattle.e_spell.specs.Parts.{superposition_words, list_words}
+use Rattle.e_spell.specs.inner.Parts.{superposition_words, list_words}
 use Rattle.e_spell.proofs.Spaced.{two_parts}
 use Rattle.e_spell.proofs.constructions.put_superposition.Goals as goal
 

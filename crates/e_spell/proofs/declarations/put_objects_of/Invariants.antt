@@ -1,7 +1,7 @@
 use Rattle.std.proofs.Common.{◌≡◌, ◌++◌, drop}
 use Rattle.e_literal.specs.Scopes.{grown, next_objects}
-use Rattle.e_spell.specs.Counts.{AtMostMore, scope_of_counts}
-use Rattle.e_spell.specs.Parts.{objects_text, objects_rest}
+use Rattle.e_spell.specs.inner.Counts.{AtMostMore, scope_of_counts}
+use Rattle.e_spell.specs.inner.Parts.{objects_text, objects_rest}
 use Rattle.e_spell.proofs.declarations.put_objects_of.Given as goal
 
 abbrev pub invariant-loop-sort : goal.invariant-loop-sort

@@ -1,5 +1,5 @@
 use Rattle.std.proofs.Common.{◌≡◌, ◌++◌, drop}
-use Rattle.e_spell.specs.Parts.{lits_text}
+use Rattle.e_spell.specs.inner.Parts.{lits_text}
 use Rattle.e_spell.proofs.literals.put_literal_lines.Given as goal
 
 abbrev pub invariant-loop-lit : goal.invariant-loop-lit

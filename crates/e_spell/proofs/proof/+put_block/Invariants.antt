@@ -1,6 +1,6 @@
 use Rattle.std.proofs.Common.{◌≡◌, ◌++◌, drop, map}
 use Rattle.e_deriv.specs.PlainStep.{plain_step}
-use Rattle.e_spell.specs.Parts.{steps_text, names_after}
+use Rattle.e_spell.specs.inner.Parts.{steps_text, names_after}
 use Rattle.e_spell.proofs.proof.+put_block.Given as goal
 
 abbrev pub invariant-put_steps-loop-step : goal.invariant-put_steps-loop-step

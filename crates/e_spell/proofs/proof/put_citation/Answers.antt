@@ -6,4 +6,4 @@ use Rattle.e_spell.proofs.proof.put_citation.Goals as goal
 
 pub returns : goal.returns
 returns c = rw (← c.items.ensures) (on_ok_weaker c.put_literal.result (citation c.args.out.now.items c.put_rule.new.out.items c.put_objects.new.out.items c.put.new.out.items c.put_literal.new.out.items (rule_name c.args.by.now.rule) (map (name_of_object c.args.names.now) c.items.result.now) (lit_words (raw_of c.args.names.now c.args.by.now.lit))
-    c.in_ok-put_rule.ensures c.in_ok-put_objects.ensures c.in_ok-put.ensures) c.put_literal.ensures)
+    c.in_ok-put_rule.ensures c.in_ok-put_objects.ensures c.in_ok-put.ensures.ok) c.put_literal.ensures)

@@ -1,5 +1,5 @@
 use Rattle.std.proofs.Common.{◌≡◌, ◌++◌, drop}
-use Rattle.e_spell.specs.Parts.{values_text}
+use Rattle.e_spell.specs.inner.Parts.{values_text}
 use Rattle.e_spell.proofs.stops.put_values.Given as goal
 
 abbrev pub invariant-loop-term : goal.invariant-loop-term
