@@ -11,6 +11,7 @@ What it looks for:
 - A link to a file that is not there, or to a heading that is not.
 - A crate that is in one of crates.txt, README.md, docs/architecture.md and crates/ and not in
   another, or that stands on other crates there.
+- docs/claim.txt, where it is not what tools/claim.py makes of the definitions.
 - A line of prose with more than 100 columns. Rows of tables in docs/ are exempt, and so are lines
   of code, and links that cannot be broken.
 
@@ -21,6 +22,9 @@ where N is not 0.
 import re
 import sys
 from pathlib import Path
+
+sys.dont_write_bytecode = True
+import claim  # noqa: E402
 
 TOP = Path(sys.argv[1] if sys.argv[1:] else Path(__file__).resolve().parent.parent).resolve()
 COLUMNS = 100
@@ -211,9 +215,19 @@ def check_columns(findings):
                 findings.append((page, number, f"{len(line)} columns"))
 
 
+def check_claim(findings):
+    page = TOP / "docs/claim.txt"
+    made = claim.page(TOP)
+    kept = page.read_text(encoding="utf-8") if page.exists() else ""
+    if kept != made:
+        lines = zip((kept + "\n").split("\n"), (made + "\n").split("\n"))
+        number = next((number for number, (a, b) in enumerate(lines, 1) if a != b), 1)
+        findings.append((page, number, "not what tools/claim.py makes"))
+
+
 def main():
     findings = []
-    for check in (check_names, check_links, check_crates, check_columns):
+    for check in (check_names, check_links, check_crates, check_claim, check_columns):
         check(findings)
     for page, number, what in sorted(findings, key=lambda finding: (str(finding[0]), finding[1])):
         print(f"{page.relative_to(TOP)}:{number}: {what}")

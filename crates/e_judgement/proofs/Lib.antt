@@ -1,4 +1,5 @@
 mod Passing
 pub mod OneJudgement
+mod EachText
 mod WithCertificates
 mod Verifiable

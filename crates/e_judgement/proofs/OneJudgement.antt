@@ -72,7 +72,7 @@ no_failure p (x ∷ xs) n k h e = by (p x) (λ good later. no_failure p xs (n + 
     by true more h e = more h e
     by false more h e = true≢false (sym h)
 
-certified_no_failure : (known : List Headed) (t : Entry) (step : ℕ) → IsCertified known t → verdict (stated_by known) (stated t.statement) t.script ≡ Err step → ⊥
+pub certified_no_failure : (known : List Headed) (t : Entry) (step : ℕ) → IsCertified known t → verdict (stated_by known) (stated t.statement) t.script ≡ Err step → ⊥
 certified_no_failure known t step c e =
     no_failure (is_certified (stated_by known)) (derivation_lines (stated_by known) (stated t.statement) t.script) 1 step c e
 

@@ -9,7 +9,7 @@ use Rattle.e_deriv.specs.Certified.{verdict}
 use Rattle.e_deriv.specs.Fitting.{is_small_statement}
 use Rattle.e_book.specs.Headed.{Headed, stated_by}
 use Rattle.e_book.specs.Entry.{Entry}
-use Rattle.e_book.specs.Book.{last_line}
+use Rattle.e_book.specs.Grammar.{last_line}
 use Rattle.e_book.proofs.Fitting.{one_more_stated}
 use Rattle.e_read.specs.Text.{at_start, piece_from, Piece, Last}
 use Rattle.e_judgement.specs.declared.judgement.Judgement.{Judgement}

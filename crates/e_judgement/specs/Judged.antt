@@ -1,6 +1,6 @@
 -- The judgement of a derivation text: its theorems are taken one after another, up to the first block in which a line has no form at
 -- its place or is not certified.
-use Rattle.std.specs.Prelude.{◌≡◌, ◌⊎◌, ℕ, ◌+◌, ◌-◌, ◌^◌, Bool, ◌&&◌, List, [], ◌∷◌, ◌++◌, length, codes, Result, Ok, Err, IsTrue, IsFalse}
+use Rattle.std.specs.Prelude.{◌≡◌, ◌⊎◌, ℕ, ◌+◌, Bool, ◌&&◌, List, [], ◌∷◌, ◌++◌, length, codes, Result, Ok, Err, IsTrue, IsFalse}
 use Rattle.std.specs.Str.{bytes_eq}
 use Rattle.e_text.specs.Lines.{Seen, lines_of, fault_line}
 use Rattle.e_text.specs.declared.line.LineFault.{LineFault}
@@ -80,9 +80,9 @@ JudgesLines [] j = j ≡ Garbled 1
 JudgesLines (Err f ∷ lines) j = j ≡ Garbled 1
 JudgesLines (Ok l ∷ lines) j = (IsTrue (is_head l) → IsJudged (2 + length lines) lines j) × (IsFalse (is_head l) → j ≡ Garbled 1)
 
--- the lines of a derivation text: each has at most 262,144 bytes
+-- the lines of a derivation text: each has at most 262,144 bytes, and all bytes count
 abbrev pub lines_of_text : List ℕ → Rest
-lines_of_text text = lines_of (record { longest = 262144; most = 2 ^ 64 - 1 }) (record { line = 1; before = 0 }) text
+lines_of_text text = lines_of (record { longest = 262144; most = length text }) (record { line = 1; before = 0 }) text
 
 -- a derivation text is judged so
 abbrev pub JudgesText : List ℕ → Judgement → Type 0

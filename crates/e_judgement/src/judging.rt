@@ -4,7 +4,7 @@ ghost use Rattle.e_text.specs.Lines.{seen};
 ghost use Rattle.e_theorem.specs.Statements.{stated};
 ghost use Rattle.e_deriv.specs.Script.{script_of};
 ghost use Rattle.e_deriv.specs.Certified.{Certified, verdict};
-ghost use Rattle.e_book.specs.Book.{last_line};
+ghost use Rattle.e_book.specs.Grammar.{last_line};
 ghost use Rattle.e_book.specs.Headed.{headed, is_known, stated_by};
 ghost use Rattle.e_verify.specs.Checking.{RejectIs};
 ghost use Rattle.e_verify.specs.Verdicts.{IsVerifiable};
@@ -16,6 +16,7 @@ use e_read::{Piece, TextFault, read};
 use e_text::{Line, LineEnd, Lines, faulty_line};
 use e_verify::{Reject, verify};
 use std::alloc::{AllocError, Global};
+use std::mem;
 
 /// The most bytes that a line of a derivation text may have.
 const LONGEST_LINE: usize = 262_144;
@@ -59,30 +60,46 @@ fn keep(known: &mut Known, theorem: Theorem) -> Result<(), AllocError>
     requires { is_known known.old theorem.title ≡ false }
     ensures { OnOk result (known.new ≡ known.old ++ headed theorem.title theorem.statement ∷ []) }
 {
-    known.add(theorem.title, theorem.statement)
+    let Theorem {
+        title,
+        names,
+        statement,
+        block,
+    } = theorem;
+    mem::drop(names);
+    mem::drop(block);
+    known.add(title, statement)
 }
 
-/// Judges the theorems one after another.
-fn judge_theorems(alloc: Global, lines: &mut Lines) -> Result<Judgement, AllocError>
+/// Judges the theorems one after another, and keeps each that is certified.
+fn judge_theorems(
+    alloc: Global,
+    known: &mut Known,
+    lines: &mut Lines,
+) -> Result<Judgement, AllocError>
+    requires { known.old ≡ [] }
     ensures { IfOk result (λ j. IsJudged (last_line lines.old) lines.old.lines j) }
 {
-    let mut known = Known::new(alloc);
     loop {
-        let theorem = match read(alloc, lines, &known) {
+        let theorem = match read(alloc, lines, known) {
             Ok(Piece::Theorem(theorem)) => theorem,
             Ok(Piece::Last { theorems }) => return Ok(behind_the_last(lines, theorems)),
             Err(TextFault::Garbled { line }) => return Ok(Judgement::Garbled { line }),
             Err(TextFault::NoMemory) => return Err(AllocError),
         };
-        match check(alloc, &known, &theorem) {
+        match check(alloc, known, &theorem) {
             Ok(()) => {}
             Err(Reject::Bad { step }) => {
                 let title = theorem.title;
+                mem::drop(theorem);
                 return Ok(Judgement::Bad { title, step });
             }
-            Err(Reject::NoMemory) => return Err(AllocError),
+            Err(Reject::NoMemory) => {
+                mem::drop(theorem);
+                return Err(AllocError);
+            }
         }
-        keep(&mut known, theorem)?;
+        keep(known, theorem)?;
     }
 }
 
@@ -96,7 +113,7 @@ pub fn judge(alloc: Global, text: &[u8]) -> Result<Judgement, AllocError>
     requires { length text.now ≤ 2 ^ 60 }
     ensures { IfOk result (λ j. JudgesText text.now j) }
 {
-    let mut lines = Lines::new(text, LONGEST_LINE, u64::MAX);
+    let mut lines = Lines::new(text, LONGEST_LINE, text.len() as u64);
     let first = match lines.next() {
         Some(Ok(line)) => line,
         Some(Err(_)) => return Ok(Judgement::Garbled { line: 1 }),
@@ -105,5 +122,8 @@ pub fn judge(alloc: Global, text: &[u8]) -> Result<Judgement, AllocError>
     if !is_head(&first) {
         return Ok(Judgement::Garbled { line: 1 });
     }
-    judge_theorems(alloc, &mut lines)
+    let mut known = Known::new(alloc);
+    let judged = judge_theorems(alloc, &mut known, &mut lines);
+    mem::drop(known);
+    judged
 }

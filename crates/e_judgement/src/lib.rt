@@ -4,7 +4,8 @@
 
 mod judgement;
 mod judging;
-pub mod laws;
+mod laws;
 
 pub use judgement::Judgement;
 pub use judging::judge;
+pub use laws::{each_text_is_judged, texts_have_one_judgement};

@@ -11,8 +11,8 @@ use Rattle.e_book.specs.Canonical.{line_of, head_forms, end_form, names_of_proof
 use Rattle.e_book.proofs.Lookups.{in_order}
 use Rattle.e_book.proofs.CanonicalRead.{started, begins}
 use Rattle.e_spell.specs.Spelling.{script_lines, spelled_lines}
-use Rattle.e_reread.specs.Laws.{CanBeSpelled}
-use Rattle.e_reread.proofs.Whole.{stood}
+use Rattle.e_roundtrip.specs.Spelled.{CanBeSpelled}
+use Rattle.e_roundtrip.proofs.SpelledIsRead.{stood}
 use Rattle.e_judgement.specs.Judged.{with_theorem}
 use Rattle.e_roundtrip.specs.Written.{AllCanBeSpelled}
 use Rattle.e_roundtrip.proofs.Rooms.{short_append}

@@ -25,8 +25,8 @@ use Rattle.e_book.specs.Canonical.{rule_name, name_of_object}
 use Rattle.e_book.proofs.Lookups.{InOrder}
 use Rattle.e_book.proofs.LitLookups.{diagram_is_good}
 use Rattle.e_spell.specs.Certificates.{row_words, row_line, sum_lines, sums_lines, part_lines, cert_lines, certs_lines, against_lines, contradiction_lines}
-use Rattle.e_reread.proofs.Feeding.{GoodRow, GoodSum, GoodSums, GoodPart}
-use Rattle.e_reread.proofs.CertsPut.{GoodCert, GoodCerts, GoodAgainst}
+use Rattle.e_roundtrip.proofs.Feeding.{GoodRow, GoodSum, GoodSums, GoodPart}
+use Rattle.e_roundtrip.proofs.CertsPut.{GoodCert, GoodCerts, GoodAgainst}
 use Rattle.e_roundtrip.proofs.Rooms.{is_short, short_word, short_number, Room, room_none, room_more, room_word, room_line}
 use Rattle.e_roundtrip.proofs.LitRooms.{room_objects, room_term, room_one}
 use Rattle.e_roundtrip.proofs.RuleRooms.{short_rule, few_arguments}

@@ -30,9 +30,7 @@ use Rattle.e_deriv.specs.Goal.{Goal, goal_of, goal_with}
 use Rattle.e_deriv.specs.Lines.{line, lines}
 use Rattle.e_deriv.specs.Naming.{named}
 use Rattle.e_deriv.specs.Parts.{written as written_args}
-use Rattle.e_deriv.specs.Certified.{is_certified}
-use Rattle.e_clause.specs.Written.{is_good_cert}
-use Rattle.e_verify.proofs.Passing.{hence_written, make_written, apply_written, superposed_written, qed_written, contradiction_written}
+use Rattle.e_roundtrip.specs.Formed.{is_formed}
 use Rattle.e_book.specs.declared.blocks.Opened.TheVariants as opened
 use Rattle.e_book.specs.declared.draft.Draft.{Draft}
 use Rattle.e_book.specs.Limits.{most_facts}
@@ -46,10 +44,10 @@ use Rattle.e_book.proofs.Built.{of_sorts_length}
 use Rattle.e_book.proofs.LinesRead.{Inside, behind, deep, copied, resume, second, applied_behind}
 use Rattle.e_spell.specs.Certificates.{certs_lines}
 use Rattle.e_spell.specs.Spelling.{script_lines}
-use Rattle.e_reread.proofs.CertsGood.{good_certs, good_against}
+use Rattle.e_roundtrip.proofs.CertsGood.{good_certs, good_against}
 use Rattle.e_book.proofs.ScriptRead.{list_names, inferred, constructed, apply_parts, claim_parts, copy_parts, opens, cases_parts}
-use Rattle.e_reread.proofs.Standing.{Stood, first_of, one_certified}
-use Rattle.e_reread.proofs.ScriptAlong.{cite_next, hence_next, make_next, apply_next, claim_inside, claim_next, copy_certified, copy_inside, copy_next, cases_one, cases_two, no_hence, no_contradiction}
+use Rattle.e_roundtrip.proofs.Standing.{Stood, first_of, one_formed}
+use Rattle.e_roundtrip.proofs.ScriptAlong.{cite_next, hence_next, make_next, apply_next, claim_inside, claim_next, copy_formed, copy_inside, copy_next, cases_one, cases_two, no_hence, no_contradiction}
 use Rattle.e_roundtrip.proofs.Rooms.{short_append}
 use Rattle.e_roundtrip.proofs.RuleRooms.{few_cited}
 use Rattle.e_roundtrip.proofs.CertRooms.{short_certs, short_against}
@@ -95,7 +93,7 @@ cite_short known d i b rest given goal s more =
     let before = stated_by known in
     let sc = scope_of_names i.in_scope in
     let here = line (Cite b rest) (Cite b rest) sc given goal in
-    let one = one_certified before here (first_of (is_certified before) here (lines before rest rest sc (joined given b.lit) goal) s.certified).0 in
+    let one = one_formed before here (first_of (is_formed before) here (lines before rest rest sc (joined given b.lit) goal) s.formed).0 in
     let p = and_parts (is_diagram_rule b.rule) (list_all (is_in_scope sc) b.args && (all_in_scope sc b.lit && is_some (Inst b.rule b.args))) one.fitting in
     let q = and_parts (list_all (is_in_scope sc) b.args) (all_in_scope sc b.lit && is_some (Inst b.rule b.args)) p.1 in
     let r = and_parts (all_in_scope sc b.lit) (is_some (Inst b.rule b.args)) q.1 in
@@ -110,10 +108,9 @@ hence_short known d i l c rest given goal s more =
     let ns = i.in_scope in
     let sc = scope_of_names ns in
     let here = line (Hence l (Some c) rest) (Hence l (Some c) rest) sc given goal in
-    let one = one_certified before here (first_of (is_certified before) here (lines before rest rest sc (joined given l) goal) s.certified).0 in
+    let one = one_formed before here (first_of (is_formed before) here (lines before rest rest sc (joined given l) goal) s.formed).0 in
     let good = (and_parts (is_well_formed l) (has_good_literals (erased rest)) s.ready.good).0 in
-    let written : list_all is_good_cert (c ∷ []) ≡ true = rw (hence_written l (Some c) rest s.written).1 refl in
-    let certs = short_certs ns (l ∷ []) (c ∷ []) s.ready.order (good_certs ns given (l ∷ []) (c ∷ []) one.certs written) in
+    let certs = short_certs ns (l ∷ []) (c ∷ []) s.ready.order (good_certs ns (l ∷ []) (c ∷ []) one.certs) in
     (short_hence ns l s.ready.order good, short_append (certs_lines ns (c ∷ [])) (script_lines known ns rest) certs more)
 
 -- a construction: what it avoids is bounded by the facts that it gives
@@ -127,10 +124,10 @@ make_short known d i form names certs rest given goal s more =
     let sc = scope_of_names ns in
     let n = i.facts + length (gives form sc) in
     let here = line (Make form names certs rest) (Make form names certs rest) sc given goal in
-    let one = one_certified before here (first_of (is_certified before) here (lines before rest rest (grown sc (made form)) (joined_all given (gives form sc)) goal) s.certified).0 in
+    let one = one_formed before here (first_of (is_formed before) here (lines before rest rest (grown sc (made form)) (joined_all given (gives form sc)) goal) s.formed).0 in
     let most = leb-true _ _ (and_parts (leb n most_facts) (few_facts before n (grown sc (made form)) (erased rest)) r.facts).0 in
     let words = list_names names (and_parts (list_all _ names) (is_plain (erased rest)) r.plain).0 in
-    let own = short_certs ns (needs form) certs r.order (good_certs ns given (needs form) certs one.certs (make_written form names certs rest s.written).0) in
+    let own = short_certs ns (needs form) certs r.order (good_certs ns (needs form) certs one.certs) in
     (short_let ns form names r.order words (omega (arith, most, avoided_give form sc)), short_append (certs_lines ns certs) (script_lines known (named ns (made form) names) rest) own more)
 
 -- the use of an earlier theorem
@@ -145,14 +142,14 @@ apply_short known d i theorem args names certs rest given goal k s more =
     let t = theorem_of known theorem in
     let p = apply_parts known d i theorem args names (erased rest) given goal r in
     let here = line (Apply theorem args names certs rest) (Apply theorem args names certs rest) sc given goal in
-    let one = one_certified before here (first_of (is_certified before) here (lines before rest rest (grown sc t.made) (joined_all given (gives_of_use t (written_args args) sc)) goal) s.certified).0 in
+    let one = one_formed before here (first_of (is_formed before) here (lines before rest rest (grown sc t.made) (joined_all given (gives_of_use t (written_args args) sc)) goal) s.formed).0 in
     let choice = (and_parts _ (is_choice t sc args (written_args args)) one.fitting).1 in
     let fit = and_parts (fills args (written_args args)) (are_arguments t sc (written_args args)) choice in
     let count = of_sorts_length sc t.declared (written_args args) fit.1 in
     let few = few_at known theorem k in
     let title = (and_parts (is_title (title_at known theorem)) _ (and_parts (is_named_by_title known theorem) (names_theorems known (erased rest)) r.theorems).0).0 in
     let wanted = needs_of_use t (written_args args) sc in
-    let own = short_certs ns wanted certs r.order (good_certs ns given wanted certs one.certs (apply_written theorem args names certs rest s.written).0) in (
+    let own = short_certs ns wanted certs r.order (good_certs ns wanted certs one.certs) in (
       short_apply known ns theorem args names r.order title p.named (omega (arith, as_many args (written_args args) fit.0, count, few.declared)) (omega (arith, r.new_names.1, few.made)),
       short_append (certs_lines ns certs) (script_lines known (named ns t.made names) rest) own more,
     )
@@ -174,8 +171,8 @@ copy_short known d i form names shown certs inner rest given goal s inside more 
     let ns = i.in_scope in
     let p = copy_parts known d i form names shown (erased inner) (erased rest) given goal s.ready in
     let wanted = superposing.needs form in
-    let c = (copy_certified known d i form names shown certs inner rest given goal s).2 in
-    let own = short_certs ns wanted certs s.ready.order (good_certs ns given wanted certs c (superposed_written form names shown certs inner rest s.written).1) in
+    let c = (copy_formed known d i form names shown certs inner rest given goal s).2 in
+    let own = short_certs ns wanted certs s.ready.order (good_certs ns wanted certs c) in
     let first = script_lines known (named ns superposing.made names) inner in
     let last = script_lines known ns rest in (
       short_superpose ns form names shown s.ready.order p.good.named p.good.plain.good (omega (arith, p.facts)) (omega (arith, p.terms)),
@@ -191,11 +188,11 @@ qed_short known d i os certs given goal s few =
     let ns = i.in_scope in
     let sc = scope_of_names ns in
     let here = line (Qed os certs) (Qed os certs) sc given goal in
-    let one = one_certified before here (first_of (is_certified before) here [] s.certified).0 in
+    let one = one_formed before here (first_of (is_formed before) here [] s.formed).0 in
     let sorts : List Sort = map (λ o. o.sort) goal.made in
     let count = of_sorts_length sc sorts os one.fitting in
     let wanted = goal_with goal os in
-    (short_qed ns os r.order (omega (arith, few, count, length-map goal.made (λ o. o.sort))), short_certs ns wanted certs r.order (good_certs ns given wanted certs one.certs (qed_written os certs s.written)))
+    (short_qed ns os r.order (omega (arith, few, count, length-map goal.made (λ o. o.sort))), short_certs ns wanted certs r.order (good_certs ns wanted certs one.certs))
 
 -- a contradiction
 contradiction_short : (known : List Headed) (d : Draft) (i : Inside) (a : Against) (given : List Lit) (goal : Goal) → Stood known d i (Contradiction (Some a)) given goal → AreShortLines known i (Contradiction (Some a))
@@ -204,8 +201,8 @@ contradiction_short known d i a given goal s =
     let before = stated_by known in
     let ns = i.in_scope in
     let here = line (Contradiction (Some a)) (Contradiction (Some a)) (scope_of_names ns) given goal in
-    let one = one_certified before here (first_of (is_certified before) here [] s.certified).0 in
-    (short_contradiction, short_against ns a s.ready.order (good_against ns given a one.beside (contradiction_written (Some a) s.written)))
+    let one = one_formed before here (first_of (is_formed before) here [] s.formed).0 in
+    (short_contradiction, short_against ns a s.ready.order (good_against ns a one.beside))
 
 -- a split
 cases_short : (known : List Headed) (d : Draft) (i : Inside) (l : Lit) (one two : Script) (given : List Lit) (goal : Goal) → Stood known d i (Cases l one two) given goal → AreShortLines known i one → AreShortLines known i two

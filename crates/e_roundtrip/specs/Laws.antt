@@ -1,12 +1,73 @@
--- What the text of certified derivations is judged to be, whatever the code does.
-use Rattle.std.specs.Prelude.{◌^◌, ◌≤◌, List, [], length}
-use Rattle.e_deriv.specs.Script.{Script}
+-- What holds between reading, spelling and judging, whatever the code does.
+use Rattle.std.specs.Prelude.{◌≡◌, ℕ, IsTrue, List, [], ◌++◌, length, Result, Ok}
+use Rattle.e_text.specs.Lines.{Seen, text_of_lines}
+use Rattle.e_text.specs.declared.line.LineFault.{LineFault}
+use Rattle.e_literal.specs.Use.{Stated}
+use Rattle.e_theorem.specs.Statements.{stated}
+use Rattle.e_deriv.specs.Script.{Script, erased}
+use Rattle.e_deriv.specs.Parts.{filled_by}
+use Rattle.e_deriv.specs.Certified.{Certified}
+use Rattle.e_deriv.specs.Written.{is_written_well}
+use Rattle.e_book.specs.Headed.{Headed, stated_by}
 use Rattle.e_book.specs.Entry.{Entry}
+use Rattle.e_book.specs.HasSpelling.{HasSpelling}
+use Rattle.e_read.specs.Text.{Derived, at_start, piece_from}
+use Rattle.e_spell.specs.Spelling.{spelled_lines, spelled}
 use Rattle.e_judgement.specs.declared.judgement.Judgement.TheVariants.{Verified}
 use Rattle.e_judgement.specs.Judged.{JudgesText}
-use Rattle.e_roundtrip.specs.Written.{AllCanBeSpelled, written}
+use Rattle.e_roundtrip.specs.Formed.{Formed}
+use Rattle.e_roundtrip.specs.Spelled.{ShowsEnded, CanBeSpelled}
+use Rattle.e_roundtrip.specs.Written.{AllCanBeSpelled, AllCanBeVerified, SpellsProofs, judgement_of, written}
+
+-- ---- what is read is spelled so
+
+-- what is read as a theorem with its derivation is spelled so: the lines are exactly those of its one spelling
+abbrev pub ReadIsSpelled : Type 0
+ReadIsSpelled = (known : List Headed) (last : ℕ) (t : Entry) (lines rest : List (Result Seen LineFault)) → piece_from known last at_start lines ≡ Ok (Derived t, rest)
+    → ShowsEnded lines (spelled_lines known t t.script) rest
+
+-- so their bytes are its one text: no other text is read as the same theorem with the same derivation
+abbrev pub ReadTextIsSpelled : Type 0
+ReadTextIsSpelled = (known : List Headed) (last : ℕ) (t : Entry) (lines rest : List (Result Seen LineFault)) → piece_from known last at_start lines ≡ Ok (Derived t, rest)
+    → text_of_lines lines ≡ spelled known t t.script ++ text_of_lines rest
+
+-- and the derivation can be spelled, by its form: so that form is the form of what is read
+abbrev pub ReadCanBeSpelled : Type 0
+ReadCanBeSpelled = (known : List Headed) (last : ℕ) (t : Entry) (lines rest : List (Result Seen LineFault)) → piece_from known last at_start lines ≡ Ok (Derived t, rest)
+    → CanBeSpelled known t t.script
+
+-- ---- what is spelled is read
+
+-- a derivation that is certified, and whose certificates name literals that are well formed, has the form
+abbrev pub CertifiedIsFormed : Type 0
+CertifiedIsFormed = (before : List Stated) (t : Stated) (d : Script) → Certified before t d → IsTrue (is_written_well d) → Formed before t d
+
+-- the lines of a derivation's one spelling, whatever follows them, are read as the theorem with that derivation
+abbrev pub SpelledIsRead : Type 0
+SpelledIsRead =
+    (known : List Headed) (last : ℕ) (t : Entry) (d : Script) (lines rest : List (Result Seen LineFault)) → CanBeSpelled known t d
+    → ShowsEnded lines (spelled_lines known t d) rest → piece_from known last at_start lines ≡ Ok (Derived (record t { script = d }), rest)
+
+-- a theorem that can be spelled still can when its blanks are filled: when its script is that of a certified derivation without the
+-- certificates, which differs from its own only in the arguments at the lines that use earlier theorems
+abbrev pub FilledHasSpelling : Type 0
+FilledHasSpelling =
+    (known : List Headed) (t : Entry) (d : Script) → HasSpelling known t → erased d ≡ filled_by (erased t.script) d
+    → Certified (stated_by known) (stated t.statement) d → HasSpelling known (record t { script = erased d })
+
+-- ---- what is written is judged
+
+-- what is written of derivations that can be spelled is a derivation text that is judged as their verdicts say: verified, or bad at
+-- the first line that is not certified, and never garbled, however long it is
+abbrev pub WrittenIsJudged : Type 0
+WrittenIsJudged =
+    (ps : List (Entry × Script)) → AllCanBeSpelled [] ps → JudgesText (written ps) (judgement_of [] ps)
 
 -- what is written of certified derivations is a derivation text that is judged verified, with their number
 abbrev pub WrittenIsVerified : Type 0
 WrittenIsVerified =
-    (ps : List (Entry × Script)) → AllCanBeSpelled [] ps → length (written ps) ≤ 2 ^ 60 → JudgesText (written ps) (Verified (length ps))
+    (ps : List (Entry × Script)) → AllCanBeVerified [] ps → JudgesText (written ps) (Verified (length ps))
+
+-- and a text that is judged verified is so written: it spells proofs, and nothing else
+abbrev pub VerifiedIsWritten : Type 0
+VerifiedIsWritten = (text : List ℕ) (n : ℕ) → JudgesText text (Verified n) → SpellsProofs n text

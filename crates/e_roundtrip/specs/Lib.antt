@@ -1,2 +1,4 @@
+pub mod Formed
+pub mod Spelled
 pub mod Written
 pub mod Laws

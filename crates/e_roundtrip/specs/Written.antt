@@ -1,16 +1,42 @@
 -- The text of derivations that follow one another.
-use Rattle.std.specs.Prelude.{ℕ, List, [], ◌∷◌, ◌++◌, length, codes, decimal}
+use Rattle.std.specs.Prelude.{◌≡◌, ℕ, List, [], ◌∷◌, ◌++◌, length, codes, decimal, Result, Ok, Err}
+use Rattle.e_theorem.specs.Statements.{stated}
 use Rattle.e_deriv.specs.Script.{Script}
-use Rattle.e_book.specs.Headed.{Headed}
+use Rattle.e_deriv.specs.Proves.{IsProof}
+use Rattle.e_deriv.specs.Certified.{Certified, verdict}
+use Rattle.e_book.specs.Headed.{Headed, stated_by}
 use Rattle.e_book.specs.Entry.{Entry}
 use Rattle.e_spell.specs.Spelling.{spelled}
-use Rattle.e_reread.specs.Laws.{CanBeSpelled}
+use Rattle.e_roundtrip.specs.Spelled.{CanBeSpelled}
+use Rattle.e_judgement.specs.declared.judgement.Judgement.{Judgement}
+use Rattle.e_judgement.specs.declared.judgement.Judgement.TheVariants.{Verified, Bad}
 use Rattle.e_judgement.specs.Judged.{with_theorem}
 
--- theorems, each with a derivation of it: each can be spelled where those before it are known
+-- theorems, each with a derivation of it that lines can spell: each where those before it are known
 abbrev pub AllCanBeSpelled : List Headed → List (Entry × Script) → Type 0
 AllCanBeSpelled known [] = Unit {0}
 AllCanBeSpelled known (p ∷ ps) = CanBeSpelled known p.0 p.1 × AllCanBeSpelled (with_theorem known p.0) ps
+
+-- lines can spell the derivation, and each of its certificates certifies
+pub record CanBeVerified (known : List Headed) (t : Entry) (d : Script) : Type 0 where
+  pub spelled : CanBeSpelled known t d
+  pub certified : Certified (stated_by known) (stated t.statement) d
+
+-- theorems, each with a derivation of it: each where those before it are known
+abbrev pub AllCanBeVerified : List Headed → List (Entry × Script) → Type 0
+AllCanBeVerified known [] = Unit {0}
+AllCanBeVerified known (p ∷ ps) = CanBeVerified known p.0 p.1 × AllCanBeVerified (with_theorem known p.0) ps
+
+-- after the verdict on a derivation: bad at the line that is not certified, or what those behind it are judged
+abbrev pub judged_after : List ℕ → Result ℕ ℕ → Judgement → Judgement
+judged_after title (Ok n) behind = behind
+judged_after title (Err step) behind = Bad title step
+
+-- what they are judged, one after another, up to the first line that is not certified
+abbrev pub judgement_of : List Headed → List (Entry × Script) → Judgement
+judgement_of known [] = Verified (length known)
+judgement_of known (p ∷ ps) =
+    judged_after p.0.title (verdict (stated_by known) (stated p.0.statement) p.1) (judgement_of (with_theorem known p.0) ps)
 
 -- the blocks of derivations, one behind the other
 abbrev pub blocks_of : List Headed → List (Entry × Script) → List ℕ
@@ -28,3 +54,15 @@ accepted_line n = codes "accepted " ++ (decimal n ++ codes "\n")
 -- the head line, the blocks, and the last line
 abbrev pub written : List (Entry × Script) → List ℕ
 written ps = head_line ++ (blocks_of [] ps ++ accepted_line (length ps))
+
+-- each derivation proves its theorem's statement from those of the theorems before it
+abbrev pub AllProved : List Headed → List (Entry × Script) → Type 0
+AllProved known [] = Unit {0}
+AllProved known (p ∷ ps) = IsProof (stated_by known) (stated p.0.statement) p.1 × AllProved (with_theorem known p.0) ps
+
+-- the text is the head line, the spellings of so many theorems, each with a derivation that proves it, and the line with their number
+pub record SpellsProofs (n : ℕ) (text : List ℕ) : Type 0 where
+  pub theorems : List (Entry × Script)
+  pub count : length theorems ≡ n
+  pub proved : AllProved [] theorems
+  pub bytes : text ≡ written theorems

@@ -1,7 +1,49 @@
-//! What holds of writing and judging together: each law is the contract of a function.
-ghost use Rattle.e_roundtrip.specs.Laws.{WrittenIsVerified};
+//! What holds between reading, spelling and judging: each law is the contract of a function.
+ghost use Rattle.e_roundtrip.specs.Laws.{ReadIsSpelled, ReadTextIsSpelled, ReadCanBeSpelled, SpelledIsRead, CertifiedIsFormed, FilledHasSpelling, WrittenIsJudged, WrittenIsVerified, VerifiedIsWritten};
+
+/// The lines that are read as a theorem with its derivation are exactly the lines of its one spelling.
+pub fn what_is_read_is_spelled_so()
+    ensures { ReadIsSpelled }
+{}
+
+/// The bytes that are read as a theorem with its derivation are its one text: one tree has one spelling.
+pub fn one_text_for_one_tree()
+    ensures { ReadTextIsSpelled }
+{}
+
+/// What is read as a theorem with its derivation can be spelled, by its form.
+pub fn what_is_read_can_be_spelled()
+    ensures { ReadCanBeSpelled }
+{}
+
+/// The lines of a derivation's one spelling, whatever follows them, are read as the theorem with that derivation, whether its
+/// certificates certify or not.
+pub fn spelled_is_read()
+    ensures { SpelledIsRead }
+{}
+
+/// A derivation that is certified has the form that lines can have.
+pub fn certified_is_formed()
+    ensures { CertifiedIsFormed }
+{}
+
+/// A theorem that can be spelled still can when a certified derivation fills its blanks.
+pub fn filled_has_spelling()
+    ensures { FilledHasSpelling }
+{}
+
+/// What is written of derivations that can be spelled is a derivation text that is judged as their verdicts say.
+pub fn written_is_judged()
+    ensures { WrittenIsJudged }
+{}
 
 /// What is written of certified derivations is a derivation text that is judged verified.
 pub fn written_is_verified()
     ensures { WrittenIsVerified }
+{}
+
+/// A text that is judged verified is the head line, the spellings of theorems, each with a derivation that proves it from those
+/// before it, and the line with their number.
+pub fn verified_is_written()
+    ensures { VerifiedIsWritten }
 {}

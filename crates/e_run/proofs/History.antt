@@ -7,19 +7,19 @@ use Rattle.e_io.proofs.Growth.{grown, grown-nothing}
 use Rattle.e_theorem.specs.Statements.{stated}
 use Rattle.e_book.specs.Headed.{Headed, stated_by}
 use Rattle.e_book.specs.Entry.{Entry}
-use Rattle.e_book.specs.Book.{read_from}
+use Rattle.e_book.specs.Grammar.{read_from}
 use Rattle.e_deriv.specs.Script.{size}
 use Rattle.e_deriv.specs.Naming.{names_lines, declared_names}
 use Rattle.std.specs.Prelude.{slice_get}
-use Rattle.e_run.specs.Outcome.{Rest, with_theorem, IsLicensed, Takes, Begins, number_behind}
-use Rattle.e_run.specs.Outcome as ends
-use Rattle.e_run.specs.Answers.{Derived, IsDerived, AllDerived, EndsSo, Refuses, Widens, theorems_of, steps_of, block_of, blocks_of}
-use Rattle.e_run.specs.Endings.{EndsWith, EndingIs, BreaksOff, BreaksInside, stop_ending}
-use Rattle.e_run.specs.Progress.{History, Handles}
+use Rattle.e_run.specs.Outcome.{Rest, with_theorem, IsLicensed, Takes, Begins, end_line_number}
+use Rattle.e_run.specs.Outcome as outcome
+use Rattle.e_run.specs.Answers.{Derived, IsDerived, AllDerived, OutcomeAfter, Refuses, Widens, theorems_of, steps_of, block_of, blocks_of}
+use Rattle.e_run.specs.inner.BookResults.{BlocksUpTo, BookResultIs, BreaksOff, BreaksInside, result_of_stop}
+use Rattle.e_run.specs.inner.Progress.{History, Handles}
 use Rattle.e_run.specs.declared.book.Book.{Book}
-use Rattle.e_run.specs.declared.blocks.Ending.{Ending}
-use Rattle.e_run.specs.declared.blocks.Ending.TheVariants.{All}
-use Rattle.e_run.specs.declared.blocks.Broken.{Broken}
+use Rattle.e_run.specs.declared.blocks.BookResult.{BookResult}
+use Rattle.e_run.specs.declared.blocks.BookResult.TheVariants.{All}
+use Rattle.e_run.specs.declared.blocks.RunError.{RunError}
 use Rattle.e_deriv.specs.declared.stop.Stop.{Stop}
 use Rattle.e_deriv.specs.declared.stop.Stop.TheVariants as stops
 use Rattle.e_prove.specs.Stops.{StopIs, HasNames}
@@ -41,7 +41,7 @@ takes_more last known lines [] now rest t after r h l = (
 takes_more last known lines (u ∷ us) now rest t after r h l =
     (r.0, r.1, r.2, takes_more last (with_theorem known u) r.0 us now rest t after r.3 h l)
 
--- one more derivation, by what is known behind the others
+-- one more derivation, by what is known after the others
 all_more : (last : ℕ) (known : List Headed) (lines : Rest) (ds : List Derived) (now : List Headed) (rest : Rest) (d : Derived)
     → Takes last known lines (theorems_of ds) now rest → AllDerived known ds → IsDerived now d → AllDerived known (ds ++ d ∷ [])
 all_more last known lines [] now rest d r h k = (subst (λ (x : List Headed). IsDerived x d) (sym r.0) k, tt)
@@ -59,9 +59,9 @@ blocks_more : (last : ℕ) (known : List Headed) (lines : Rest) (ds : List Deriv
     → Takes last known lines (theorems_of ds) now rest → blocks_of known (ds ++ d ∷ []) ≡ blocks_of known ds ++ block_of now d
 blocks_more last known lines [] now rest d r = append-nil (block_of known d) ∙ ap (λ (k : List Headed). block_of k d) r.0
 blocks_more last known lines (e ∷ es) now rest d r =
-    let behind = with_theorem known e.theorem in
-    ap (λ (x : List ℕ). block_of known e ++ x) (blocks_more last behind r.0 es now rest d r.3)
-    ∙ sym (append_assoc (block_of known e) (blocks_of behind es) (block_of now d))
+    let later = with_theorem known e.theorem in
+    ap (λ (x : List ℕ). block_of known e ++ x) (blocks_more last later r.0 es now rest d r.3)
+    ∙ sym (append_assoc (block_of known e) (blocks_of later es) (block_of now d))
 
 -- a theorem with a derivation has each of its lines licensed
 licensed : (known : List Headed) (d : Derived) → IsDerived known d → IsLicensed known d.theorem
@@ -71,18 +71,18 @@ pub begins : (lines : Rest) (old : Option (List ℕ)) → History lines old [] l
 begins lines old = record { derived = []; sound = tt; begins = (refl, refl); grew = grown-nothing old; steps_are = refl }
 
 begins_more : (lines : Rest) (ds : List Derived) (known : List Headed) (rest after : Rest) (d : Derived)
-    → Begins lines (theorems_of ds) known rest → read_from known (number_behind lines) None rest ≡ Ok (Some (d.theorem, after)) → IsDerived known d
+    → Begins lines (theorems_of ds) known rest → read_from known (end_line_number lines) None rest ≡ Ok (Some (d.theorem, after)) → IsDerived known d
     → Begins lines (theorems_of (ds ++ d ∷ [])) (with_theorem known d.theorem) after
 begins_more lines ds known rest after d b h k =
     subst (λ (ts : List Entry). Begins lines ts (with_theorem known d.theorem) after) (sym (theorems_more ds d))
-    (takes_more (number_behind lines) [] lines (theorems_of ds) known rest d.theorem after b h (licensed known d k))
+    (takes_more (end_line_number lines) [] lines (theorems_of ds) known rest d.theorem after b h (licensed known d k))
 
 -- the block of the next theorem was written
 pub goes_on : (lines : Rest) (old new newer : Option (List ℕ)) (known : List Headed) (rest after : Rest) (steps : ℕ) (d : Derived)
-    → History lines old known rest new steps → read_from known (number_behind lines) None rest ≡ Ok (Some (d.theorem, after)) → IsDerived known d → Grew new newer (block_of known d)
+    → History lines old known rest new steps → read_from known (end_line_number lines) None rest ≡ Ok (Some (d.theorem, after)) → IsDerived known d → Grew new newer (block_of known d)
     → History lines old (with_theorem known d.theorem) after newer (steps + size d.theorem.script)
 goes_on lines old new newer known rest after steps d h read k w =
-    let last = number_behind lines in
+    let last = end_line_number lines in
     record {
       derived = h.derived ++ d ∷ [];
       sound = all_more last [] lines h.derived known rest d h.begins h.sound k;
@@ -91,17 +91,17 @@ goes_on lines old new newer known rest after steps d h read k w =
       steps_are = omega (arith, h.steps_are, steps_more h.derived d);
     }
 
--- this holds behind what was written
+-- this holds after what was written
 pub ends_with : (lines : Rest) (old new : Option (List ℕ)) (known : List Headed) (rest : Rest) (steps : ℕ) (Holds : List Headed → Rest → Type 0)
-    → History lines old known rest new steps → Holds known rest → EndsWith lines old new Holds
+    → History lines old known rest new steps → Holds known rest → BlocksUpTo lines old new Holds
 ends_with lines old new known rest steps Holds h e =
     record { derived = h.derived; sound = h.sound; known = known; rest = rest; begins = h.begins; holds = e; grew = h.grew }
 
--- nothing stands behind the last theorem
+-- nothing comes after the last theorem
 pub ends_counted : (lines : Rest) (old new : Option (List ℕ)) (known : List Headed) (rest : Rest) (steps n : ℕ)
-    → History lines old known rest new steps → EndsSo lines (ends.Accepted n) known rest → EndingIs lines old new (All n steps)
+    → History lines old known rest new steps → OutcomeAfter lines (outcome.Accepted n) known rest → BookResultIs lines old new (All n steps)
 unfolding ends_with
-ends_counted lines old new known rest steps n h e = (ends_with lines old new known rest steps (EndsSo lines (ends.Accepted n)) h e, h.steps_are)
+ends_counted lines old new known rest steps n h e = (ends_with lines old new known rest steps (OutcomeAfter lines (outcome.Accepted n)) h e, h.steps_are)
 
 pub breaks_off : (lines : Rest) (old new : Option (List ℕ)) (known : List Headed) (rest : Rest) (steps : ℕ) → History lines old known rest new steps → BreaksOff lines old new
 breaks_off lines old new known rest steps h =
@@ -113,10 +113,10 @@ front_more a b c xs ys p q =
 
 -- a front of the block of the next theorem was written
 pub breaks_inside : (lines : Rest) (old new newer : Option (List ℕ)) (known : List Headed) (rest after : Rest) (steps : ℕ) (d : Derived)
-    → History lines old known rest new steps → read_from known (number_behind lines) None rest ≡ Ok (Some (d.theorem, after)) → IsDerived known d → GrewByFront new newer (block_of known d)
+    → History lines old known rest new steps → read_from known (end_line_number lines) None rest ≡ Ok (Some (d.theorem, after)) → IsDerived known d → GrewByFront new newer (block_of known d)
     → BreaksInside lines old newer
 breaks_inside lines old new newer known rest after steps d h read k w =
-    let last = number_behind lines in
+    let last = end_line_number lines in
     let f = front_more old new newer (blocks_of [] h.derived) (block_of known d) h.grew w in
     let blocks = sym (blocks_more last [] lines h.derived known rest d h.begins) in
     record {
@@ -130,19 +130,19 @@ breaks_inside lines old new newer known rest after steps d h read k w =
 
 -- the next theorem is refused
 pub stops_with : (lines : Rest) (old new : Option (List ℕ)) (known : List Headed) (rest after : Rest) (steps : ℕ) (t : Entry) (step : ℕ) (wanted : Wanted) (values : Option (List (Term × ℕ))) (names : Names)
-    → History lines old known rest new steps → read_from known (number_behind lines) None rest ≡ Ok (Some (t, after))
+    → History lines old known rest new steps → read_from known (end_line_number lines) None rest ≡ Ok (Some (t, after))
     → IsRefused (stated_by known) (stated t.statement) t.script step wanted values
     → Some names ≡ slice_get (names_lines (stated_by known) (declared_names (stated t.statement) t.names) t.script) (step - 1)
-    → EndsWith lines old new (Refuses lines t.title step wanted values names)
+    → BlocksUpTo lines old new (Refuses lines t.title step wanted values names)
 stops_with lines old new known rest after steps t step wanted values names h read refused named =
     ends_with lines old new known rest steps (Refuses lines t.title step wanted values names) h (t, after, read, record { titled = refl; refused = refused; named = named })
 
 -- a line of the next theorem is too wide
 pub widens_with : (lines : Rest) (old new : Option (List ℕ)) (known : List Headed) (rest after : Rest) (steps : ℕ) (t : Entry) (step : ℕ) (wanted : Wanted) (width : ℕ) (names : Names)
-    → History lines old known rest new steps → read_from known (number_behind lines) None rest ≡ Ok (Some (t, after))
+    → History lines old known rest new steps → read_from known (end_line_number lines) None rest ≡ Ok (Some (t, after))
     → IsTooWideAt (stated_by known) (stated t.statement) t.script step wanted width
     → Some names ≡ slice_get (names_lines (stated_by known) (declared_names (stated t.statement) t.names) t.script) (step - 1)
-    → EndsWith lines old new (Widens lines t.title step wanted width names)
+    → BlocksUpTo lines old new (Widens lines t.title step wanted width names)
 widens_with lines old new known rest after steps t step wanted width names h read too_wide named =
     ends_with lines old new known rest steps (Widens lines t.title step wanted width names) h (t, after, read, record { titled = refl; too_wide = too_wide; named = named })
 
@@ -154,12 +154,12 @@ pub front_spelled_as : (old new : Option (List ℕ)) (xs ys : List ℕ) (known :
 front_spelled_as old new xs ys known d e f g = subst (λ (l : List ℕ). GrewByFront old new l) (e ∙ f) g
 
 -- the next theorem stops, or memory ran out
-pub stopped : (lines : Rest) (old new : Option (List ℕ)) (known : List Headed) (rest after any : Rest) (steps : ℕ) (t : Entry) (stop : Stop) (b : Book) (r : Result (Option Ending) Broken)
-    → r ≡ stop_ending t.title stop → History lines old known rest new steps → read_from known (number_behind lines) None rest ≡ Ok (Some (t, after))
+pub stopped : (lines : Rest) (old new : Option (List ℕ)) (known : List Headed) (rest after any : Rest) (steps : ℕ) (t : Entry) (stop : Stop) (b : Book) (r : Result (Option BookResult) RunError)
+    → r ≡ result_of_stop t.title stop → History lines old known rest new steps → read_from known (end_line_number lines) None rest ≡ Ok (Some (t, after))
     → StopIs (stated_by known) (stated t.statement) t.script stop → HasNames (stated_by known) (stated t.statement) t.names t.script stop → Handles lines old any r b new
 stopped lines old new known rest after any steps t (stops.Unlicensed step wanted values names) b r e h read s k =
-    subst (λ (x : Result (Option Ending) Broken). Handles lines old any x b new) (sym e) (stops_with lines old new known rest after steps t step wanted values names h read s k)
+    subst (λ (x : Result (Option BookResult) RunError). Handles lines old any x b new) (sym e) (stops_with lines old new known rest after steps t step wanted values names h read s k)
 stopped lines old new known rest after any steps t (stops.TooWide step wanted width names) b r e h read s k =
-    subst (λ (x : Result (Option Ending) Broken). Handles lines old any x b new) (sym e) (widens_with lines old new known rest after steps t step wanted width names h read s k)
+    subst (λ (x : Result (Option BookResult) RunError). Handles lines old any x b new) (sym e) (widens_with lines old new known rest after steps t step wanted width names h read s k)
 stopped lines old new known rest after any steps t stops.NoMemory b r e h read s k =
-    subst (λ (x : Result (Option Ending) Broken). Handles lines old any x b new) (sym e) (breaks_off lines old new known rest steps h)
+    subst (λ (x : Result (Option BookResult) RunError). Handles lines old any x b new) (sym e) (breaks_off lines old new known rest steps h)

@@ -9,8 +9,8 @@ use Rattle.e_deriv.proofs.Stops.{one_stop, no_stop_of_licensed}
 use Rattle.e_book.specs.declared.fault.BookFault.{BookFault}
 use Rattle.e_book.specs.Headed.{Headed, stated_by}
 use Rattle.e_book.specs.Entry.{Entry}
-use Rattle.e_book.specs.Book.{read_from}
-use Rattle.e_run.specs.Outcome.{Rest, with_theorem, IsLicensed, Takes, End, Accepted, Unlicensed, Faulty, StopsAt, Ends, IsOutcome, number_behind}
+use Rattle.e_book.specs.Grammar.{read_from}
+use Rattle.e_run.specs.Outcome.{Rest, with_theorem, IsLicensed, Takes, BookOutcome, Accepted, Unlicensed, Faulty, StopsAt, OutcomeAt, IsOutcome, end_line_number}
 use Rattle.e_run.proofs.WholeBook.{same_found}
 
 -- what reading gives
@@ -60,7 +60,7 @@ same_rest : (t u : Entry) (xs ys : Rest) → found t xs ≡ found u ys → xs �
 same_rest t u xs ys e = ap (λ (p : Entry × Rest). p.1) (same_found t u xs ys e)
 
 -- with the same known, the same lines end in one way
-one_end : (last : ℕ) (known : List Headed) (lines : Rest) (a b : End) → Ends last known lines a → Ends last known lines b → a ≡ b
+one_end : (last : ℕ) (known : List Headed) (lines : Rest) (a b : BookOutcome) → OutcomeAt last known lines a → OutcomeAt last known lines b → a ≡ b
 one_end last known lines (Accepted n) (Accepted m) h k = ap Accepted (sym h.1 ∙ k.1)
 one_end last known lines (Accepted n) (Unlicensed p i v x) h k = absurd (found_not_none k.0 k.1 (sym k.2 ∙ h.0))
 one_end last known lines (Accepted n) (Faulty f) h k = absurd (none_not_faulty f (sym h.0 ∙ k))
@@ -73,15 +73,15 @@ one_end last known lines (Faulty f) (Unlicensed q j w y) h k = absurd (found_not
 one_end last known lines (Faulty f) (Faulty g) h k = ap Faulty (same_faulty f g (sym h ∙ k))
 
 -- where the next theorem is licensed the lines do not end
-no_end : (last : ℕ) (known : List Headed) (lines after : Rest) (u : Entry) (a : End) → read_from known last None lines ≡ found u after → IsLicensed known u → Ends last known lines a → ⊥
+no_end : (last : ℕ) (known : List Headed) (lines after : Rest) (u : Entry) (a : BookOutcome) → read_from known last None lines ≡ found u after → IsLicensed known u → OutcomeAt last known lines a → ⊥
 no_end last known lines after u (Accepted n) r l h = found_not_none u after (sym r ∙ h.0)
 no_end last known lines after u (Unlicensed p i v x) r l h =
     no_stop_of_licensed (stated_by known) (stated u.statement) u.script l.filled i v l.licensed (stop_of_same known h.0 u p i v x (same_first h.0 u h.1 after (sym h.2 ∙ r)) h.3).first
 no_end last known lines after u (Faulty f) r l h = found_not_faulty u after f (sym r ∙ h)
 
-ends_at : (last : ℕ) (known now : List Headed) (lines rest : Rest) (a : End) → known ≡ now → lines ≡ rest → Ends last now rest a → Ends last known lines a
+ends_at : (last : ℕ) (known now : List Headed) (lines rest : Rest) (a : BookOutcome) → known ≡ now → lines ≡ rest → OutcomeAt last now rest a → OutcomeAt last known lines a
 ends_at last known now lines rest a e f h =
-    subst (λ (k : List Headed). Ends last k lines a) (sym e) (subst (λ (l : Rest). Ends last now l a) (sym f) h)
+    subst (λ (k : List Headed). OutcomeAt last k lines a) (sym e) (subst (λ (l : Rest). OutcomeAt last now l a) (sym f) h)
 
 takes_at : (last : ℕ) (known now : List Headed) (lines after rest : Rest) (ts : List Entry) (t u : Entry) → u ≡ t → after ≡ lines
     → Takes last (with_theorem known u) after ts now rest → Takes last (with_theorem known t) lines ts now rest
@@ -90,8 +90,8 @@ takes_at last known now lines after rest ts t u e f h =
     (subst (λ (x : Entry). Takes last (with_theorem known x) after ts now rest) e h)
 
 -- the same lines have one outcome
-pub one_outcome : (last : ℕ) (known : List Headed) (lines : Rest) (ts us : List Entry) (k1 k2 : List Headed) (r1 r2 : Rest) (a b : End)
-    → Takes last known lines ts k1 r1 → Takes last known lines us k2 r2 → Ends last k1 r1 a → Ends last k2 r2 b → a ≡ b
+pub one_outcome : (last : ℕ) (known : List Headed) (lines : Rest) (ts us : List Entry) (k1 k2 : List Headed) (r1 r2 : Rest) (a b : BookOutcome)
+    → Takes last known lines ts k1 r1 → Takes last known lines us k2 r2 → OutcomeAt last k1 r1 a → OutcomeAt last k2 r2 b → a ≡ b
 one_outcome last known lines [] [] k1 k2 r1 r2 a b p q h k =
     one_end last known lines a b (ends_at last known k1 lines r1 a p.0 p.1 h) (ends_at last known k2 lines r2 b q.0 q.1 k)
 one_outcome last known lines [] (u ∷ us) k1 k2 r1 r2 a b p q h k =
@@ -103,12 +103,6 @@ one_outcome last known lines (t ∷ ts) (u ∷ us) k1 k2 r1 r2 a b p q h k =
     one_outcome last (with_theorem known t) p.0 ts us k1 k2 r1 r2 a b p.3
     (takes_at last known k2 p.0 q.0 r2 us t u (same_first u t q.0 p.0 e) (same_rest u t q.0 p.0 e) q.3) h k
 
-pub outcome_is_one : (lines : Rest) (ts us : List Entry) (a b : End) → IsOutcome lines ts a → IsOutcome lines us b → a ≡ b
+pub outcome_is_one : (lines : Rest) (ts us : List Entry) (a b : BookOutcome) → IsOutcome lines ts a → IsOutcome lines us b → a ≡ b
 outcome_is_one lines ts us a b p q =
-    one_outcome (number_behind lines) [] lines ts us p.known q.known p.rest q.rest a b p.begins q.begins p.ends q.ends
-
--- the same lines are read in one way
-pub one_reading : (known : List Headed) (last : ℕ) (lines : Rest) (t u : Entry) (after behind : Rest)
-    → read_from known last None lines ≡ Ok (Some (t, after)) → read_from known last None lines ≡ Ok (Some (u, behind)) → (t ≡ u) × (after ≡ behind)
-one_reading known last lines t u after behind h k =
-    let e = sym h ∙ k in (same_first t u after behind e, same_rest t u after behind e)
+    one_outcome (end_line_number lines) [] lines ts us p.known q.known p.rest q.rest a b p.begins q.begins p.ends q.ends

@@ -11,19 +11,21 @@ use Rattle.e_book.specs.Headed.{Headed}
 use Rattle.e_book.specs.Entry.{Entry, entry_of}
 use Rattle.e_book.specs.Steps.{FitsScope}
 use Rattle.e_book.specs.Book.{read_from, IsBegun, ReadsOn}
+use Rattle.e_book.specs.Grammar as grammar
+use Rattle.e_book.proofs.GrammarRead.{grammar_read}
 use Rattle.e_book.proofs.ReadingOn.{begun_first}
 use Rattle.e_run.specs.declared.book.Book.{Book}
-use Rattle.e_run.specs.declared.blocks.Ending.TheVariants.{Faulty}
-use Rattle.e_run.specs.declared.blocks.Ending.{Ending}
-use Rattle.e_run.specs.declared.blocks.Broken.{Broken}
-use Rattle.e_run.specs.declared.blocks.Broken.TheVariants.{WriteFault}
+use Rattle.e_run.specs.declared.blocks.BookResult.TheVariants.{Faulty}
+use Rattle.e_run.specs.declared.blocks.BookResult.{BookResult}
+use Rattle.e_run.specs.declared.blocks.RunError.{RunError}
+use Rattle.e_run.specs.declared.blocks.RunError.TheVariants.{WriteFault}
 use Rattle.e_deriv.specs.declared.stop.Stop.{Stop}
 use Rattle.e_deriv.specs.declared.stop.Stop.TheVariants as stops
-use Rattle.e_run.specs.Outcome.{Rest, number_behind}
-use Rattle.e_run.specs.Outcome as ends
-use Rattle.e_run.specs.Answers.{EndsSo}
-use Rattle.e_run.specs.Endings.{EndingIs, BreaksOff, stop_ending, fault_ending}
-use Rattle.e_run.specs.Progress.{History, IsBook, Reaches, BookTakes, first_book, ending_at}
+use Rattle.e_run.specs.Outcome.{Rest, end_line_number}
+use Rattle.e_run.specs.Outcome as outcome
+use Rattle.e_run.specs.Answers.{OutcomeAfter}
+use Rattle.e_run.specs.inner.BookResults.{BookResultIs, BreaksOff, result_of_stop, result_of_fault}
+use Rattle.e_run.specs.inner.Progress.{History, IsBook, Reaches, BookTakes, first_book, result_at}
 use Rattle.e_run.proofs.History.{begins, ends_with, ends_counted, breaks_off}
 
 -- what reading gives
@@ -38,8 +40,8 @@ found t rest = Ok (Some (t, rest))
 pub first_is_book : IsBook first_book
 first_is_book = record { small = refl; count = refl; most = omega arith; steps = omega arith; draft = tt; begun = begun_first [] }
 
-pub reaches_first : (ahead : Rest → Rest) (old : Option (List ℕ)) → Reaches ahead ahead old first_book old
-reaches_first ahead old = record { tail = []; history = λ more. begins (ahead more) old; reads = λ last more. refl }
+pub reaches_first : (remaining : Rest → Rest) (old : Option (List ℕ)) → Reaches remaining remaining old first_book old
+reaches_first remaining old = record { tail = []; history = λ more. begins (remaining more) old; reads = λ last more. refl }
 
 -- ---- between two lines
 
@@ -55,10 +57,10 @@ pub book_with : (b : Book) (r : Reading) → IsBook b → IfSome r.draft FitsSco
 book_with b r h fits begun = record { small = h.small; count = h.count; most = h.most; steps = h.steps; draft = fits; begun = begun }
 
 -- what comes begins with these lines
-pub reaches_ahead : (all : Rest → Rest) (old : Option (List ℕ)) (b : Book) (new : Option (List ℕ)) (lines : Rest) → Reaches all (λ more. more) old b new → Reaches (λ more. all (lines ++ more)) (λ more. lines ++ more) old b new
-reaches_ahead all old b new lines r = record { tail = r.tail; history = λ more. r.history (lines ++ more); reads = λ last more. r.reads last (lines ++ more) }
+pub reaches_remaining : (all : Rest → Rest) (old : Option (List ℕ)) (b : Book) (new : Option (List ℕ)) (lines : Rest) → Reaches all (λ more. more) old b new → Reaches (λ more. all (lines ++ more)) (λ more. lines ++ more) old b new
+reaches_remaining all old b new lines r = record { tail = r.tail; history = λ more. r.history (lines ++ more); reads = λ last more. r.reads last (lines ++ more) }
 
--- all lines are what they are, in whatever way they are said
+-- all lines are what they are, in whatever way they are written
 pub reaches_as : (all same : Rest → Rest) (old : Option (List ℕ)) (b : Book) (new : Option (List ℕ)) → ((more : Rest) → all more ≡ same more) → Reaches all (λ more. more) old b new → Reaches same (λ more. more) old b new
 reaches_as all same old b new e r =
     record { tail = r.tail; history = λ more. subst (λ (ls : Rest). History ls old b.known (r.tail ++ more) new b.steps) (e more) (r.history more); reads = r.reads }
@@ -67,8 +69,10 @@ reaches_as all same old b new e r =
 
 -- it is the next of the book
 pub next_is : (all : Rest → Rest) (old : Option (List ℕ)) (b : Book) (new : Option (List ℕ)) (lines left : Rest) (d : Option Draft) (t : Theorem) (r : Reaches all (λ more. lines ++ more) old b new)
-    → ReadsOn b.known b.reading.draft lines (Ok (Some t)) d left → (more : Rest) → read_from b.known (number_behind (all more)) None (r.tail ++ (lines ++ more)) ≡ found (entry_of t) (left ++ more)
-next_is all old b new lines left d t r h more = r.reads (number_behind (all more)) more ∙ h.2 (number_behind (all more)) more
+    → ReadsOn b.known b.reading.draft lines (Ok (Some t)) d left → (more : Rest) → grammar.read_from b.known (end_line_number (all more)) None (r.tail ++ (lines ++ more)) ≡ found (entry_of t) (left ++ more)
+next_is all old b new lines left d t r h more =
+    let last = end_line_number (all more) in
+    sym (grammar_read b.known last (r.tail ++ (lines ++ more))) ∙ r.reads last more ∙ h.2 last more
 
 -- and is taken
 pub next_reaches : (all : Rest → Rest) (old : Option (List ℕ)) (b : Book) (new : Option (List ℕ)) (left : Rest) → ((more : Rest) → History (all more) old b.known (left ++ more) new b.steps) → b.reading.draft ≡ None
@@ -89,21 +93,21 @@ all_reached all old b reading new lines left r h = record {
 -- ---- the blocks end, or break off
 
 -- then the book does not go on, and the sink did not fail
-pub stop_none : (title : List ℕ) (stop : Stop) (r : Result (Option Ending) Broken) (P : Type 0) → r ≡ stop_ending title stop → IfOk r (λ e. IfNone e P)
-stop_none title (stops.Unlicensed step wanted values names) r P e = subst (λ (x : Result (Option Ending) Broken). IfOk x (λ o. IfNone o P)) (sym e) tt
-stop_none title (stops.TooWide step wanted width names) r P e = subst (λ (x : Result (Option Ending) Broken). IfOk x (λ o. IfNone o P)) (sym e) tt
-stop_none title stops.NoMemory r P e = subst (λ (x : Result (Option Ending) Broken). IfOk x (λ o. IfNone o P)) (sym e) tt
+pub stop_none : (title : List ℕ) (stop : Stop) (r : Result (Option BookResult) RunError) (P : Type 0) → r ≡ result_of_stop title stop → IfOk r (λ e. IfNone e P)
+stop_none title (stops.Unlicensed step wanted values names) r P e = subst (λ (x : Result (Option BookResult) RunError). IfOk x (λ o. IfNone o P)) (sym e) tt
+stop_none title (stops.TooWide step wanted width names) r P e = subst (λ (x : Result (Option BookResult) RunError). IfOk x (λ o. IfNone o P)) (sym e) tt
+stop_none title stops.NoMemory r P e = subst (λ (x : Result (Option BookResult) RunError). IfOk x (λ o. IfNone o P)) (sym e) tt
 
-pub fault_none : (f : BookFault) (r : Result (Option Ending) Broken) (P : Type 0) → r ≡ fault_ending f → IfOk r (λ e. IfNone e P)
-fault_none faults.NoMemory r P e = subst (λ (x : Result (Option Ending) Broken). IfOk x (λ o. IfNone o P)) (sym e) tt
-fault_none (faults.Malformed line) r P e = subst (λ (x : Result (Option Ending) Broken). IfOk x (λ o. IfNone o P)) (sym e) tt
-fault_none (faults.UnknownName line) r P e = subst (λ (x : Result (Option Ending) Broken). IfOk x (λ o. IfNone o P)) (sym e) tt
-fault_none (faults.NameTaken line) r P e = subst (λ (x : Result (Option Ending) Broken). IfOk x (λ o. IfNone o P)) (sym e) tt
-fault_none (faults.WrongSort line) r P e = subst (λ (x : Result (Option Ending) Broken). IfOk x (λ o. IfNone o P)) (sym e) tt
-fault_none (faults.Limit line what) r P e = subst (λ (x : Result (Option Ending) Broken). IfOk x (λ o. IfNone o P)) (sym e) tt
-fault_none (faults.Unended line) r P e = subst (λ (x : Result (Option Ending) Broken). IfOk x (λ o. IfNone o P)) (sym e) tt
+pub fault_none : (f : BookFault) (r : Result (Option BookResult) RunError) (P : Type 0) → r ≡ result_of_fault f → IfOk r (λ e. IfNone e P)
+fault_none faults.NoMemory r P e = subst (λ (x : Result (Option BookResult) RunError). IfOk x (λ o. IfNone o P)) (sym e) tt
+fault_none (faults.Malformed line) r P e = subst (λ (x : Result (Option BookResult) RunError). IfOk x (λ o. IfNone o P)) (sym e) tt
+fault_none (faults.UnknownName line) r P e = subst (λ (x : Result (Option BookResult) RunError). IfOk x (λ o. IfNone o P)) (sym e) tt
+fault_none (faults.NameTaken line) r P e = subst (λ (x : Result (Option BookResult) RunError). IfOk x (λ o. IfNone o P)) (sym e) tt
+fault_none (faults.WrongSort line) r P e = subst (λ (x : Result (Option BookResult) RunError). IfOk x (λ o. IfNone o P)) (sym e) tt
+fault_none (faults.Limit line what) r P e = subst (λ (x : Result (Option BookResult) RunError). IfOk x (λ o. IfNone o P)) (sym e) tt
+fault_none (faults.Unended line) r P e = subst (λ (x : Result (Option BookResult) RunError). IfOk x (λ o. IfNone o P)) (sym e) tt
 
-fault_writes : (f : BookFault) → fault_ending f ≡ Err WriteFault → ⊥
+fault_writes : (f : BookFault) → result_of_fault f ≡ Err WriteFault → ⊥
 fault_writes faults.NoMemory e = absurd cc
 fault_writes (faults.Malformed line) e = absurd cc
 fault_writes (faults.UnknownName line) e = absurd cc
@@ -112,22 +116,22 @@ fault_writes (faults.WrongSort line) e = absurd cc
 fault_writes (faults.Limit line what) e = absurd cc
 fault_writes (faults.Unended line) e = absurd cc
 
-pub fault_unwritten : (f : BookFault) (r : Result (Option Ending) Broken) → r ≡ fault_ending f → r ≡ Err WriteFault → ⊥
+pub fault_unwritten : (f : BookFault) (r : Result (Option BookResult) RunError) → r ≡ result_of_fault f → r ≡ Err WriteFault → ⊥
 fault_unwritten f r e h = fault_writes f (sym e ∙ h)
 
-pub off_here : (all ahead : Rest → Rest) (old : Option (List ℕ)) (b : Book) (new : Option (List ℕ)) → Reaches all ahead old b new → (more : Rest) → BreaksOff (all more) old new
-off_here all ahead old b new r more = breaks_off (all more) old new b.known (r.tail ++ ahead more) b.steps (r.history more)
+pub off_here : (all remaining : Rest → Rest) (old : Option (List ℕ)) (b : Book) (new : Option (List ℕ)) → Reaches all remaining old b new → (more : Rest) → BreaksOff (all more) old new
+off_here all remaining old b new r more = breaks_off (all more) old new b.known (r.tail ++ remaining more) b.steps (r.history more)
 
 -- the next line has a fault
 faulty_at : (all : Rest → Rest) (old : Option (List ℕ)) (b : Book) (new : Option (List ℕ)) (lines : Rest) (f : BookFault) → Reaches all (λ more. lines ++ more) old b new
-    → ((last : ℕ) (more : Rest) → read_from b.known last b.reading.draft (lines ++ more) ≡ Err f) → (more : Rest) → EndingIs (all more) old new (Faulty f)
+    → ((last : ℕ) (more : Rest) → read_from b.known last b.reading.draft (lines ++ more) ≡ Err f) → (more : Rest) → BookResultIs (all more) old new (Faulty f)
 faulty_at all old b new lines f r h more =
-    let last = number_behind (all more) in
-    ends_with (all more) old new b.known (r.tail ++ (lines ++ more)) b.steps (EndsSo (all more) (ends.Faulty f)) (r.history more) (r.reads last more ∙ h last more)
+    let last = end_line_number (all more) in
+    ends_with (all more) old new b.known (r.tail ++ (lines ++ more)) b.steps (OutcomeAfter (all more) (outcome.Faulty f)) (r.history more) (sym (grammar_read b.known last (r.tail ++ (lines ++ more))) ∙ r.reads last more ∙ h last more)
 
 -- or memory ran out
 pub faulty_here : (all : Rest → Rest) (old : Option (List ℕ)) (b c : Book) (new : Option (List ℕ)) (lines left : Rest) (d : Option Draft) (f : BookFault) → Reaches all (λ more. lines ++ more) old b new → ReadsOn b.known b.reading.draft lines (Err f) d left
-    → BookTakes all old (fault_ending f) c new
+    → BookTakes all old (result_of_fault f) c new
 faulty_here all old b c new lines left d faults.NoMemory r h = off_here all (λ more. lines ++ more) old b new r
 faulty_here all old b c new lines left d (faults.Malformed line) r h = faulty_at all old b new lines (faults.Malformed line) r h
 faulty_here all old b c new lines left d (faults.UnknownName line) r h = faulty_at all old b new lines (faults.UnknownName line) r h
@@ -137,17 +141,17 @@ faulty_here all old b c new lines left d (faults.Limit line what) r h = faulty_a
 faulty_here all old b c new lines left d (faults.Unended line) r h = faulty_at all old b new lines (faults.Unended line) r h
 
 -- no lines come any more, by what has come of the next theorem
-ends_at : (lines rest : Rest) (old new : Option (List ℕ)) (known : List Headed) (d : Option Draft) (line theorems steps : ℕ) → number_behind lines ≡ line → length known ≡ theorems → History lines old known rest new steps
-    → ((last : ℕ) → read_from known last None rest ≡ read_from known last d []) → EndingIs lines old new (ending_at line d theorems steps)
+ends_at : (lines rest : Rest) (old new : Option (List ℕ)) (known : List Headed) (d : Option Draft) (line theorems steps : ℕ) → end_line_number lines ≡ line → length known ≡ theorems → History lines old known rest new steps
+    → ((last : ℕ) → read_from known last None rest ≡ read_from known last d []) → BookResultIs lines old new (result_at line d theorems steps)
 ends_at lines rest old new known None line theorems steps is count h reads =
-    ends_counted lines old new known rest steps theorems h (reads (number_behind lines), count)
+    ends_counted lines old new known rest steps theorems h (sym (grammar_read known (end_line_number lines) rest) ∙ reads (end_line_number lines), count)
 ends_at lines rest old new known (Some d) line theorems steps is count h reads =
-    ends_with lines old new known rest steps (EndsSo lines (ends.Faulty (faults.Unended line))) h (reads (number_behind lines) ∙ ap (λ (n : ℕ). unended n) is)
+    ends_with lines old new known rest steps (OutcomeAfter lines (outcome.Faulty (faults.Unended line))) h (sym (grammar_read known (end_line_number lines) rest) ∙ reads (end_line_number lines) ∙ ap (λ (n : ℕ). unended n) is)
   where
     unended : ℕ → Answer
     unended n = Err (faults.Unended n)
 
-pub ends_here : (all : Rest → Rest) (old : Option (List ℕ)) (b : Book) (new : Option (List ℕ)) (line : ℕ) → IsBook b → number_behind (all []) ≡ line → Reaches all (λ more. more) old b new
-    → EndingIs (all []) old new (ending_at line b.reading.draft b.theorems b.steps)
+pub ends_here : (all : Rest → Rest) (old : Option (List ℕ)) (b : Book) (new : Option (List ℕ)) (line : ℕ) → IsBook b → end_line_number (all []) ≡ line → Reaches all (λ more. more) old b new
+    → BookResultIs (all []) old new (result_at line b.reading.draft b.theorems b.steps)
 ends_here all old b new line h is r =
     ends_at (all []) (r.tail ++ []) old new b.known b.reading.draft line b.theorems b.steps is h.count (r.history []) (λ last. r.reads last [])

@@ -1,58 +1,47 @@
--- What is told of a generated book.
-use Rattle.std.proofs.Common.{◌≡◌, inl, inr, ℕ, ◌≤◌, ◌^◌, length, List, [], Option, Some, refl, sym, ap, subst, ◌∙◌, arith}
-use Rattle.e_io.specs.Bytes.{Grew, GrewByFront}
+-- What is answered on a generated book.
+use Rattle.std.proofs.Common.{◌≡◌, inl, inr, ℕ, ◌≤◌, List, [], Option, Some, refl, sym, ap, subst, ◌∙◌, arith}
+use Rattle.e_io.specs.Bytes.{Grew}
 use Rattle.e_text.proofs.WholeLines.{lines_of-take}
 use Rattle.e_deriv.specs.declared.stop.Stop.TheVariants as stops
 use Rattle.e_book.specs.Headed.{Headed}
 use Rattle.e_generate.specs.Generated.{generated_text}
-use Rattle.e_judgement.specs.declared.judgement.Judgement.TheVariants as judged
+use Rattle.e_judgement.specs.declared.judgement.Judgement.TheVariants as judgements
 use Rattle.e_judgement.specs.Judged.{JudgesText}
 use Rattle.e_run.specs.declared.status.Status.{Status}
 use Rattle.e_run.specs.declared.status.Status.TheVariants as status
-use Rattle.e_run.specs.declared.command.Command.{Command}
-use Rattle.e_run.specs.declared.command.Command.TheVariants as commands
-use Rattle.e_run.specs.declared.blocks.Ending.{Ending}
-use Rattle.e_run.specs.declared.blocks.Ending.TheVariants.{All, Stopped, Faulty}
+use Rattle.e_run.specs.declared.blocks.BookResult.{BookResult}
+use Rattle.e_run.specs.declared.blocks.BookResult.TheVariants.{All, Stopped, Faulty}
 use Rattle.e_run.specs.Input.{IsTextOf}
 use Rattle.e_run.specs.LastLines.{head_line, accepted_line, tried_line}
-use Rattle.e_run.specs.Outcome.{Rest, End, EndsBook, lines_of_book}
-use Rattle.e_run.specs.Outcome as ends
+use Rattle.e_run.specs.Outcome.{Rest, BookOutcome, IsOutcome, IsOutcomeOf, lines_of_book}
+use Rattle.e_run.specs.Outcome as outcome
 use Rattle.e_run.specs.Answers.{IsAnswer, theorems_of, written_with}
-use Rattle.e_run.specs.Endings.{Closes, EndsWith, EndingIs, answer_of, last_lines}
-use Rattle.e_run.specs.Trying.{IsStopped, IsTried, Told, TriesLines, Tries, IsTrialAnswer, AnswersTrial}
-use Rattle.e_run.proofs.Answering.{answered_so, stops_so, widens_so, is_answer_wide}
-use Rattle.e_run.proofs.Closing.{grew_all}
+use Rattle.e_run.specs.inner.BookResults.{Closes, BlocksUpTo, BookResultIs, answer_of, last_lines}
+use Rattle.e_run.specs.Trials.{IsStopped, IsTried, TrialAnswer, TriesLines, Tries, HasCount, IsTrialAnswer, AnswersTrial}
+use Rattle.e_run.proofs.Completeness.{answered_so, stops_so, widens_so, is_answer_wide, write_fault_answers, no_memory_answers}
+use Rattle.e_run.proofs.Wrote.{closed_wrote}
+use Rattle.e_run.proofs.LastLinesWritten.{grew_all}
 use Rattle.e_run.proofs.VerifiedText.{verified_text}
 use Rattle.e_run.proofs.OneOutcome.{outcome_is_one}
+use Rattle.e_run.proofs.WholeBook.{good_accepted}
+use Rattle.e_run.proofs.Titles.{accepted_titles}
+use Rattle.e_run.proofs.GeneratedTitles.{generated_titles}
 
 -- ---- the line of an answer
 
-pub closed_told : (lines : Rest) (old new : Option (List ℕ)) (last line : List ℕ) (answer result : Status) → Told lines answer line → last ≡ line → Closes old new last answer result → TriesLines lines old new result
-closed_told lines old new last line answer result t e (inl c) =
-    subst (TriesLines lines old new) (sym c.0) (inl (record { last = line; told = t; grew = subst (Grew old new) e c.1 }))
-closed_told lines old new last line answer result t e (inr c) =
-    inr (c.0, record { answer = answer; last = line; told = t; grew = subst (GrewByFront old new) e c.1 })
-
-no_memory_answers : (lines : Rest) (end : End) → IsAnswer lines end status.NoMemory
-no_memory_answers lines (ends.Accepted n) = tt
-no_memory_answers lines (ends.Unlicensed title step wanted names) = tt
-no_memory_answers lines (ends.Faulty f) = tt
-
-write_fault_answers : (lines : Rest) (end : End) → IsAnswer lines end status.WriteFault
-write_fault_answers lines (ends.Accepted n) = tt
-write_fault_answers lines (ends.Unlicensed title step wanted names) = tt
-write_fault_answers lines (ends.Faulty f) = tt
+pub closed_answered : (lines : Rest) (old new : Option (List ℕ)) (last line : List ℕ) (answer result : Status) → TrialAnswer lines answer line → last ≡ line → Closes old new last answer result → TriesLines lines old new result
+closed_answered lines old new last line answer result t e c = closed_wrote (TrialAnswer lines) old new line answer result t (subst (λ (l : List ℕ). Closes old new l answer result) e c)
 
 -- ---- the answer to an accepted book
 
 inside : (a b : List ℕ) → let x : Option (List ℕ) = Some a in x ≡ Some b → a ≡ b
 inside a b e = cc
 
--- the head line, the blocks and the line of an accepted book were written: then what was written is that of an accepted book, and is judged
+-- the head line, the blocks and the line of an accepted book were written: then what was written is that of an accepted book, and is verified
 -- verified
-pub accepted_tried : (lines : Rest) (b c d : Option (List ℕ)) (n s : ℕ) (out last : List ℕ) → Grew (Some []) b head_line → EndingIs lines b c (All n s) → Grew c d last → last ≡ accepted_line n → d ≡ Some out
-    → length out ≤ 2 ^ 60 → IsTried lines n s
-accepted_tried lines b c d n s out last h e g is whole few =
+pub accepted_tried : (lines : Rest) (b c d : Option (List ℕ)) (n s : ℕ) (out last : List ℕ) → Grew (Some []) b head_line → BookResultIs lines b c (All n s) → Grew c d last → last ≡ accepted_line n → d ≡ Some out
+    → IsTried lines n s
+accepted_tried lines b c d n s out last h e g is whole =
     let all : Grew (Some []) d (written_with e.0.derived (accepted_line n)) =
     grew_all (Some []) b c d e.0.derived (accepted_line n) h e.0.grew (subst (Grew c d) is g) in
     let bytes : out ≡ written_with e.0.derived (accepted_line n) = inside _ _ (sym whole ∙ all) in
@@ -62,50 +51,48 @@ accepted_tried lines b c d n s out last h e g is whole few =
         ended = record { derived = e.0.derived; sound = e.0.sound; known = e.0.known; rest = e.0.rest; begins = e.0.begins; holds = e.0.holds; bytes = bytes };
         steps_are = e.1;
       };
-      verified = subst (λ (x : List ℕ). JudgesText x (judged.Verified n)) (sym bytes)
-          (verified_text lines n e.0.derived e.0.known e.0.rest e.0.sound e.0.begins e.0.holds (subst (λ (x : List ℕ). length x ≤ 2 ^ 60) bytes few));
+      verified = subst (λ (x : List ℕ). JudgesText x (judgements.Verified n)) (sym bytes) (verified_text lines n e.0.derived e.0.known e.0.rest e.0.sound e.0.begins e.0.holds);
     }
 
--- what was written of an accepted book is judged verified
-pub accepted_verified : (lines : Rest) (b c d : Option (List ℕ)) (n s : ℕ) (out last : List ℕ) → Grew (Some []) b head_line → EndingIs lines b c (All n s) → Grew c d last → last ≡ accepted_line n → d ≡ Some out
-    → length out ≤ 2 ^ 60 → JudgesText out (judged.Verified n)
-accepted_verified lines b c d n s out last h e g is whole few =
+-- what was written of an accepted book is verified
+pub accepted_verified : (lines : Rest) (b c d : Option (List ℕ)) (n s : ℕ) (out last : List ℕ) → Grew (Some []) b head_line → BookResultIs lines b c (All n s) → Grew c d last → last ≡ accepted_line n → d ≡ Some out
+    → JudgesText out (judgements.Verified n)
+accepted_verified lines b c d n s out last h e g is whole =
     let all : Grew (Some []) d (written_with e.0.derived (accepted_line n)) =
     grew_all (Some []) b c d e.0.derived (accepted_line n) h e.0.grew (subst (Grew c d) is g) in
     let bytes : out ≡ written_with e.0.derived (accepted_line n) = inside _ _ (sym whole ∙ all) in
-    subst (λ (x : List ℕ). JudgesText x (judged.Verified n)) (sym bytes)
-    (verified_text lines n e.0.derived e.0.known e.0.rest e.0.sound e.0.begins e.0.holds (subst (λ (x : List ℕ). length x ≤ 2 ^ 60) bytes few))
+    subst (λ (x : List ℕ). JudgesText x (judgements.Verified n)) (sym bytes) (verified_text lines n e.0.derived e.0.known e.0.rest e.0.sound e.0.begins e.0.holds)
 
-pub tried_told : (lines : Rest) (n s : ℕ) (answer : Status) (line : List ℕ) → IsTried lines n s → answer ≡ status.Tried n s → line ≡ tried_line n s → Told lines answer line
-tried_told lines n s answer line h a l = subst (λ (x : Status). Told lines x line) (sym a) (h, l)
+pub tried_answered : (lines : Rest) (n s : ℕ) (answer : Status) (line : List ℕ) → IsTried lines n s → answer ≡ status.Tried n s → line ≡ tried_line n s → TrialAnswer lines answer line
+tried_answered lines n s answer line h a l = subst (λ (x : Status). TrialAnswer lines x line) (sym a) (h, l)
 
 -- ---- the answer to any other book
 
-stopped_there : (lines : Rest) (s0 s1 : Option (List ℕ)) (Holds : List Headed → Rest → Type 0) → EndsWith lines s0 s1 Holds → IsStopped lines Holds
+stopped_there : (lines : Rest) (s0 s1 : Option (List ℕ)) (Holds : List Headed → Rest → Type 0) → BlocksUpTo lines s0 s1 Holds → IsStopped lines Holds
 stopped_there lines s0 s1 Holds e = record { derived = e.derived; sound = e.sound; known = e.known; rest = e.rest; begins = e.begins; holds = e.holds }
 
 -- the blocks end in another way
-abbrev pub IsOther : Ending → Type 0
+abbrev pub IsOther : BookResult → Type 0
 IsOther (All n s) = ⊥
 IsOther (Stopped title stop) = Unit {0}
 IsOther (Faulty f) = Unit {0}
 
-pub is_other : (ending : Ending) → ((n s : ℕ) → ending ≡ All n s → ⊥) → IsOther ending
+pub is_other : (book_result : BookResult) → ((n s : ℕ) → book_result ≡ All n s → ⊥) → IsOther book_result
 is_other (All n s) h = h n s refl
 is_other (Stopped title stop) h = tt
 is_other (Faulty f) h = tt
 
-other_told : (lines : Rest) (s0 s1 : Option (List ℕ)) (ending : Ending) → IsOther ending → EndingIs lines s0 s1 ending → Told lines (answer_of ending) (last_lines ending)
-other_told lines s0 s1 (All n s) o e = absurd o
-other_told lines s0 s1 (Stopped title (stops.Unlicensed step wanted values names)) o e = (names, stopped_there lines s0 s1 _ e, refl)
-other_told lines s0 s1 (Stopped title (stops.TooWide step wanted width names)) o e = (names, stopped_there lines s0 s1 _ e, refl)
-other_told lines s0 s1 (Stopped title stops.NoMemory) o e = absurd e
-other_told lines s0 s1 (Faulty f) o e = (stopped_there lines s0 s1 _ e, refl)
+other_answered : (lines : Rest) (s0 s1 : Option (List ℕ)) (book_result : BookResult) → IsOther book_result → BookResultIs lines s0 s1 book_result → TrialAnswer lines (answer_of book_result) (last_lines book_result)
+other_answered lines s0 s1 (All n s) o e = absurd o
+other_answered lines s0 s1 (Stopped title (stops.Unlicensed step wanted values names)) o e = (names, stopped_there lines s0 s1 _ e, refl)
+other_answered lines s0 s1 (Stopped title (stops.TooWide step wanted width names)) o e = (names, stopped_there lines s0 s1 _ e, refl)
+other_answered lines s0 s1 (Stopped title stops.NoMemory) o e = absurd e
+other_answered lines s0 s1 (Faulty f) o e = (stopped_there lines s0 s1 _ e, refl)
 
-pub ending_told : (lines : Rest) (s0 s1 : Option (List ℕ)) (ending : Ending) (answer : Status) (line : List ℕ) → IsOther ending → EndingIs lines s0 s1 ending
-    → answer ≡ answer_of ending → line ≡ last_lines ending → Told lines answer line
-ending_told lines s0 s1 ending answer line o e a l =
-    subst (λ (x : List ℕ). Told lines answer x) (sym l) (subst (λ (x : Status). Told lines x (last_lines ending)) (sym a) (other_told lines s0 s1 ending o e))
+pub result_answered : (lines : Rest) (s0 s1 : Option (List ℕ)) (book_result : BookResult) (answer : Status) (line : List ℕ) → IsOther book_result → BookResultIs lines s0 s1 book_result
+    → answer ≡ answer_of book_result → line ≡ last_lines book_result → TrialAnswer lines answer line
+result_answered lines s0 s1 book_result answer line o e a l =
+    subst (λ (x : List ℕ). TrialAnswer lines answer x) (sym l) (subst (λ (x : Status). TrialAnswer lines x (last_lines book_result)) (sym a) (other_answered lines s0 s1 book_result o e))
 
 -- ---- the generated book
 
@@ -125,67 +112,72 @@ IsOtherAnswer status.WriteFault = Unit {0}
 IsOtherAnswer _ = ⊥
 
 -- where a book was tried, its outcome is that it is accepted
-tried_answers : (text : List ℕ) (n s : ℕ) (end : End) → IsTried (lines_of_book text) n s → EndsBook text end → IsTrialAnswer (lines_of_book text) end (status.Tried n s)
+tried_answers : (text : List ℕ) (n s : ℕ) (end : BookOutcome) → IsTried (lines_of_book text) n s → IsOutcomeOf text end → IsTrialAnswer (lines_of_book text) end (status.Tried n s)
 tried_answers text n s end h k =
     let e = h.accepted.ended in
-    let is : ends.Accepted n ≡ end =
-    outcome_is_one (lines_of_book text) (theorems_of e.derived) k.theorems (ends.Accepted n) end (record { known = e.known; rest = e.rest; begins = e.begins; ends = e.holds }) k.outcome in
-    subst (λ (x : End). IsTrialAnswer (lines_of_book text) x (status.Tried n s)) is refl
+    let is : outcome.Accepted n ≡ end =
+    outcome_is_one (lines_of_book text) (theorems_of e.derived) k.theorems (outcome.Accepted n) end (record { known = e.known; rest = e.rest; begins = e.begins; ends = e.holds }) k.outcome in
+    subst (λ (x : BookOutcome). IsTrialAnswer (lines_of_book text) x (status.Tried n s)) is refl
 
 -- an answer that `check` gives to a book that it does not accept
-other_answers : (lines : Rest) (end : End) (answer : Status) → IsOtherAnswer answer → IsAnswer lines end answer → IsTrialAnswer lines end answer
-other_answers lines (ends.Accepted n) (status.Unlicensed title step wanted values) o h = h
-other_answers lines (ends.Unlicensed a b c d) (status.Unlicensed title step wanted values) o h = h
-other_answers lines (ends.Faulty f) (status.Unlicensed title step wanted values) o h = h
-other_answers lines (ends.Accepted n) (status.TooWide title step wanted width) o h = h
-other_answers lines (ends.Unlicensed a b c d) (status.TooWide title step wanted width) o h = h
-other_answers lines (ends.Faulty f) (status.TooWide title step wanted width) o h = h
-other_answers lines (ends.Accepted n) (status.Fault g) o h = h
-other_answers lines (ends.Unlicensed a b c d) (status.Fault g) o h = h
-other_answers lines (ends.Faulty f) (status.Fault g) o h = h
-other_answers lines (ends.Accepted n) status.NoMemory o h = h
-other_answers lines (ends.Unlicensed a b c d) status.NoMemory o h = h
-other_answers lines (ends.Faulty f) status.NoMemory o h = h
-other_answers lines (ends.Accepted n) status.WriteFault o h = h
-other_answers lines (ends.Unlicensed a b c d) status.WriteFault o h = h
-other_answers lines (ends.Faulty f) status.WriteFault o h = h
+other_answers : (lines : Rest) (end : BookOutcome) (answer : Status) → IsOtherAnswer answer → IsAnswer lines end answer → IsTrialAnswer lines end answer
+other_answers lines (outcome.Accepted n) (status.Unlicensed title step wanted values) o h = h
+other_answers lines (outcome.Unlicensed a b c d) (status.Unlicensed title step wanted values) o h = h
+other_answers lines (outcome.Faulty f) (status.Unlicensed title step wanted values) o h = h
+other_answers lines (outcome.Accepted n) (status.TooWide title step wanted width) o h = h
+other_answers lines (outcome.Unlicensed a b c d) (status.TooWide title step wanted width) o h = h
+other_answers lines (outcome.Faulty f) (status.TooWide title step wanted width) o h = h
+other_answers lines (outcome.Accepted n) (status.Fault g) o h = h
+other_answers lines (outcome.Unlicensed a b c d) (status.Fault g) o h = h
+other_answers lines (outcome.Faulty f) (status.Fault g) o h = h
+other_answers lines (outcome.Accepted n) status.NoMemory o h = h
+other_answers lines (outcome.Unlicensed a b c d) status.NoMemory o h = h
+other_answers lines (outcome.Faulty f) status.NoMemory o h = h
+other_answers lines (outcome.Accepted n) status.WriteFault o h = h
+other_answers lines (outcome.Unlicensed a b c d) status.WriteFault o h = h
+other_answers lines (outcome.Faulty f) status.WriteFault o h = h
 other_answers lines end answer o h = absurd o
 
-told_answer : (text line : List ℕ) (answer : Status) (end : End) → Told (lines_of_book text) answer line → EndsBook text end → IsTrialAnswer (lines_of_book text) end answer
-told_answer text line (status.Tried n s) end t k = tried_answers text n s end t.0 k
-told_answer text line (status.Unlicensed title step wanted values) end t k =
+trial_answered : (text line : List ℕ) (answer : Status) (end : BookOutcome) → TrialAnswer (lines_of_book text) answer line → IsOutcomeOf text end → IsTrialAnswer (lines_of_book text) end answer
+trial_answered text line (status.Tried n s) end t k = tried_answers text n s end t.0 k
+trial_answered text line (status.Unlicensed title step wanted values) end t k =
     let o = t.1 in
     other_answers (lines_of_book text) end (status.Unlicensed title step wanted values) tt
-    (answered_so text end (status.Unlicensed title step wanted values) (theorems_of o.derived) o.known o.rest (ends.Unlicensed title step wanted t.0) k o.begins
+    (answered_so text end (status.Unlicensed title step wanted values) (theorems_of o.derived) o.known o.rest (outcome.Unlicensed title step wanted t.0) k o.begins
     (stops_so (lines_of_book text) o.known o.rest title step wanted values t.0 o.holds) (refl, refl, refl))
-told_answer text line (status.TooWide title step wanted width) end t k =
+trial_answered text line (status.TooWide title step wanted width) end t k =
     let o = t.1 in
     other_answers (lines_of_book text) end (status.TooWide title step wanted width) tt
     (is_answer_wide (lines_of_book text) end title step wanted width
     (widens_so (lines_of_book text) (theorems_of o.derived) o.known o.rest title step wanted width t.0 o.begins o.holds))
-told_answer text line (status.Fault f) end t k =
+trial_answered text line (status.Fault f) end t k =
     let o = t.0 in
     other_answers (lines_of_book text) end (status.Fault f) tt
-    (answered_so text end (status.Fault f) (theorems_of o.derived) o.known o.rest (ends.Faulty f) k o.begins o.holds refl)
-told_answer text line status.NoMemory end t k = other_answers (lines_of_book text) end status.NoMemory tt (no_memory_answers (lines_of_book text) end)
-told_answer text line (status.Accepted n) end t k = absurd t
-told_answer text line (status.Verified n) end t k = absurd t
-told_answer text line (status.Bad title step) end t k = absurd t
-told_answer text line (status.Garbled at) end t k = absurd t
-told_answer text line (status.Made n) end t k = absurd t
-told_answer text line status.ReadFault end t k = absurd t
-told_answer text line status.WriteFault end t k = absurd t
-told_answer text line status.Usage end t k = absurd t
-told_answer text line status.TextLimit end t k = absurd t
+    (answered_so text end (status.Fault f) (theorems_of o.derived) o.known o.rest (outcome.Faulty f) k o.begins o.holds refl)
+trial_answered text line status.NoMemory end t k = other_answers (lines_of_book text) end status.NoMemory tt (no_memory_answers (lines_of_book text) end)
+trial_answered text line answer end t k = absurd t
 
 -- the answer of a run, by what it wrote
 pub answers_trial : (n : ℕ) (old new : Option (List ℕ)) (answer : Status) → Tries n old new answer → AnswersTrial n answer
-answers_trial n old new answer (inl w) end k = told_answer (generated_text n) w.last answer end w.told k
+answers_trial n old new answer (inl w) end k = trial_answered (generated_text n) w.out answer end w.due k
 answers_trial n old new answer (inr w) end k =
     subst (λ (x : Status). IsTrialAnswer (lines_of_book (generated_text n)) end x) (sym w.0)
     (other_answers (lines_of_book (generated_text n)) end status.WriteFault tt (write_fault_answers (lines_of_book (generated_text n)) end))
 
--- ---- the number of a command
+-- ---- how many theorems were tried
 
-pub trial_number : (k : Command) (n m : ℕ) → k ≡ commands.Trial n → k ≡ commands.Trial m → n ≡ m
-trial_number k n m a b = cc
+-- an accepted book that was generated has as many theorems as it was asked for
+count_is : (n m s : ℕ) → n ≤ 500 → IsTried (lines_of_book (generated_text n)) m s → m ≡ n
+count_is n m s few h =
+    let e = h.accepted.ended in
+    let lines = lines_of_book (generated_text n) in
+    let outcome : IsOutcome lines (theorems_of e.derived) (outcome.Accepted m) = record { known = e.known; rest = e.rest; begins = e.begins; ends = e.holds } in
+    sym (accepted_titles lines (theorems_of e.derived) m outcome) ∙ generated_titles n few (good_accepted lines (theorems_of e.derived) m outcome)
+
+not_tried : (m s : ℕ) → status.Tried m s ≡ status.WriteFault → ⊥
+not_tried m s e = absurd cc
+
+pub tried_count : (n : ℕ) (old new : Option (List ℕ)) (answer : Status) → n ≤ 500 → Tries n old new answer → HasCount n answer
+tried_count n old new (status.Tried m s) few (inl w) = count_is n m s few w.due.0
+tried_count n old new (status.Tried m s) few (inr w) = absurd (not_tried m s w.0)
+tried_count n old new answer few t = tt

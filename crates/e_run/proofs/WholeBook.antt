@@ -1,5 +1,5 @@
 -- A book that is accepted has no line with a fault, and so no byte past its limit.
-use Rattle.std.proofs.Common.{◌≡◌, ℕ, zero, suc, ◌+◌, ◌<◌, ◌≤◌, Bool, true, false, cond, ltb, List, [], ◌∷◌, ◌++◌, length, take, drop, replicate, inl, inr, Option, Some, None, Result, Ok, Err, sym, ap, subst, arith, length-append, length-drop, length-take-le}
+use Rattle.std.proofs.Common.{◌≡◌, ℕ, zero, suc, ◌+◌, ◌<◌, ◌≤◌, Bool, true, false, cond, ltb, List, [], ◌∷◌, ◌++◌, length, take, drop, replicate, inl, inr, Option, Some, None, Result, Ok, Err, sym, ap, subst, ◌∙◌, arith, length-append, length-drop, length-take-le}
 use Rattle.std.specs.List.{position_or_len}
 use Rattle.std.proofs.lemmas.List.{length-replicate}
 use Rattle.std.proofs.lemmas.Bool.{lt-ltb, cases_lt}
@@ -14,14 +14,17 @@ use Rattle.e_book.specs.declared.fault.BookFault.{BookFault}
 use Rattle.e_book.specs.declared.draft.Draft.{Draft}
 use Rattle.e_book.specs.Reading.{◌>>=◌}
 use Rattle.e_book.specs.Headed.{Headed}
-use Rattle.e_book.specs.Entry.{Entry, entry_of_draft}
-use Rattle.e_book.specs.Book.{read_from, at_end, is_skipped, is_done, line_step, put_at}
+use Rattle.e_book.specs.DraftViews.{entry_of_draft}
+use Rattle.e_book.specs.Entry.{Entry}
+use Rattle.e_book.specs.Grammar.{is_skipped, put_at}
+use Rattle.e_book.specs.Book.{read_from, at_end, is_done, line_step}
+use Rattle.e_book.proofs.GrammarRead.{grammar_read}
 use Rattle.e_book.proofs.InScope.{bind_ok}
-use Rattle.e_run.specs.Outcome.{Rest, with_theorem, Takes, Accepted, IsOutcome, lines_of_book}
-use Rattle.e_run.specs.declared.blocks.Ending.{Ending}
-use Rattle.e_run.specs.declared.blocks.Ending.TheVariants.{All, Stopped, Faulty}
+use Rattle.e_run.specs.Outcome.{Rest, with_theorem, Takes, Accepted, IsOutcome, end_line_number, lines_of_book}
+use Rattle.e_run.specs.declared.blocks.BookResult.{BookResult}
+use Rattle.e_run.specs.declared.blocks.BookResult.TheVariants.{All, Stopped, Faulty}
 use Rattle.e_run.specs.Answers.{theorems_of}
-use Rattle.e_run.specs.Endings.{EndingIs, IsAll}
+use Rattle.e_run.specs.inner.BookResults.{BookResultIs, IsAll}
 
 abbrev Answer : Type 0
 Answer = Result (Option (Entry × Rest)) BookFault
@@ -42,7 +45,7 @@ pub at_end_found : (last : ℕ) (s : Option Draft) (t : Entry) (rest : Rest) →
 at_end_found last None t rest e = cc
 at_end_found last (Some d) t rest e = cc
 
--- where a theorem is read, the lines are good if those behind it are
+-- where a theorem is read, the lines are good if those after it are
 by_found : (b : Bool) (e t : Entry) (lines rest : Rest) (r : Answer) → cond b (found e lines) r ≡ found t rest → AreGood rest → (r ≡ found t rest → AreGood lines) → AreGood lines
 by_found true e t lines rest r h good more = subst AreGood (sym (ap (λ (p : Entry × Rest). p.1) (same_found e t lines rest h))) good
 by_found false e t lines rest r h good more = more h
@@ -77,28 +80,28 @@ good_at_end known last s (Ok l ∷ lines) h =
 good_taken : (last : ℕ) (known : List Headed) (lines : Rest) (ts : List Entry) (now : List Headed) (rest : Rest) → Takes last known lines ts now rest → AreGood rest → AreGood lines
 good_taken last known lines [] now rest h good = subst AreGood (sym h.1) good
 good_taken last known lines (t ∷ ts) now rest h good =
-    good_before known last None lines t h.0 h.1 (good_taken last (with_theorem known t) h.0 ts now rest h.3 good)
+    good_before known last None lines t h.0 (grammar_read known last lines ∙ h.1) (good_taken last (with_theorem known t) h.0 ts now rest h.3 good)
 
-good_accepted : (lines : Rest) (ts : List Entry) (n : ℕ) → IsOutcome lines ts (Accepted n) → AreGood lines
-good_accepted lines ts n h = good_taken _ [] lines ts h.known h.rest h.begins (good_at_end h.known _ None h.rest h.ends.0)
+pub good_accepted : (lines : Rest) (ts : List Entry) (n : ℕ) → IsOutcome lines ts (Accepted n) → AreGood lines
+good_accepted lines ts n h = good_taken _ [] lines ts h.known h.rest h.begins (good_at_end h.known (end_line_number lines) None h.rest (grammar_read h.known (end_line_number lines) h.rest ∙ h.ends.0))
 
 -- ---- a text without a faulty line is short enough
 
-not_passed : (w : Bounds) (at : Spot) (bytes : List ℕ) (end : LineEnd) (behind : ℕ) (rest : Rest) → w.most < behind → AreGood (then_lines (checked w at bytes end behind) rest) → ⊥
-not_passed w at bytes end behind rest far good =
-    let test : ltb w.most behind ≡ true = lt-ltb _ _ far in
+not_passed : (w : Bounds) (at : Spot) (bytes : List ℕ) (end : LineEnd) (later : ℕ) (rest : Rest) → w.most < later → AreGood (then_lines (checked w at bytes end later) rest) → ⊥
+not_passed w at bytes end later rest far good =
+    let test : ltb w.most later ≡ true = lt-ltb _ _ far in
     rw test at good
 
-not_passed_alone : (w : Bounds) (at : Spot) (bytes : List ℕ) (end : LineEnd) (behind : ℕ) → w.most < behind → AreGood (checked w at bytes end behind ∷ []) → ⊥
-not_passed_alone w at bytes end behind far good =
-    let test : ltb w.most behind ≡ true = lt-ltb _ _ far in
+not_passed_alone : (w : Bounds) (at : Spot) (bytes : List ℕ) (end : LineEnd) (later : ℕ) → w.most < later → AreGood (checked w at bytes end later ∷ []) → ⊥
+not_passed_alone w at bytes end later far good =
+    let test : ltb w.most later ≡ true = lt-ltb _ _ far in
     rw test at good
 
-good_rest : (r : Result Seen LineFault) (rest : Rest) → AreGood (then_lines r rest) → AreGood rest
+pub good_rest : (r : Result Seen LineFault) (rest : Rest) → AreGood (then_lines r rest) → AreGood rest
 good_rest (Ok l) rest h = h
 good_rest (Err f) rest h = absurd h
 
-short_by_size : (size : ℕ) (w : Bounds) (at : Spot) (text : List ℕ) → length text ≤ size → at.before ≤ w.most → AreGood (lines_of w at text) → at.before + length text ≤ w.most
+pub short_by_size : (size : ℕ) (w : Bounds) (at : Spot) (text : List ℕ) → length text ≤ size → at.before ≤ w.most → AreGood (lines_of w at text) → at.before + length text ≤ w.most
 short_by_size zero w at [] le within good = omega arith
 short_by_size zero w at (b ∷ bs) le within good = absurd (omega arith)
 short_by_size (suc size) w at [] le within good = omega arith
@@ -130,21 +133,21 @@ accepted_is_short text ts n h =
     omega (arith, short_by_size (length text) (record { longest = 1600; most = 4194304 }) (record { line = 1; before = 0 }) text (omega arith) (omega arith) (good_accepted (lines_of_book text) ts n h))
 
 -- the same, by how its blocks end
-pub all_is_short : (old new : Option (List ℕ)) (text : List ℕ) (ending : Ending) → IsAll ending → EndingIs (lines_of_book text) old new ending → length text ≤ 4194304
+pub all_is_short : (old new : Option (List ℕ)) (text : List ℕ) (book_result : BookResult) → IsAll book_result → BookResultIs (lines_of_book text) old new book_result → length text ≤ 4194304
 all_is_short old new text (All n s) a h =
     accepted_is_short text (theorems_of h.0.derived) n (record { known = h.0.known; rest = h.0.rest; begins = h.0.begins; ends = h.0.holds })
 all_is_short old new text (Stopped title stop) a h = absurd a
 all_is_short old new text (Faulty f) a h = absurd a
 
-too_long : (old new : Option (List ℕ)) (read left : List ℕ) (ending : Ending) → 4194304 < length left → IsAll ending → EndingIs (lines_of_book (read ++ left)) old new ending → ⊥
-too_long old new read left ending long a h = absurd (omega (arith, long, all_is_short old new (read ++ left) ending a h, length-append read left))
+too_long : (old new : Option (List ℕ)) (read left : List ℕ) (book_result : BookResult) → 4194304 < length left → IsAll book_result → BookResultIs (lines_of_book (read ++ left)) old new book_result → ⊥
+too_long old new read left book_result long a h = absurd (omega (arith, long, all_is_short old new (read ++ left) book_result a h, length-append read left))
 
 -- as many bytes as one likes
 long_text : (n : ℕ) → (left : List ℕ) × (length left ≡ n)
 long_text n = (replicate n 0, length-replicate n 0)
 
--- so of no front of a book all theorems are taken, whatever comes behind it
-pub never_all : (old new : Option (List ℕ)) (read : List ℕ) (ending : Ending) → ((left : List ℕ) → EndingIs (lines_of_book (read ++ left)) old new ending) → IsAll ending → ⊥
-never_all old new read ending h a =
+-- so of no front of a book all theorems are taken, whatever comes after it
+pub never_all : (old new : Option (List ℕ)) (read : List ℕ) (book_result : BookResult) → ((left : List ℕ) → BookResultIs (lines_of_book (read ++ left)) old new book_result) → IsAll book_result → ⊥
+never_all old new read book_result h a =
     let left = long_text 4194305 in
-    too_long old new read left.0 ending (omega (arith, left.1)) a (h left.0)
+    too_long old new read left.0 book_result (omega (arith, left.1)) a (h left.0)

@@ -1,6 +1,5 @@
 -- What a run answers to a text, and what it writes.
-use Rattle.std.specs.Prelude.{◌≡◌, ℕ, ◌+◌, List, [], ◌∷◌, ◌++◌, map, take, length, Option, Some, None, ◌≤◌, ◌^◌, IsTrue}
-use Rattle.e_io.specs.Bytes.{Grew, GrewByFront}
+use Rattle.std.specs.Prelude.{◌≡◌, ℕ, ◌+◌, List, [], ◌∷◌, ◌++◌, map, Option, Some, None, IsTrue}
 use Rattle.e_literal.specs.declared.object.Term.{Term}
 use Rattle.e_theorem.specs.Statements.{stated}
 use Rattle.e_deriv.specs.declared.stop.Wanted.{Wanted}
@@ -9,17 +8,19 @@ use Rattle.e_deriv.specs.Script.{Script, erased, size}
 use Rattle.e_deriv.specs.Parts.{filled_by}
 use Rattle.e_deriv.specs.Lines.{proof_lines}
 use Rattle.e_deriv.specs.Licensed.{AllLicensed}
+use Rattle.e_deriv.specs.Proves.{IsProof}
 use Rattle.e_deriv.specs.Certified.{Certified}
 use Rattle.e_deriv.specs.Written.{is_written_well}
 use Rattle.e_book.specs.Headed.{Headed, stated_by}
 use Rattle.e_book.specs.Entry.{Entry}
 use Rattle.e_spell.specs.Spelling.{spelled, unlicensed_text, too_wide_text}
-use Rattle.e_judgement.specs.declared.judgement.Judgement.TheVariants as judged
+use Rattle.e_judgement.specs.declared.judgement.Judgement.TheVariants as judgements
 use Rattle.e_judgement.specs.Judged.{JudgesText}
 use Rattle.e_run.specs.declared.status.Status.{Status}
 use Rattle.e_run.specs.declared.status.Status.TheVariants as status
-use Rattle.e_run.specs.Outcome.{Rest, End, Ends, NextIs, with_theorem, Begins, IsFront, EndsBook, RefusedAt, TooWideAt, HasWide, number_behind, lines_of_book}
-use Rattle.e_run.specs.Outcome as ends
+use Rattle.e_run.specs.Outcome.{Rest, BookOutcome, OutcomeAt, NextIs, with_theorem, Begins, IsFront, IsOutcomeOf, RefusedAt, TooWideAt, HasWide, end_line_number, lines_of_book}
+use Rattle.e_run.specs.Outcome as outcome
+use Rattle.e_run.specs.Wrote.{Wrote}
 use Rattle.e_run.specs.LastLines.{head_line, accepted_line, fault_line, read_fault_line, no_memory_line, usage_line}
 
 -- a theorem with a derivation of it
@@ -27,10 +28,11 @@ pub record Derived : Type 0 where
   pub theorem : Entry
   pub derivation : Script
 
--- With this known, the derivation is certified. Without its certificates it is the theorem's own script, with its blanks filled, and
--- so filled each line of the script is licensed: the arguments of each application are the least good choice. The literals that its
--- certificates name are well formed.
+-- The derivation proves the theorem's statement from those that are known, and each of its certificates certifies at its own line.
+-- Without its certificates it is the theorem's own script, with its blanks filled, and so filled each line of the script is licensed:
+-- the arguments of each application are the least good choice. The literals that its certificates name are well formed.
 pub record IsDerived (known : List Headed) (d : Derived) : Type 0 where
+  pub proves : IsProof (stated_by known) (stated d.theorem.statement) d.derivation
   pub certified : Certified (stated_by known) (stated d.theorem.statement) d.derivation
   pub own : erased d.derivation ≡ filled_by (erased d.theorem.script) d.derivation
   pub least : AllLicensed (stated_by known) (proof_lines (stated_by known) (stated d.theorem.statement) d.theorem.script d.derivation)
@@ -53,7 +55,7 @@ steps_of (d ∷ ds) = steps_of ds + size d.theorem.script
 abbrev pub block_of : List Headed → Derived → List ℕ
 block_of known d = spelled known d.theorem d.derivation
 
--- the blocks of derivations, one behind the other
+-- the blocks of derivations, one after the other
 abbrev pub blocks_of : List Headed → List Derived → List ℕ
 blocks_of known [] = []
 blocks_of known (d ∷ ds) = block_of known d ++ blocks_of (with_theorem known d.theorem) ds
@@ -68,8 +70,8 @@ pub record HasBlock (known : List Headed) (theorem : Entry) (bytes : List ℕ) :
 abbrev pub written_with : List Derived → List ℕ → List ℕ
 written_with ds last = head_line ++ (blocks_of [] ds ++ last)
 
--- theorems with their derivations, which are the first of the book, and what holds behind them
-pub record Ended (lines : Rest) (Holds : List Headed → Rest → Type 0) (last out : List ℕ) : Type 0 where
+-- theorems with their derivations, which are the first of the book, and what holds after them
+pub record OutputUpTo (lines : Rest) (Holds : List Headed → Rest → Type 0) (last out : List ℕ) : Type 0 where
   pub derived : List Derived
   pub sound : AllDerived [] derived
   pub known : List Headed
@@ -78,19 +80,19 @@ pub record Ended (lines : Rest) (Holds : List Headed → Rest → Type 0) (last 
   pub holds : Holds known rest
   pub bytes : out ≡ written_with derived last
 
--- behind them the book ends so
-abbrev pub EndsSo : Rest → End → List Headed → Rest → Type 0
-EndsSo lines end known rest = Ends (number_behind lines) known rest end
+-- after them the book ends so
+abbrev pub OutcomeAfter : Rest → BookOutcome → List Headed → Rest → Type 0
+OutcomeAfter lines end known rest = OutcomeAt (end_line_number lines) known rest end
 
 -- the next theorem is refused at this line
 abbrev pub Refuses : Rest → List ℕ → ℕ → Wanted → Option (List (Term × ℕ)) → Names → List Headed → Rest → Type 0
 Refuses lines title step wanted values names known rest =
-    NextIs (number_behind lines) known rest (λ t. RefusedAt known t title step wanted values names)
+    NextIs (end_line_number lines) known rest (λ t. RefusedAt known t title step wanted values names)
 
 -- a line of the next theorem is too wide
 abbrev pub Widens : Rest → List ℕ → ℕ → Wanted → ℕ → Names → List Headed → Rest → Type 0
 Widens lines title step wanted width names known rest =
-    NextIs (number_behind lines) known rest (λ t. TooWideAt known t title step wanted width names)
+    NextIs (end_line_number lines) known rest (λ t. TooWideAt known t title step wanted width names)
 
 -- theorems with their derivations: some of the first ones of the book
 pub record CutOff (lines : Rest) (last out : List ℕ) : Type 0 where
@@ -99,82 +101,48 @@ pub record CutOff (lines : Rest) (last out : List ℕ) : Type 0 where
   pub front : IsFront lines (theorems_of derived)
   pub bytes : out ≡ written_with derived last
 
--- where it is no longer than a derivation text may be, it is one, with so many theorems, and each certificate certifies at its own line
+-- it is a derivation text, with n theorems, and each certificate certifies at its own line
 abbrev pub IsVerifiedText : ℕ → List ℕ → Type 0
-IsVerifiedText n out = length out ≤ 2 ^ 60 → JudgesText out (judged.Verified n)
+IsVerifiedText n out = JudgesText out (judgements.Verified n)
 
--- what is written in all under an answer to a book of these lines
+-- what is due in all with an answer to a book of these lines
 abbrev pub Outputs : Rest → Status → List ℕ → Type 0
-Outputs lines (status.Accepted n) out = Ended lines (EndsSo lines (ends.Accepted n)) (accepted_line n) out × IsVerifiedText n out
+Outputs lines (status.Accepted n) out = OutputUpTo lines (OutcomeAfter lines (outcome.Accepted n)) (accepted_line n) out × IsVerifiedText n out
 Outputs lines (status.Unlicensed title step wanted values) out =
-    (names : Names) × Ended lines (Refuses lines title step wanted values names) (unlicensed_text title step wanted values names) out
+    (names : Names) × OutputUpTo lines (Refuses lines title step wanted values names) (unlicensed_text title step wanted values names) out
 Outputs lines (status.TooWide title step wanted width) out =
-    (names : Names) × Ended lines (Widens lines title step wanted width names) (too_wide_text title step wanted width names) out
-Outputs lines (status.Fault f) out = Ended lines (EndsSo lines (ends.Faulty f)) (fault_line f) out
+    (names : Names) × OutputUpTo lines (Widens lines title step wanted width names) (too_wide_text title step wanted width names) out
+Outputs lines (status.Fault f) out = OutputUpTo lines (OutcomeAfter lines (outcome.Faulty f)) (fault_line f) out
 Outputs lines status.ReadFault out = CutOff lines read_fault_line out
 Outputs lines status.NoMemory out = CutOff lines no_memory_line out
-Outputs lines status.WriteFault out = ⊥
-Outputs lines status.Usage out = ⊥
-Outputs lines (status.Verified n) out = ⊥
-Outputs lines (status.Bad title step) out = ⊥
-Outputs lines (status.Garbled line) out = ⊥
-Outputs lines status.TextLimit out = ⊥
-Outputs lines (status.Made n) out = ⊥
-Outputs lines (status.Tried n s) out = ⊥
-
--- the bytes of this answer were written
-pub record WroteAll (lines : Rest) (old new : Option (List ℕ)) (answer : Status) : Type 0 where
-  pub out : List ℕ
-  pub outputs : Outputs lines answer out
-  pub grew : Grew old new out
-
--- a front of the bytes of some answer was written
-pub record WroteFront (lines : Rest) (old new : Option (List ℕ)) : Type 0 where
-  pub answer : Status
-  pub out : List ℕ
-  pub outputs : Outputs lines answer out
-  pub count : ℕ
-  pub grew : Grew old new (take count out)
+Outputs lines _ out = ⊥
 
 -- a book of these lines is answered so, and this was written
 abbrev pub Checks : Rest → Option (List ℕ) → Option (List ℕ) → Status → Type 0
-Checks lines old new status.WriteFault = WroteFront lines old new
-Checks lines old new (status.Accepted n) = WroteAll lines old new (status.Accepted n)
-Checks lines old new (status.Unlicensed title step wanted values) = WroteAll lines old new (status.Unlicensed title step wanted values)
-Checks lines old new (status.TooWide title step wanted width) = WroteAll lines old new (status.TooWide title step wanted width)
-Checks lines old new (status.Fault f) = WroteAll lines old new (status.Fault f)
-Checks lines old new status.ReadFault = WroteAll lines old new status.ReadFault
-Checks lines old new status.NoMemory = WroteAll lines old new status.NoMemory
-Checks lines old new status.Usage = ⊥
-Checks lines old new (status.Verified n) = ⊥
-Checks lines old new (status.Bad title step) = ⊥
-Checks lines old new (status.Garbled line) = ⊥
-Checks lines old new status.TextLimit = ⊥
-Checks lines old new (status.Made n) = ⊥
-Checks lines old new (status.Tried n s) = ⊥
+Checks lines old new answer = Wrote (Outputs lines) old new answer
 
 -- the answer of an outcome, or that a line is too wide where one is that is reached; a fault of the source or the sink,
--- and want of memory, can come in place of it
-abbrev pub IsAnswer : Rest → End → Status → Type 0
-IsAnswer lines (ends.Accepted n) (status.Accepted m) = m ≡ n
-IsAnswer lines (ends.Unlicensed title step wanted names) (status.Unlicensed p i w values) = (p ≡ title) × (i ≡ step) × (w ≡ wanted)
-IsAnswer lines (ends.Faulty f) (status.Fault g) = g ≡ f
+-- and out of memory, can come in place of it
+abbrev pub IsAnswer : Rest → BookOutcome → Status → Type 0
+IsAnswer lines (outcome.Accepted n) (status.Accepted m) = m ≡ n
+IsAnswer lines (outcome.Unlicensed title step wanted names) (status.Unlicensed p i w values) = (p ≡ title) × (i ≡ step) × (w ≡ wanted)
+IsAnswer lines (outcome.Faulty f) (status.Fault g) = g ≡ f
 IsAnswer lines end (status.TooWide title step wanted width) = HasWide lines
 IsAnswer lines end status.ReadFault = Unit {0}
 IsAnswer lines end status.WriteFault = Unit {0}
 IsAnswer lines end status.NoMemory = Unit {0}
 IsAnswer lines end other = ⊥
 
--- where a source tells its bytes, whatever the outcome of that book is, the answer is that
+-- where a source exposes its bytes, whatever the outcome of that book is, the answer is that
 abbrev pub Answers : Option (List ℕ) → Status → Type 0
-Answers left answer = (text : List ℕ) (end : End) → left ≡ Some text → EndsBook text end → IsAnswer (lines_of_book text) end answer
+Answers left answer = (text : List ℕ) (end : BookOutcome) → left ≡ Some text → IsOutcomeOf text end → IsAnswer (lines_of_book text) end answer
 
--- where a source tells its bytes, the text is all of them
+-- where a source exposes its bytes, the text is all of them
 abbrev pub IsAllOf : Option (List ℕ) → List ℕ → Type 0
 IsAllOf None text = Unit {0}
 IsAllOf (Some bytes) text = text ≡ bytes
 
--- the book that a source tells is answered so, and this was written
+-- the book that a source exposes is answered so, and this was written
 abbrev pub ChecksBook : Option (List ℕ) → Option (List ℕ) → Option (List ℕ) → Status → Type 0
 ChecksBook left old new answer = (text : List ℕ) × IsAllOf left text × Checks (lines_of_book text) old new answer
 
@@ -190,15 +158,13 @@ abbrev pub IsAccepted : Status → Type 0
 IsAccepted (status.Accepted n) = Unit {0}
 IsAccepted _ = ⊥
 
+abbrev pub IsDrawn : Status → Type 0
+IsDrawn (status.Drawn n) = Unit {0}
+IsDrawn _ = ⊥
+
 abbrev pub IsVerified : Status → Type 0
 IsVerified (status.Verified n) = Unit {0}
 IsVerified _ = ⊥
-
--- the source had to be read to its end
-abbrev pub IsWhole : Status → Type 0
-IsWhole (status.Accepted n) = Unit {0}
-IsWhole (status.Verified n) = Unit {0}
-IsWhole _ = ⊥
 
 -- the status with which the program exits
 abbrev pub exit_of : Status → ℕ
@@ -206,6 +172,7 @@ exit_of (status.Accepted n) = 0
 exit_of (status.Verified n) = 0
 exit_of (status.Made n) = 0
 exit_of (status.Tried n s) = 0
+exit_of (status.Drawn n) = 0
 exit_of (status.Bad title step) = 1
 exit_of (status.Garbled line) = 2
 exit_of status.TextLimit = 2
@@ -217,12 +184,11 @@ exit_of status.ReadFault = 4
 exit_of status.WriteFault = 5
 exit_of status.NoMemory = 6
 
--- the usage line was written, or a front of it and the sink failed
-abbrev pub AnswersUsage : Option (List ℕ) → Option (List ℕ) → Status → Type 0
-AnswersUsage old new status.Usage = Grew old new usage_line
-AnswersUsage old new status.WriteFault = GrewByFront old new usage_line
-AnswersUsage old new _ = ⊥
+-- the usage line is due with its answer
+abbrev pub UsageAnswer : Status → List ℕ → Type 0
+UsageAnswer status.Usage out = out ≡ usage_line
+UsageAnswer _ out = ⊥
 
-abbrev pub IsUsage : Status → Type 0
-IsUsage status.Usage = Unit {0}
-IsUsage _ = ⊥
+-- it was written
+abbrev pub AnswersUsage : Option (List ℕ) → Option (List ℕ) → Status → Type 0
+AnswersUsage old new answer = Wrote UsageAnswer old new answer

@@ -26,6 +26,7 @@ what_word limits.Monomials = codes "monomials"
 what_word limits.Coefficient = codes "coefficient"
 what_word limits.Terms = codes "terms"
 what_word limits.Blanks = codes "blanks"
+what_word limits.Number = codes "number"
 
 -- what is wrong with a line
 abbrev pub fault_words : BookFault → List ℕ
@@ -51,7 +52,7 @@ abbrev pub fault_line : BookFault → List ℕ
 fault_line f = codes "fault " ++ (decimal (faulty_line f) ++ fault_words f)
 
 abbrev pub usage_line : List ℕ
-usage_line = codes "usage: elements check | verify | make N | trial N\n"
+usage_line = codes "usage: elements check | verify | make N | trial N | figure\n"
 
 abbrev pub read_fault_line : List ℕ
 read_fault_line = codes "read fault\n"

@@ -1,20 +1,12 @@
--- Lines are read in one way, and a book has one outcome.
-use Rattle.std.specs.Prelude.{◌≡◌, ℕ, List, Option, Some, None, Ok}
+-- A book has one outcome, and what is answered at a refusal and at a line that is too wide is its own.
+use Rattle.std.specs.Prelude.{◌≡◌, ℕ, List, Option}
 use Rattle.e_book.specs.Headed.{Headed}
 use Rattle.e_book.specs.Entry.{Entry}
-use Rattle.e_book.specs.Book.{read_from}
 use Rattle.e_literal.specs.declared.object.Term.{Term}
 use Rattle.e_deriv.specs.declared.stop.Wanted.{Wanted}
 use Rattle.e_deriv.specs.declared.names.Names.{Names}
-use Rattle.e_run.specs.Outcome.{Rest, End, Unlicensed, Begins, IsOutcome, EndsBook, HasWide}
+use Rattle.e_run.specs.Outcome.{Rest, BookOutcome, Unlicensed, Begins, IsOutcome, IsOutcomeOf, HasWide}
 use Rattle.e_run.specs.Answers.{Refuses, Widens}
-
--- no list of lines is read as two theorems, nor as one that ends at two places
-abbrev pub LinesHaveOneReading : Type 0
-LinesHaveOneReading =
-    (known : List Headed) (last : ℕ) (lines : Rest) (t u : Entry) (after behind : Rest) →
-    read_from known last None lines ≡ Ok (Some (t, after)) → read_from known last None lines ≡ Ok (Some (u, behind)) →
-    (t ≡ u) × (after ≡ behind)
 
 -- where the next theorem is refused, the book's outcome is that stop
 abbrev pub RefusalIsOutcome : Type 0
@@ -30,4 +22,4 @@ TooWideIsWide =
 
 -- no book is accepted and stopped, stopped at two lines, or has two first faults
 abbrev pub BooksHaveOneOutcome : Type 0
-BooksHaveOneOutcome = (text : List ℕ) (a b : End) → EndsBook text a → EndsBook text b → a ≡ b
+BooksHaveOneOutcome = (text : List ℕ) (a b : BookOutcome) → IsOutcomeOf text a → IsOutcomeOf text b → a ≡ b

@@ -14,13 +14,13 @@ use Rattle.e_deriv.specs.Refused.{IsRefused, IsWideLine, IsTooWideAt}
 use Rattle.e_book.specs.declared.fault.BookFault.{BookFault}
 use Rattle.e_book.specs.Headed.{Headed, headed, stated_by}
 use Rattle.e_book.specs.Entry.{Entry}
-use Rattle.e_book.specs.Book.{read_from}
+use Rattle.e_book.specs.Grammar.{read_from}
 
--- the lines ahead, cut off behind the first that has a fault
+-- the remaining lines, cut off after the first that has a fault
 abbrev pub Rest : Type 0
 Rest = List (Result Seen LineFault)
 
--- behind a theorem it is known
+-- after a theorem it is known
 abbrev pub with_theorem : List Headed → Entry → List Headed
 with_theorem known t = known ++ headed t.title t.statement ∷ []
 
@@ -37,10 +37,10 @@ Takes last known lines (t ∷ ts) now rest =
     × Takes last (with_theorem known t) after ts now rest
 
 -- how a book ends: all its theorems are taken; a line is not licensed; a line has a fault
-pub data End : Type 0 where
-  Accepted : (theorems : ℕ) → End
-  Unlicensed : (title : List ℕ) (step : ℕ) (wanted : Wanted) (names : Names) → End
-  Faulty : (fault : BookFault) → End
+pub data BookOutcome : Type 0 where
+  Accepted : (theorems : ℕ) → BookOutcome
+  Unlicensed : (title : List ℕ) (step : ℕ) (wanted : Wanted) (names : Names) → BookOutcome
+  Faulty : (fault : BookFault) → BookOutcome
 
 -- with this known, the next theorem has this title, its line of this number is the first unlicensed one and lacks this, and these
 -- are the names of the objects in scope before it
@@ -54,26 +54,26 @@ abbrev pub NextIs : ℕ → List Headed → Rest → (Entry → Type 0) → Type
 NextIs last known lines P = (t : Entry) × (after : Rest) × (read_from known last None lines ≡ Ok (Some (t, after))) × P t
 
 -- with this known, these lines end so
-abbrev pub Ends : ℕ → List Headed → Rest → End → Type 0
-Ends last known lines (Accepted n) = (read_from known last None lines ≡ Ok None) × (length known ≡ n)
-Ends last known lines (Unlicensed title step wanted names) =
+abbrev pub OutcomeAt : ℕ → List Headed → Rest → BookOutcome → Type 0
+OutcomeAt last known lines (Accepted n) = (read_from known last None lines ≡ Ok None) × (length known ≡ n)
+OutcomeAt last known lines (Unlicensed title step wanted names) =
     NextIs last known lines (λ t. StopsAt known t title step wanted names)
-Ends last known lines (Faulty fault) = read_from known last None lines ≡ Err fault
+OutcomeAt last known lines (Faulty fault) = read_from known last None lines ≡ Err fault
 
--- the number behind the last line
-abbrev pub number_behind : Rest → ℕ
-number_behind lines = 1 + length lines
+-- the number after the last line
+abbrev pub end_line_number : Rest → ℕ
+end_line_number lines = 1 + length lines
 
 -- these are the first theorems of the lines, each licensed; then this is known, and these lines are left
 abbrev pub Begins : Rest → List Entry → List Headed → Rest → Type 0
-Begins lines theorems known rest = Takes (number_behind lines) [] lines theorems known rest
+Begins lines theorems known rest = Takes (end_line_number lines) [] lines theorems known rest
 
 -- the lines are these theorems, each licensed, and then end so
-pub record IsOutcome (lines : Rest) (theorems : List Entry) (end : End) : Type 0 where
+pub record IsOutcome (lines : Rest) (theorems : List Entry) (end : BookOutcome) : Type 0 where
   pub known : List Headed
   pub rest : Rest
   pub begins : Begins lines theorems known rest
-  pub ends : Ends (number_behind lines) known rest end
+  pub ends : OutcomeAt (end_line_number lines) known rest end
 
 -- these are the first theorems of the lines, each licensed
 pub record IsFront (lines : Rest) (theorems : List Entry) : Type 0 where
@@ -86,11 +86,11 @@ abbrev pub lines_of_book : List ℕ → Rest
 lines_of_book text = lines_of (record { longest = 1600; most = 4194304 }) (record { line = 1; before = 0 }) text
 
 -- the outcome of a book is this
-pub record EndsBook (text : List ℕ) (end : End) : Type 0 where
+pub record IsOutcomeOf (text : List ℕ) (end : BookOutcome) : Type 0 where
   pub theorems : List Entry
   pub outcome : IsOutcome (lines_of_book text) theorems end
 
--- ---- how the judging of a theorem breaks off
+-- ---- how the check of a theorem breaks off
 
 -- with this known, the theorem has this title, its line of this number is the first unlicensed one and lacks this, these values show
 -- it, and these are the names of the objects in scope before it
@@ -118,4 +118,4 @@ pub record HasWide (lines : Rest) : Type 0 where
   pub known : List Headed
   pub rest : Rest
   pub begins : Begins lines theorems known rest
-  pub wide : NextIs (number_behind lines) known rest (HasWideLine known)
+  pub wide : NextIs (end_line_number lines) known rest (HasWideLine known)

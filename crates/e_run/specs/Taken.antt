@@ -1,18 +1,15 @@
 -- What was taken of a source, and that all of it was handled.
-use Rattle.std.specs.Prelude.{◌≡◌, ℕ, ◌≤◌, List, [], ◌++◌, length, Option, Some, None, Result, Ok}
+use Rattle.std.specs.Prelude.{◌≡◌, ℕ, ◌≤◌, List, [], ◌++◌, length, Option, Some, None, Ok}
 use Rattle.e_io.specs.Bytes.{Grew}
 use Rattle.e_text.specs.Lines.{IsClosed, IsOpen}
 use Rattle.e_book.specs.Headed.{Headed}
 use Rattle.e_book.specs.Entry.{Entry}
-use Rattle.e_book.specs.Book.{read_from}
-use Rattle.e_run.specs.declared.blocks.Ending.{Ending}
-use Rattle.e_run.specs.declared.blocks.Broken.{Broken}
+use Rattle.e_book.specs.Grammar.{read_from}
 use Rattle.e_run.specs.LastLines.{read_fault_line}
-use Rattle.e_run.specs.Outcome.{Rest, Begins, number_behind, lines_of_book}
-use Rattle.e_run.specs.Answers.{Derived, AllDerived, theorems_of, blocks_of, written_with, IsAllOf}
-use Rattle.e_run.specs.Endings.{BookEnds}
+use Rattle.e_run.specs.Outcome.{Rest, Begins, end_line_number, lines_of_book}
+use Rattle.e_run.specs.Answers.{Derived, AllDerived, theorems_of, written_with}
 
--- where a source tells its bytes, this holds of those that were taken of it
+-- where a source exposes its bytes, this holds of those that were taken of it
 abbrev pub Taken : Option (List ℕ) → Option (List ℕ) → (List ℕ → Type 0) → Type 0
 Taken None left Holds = Unit {0}
 Taken (Some all) None Holds = ⊥
@@ -22,7 +19,7 @@ Taken (Some all) (Some left) Holds = (taken : List ℕ) × (all ≡ taken ++ lef
 abbrev pub TookFew : Option (List ℕ) → Option (List ℕ) → Type 0
 TookFew old new = Taken old new (λ taken. length taken ≤ 4194305)
 
--- no theorem is read of these lines where no others come behind them
+-- no theorem is read of these lines where no others come after them
 abbrev pub HaveNone : ℕ → List Headed → Rest → Type 0
 HaveNone last known lines = (t : Entry) (after : Rest) → ¬ (read_from known last None lines ≡ Ok (Some (t, after)))
 
@@ -34,31 +31,13 @@ pub record AllTaken (lines : Rest) (last out : List ℕ) : Type 0 where
   pub known : List Headed
   pub rest : Rest
   pub begins : Begins lines (theorems_of derived) known rest
-  pub none : HaveNone (number_behind lines) known rest
+  pub none : HaveNone (end_line_number lines) known rest
   pub bytes : out ≡ written_with derived last
-
--- their blocks were written
-pub record AllBlocks (lines : Rest) (old new : Option (List ℕ)) : Type 0 where
-  pub derived : List Derived
-  pub sound : AllDerived [] derived
-  pub known : List Headed
-  pub rest : Rest
-  pub begins : Begins lines (theorems_of derived) known rest
-  pub none : HaveNone (number_behind lines) known rest
-  pub grew : Grew old new (blocks_of [] derived)
 
 -- what was taken is lines with their ends, of which this holds, and bytes of one that has not ended
 abbrev pub OfWholeLines : (Rest → Type 0) → List ℕ → Type 0
 OfWholeLines Holds taken = (front rest : List ℕ) × (taken ≡ front ++ rest) × IsClosed front × IsOpen rest × Holds (lines_of_book front)
 
--- the blocks of all theorems were written whose last line with its end was taken
-abbrev pub HandledBlocks : Option (List ℕ) → Option (List ℕ) → Option (List ℕ) → Option (List ℕ) → Type 0
-HandledBlocks left0 left1 old new = Taken left0 left1 (OfWholeLines (λ lines. AllBlocks lines old new))
-
 -- after a read fault: the head line, these blocks and the last line were written
 abbrev pub HandledAll : Option (List ℕ) → Option (List ℕ) → Option (List ℕ) → Option (List ℕ) → Type 0
 HandledAll left0 left1 old new = Taken left0 left1 (OfWholeLines (λ lines. (out : List ℕ) × Grew old new out × AllTaken lines read_fault_line out))
-
--- the blocks of the book that a source tells end so, or break off
-abbrev pub TextEnds : Option (List ℕ) → Option (List ℕ) → Option (List ℕ) → Result Ending Broken → Type 0
-TextEnds left old new ended = (text : List ℕ) × IsAllOf left text × BookEnds (lines_of_book text) old new ended

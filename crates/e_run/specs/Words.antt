@@ -3,20 +3,22 @@ use Rattle.std.specs.Prelude.{ℕ, List, [], ◌∷◌, Bool, true, false, ◌&&
 use Rattle.std.specs.Str.{bytes_eq}
 use Rattle.e_text.specs.Numerals.{number_of}
 use Rattle.e_run.specs.declared.command.Command.{Command}
-use Rattle.e_run.specs.declared.command.Command.TheVariants.{Check, Verify, Make, Trial, Unknown}
+use Rattle.e_run.specs.declared.command.Command.TheVariants.{Check, Verify, Figure, Make, Trial, Unknown}
 
 -- how many theorems: a numeral from 1 to 500
 abbrev pub count_of : List ℕ → Option ℕ
 count_of word = option_and_then (λ n. if nat_le 1 n && nat_le n 500 then Some n else None) (number_of word)
 
 abbrev pub plain_command : List ℕ → Command
-plain_command word = if bytes_eq word (codes "check") then Check else if bytes_eq word (codes "verify") then Verify else Unknown
+plain_command word =
+    if bytes_eq word (codes "check") then Check else if bytes_eq word (codes "verify") then Verify else
+    if bytes_eq word (codes "figure") then Figure else Unknown
 
 abbrev pub counted_command : List ℕ → Option ℕ → Command
 counted_command word None = Unknown
 counted_command word (Some n) = if bytes_eq word (codes "make") then Make n else if bytes_eq word (codes "trial") then Trial n else Unknown
 
--- `check` and `verify` stand alone, and `make` and `trial` before a number
+-- `check`, `verify` and `figure` are alone, and `make` and `trial` come before a number
 abbrev pub command_of : List (List ℕ) → Command
 command_of (word ∷ []) = plain_command word
 command_of (word ∷ number ∷ []) = counted_command word (count_of number)
@@ -26,6 +28,7 @@ command_of _ = Unknown
 abbrev pub reads : Command → Bool
 reads Check = true
 reads Verify = true
+reads Figure = true
 reads _ = false
 
 -- what holds of its number, where it has one

@@ -1,4 +1,4 @@
-//! The blocks of a book whose lines are all there: each theorem read, judged and written.
+//! The blocks of a book whose lines are all there: each theorem read, checked and written.
 ghost use Rattle.std.specs.Prelude.{◌≡◌, ◌≤◌, ◌<◌, ◌^◌, ◌++◌, ◌∷◌, [], false, length, IfOk, OnOk, IfErr, IsErrOf, IsTrue};
 ghost use Rattle.e_io.specs.Bytes.{Rose};
 ghost use Rattle.e_theorem.specs.Statements.{stated};
@@ -9,7 +9,7 @@ ghost use Rattle.e_book.specs.Entry.{entry_of};
 ghost use Rattle.e_book.specs.Fits.{has_good_literals};
 ghost use Rattle.e_prove.specs.Stops.{StopIs, HasNames};
 ghost use Rattle.e_run.specs.Answers.{HasBlock};
-ghost use Rattle.e_run.specs.Endings.{BlocksAre, stop_ending, fault_ending};
+ghost use Rattle.e_run.specs.inner.BookResults.{BlocksAre, result_of_stop, result_of_fault};
 
 use crate::book::Book;
 use e_book::{BookFault, Known, Theorem};
@@ -23,8 +23,8 @@ use std::mem;
 
 /// How the blocks of a book end.
 #[derive(Drop)]
-pub enum Ending {
-    /// All theorems are taken; they have so many step and close lines.
+pub enum BookResult {
+    /// All theorems are taken; they have n step and close lines.
     All { theorems: u32, steps: u32 },
     /// The next theorem stops.
     Stopped { title: Title, stop: Stop },
@@ -34,20 +34,20 @@ pub enum Ending {
 
 /// Why the blocks break off.
 #[derive(Clone, Copy, PartialEq, Eq)]
-pub enum Broken {
+pub enum RunError {
     NoMemory,
     ReadFault,
     WriteFault,
 }
 
-impl From<AllocError> for Broken {
+impl From<AllocError> for RunError {
     ghost use Rattle.std.specs.Prelude.{◌≡◌};
-    ghost use Rattle.e_run.specs.declared.blocks.Broken.TheVariants.{NoMemory};
+    ghost use Rattle.e_run.specs.declared.blocks.RunError.TheVariants.{NoMemory};
 
     ghost from_gives = { λ _ e. e ≡ NoMemory };
 
-    fn from(_e: AllocError) -> Broken {
-        Broken::NoMemory
+    fn from(_e: AllocError) -> RunError {
+        RunError::NoMemory
     }
 }
 
@@ -60,27 +60,30 @@ pub fn block(alloc: Global, known: &Known, theorem: &Theorem) -> Result<Vec<u8>,
     ensures names { IfErr result (HasNames (stated_by known.now) (stated theorem.now.statement) theorem.now.names (script_of theorem.now.block)) }
 {
     let derivation = prove(alloc, known.statements(), theorem)?;
-    Ok(spell(alloc, known, theorem, &derivation)?)
+    let text = spell(alloc, known, theorem, &derivation);
+    mem::drop(derivation);
+    Ok(text?)
 }
 
 /// The next theorem stops, or memory ran out.
-pub fn stopped(title: Title, stop: Stop) -> Result<Option<Ending>, Broken>
-    ensures { result ≡ stop_ending title stop }
+pub fn stopped(title: Title, stop: Stop) -> Result<Option<BookResult>, RunError>
+    ensures { result ≡ result_of_stop title stop }
 {
     if matches!(stop, Stop::NoMemory) {
-        return Err(Broken::NoMemory);
+        mem::drop(stop);
+        return Err(RunError::NoMemory);
     }
-    Ok(Some(Ending::Stopped { title, stop }))
+    Ok(Some(BookResult::Stopped { title, stop }))
 }
 
 /// The next line has a fault, or memory ran out.
-pub fn faulty(fault: BookFault) -> Result<Option<Ending>, Broken>
-    ensures { result ≡ fault_ending fault }
+pub fn faulty(fault: BookFault) -> Result<Option<BookResult>, RunError>
+    ensures { result ≡ result_of_fault fault }
 {
     if matches!(fault, BookFault::NoMemory) {
-        return Err(Broken::NoMemory);
+        return Err(RunError::NoMemory);
     }
-    Ok(Some(Ending::Faulty(fault)))
+    Ok(Some(BookResult::Faulty(fault)))
 }
 
 /// Keeps the title and the statement of a theorem.
@@ -88,16 +91,28 @@ pub fn keep(known: &mut Known, theorem: Theorem) -> Result<(), AllocError>
     requires { is_known known.old theorem.title ≡ false }
     ensures { OnOk result (known.new ≡ known.old ++ headed theorem.title theorem.statement ∷ []) }
 {
-    known.add(theorem.title, theorem.statement)
+    let Theorem {
+        title,
+        names,
+        statement,
+        block,
+    } = theorem;
+    mem::drop(names);
+    mem::drop(block);
+    known.add(title, statement)
 }
 
 /// Takes the theorems one after another, and writes the block of each.
-pub fn blocks<K: Sink>(alloc: Global, lines: &mut Lines, sink: &mut K) -> Result<Ending, Broken>
+pub fn blocks<K: Sink>(
+    alloc: Global,
+    lines: &mut Lines,
+    sink: &mut K,
+) -> Result<BookResult, RunError>
     requires first { lines.old.line ≡ 1 }
     requires few { length lines.old.lines < 2 ^ 31 }
-    ensures ending { BlocksAre lines.old.lines (K.written sink.old) (K.written sink.new) result }
+    ensures book_result { BlocksAre lines.old.lines (K.written sink.old) (K.written sink.new) result }
     ensures rises { K.faults sink.old ≤ K.faults sink.new }
-    ensures cause { IsErrOf result Broken.WriteFault → Rose (K.faults sink.old) (K.faults sink.new) }
+    ensures cause { IsErrOf result RunError.WriteFault → Rose (K.faults sink.old) (K.faults sink.new) }
 {
     let mut book = Book::new(alloc);
     let ended = book.take_all(alloc, lines, sink);

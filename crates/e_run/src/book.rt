@@ -1,16 +1,16 @@
-//! A book while its lines come: each theorem is judged, and its block written, as soon as its last
+//! A book while its lines come: each theorem is checked, and its block written, as soon as its last
 //! line has come.
 ghost use Rattle.std.specs.Prelude.{◌≡◌, ◌≤◌, ◌<◌, ◌^◌, ◌++◌, ℕ, List, [], Option, Some, None, Ok, IfOk, IfNone, IsErrOf};
 ghost use Rattle.e_io.specs.Bytes.{Rose};
-ghost use Rattle.e_book.specs.Book.{read_from, last_line};
+ghost use Rattle.e_book.specs.Grammar.{read_from, last_line};
 ghost use Rattle.e_book.specs.Entry.{entry_of};
 ghost use Rattle.e_book.specs.HasSpelling.{HasSpelling};
-ghost use Rattle.e_run.specs.Outcome.{Rest, number_behind};
-ghost use Rattle.e_run.specs.Endings.{BlocksAre};
-ghost use Rattle.e_run.specs.Progress.{History, IsBook, Reaches, Handles, BookTakes, AreTaken, first_book, ending_at};
-ghost use Rattle.e_run.specs.declared.blocks.Broken.{Broken};
+ghost use Rattle.e_run.specs.Outcome.{Rest, end_line_number};
+ghost use Rattle.e_run.specs.inner.BookResults.{BlocksAre};
+ghost use Rattle.e_run.specs.inner.Progress.{History, IsBook, Reaches, Handles, BookTakes, AreTaken, first_book, result_at};
+ghost use Rattle.e_run.specs.declared.blocks.RunError.{RunError};
 
-use crate::blocks::{Broken, Ending, block, faulty, keep, stopped};
+use crate::blocks::{BookResult, RunError, block, faulty, keep, stopped};
 use e_book::{Known, Reading, Theorem};
 use e_deriv::size;
 use e_io::{Sink, write_all};
@@ -41,21 +41,21 @@ impl Book {
         }
     }
 
-    /// Judges the theorem that has ended and writes its block; then it is known.
+    /// Checks the theorem that has ended and writes its block; then it is known.
     fn handle<K: Sink>(
         &mut self,
         alloc: Global,
         theorem: Theorem,
         sink: &mut K,
-    ) -> Result<Option<Ending>, Broken>
+    ) -> Result<Option<BookResult>, RunError>
         requires book { IsBook self.old }
         requires begins { self.old.reading.draft ≡ None }
         requires spelled { HasSpelling self.old.known (entry_of theorem) }
-        ensures handles { (lines rest after : Rest) (before : Option (List ℕ)) → History lines before self.old.known rest (K.written sink.old) self.old.steps → read_from self.old.known (number_behind lines) None rest ≡ Ok (Some (entry_of theorem, after)) → Handles lines before after result self.new (K.written sink.new) }
+        ensures handles { (lines rest after : Rest) (before : Option (List ℕ)) → History lines before self.old.known rest (K.written sink.old) self.old.steps → read_from self.old.known (end_line_number lines) None rest ≡ Ok (Some (entry_of theorem, after)) → Handles lines before after result self.new (K.written sink.new) }
         ensures book { IfOk result (λ e. IfNone e (IsBook self.new)) }
         ensures begins { IfOk result (λ e. IfNone e (self.new.reading.draft ≡ None)) }
         ensures rises { K.faults sink.old ≤ K.faults sink.new }
-        ensures cause { IsErrOf result Broken.WriteFault → Rose (K.faults sink.old) (K.faults sink.new) }
+        ensures cause { IsErrOf result RunError.WriteFault → Rose (K.faults sink.old) (K.faults sink.new) }
     {
         let block = match block(alloc, &self.known, &theorem) {
             Ok(block) => block,
@@ -67,32 +67,32 @@ impl Book {
         };
         let Ok(()) = write_all(sink, &block) else {
             mem::drop(theorem);
-            return Err(Broken::WriteFault);
+            return Err(RunError::WriteFault);
         };
         let count = size(&theorem.block);
         let Ok(()) = keep(&mut self.known, theorem) else {
-            return Err(Broken::NoMemory);
+            return Err(RunError::NoMemory);
         };
         self.theorems += 1;
         self.steps += count;
         Ok(None)
     }
 
-    /// Takes the lines that are ahead, and handles the theorems that end in them. Nothing where all
+    /// Takes the lines that remain, and handles the theorems that end in them. Nothing where all
     /// are taken, and the book may go on; else how it ends.
     pub fn take<K: Sink>(
         &mut self,
         alloc: Global,
         lines: &mut Lines,
         sink: &mut K,
-    ) -> Result<Option<Ending>, Broken>
+    ) -> Result<Option<BookResult>, RunError>
         requires book { IsBook self.old }
         requires lines { last_line lines.old < 2 ^ 32 }
         ensures takes { (all : Rest → Rest) (before : Option (List ℕ)) → Reaches all (λ more. lines.old.lines ++ more) before self.old (K.written sink.old) → BookTakes all before result self.new (K.written sink.new) }
         ensures taken { IfOk result (λ e. IfNone e (AreTaken lines.old lines.new)) }
         ensures book { IfOk result (λ e. IfNone e (IsBook self.new)) }
         ensures rises { K.faults sink.old ≤ K.faults sink.new }
-        ensures cause { IsErrOf result Broken.WriteFault → Rose (K.faults sink.old) (K.faults sink.new) }
+        ensures cause { IsErrOf result RunError.WriteFault → Rose (K.faults sink.old) (K.faults sink.new) }
     {
         loop {
             let theorem = match self.reading.read(alloc, lines, &self.known) {
@@ -102,40 +102,40 @@ impl Book {
             };
             match self.handle(alloc, theorem, sink)? {
                 None => {}
-                Some(ending) => return Ok(Some(ending)),
+                Some(book_result) => return Ok(Some(book_result)),
             }
         }
     }
 
     /// How the book ends where no lines come any more, and the next would have this number.
-    pub fn end(&self, line: u64) -> Ending
+    pub fn end(&self, line: u64) -> BookResult
         requires { line < 2 ^ 32 }
-        ensures { result ≡ ending_at line self.now.reading.draft self.now.theorems self.now.steps }
+        ensures { result ≡ result_at line self.now.reading.draft self.now.theorems self.now.steps }
     {
         match self.reading.end(line) {
-            Ok(()) => Ending::All {
+            Ok(()) => BookResult::All {
                 theorems: self.theorems,
                 steps: self.steps,
             },
-            Err(fault) => Ending::Faulty(fault),
+            Err(fault) => BookResult::Faulty(fault),
         }
     }
 
-    /// Takes the lines that are ahead, which are the last of the book.
+    /// Takes the lines that remain, which are the last of the book.
     pub fn take_all<K: Sink>(
         &mut self,
         alloc: Global,
         lines: &mut Lines,
         sink: &mut K,
-    ) -> Result<Ending, Broken>
+    ) -> Result<BookResult, RunError>
         requires book { IsBook self.old }
         requires lines { last_line lines.old < 2 ^ 32 }
-        ensures ends { (all : Rest → Rest) (before : Option (List ℕ)) → number_behind (all []) ≡ last_line lines.old → Reaches all (λ more. lines.old.lines ++ more) before self.old (K.written sink.old) → BlocksAre (all []) before (K.written sink.new) result }
+        ensures ends { (all : Rest → Rest) (before : Option (List ℕ)) → end_line_number (all []) ≡ last_line lines.old → Reaches all (λ more. lines.old.lines ++ more) before self.old (K.written sink.old) → BlocksAre (all []) before (K.written sink.new) result }
         ensures rises { K.faults sink.old ≤ K.faults sink.new }
-        ensures cause { IsErrOf result Broken.WriteFault → Rose (K.faults sink.old) (K.faults sink.new) }
+        ensures cause { IsErrOf result RunError.WriteFault → Rose (K.faults sink.old) (K.faults sink.new) }
     {
         match self.take(alloc, lines, sink)? {
-            Some(ending) => Ok(ending),
+            Some(book_result) => Ok(book_result),
             None => Ok(self.end(lines.line())),
         }
     }

@@ -1,14 +1,14 @@
-//! `check`: a book is read, judged and written as its derivations.
+//! `check`: a book is read, checked and written as its derivations.
 ghost use Rattle.std.specs.Prelude.{◌≡◌, ◌≤◌, List, ℕ, Option, IfOk, codes};
 ghost use Rattle.e_io.specs.Bytes.{Rose, Grew};
 ghost use Rattle.e_run.specs.Answers.{Checks, ChecksBook, IsWriteFault, IsReadFault, IsAccepted};
 ghost use Rattle.e_run.specs.Input.{IsAtEnd};
 ghost use Rattle.e_run.specs.LastLines.{head_line};
 ghost use Rattle.e_run.specs.Outcome.{Rest};
-ghost use Rattle.e_run.specs.Endings.{Closes, EndingIs, IsAll, IsEnding, last_lines, answer_of};
+ghost use Rattle.e_run.specs.inner.BookResults.{Closes, BookResultIs, IsAll, HasLastLines, last_lines, answer_of};
 ghost use Rattle.e_run.specs.Taken.{TookFew, HandledAll};
 
-use crate::blocks::{Broken, Ending};
+use crate::blocks::{BookResult, RunError};
 use crate::output::{accepted, fault};
 use crate::pieces::blocks_of_source;
 use crate::status::Status;
@@ -29,25 +29,28 @@ pub fn close<K: Sink>(sink: &mut K, last: &[u8], answer: Status) -> Status
 {
     match write_all(sink, last) {
         Ok(()) => answer,
-        Err(_) => Status::WriteFault,
+        Err(_) => {
+            mem::drop(answer);
+            Status::WriteFault
+        }
     }
 }
 
-/// The last lines of an ending.
-pub fn last_lines(alloc: Global, ending: &Ending) -> Result<Vec<u8>, AllocError>
-    requires { IsEnding ending.now }
-    ensures { IfOk result (λ v. v.items ≡ Rattle.e_run.specs.Endings.last_lines ending.now) }
+/// The last lines of a book's result.
+pub fn last_lines(alloc: Global, book_result: &BookResult) -> Result<Vec<u8>, AllocError>
+    requires { HasLastLines book_result.now }
+    ensures { IfOk result (λ v. v.items ≡ Rattle.e_run.specs.inner.BookResults.last_lines book_result.now) }
 {
-    match ending {
-        Ending::All { theorems, .. } => accepted(alloc, *theorems),
-        Ending::Stopped { title, stop } => spell_stop(alloc, *title, stop),
-        Ending::Faulty(at) => fault(alloc, at),
+    match book_result {
+        BookResult::All { theorems, .. } => accepted(alloc, *theorems),
+        BookResult::Stopped { title, stop } => spell_stop(alloc, *title, stop),
+        BookResult::Faulty(at) => fault(alloc, at),
     }
 }
 
 /// The answer of a stop.
 fn stop_answer(title: Title, stop: Stop) -> Status
-    ensures { result ≡ Rattle.e_run.specs.Endings.stop_answer title stop }
+    ensures { result ≡ Rattle.e_run.specs.inner.BookResults.stop_answer title stop }
 {
     match stop {
         Stop::Unlicensed {
@@ -76,30 +79,30 @@ fn stop_answer(title: Title, stop: Stop) -> Status
     }
 }
 
-/// The answer of an ending.
-pub fn answer_of(ending: Ending) -> Status
-    ensures { result ≡ Rattle.e_run.specs.Endings.answer_of ending }
+/// The answer of a book's result.
+pub fn answer_of(book_result: BookResult) -> Status
+    ensures { result ≡ Rattle.e_run.specs.inner.BookResults.answer_of book_result }
 {
-    match ending {
-        Ending::All { theorems, .. } => Status::Accepted { theorems },
-        Ending::Stopped { title, stop } => stop_answer(title, stop),
-        Ending::Faulty(fault) => Status::Fault(fault),
+    match book_result {
+        BookResult::All { theorems, .. } => Status::Accepted { theorems },
+        BookResult::Stopped { title, stop } => stop_answer(title, stop),
+        BookResult::Faulty(fault) => Status::Fault(fault),
     }
 }
 
-/// Writes the last lines of an ending, and gives its answer.
-fn report<K: Sink>(alloc: Global, ending: Ending, sink: &mut K) -> Status
-    requires { IsEnding ending }
-    ensures checks { (lines : Rest) (before between : Option (List ℕ)) → Grew before between head_line → EndingIs lines between (K.written sink.old) ending → Checks lines before (K.written sink.new) result }
-    ensures accepted { IsAccepted result → IsAll ending }
+/// Writes the last lines of a book's result, and gives its answer.
+fn report<K: Sink>(alloc: Global, book_result: BookResult, sink: &mut K) -> Status
+    requires { HasLastLines book_result }
+    ensures checks { (lines : Rest) (before between : Option (List ℕ)) → Grew before between head_line → BookResultIs lines between (K.written sink.old) book_result → Checks lines before (K.written sink.new) result }
+    ensures accepted { IsAccepted result → IsAll book_result }
     ensures rises { K.faults sink.old ≤ K.faults sink.new }
     ensures cause { IsWriteFault result → Rose (K.faults sink.old) (K.faults sink.new) }
     ensures no_read { IsReadFault result → ⊥ }
 {
-    match last_lines(alloc, &ending) {
-        Ok(last) => close(sink, &last, answer_of(ending)),
+    match last_lines(alloc, &book_result) {
+        Ok(last) => close(sink, &last, answer_of(book_result)),
         Err(_) => {
-            mem::drop(ending);
+            mem::drop(book_result);
             close(sink, b"no memory\n", Status::NoMemory)
         }
     }
@@ -121,9 +124,9 @@ pub fn check<S: Source, K: Sink>(alloc: Global, source: &mut S, sink: &mut K) ->
         return Status::WriteFault;
     };
     match blocks_of_source(alloc, source, sink) {
-        Ok(ending) => report(alloc, ending, sink),
-        Err(Broken::NoMemory) => close(sink, b"no memory\n", Status::NoMemory),
-        Err(Broken::ReadFault) => close(sink, b"read fault\n", Status::ReadFault),
-        Err(Broken::WriteFault) => Status::WriteFault,
+        Ok(book_result) => report(alloc, book_result, sink),
+        Err(RunError::NoMemory) => close(sink, b"no memory\n", Status::NoMemory),
+        Err(RunError::ReadFault) => close(sink, b"read fault\n", Status::ReadFault),
+        Err(RunError::WriteFault) => Status::WriteFault,
     }
 }

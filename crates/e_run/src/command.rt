@@ -12,9 +12,10 @@ const MOST_THEOREMS: u128 = 500;
 pub enum Command {
     Check,
     Verify,
-    /// So many theorems are generated.
+    Figure,
+    /// That many theorems are generated.
     Make(u32),
-    /// So many theorems are generated, checked and verified.
+    /// That many theorems are generated, checked and verified.
     Trial(u32),
     Unknown,
 }
@@ -39,6 +40,8 @@ fn plain_command(word: &[u8]) -> Command
         Command::Check
     } else if word == b"verify".as_slice() {
         Command::Verify
+    } else if word == b"figure".as_slice() {
+        Command::Figure
     } else {
         Command::Unknown
     }

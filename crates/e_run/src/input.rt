@@ -31,7 +31,7 @@ impl From<AllocError> for InputFault {
     }
 }
 
-/// The bytes of a source up to its end, or where it has more than so many, that many and one.
+/// The bytes of a source up to its end, or where it has more than the most, that many and one.
 pub fn read_text<S: Source>(
     alloc: Global,
     source: &mut S,

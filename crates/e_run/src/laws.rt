@@ -1,10 +1,5 @@
 //! What follows from the definitions of books and their outcomes.
-ghost use Rattle.e_run.specs.Laws.{LinesHaveOneReading, BooksHaveOneOutcome, RefusalIsOutcome, TooWideIsWide};
-
-/// No list of lines has two readings.
-pub fn lines_have_one_reading()
-    ensures { LinesHaveOneReading }
-{}
+ghost use Rattle.e_run.specs.Laws.{BooksHaveOneOutcome, RefusalIsOutcome, TooWideIsWide};
 
 /// A book has one outcome.
 pub fn books_have_one_outcome()

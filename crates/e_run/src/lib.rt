@@ -5,6 +5,7 @@ mod blocks;
 mod book;
 mod checker;
 mod command;
+mod drawer;
 mod input;
 mod laws;
 mod maker;
@@ -16,8 +17,6 @@ mod store;
 mod trial;
 mod verifier;
 
-pub use laws::{
-    books_have_one_outcome, lines_have_one_reading, refusal_is_outcome, too_wide_is_wide,
-};
+pub use laws::{books_have_one_outcome, refusal_is_outcome, too_wide_is_wide};
 pub use runner::run;
 pub use status::{Status, exit_code};

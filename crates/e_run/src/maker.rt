@@ -2,7 +2,7 @@
 ghost use Rattle.std.specs.Prelude.{◌≡◌, ◌≤◌};
 ghost use Rattle.e_io.specs.Bytes.{Rose};
 ghost use Rattle.e_run.specs.Answers.{IsReadFault, IsWriteFault};
-ghost use Rattle.e_run.specs.Making.{Makes};
+ghost use Rattle.e_run.specs.MadeBooks.{Makes};
 
 use crate::checker::close;
 use crate::status::Status;
@@ -10,7 +10,7 @@ use e_generate::generated;
 use e_io::Sink;
 use std::alloc::Global;
 
-/// Writes the generated book of so many theorems.
+/// Writes the generated book of n theorems.
 pub fn make<K: Sink>(alloc: Global, theorems: u32, sink: &mut K) -> Status
     requires { theorems ≤ 500 }
     ensures makes { Makes theorems (K.written sink.old) (K.written sink.new) result }

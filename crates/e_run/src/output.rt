@@ -90,6 +90,7 @@ fn word_of(what: What) -> &'static [u8]
         What::Coefficient => b"coefficient",
         What::Terms => b"terms",
         What::Blanks => b"blanks",
+        What::Number => b"number",
     }
 }
 
@@ -108,7 +109,7 @@ fn line_of(fault: &BookFault) -> u32
     }
 }
 
-/// What is wrong with the line, behind its number.
+/// What is wrong with the line, after its number.
 fn words_of(alloc: Global, fault: &BookFault) -> Result<Vec<u8>, AllocError>
     ensures { IfOk result (λ v. v.items ≡ fault_words fault.now) }
 {

@@ -4,12 +4,13 @@ ghost use Rattle.e_io.specs.Bytes.{Rose};
 ghost use Rattle.e_text.specs.Lines.{IsClosed, IsOpen, lines_of};
 ghost use Rattle.e_run.specs.Input.{IsAtEnd};
 ghost use Rattle.e_run.specs.Outcome.{lines_of_book};
-ghost use Rattle.e_run.specs.Endings.{BlocksAre, IsAll};
-ghost use Rattle.e_run.specs.Progress.{IsBook, Stands, PieceTakes, first_book};
-ghost use Rattle.e_run.specs.Taken.{TookFew, HandledBlocks, TextEnds};
-ghost use Rattle.e_run.specs.declared.blocks.Broken.{Broken};
+ghost use Rattle.e_run.specs.inner.BookResults.{BlocksAre, IsAll};
+ghost use Rattle.e_run.specs.inner.Progress.{IsBook, IsReadUpTo, PieceTakes, first_book};
+ghost use Rattle.e_run.specs.inner.Handled.{HandledBlocks, TextResultIs};
+ghost use Rattle.e_run.specs.Taken.{TookFew};
+ghost use Rattle.e_run.specs.declared.blocks.RunError.{RunError};
 
-use crate::blocks::{Broken, Ending};
+use crate::blocks::{BookResult, RunError};
 use crate::book::Book;
 use crate::input::{LONGEST_LINE, MOST_BYTES};
 use e_io::{Sink, Source};
@@ -21,7 +22,7 @@ use std::mem;
 const PIECE: usize = 4096;
 
 /// The bytes that were read of a book and are not taken: those of its open line. And where they
-/// stand: the number of their first line, and how many bytes stand before them.
+/// are: the number of their first line, and how many bytes come before them.
 #[derive(Drop)]
 pub struct Untaken {
     pub bytes: Vec<u8>,
@@ -75,23 +76,23 @@ fn take_closed<K: Sink>(
     book: &mut Book,
     untaken: &mut Untaken,
     sink: &mut K,
-) -> Result<Option<Ending>, Broken>
+) -> Result<Option<BookResult>, RunError>
     requires book { IsBook book.old }
     requires line { untaken.old.line ≤ untaken.old.before + 1 }
     requires few { untaken.old.before + vec_len untaken.old.bytes ≤ 4194305 }
     requires closed { IsClosed untaken.old.bytes.items }
-    ensures takes { (read : List ℕ) (before : Option (List ℕ)) → Stands read before book.old untaken.old (K.written sink.old) → PieceTakes read before result book.new untaken.new (K.written sink.new) }
+    ensures takes { (read : List ℕ) (before : Option (List ℕ)) → IsReadUpTo read before book.old untaken.old (K.written sink.old) → PieceTakes read before result book.new untaken.new (K.written sink.new) }
     ensures book { IfOk result (λ e. IfNone e (IsBook book.new)) }
     ensures taken { IfOk result (λ e. IfNone e (untaken.new.bytes.items ≡ [])) }
     ensures count { IfOk result (λ e. IfNone e (untaken.new.before ≡ untaken.old.before + vec_len untaken.old.bytes)) }
     ensures line { IfOk result (λ e. IfNone e (untaken.new.line ≤ untaken.new.before + 1)) }
     ensures rises { K.faults sink.old ≤ K.faults sink.new }
-    ensures cause { IsErrOf result Broken.WriteFault → Rose (K.faults sink.old) (K.faults sink.new) }
+    ensures cause { IsErrOf result RunError.WriteFault → Rose (K.faults sink.old) (K.faults sink.new) }
 {
     let mut lines = untaken.lines();
     match book.take(alloc, &mut lines, sink)? {
         None => {}
-        Some(ending) => return Ok(Some(ending)),
+        Some(book_result) => return Ok(Some(book_result)),
     }
     let line = lines.line();
     untaken.before += untaken.bytes.len() as u64;
@@ -101,25 +102,25 @@ fn take_closed<K: Sink>(
 }
 
 /// Takes a piece of a book: the lines that end in it, and with them the theorems that end in them.
-/// What stands behind its last line feed is kept.
+/// What comes after its last line feed is kept.
 fn take_piece<K: Sink>(
     alloc: Global,
     book: &mut Book,
     untaken: &mut Untaken,
     piece: &[u8],
     sink: &mut K,
-) -> Result<Option<Ending>, Broken>
+) -> Result<Option<BookResult>, RunError>
     requires book { IsBook book.old }
     requires line { untaken.old.line ≤ untaken.old.before + 1 }
     requires few { untaken.old.before + vec_len untaken.old.bytes + length piece.now ≤ 4194305 }
     requires unended { IsOpen untaken.old.bytes.items }
-    ensures takes { (read : List ℕ) (before : Option (List ℕ)) → Stands read before book.old untaken.old (K.written sink.old) → PieceTakes (read ++ piece.now) before result book.new untaken.new (K.written sink.new) }
+    ensures takes { (read : List ℕ) (before : Option (List ℕ)) → IsReadUpTo read before book.old untaken.old (K.written sink.old) → PieceTakes (read ++ piece.now) before result book.new untaken.new (K.written sink.new) }
     ensures book { IfOk result (λ e. IfNone e (IsBook book.new)) }
     ensures unended { IfOk result (λ e. IfNone e (IsOpen untaken.new.bytes.items)) }
     ensures count { IfOk result (λ e. IfNone e (untaken.new.before + vec_len untaken.new.bytes ≡ untaken.old.before + vec_len untaken.old.bytes + length piece.now)) }
     ensures line { IfOk result (λ e. IfNone e (untaken.new.line ≤ untaken.new.before + 1)) }
     ensures rises { K.faults sink.old ≤ K.faults sink.new }
-    ensures cause { IsErrOf result Broken.WriteFault → Rose (K.faults sink.old) (K.faults sink.new) }
+    ensures cause { IsErrOf result RunError.WriteFault → Rose (K.faults sink.old) (K.faults sink.new) }
 {
     let (ended, rest) = piece.split_at(closed_len(piece));
     if ended.is_empty() {
@@ -129,7 +130,7 @@ fn take_piece<K: Sink>(
     untaken.bytes.extend_from_slice(ended)?;
     match take_closed(alloc, book, untaken, sink)? {
         None => {}
-        Some(ending) => return Ok(Some(ending)),
+        Some(book_result) => return Ok(Some(book_result)),
     }
     untaken.bytes.extend_from_slice(rest)?;
     Ok(None)
@@ -141,13 +142,13 @@ fn take_last<K: Sink>(
     book: &mut Book,
     untaken: &Untaken,
     sink: &mut K,
-) -> Result<Ending, Broken>
+) -> Result<BookResult, RunError>
     requires book { IsBook book.old }
     requires line { untaken.now.line ≤ untaken.now.before + 1 }
     requires few { untaken.now.before + vec_len untaken.now.bytes ≤ 4194305 }
-    ensures ends { (read : List ℕ) (before : Option (List ℕ)) → Stands read before book.old untaken.now (K.written sink.old) → BlocksAre (lines_of_book read) before (K.written sink.new) result }
+    ensures ends { (read : List ℕ) (before : Option (List ℕ)) → IsReadUpTo read before book.old untaken.now (K.written sink.old) → BlocksAre (lines_of_book read) before (K.written sink.new) result }
     ensures rises { K.faults sink.old ≤ K.faults sink.new }
-    ensures cause { IsErrOf result Broken.WriteFault → Rose (K.faults sink.old) (K.faults sink.new) }
+    ensures cause { IsErrOf result RunError.WriteFault → Rose (K.faults sink.old) (K.faults sink.new) }
 {
     let mut lines = untaken.lines();
     book.take_all(alloc, &mut lines, sink)
@@ -159,16 +160,16 @@ fn take_source<S: Source, K: Sink>(
     book: &mut Book,
     source: &mut S,
     sink: &mut K,
-) -> Result<Ending, Broken>
+) -> Result<BookResult, RunError>
     requires { book.old ≡ first_book }
-    ensures ends { TextEnds (S.left source.old) (K.written sink.old) (K.written sink.new) result }
-    ensures handled { IsErrOf result Broken.ReadFault → HandledBlocks (S.left source.old) (S.left source.new) (K.written sink.old) (K.written sink.new) }
+    ensures ends { TextResultIs (S.left source.old) (K.written sink.old) (K.written sink.new) result }
+    ensures handled { IsErrOf result RunError.ReadFault → HandledBlocks (S.left source.old) (S.left source.new) (K.written sink.old) (K.written sink.new) }
     ensures took { TookFew (S.left source.old) (S.left source.new) }
     ensures end { IfOk result (λ e. IsAll e → IsAtEnd (S.left source.new)) }
     ensures read_rises { S.faults source.old ≤ S.faults source.new }
-    ensures read_cause { IsErrOf result Broken.ReadFault → Rose (S.faults source.old) (S.faults source.new) }
+    ensures read_cause { IsErrOf result RunError.ReadFault → Rose (S.faults source.old) (S.faults source.new) }
     ensures write_rises { K.faults sink.old ≤ K.faults sink.new }
-    ensures write_cause { IsErrOf result Broken.WriteFault → Rose (K.faults sink.old) (K.faults sink.new) }
+    ensures write_cause { IsErrOf result RunError.WriteFault → Rose (K.faults sink.old) (K.faults sink.new) }
 {
     let mut untaken = Untaken::new(alloc);
     let mut buffer = [0u8; PIECE];
@@ -176,34 +177,34 @@ fn take_source<S: Source, K: Sink>(
         let room = (MOST_BYTES + 1 - untaken.count()).min(PIECE);
         let n = match source.read(&mut buffer[..room]) {
             Ok(n) => n,
-            Err(_) => return Err(Broken::ReadFault),
+            Err(_) => return Err(RunError::ReadFault),
         };
         if n == 0 {
             return take_last(alloc, book, &untaken, sink);
         }
         match take_piece(alloc, book, &mut untaken, &buffer[..n], sink)? {
             None => {}
-            Some(ending) => return Ok(ending),
+            Some(book_result) => return Ok(book_result),
         }
     }
     take_last(alloc, book, &untaken, sink)
 }
 
-/// Reads a book from a source, judges its theorems and writes their blocks, each as soon as its last
+/// Reads a book from a source, checks its theorems and writes their blocks, each as soon as its last
 /// line is read.
 pub fn blocks_of_source<S: Source, K: Sink>(
     alloc: Global,
     source: &mut S,
     sink: &mut K,
-) -> Result<Ending, Broken>
-    ensures ends { TextEnds (S.left source.old) (K.written sink.old) (K.written sink.new) result }
-    ensures handled { IsErrOf result Broken.ReadFault → HandledBlocks (S.left source.old) (S.left source.new) (K.written sink.old) (K.written sink.new) }
+) -> Result<BookResult, RunError>
+    ensures ends { TextResultIs (S.left source.old) (K.written sink.old) (K.written sink.new) result }
+    ensures handled { IsErrOf result RunError.ReadFault → HandledBlocks (S.left source.old) (S.left source.new) (K.written sink.old) (K.written sink.new) }
     ensures took { TookFew (S.left source.old) (S.left source.new) }
     ensures end { IfOk result (λ e. IsAll e → IsAtEnd (S.left source.new)) }
     ensures read_rises { S.faults source.old ≤ S.faults source.new }
-    ensures read_cause { IsErrOf result Broken.ReadFault → Rose (S.faults source.old) (S.faults source.new) }
+    ensures read_cause { IsErrOf result RunError.ReadFault → Rose (S.faults source.old) (S.faults source.new) }
     ensures write_rises { K.faults sink.old ≤ K.faults sink.new }
-    ensures write_cause { IsErrOf result Broken.WriteFault → Rose (K.faults sink.old) (K.faults sink.new) }
+    ensures write_cause { IsErrOf result RunError.WriteFault → Rose (K.faults sink.old) (K.faults sink.new) }
 {
     let mut book = Book::new(alloc);
     let ended = take_source(alloc, &mut book, source, sink);

@@ -27,6 +27,10 @@ pub enum Status {
         theorems: u32,
         steps: u32,
     },
+    /// The figure text is answered, with so many shown literals.
+    Drawn {
+        shown: u64,
+    },
     /// The first line that is not licensed, and what it lacks.
     Unlicensed {
         title: Title,
@@ -49,7 +53,7 @@ pub enum Status {
         title: Title,
         step: u32,
     },
-    /// The first fault of the book.
+    /// The first fault of the book, or of the figure text.
     Fault(BookFault),
     /// The first line of the derivation text that has no form at its place.
     Garbled {
@@ -75,7 +79,8 @@ pub fn exit_code(status: &Status) -> u8
         Status::Accepted { .. }
         | Status::Verified { .. }
         | Status::Made { .. }
-        | Status::Tried { .. } => 0,
+        | Status::Tried { .. }
+        | Status::Drawn { .. } => 0,
         Status::Unlicensed { .. } | Status::Bad { .. } => 1,
         Status::Fault(_) | Status::Garbled { .. } | Status::TextLimit => 2,
         Status::Usage => 3,

@@ -5,12 +5,12 @@ ghost use Rattle.e_generate.specs.Generated.{generated_text};
 ghost use Rattle.e_run.specs.Outcome.{lines_of_book};
 ghost use Rattle.e_run.specs.Answers.{IsReadFault, IsWriteFault};
 ghost use Rattle.e_run.specs.LastLines.{tried_line};
-ghost use Rattle.e_run.specs.Trying.{Told, Tries};
+ghost use Rattle.e_run.specs.Trials.{TrialAnswer, Tries};
 ghost use Rattle.e_run.specs.declared.status.Status.{Status};
 ghost use Rattle.e_judgement.specs.Judged.{JudgesText};
 ghost use Rattle.e_judgement.specs.declared.judgement.Judgement.{Judgement};
 
-use crate::blocks::{Ending, blocks};
+use crate::blocks::{BookResult, blocks};
 use crate::checker::{answer_of, close, last_lines};
 use crate::input::{LONGEST_LINE, MOST_BYTES, read_text};
 use crate::output::{accepted, tried};
@@ -21,6 +21,7 @@ use e_io::{Sink, SureSource, write_all};
 use e_judgement::{Judgement, judge};
 use e_text::Lines;
 use std::alloc::{AllocError, Global};
+use std::mem;
 
 /// An answer with its line.
 struct Answer {
@@ -28,7 +29,7 @@ struct Answer {
     line: Vec<u8>,
 }
 
-/// The answer to an accepted book, once what is written then is judged, which it is as verified.
+/// The answer to an accepted book, once what is written then is verified, which it is.
 fn verified(alloc: Global, text: &[u8], theorems: u32, steps: u32) -> Result<Answer, AllocError>
     requires few { length text.now ≤ 2 ^ 60 }
     requires verified { JudgesText text.now (Judgement.Verified theorems) }
@@ -37,9 +38,10 @@ fn verified(alloc: Global, text: &[u8], theorems: u32, steps: u32) -> Result<Ans
     let Judgement::Verified { theorems } = judge(alloc, text)? else {
         unreachable!();
     };
+    let line = tried(alloc, theorems, steps)?;
     Ok(Answer {
         status: Status::Tried { theorems, steps },
-        line: tried(alloc, theorems, steps)?,
+        line,
     })
 }
 
@@ -47,33 +49,40 @@ fn verified(alloc: Global, text: &[u8], theorems: u32, steps: u32) -> Result<Ans
 fn answer_to(alloc: Global, lines: &mut Lines) -> Result<Answer, AllocError>
     requires first { lines.old.line ≡ 1 }
     requires few { length lines.old.lines < 2 ^ 31 }
-    ensures { IfOk result (λ a. Told lines.old.lines a.status a.line.items) }
+    ensures { IfOk result (λ a. TrialAnswer lines.old.lines a.status a.line.items) }
 {
     let mut store = Store::new(alloc);
     let Ok(()) = write_all(&mut store, b"derivation 1\n") else {
         return Err(AllocError);
     };
-    let ending = match blocks(alloc, lines, &mut store) {
-        Ok(ending) => ending,
+    let book_result = match blocks(alloc, lines, &mut store) {
+        Ok(book_result) => book_result,
         Err(_) => return Err(AllocError),
     };
-    let line = last_lines(alloc, &ending)?;
-    let Ending::All { theorems, steps } = ending else {
+    let line = match last_lines(alloc, &book_result) {
+        Ok(line) => line,
+        Err(error) => {
+            mem::drop(book_result);
+            return Err(error);
+        }
+    };
+    let BookResult::All { theorems, steps } = book_result else {
         return Ok(Answer {
-            status: answer_of(ending),
+            status: answer_of(book_result),
             line,
         });
     };
+    mem::drop(book_result);
     let Ok(()) = write_all(&mut store, &line) else {
         return Err(AllocError);
     };
     verified(alloc, &store.into_bytes(), theorems, steps)
 }
 
-/// The answer to the generated book of so many theorems, with its line.
+/// The answer to the generated book of n theorems, with its line.
 fn answer_for(alloc: Global, theorems: u32) -> Result<Answer, AllocError>
     requires { theorems ≤ 500 }
-    ensures { IfOk result (λ a. Told (lines_of_book (generated_text theorems)) a.status a.line.items) }
+    ensures { IfOk result (λ a. TrialAnswer (lines_of_book (generated_text theorems)) a.status a.line.items) }
 {
     let mut source = SureSource::new(generated(alloc, theorems)?);
     let text = match read_text(alloc, &mut source, MOST_BYTES) {
@@ -84,7 +93,7 @@ fn answer_for(alloc: Global, theorems: u32) -> Result<Answer, AllocError>
     answer_to(alloc, &mut lines)
 }
 
-/// Checks the generated book of so many theorems, judges what `check` writes of it, and writes the line of the answer.
+/// Checks the generated book of n theorems, verifies what `check` writes of it, and writes the line of the answer.
 pub fn trial<K: Sink>(alloc: Global, theorems: u32, sink: &mut K) -> Status
     requires { theorems ≤ 500 }
     ensures tries { Tries theorems (K.written sink.old) (K.written sink.new) result }

@@ -1,10 +1,10 @@
-//! `verify`: a derivation text is read and judged.
+//! `verify`: a derivation text is read and verified.
 ghost use Rattle.std.specs.Prelude.{◌≡◌, ◌≤◌, ◌^◌, length, IfOk};
 ghost use Rattle.e_io.specs.Bytes.{Rose};
 ghost use Rattle.e_judgement.specs.Judged.{JudgesText};
 ghost use Rattle.e_run.specs.Answers.{IsWriteFault, IsReadFault, IsVerified};
 ghost use Rattle.e_run.specs.Input.{IsAtEnd};
-ghost use Rattle.e_run.specs.Verifying.{Verifies, VerifiesText};
+ghost use Rattle.e_run.specs.VerifierAnswers.{Verifies, VerifiesText};
 
 use crate::checker::close;
 use crate::input::{InputFault, MOST_TEXT, read_text};
@@ -16,7 +16,7 @@ use std::alloc::{AllocError, Global};
 
 /// The answer of a judgement.
 fn answer_of(judgement: Judgement) -> Status
-    ensures { result ≡ Rattle.e_run.specs.Verifying.answer_of judgement }
+    ensures { result ≡ Rattle.e_run.specs.VerifierAnswers.answer_of judgement }
 {
     match judgement {
         Judgement::Verified { theorems } => Status::Verified { theorems },
@@ -27,7 +27,7 @@ fn answer_of(judgement: Judgement) -> Status
 
 /// The line of a judgement.
 fn line_of(alloc: Global, judgement: &Judgement) -> Result<Vec<u8>, AllocError>
-    ensures { IfOk result (λ v. v.items ≡ Rattle.e_run.specs.Verifying.line_of judgement.now) }
+    ensures { IfOk result (λ v. v.items ≡ Rattle.e_run.specs.VerifierAnswers.line_of judgement.now) }
 {
     match judgement {
         Judgement::Verified { theorems } => verified(alloc, *theorems),
@@ -37,25 +37,25 @@ fn line_of(alloc: Global, judgement: &Judgement) -> Result<Vec<u8>, AllocError>
 }
 
 /// A judgement with its line.
-fn judged(alloc: Global, text: &[u8]) -> Result<(Judgement, Vec<u8>), AllocError>
+fn judgement_of(alloc: Global, text: &[u8]) -> Result<(Judgement, Vec<u8>), AllocError>
     requires { length text.now ≤ 2 ^ 60 }
     ensures text { IfOk result (λ j. JudgesText text.now j.0) }
-    ensures line { IfOk result (λ j. j.1.items ≡ Rattle.e_run.specs.Verifying.line_of j.0) }
+    ensures line { IfOk result (λ j. j.1.items ≡ Rattle.e_run.specs.VerifierAnswers.line_of j.0) }
 {
     let judgement = judge(alloc, text)?;
     let line = line_of(alloc, &judgement)?;
     Ok((judgement, line))
 }
 
-/// Judges a text, and writes the line of its judgement.
-fn tell<K: Sink>(alloc: Global, text: &[u8], sink: &mut K) -> Status
+/// Verifies a text, and writes the line of its judgement.
+fn report_judgement<K: Sink>(alloc: Global, text: &[u8], sink: &mut K) -> Status
     requires { length text.now ≤ 2 ^ 60 }
     ensures verifies { Verifies text.now (K.written sink.old) (K.written sink.new) result }
     ensures rises { K.faults sink.old ≤ K.faults sink.new }
     ensures cause { IsWriteFault result → Rose (K.faults sink.old) (K.faults sink.new) }
     ensures no_read { IsReadFault result → ⊥ }
 {
-    match judged(alloc, text) {
+    match judgement_of(alloc, text) {
         Ok((judgement, line)) => close(sink, &line, answer_of(judgement)),
         Err(_) => close(sink, b"no memory\n", Status::NoMemory),
     }
@@ -78,5 +78,5 @@ pub fn verify<S: Source, K: Sink>(alloc: Global, source: &mut S, sink: &mut K) -
     if text.len() > MOST_TEXT {
         return close(sink, b"text limit\n", Status::TextLimit);
     }
-    tell(alloc, &text, sink)
+    report_judgement(alloc, &text, sink)
 }

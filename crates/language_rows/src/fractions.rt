@@ -2,10 +2,9 @@
 
 use crate::answer::Answer;
 use crate::rows::two;
-use e_fraction::widths::width;
 use e_fraction::{
     Row, RowKind, Signed, are_distinct, are_good_multipliers, check_sum, cross,
-    have_small_coefficients,
+    have_small_coefficients, width,
 };
 use e_literal::Term;
 use std::alloc::{AllocError, Global};

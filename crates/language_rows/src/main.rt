@@ -1,4 +1,4 @@
-//! Calls the crates of outside, text, language, facts, rows and generating on the rows of standard input, and prints what
+//! Calls the crates of outside, text, language, figures, facts, rows and generating on the rows of standard input, and prints what
 //! they answer: their tests as data.
 //!
 //! A row is a line: the word for a crate, the word for a call, and what it is called on. It is printed with its answer
@@ -9,6 +9,7 @@ mod answer;
 mod books;
 mod constructions;
 mod facts;
+mod figures;
 mod fractions;
 mod literals;
 mod rows;
@@ -31,6 +32,7 @@ fn put_answer(alloc: Global, out: &mut Answer, row: &str) -> Result<(), AllocErr
         "literal" => literals::put(alloc, out, call, on),
         "facts" => facts::put(alloc, out, call, on),
         "clause" => rules::put(alloc, out, call, on),
+        "figure" => figures::put(alloc, out, call, on),
         "construct" => constructions::put(alloc, out, call, on),
         "theorem" => theorems::put(alloc, out, call, on),
         "fraction" => fractions::put(alloc, out, call, on),

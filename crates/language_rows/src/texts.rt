@@ -2,8 +2,7 @@
 
 use crate::answer::Answer;
 use crate::rows::{bytes_of, number, quoted, two};
-use e_text::laws::{name_read_again, title_read_again};
-use e_text::{Lines, Name, Title, numeral, reserved, tokens};
+use e_text::{Lines, Name, Title, name_read_again, numeral, reserved, title_read_again, tokens};
 use std::alloc::{AllocError, Global};
 
 pub fn put(alloc: Global, out: &mut Answer, call: &str, on: &str) -> Result<(), AllocError> {

@@ -53,7 +53,7 @@ fn source_of(alloc: Global, text: &[u8], calls: Calls) -> Result<MemSource, Allo
     Ok(MemSource::new(text, fail, calls.piece.max(1)))
 }
 
-/// The number that an answer has: of theorems, of steps, of a step or of a line; 0 where it has none.
+/// The number that an answer has: of theorems, of steps, of shown literals, of a step or of a line; 0 where it has none.
 fn number_of(status: &Status) -> u64 {
     match status {
         Status::Accepted { theorems: number }
@@ -64,6 +64,7 @@ fn number_of(status: &Status) -> u64 {
         | Status::Bad { step: number, .. }
         | Status::TooWide { step: number, .. } => u64::from(*number),
         Status::Garbled { line } => *line,
+        Status::Drawn { shown } => *shown,
         _ => 0,
     }
 }

@@ -18,5 +18,5 @@ returns-then-not-is_head c =
 
 pub returns : goal.returns
 returns c =
-    head_then c.args.text.now c.new-lines.result.lines (seen c.in-Some-Ok.line) c.next.new.self c.judge_theorems.result (ap (λ (a : Ahead). a.lines) c.new-lines.ensures) (rw c.in-Some-Ok.field-0-is at c.in-Some-Ok.ensures).0
-    ((rw c.in-Some-Ok.field-0-is at c.in-Some-Ok.ensures).1 ∙ ap (λ (a : Ahead). a.line + 1) c.new-lines.ensures) (sym c.is_head.ensures ∙ c.if-not-is_head.false) c.judge_theorems.ensures
+    head_then c.args.text.now c.new-lines.result.lines (seen c.in-Some-Ok.line) c.next.new.self c.judge_theorems-judged.result (ap (λ (a : Ahead). a.lines) c.new-lines.ensures) (rw c.in-Some-Ok.field-0-is at c.in-Some-Ok.ensures).0
+    ((rw c.in-Some-Ok.field-0-is at c.in-Some-Ok.ensures).1 ∙ ap (λ (a : Ahead). a.line + 1) c.new-lines.ensures) (sym c.is_head.ensures ∙ c.if-not-is_head.false) c.judge_theorems-judged.ensures

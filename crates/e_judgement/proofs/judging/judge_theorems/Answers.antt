@@ -1,11 +1,14 @@
 use Rattle.std.proofs.Common.{Ok, Err, [], ◌∷◌, ap, ◌∙◌, arith, length, length-append}
-use Rattle.e_book.specs.Book.{last_line}
+use Rattle.e_book.specs.Grammar.{last_line}
 use Rattle.e_book.specs.Headed.{headed}
 use Rattle.e_book.specs.Entry.{entry_of}
 use Rattle.e_read.specs.Text.{Derived, Last}
 use Rattle.e_judgement.proofs.Passing.{reads_at, goes_on, ends_so, breaks_so, fails_so, small_more}
 use Rattle.e_judgement.proofs.Verifiable.{verifiable}
 use Rattle.e_judgement.proofs.judging.judge_theorems.Goals as goal
+
+pub read-requires-clause-few : goal.read-requires-clause-few
+read-requires-clause-few c = omega (arith, c.loop-theorem.invariant.few)
 
 pub check-requires : goal.check-requires
 check-requires c =

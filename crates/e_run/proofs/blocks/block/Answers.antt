@@ -1,14 +1,24 @@
+use Rattle.e_theorem.specs.Statements.{stated}
+use Rattle.e_deriv.specs.Certified.{Certified}
 use Rattle.e_deriv.specs.Script.{script_of}
+use Rattle.e_deriv.proofs.Agreement.{proof_of_certified}
+use Rattle.e_book.specs.Headed.{stated_by}
 use Rattle.e_run.proofs.blocks.block.Goals as goal
 
 pub returns-clause-block : goal.returns-clause-block
-returns-clause-block c = record {
-  derivation = script_of c.in_ok-derivation.derivation;
-  sound = record {
-    certified = rw c.statements.ensures at c.in_ok-derivation.ensures.certified;
-    own = c.in_ok-derivation.ensures.script;
-    least = rw c.statements.ensures at c.in_ok-derivation.ensures.least;
-    written = c.in_ok-derivation.ensures.written c.requires.good;
-  };
-  spells = c.in_ok-spell.ensures;
-}
+returns-clause-block c =
+    let before = stated_by c.args.known.now in
+    let statement = stated c.args.theorem.now.statement in
+    let derivation = script_of c.in_ok-derivation.derivation in
+    let certified : Certified before statement derivation = rw c.statements.ensures at c.in_ok-derivation.ensures.certified in
+    record {
+      derivation = derivation;
+      sound = record {
+        proves = proof_of_certified before statement derivation certified;
+        certified = certified;
+        own = c.in_ok-derivation.ensures.script;
+        least = rw c.statements.ensures at c.in_ok-derivation.ensures.least;
+        written = c.in_ok-derivation.ensures.written c.requires.good;
+      };
+      spells = c.in_ok-text.ensures;
+    }

@@ -2,8 +2,8 @@ use Rattle.std.proofs.Common.{refl}
 use Rattle.e_run.specs.declared.status.Status.TheVariants as status
 use Rattle.e_run.specs.LastLines.{read_fault_line}
 use Rattle.e_run.specs.Outcome.{lines_of_book}
-use Rattle.e_run.proofs.Told.{took_none}
-use Rattle.e_run.proofs.Closing.{any_book, closed_head, closed_broken, closed_cut, closed_inside, is_ending}
+use Rattle.e_run.proofs.TakenBytes.{took_none}
+use Rattle.e_run.proofs.LastLinesWritten.{any_book, closed_head, closed_error, closed_cut, closed_inside, has_last_lines}
 use Rattle.e_run.proofs.ReadPieces.{last_grew, handled_closed}
 use Rattle.e_run.proofs.checker.check.Goals as goal
 
@@ -17,7 +17,7 @@ returns-in_default-clause-took g c = took_none (g.S.Source.left c.args.source.no
 pub report-requires : goal.report-requires
 report-requires g c =
     let e = c.in-Ok-blocks_of_source.ensures.ends in
-    is_ending (lines_of_book e.0) (g.K.Sink.written c.write_all.new.sink) (g.K.Sink.written c.blocks_of_source.new.sink) c.in-Ok-blocks_of_source.ending e.2
+    has_last_lines (lines_of_book e.0) (g.K.Sink.written c.write_all.new.sink) (g.K.Sink.written c.blocks_of_source.new.sink) c.in-Ok-blocks_of_source.book_result e.2
 
 pub returns-in-Ok-blocks_of_source-clause-checks : goal.returns-in-Ok-blocks_of_source-clause-checks
 returns-in-Ok-blocks_of_source-clause-checks g c =
@@ -33,7 +33,7 @@ returns-in-Ok-blocks_of_source-clause-handled g c = λ r. absurd (c.report.ensur
 pub returns-in-Err-NoMemory-clause-checks : goal.returns-in-Err-NoMemory-clause-checks
 returns-in-Err-NoMemory-clause-checks g c =
     let e = rw c.in-Err-NoMemory.field-0-is at c.in-Err-NoMemory.ensures.ends in
-    (e.0, e.1, closed_broken (lines_of_book e.0) (g.K.Sink.written c.args.sink.now) (g.K.Sink.written c.write_all.new.sink) (g.K.Sink.written c.blocks_of_source.new.sink) (g.K.Sink.written c.close.new.sink) c.close.result c.in-Ok.ensures.ok e.2 c.close.ensures.closes)
+    (e.0, e.1, closed_error (lines_of_book e.0) (g.K.Sink.written c.args.sink.now) (g.K.Sink.written c.write_all.new.sink) (g.K.Sink.written c.blocks_of_source.new.sink) (g.K.Sink.written c.close.new.sink) c.close.result c.in-Ok.ensures.ok e.2 c.close.ensures.closes)
 
 pub returns-in-Err-ReadFault-clause-checks : goal.returns-in-Err-ReadFault-clause-checks
 returns-in-Err-ReadFault-clause-checks g c =

@@ -1,10 +1,10 @@
 use Rattle.std.proofs.Common.{◌≤◌, ◌+◌, ◌-◌, vec_len}
-use Rattle.e_run.proofs.Told.{Told}
+use Rattle.e_run.proofs.TakenBytes.{TakenSoFar}
 use Rattle.e_run.proofs.input.read_text.Given as goal
 
 abbrev pub invariant-loop-buffer : goal.invariant-loop-buffer
 invariant-loop-buffer g l = record {
-  told : Told (g.S.Source.left l.initial.source) (g.S.Source.left l.source) l.text.items;
+  so_far : TakenSoFar (g.S.Source.left l.initial.source) (g.S.Source.left l.source) l.text.items;
   few : vec_len l.text ≤ (l.most + 1);
   rises : g.S.Source.faults l.initial.source ≤ g.S.Source.faults l.source;
 }

@@ -1,11 +1,11 @@
 use Rattle.std.proofs.Common.{◌++◌, Option, Ok, Err, subst, arith}
 use Rattle.std.proofs.lemmas.Result.{err_from_is_err_and}
-use Rattle.e_run.specs.declared.blocks.Ending.{Ending}
+use Rattle.e_run.specs.declared.blocks.BookResult.{BookResult}
 use Rattle.e_run.specs.Outcome.{Rest, lines_of_book}
-use Rattle.e_run.specs.Endings.{EndingIs, BlocksAre}
-use Rattle.e_run.specs.Progress.{BookTakes}
-use Rattle.e_run.proofs.TakenBooks.{reaches_ahead}
-use Rattle.e_run.proofs.ReadPieces.{stands_taken, whatever_comes}
+use Rattle.e_run.specs.inner.BookResults.{BookResultIs, BlocksAre}
+use Rattle.e_run.specs.inner.Progress.{BookTakes}
+use Rattle.e_run.proofs.TakenBooks.{reaches_remaining}
+use Rattle.e_run.proofs.ReadPieces.{read_taken, whatever_comes}
 use Rattle.e_run.proofs.pieces.take_closed.Goals as goal
 
 pub take-requires-clause-lines : goal.take-requires-clause-lines
@@ -16,18 +16,18 @@ returns-in_err-take-clause-takes g c =
     let p = err_from_is_err_and c.from_residual.result c.from_residual.ensures.1 in
     λ read before s.
     let lines = c.lines-lines.result.lines in
-    let ahead = reaches_ahead (λ more. lines_of_book s.taken ++ more) before c.args.book.now (g.K.Sink.written c.args.sink.now) lines s.reaches in
+    let remaining = reaches_remaining (λ more. lines_of_book s.taken ++ more) before c.args.book.now (g.K.Sink.written c.args.sink.now) lines s.reaches in
     rw (p.1, p.2) (whatever_comes (λ ls. BlocksAre ls before (g.K.Sink.written c.take.new.sink) (Err c.in_err-take.field-0.0)) read before c.args.book.now c.args.untaken.now (g.K.Sink.written c.args.sink.now) lines s c.requires.closed c.lines-lines.ensures.lines
-    (c.in_err-take.ensures.takes (λ more. lines_of_book s.taken ++ (lines ++ more)) before ahead))
+    (c.in_err-take.ensures.takes (λ more. lines_of_book s.taken ++ (lines ++ more)) before remaining))
 
 pub returns-in-Some-clause-takes : goal.returns-in-Some-clause-takes
 returns-in-Some-clause-takes g c =
     λ read before s.
     let lines = c.lines-lines.result.lines in
     let all = λ (more : Rest). lines_of_book s.taken ++ (lines ++ more) in
-    let ahead = reaches_ahead (λ more. lines_of_book s.taken ++ more) before c.args.book.now (g.K.Sink.written c.args.sink.now) lines s.reaches in
-    whatever_comes (λ ls. EndingIs ls before (g.K.Sink.written c.take.new.sink) c.in-Some.ending) read before c.args.book.now c.args.untaken.now (g.K.Sink.written c.args.sink.now) lines s c.requires.closed c.lines-lines.ensures.lines
-    (subst (λ (e : Option Ending). BookTakes all before (Ok e) c.take.new.self (g.K.Sink.written c.take.new.sink)) c.in-Some.is (c.in_ok-take.ensures.takes all before ahead))
+    let remaining = reaches_remaining (λ more. lines_of_book s.taken ++ more) before c.args.book.now (g.K.Sink.written c.args.sink.now) lines s.reaches in
+    whatever_comes (λ ls. BookResultIs ls before (g.K.Sink.written c.take.new.sink) c.in-Some.book_result) read before c.args.book.now c.args.untaken.now (g.K.Sink.written c.args.sink.now) lines s c.requires.closed c.lines-lines.ensures.lines
+    (subst (λ (e : Option BookResult). BookTakes all before (Ok e) c.take.new.self (g.K.Sink.written c.take.new.sink)) c.in-Some.is (c.in_ok-take.ensures.takes all before remaining))
 
 pub overflow_add-untaken : goal.overflow_add-untaken
 overflow_add-untaken g c = omega (arith, c.requires.few)
@@ -38,10 +38,10 @@ returns-clause-takes g c =
     λ read before s.
     let lines = c.lines-lines.result.lines in
     let all = λ (more : Rest). lines_of_book s.taken ++ (lines ++ more) in
-    let ahead = reaches_ahead (λ more. lines_of_book s.taken ++ more) before c.args.book.now (g.K.Sink.written c.args.sink.now) lines s.reaches in
-    stands_taken read before c.args.book.now c.take.new.self c.args.untaken.now _ (g.K.Sink.written c.args.sink.now) (g.K.Sink.written c.take.new.sink) lines s c.requires.closed c.clear.ensures.items
+    let remaining = reaches_remaining (λ more. lines_of_book s.taken ++ more) before c.args.book.now (g.K.Sink.written c.args.sink.now) lines s.reaches in
+    read_taken read before c.args.book.now c.take.new.self c.args.untaken.now _ (g.K.Sink.written c.args.sink.now) (g.K.Sink.written c.take.new.sink) lines s c.requires.closed c.clear.ensures.items
     (omega (arith, c.line-line.ensures, taken.line, c.lines-lines.ensures.line)) (omega arith) c.lines-lines.ensures.lines taken.good
-    (subst (λ (e : Option Ending). BookTakes all before (Ok e) c.take.new.self (g.K.Sink.written c.take.new.sink)) c.in-None.is (c.in_ok-take.ensures.takes all before ahead))
+    (subst (λ (e : Option BookResult). BookTakes all before (Ok e) c.take.new.self (g.K.Sink.written c.take.new.sink)) c.in-None.is (c.in_ok-take.ensures.takes all before remaining))
 
 pub returns-clause-line : goal.returns-clause-line
 returns-clause-line g c =

@@ -1,7 +1,7 @@
 use Rattle.std.proofs.Common.{◌++◌, subst, arith}
 use Rattle.e_run.specs.Outcome.{Rest, lines_of_book}
-use Rattle.e_run.specs.Endings.{BlocksAre}
-use Rattle.e_run.proofs.TakenBooks.{reaches_ahead}
+use Rattle.e_run.specs.inner.BookResults.{BlocksAre}
+use Rattle.e_run.proofs.TakenBooks.{reaches_remaining}
 use Rattle.e_run.proofs.ReadPieces.{lines_are, number_is}
 use Rattle.e_run.proofs.pieces.take_last.Goals as goal
 
@@ -15,4 +15,4 @@ returns-clause-ends g c =
     let number = number_is read before c.args.book.now c.args.untaken.now (g.K.Sink.written c.args.sink.now) lines s in
     subst (λ (ls : Rest). BlocksAre ls before (g.K.Sink.written c.take_all.new.sink) c.take_all.result) (lines_are read before c.args.book.now c.args.untaken.now (g.K.Sink.written c.args.sink.now) lines s c.lines-lines.ensures.lines)
     (c.take_all.ensures.ends (λ more. lines_of_book s.taken ++ (lines ++ more)) before (omega (arith, number, c.lines-lines.ensures.line))
-    (reaches_ahead (λ more. lines_of_book s.taken ++ more) before c.args.book.now (g.K.Sink.written c.args.sink.now) lines s.reaches))
+    (reaches_remaining (λ more. lines_of_book s.taken ++ more) before c.args.book.now (g.K.Sink.written c.args.sink.now) lines s.reaches))

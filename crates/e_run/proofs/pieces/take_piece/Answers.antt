@@ -3,8 +3,8 @@ use Rattle.std.proofs.lemmas.Result.{err_from_is_err_and}
 use Rattle.e_text.specs.Lines.{IsOpen}
 use Rattle.e_text.proofs.ClosedTexts.{open_both}
 use Rattle.e_run.specs.Outcome.{lines_of_book}
-use Rattle.e_run.specs.Endings.{BreaksOff, EndingIs, BlocksAre}
-use Rattle.e_run.proofs.ReadPieces.{stands_more, stands_open, stands_both, closed_part, open_part, off_now, off_in_piece, in_piece, out_of_memory}
+use Rattle.e_run.specs.inner.BookResults.{BreaksOff, BookResultIs, BlocksAre}
+use Rattle.e_run.proofs.ReadPieces.{read_more, read_open, read_both, closed_part, open_part, off_now, off_in_piece, in_piece, out_of_memory}
 use Rattle.e_run.proofs.pieces.take_piece.Goals as goal
 
 -- nothing in the piece has its end
@@ -17,7 +17,7 @@ returns-in_err-extend_from_slice-clause-takes g c =
 pub returns-then-is_empty-clause-takes : goal.returns-then-is_empty-clause-takes
 returns-then-is_empty-clause-takes g c =
     λ read before s.
-    stands_open read c.args.piece.now c.split_at.result.0.now c.split_at.result.1.now c.is_empty.result before c.args.book.now c.args.untaken.now _ (g.K.Sink.written c.args.sink.now)
+    read_open read c.args.piece.now c.split_at.result.0.now c.split_at.result.1.now c.is_empty.result before c.args.book.now c.args.untaken.now _ (g.K.Sink.written c.args.sink.now)
     c.split_at.ensures.by_index.0 c.is_empty.ensures c.if-is_empty.true c.in_ok-extend_from_slice.ensures.items refl refl s
 
 pub returns-then-is_empty-clause-unended : goal.returns-then-is_empty-clause-unended
@@ -40,7 +40,7 @@ pub returns-in_err-take_closed-clause-takes : goal.returns-in_err-take_closed-cl
 returns-in_err-take_closed-clause-takes g c =
     let p = err_from_is_err_and c.from_residual-in_err-take_closed.result c.from_residual-in_err-take_closed.ensures.1 in
     λ read before s.
-    let more = stands_more read c.split_at.result.0.now before c.args.book.now c.args.untaken.now _ (g.K.Sink.written c.args.sink.now) c.in_ok-extend_from_slice-2.ensures.items refl refl s in
+    let more = read_more read c.split_at.result.0.now before c.args.book.now c.args.untaken.now _ (g.K.Sink.written c.args.sink.now) c.in_ok-extend_from_slice-2.ensures.items refl refl s in
     rw (p.1, p.2) (in_piece (λ t. BlocksAre (lines_of_book t) before (g.K.Sink.written c.take_closed.new.sink) (Err c.in_err-take_closed.field-0.0)) read c.split_at.result.0.now c.split_at.result.1.now c.args.piece.now c.split_at.ensures.by_index.0
     (c.in_err-take_closed.ensures.takes (read ++ c.split_at.result.0.now) before more))
 
@@ -48,16 +48,16 @@ pub returns-in-Some-clause-takes : goal.returns-in-Some-clause-takes
 returns-in-Some-clause-takes g c =
     let takes = rw c.in-Some.is at c.in_ok-take_closed.ensures.takes in
     λ read before s.
-    let more = stands_more read c.split_at.result.0.now before c.args.book.now c.args.untaken.now _ (g.K.Sink.written c.args.sink.now) c.in_ok-extend_from_slice-2.ensures.items refl refl s in
-    in_piece (λ t. EndingIs (lines_of_book t) before (g.K.Sink.written c.take_closed.new.sink) c.in-Some.ending) read c.split_at.result.0.now c.split_at.result.1.now c.args.piece.now c.split_at.ensures.by_index.0
+    let more = read_more read c.split_at.result.0.now before c.args.book.now c.args.untaken.now _ (g.K.Sink.written c.args.sink.now) c.in_ok-extend_from_slice-2.ensures.items refl refl s in
+    in_piece (λ t. BookResultIs (lines_of_book t) before (g.K.Sink.written c.take_closed.new.sink) c.in-Some.book_result) read c.split_at.result.0.now c.split_at.result.1.now c.args.piece.now c.split_at.ensures.by_index.0
     (takes (read ++ c.split_at.result.0.now) before more)
 
--- and what stands behind them is kept
+-- and what comes after them is kept
 pub returns-in_err-extend_from_slice-3-clause-takes : goal.returns-in_err-extend_from_slice-3-clause-takes
 returns-in_err-extend_from_slice-3-clause-takes g c =
     let takes = rw c.in-None.is at c.in_ok-take_closed.ensures.takes in
     λ read before s.
-    let more = stands_more read c.split_at.result.0.now before c.args.book.now c.args.untaken.now _ (g.K.Sink.written c.args.sink.now) c.in_ok-extend_from_slice-2.ensures.items refl refl s in
+    let more = read_more read c.split_at.result.0.now before c.args.book.now c.args.untaken.now _ (g.K.Sink.written c.args.sink.now) c.in_ok-extend_from_slice-2.ensures.items refl refl s in
     out_of_memory (read ++ c.args.piece.now) before c.from_residual-in_err-extend_from_slice-3.result c.take_closed.new.book _ (g.K.Sink.written c.take_closed.new.sink) (search rules)
     (in_piece (λ t. BreaksOff (lines_of_book t) before (g.K.Sink.written c.take_closed.new.sink)) read c.split_at.result.0.now c.split_at.result.1.now c.args.piece.now c.split_at.ensures.by_index.0
     (off_now (read ++ c.split_at.result.0.now) before c.take_closed.new.book c.take_closed.new.untaken (g.K.Sink.written c.take_closed.new.sink) (takes (read ++ c.split_at.result.0.now) before more)))
@@ -66,8 +66,8 @@ pub returns-clause-takes : goal.returns-clause-takes
 returns-clause-takes g c =
     let takes = rw c.in-None.is at c.in_ok-take_closed.ensures.takes in
     λ read before s.
-    let more = stands_more read c.split_at.result.0.now before c.args.book.now c.args.untaken.now _ (g.K.Sink.written c.args.sink.now) c.in_ok-extend_from_slice-2.ensures.items refl refl s in
-    stands_both read c.args.piece.now c.split_at.result.0.now c.split_at.result.1.now before c.take_closed.new.book c.take_closed.new.untaken _ (g.K.Sink.written c.take_closed.new.sink)
+    let more = read_more read c.split_at.result.0.now before c.args.book.now c.args.untaken.now _ (g.K.Sink.written c.args.sink.now) c.in_ok-extend_from_slice-2.ensures.items refl refl s in
+    read_both read c.args.piece.now c.split_at.result.0.now c.split_at.result.1.now before c.take_closed.new.book c.take_closed.new.untaken _ (g.K.Sink.written c.take_closed.new.sink)
     c.split_at.ensures.by_index.0 c.in_ok-extend_from_slice-3.ensures.items refl refl (takes (read ++ c.split_at.result.0.now) before more)
 
 pub returns-clause-unended : goal.returns-clause-unended

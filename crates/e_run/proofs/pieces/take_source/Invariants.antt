@@ -1,12 +1,12 @@
 use Rattle.std.proofs.Common.{◌+◌, ◌-◌, ◌≤◌, vec_len}
 use Rattle.e_text.specs.Lines.{IsOpen}
-use Rattle.e_run.specs.Progress.{IsBook}
-use Rattle.e_run.proofs.ReadPieces.{Standing}
+use Rattle.e_run.specs.inner.Progress.{IsBook}
+use Rattle.e_run.proofs.ReadPieces.{ReadState}
 use Rattle.e_run.proofs.pieces.take_source.Given as goal
 
 abbrev pub invariant-loop-buffer : goal.invariant-loop-buffer
 invariant-loop-buffer g l = record {
-  standing : Standing (g.S.Source.left l.initial.source) (g.S.Source.left l.source) (g.K.Sink.written l.initial.sink) l.book l.untaken (g.K.Sink.written l.sink);
+  read_state : ReadState (g.S.Source.left l.initial.source) (g.S.Source.left l.source) (g.K.Sink.written l.initial.sink) l.book l.untaken (g.K.Sink.written l.sink);
   unended : IsOpen l.untaken.bytes.items;
   book : IsBook l.book;
   few : l.untaken.before + vec_len l.untaken.bytes ≤ 4194305;

@@ -1,32 +1,179 @@
-use Rattle.std.proofs.Common.{◌∙◌, ℕ, subst}
-use Rattle.e_run.specs.Trying.{Tries}
-use Rattle.e_run.proofs.Answering.{answers, answers_usage}
-use Rattle.e_run.proofs.Trials.{answers_trial, trial_number}
-use Rattle.e_run.proofs.Verifying.{answers_text, whole_verified, whole_accepted}
+use Rattle.std.proofs.Common.{◌∙◌, ◌≤◌, sym, subst}
+use Rattle.e_run.specs.declared.command.Command.{Command}
+use Rattle.e_run.specs.Runs.{HasProofs, Runs, IsDue, TakesOf}
+use Rattle.e_run.specs.Words.{OfCount}
+use Rattle.e_run.proofs.Completeness.{answers, answers_usage}
+use Rattle.e_run.proofs.Trials.{answers_trial, tried_count}
+use Rattle.e_run.proofs.VerifierAnswers.{wrote_proofs, read_proofs, answers_text}
+use Rattle.e_run.proofs.DrawerAnswers.{answers_figure}
 use Rattle.e_run.proofs.runner.run.Goals as goal
 
-pub returns-in-Check-clause-complete : goal.returns-in-Check-clause-complete
-returns-in-Check-clause-complete g c =
-    λ w. answers (g.S.Source.left c.args.source.now) (g.K.Sink.written c.args.sink.now) (g.K.Sink.written c.check.new.sink) c.check.result c.check.ensures.checks
+pub returns-in-Check-clause-proofs : goal.returns-in-Check-clause-proofs
+returns-in-Check-clause-proofs g c =
+    let left = g.S.Source.left c.args.source.now in
+    let old = g.K.Sink.written c.args.sink.now in
+    let new = g.K.Sink.written c.check.new.sink in
+    subst (λ (k : Command). HasProofs k left old new c.check.result) (sym c.in-Check.is ∙ c.command_of.ensures.value) (wrote_proofs left old new c.check.result c.check.ensures.checks)
 
-pub returns-in-Check-clause-end : goal.returns-in-Check-clause-end
-returns-in-Check-clause-end g c =
-    λ r w. c.check.ensures.end (whole_accepted (g.S.Source.left c.args.source.now) (g.K.Sink.written c.args.sink.now) (g.K.Sink.written c.check.new.sink) c.check.result c.check.ensures.checks w)
+pub returns-in-Check-clause-runs : goal.returns-in-Check-clause-runs
+returns-in-Check-clause-runs g c =
+    let left = g.S.Source.left c.args.source.now in
+    let old = g.K.Sink.written c.args.sink.now in
+    let new = g.K.Sink.written c.check.new.sink in
+    subst (λ (k : Command). Runs k left old new c.check.result) (sym c.in-Check.is ∙ c.command_of.ensures.value) c.check.ensures.checks
 
-pub returns-in-Verify-clause-judged : goal.returns-in-Verify-clause-judged
-returns-in-Verify-clause-judged g c =
-    λ w. answers_text (g.S.Source.left c.args.source.now) (g.K.Sink.written c.args.sink.now) (g.K.Sink.written c.verify.new.sink) c.verify.result c.verify.ensures.verifies
+pub returns-in-Check-clause-due : goal.returns-in-Check-clause-due
+returns-in-Check-clause-due g c =
+    let left = g.S.Source.left c.args.source.now in
+    let old = g.K.Sink.written c.args.sink.now in
+    let new = g.K.Sink.written c.check.new.sink in
+    subst (λ (k : Command). IsDue k left c.check.result) (sym c.in-Check.is ∙ c.command_of.ensures.value) (answers left old new c.check.result c.check.ensures.checks)
 
-pub returns-in-Verify-clause-end : goal.returns-in-Verify-clause-end
-returns-in-Verify-clause-end g c =
-    λ r w. c.verify.ensures.end (whole_verified (g.S.Source.left c.args.source.now) (g.K.Sink.written c.args.sink.now) (g.K.Sink.written c.verify.new.sink) c.verify.result c.verify.ensures.verifies w)
+pub returns-in-Check-clause-taken : goal.returns-in-Check-clause-taken
+returns-in-Check-clause-taken g c =
+    let left = g.S.Source.left c.args.source.now in
+    let after = g.S.Source.left c.check.new.source in
+    let old = g.K.Sink.written c.args.sink.now in
+    let new = g.K.Sink.written c.check.new.sink in
+    subst (λ (k : Command). TakesOf k left after old new c.check.result) (sym c.in-Check.is ∙ c.command_of.ensures.value)
+    (record { took = c.check.ensures.took; handled = c.check.ensures.handled; end = c.check.ensures.end })
 
-pub returns-in-Unknown-clause-usage : goal.returns-in-Unknown-clause-usage
-returns-in-Unknown-clause-usage g c =
-    λ w. answers_usage (g.K.Sink.written c.args.sink.now) (g.K.Sink.written c.close.new.sink) c.close.result c.close.ensures.closes
+pub returns-in-Verify-clause-proofs : goal.returns-in-Verify-clause-proofs
+returns-in-Verify-clause-proofs g c =
+    let left = g.S.Source.left c.args.source.now in
+    let old = g.K.Sink.written c.args.sink.now in
+    let new = g.K.Sink.written c.verify.new.sink in
+    subst (λ (k : Command). HasProofs k left old new c.verify.result) (sym c.in-Verify.is ∙ c.command_of.ensures.value) (read_proofs left old new c.verify.result c.verify.ensures.verifies)
 
-pub returns-in-Trial-clause-generated : goal.returns-in-Trial-clause-generated
-returns-in-Trial-clause-generated g c =
-    λ n w. answers_trial n (g.K.Sink.written c.args.sink.now) (g.K.Sink.written c.trial.new.sink) c.trial.result
-    (subst (λ (m : ℕ). Tries m (g.K.Sink.written c.args.sink.now) (g.K.Sink.written c.trial.new.sink) c.trial.result)
-    (trial_number c.command_of.result c.in-Trial.theorems n c.in-Trial.is (c.command_of.ensures.value ∙ w)) c.trial.ensures.tries)
+pub returns-in-Verify-clause-runs : goal.returns-in-Verify-clause-runs
+returns-in-Verify-clause-runs g c =
+    let left = g.S.Source.left c.args.source.now in
+    let old = g.K.Sink.written c.args.sink.now in
+    let new = g.K.Sink.written c.verify.new.sink in
+    subst (λ (k : Command). Runs k left old new c.verify.result) (sym c.in-Verify.is ∙ c.command_of.ensures.value) c.verify.ensures.verifies
+
+pub returns-in-Verify-clause-due : goal.returns-in-Verify-clause-due
+returns-in-Verify-clause-due g c =
+    let left = g.S.Source.left c.args.source.now in
+    let old = g.K.Sink.written c.args.sink.now in
+    let new = g.K.Sink.written c.verify.new.sink in
+    subst (λ (k : Command). IsDue k left c.verify.result) (sym c.in-Verify.is ∙ c.command_of.ensures.value) (answers_text left old new c.verify.result c.verify.ensures.verifies)
+
+pub returns-in-Verify-clause-taken : goal.returns-in-Verify-clause-taken
+returns-in-Verify-clause-taken g c =
+    let left = g.S.Source.left c.args.source.now in
+    let after = g.S.Source.left c.verify.new.source in
+    let old = g.K.Sink.written c.args.sink.now in
+    let new = g.K.Sink.written c.verify.new.sink in
+    subst (λ (k : Command). TakesOf k left after old new c.verify.result) (sym c.in-Verify.is ∙ c.command_of.ensures.value) c.verify.ensures.end
+
+pub returns-in-Figure-clause-proofs : goal.returns-in-Figure-clause-proofs
+returns-in-Figure-clause-proofs g c =
+    let left = g.S.Source.left c.args.source.now in
+    let old = g.K.Sink.written c.args.sink.now in
+    let new = g.K.Sink.written c.figure.new.sink in
+    subst (λ (k : Command). HasProofs k left old new c.figure.result) (sym c.in-Figure.is ∙ c.command_of.ensures.value) tt
+
+pub returns-in-Figure-clause-runs : goal.returns-in-Figure-clause-runs
+returns-in-Figure-clause-runs g c =
+    let left = g.S.Source.left c.args.source.now in
+    let old = g.K.Sink.written c.args.sink.now in
+    let new = g.K.Sink.written c.figure.new.sink in
+    subst (λ (k : Command). Runs k left old new c.figure.result) (sym c.in-Figure.is ∙ c.command_of.ensures.value) c.figure.ensures.draws
+
+pub returns-in-Figure-clause-due : goal.returns-in-Figure-clause-due
+returns-in-Figure-clause-due g c =
+    let left = g.S.Source.left c.args.source.now in
+    let old = g.K.Sink.written c.args.sink.now in
+    let new = g.K.Sink.written c.figure.new.sink in
+    subst (λ (k : Command). IsDue k left c.figure.result) (sym c.in-Figure.is ∙ c.command_of.ensures.value) (answers_figure left old new c.figure.result c.figure.ensures.draws)
+
+pub returns-in-Figure-clause-taken : goal.returns-in-Figure-clause-taken
+returns-in-Figure-clause-taken g c =
+    let left = g.S.Source.left c.args.source.now in
+    let after = g.S.Source.left c.figure.new.source in
+    let old = g.K.Sink.written c.args.sink.now in
+    let new = g.K.Sink.written c.figure.new.sink in
+    subst (λ (k : Command). TakesOf k left after old new c.figure.result) (sym c.in-Figure.is ∙ c.command_of.ensures.value) c.figure.ensures.end
+
+pub returns-in-Make-clause-proofs : goal.returns-in-Make-clause-proofs
+returns-in-Make-clause-proofs g c =
+    let left = g.S.Source.left c.args.source.now in
+    let old = g.K.Sink.written c.args.sink.now in
+    let new = g.K.Sink.written c.make.new.sink in
+    subst (λ (k : Command). HasProofs k left old new c.make.result) (sym c.in-Make.is ∙ c.command_of.ensures.value) tt
+
+pub returns-in-Make-clause-runs : goal.returns-in-Make-clause-runs
+returns-in-Make-clause-runs g c =
+    let left = g.S.Source.left c.args.source.now in
+    let old = g.K.Sink.written c.args.sink.now in
+    let new = g.K.Sink.written c.make.new.sink in
+    subst (λ (k : Command). Runs k left old new c.make.result) (sym c.in-Make.is ∙ c.command_of.ensures.value) c.make.ensures.makes
+
+pub returns-in-Make-clause-due : goal.returns-in-Make-clause-due
+returns-in-Make-clause-due g c =
+    let left = g.S.Source.left c.args.source.now in
+    subst (λ (k : Command). IsDue k left c.make.result) (sym c.in-Make.is ∙ c.command_of.ensures.value) tt
+
+pub returns-in-Make-clause-taken : goal.returns-in-Make-clause-taken
+returns-in-Make-clause-taken g c =
+    let left = g.S.Source.left c.args.source.now in
+    let old = g.K.Sink.written c.args.sink.now in
+    let new = g.K.Sink.written c.make.new.sink in
+    subst (λ (k : Command). TakesOf k left left old new c.make.result) (sym c.in-Make.is ∙ c.command_of.ensures.value) tt
+
+pub returns-in-Trial-clause-proofs : goal.returns-in-Trial-clause-proofs
+returns-in-Trial-clause-proofs g c =
+    let left = g.S.Source.left c.args.source.now in
+    let old = g.K.Sink.written c.args.sink.now in
+    let new = g.K.Sink.written c.trial.new.sink in
+    subst (λ (k : Command). HasProofs k left old new c.trial.result) (sym c.in-Trial.is ∙ c.command_of.ensures.value) tt
+
+pub returns-in-Trial-clause-runs : goal.returns-in-Trial-clause-runs
+returns-in-Trial-clause-runs g c =
+    let left = g.S.Source.left c.args.source.now in
+    let old = g.K.Sink.written c.args.sink.now in
+    let new = g.K.Sink.written c.trial.new.sink in
+    let few = subst (λ (k : Command). OfCount (λ n. n ≤ 500) k) c.in-Trial.is c.command_of.ensures.few in
+    subst (λ (k : Command). Runs k left old new c.trial.result) (sym c.in-Trial.is ∙ c.command_of.ensures.value)
+    (c.trial.ensures.tries, tried_count c.in-Trial.theorems old new c.trial.result few c.trial.ensures.tries)
+
+pub returns-in-Trial-clause-due : goal.returns-in-Trial-clause-due
+returns-in-Trial-clause-due g c =
+    let left = g.S.Source.left c.args.source.now in
+    let old = g.K.Sink.written c.args.sink.now in
+    let new = g.K.Sink.written c.trial.new.sink in
+    subst (λ (k : Command). IsDue k left c.trial.result) (sym c.in-Trial.is ∙ c.command_of.ensures.value) (answers_trial c.in-Trial.theorems old new c.trial.result c.trial.ensures.tries)
+
+pub returns-in-Trial-clause-taken : goal.returns-in-Trial-clause-taken
+returns-in-Trial-clause-taken g c =
+    let left = g.S.Source.left c.args.source.now in
+    let old = g.K.Sink.written c.args.sink.now in
+    let new = g.K.Sink.written c.trial.new.sink in
+    subst (λ (k : Command). TakesOf k left left old new c.trial.result) (sym c.in-Trial.is ∙ c.command_of.ensures.value) tt
+
+pub returns-in-Unknown-clause-proofs : goal.returns-in-Unknown-clause-proofs
+returns-in-Unknown-clause-proofs g c =
+    let left = g.S.Source.left c.args.source.now in
+    let old = g.K.Sink.written c.args.sink.now in
+    let new = g.K.Sink.written c.close.new.sink in
+    subst (λ (k : Command). HasProofs k left old new c.close.result) (sym c.in-Unknown.is ∙ c.command_of.ensures.value) tt
+
+pub returns-in-Unknown-clause-runs : goal.returns-in-Unknown-clause-runs
+returns-in-Unknown-clause-runs g c =
+    let left = g.S.Source.left c.args.source.now in
+    let old = g.K.Sink.written c.args.sink.now in
+    let new = g.K.Sink.written c.close.new.sink in
+    subst (λ (k : Command). Runs k left old new c.close.result) (sym c.in-Unknown.is ∙ c.command_of.ensures.value) (answers_usage old new c.close.result c.close.ensures.closes)
+
+pub returns-in-Unknown-clause-due : goal.returns-in-Unknown-clause-due
+returns-in-Unknown-clause-due g c =
+    let left = g.S.Source.left c.args.source.now in
+    subst (λ (k : Command). IsDue k left c.close.result) (sym c.in-Unknown.is ∙ c.command_of.ensures.value) tt
+
+pub returns-in-Unknown-clause-taken : goal.returns-in-Unknown-clause-taken
+returns-in-Unknown-clause-taken g c =
+    let left = g.S.Source.left c.args.source.now in
+    let old = g.K.Sink.written c.args.sink.now in
+    let new = g.K.Sink.written c.close.new.sink in
+    subst (λ (k : Command). TakesOf k left left old new c.close.result) (sym c.in-Unknown.is ∙ c.command_of.ensures.value) tt

@@ -5,7 +5,7 @@ use Rattle.e_text.proofs.WholeLines.{length-lines_of}
 use Rattle.e_generate.specs.Generated.{generated_text}
 use Rattle.e_run.specs.Input.{IsTextOf}
 use Rattle.e_run.specs.Outcome.{Rest, lines_of_book}
-use Rattle.e_run.specs.Trying.{Told}
+use Rattle.e_run.specs.Trials.{TrialAnswer}
 use Rattle.e_run.proofs.Trials.{book_lines}
 use Rattle.e_run.proofs.trial.answer_for.Goals as goal
 
@@ -19,4 +19,4 @@ returns c =
     let text : IsTextOf 4194305 (Some (generated_text c.args.theorems)) c.in-Ok.text.items = subst (λ (b : List ℕ). IsTextOf 4194305 (Some b) c.in-Ok.text.items) source c.in-Ok.ensures.text in
     let lines : c.new-lines.result.lines ≡ lines_of_book (generated_text c.args.theorems) =
     ap (λ (a : Ahead). a.lines) c.new-lines.ensures ∙ ap lines_of_book c.deref.ensures.value ∙ book_lines c.in-Ok.text.items (generated_text c.args.theorems) text in
-    subst (λ (l : Rest). IfOk c.answer_to.result (λ a. Told l a.status a.line.items)) lines c.answer_to.ensures
+    subst (λ (l : Rest). IfOk c.answer_to.result (λ a. TrialAnswer l a.status a.line.items)) lines c.answer_to.ensures

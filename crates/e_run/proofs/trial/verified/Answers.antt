@@ -16,4 +16,4 @@ pub returns : goal.returns
 returns c =
     let same = same_number c.in_ok-theorems.field-0 c.in-Verified.theorems c.args.theorems c.in-Verified.is
     (one_judgement c.args.text.now c.in_ok-theorems.field-0 (Verified c.args.theorems) c.in_ok-theorems.ensures c.requires.verified) in
-    (ap (λ (n : ℕ). status.Tried n c.args.steps) same, c.in_ok-tried.ensures ∙ ap (λ (n : ℕ). tried_line n c.args.steps) same)
+    (ap (λ (n : ℕ). status.Tried n c.args.steps) same, c.in_ok-line.ensures ∙ ap (λ (n : ℕ). tried_line n c.args.steps) same)

@@ -1,8 +1,8 @@
 use Rattle.std.proofs.Common.{◌++◌, ℕ, List, Option, Ok, refl, ap, subst, ◌∙◌, arith, length}
 use Rattle.std.proofs.lemmas.Result.{err_from_is_err_and}
-use Rattle.e_run.specs.declared.blocks.Ending.{Ending}
+use Rattle.e_run.specs.declared.blocks.BookResult.{BookResult}
 use Rattle.e_run.specs.Outcome.{Rest}
-use Rattle.e_run.specs.Progress.{Reaches, Handles}
+use Rattle.e_run.specs.inner.Progress.{Reaches, Handles}
 use Rattle.e_run.proofs.TakenBooks.{few_known, book_with, next_is, next_reaches, all_reached, faulty_here, fault_none, fault_unwritten}
 use Rattle.e_run.proofs.book.Book.take.Goals as goal
 
@@ -62,7 +62,7 @@ returns-in-Some-clause-takes g c =
     let reads = rw c.in-Ok-Some.field-0-is at c.in-Ok-Some.ensures.reads in
     λ all before h.
     let r = c.loop-theorem.invariant.reaches all before h in
-    λ more. subst (λ (e : Option Ending). Handles (all more) before (c.read.new.lines.lines ++ more) (Ok e) c.handle.new.self (g.K.Sink.written c.handle.new.sink)) c.in-Some.is
+    λ more. subst (λ (e : Option BookResult). Handles (all more) before (c.read.new.lines.lines ++ more) (Ok e) c.handle.new.self (g.K.Sink.written c.handle.new.sink)) c.in-Some.is
     (c.in_ok-handle.ensures.handles (all more) (r.tail ++ (c.loop-theorem.lines.lines ++ more)) (c.read.new.lines.lines ++ more) before (r.history more)
     (next_is all before c.loop-theorem.self (g.K.Sink.written c.loop-theorem.sink) c.loop-theorem.lines.lines c.read.new.lines.lines c.read.new.self.draft c.in-Ok-Some.theorem r reads more))
 
@@ -74,7 +74,7 @@ loop-theorem-preserved g c =
       reaches = λ (all : Rest → Rest) (before : Option (List ℕ)) (h : Reaches all (λ more. c.args.lines.now.lines ++ more) before c.args.self.now (g.K.Sink.written c.args.sink.now)).
           let r = c.loop-theorem.invariant.reaches all before h in
           next_reaches all before c.handle.new.self (g.K.Sink.written c.handle.new.sink) c.read.new.lines.lines
-          (λ more. subst (λ (e : Option Ending). Handles (all more) before (c.read.new.lines.lines ++ more) (Ok e) c.handle.new.self (g.K.Sink.written c.handle.new.sink)) c.in-None.is
+          (λ more. subst (λ (e : Option BookResult). Handles (all more) before (c.read.new.lines.lines ++ more) (Ok e) c.handle.new.self (g.K.Sink.written c.handle.new.sink)) c.in-None.is
           (c.in_ok-handle.ensures.handles (all more) (r.tail ++ (c.loop-theorem.lines.lines ++ more)) (c.read.new.lines.lines ++ more) before (r.history more)
           (next_is all before c.loop-theorem.self (g.K.Sink.written c.loop-theorem.sink) c.loop-theorem.lines.lines c.read.new.lines.lines c.read.new.self.draft c.in-Ok-Some.theorem r reads more)))
           (rw c.in-None.is at c.in_ok-handle.ensures.begins);

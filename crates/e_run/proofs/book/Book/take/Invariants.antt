@@ -1,8 +1,8 @@
 use Rattle.std.proofs.Common.{◌≡◌, ◌≤◌, ◌++◌, ℕ, List, Option, length}
 use Rattle.e_text.specs.Lines.{AreGood}
-use Rattle.e_book.specs.Book.{last_line}
+use Rattle.e_book.specs.Grammar.{last_line}
 use Rattle.e_run.specs.Outcome.{Rest}
-use Rattle.e_run.specs.Progress.{IsBook, Reaches}
+use Rattle.e_run.specs.inner.Progress.{IsBook, Reaches}
 use Rattle.e_run.proofs.book.Book.take.Given as goal
 
 abbrev pub invariant-loop-theorem : goal.invariant-loop-theorem

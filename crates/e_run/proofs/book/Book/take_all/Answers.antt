@@ -1,23 +1,23 @@
 use Rattle.std.proofs.Common.{[], Option, Ok, sym, subst, ◌∙◌}
 use Rattle.std.proofs.lemmas.Result.{err_from_is_err_and}
-use Rattle.e_run.specs.declared.blocks.Ending.{Ending}
-use Rattle.e_run.specs.Progress.{BookTakes}
+use Rattle.e_run.specs.declared.blocks.BookResult.{BookResult}
+use Rattle.e_run.specs.inner.Progress.{BookTakes}
 use Rattle.e_run.proofs.TakenBooks.{ends_here}
 use Rattle.e_run.proofs.book.Book.take_all.Goals as goal
 
-pub returns-in_err-ending-clause-ends : goal.returns-in_err-ending-clause-ends
-returns-in_err-ending-clause-ends g c =
+pub returns-in_err-book_result-clause-ends : goal.returns-in_err-book_result-clause-ends
+returns-in_err-book_result-clause-ends g c =
     let p = err_from_is_err_and c.from_residual.result c.from_residual.ensures.1 in
-    λ all before is h. rw (p.1, p.2) (c.in_err-ending.ensures.takes all before h [])
+    λ all before is h. rw (p.1, p.2) (c.in_err-book_result.ensures.takes all before h [])
 
 pub returns-in-Some-clause-ends : goal.returns-in-Some-clause-ends
 returns-in-Some-clause-ends g c =
     λ all before is h.
-    (subst (λ (e : Option Ending). BookTakes all before (Ok e) c.take.new.self (g.K.Sink.written c.take.new.sink)) c.in-Some.is (c.in_ok-ending.ensures.takes all before h)) []
+    (subst (λ (e : Option BookResult). BookTakes all before (Ok e) c.take.new.self (g.K.Sink.written c.take.new.sink)) c.in-Some.is (c.in_ok-book_result.ensures.takes all before h)) []
 
 pub returns-in-None-clause-ends : goal.returns-in-None-clause-ends
 returns-in-None-clause-ends g c =
-    let taken = rw c.in-None.is at c.in_ok-ending.ensures.taken in
+    let taken = rw c.in-None.is at c.in_ok-book_result.ensures.taken in
     λ all before is h.
-    rw c.end.ensures (ends_here all before c.take.new.self (g.K.Sink.written c.take.new.sink) c.line.result (rw c.in-None.is at c.in_ok-ending.ensures.book) (is ∙ sym taken.line ∙ sym c.line.ensures)
-    (subst (λ (e : Option Ending). BookTakes all before (Ok e) c.take.new.self (g.K.Sink.written c.take.new.sink)) c.in-None.is (c.in_ok-ending.ensures.takes all before h)))
+    rw c.end.ensures (ends_here all before c.take.new.self (g.K.Sink.written c.take.new.sink) c.line.result (rw c.in-None.is at c.in_ok-book_result.ensures.book) (is ∙ sym taken.line ∙ sym c.line.ensures)
+    (subst (λ (e : Option BookResult). BookTakes all before (Ok e) c.take.new.self (g.K.Sink.written c.take.new.sink)) c.in-None.is (c.in_ok-book_result.ensures.takes all before h)))

@@ -1,0 +1,3 @@
+pub mod PlanLines
+pub mod Named
+pub mod Drawn

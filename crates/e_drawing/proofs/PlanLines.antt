@@ -1,0 +1,107 @@
+-- A figure text line by line: what one line makes of a plan, and what all lines make of it.
+use Rattle.std.proofs.Common.{◌≡◌, ℕ, Bool, true, false, cond, List, [], ◌∷◌, Result, Ok, Err, sym, ap, subst, ◌∙◌}
+use Rattle.e_text.specs.Tokens.{tokens_of}
+use Rattle.e_text.specs.Lines.{Seen, AreGood}
+use Rattle.e_text.specs.declared.line.LineFault.{LineFault}
+use Rattle.e_book.specs.declared.fault.Kind.{Kind}
+use Rattle.e_book.specs.declared.fault.Kind.TheVariants as kinds
+use Rattle.e_book.specs.declared.fault.Trouble.{Trouble}
+use Rattle.e_book.specs.declared.fault.Trouble.TheVariants as troubles
+use Rattle.e_book.specs.declared.fault.BookFault.{BookFault}
+use Rattle.e_book.specs.declared.fault.BookFault.TheVariants as faults
+use Rattle.e_book.specs.Faults.{trouble_at, line_fault}
+use Rattle.e_book.specs.Reading.{◌>>=◌, Fails}
+use Rattle.e_book.specs.Grammar.{is_skipped, put_at, BookFails}
+use Rattle.e_book.proofs.InScope.{bind_ok}
+use Rattle.e_drawing.specs.declared.plan.Plan.{Plan}
+use Rattle.e_drawing.specs.Texts.{words_step, at_end, plan_from, PlanIs, TakesLine}
+
+abbrev Rest : Type 0
+Rest = List (Result Seen LineFault)
+
+-- ---- faults
+
+-- a fault that is the answer
+pub book_fails : {A : Type 0} (f : BookFault) (q : Result A BookFault) → q ≡ Err f → BookFails f q
+book_fails faults.NoMemory q h = tt
+book_fails (faults.Malformed line) q h = h
+book_fails (faults.UnknownName line) q h = h
+book_fails (faults.NameTaken line) q h = h
+book_fails (faults.WrongSort line) q h = h
+book_fails (faults.Limit line what) q h = h
+book_fails (faults.Unended line) q h = h
+
+-- a trouble, at its line
+fails_at : {A : Type 0} (n : ℕ) (trouble : Trouble) (r : Result A Kind) → Fails trouble r → BookFails (trouble_at n trouble) (put_at n r)
+fails_at n troubles.NoMemory r h = tt
+fails_at {A} n (troubles.Fault kinds.Malformed) r h = ap (λ (x : Result A Kind). put_at n x) h
+fails_at {A} n (troubles.Fault kinds.UnknownName) r h = ap (λ (x : Result A Kind). put_at n x) h
+fails_at {A} n (troubles.Fault kinds.NameTaken) r h = ap (λ (x : Result A Kind). put_at n x) h
+fails_at {A} n (troubles.Fault kinds.WrongSort) r h = ap (λ (x : Result A Kind). put_at n x) h
+fails_at {A} n (troubles.Fault (kinds.Limit what)) r h = ap (λ (x : Result A Kind). put_at n x) h
+fails_at {A} n (troubles.Fault kinds.Unended) r h = ap (λ (x : Result A Kind). put_at n x) h
+
+-- what fails is not gone on with
+pub fails_on : {A B : Type 0} (f : BookFault) (q : Result A BookFault) (then : A → Result B BookFault) → BookFails f q → BookFails f (q >>= then)
+fails_on faults.NoMemory q then h = tt
+fails_on {A} (faults.Malformed line) q then h = ap (λ (r : Result A BookFault). r >>= then) h
+fails_on {A} (faults.UnknownName line) q then h = ap (λ (r : Result A BookFault). r >>= then) h
+fails_on {A} (faults.NameTaken line) q then h = ap (λ (r : Result A BookFault). r >>= then) h
+fails_on {A} (faults.WrongSort line) q then h = ap (λ (r : Result A BookFault). r >>= then) h
+fails_on {A} (faults.Limit line what) q then h = ap (λ (r : Result A BookFault). r >>= then) h
+fails_on {A} (faults.Unended line) q then h = ap (λ (r : Result A BookFault). r >>= then) h
+
+-- ---- one line
+
+pub takes_skipped : (old : Plan) (l : Seen) → is_skipped (tokens_of l.bytes) ≡ true → TakesLine old l (Ok tt) old
+takes_skipped old l h = λ last more. ap (λ b. cond b (plan_from last old more) (put_at l.number (words_step old (tokens_of l.bytes)) >>= (λ q. plan_from last q more))) h
+
+worded : (old : Plan) (l : Seen) (last : ℕ) (more : Rest) → is_skipped (tokens_of l.bytes) ≡ false
+    → plan_from last old (Ok l ∷ more) ≡ (put_at l.number (words_step old (tokens_of l.bytes)) >>= (λ q. plan_from last q more))
+worded old l last more h = ap (λ b. cond b (plan_from last old more) (put_at l.number (words_step old (tokens_of l.bytes)) >>= (λ q. plan_from last q more))) h
+
+pub takes_words : (old new : Plan) (l : Seen) → is_skipped (tokens_of l.bytes) ≡ false → words_step old (tokens_of l.bytes) ≡ Ok new → TakesLine old l (Ok tt) new
+takes_words old new l h e = λ last more. worded old l last more h ∙ ap (λ (r : Result Plan Kind). put_at l.number r >>= (λ q. plan_from last q more)) e
+
+pub takes_trouble : (old new : Plan) (l : Seen) (t : Trouble) → is_skipped (tokens_of l.bytes) ≡ false → Fails t (words_step old (tokens_of l.bytes))
+    → TakesLine old l (Err (trouble_at l.number t)) new
+takes_trouble old new l t h e = λ last more.
+    subst (BookFails (trouble_at l.number t)) (sym (worded old l last more h))
+    (fails_on (trouble_at l.number t) (put_at l.number (words_step old (tokens_of l.bytes))) (λ q. plan_from last q more) (fails_at l.number t (words_step old (tokens_of l.bytes)) e))
+
+pub takes_nothing : (old new : Plan) (l : Seen) (r : Result (Unit {0}) BookFault) → r ≡ Err faults.NoMemory → TakesLine old l r new
+takes_nothing old new l r e = subst (λ (x : Result (Unit {0}) BookFault). TakesLine old l x new) (sym e) (λ last more. tt)
+
+-- ---- all lines
+
+-- to read on from here is to read on from there
+abbrev pub Alike : ℕ → Plan → Rest → Plan → Rest → Type 0
+Alike last old lines new left = plan_from last new left ≡ plan_from last old lines
+
+pub alike_more : (last : ℕ) (old now new : Plan) (lines left behind : Rest) (l : Seen) → left ≡ Ok l ∷ behind → Alike last old lines now left → TakesLine now l (Ok tt) new
+    → Alike last old lines new behind
+alike_more last old now new lines left behind l e h t = sym (t last behind) ∙ (ap (plan_from last now) (sym e) ∙ h)
+
+pub fails_in_line : (last : ℕ) (old now : Plan) (lines left behind : Rest) (f : LineFault) → left ≡ Err f ∷ behind → Alike last old lines now left
+    → BookFails (line_fault f) (plan_from last old lines)
+fails_in_line last old now lines left behind f e h = book_fails (line_fault f) (plan_from last old lines) (sym h ∙ ap (plan_from last now) e)
+
+pub fails_at_line : (last : ℕ) (old now new : Plan) (lines left behind : Rest) (l : Seen) (f : BookFault) → left ≡ Ok l ∷ behind → Alike last old lines now left
+    → TakesLine now l (Err f) new → BookFails f (plan_from last old lines)
+fails_at_line last old now new lines left behind l f e h t = subst (BookFails f) (ap (plan_from last now) (sym e) ∙ h) (t last behind)
+
+pub all_taken : (last line : ℕ) (old now : Plan) (lines left : Rest) (r : Result (Unit {0}) BookFault) → left ≡ [] → line ≡ last → Alike last old lines now left
+    → PlanIs r now (at_end line now) → PlanIs r now (plan_from last old lines)
+all_taken last line old now lines left r e s h p =
+    subst (PlanIs r now) (ap (λ n. at_end n now) s ∙ (ap (plan_from last now) (sym e) ∙ h)) p
+
+-- lines without a fault that no line may have
+pub good_plan : (last : ℕ) (p q : Plan) (lines : Rest) → plan_from last p lines ≡ Ok q → AreGood lines
+good_plan last p q [] e = tt
+good_plan last p q (Err f ∷ lines) e = absurd (cc)
+good_plan last p q (Ok l ∷ lines) e = by (is_skipped (tokens_of l.bytes)) (λ x h. good_plan last x q lines h) e
+  where
+    by : (b : Bool) → ((x : Plan) → plan_from last x lines ≡ Ok q → AreGood lines)
+        → cond b (plan_from last p lines) (put_at l.number (words_step p (tokens_of l.bytes)) >>= (λ x. plan_from last x lines)) ≡ Ok q → AreGood lines
+    by true ih e = ih p e
+    by false ih e = let a = bind_ok (put_at l.number (words_step p (tokens_of l.bytes))) (λ x. plan_from last x lines) q e in ih a.0 a.2

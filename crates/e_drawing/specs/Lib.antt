@@ -1,0 +1,6 @@
+pub mod Numbers
+pub mod Lines
+pub mod Plans
+pub mod Texts
+pub mod Answers
+pub mod inner

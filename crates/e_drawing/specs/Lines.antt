@@ -1,0 +1,69 @@
+-- The lines of a figure text, by their spelling alone.
+use Rattle.std.specs.Prelude.{ℕ, List, [], ◌∷◌, Result, Ok, Err, codes, if◌then◌else◌}
+use Rattle.std.specs.Str.{bytes_eq}
+use Rattle.e_figure.specs.declared.figure.Straight.{Straight}
+use Rattle.e_figure.specs.declared.figure.Round.{Round}
+use Rattle.e_figure.specs.Figure.{has_direction, has_inside}
+use Rattle.e_book.specs.declared.fault.Kind.{Kind}
+use Rattle.e_book.specs.declared.fault.Kind.TheVariants.{Malformed}
+use Rattle.e_book.specs.Reading.{◌>>=◌, name_at, end_at}
+use Rattle.e_book.specs.Literals.{diagram_lits_of}
+use Rattle.e_drawing.specs.declared.raw.RawLine.{RawLine}
+use Rattle.e_drawing.specs.declared.raw.RawLine.TheVariants as raw
+use Rattle.e_drawing.specs.Numbers.{coordinate_at, square_at}
+
+-- a name and two coordinates
+unfoldable pub point_of : List (List ℕ) → Result RawLine Kind
+point_of words = do
+  n ← name_at words
+  x ← coordinate_at n.1
+  y ← coordinate_at x.1
+  none ← end_at y.1
+  Ok (raw.Point n.0 (record { x = x.0; y = y.0 }))
+
+-- a direction that is not two zeros
+abbrev pub directed : List ℕ → Straight → Result RawLine Kind
+directed name l = if has_direction l then Ok (raw.Line name l) else Err Malformed
+
+-- a name, the coordinates of a point on it, and a direction
+unfoldable pub straight_of : List (List ℕ) → Result RawLine Kind
+straight_of words = do
+  n ← name_at words
+  x ← coordinate_at n.1
+  y ← coordinate_at x.1
+  dx ← coordinate_at y.1
+  dy ← coordinate_at dx.1
+  none ← end_at dy.1
+  directed n.0 (record { x = x.0; y = y.0; dx = dx.0; dy = dy.0 })
+
+-- a square that is not 0
+abbrev pub rounded : List ℕ → Round → Result RawLine Kind
+rounded name c = if has_inside c then Ok (raw.Circle name c) else Err Malformed
+
+-- a name, the coordinates of the center, and the square of the radius
+unfoldable pub round_of : List (List ℕ) → Result RawLine Kind
+round_of words = do
+  n ← name_at words
+  x ← coordinate_at n.1
+  y ← coordinate_at x.1
+  q ← square_at y.1
+  none ← end_at q.1
+  rounded n.0 (record { x = x.0; y = y.0; square = q.0 })
+
+abbrev pub alone : List (List ℕ) → RawLine → Result RawLine Kind
+alone words line = end_at words >>= λ none. Ok line
+
+-- by the first word
+unfoldable pub line_named : List ℕ → List (List ℕ) → Result RawLine Kind
+line_named w ws =
+    if bytes_eq w (codes "figure") then alone ws raw.Figure else
+    if bytes_eq w (codes "point") then point_of ws else
+    if bytes_eq w (codes "line") then straight_of ws else
+    if bytes_eq w (codes "circle") then round_of ws else
+    if bytes_eq w (codes "given") then (diagram_lits_of ws >>= λ ls. Ok (raw.Given ls)) else
+    if bytes_eq w (codes "show") then (diagram_lits_of ws >>= λ ls. Ok (raw.Show ls)) else
+    if bytes_eq w (codes "end") then alone ws raw.End else Err Malformed
+
+unfoldable pub line_of : List (List ℕ) → Result RawLine Kind
+line_of [] = Err Malformed
+line_of (w ∷ ws) = line_named w ws

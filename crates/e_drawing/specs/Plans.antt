@@ -1,0 +1,91 @@
+-- A figure while its lines come, one after another.
+use Rattle.std.specs.Prelude.{◌≡◌, ℕ, List, [], ◌∷◌, Bool, true, false, Result, Ok, Err, if◌then◌else◌}
+use Rattle.e_literal.specs.declared.object.Sort.TheVariants as sorts
+use Rattle.e_figure.specs.declared.figure.Point.{Point}
+use Rattle.e_figure.specs.declared.figure.Straight.{Straight}
+use Rattle.e_figure.specs.declared.figure.Round.{Round}
+use Rattle.e_figure.specs.Figure.{view_of, scope_of, is_small_point, is_small_line, is_small_circle, with_point, with_line, with_circle}
+use Rattle.e_book.specs.declared.fault.Kind.{Kind}
+use Rattle.e_book.specs.declared.fault.Kind.TheVariants.{Malformed}
+use Rattle.e_book.specs.declared.fault.What.TheVariants as limits
+use Rattle.e_book.specs.declared.literal.RawLit.{RawLit}
+use Rattle.e_book.specs.Reading.{◌>>=◌, with_front}
+use Rattle.e_book.specs.Scope.{lits_in, scope_of_names}
+use Rattle.e_book.specs.LineLimits.{or_limit, FewNamed}
+use Rattle.e_book.specs.Steps.{declared, no_names}
+use Rattle.e_drawing.specs.declared.raw.RawLine.{RawLine}
+use Rattle.e_drawing.specs.declared.raw.RawLine.TheVariants as raw
+use Rattle.e_drawing.specs.declared.plan.Place.{Place}
+use Rattle.e_drawing.specs.declared.plan.Place.TheVariants.{Start, Placing, Giving, Showing, Done}
+use Rattle.e_drawing.specs.declared.plan.Plan.{Plan}
+
+-- nothing has come
+abbrev pub no_plan : Plan
+no_plan = record { names = no_names; figure = view_of [] [] []; given = []; shown = []; place = Start }
+
+-- which lines may come at a place
+abbrev pub allowed : Place → RawLine → Bool
+allowed Start raw.Figure = true
+allowed Placing (raw.Point n a) = true
+allowed Placing (raw.Line n l) = true
+allowed Placing (raw.Circle n c) = true
+allowed Placing (raw.Given ls) = true
+allowed Placing (raw.Show ls) = true
+allowed Giving (raw.Given ls) = true
+allowed Giving (raw.Show ls) = true
+allowed Showing (raw.Show ls) = true
+allowed Showing raw.End = true
+allowed place line = false
+
+-- ---- what a line adds: its name, the limit of its sort, and last that of its numbers
+
+unfoldable pub with_named_point : Plan → List ℕ → Point → Result Plan Kind
+with_named_point p name a = do
+  ns ← declared p.names sorts.Point (name ∷ [])
+  few ← or_limit (is_small_point a) limits.Number
+  Ok (record p { names = ns; figure = with_point p.figure a })
+
+unfoldable pub with_named_line : Plan → List ℕ → Straight → Result Plan Kind
+with_named_line p name l = do
+  ns ← declared p.names sorts.Line (name ∷ [])
+  few ← or_limit (is_small_line l) limits.Number
+  Ok (record p { names = ns; figure = with_line p.figure l })
+
+unfoldable pub with_named_circle : Plan → List ℕ → Round → Result Plan Kind
+with_named_circle p name c = do
+  ns ← declared p.names sorts.Circle (name ∷ [])
+  few ← or_limit (is_small_circle c) limits.Number
+  Ok (record p { names = ns; figure = with_circle p.figure c })
+
+-- given literals, by their names
+abbrev pub with_given : Plan → List RawLit → Result Plan Kind
+with_given p raws = with_front p.given (lits_in p.names raws) >>= λ ls. Ok (record p { given = ls; place = Giving })
+
+-- literals to be shown
+abbrev pub with_shown : Plan → List RawLit → Result Plan Kind
+with_shown p raws = with_front p.shown (lits_in p.names raws) >>= λ ls. Ok (record p { shown = ls; place = Showing })
+
+abbrev pub stepped : Plan → RawLine → Result Plan Kind
+stepped p raw.Figure = Ok (record p { place = Placing })
+stepped p (raw.Point name a) = with_named_point p name a
+stepped p (raw.Line name l) = with_named_line p name l
+stepped p (raw.Circle name c) = with_named_circle p name c
+stepped p (raw.Given raws) = with_given p raws
+stepped p (raw.Show raws) = with_shown p raws
+stepped p raw.End = Ok (record p { place = Done })
+
+-- a line, where it may come
+unfoldable pub step : Plan → RawLine → Result Plan Kind
+step p line = if allowed p.place line then stepped p line else Err Malformed
+
+abbrev pub is_last : Place → Bool
+is_last Done = true
+is_last p = false
+
+abbrev pub is_done : Plan → Bool
+is_done p = is_last p.place
+
+-- each object has a name, and there are not too many
+pub record FitsPlan (p : Plan) : Type 0 where
+  pub few : FewNamed p.names
+  pub named : scope_of p.figure ≡ scope_of_names p.names

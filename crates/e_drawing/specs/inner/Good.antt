@@ -1,0 +1,11 @@
+-- What each line is known to be.
+use Rattle.std.specs.Prelude.{IsTrue}
+use Rattle.e_figure.specs.Figure.{has_direction, has_inside}
+use Rattle.e_drawing.specs.declared.raw.RawLine.{RawLine}
+use Rattle.e_drawing.specs.declared.raw.RawLine.TheVariants as raw
+
+-- a line has a direction, and a circle an inside
+abbrev pub IsGoodLine : RawLine → Type 0
+IsGoodLine (raw.Line name l) = IsTrue (has_direction l)
+IsGoodLine (raw.Circle name c) = IsTrue (has_inside c)
+IsGoodLine _ = Unit {0}

@@ -1,0 +1,11 @@
+//! Figure texts: a figure, literals that are given and literals that are shown, and which of them are true in it.
+#![tactic(auto)]
+
+mod answers;
+mod drawing;
+mod number;
+mod plan;
+mod raw;
+mod reading;
+
+pub use drawing::{Drawing, draw};

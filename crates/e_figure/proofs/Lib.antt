@@ -1,0 +1,9 @@
+pub mod Facts
+pub mod Meaning
+pub mod refutations
+pub mod TrueRows
+pub mod Cite
+pub mod Bits
+pub mod Drawable
+pub mod Placing
+pub mod Checks

@@ -1,0 +1,103 @@
+-- Each derivation text has a judgement.
+use Rattle.std.proofs.Common.{◌≡◌, inl, inr, ℕ, zero, suc, ◌+◌, ◌<◌, ◌≤◌, Bool, true, false, true≢false, List, [], ◌∷◌, length, Option, Some, None, Result, Ok, Err, refl, sym, ap, ◌∙◌, arith}
+use Rattle.e_text.specs.Lines.{Seen}
+use Rattle.e_theorem.specs.Statements.{stated}
+use Rattle.e_deriv.specs.Certified.{is_certified, derivation_lines, verdict}
+use Rattle.e_book.specs.Reading.{◌>>=◌}
+use Rattle.e_book.specs.Headed.{Headed, stated_by}
+use Rattle.e_book.specs.Entry.{Entry}
+use Rattle.e_book.proofs.InScope.{bind_ok}
+use Rattle.e_read.specs.declared.reading.Reading.{Reading}
+use Rattle.e_read.specs.Text.{Piece, Derived, Last, at_start, taken, garbled_at, finished, or_on, is_end, piece_from}
+use Rattle.e_read.proofs.TakenLines.{either}
+use Rattle.e_verify.proofs.Passing.{all_pass}
+use Rattle.e_judgement.specs.declared.judgement.Judgement.{Judgement}
+use Rattle.e_judgement.specs.declared.judgement.Judgement.TheVariants.{Bad, Garbled}
+use Rattle.e_judgement.specs.Judged.{Rest, with_theorem, ReadsNext, IsCertified, Passes, JudgedBehind, Closes, IsJudged, is_head, JudgesLines, lines_of_text}
+use Rattle.e_judgement.specs.Laws.{EachTextIsJudged}
+
+-- ---- fewer lines are left behind what is read
+
+abbrev Found : Type 0
+Found = Piece × Rest
+
+abbrev found : Piece → Rest → Result Found ℕ
+found p rest = Ok (p, rest)
+
+same_rest : (p q : Piece) (xs ys : Rest) → found p xs ≡ found q ys → xs ≡ ys
+same_rest p q xs ys e = ap (λ (a : Found). a.1) (inside (p, xs) (q, ys) e) where
+  inside : (a b : Found) → let x : Result Found ℕ = Ok a in x ≡ Ok b → a ≡ b
+  inside a b e = cc
+
+shorter_on : (t : Option Entry) (lines rest : Rest) (more : Result Found ℕ) (p : Piece) → or_on t lines more ≡ found p rest → (more ≡ found p rest → length rest < length lines) → length rest < suc (length lines)
+shorter_on None lines rest more p e h = omega (arith, h e)
+shorter_on (Some x) lines rest more p e h = omega (arith, ap length (same_rest (Derived x) p lines rest e))
+
+shorter : (known : List Headed) (last : ℕ) (r : Reading) (lines : Rest) (p : Piece) (rest : Rest) → piece_from known last r lines ≡ found p rest → length rest < length lines
+unfolding piece_from
+shorter known last r [] p rest e = absurd cc
+shorter known last r (Err f ∷ lines) p rest e = absurd cc
+shorter known last r (Ok l ∷ lines) p rest e =
+    let next : Result Reading ℕ = garbled_at l.number (taken known r l) in
+    let then : Reading → Result Found ℕ = λ x. or_on (finished x.draft x.kept) lines (piece_from known last x lines) in
+    elim (either (is_end known r.draft l) (found Last lines) (next >>= then) (found p rest) e) [
+      | inl q ↦ omega (arith, ap length (same_rest Last p lines rest q.1))
+      | inr q ↦
+          let x = bind_ok next then (p, rest) q.1 in
+          shorter_on (finished x.0.draft x.0.kept) lines rest (piece_from known last x.0 lines) p x.2 (λ h. shorter known last x.0 lines p rest h)
+    ]
+
+-- ---- theorems one after another
+
+-- with this known, these lines are judged in some way
+abbrev Runs : ℕ → List Headed → Rest → Type 0
+Runs last known lines =
+    (j : Judgement) × (ts : List Entry) × (now : List Headed) × (rest : Rest) × Passes last known lines ts now rest × Closes last now rest j
+
+ends_here : (last : ℕ) (known : List Headed) (lines : Rest) (j : Judgement) → Closes last known lines j → Runs last known lines
+ends_here last known lines j c = (j, [], known, lines, (refl, refl), c)
+
+goes_on : (last : ℕ) (known : List Headed) (lines after : Rest) (t : Entry) → ReadsNext last known lines t after → IsCertified known t → Runs last (with_theorem known t) after → Runs last known lines
+goes_on last known lines after t reads certified r = (r.0, t ∷ r.1, r.2, r.3, (after, reads, certified, r.4), r.5)
+
+by_verdict : (last : ℕ) (known : List Headed) (lines after : Rest) (t : Entry) → ReadsNext last known lines t after → (v : Result ℕ ℕ) → verdict (stated_by known) (stated t.statement) t.script ≡ v
+    → Runs last (with_theorem known t) after → Runs last known lines
+by_verdict last known lines after t reads (Ok n) is more =
+    let before = stated_by known in
+    goes_on last known lines after t reads (all_pass (is_certified before) (derivation_lines before (stated t.statement) t.script) 1 n is) more
+by_verdict last known lines after t reads (Err step) is more = ends_here last known lines (Bad t.title step) (inr (inr (t, after, step, reads, is, refl)))
+
+by_piece : (last : ℕ) (known : List Headed) (lines : Rest) (a : Result Found ℕ) → piece_from known last at_start lines ≡ a
+    → ((t : Entry) (after : Rest) → ReadsNext last known lines t after → Runs last (with_theorem known t) after) → Runs last known lines
+by_piece last known lines (Err line) e more = ends_here last known lines (Garbled line) (inr (inl (line, e, refl)))
+by_piece last known lines (Ok (Last, rest)) e more = ends_here last known lines (JudgedBehind (length known) rest) (inl (rest, e, refl))
+by_piece last known lines (Ok (Derived t, after)) e more =
+    by_verdict last known lines after t e (verdict (stated_by known) (stated t.statement) t.script) refl (more t after e)
+
+by_size : (size last : ℕ) (known : List Headed) (lines : Rest) → length lines ≤ size → Runs last known lines
+by_size zero last known lines le =
+    by_piece last known lines (piece_from known last at_start lines) refl (λ t after r. absurd (omega (arith, le, shorter known last at_start lines (Derived t) after r)))
+by_size (suc size) last known lines le =
+    by_piece last known lines (piece_from known last at_start lines) refl
+    (λ t after r. by_size size last (with_theorem known t) after (omega (arith, le, shorter known last at_start lines (Derived t) after r)))
+
+-- ---- the whole
+
+judged_behind : (last : ℕ) (lines : Rest) → (j : Judgement) × IsJudged last lines j
+judged_behind last lines =
+    let r = by_size (length lines) last [] lines (omega arith) in
+    (r.0, record { theorems = r.1; known = r.2; rest = r.3; passes = r.4; closes = r.5 })
+
+by_head : (l : Seen) (lines : Rest) (b : Bool) → is_head l ≡ b → (j : Judgement) × JudgesLines (Ok l ∷ lines) j
+by_head l lines true is =
+    let r = judged_behind (2 + length lines) lines in
+    (r.0, ((λ t. r.1), (λ f. absurd (true≢false (sym is ∙ f)))))
+by_head l lines false is = (Garbled 1, ((λ t. absurd (true≢false (sym t ∙ is))), (λ f. refl)))
+
+by_lines : (lines : Rest) → (j : Judgement) × JudgesLines lines j
+by_lines [] = (Garbled 1, refl)
+by_lines (Err f ∷ lines) = (Garbled 1, refl)
+by_lines (Ok l ∷ lines) = by_head l lines (is_head l) refl
+
+pub each_text_is_judged : EachTextIsJudged
+each_text_is_judged text = by_lines (lines_of_text text)

@@ -1,0 +1,5 @@
+pub mod Squares
+pub mod Ring
+pub mod Cone
+pub mod Steps
+pub mod Symbols

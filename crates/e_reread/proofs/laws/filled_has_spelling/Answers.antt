@@ -1,5 +1,0 @@
-use Rattle.e_reread.proofs.FilledSpelling.{filled_has_spelling}
-use Rattle.e_reread.proofs.laws.filled_has_spelling.Goals as goal
-
-pub returns : goal.returns
-returns c = filled_has_spelling

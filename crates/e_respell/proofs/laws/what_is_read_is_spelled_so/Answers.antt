@@ -1,5 +1,0 @@
-use Rattle.e_respell.proofs.Whole.{read_is_spelled_so}
-use Rattle.e_respell.proofs.laws.what_is_read_is_spelled_so.Goals as goal
-
-pub returns : goal.returns
-returns c = read_is_spelled_so

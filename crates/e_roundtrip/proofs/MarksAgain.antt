@@ -1,0 +1,193 @@
+-- The line of a mark is read as that mark.
+use Rattle.std.proofs.Common.{◌≡◌, ℕ, zero, suc, ◌≤◌, ◌<◌, ◌^◌, ℤ, pos, negsuc, Bool, true, false, not, ◌||◌, ltb, leb, eqb, List, [], ◌∷◌, length, Ok, refl, ◌∙◌, arith, rules, tests}
+use Rattle.std.specs.Prelude.{codes, unsigned_abs}
+use Rattle.std.specs.Fmt.{decimal, signed_decimal}
+use Rattle.std.specs.Ordering.{int_eq}
+use Rattle.std.specs.Str.{bytes_eq}
+use Rattle.std.specs.List.{list_all}
+use Rattle.std.proofs.lemmas.Bool.{leb-true, lt-ltb, le-leb, ne_eqb, not-true, and_parts}
+use Rattle.e_text.specs.Names.{is_digit, is_title}
+use Rattle.e_text.specs.Numerals.{is_numeral}
+use Rattle.e_text.specs.Tokens.{is_blank, has_bytes, is_token, tokens_of, AreTokens}
+use Rattle.e_text.proofs.NumeralWords.{is_numeral-decimal, number_of-decimal, is_token-numeral}
+use Rattle.e_text.proofs.TokenWords.{tokens_of-joined, is_token-title}
+use Rattle.e_clause.specs.Sum.{is_good_multiplier}
+use Rattle.e_book.specs.Reading.{title_at, word_at, end_at}
+use Rattle.e_book.specs.Literals.{is_diagram_raw}
+use Rattle.e_book.specs.HasSpelling.{AreNames}
+use Rattle.e_book.proofs.Differ.{same_bytes}
+use Rattle.e_book.proofs.NamesAgain.{titled, names_again}
+use Rattle.e_book.proofs.SumsAgain.{TermNamed, term_again, term_tokens}
+use Rattle.e_book.proofs.LitsAgain.{LitNamed, lit_again, diagram_again, lit_tokens}
+use Rattle.e_book.proofs.LetsAgain.{names_tokens}
+use Rattle.e_read.specs.declared.mark.RawRow.{RawRow}
+use Rattle.e_read.specs.declared.mark.RawRow.TheVariants as rows
+use Rattle.e_read.specs.declared.mark.Mark.{Mark}
+use Rattle.e_read.specs.declared.mark.Mark.TheVariants as marks
+use Rattle.e_read.specs.Marks.{size_of, multiplier_of, row_named, row_of, may_differ, differs_of, transfer_of, row_mark_of, mark_named, mark_of, row_words, mark_words, mark_line}
+use Rattle.e_read.specs.Strict.{is_direct, is_strict_row, is_strict_mark, strict_mark}
+
+-- ---- what is known of the lines of certificates
+
+-- names where names stand
+abbrev pub RowNamed : RawRow → Type 0
+RowNamed (rows.Fact l) = LitNamed l × (is_direct l ≡ true)
+RowNamed (rows.Pos t) = TermNamed t
+RowNamed (rows.Top t) = TermNamed t
+RowNamed (rows.Least t) = TermNamed t
+RowNamed row = Unit {0}
+
+abbrev pub MarkNamed : Mark → Type 0
+MarkNamed (marks.Transfer rule ns) = (is_title rule ≡ true) × AreNames ns
+MarkNamed (marks.Clash l) = LitNamed l × (is_diagram_raw l.atom ≡ true)
+MarkNamed (marks.Differs r) = RowNamed r × (may_differ r ≡ true)
+MarkNamed (marks.Row m r) = (is_good_multiplier m ≡ true) × RowNamed r
+MarkNamed mark = Unit {0}
+
+-- ---- multipliers
+
+digits : (b : ℕ) (bs : List ℕ) → is_numeral (b ∷ bs) ≡ true → is_digit b ≡ true
+digits b bs h = (and_parts (is_digit b) (list_all is_digit bs) (and_parts (list_all is_digit (b ∷ bs)) (eqb (length bs) 0 || ltb 48 b) h).0).0
+
+not_minus : (b : ℕ) → is_digit b ≡ true → eqb b 45 ≡ false
+not_minus b h = search (rules, tests)
+
+-- no sign stands before a numeral
+unsigned : (ds : List ℕ) → is_numeral ds ≡ true → multiplier_of ds ≡ size_of ds
+unsigned [] h = absurd cc
+unsigned (b ∷ bs) h = rw (not_minus b (digits b bs h)) refl
+
+small : (n : ℕ) → n ≤ 2 ^ 80 → n < 10 ^ 64
+small n h = omega (arith, h)
+
+sized_again : (n : ℕ) → 0 < n → n ≤ 2 ^ 80 → size_of (decimal n) ≡ Ok (pos n)
+sized_again n some few =
+    let a : ltb 0 n ≡ true = lt-ltb _ _ some in
+    let b : leb n (2 ^ 80) ≡ true = le-leb _ _ few in
+    rw (number_of-decimal n (omega (arith, few)), a, b) refl
+
+-- a multiplier by its size
+record Sized (m : ℤ) : Type 0 where
+  some : int_eq m (pos 0) ≡ false
+  few : unsigned_abs m ≤ 2 ^ 80
+
+sized : (m : ℤ) → is_good_multiplier m ≡ true → Sized m
+sized m h =
+    let p = and_parts (not (int_eq m (pos 0))) (leb (unsigned_abs m) (2 ^ 80)) h in
+    record { some = not-true (int_eq m (pos 0)) p.0; few = leb-true _ _ p.1 }
+
+not_none : (n : ℕ) → int_eq (pos n) (pos 0) ≡ false → 0 < n
+not_none zero h = absurd cc
+not_none (suc n) h = omega arith
+
+pub multiplier_again : (m : ℤ) → is_good_multiplier m ≡ true → multiplier_of (signed_decimal m) ≡ Ok m
+multiplier_again (pos n) h =
+    let s = sized (pos n) h in
+    unsigned (decimal n) (is_numeral-decimal n (small n s.few)) ∙ sized_again n (not_none n s.some) s.few
+multiplier_again (negsuc n) h =
+    let s = sized (negsuc n) h in
+    rw (sized_again (suc n) (omega arith) s.few) refl
+
+-- a multiplier is no word
+no_letter : (b c : ℕ) → is_digit b ≡ true → 97 ≤ c → eqb b c ≡ false
+no_letter b c h k = search (rules, tests)
+
+number_apart : (ds : List ℕ) (c : ℕ) (cs : List ℕ) → is_numeral ds ≡ true → 97 ≤ c → bytes_eq ds (c ∷ cs) ≡ false
+number_apart [] c cs h k = absurd cc
+number_apart (b ∷ bs) c cs h k = rw (no_letter b c (digits b bs h) k) refl
+
+word_apart : (m : ℤ) (c : ℕ) (cs : List ℕ) → is_good_multiplier m ≡ true → 97 ≤ c → bytes_eq (signed_decimal m) (c ∷ cs) ≡ false
+word_apart (pos n) c cs h k = number_apart (decimal n) c cs (is_numeral-decimal n (small n (sized (pos n) h).few)) k
+word_apart (negsuc n) c cs h k = let e : eqb 45 c ≡ false = ne_eqb 45 c (λ e. absurd (omega (arith, e, k))) in rw e refl
+
+-- ---- the words of a mark
+
+row_again : (r : RawRow) → RowNamed r → row_of (row_words r) ≡ Ok r
+unfolding row_of row_named end_at
+row_again (rows.Fact l) h = rw (lit_again l h.0) refl
+row_again rows.Goal h = refl
+row_again (rows.Pos t) h = rw (term_again t h) refl
+row_again (rows.Top t) h = rw (term_again t h) refl
+row_again rows.Right h = refl
+row_again (rows.Least t) h = rw (term_again t h) refl
+row_again rows.Above h = refl
+row_again rows.Below h = refl
+
+mark_again : (m : Mark) → MarkNamed m → mark_of (mark_words m) ≡ Ok m
+unfolding mark_of mark_named transfer_of differs_of row_mark_of title_at word_at end_at
+mark_again marks.Fact h = refl
+mark_again marks.Metric h = refl
+mark_again (marks.Transfer rule ns) h = rw (titled rule h.0, names_again ns h.1) refl
+mark_again (marks.Clash l) h = rw (diagram_again l h.0 h.1) refl
+mark_again marks.Sum h = refl
+mark_again (marks.Differs r) h = rw (row_again r h.0, h.1) refl
+mark_again (marks.Row m r) h =
+    let apart : (c : ℕ) (cs : List ℕ) → 97 ≤ c → bytes_eq (signed_decimal m) (c ∷ cs) ≡ false = λ c cs k. word_apart m c cs h.0 k in
+    let a : bytes_eq (signed_decimal m) (codes "fact") ≡ false = apart _ _ (omega arith) in
+    let b : bytes_eq (signed_decimal m) (codes "metric") ≡ false = apart _ _ (omega arith) in
+    let c : bytes_eq (signed_decimal m) (codes "transfer") ≡ false = apart _ _ (omega arith) in
+    let d : bytes_eq (signed_decimal m) (codes "clash") ≡ false = apart _ _ (omega arith) in
+    let e : bytes_eq (signed_decimal m) (codes "sum") ≡ false = apart _ _ (omega arith) in
+    let f : bytes_eq (signed_decimal m) (codes "differs") ≡ false = apart _ _ (omega arith) in
+    rw (a, b, c, d, e, f, multiplier_again m h.0, row_again r h.1) refl
+
+-- ---- these words are tokens
+
+row_tokens : (r : RawRow) → RowNamed r → AreTokens (row_words r)
+row_tokens (rows.Fact l) h = (refl, lit_tokens l h.0)
+row_tokens rows.Goal h = (refl, tt)
+row_tokens (rows.Pos t) h = (refl, term_tokens t h)
+row_tokens (rows.Top t) h = (refl, term_tokens t h)
+row_tokens rows.Right h = (refl, tt)
+row_tokens (rows.Least t) h = (refl, term_tokens t h)
+row_tokens rows.Above h = (refl, tt)
+row_tokens rows.Below h = (refl, tt)
+
+abbrev unbroken : List ℕ → Bool
+unbroken w = list_all (λ b. not (is_blank b)) w
+
+multiplier_token : (m : ℤ) → is_good_multiplier m ≡ true → is_token (signed_decimal m) ≡ true
+multiplier_token (pos n) h = is_token-numeral (decimal n) (is_numeral-decimal n (small n (sized (pos n) h).few))
+multiplier_token (negsuc n) h =
+    let t = is_token-numeral (decimal (suc n)) (is_numeral-decimal (suc n) (small (suc n) (sized (negsuc n) h).few)) in
+    let u : unbroken (decimal (suc n)) ≡ true = (and_parts (has_bytes (decimal (suc n))) (unbroken (decimal (suc n))) t).1 in
+    let s : eqb (length (45 ∷ decimal (suc n))) 0 ≡ false = ne_eqb _ _ (λ e. absurd (omega (arith, e))) in
+    rw (s, u) refl
+
+mark_tokens : (m : Mark) → MarkNamed m → AreTokens (mark_words m)
+mark_tokens marks.Fact h = (refl, tt)
+mark_tokens marks.Metric h = (refl, tt)
+mark_tokens (marks.Transfer rule ns) h = (refl, (is_token-title rule h.0, names_tokens ns h.1))
+mark_tokens (marks.Clash l) h = (refl, lit_tokens l h.0)
+mark_tokens marks.Sum h = (refl, tt)
+mark_tokens (marks.Differs r) h = (refl, row_tokens r h.0)
+mark_tokens (marks.Row m r) h = (multiplier_token m h.0, row_tokens r h.1)
+
+-- the words of its line
+pub mark_tokens_again : (m : Mark) → MarkNamed m → tokens_of (mark_line m) ≡ codes "|" ∷ mark_words m
+mark_tokens_again m h = tokens_of-joined (codes "|" ∷ mark_words m) (refl, mark_tokens m h)
+
+-- ---- the line is spelled as the mark is
+
+strict_row : (r : RawRow) → RowNamed r → is_strict_row r ≡ true
+strict_row (rows.Fact l) h = h.1
+strict_row rows.Goal h = refl
+strict_row (rows.Pos t) h = refl
+strict_row (rows.Top t) h = refl
+strict_row rows.Right h = refl
+strict_row (rows.Least t) h = refl
+strict_row rows.Above h = refl
+strict_row rows.Below h = refl
+
+strict : (m : Mark) → MarkNamed m → is_strict_mark m ≡ true
+strict marks.Fact h = refl
+strict marks.Metric h = refl
+strict (marks.Transfer rule ns) h = refl
+strict (marks.Clash l) h = refl
+strict marks.Sum h = refl
+strict (marks.Differs r) h = strict_row r h.0
+strict (marks.Row m r) h = strict_row r h.1
+
+pub strict_mark_again : (m : Mark) → MarkNamed m → strict_mark (mark_line m) (mark_words m) ≡ Ok m
+unfolding strict_mark
+strict_mark_again m h = rw (mark_again m h, strict m h, same_bytes (mark_line m)) refl

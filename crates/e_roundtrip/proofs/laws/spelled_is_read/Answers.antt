@@ -1,0 +1,5 @@
+use Rattle.e_roundtrip.proofs.SpelledIsRead.{spelled_is_read}
+use Rattle.e_roundtrip.proofs.laws.spelled_is_read.Goals as goal
+
+pub returns : goal.returns
+returns c = spelled_is_read

@@ -1,0 +1,25 @@
+-- Lines that show texts, and derivations that lines can spell.
+use Rattle.std.specs.Prelude.{◌≡◌, ℕ, List, [], ◌∷◌, Result, Ok, Err}
+use Rattle.e_text.specs.Lines.{Seen}
+use Rattle.e_text.specs.declared.line.LineEnd.TheVariants.{Lf}
+use Rattle.e_text.specs.declared.line.LineFault.{LineFault}
+use Rattle.e_theorem.specs.Statements.{stated}
+use Rattle.e_deriv.specs.Script.{Script, erased}
+use Rattle.e_book.specs.Headed.{Headed, stated_by}
+use Rattle.e_book.specs.Entry.{Entry}
+use Rattle.e_book.specs.HasSpelling.{HasSpelling}
+use Rattle.e_roundtrip.specs.Formed.{Formed}
+
+-- the lines ahead begin with these texts, whatever their numbers, each ended by a line feed, and the rest follows
+abbrev pub ShowsEnded : List (Result Seen LineFault) → List (List ℕ) → List (Result Seen LineFault) → Type 0
+ShowsEnded lines [] rest = lines ≡ rest
+ShowsEnded [] (text ∷ texts) rest = ⊥
+ShowsEnded (Err f ∷ lines) (text ∷ texts) rest = ⊥
+ShowsEnded (Ok l ∷ lines) (text ∷ texts) rest = (l.bytes ≡ text) × (l.end ≡ Lf) × ShowsEnded lines texts rest
+
+-- what a derivation of a theorem is that lines can spell, by its form alone: whether its certificates certify is not asked
+pub record CanBeSpelled (known : List Headed) (t : Entry) (d : Script) : Type 0 where
+  -- so is the theorem, with the derivation's script for its own
+  pub plain : HasSpelling known (record t { script = erased d })
+  -- each line has as many certificates as it owes, of good form
+  pub formed : Formed (stated_by known) (stated t.statement) d

@@ -1,0 +1,4 @@
+-- Words of private contracts and of proofs: nothing here is part of any claim.
+pub mod BookResults
+pub mod Progress
+pub mod Handled

@@ -1,0 +1,79 @@
+//! `figure`: a figure text is read and answered.
+ghost use Rattle.std.specs.Prelude.{◌≡◌, ◌≤◌, ◌<◌, ◌^◌, length, Err};
+ghost use Rattle.e_io.specs.Bytes.{Rose};
+ghost use Rattle.e_drawing.specs.Answers.{drawn_of};
+ghost use Rattle.e_run.specs.Answers.{IsDrawn, IsReadFault, IsWriteFault};
+ghost use Rattle.e_run.specs.DrawerAnswers.{lacks_memory, Draws, DrawsText};
+ghost use Rattle.e_run.specs.Input.{IsAtEnd};
+
+use crate::checker::close;
+use crate::input::{InputFault, MOST_BYTES, read_text};
+use crate::output::fault;
+use crate::status::Status;
+use e_book::BookFault;
+use e_drawing::draw;
+use e_io::{Sink, Source};
+use std::alloc::Global;
+
+/// Whether the fault is want of memory, which says nothing of the text.
+fn lacks_memory(fault: BookFault) -> bool
+    ensures { result ≡ lacks_memory fault }
+{
+    matches!(fault, BookFault::NoMemory)
+}
+
+/// Writes the line of a fault, and gives its answer.
+fn tell_fault<K: Sink>(alloc: Global, text: &[u8], at: BookFault, sink: &mut K) -> Status
+    requires { drawn_of text.now ≡ Err at }
+    ensures draws { Draws text.now (K.written sink.old) (K.written sink.new) result }
+    ensures rises { K.faults sink.old ≤ K.faults sink.new }
+    ensures cause { IsWriteFault result → Rose (K.faults sink.old) (K.faults sink.new) }
+    ensures no_read { IsReadFault result → ⊥ }
+{
+    match fault(alloc, &at) {
+        Ok(line) => close(sink, &line, Status::Fault(at)),
+        Err(_) => close(sink, b"no memory\n", Status::NoMemory),
+    }
+}
+
+/// Answers a figure text.
+fn tell<K: Sink>(alloc: Global, text: &[u8], sink: &mut K) -> Status
+    requires { length text.now < 2 ^ 31 }
+    ensures draws { Draws text.now (K.written sink.old) (K.written sink.new) result }
+    ensures rises { K.faults sink.old ≤ K.faults sink.new }
+    ensures cause { IsWriteFault result → Rose (K.faults sink.old) (K.faults sink.new) }
+    ensures no_read { IsReadFault result → ⊥ }
+{
+    match draw(alloc, text) {
+        Ok(drawing) => close(
+            sink,
+            &drawing.bytes,
+            Status::Drawn {
+                shown: drawing.shown,
+            },
+        ),
+        Err(at) => {
+            if lacks_memory(at) {
+                return close(sink, b"no memory\n", Status::NoMemory);
+            }
+            tell_fault(alloc, text, at, sink)
+        }
+    }
+}
+
+/// Reads a figure text from a source, and writes what is answered to a sink. Nothing is written before all of it was read.
+pub fn figure<S: Source, K: Sink>(alloc: Global, source: &mut S, sink: &mut K) -> Status
+    ensures draws { DrawsText (S.left source.old) (K.written sink.old) (K.written sink.new) result }
+    ensures end { IsDrawn result → IsAtEnd (S.left source.new) }
+    ensures read_rises { S.faults source.old ≤ S.faults source.new }
+    ensures read_cause { IsReadFault result → Rose (S.faults source.old) (S.faults source.new) }
+    ensures write_rises { K.faults sink.old ≤ K.faults sink.new }
+    ensures write_cause { IsWriteFault result → Rose (K.faults sink.old) (K.faults sink.new) }
+{
+    let text = match read_text(alloc, source, MOST_BYTES) {
+        Ok(text) => text,
+        Err(InputFault::ReadFault) => return close(sink, b"read fault\n", Status::ReadFault),
+        Err(InputFault::NoMemory) => return close(sink, b"no memory\n", Status::NoMemory),
+    };
+    tell(alloc, &text, sink)
+}

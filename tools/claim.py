@@ -1,0 +1,216 @@
+#!/usr/bin/env python3
+"""Lists the definitions that the claim on the program rests on.
+
+    python3 tools/claim.py [TOP] > docs/claim.txt
+
+The claim is the contract of `run` in crates/e_run. Who believes it believes what its clauses cite:
+definitions of the crates' specs/, those that these cite, and so on, down to the types of the
+program and to std, which are not listed. They come in reading order: each file behind those that
+its definitions cite. A file's line says how many of its lines belong to the claim; a definition has
+its comment, its type and its clauses.
+
+A definition with a star is one of those of the sentence that people rely on: the bytes written
+under Accepted, and a text that is verified, spell proofs in E (clause proofs).
+
+The page is made by hand, and tools/lint.py compares it. Names are read off the text: a variable
+with the name of a definition counts as a citation, so the list may be a little too long, and it is
+never too short.
+"""
+
+import re
+import sys
+from pathlib import Path
+
+RUN = "crates/e_run/src/runner.rt"
+SENTENCE = ("proofs",)
+COLUMNS = 100
+
+USE = re.compile(r"^(?:unfoldable )?(?:pub )?(?:ghost )?use ([\w.'+]+?)(?:\.\{(.*)\}| as (\w+))?;?\s*$")
+HEAD = re.compile(r"^(?:abbrev |unfoldable )?(?:pub )?(record |data )?([^\s:(]+)(?= |$)")
+KEYWORDS = ("abbrev ", "unfoldable ", "pub ", "record ", "data ")
+CONSTRUCTOR = re.compile(r"^\s+([^\s:]+) :")
+NAME = re.compile(r"(?<![\w.)])[A-Za-z_][\w'-]*(?:\.[\w'-]+)*")
+
+
+def names_of_use(line):
+    """What a `use` line brings in: names, each with its module and its name there, and aliases of modules."""
+    found = USE.match(line)
+    if not found:
+        return {}, {}
+    module, names, alias = found.groups()
+    if names is None:
+        return {}, {alias or module.split(".")[-1]: module}
+    pairs = [item.strip().split(" as ") for item in names.split(",") if item.strip()]
+    return {pair[-1].strip(): (module, pair[0].strip()) for pair in pairs}, {}
+
+
+class Module:
+    """A file of definitions: what it uses, and the lines of each definition with its comment."""
+
+    def __init__(self, path, top):
+        self.path = path.relative_to(top / "crates")
+        self.name = "Rattle." + str(self.path.with_suffix("")).replace("/", ".")
+        self.uses, self.aliases, self.definitions, self.constructors = {}, {}, {}, {}
+        self.lines = path.read_text(encoding="utf-8").rstrip("\n").split("\n")
+        now, data, comment = None, False, []
+        for line in self.lines:
+            if USE.match(line) or line.startswith(("pub mod ", "infix", "mod ")):
+                uses, aliases = names_of_use(line)
+                self.uses.update(uses)
+                self.aliases.update(aliases)
+                now, comment = None, []
+            elif line.startswith("--"):
+                comment = [] if line.startswith("-- ----") else comment + [line]
+                now = None if line.startswith("-- ----") else now
+            elif not line.strip():
+                now, comment = None, []
+            elif line.startswith(KEYWORDS) and line[0] != " ":
+                found = HEAD.match(line)
+                now, data = found.group(2), found.group(1) == "data "
+                self.definitions[now] = comment + [line]
+                comment = []
+            elif now:
+                self.definitions[now] += comment + [line]
+                comment = []
+                found = data and CONSTRUCTOR.match(line)
+                if found:
+                    self.constructors[found.group(1)] = now
+            elif line.split(" ")[0] in self.definitions:
+                now = line.split(" ")[0]
+                self.definitions[now] += comment + [line]
+                comment = []
+
+
+def modules_of(top):
+    listed = [line.split(":")[0] for line in (top / "crates.txt").read_text().split("\n") if ":" in line]
+    paths = [path for crate in listed for path in sorted((top / "crates" / crate / "specs").rglob("*.antt"))]
+    return {module.name: module for module in (Module(path, top) for path in paths)}
+
+
+def target(modules, module, name):
+    """The definition that a name of a module is, where it is one of a specs/: through re-exports, and by constructors."""
+    seen = set()
+    while module in modules and module not in seen:
+        seen.add(module)
+        here = modules[module]
+        if name in here.definitions:
+            return module, name
+        if name in here.constructors:
+            return module, here.constructors[name]
+        module, name = here.uses.get(name, (None, None))
+    return None
+
+
+def cited(modules, uses, aliases, module, text):
+    """The definitions that a text names, where these are used and it stands in this module."""
+    found = set()
+    for token in NAME.findall(text):
+        parts = token.split(".")
+        if token.startswith("Rattle."):
+            found.add(target(modules, ".".join(parts[:-1]), parts[-1]))
+        elif parts[0] in aliases and len(parts) > 1:
+            found.add(target(modules, aliases[parts[0]], parts[1]))
+        elif parts[0] in uses:
+            found.add(target(modules, *uses[parts[0]]))
+        else:
+            found.add(target(modules, module, parts[0]))
+    own = modules[module].definitions if module in modules else {}
+    for name, place in list(uses.items()) + [(name, (module, name)) for name in own]:
+        signs = [sign for sign in name.split("◌") if sign]
+        if "◌" in name and signs and all(sign in text for sign in signs):
+            found.add(target(modules, *place))
+    return found - {None}
+
+
+def code_of(lines):
+    """The lines without comments."""
+    return "\n".join(line.split(" -- ")[0] for line in lines if not line.startswith("--"))
+
+
+def closure(modules, roots):
+    seen, left = set(), sorted(roots)
+    while left:
+        module, name = left.pop()
+        if (module, name) not in seen:
+            seen.add((module, name))
+            here = modules[module]
+            left += cited(modules, here.uses, here.aliases, module, code_of(here.definitions[name]))
+    return seen
+
+
+def clauses_of_run(top):
+    """The clauses of the contract of `run`, by their names, and what the file uses."""
+    text = (top / RUN).read_text(encoding="utf-8")
+    uses = {}
+    for line in text.split("\n"):
+        uses.update(names_of_use(line)[0])
+    contract = text[text.index("pub fn run<") :]
+    clauses = re.findall(r"^    (?:ensures|requires) (\w+ )?\{(.*)\}$", contract[: contract.index("\n{\n")], re.M)
+    return [(name.strip(), clause) for name, clause in clauses], uses
+
+
+def in_order(modules, claim):
+    """The files of the claim, each behind those that its definitions cite; else as crates.txt has them."""
+    below = {module: set() for module, _ in claim}
+    for module, name in claim:
+        here = modules[module]
+        for other, _ in cited(modules, here.uses, here.aliases, module, code_of(here.definitions[name])):
+            below[module].add(other)
+    done = []
+
+    def add(module, around):
+        for other in sorted(below[module] - {module} - around, key=list(modules).index):
+            if other not in done:
+                add(other, around | {module})
+        if module not in done:
+            done.append(module)
+
+    for module in modules:
+        if module in below:
+            add(module, frozenset())
+    return done
+
+
+def count(modules, claim):
+    return sum(len(modules[module].definitions[name]) for module, name in claim)
+
+
+def figures(what, modules, claim):
+    files = {module for module, _ in claim}
+    return f"{what}: {len(claim):,} definitions, {count(modules, claim):,} lines, {len(files)} files"
+
+
+def wrapped(words):
+    lines, line = [], "   "
+    for word in words:
+        if len(line) + 1 + len(word) > COLUMNS:
+            lines.append(line)
+            line = "   "
+        line += " " + word
+    return lines + [line]
+
+
+def page(top):
+    """The text of docs/claim.txt."""
+    modules = modules_of(top)
+    clauses, uses = clauses_of_run(top)
+    roots = {name: cited(modules, uses, {}, "", clause) for name, clause in clauses}
+    whole = closure(modules, set().union(*roots.values()))
+    sentence = closure(modules, set().union(*(roots[name] for name in SENTENCE)))
+    lines = ["The definitions that the contract of `run` rests on, in reading order: made by tools/claim.py."]
+    lines += ["With a star: those of the sentence that the bytes spell proofs in E.", ""]
+    lines += [figures("The sentence", modules, sentence), figures("The contract", modules, whole), ""]
+    for name in roots:
+        lines.append(figures(f"  {name}", modules, closure(modules, roots[name])))
+    for module in in_order(modules, whole):
+        here = modules[module]
+        own = [name for name in here.definitions if (module, name) in whole]
+        size = count(modules, [(module, name) for name in own])
+        lines += ["", f"crates/{here.path}: {size} of {len(here.lines)} lines"]
+        lines += wrapped(name + ("*" if (module, name) in sentence else "") for name in own)
+    return "\n".join(lines) + "\n"
+
+
+if __name__ == "__main__":
+    TOP = Path(sys.argv[1] if sys.argv[1:] else Path(__file__).resolve().parent.parent).resolve()
+    sys.stdout.write(page(TOP))
