@@ -1,5 +1,5 @@
 #!/usr/bin/env bash
-# Checks every example book against its stored answer: NAME.out has the last lines that the
+# Checks every example book and figure against its stored answer: NAME.out has the last lines that the
 # program writes for NAME.book. The exit status has to be that of the answer, and where a book is
 # accepted, `verify` has to accept what `check` wrote of it. Euclid's Book I is joined from its files
 # in book-1/, which has to give book-1.book, byte for byte.
@@ -99,6 +99,26 @@ else
     fail "book-1.book: it is not book-1/ joined in the order of book-1/order.txt"
 fi
 try_book "book-1/, joined" "$work/joined.book" "$here/book-1.out"
+
+# try_figure NAME FIGURE ANSWER: checks one figure text; all that is written is its answer
+try_figure() {
+    found=$("$program" figure <"$2" 2>"$work/errors")
+    status=$?
+    case $found in
+        fault*) wanted=2 ;;
+        *) wanted=0 ;;
+    esac
+    if [ "$found" = "$(cat "$3")" ] && [ "$status" = "$wanted" ]; then
+        pass
+    else
+        fail "$1: found, with status $status"
+        printf '%s\n' "$found" | sed 's/^/    /'
+    fi
+}
+
+for figure in "$here"/figures/*.figure "$here"/figures/refused/*.figure; do
+    try_figure "${figure#"$here"/}" "$figure" "${figure%.figure}.out"
+done
 
 echo "$passed passed, $failed failed"
 [ "$failed" = 0 ]
