@@ -11,7 +11,7 @@ use Rattle.e_literal.specs.Facts.{has, others, is_metric}
 use Rattle.e_literal.specs.Solution.{carried}
 use Rattle.e_literal.proofs.Booleans.{and_left, and_right}
 use Rattle.e_clause.specs.declared.cert.Part.{Part}
-use Rattle.e_clause.specs.declared.cert.Part.TheVariants.{Fact, Metric}
+use Rattle.e_clause.specs.declared.cert.Part.TheVariants.{Fact, Metric, FactAt}
 use Rattle.e_clause.specs.Assignment.{terms_of_step}
 use Rattle.e_clause.specs.Instance.{Inst}
 use Rattle.e_clause.specs.RuleKinds.{is_transfer}
@@ -22,7 +22,7 @@ use Rattle.e_clause.specs.MetricCertificate.{sums_refute}
 use Rattle.e_clause.specs.TransferCertificate.{parts_certify, instance_certifies}
 use Rattle.e_clause.specs.Laws.{MetricCertificateIsSound, MetricContradictionIsSound, TransferCertificateIsSound, MetricFactFollows, CounterexampleSolves, UnsolvedFollows, UnsolvedContradicts, CounterexampleRefutes, CounterexampleSatisfies}
 use Rattle.e_clause.proofs.Spread.{spread, model_of}
-use Rattle.e_clause.proofs.Refuted.{found, has_holds, sums_not_refuted}
+use Rattle.e_clause.proofs.Refuted.{found, has_holds, has_at, sums_not_refuted}
 use Rattle.e_clause.proofs.Solved.{system_so}
 
 -- ---- counterexamples
@@ -92,6 +92,8 @@ stands_of facts l Fact h = by_test (is_metric l) (MetricConsequence facts l) (Is
 stands_of facts l (Metric c) h =
     by_test (is_metric l) (MetricConsequence facts l) (IsTrue (has facts l)) (λ m. metric_certificate facts l c h)
     (λ m. absurd (true≢false (sym (and_left (is_metric l) (sums_refute facts (Some l) c.sums) h) ∙ m)))
+stands_of facts l (FactAt k) h =
+    let there = has_at facts l k h in by_test (is_metric l) (MetricConsequence facts l) (IsTrue (has facts l)) (λ m. metric_fact facts l m there) (λ m. there)
 
 negations_of : (facts ls : List Lit) (ps : List Part) → parts_certify facts ls ps ≡ true → NegationsStand facts ls
 negations_of facts [] ps h = tt

@@ -1,8 +1,8 @@
 -- A model makes each row so that may be used, and so no sum refutes where there is one.
 use Rattle.std.proofs.Common.{◌≡◌, ◌≢◌, ℕ, zero, suc, ◌*◌, ◌≤◌, List, [], ◌∷◌, map, refl, sym, ap, ◌∙◌, subst, arith, Option, Some, None, Bool, true, false, not, cond, ◌&&◌, true≢false, ◌⊎◌, inl, inr}
-use Rattle.std.specs.Prelude.{option_and_then, is_some}
+use Rattle.std.specs.Prelude.{option_and_then, is_some, slice_get}
 use Rattle.std.specs.Option.{option_map_or, option_map}
-use Rattle.std.proofs.lemmas.Bool.{or_cases}
+use Rattle.std.proofs.lemmas.Bool.{or_cases, or_left, or_right}
 use Rattle.std.proofs.lemmas.Option.{same_Some, none-some}
 use mathlib.Core.Bool.{not-not}
 use lib.IntN.{ℤ, pos, negsuc, neg_ℤ}
@@ -22,13 +22,14 @@ use Rattle.e_literal.proofs.Valued.{IsMagEq, IsMagLt, IsDiagram, split, form-neg
 use Rattle.e_literal.proofs.Refutes.{no_values}
 use Rattle.e_literal.proofs.Booleans.{and_left, and_right}
 use Rattle.e_clause.specs.declared.cert.RowName.{RowName}
-use Rattle.e_clause.specs.declared.cert.RowName.TheVariants.{Fact, Goal, Pos, Top, Right as RightRow, Least, Above, Below}
+use Rattle.e_clause.specs.declared.cert.RowName.TheVariants.{Fact, Goal, Pos, Top, Right as RightRow, Least, Above, Below, FactAt}
 use Rattle.e_clause.specs.declared.cert.Sums.{Sums}
 use Rattle.e_clause.specs.declared.cert.Sums.TheVariants.{One, Two}
 use Rattle.e_clause.specs.Metric.{wanted_fails}
-use Rattle.e_clause.specs.Sum.{Place, is_step_term, fact_row, goal_row, says_differ, unless_not, pos_of, top_of, row_named, weighed_rows, is_good_size, refutes}
+use Rattle.e_clause.specs.Sum.{Place, is_step_term, fact_row, row_at, goal_row, says_differ, unless_not, pos_of, top_of, row_named, weighed_rows, is_good_size, refutes}
 use Rattle.e_clause.specs.System.{pos_row, top_row, right_row, least_row}
 use Rattle.e_clause.specs.MetricCertificate.{differing_of, differing, above_row, below_row, both_refute, sums_refute}
+use Rattle.e_clause.specs.PartCertificate.{is_fact_at}
 use Rattle.e_clause.proofs.Spread.{IsModel}
 
 -- ---- choices that give something
@@ -66,6 +67,18 @@ has_holds (f ∷ facts) l w h k = elim (or_cases (same_lit f l) (has facts l) k)
   | inl e ↦ holds_same f l w e (and_left (holds (carried w) f) (all_hold (carried w) facts) h)
   | inr m ↦ has_holds facts l w (and_right (holds (carried w) f) (all_hold (carried w) facts) h) m
 ]
+
+-- what is at a place of true facts is true
+at_holds : (facts : List Lit) (k : ℕ) (f : Lit) (w : Term → ℕ) → all_hold (carried w) facts ≡ true → slice_get facts k ≡ Some f → holds (carried w) f ≡ true
+at_holds [] k f w h e = absurd (none-some f e)
+at_holds (x ∷ facts) zero f w h e = ap (holds (carried w)) (sym (same_Some x f e)) ∙ and_left (holds (carried w) x) (all_hold (carried w) facts) h
+at_holds (x ∷ facts) (suc k) f w h e = at_holds facts k f w (and_right (holds (carried w) x) (all_hold (carried w) facts) h) e
+
+-- what is the same as the fact at a place is among the facts
+pub has_at : (facts : List Lit) (l : Lit) (k : ℕ) → is_fact_at facts l k ≡ true → has facts l ≡ true
+has_at [] l k h = absurd (true≢false (sym h))
+has_at (x ∷ facts) l zero h = or_left (same_lit x l) (has facts l) h
+has_at (x ∷ facts) l (suc k) h = or_right (same_lit x l) (has facts l) (has_at facts l k h)
 
 negated_cond : (n b : Bool) → not (cond n (not b) b) ≡ cond (not n) (not b) b
 negated_cond true b = not-not b
@@ -108,6 +121,13 @@ module _ (facts : List Lit) (wanted : Option Lit) (w : Term → ℕ) (model : Is
       let k = cond_some (has facts l) (row_of_lit l) r e in
       so_of_holds l r w k.1 (has_holds facts l w model.facts_hold k.0)
 
+  at_so : (k : ℕ) (r : Row) → row_at facts k ≡ Some r → IsSoAt w r
+  at_so k r e = by (slice_get facts k) refl e
+    where
+      by : (o : Option Lit) → slice_get facts k ≡ o → option_and_then row_of_lit o ≡ Some r → IsSoAt w r
+      by None at h = absurd (none-some r h)
+      by (Some f) at h = so_of_holds f r w h (at_holds facts k f w model.facts_hold at)
+
   goal_so : (r : Row) → goal_row wanted ≡ Some r → IsSoAt w r
   goal_so r e = by wanted e model.wanted_fails
     where
@@ -124,6 +144,7 @@ module _ (facts : List Lit) (wanted : Option Lit) (w : Term → ℕ) (model : Is
   differing_so (Least t) r e = absurd (none-some r e)
   differing_so Above r e = absurd (none-some r e)
   differing_so Below r e = absurd (none-some r e)
+  differing_so (FactAt k) r e = at_so k r e
 
 -- ---- sums
 
@@ -164,6 +185,7 @@ module _ (p : Place) (w : Term → ℕ) (model : IsModel p.facts p.wanted w) (hi
   named_so (Least t) r e = subst (IsSoAt w) (same_Some (least_row t) r (cond_some (is_step_term p t) (Some (least_row t)) r e).1) (least_so t w)
   named_so Above r e = high r e
   named_so Below r e = low r e
+  named_so (FactAt k) r e = at_so p.facts p.wanted w model k r (unless_not_is (row_at p.facts k) r e)
 
   -- the rows of a sum are so
   weighed_so : (xs : List (ℤ × RowName)) (ws : List Weighed) → weighed_rows p xs ≡ Some ws → Satisfy w (map (λ x. x.row) ws)

@@ -8,11 +8,11 @@ use Rattle.e_literal.specs.Literal.{is_in_scope, all_in_scope, objects_of_term}
 use Rattle.e_literal.specs.Facts.{is_metric}
 use Rattle.e_literal.specs.Rows.{Row, More, negative}
 use Rattle.e_clause.specs.declared.cert.RowName.{RowName}
-use Rattle.e_clause.specs.declared.cert.RowName.TheVariants.{Fact, Goal, Pos, Top, Least}
+use Rattle.e_clause.specs.declared.cert.RowName.TheVariants.{Fact, Goal, Pos, Top, Least, FactAt}
 use Rattle.e_clause.specs.declared.cert.Sums.{Sums}
 use Rattle.e_clause.specs.declared.cert.Sums.TheVariants.{One, Two}
 use Rattle.e_clause.specs.declared.cert.MetricCert.{MetricCert}
-use Rattle.e_clause.specs.Sum.{refutes, fact_row, goal_row, says_differ}
+use Rattle.e_clause.specs.Sum.{refutes, fact_row, row_at, goal_row, says_differ}
 
 -- ---- two sums, where a row says that its form is not 0
 
@@ -20,6 +20,7 @@ use Rattle.e_clause.specs.Sum.{refutes, fact_row, goal_row, says_differ}
 abbrev pub differing_of : List Lit → Option Lit → RowName → Option Row
 differing_of facts wanted (Fact l) = fact_row facts l
 differing_of facts wanted Goal = goal_row wanted
+differing_of facts wanted (FactAt k) = row_at facts k
 differing_of facts wanted _ = None
 
 abbrev pub differing : List Lit → Option Lit → RowName → Option Row

@@ -1,21 +1,22 @@
--- Certificates whose rows name literals that are well formed.
-use Rattle.std.specs.Prelude.{List, Bool, true, ◌&&◌, ℤ}
+-- Certificates whose rows name literals that are well formed, and whose places have 32 bits.
+use Rattle.std.specs.Prelude.{◌^◌, List, Bool, true, ◌&&◌, nat_lt, ℤ}
 use Rattle.std.specs.List.{list_all}
 use Rattle.e_literal.specs.WellFormed.{is_well_formed}
 use Rattle.e_clause.specs.declared.cert.RowName.{RowName}
-use Rattle.e_clause.specs.declared.cert.RowName.TheVariants.{Fact}
+use Rattle.e_clause.specs.declared.cert.RowName.TheVariants.{Fact, FactAt}
 use Rattle.e_clause.specs.declared.cert.Sums.{Sums}
 use Rattle.e_clause.specs.declared.cert.Sums.TheVariants.{One, Two}
 use Rattle.e_clause.specs.declared.cert.Part.{Part}
-use Rattle.e_clause.specs.declared.cert.Part.TheVariants.{Fact as FactPart, Metric}
+use Rattle.e_clause.specs.declared.cert.Part.TheVariants.{Fact as FactPart, Metric, FactAt as FactPartAt}
 use Rattle.e_clause.specs.declared.cert.Cert.{Cert}
 use Rattle.e_clause.specs.declared.cert.Cert.TheVariants.{Plain, Transfer}
 use Rattle.e_clause.specs.declared.cert.Against.{Against}
 use Rattle.e_clause.specs.declared.cert.Against.TheVariants.{Clash, Metric as MetricAgainst}
 
--- the literal of a row is well formed
+-- the literal of a row is well formed, and a place has 32 bits
 abbrev pub is_good_name : RowName → Bool
 is_good_name (Fact l) = is_well_formed l
+is_good_name (FactAt k) = nat_lt k (2 ^ 32)
 is_good_name _ = true
 
 abbrev pub is_good_sum : List (ℤ × RowName) → Bool
@@ -28,6 +29,7 @@ is_good_sums (Two differs above below) = is_good_name differs && (is_good_sum ab
 abbrev pub is_good_part : Part → Bool
 is_good_part FactPart = true
 is_good_part (Metric m) = is_good_sums m.sums
+is_good_part (FactPartAt k) = nat_lt k (2 ^ 32)
 
 abbrev pub is_good_cert : Cert → Bool
 is_good_cert (Plain p) = is_good_part p

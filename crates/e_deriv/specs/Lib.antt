@@ -11,4 +11,5 @@ pub mod Refused
 pub mod Fitting
 pub mod Naming
 pub mod Written
+pub mod Versions
 pub mod Laws

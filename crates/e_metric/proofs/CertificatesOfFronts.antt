@@ -1,6 +1,6 @@
 -- Sums that show that the facts contradict each other show so of more facts too, and of each literal that it follows.
-use Rattle.std.proofs.Common.{◌≡◌, ℕ, List, [], ◌∷◌, ◌++◌, take, drop, take-append-drop, append_assoc, refl, sym, ap, ap₂, ◌∙◌, subst, cond, Bool, true, false, ◌&&◌, ◌||◌, true≢false, inl, inr, Option, Some, None}
-use Rattle.std.specs.Prelude.{option_and_then}
+use Rattle.std.proofs.Common.{◌≡◌, ℕ, zero, suc, List, [], ◌∷◌, ◌++◌, take, drop, take-append-drop, append_assoc, refl, sym, ap, ap₂, ◌∙◌, subst, cond, Bool, true, false, ◌&&◌, ◌||◌, true≢false, inl, inr, Option, Some, None}
+use Rattle.std.specs.Prelude.{option_and_then, slice_get}
 use Rattle.std.specs.Option.{option_map_or, option_map}
 use Rattle.std.specs.List.{list_all}
 use Rattle.std.proofs.lemmas.Bool.{and_from, or_left, or_right, or_cases}
@@ -21,12 +21,12 @@ use Rattle.e_literal.specs.Absurd.{Weighed, is_absurd}
 use Rattle.e_literal.proofs.Booleans.{and_left, and_right}
 use Rattle.e_clause.specs.declared.cert.MetricCert.{MetricCert}
 use Rattle.e_clause.specs.declared.cert.RowName.{RowName}
-use Rattle.e_clause.specs.declared.cert.RowName.TheVariants.{Fact, Goal, Pos, Top, Right as RightRow, Least, Above, Below}
+use Rattle.e_clause.specs.declared.cert.RowName.TheVariants.{Fact, Goal, Pos, Top, Right as RightRow, Least, Above, Below, FactAt}
 use Rattle.e_clause.specs.declared.cert.Sums.{Sums}
 use Rattle.e_clause.specs.declared.cert.Sums.TheVariants.{One, Two}
 use Rattle.e_clause.specs.Assignment.{terms_of_lits, terms_of_wanted}
 use Rattle.e_clause.specs.System.{pos_row, top_row, least_row}
-use Rattle.e_clause.specs.Sum.{Place, is_step_term, fact_row, says_differ, unless_not, row_named, weighed_rows, is_good_size, refutes}
+use Rattle.e_clause.specs.Sum.{Place, is_step_term, fact_row, row_at, says_differ, unless_not, row_named, weighed_rows, is_good_size, refutes}
 use Rattle.e_clause.specs.MetricCertificate.{differing, above_row, below_row, both_refute, sums_refute}
 use Rattle.e_metric.specs.declared.kind_system.KindSystem.{KindSystem}
 use Rattle.e_metric.specs.declared.kind_system.KindSystem.TheVariants.{Absurd}
@@ -54,6 +54,11 @@ among_more (x ∷ xs) ys t h = elim (or_cases (term_eq t x) (is_among (xs ++ [])
 has_more : (facts more : List Lit) (l : Lit) → has facts l ≡ true → has (facts ++ more) l ≡ true
 has_more facts more l h = list_any-append (λ f. same_lit f l) facts more ∙ ap (λ b. b || has more l) h
 
+front_at : (facts more : List Lit) (k : ℕ) (l : Lit) → slice_get facts k ≡ Some l → slice_get (facts ++ more) k ≡ Some l
+front_at [] more k l h = absurd (none-some l h)
+front_at (f ∷ facts) more zero l h = h
+front_at (f ∷ facts) more (suc k) l h = front_at facts more k l h
+
 module _ (facts more : List Lit) (wanted : Option Lit) where
   all_terms : terms_of_lits (facts ++ more) ++ terms_of_wanted wanted ≡ terms_of_lits facts ++ (terms_of_lits more ++ terms_of_wanted wanted)
   all_terms = ap (λ ts. ts ++ terms_of_wanted wanted) (lits_append facts more) ∙ append_assoc (terms_of_lits facts) (terms_of_lits more) (terms_of_wanted wanted)
@@ -65,6 +70,13 @@ module _ (facts more : List Lit) (wanted : Option Lit) where
       by : (a b : Bool) → (a ≡ true → b ≡ true) → F (cond a (row_of_lit l) None) ≡ Some r → F (cond b (row_of_lit l) None) ≡ Some r
       by true b f k = ap (λ c. F (cond c (row_of_lit l) None)) (f refl) ∙ k
       by false b f k = absurd (none r k)
+
+  at_stays : (F : Option Row → Option Row) → ((r : Row) → F None ≡ Some r → ⊥) → (k : ℕ) (r : Row) → F (row_at facts k) ≡ Some r → F (row_at (facts ++ more) k) ≡ Some r
+  at_stays F none k r h = by (slice_get facts k) refl h
+    where
+      by : (o : Option Lit) → slice_get facts k ≡ o → F (option_and_then row_of_lit o) ≡ Some r → F (option_and_then row_of_lit (slice_get (facts ++ more) k)) ≡ Some r
+      by None e m = absurd (none r m)
+      by (Some l) e m = ap (λ (o : Option Lit). F (option_and_then row_of_lit o)) (front_at facts more k l e) ∙ m
 
   module _ (above below : Option Row) where
     abbrev alone : Place
@@ -104,6 +116,7 @@ module _ (facts more : List Lit) (wanted : Option Lit) where
     same_row (Least t) r h = where_so (is_step_term alone t) (is_step_term beside_terms t) (least_row t) r (step_term t) h
     same_row Above r h = h
     same_row Below r h = h
+    same_row (FactAt k) r h = at_stays unless_not (λ q e. none-some q e) k r h
 
     same_rows : (xs : List (ℤ × RowName)) (ws : List Weighed) → weighed_rows alone xs ≡ Some ws → weighed_rows beside_terms xs ≡ Some ws
     same_rows [] ws h = h
@@ -138,6 +151,7 @@ module _ (facts more : List Lit) (wanted : Option Lit) where
   same_differing (Least t) r h = h
   same_differing Above r h = h
   same_differing Below r h = h
+  same_differing (FactAt k) r h = at_stays (option_and_then (λ (q : Row). cond (says_differ q.says) (Some q) None)) (λ q e. none-some q e) k r h
 
   sums_wider : (s : Sums) → sums_refute facts None s ≡ true → sums_refute (facts ++ more) wanted s ≡ true
   sums_wider (One sum) h = sum_wider None None sum h

@@ -32,7 +32,8 @@ use Rattle.e_metric.specs.AgreeingRows.{AreRows, AllLimited}
 use Rattle.e_metric.specs.ListedTerms.{listed, terms_of_kind}
 use Rattle.e_metric.specs.inner.Certificate.{sums_of}
 use Rattle.e_metric.specs.MetricAnswers.{IsCertified, IsTooWide}
-use Rattle.e_clause.specs.Written.{is_good_sums}
+use Rattle.e_clause.specs.declared.cert.Version.TheVariants as version
+use Rattle.e_clause.specs.Versions.{are_sums_of}
 use Rattle.e_metric.proofs.SameCoefficients.{satisfy_alike, wide_alike, width_alike}
 use Rattle.e_metric.proofs.SystemBounds.{system_length}
 use Rattle.e_metric.proofs.SystemCertificates.{names_are, rows_alike, length_rows, certified, names_given, rows_given}
@@ -105,7 +106,7 @@ module _ (which : Kind) (facts : List Lit) (wanted : Option Lit) where
         record {
           refutes = ap (sums_refute facts wanted) sums_are ∙ certified which facts wanted ns order ps are together a (subst (λ rs. IsAbsurdity (all_seen rs) a) rows_are h);
           scoped = λ s k g. ap (sums_in s) sums_are ∙ in_scope s facts wanted k g which ns order (names_given ps) (rows_given ps) a (names_are ns ps are);
-          written = ap is_good_sums sums_are ∙ written_well which facts wanted ns order (names_given ps) (rows_given ps) (listed (terms_of_kind which facts wanted) (Right ∷ [])) a (names_are ns ps are) good;
+          written = ap (are_sums_of version.One) sums_are ∙ written_well which facts wanted ns order (names_given ps) (rows_given ps) (listed (terms_of_kind which facts wanted) (Right ∷ [])) a (names_are ns ps are) good;
         })
 
   -- the width of the rows in their order

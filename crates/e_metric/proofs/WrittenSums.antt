@@ -18,13 +18,14 @@ use Rattle.e_clause.proofs.Named.{Each, EachLit, each_literal, each_system}
 use Rattle.e_fraction.specs.declared.row.Row.{Row as GivenRow}
 use Rattle.e_simplex.specs.declared.decision.Absurdity.{Absurdity}
 use Rattle.e_metric.specs.inner.Certificate.{sums_of}
-use Rattle.e_clause.specs.Written.{is_good_name, is_good_sums}
+use Rattle.e_clause.specs.declared.cert.Version.TheVariants as version
+use Rattle.e_clause.specs.Versions.{is_name_of, are_sums_of}
 use Rattle.e_metric.proofs.RowNames.{each_of, each_name, sums_have}
 use Rattle.e_metric.specs.RowOrder.{AreReordered}
 use Rattle.e_metric.proofs.RowOrder.{each_reordered}
 
 abbrev IsGood : NamedRow → Type 0
-IsGood n = is_good_name n.name ≡ true
+IsGood n = is_name_of version.One n.name ≡ true
 
 each_known : (ls : List Lit) → list_all is_well_formed ls ≡ true → EachLit (λ l. is_well_formed l ≡ true) ls
 each_known [] h = tt
@@ -60,15 +61,15 @@ no_literal : (ts : List Term) → list_all (λ (t : Term). true) ts ≡ true
 no_literal [] = refl
 no_literal (t ∷ ts) = no_literal ts
 
-one_of : (s : Sums) → is_good_sums s ≡ each_of is_good_name s
+one_of : (s : Sums) → are_sums_of version.One s ≡ each_of (is_name_of version.One) s
 one_of (OneSum sum) = refl
 one_of (TwoSums differs above below) = refl
 
 -- the sums of a system of well-formed facts, in some order
 pub written_well : (which : Kind) (facts : List Lit) (wanted : Option Lit) (ns : List NamedRow) (order : AreReordered ns (system which facts wanted)) (names : List RowName) (gs : List GivenRow) (ts : List Term) (a : Absurdity)
-    → names ≡ map (λ (n : NamedRow). n.name) ns → list_all is_well_formed facts ≡ true → is_good_sums (sums_of names gs ts a) ≡ true
+    → names ≡ map (λ (n : NamedRow). n.name) ns → list_all is_well_formed facts ≡ true → are_sums_of version.One (sums_of names gs ts a) ≡ true
 written_well which facts wanted ns order names gs ts a e good =
     one_of (sums_of names gs ts a)
-    ∙ sums_have is_good_name names gs ts a (record { goal = refl; above = refl; below = refl })
-    (ap (list_all is_good_name) e ∙ each_name is_good_name ns (each_reordered ns (system which facts wanted) order IsGood (system_good which facts wanted good)))
+    ∙ sums_have (is_name_of version.One) names gs ts a (record { goal = refl; above = refl; below = refl })
+    (ap (list_all (is_name_of version.One)) e ∙ each_name (is_name_of version.One) ns (each_reordered ns (system which facts wanted) order IsGood (system_good which facts wanted good)))
     (no_literal ts)

@@ -13,7 +13,8 @@ use Rattle.e_clause.specs.MetricCertificate.{sums_refute, sums_in}
 use Rattle.e_clause.specs.Wide.{HasWidth}
 use Rattle.e_clause.specs.Counterexample.{ListsCounterexample}
 use Rattle.e_simplex.specs.Answer.{assigned}
-use Rattle.e_clause.specs.Written.{is_good_sums}
+use Rattle.e_clause.specs.declared.cert.Version.TheVariants as version
+use Rattle.e_clause.specs.Versions.{are_sums_of}
 use Rattle.e_metric.specs.declared.consequence.Metric.{Metric}
 use Rattle.e_metric.specs.declared.consequence.Metric.TheVariants.{Yes, No, TooWide}
 
@@ -26,7 +27,7 @@ wanted_in s None = true
 pub record IsCertified (facts : List Lit) (wanted : Option Lit) (m : MetricCert) : Type 0 where
   pub refutes : IsTrue (sums_refute facts wanted m.sums)
   pub scoped : (s : Scope) → IsTrue (list_all (all_in_scope s) facts) → IsTrue (wanted_in s wanted) → IsTrue (sums_in s m.sums)
-  pub written : IsTrue (is_good_sums m.sums)
+  pub written : IsTrue (are_sums_of version.One m.sums)
 
 -- w is the width of one of the metric systems, which is wide
 pub record IsTooWide (facts : List Lit) (wanted : Option Lit) (w : ℕ) : Type 0 where

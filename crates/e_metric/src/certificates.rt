@@ -31,6 +31,7 @@ pub fn copied(alloc: Global, name: &RowName) -> Result<RowName, AllocError>
         RowName::Least(term) => Ok(RowName::Least(*term)),
         RowName::Above => Ok(RowName::Above),
         RowName::Below => Ok(RowName::Below),
+        RowName::FactAt(place) => Ok(RowName::FactAt(*place)),
     }
 }
 

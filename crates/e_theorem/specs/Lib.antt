@@ -1,4 +1,5 @@
 pub mod Statements
+pub mod Notions
 pub mod Faults
 pub mod Pattern
 pub mod Choice

@@ -1,14 +1,16 @@
 //! The use of a statement: its literals at arguments for the declared objects and new objects for the made ones.
 
-ghost use Rattle.std.specs.Prelude.{◌≡◌, ◌<◌, ◌+◌, ◌^◌, ◌++◌, IsTrue, IfOk, IfErr, length, map as map_list};
+ghost use Rattle.std.specs.Prelude.{◌≡◌, ◌<◌, ◌+◌, ◌^◌, ◌++◌, IsTrue, IfOk, IfErr, length, take, map as map_list};
 ghost use Rattle.e_literal.specs.declared.object.Obj.{Obj as Object};
 ghost use Rattle.e_literal.specs.Rename.{image_in, renamed as at_images};
 ghost use Rattle.e_literal.specs.Scopes;
 ghost use Rattle.e_literal.specs.Use.{are_arguments, image, needs_of_use, gives_of_use, scope_of};
 ghost use Rattle.e_theorem.specs.Statements.{stated};
 ghost use Rattle.e_theorem.specs.Faults.{FaultIs};
+ghost use Rattle.e_theorem.specs.Notions.{as_stated, expanded};
 ghost use Rattle.e_theorem.specs.declared.application.UseFault.TheVariants.{NoMemory};
 
+use crate::notion::Notion;
 use crate::statement::Statement;
 use e_literal::{Items, Lit, Map, Obj, Scope, Sort, count, grown, next_objects, renamed};
 use std::alloc::{AllocError, Global};
@@ -67,6 +69,60 @@ pub fn use_of(
         needs: at(alloc, statement.given.items(), &images)?,
         gives: at(alloc, statement.shown.items(), &images)?,
     })
+}
+
+/// What a notion says of these arguments: its literals with the arguments for its declared objects, in order.
+///
+/// `BadArgs` exactly where the arguments are not one object in scope for each declared object, of its sort.
+pub fn expand(
+    alloc: Global,
+    notion: &Notion,
+    args: &[Obj],
+    scope: Scope,
+) -> Result<Items<Lit>, UseFault>
+    requires few { length notion.now.declared < 2 ^ 16 }
+    ensures fit { IfOk result (λ _. IsTrue (are_arguments (as_stated notion.now) scope args.now)) }
+    ensures lits { IfOk result (λ ls. ls ≡ expanded notion.now args.now scope) }
+    ensures err { IfErr result (FaultIs (as_stated notion.now) args.now scope) }
+{
+    expand_first(alloc, notion, args, scope, notion.means.len())
+}
+
+/// The first n literals of what a notion says of these arguments, or all where there are fewer; `BadArgs` as `expand`.
+pub fn expand_first(
+    alloc: Global,
+    notion: &Notion,
+    args: &[Obj],
+    scope: Scope,
+    most: usize,
+) -> Result<Items<Lit>, UseFault>
+    requires few { length notion.now.declared < 2 ^ 16 }
+    ensures fit { IfOk result (λ _. IsTrue (are_arguments (as_stated notion.now) scope args.now)) }
+    ensures lits { IfOk result (λ ls. ls ≡ take most (expanded notion.now args.now scope)) }
+    ensures err { IfErr result (FaultIs (as_stated notion.now) args.now scope) }
+{
+    if !are_of_sorts(scope, notion.declared.items(), args) {
+        return Err(UseFault::BadArgs);
+    }
+    let images = images_declared(alloc, notion, args, scope)?;
+    let first = most.min(notion.means.len());
+    Ok(at(alloc, &notion.means.items()[..first], &images)?)
+}
+
+// The images of a notion's objects: the arguments.
+fn images_declared(
+    alloc: Global,
+    notion: &Notion,
+    args: &[Obj],
+    scope: Scope,
+) -> Result<Map, AllocError>
+    requires fit { IsTrue (are_arguments (as_stated notion.now) scope args.now) }
+    requires few { length notion.now.declared < 2 ^ 16 }
+    ensures { IfOk result (λ m. (o : Object) → image_in m o ≡ image (as_stated notion.now) args.now scope o) }
+{
+    let sources = next_objects(alloc, NOTHING, notion.declared.items())?;
+    let images = Map::paired(alloc, &sources, args)?;
+    Ok(images)
 }
 
 const NOTHING: Scope = Scope {

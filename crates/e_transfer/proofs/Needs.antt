@@ -26,7 +26,8 @@ use Rattle.e_clause.specs.PartCertificate.{part_certifies, part_in}
 use Rattle.e_clause.specs.TransferCertificate.{parts_certify, instance_certifies}
 use Rattle.e_clause.specs.Wide.{IsMetricSystem}
 use Rattle.e_metric.specs.MetricAnswers.{IsMetricAnswer, IsCertified}
-use Rattle.e_clause.specs.Written.{is_good_part}
+use Rattle.e_clause.specs.declared.cert.Version.TheVariants as version
+use Rattle.e_clause.specs.Versions.{is_part_of}
 use Rattle.e_metric.specs.declared.consequence.Metric.{Metric}
 use Rattle.e_metric.specs.declared.consequence.Metric.TheVariants as metric
 use Rattle.e_clause.specs.declared.cert.MetricCert.{MetricCert}
@@ -161,7 +162,7 @@ wide_transfer scope facts lits goal rule w args transfer over instance one hold 
 -- ---- good parts
 
 parts_good : (scope : Scope) (facts ls : List Lit) (ps : List Part) → AreGoodParts scope facts (map negation ls) ps
-    → (parts_certify facts ls ps ≡ true) × (list_all (part_in scope) ps ≡ true) × (list_all is_good_part ps ≡ true)
+    → (parts_certify facts ls ps ≡ true) × (list_all (part_in scope) ps ≡ true) × (list_all (is_part_of version.One) ps ≡ true)
 parts_good scope facts [] [] good = (refl, refl, refl)
 parts_good scope facts [] (p ∷ ps) good = absurd good
 parts_good scope facts (l ∷ ls) [] good = absurd good
@@ -170,7 +171,7 @@ parts_good scope facts (l ∷ ls) (p ∷ ps) good =
     let rest = parts_good scope facts ls ps good.1 in (
       and_from (part_certifies facts (negation l) p) (parts_certify facts ls ps) here.certifies rest.0,
       and_from (part_in scope p) (list_all (part_in scope) ps) here.over rest.1,
-      and_from (is_good_part p) (list_all is_good_part ps) here.written rest.2,
+      and_from (is_part_of version.One p) (list_all (is_part_of version.One) ps) here.written rest.2,
     )
 
 pub good_cert : (scope : Scope) (facts lits : List Lit) (goal : Lit) (cert : TransferCert) → is_transfer cert.rule ≡ true → list_all (is_in_scope scope) cert.args ≡ true

@@ -8,7 +8,8 @@ use Rattle.e_clause.specs.declared.cert.TransferCert.{TransferCert}
 use Rattle.e_clause.specs.Transfer.{TransferConsequence}
 use Rattle.e_clause.specs.TransferCertificate.{transfer_certifies, transfer_in}
 use Rattle.e_clause.specs.Wide.{TransferFromFacts, IsTransferSystem, HasWidth}
-use Rattle.e_clause.specs.Written.{is_good_part}
+use Rattle.e_clause.specs.declared.cert.Version.TheVariants as version
+use Rattle.e_clause.specs.Versions.{is_part_of}
 use Rattle.e_transfer.specs.declared.finding.Found.{Found}
 use Rattle.e_transfer.specs.declared.finding.Found.TheVariants.{Yes, No, TooWide}
 use Rattle.e_transfer.specs.GivenGoals.{NarrowTransfer}
@@ -24,11 +25,11 @@ pub record IsTooWideTransfer (scope : Scope) (facts : List Lit) (goal : Lit) (w 
 
 -- a certificate, whose parts name literals that are well formed; or no transfer gives the goal; or a system is too wide
 abbrev pub IsFound : Scope → List Lit → Lit → Found → Type 0
-IsFound scope facts goal (Yes cert) = IsTrue (transfer_in scope cert) × IsTrue (transfer_certifies facts goal cert) × IsTrue (list_all is_good_part cert.parts)
+IsFound scope facts goal (Yes cert) = IsTrue (transfer_in scope cert) × IsTrue (transfer_certifies facts goal cert) × IsTrue (list_all (is_part_of version.One) cert.parts)
 IsFound scope facts goal No = ¬ TransferConsequence scope facts goal
 IsFound scope facts goal (TooWide w) = IsTooWideTransfer scope facts goal w
 
 -- such a certificate; or no transfer gives the goal from facts alone
 abbrev pub IsFoundByFacts : Scope → List Lit → Lit → Option TransferCert → Type 0
-IsFoundByFacts scope facts goal (Some cert) = IsTrue (transfer_in scope cert) × IsTrue (transfer_certifies facts goal cert) × IsTrue (list_all is_good_part cert.parts)
+IsFoundByFacts scope facts goal (Some cert) = IsTrue (transfer_in scope cert) × IsTrue (transfer_certifies facts goal cert) × IsTrue (list_all (is_part_of version.One) cert.parts)
 IsFoundByFacts scope facts goal None = ¬ TransferFromFacts scope facts goal

@@ -21,7 +21,8 @@ use Rattle.e_clause.specs.Wide.{IsTransferSystem, HasWidth}
 use Rattle.e_clause.specs.PartCertificate.{part_certifies, part_in}
 use Rattle.e_clause.specs.TransferCertificate.{transfer_certifies, transfer_in}
 use Rattle.e_metric.specs.MetricAnswers.{IsTooWide}
-use Rattle.e_clause.specs.Written.{is_good_part}
+use Rattle.e_clause.specs.declared.cert.Version.TheVariants as version
+use Rattle.e_clause.specs.Versions.{is_part_of}
 use Rattle.e_transfer.specs.declared.equations.Equation.{Equation}
 use Rattle.e_transfer.specs.declared.query.Strength.{Strength}
 use Rattle.e_transfer.specs.declared.query.Strength.TheVariants as strength
@@ -83,7 +84,7 @@ pub record IsWideNeed (facts ls : List Lit) (w : ℕ) : Type 0 where
 pub record IsGoodPart (scope : Scope) (facts : List Lit) (l : Lit) (p : Part) : Type 0 where
   pub certifies : IsTrue (part_certifies facts l p)
   pub over : IsTrue (part_in scope p)
-  pub written : IsTrue (is_good_part p)
+  pub written : IsTrue (is_part_of version.One p)
 
 abbrev pub PartIs : Strength → Scope → List Lit → Lit → Verdict Part → Type 0
 PartIs m scope facts l (verdict.Yes p) = IsGoodPart scope facts l p
@@ -115,7 +116,7 @@ diagrams_hold facts ls = list_all (λ l. is_metric l || has facts l) ls
 pub record IsGood (scope : Scope) (facts : List Lit) (goal : Lit) (cert : TransferCert) : Type 0 where
   pub over : IsTrue (transfer_in scope cert)
   pub certifies : IsTrue (transfer_certifies facts goal cert)
-  pub written : IsTrue (list_all is_good_part cert.parts)
+  pub written : IsTrue (list_all (is_part_of version.One) cert.parts)
 
 -- a metric system of a literal that an instance needs is wide, and this is its width
 pub record IsWideTransfer (scope : Scope) (facts : List Lit) (goal : Lit) (w : ℕ) : Type 0 where
