@@ -13,7 +13,7 @@ use Rattle.e_literal.specs.Rename.{same_obj}
 use Rattle.e_literal.specs.Scopes.{same_sort, nothing, with_one, next_objects, are_of_sorts}
 use Rattle.e_literal.proofs.Sorts.{same_sort_is, same_sort_self, same_obj_is, same_obj_self}
 use Rattle.e_literal.proofs.Growing.{counts_nothing}
-use Rattle.e_literal.proofs.Booleans.{or_not_right, and_left, and_right}
+use Rattle.e_literal.proofs.Booleans.{or_not_right, and_left, and_right, eqb_self}
 use Rattle.e_theorem.specs.Choice.{fills, is_below}
 use Rattle.e_theorem.specs.Pattern.{are_entries}
 use Rattle.e_transfer.specs.declared.walk.Span.{Span}
@@ -169,6 +169,25 @@ below s m b (sort ∷ sorts) (None ∷ entries) (v ∷ d) (u ∷ c) (from, less,
       | inl smaller ↦ inl (ltb-true v u smaller)
       | inr both ↦ inr (eqb-true v u (and_left (eqb v u) _ both), below s m (with_one b sort) sorts entries d c fits (and_right (eqb v u) _ both))
     ]
+
+same_number : (n : ℕ) (rest : Bool) → rest ≡ true → (ltb n n || (eqb n n && rest)) ≡ true
+same_number n rest h = ap (λ b. b || (eqb n n && rest)) (not_itself n) ∙ ap (λ b. b && rest) (eqb_self n) ∙ h
+
+-- and smaller numbers give smaller arguments
+pub in_order : (s m b : Scope) (sorts : List Sort) (entries : List (Option Obj)) (d c : List ℕ) → Fits (spans_of s (next_objects b sorts) entries) d → Fits (spans_of s (next_objects b sorts) entries) c
+    → Below d c → is_below (filled m (next_objects b sorts) entries d) (filled m (next_objects b sorts) entries c) ≡ true
+in_order s m b [] entries [] c fits fit less = absurd less
+in_order s m b [] entries (v ∷ d) c fits fit less = absurd fits
+in_order s m b (sort ∷ sorts) [] [] c fits fit less = absurd less
+in_order s m b (sort ∷ sorts) [] (v ∷ d) c fits fit less = absurd fits
+in_order s m b (sort ∷ sorts) (Some p ∷ entries) d c fits fit less = same_number p.num _ (in_order s m (with_one b sort) sorts entries d c fits fit less)
+in_order s m b (sort ∷ sorts) (None ∷ entries) [] c fits fit less = absurd fits
+in_order s m b (sort ∷ sorts) (None ∷ entries) (v ∷ d) [] fits fit less = absurd fit
+in_order s m b (sort ∷ sorts) (None ∷ entries) (v ∷ d) (u ∷ c) fits fit (inl less) =
+    ap (λ x. x || (eqb v u && is_below (filled m (next_objects (with_one b sort) sorts) entries d) (filled m (next_objects (with_one b sort) sorts) entries c))) (lt-ltb v u less)
+in_order s m b (sort ∷ sorts) (None ∷ entries) (v ∷ d) (u ∷ c) (from, high, fits) (from', high', fit) (inr (same, less)) =
+    subst (λ (x : ℕ). (ltb v x || (eqb v x && is_below (filled m (next_objects (with_one b sort) sorts) entries d) (filled m (next_objects (with_one b sort) sorts) entries c))) ≡ true) same
+    (same_number v _ (in_order s m (with_one b sort) sorts entries d c fits fit less))
 
 -- ---- the loops over the objects and the entries
 

@@ -49,16 +49,16 @@ pub record IsAsked (b : Basis) (t : Stated) (pattern : List (Option Obj)) : Type
 
 -- ---- a good choice is wanted
 
-good_fits : (b : Basis) (t : Stated) (pattern : List (Option Obj)) (args : List Obj) → IsGood t b.scope b.facts pattern args → Fits (spans b t pattern) (chosen pattern args)
+pub good_fits : (b : Basis) (t : Stated) (pattern : List (Option Obj)) (args : List Obj) → IsGood t b.scope b.facts pattern args → Fits (spans b t pattern) (chosen pattern args)
 good_fits b t pattern args good =
     chosen_fit b.scope nothing t.declared pattern args (and_left (fills pattern args) _ good.is_choice) (and_right (fills pattern args) _ good.is_choice)
 
-good_filled : (b : Basis) (t : Stated) (pattern : List (Option Obj)) (args : List Obj) → IsGood t b.scope b.facts pattern args
+pub good_filled : (b : Basis) (t : Stated) (pattern : List (Option Obj)) (args : List Obj) → IsGood t b.scope b.facts pattern args
     → filled b.scope (objects t) pattern (chosen pattern args) ≡ args
 good_filled b t pattern args good =
     chosen_filled b.scope b.scope nothing t.declared pattern args (and_left (fills pattern args) _ good.is_choice) (and_right (fills pattern args) _ good.is_choice)
 
-good_wanted : (b : Basis) (t : Stated) (pattern : List (Option Obj)) (args : List Obj) → is_statement t ≡ true → IsGood t b.scope b.facts pattern args
+pub good_wanted : (b : Basis) (t : Stated) (pattern : List (Option Obj)) (args : List Obj) → is_statement t ≡ true → IsGood t b.scope b.facts pattern args
     → Wanted b t pattern (chosen pattern args)
 good_wanted b t pattern args states good =
     subst (λ (os : List Obj). AllAllowed b.scope b.facts (map (at (paired (objects t) os)) t.given)) (sym (good_filled b t pattern args good))
@@ -86,16 +86,16 @@ none_below b t pattern c other states none good =
 
 -- ---- the least good choice
 
-start_fits : (b : Basis) (t : Stated) (pattern : List (Option Obj)) (c : List ℕ) → IsAsked b t pattern → has_empty (spans b t pattern) ≡ false → Starts (spans b t pattern) c
+pub start_fits : (b : Basis) (t : Stated) (pattern : List (Option Obj)) (c : List ℕ) → IsAsked b t pattern → has_empty (spans b t pattern) ≡ false → Starts (spans b t pattern) c
     → are_arguments t b.scope (filled nothing (objects t) pattern c) ≡ true
 start_fits b t pattern c asked some starts = start_is_of_sorts b.scope nothing t.declared pattern c asked.fits starts some
 
-start_choice : (b : Basis) (t : Stated) (pattern : List (Option Obj)) (c : List ℕ) → IsAsked b t pattern → has_empty (spans b t pattern) ≡ false → Starts (spans b t pattern) c
+pub start_choice : (b : Basis) (t : Stated) (pattern : List (Option Obj)) (c : List ℕ) → IsAsked b t pattern → has_empty (spans b t pattern) ≡ false → Starts (spans b t pattern) c
     → is_choice t b.scope pattern (filled nothing (objects t) pattern c) ≡ true
 start_choice b t pattern c asked some starts =
     and_from (fills pattern (filled nothing (objects t) pattern c)) _ (filled_fills b.scope nothing nothing t.declared pattern c asked.fits) (start_fits b t pattern c asked some starts)
 
-kept_allowed : (b : Basis) (t : Stated) (pattern : List (Option Obj)) (c : List ℕ) (args : List Obj) → is_statement t ≡ true → filled b.scope (objects t) pattern c ≡ args
+pub kept_allowed : (b : Basis) (t : Stated) (pattern : List (Option Obj)) (c : List ℕ) (args : List Obj) → is_statement t ≡ true → filled b.scope (objects t) pattern c ≡ args
     → are_arguments t b.scope args ≡ true → EachKept (Kept b t pattern) [] c → AllAllowed b.scope b.facts (needs_of_use t args b.scope)
 kept_allowed b t pattern c args states is fit kept =
     subst (λ (ls : List Lit). AllAllowed b.scope b.facts ls) (sym (needs_declared t args b.scope states fit))
@@ -160,7 +160,7 @@ claim b t pattern os ns before after o x search is claims =
     (subst (λ (y : List Span). SearchAnswer b t pattern (objects t) y before after o) (search.spans ∙ ap (λ y. spans_of b.scope y pattern) search.objects)
     (subst (λ (y : List Obj). SearchAnswer b t pattern y ns before after o) search.objects claims)))
 
-none_empty : (b : Basis) (t : Stated) (pattern : List (Option Obj)) (os : List Obj) (ns : List Span) (before : List ℕ) → IsSearch b t pattern os ns before → has_empty ns ≡ false
+pub none_empty : (b : Basis) (t : Stated) (pattern : List (Option Obj)) (os : List Obj) (ns : List Span) (before : List ℕ) → IsSearch b t pattern os ns before → has_empty ns ≡ false
     → has_empty (spans b t pattern) ≡ false
 none_empty b t pattern os ns before search some = sym (ap has_empty (search.spans ∙ ap (λ y. spans_of b.scope y pattern) search.objects)) ∙ some
 

@@ -7,3 +7,5 @@ pub mod Clashes
 pub mod BlankChoices
 pub mod CompletedLiterals
 pub mod FilledBlanks
+pub mod SweptChoices
+pub mod ChoicesInOrder

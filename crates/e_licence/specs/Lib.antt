@@ -2,4 +2,5 @@ pub mod Contexts
 pub mod HeldStates
 pub mod Licences
 pub mod FilledBlanks
+pub mod ChoicesInOrder
 pub mod inner

@@ -12,7 +12,8 @@ use Rattle.e_clause.specs.Certify.{certifies, certifies_against}
 use Rattle.e_clause.specs.Consequence.{Contradictory}
 use Rattle.e_clause.specs.Counterexample.{ListsCounterexample}
 use Rattle.e_clause.specs.Wide.{IsTooWideLit, IsTooWideContradiction}
-use Rattle.e_clause.specs.Written.{is_good_cert, is_good_against}
+use Rattle.e_clause.specs.declared.cert.Version.TheVariants as version
+use Rattle.e_clause.specs.Versions.{is_cert_of, is_against_of}
 use Rattle.e_licence.specs.Contexts.{Basis}
 use Rattle.e_licence.specs.declared.licensing.Licensed.{Licensed}
 use Rattle.e_licence.specs.declared.licensing.Licensed.TheVariants as licensed
@@ -26,7 +27,7 @@ use Rattle.e_licence.specs.declared.contradiction.Refuted.TheVariants as refuted
 pub record IsCertifiedBy (b : Basis) (l : Lit) (c : Cert) : Type 0 where
   pub certifies : IsTrue (certifies b.scope b.facts l c)
   pub as_fact : IsTrue (has b.facts l) → c ≡ Plain Fact
-  pub written : IsTrue (is_good_cert c)
+  pub written : IsTrue (is_cert_of version.One c)
 
 -- values exactly where the literal is metric; with them the facts are true and the literal is false
 abbrev pub IsShownBy : List Lit → Lit → Option (List (Term × ℕ)) → Type 0
@@ -49,7 +50,7 @@ IsLicence b l (licensed.TooWide w) = IsTooWideLit b.scope b.facts l w
 -- the certificate shows that the facts contradict each other, and names literals that are well formed
 pub record IsCertifiedAgainst (b : Basis) (against : Against) : Type 0 where
   pub certifies : IsTrue (certifies_against b.scope b.facts against)
-  pub written : IsTrue (is_good_against against)
+  pub written : IsTrue (is_against_of version.One against)
 
 -- the facts do not contradict each other, and with these values the metric ones are true
 pub record IsConsistentBy (facts : List Lit) (values : List (Term × ℕ)) : Type 0 where

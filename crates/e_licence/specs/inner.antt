@@ -1,3 +1,4 @@
 -- Words of private contracts and of proofs: nothing here is part of any claim.
 pub mod Clashes
 pub mod BlankChoices
+pub mod Sweeps

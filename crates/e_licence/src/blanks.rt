@@ -34,15 +34,15 @@ pub enum Filled {
     TooWide(u128),
 }
 
-/// The choices for the blanks of an application.
+/// The choices for the blanks of an application, as a task of a search.
 #[derive(Drop)]
-struct Blanks<'a> {
-    context: &'a Context,
-    step_facts: &'a StepFacts<'a>,
-    prepared: &'a Prepared,
-    statement: &'a Statement,
-    pattern: &'a [Option<Obj>],
-    declared: Vec<Obj>,
+pub struct Blanks<'a> {
+    pub context: &'a Context,
+    pub step_facts: &'a StepFacts<'a>,
+    pub prepared: &'a Prepared,
+    pub statement: &'a Statement,
+    pub pattern: &'a [Option<Obj>],
+    pub declared: Vec<Obj>,
     ghost fronts: { step_facts.now ≡ context.now.facts },
     ghost prepares: { IsPrepared context.now.facts prepared.now },
     ghost declares: { declared.items ≡ declared_objects nothing statement.now.declared },
@@ -141,7 +141,7 @@ fn matched_by(
     }
 }
 
-const NOTHING: Scope = Scope {
+pub const NOTHING: Scope = Scope {
     points: 0,
     lines: 0,
     circles: 0,
@@ -149,7 +149,7 @@ const NOTHING: Scope = Scope {
 
 /// For each blank the numbers in scope.
 #[tactic(auto, using(crate::proofs::BlankChoices::ending))]
-fn spans(
+pub fn spans(
     alloc: Global,
     scope: Scope,
     declared: &[Obj],
@@ -170,7 +170,7 @@ fn spans(
 }
 
 /// Whether a blank has no number in scope.
-fn has_empty(spans: &[Span]) -> bool
+pub fn has_empty(spans: &[Span]) -> bool
     ensures { result ≡ list_any (λ s. s.to == 0) spans.now }
 {
     spans.iter().any(|span| span.to == 0)
@@ -178,7 +178,7 @@ fn has_empty(spans: &[Span]) -> bool
 
 /// The arguments by the first numbers of a choice; where none is left, objects that are not in scope.
 #[tactic(auto, using(crate::proofs::BlankChoices::ending))]
-fn arguments(
+pub fn arguments(
     alloc: Global,
     scope: Scope,
     declared: &[Obj],

@@ -3,14 +3,17 @@
 #![tactic(auto)]
 
 mod blanks;
+mod choices;
 mod context;
 mod contradiction;
 mod held;
 mod licensing;
 mod limits;
 mod solving;
+mod sweep;
 
 pub use blanks::{Filled, match_blanks};
+pub use choices::{FirstChoices, first_choices};
 pub use context::Context;
 pub use contradiction::{Refuted, against};
 pub use licensing::{Licensed, licence};

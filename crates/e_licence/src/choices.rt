@@ -1,0 +1,175 @@
+//! The good choices for the blanks of an application, in order.
+
+ghost use Rattle.std.specs.Prelude.{◌≡◌, ◌<◌, ◌^◌, IsTrue, IfOk, length, map};
+ghost use Rattle.e_literal.specs.Use.{is_statement};
+ghost use Rattle.e_metric.specs.Fronts.{AreFronts};
+ghost use Rattle.e_theorem.specs.Pattern.{is_pattern};
+ghost use Rattle.e_theorem.specs.Statements.{stated};
+ghost use Rattle.e_transfer.specs.Prepared.{IsPrepared};
+ghost use Rattle.e_licence.specs.ChoicesInOrder.{FirstAre};
+ghost use Rattle.e_licence.specs.declared.choices.FirstChoices.TheVariants.{Found};
+ghost use Rattle.e_licence.specs.inner.BlankChoices.{filled};
+
+use crate::blanks::{Blanks, NOTHING, arguments, has_empty, spans};
+use crate::context::Context;
+use crate::sweep::{Swept, sweep};
+use e_literal::{Items, Obj, Scope, next_objects};
+use e_metric::{MetricFacts, StepFacts};
+use e_theorem::Statement;
+use e_transfer::{Prepared, prepare};
+use std::alloc::{AllocError, Global};
+use std::mem;
+
+/// What is answered on the good choices for the blanks of an application.
+#[derive(Drop)]
+pub enum FirstChoices {
+    /// The first of them in order, and whether there are more.
+    Found {
+        choices: Items<Items<Obj>>,
+        more: bool,
+    },
+    /// Under some choice a given literal is wide, and this is the width of one of its systems.
+    TooWide(u128),
+}
+
+/// The first of the good choices for the blanks of an application of the statement, in order, at most so many, and whether
+/// there are more. The blanks are filled as [`crate::match_blanks`] fills them. It fails only out of memory.
+///
+/// Questions begin where the context has solved its facts: [`Context::solve`] before it is worth it.
+pub fn first_choices(
+    alloc: Global,
+    context: &Context,
+    statement: &Statement,
+    pattern: &[Option<Obj>],
+    most: usize,
+) -> Result<FirstChoices, AllocError>
+    requires states { IsTrue (is_statement (stated statement.now)) }
+    requires fits { IsTrue (is_pattern (stated statement.now) context.now.scope pattern.now) }
+    requires few { length statement.now.declared < 2 ^ 16 }
+    ensures { IfOk result (FirstAre (stated statement.now) context.now pattern.now most) }
+{
+    if let Some(metric_facts) = context.solved() {
+        return choices_with(alloc, context, metric_facts, statement, pattern, most);
+    }
+    context.good();
+    let facts = context.facts();
+    let metric_facts = MetricFacts::of(alloc, facts)?;
+    let answer = choices_with(alloc, context, &metric_facts, statement, pattern, most);
+    mem::drop(metric_facts);
+    answer
+}
+
+/// The same, by what is solved of the facts.
+fn choices_with(
+    alloc: Global,
+    context: &Context,
+    metric_facts: &MetricFacts,
+    statement: &Statement,
+    pattern: &[Option<Obj>],
+    most: usize,
+) -> Result<FirstChoices, AllocError>
+    requires metric_facts { AreFronts context.now.facts metric_facts.now }
+    requires states { IsTrue (is_statement (stated statement.now)) }
+    requires fits { IsTrue (is_pattern (stated statement.now) context.now.scope pattern.now) }
+    requires few { length statement.now.declared < 2 ^ 16 }
+    ensures { IfOk result (FirstAre (stated statement.now) context.now pattern.now most) }
+{
+    context.good();
+    let facts = context.facts();
+    let prepared = prepare(alloc, facts, metric_facts)?;
+    let answer = choices_by(
+        alloc,
+        context,
+        metric_facts,
+        &prepared,
+        statement,
+        pattern,
+        most,
+    );
+    mem::drop(prepared);
+    answer
+}
+
+/// The same, by what is made of them once for all choices.
+fn choices_by(
+    alloc: Global,
+    context: &Context,
+    metric_facts: &MetricFacts,
+    prepared: &Prepared,
+    statement: &Statement,
+    pattern: &[Option<Obj>],
+    most: usize,
+) -> Result<FirstChoices, AllocError>
+    requires metric_facts { AreFronts context.now.facts metric_facts.now }
+    requires prepared { IsPrepared context.now.facts prepared.now }
+    requires states { IsTrue (is_statement (stated statement.now)) }
+    requires fits { IsTrue (is_pattern (stated statement.now) context.now.scope pattern.now) }
+    requires few { length statement.now.declared < 2 ^ 16 }
+    ensures { IfOk result (FirstAre (stated statement.now) context.now pattern.now most) }
+{
+    let declared = next_objects(alloc, NOTHING, statement.declared.items())?;
+    let spans = spans(alloc, context.scope(), &declared, pattern)?;
+    if has_empty(&spans) {
+        return Ok(FirstChoices::Found {
+            choices: Items::empty(alloc),
+            more: false,
+        });
+    }
+    let step_facts = StepFacts::new(context.facts(), metric_facts);
+    let blanks = Blanks {
+        context,
+        step_facts: &step_facts,
+        prepared,
+        statement,
+        pattern,
+        declared,
+    };
+    let mut chosen = Vec::new(alloc);
+    let mut found = Items::empty(alloc);
+    let scope = context.scope();
+    match sweep(alloc, &blanks, &spans, &mut chosen, &mut found, most)? {
+        Swept::Done => as_found(
+            alloc,
+            scope,
+            &blanks.declared,
+            pattern,
+            found.items(),
+            false,
+        ),
+        Swept::Full => as_found(alloc, scope, &blanks.declared, pattern, found.items(), true),
+        Swept::TooWide(width) => Ok(FirstChoices::TooWide(width)),
+    }
+}
+
+/// The choices that were found, as arguments.
+fn as_found(
+    alloc: Global,
+    scope: Scope,
+    declared: &[Obj],
+    pattern: &[Option<Obj>],
+    found: &[Items<u16>],
+    more: bool,
+) -> Result<FirstChoices, AllocError>
+    ensures { IfOk result (λ f. f ≡ Found (map (filled scope declared.now pattern.now) found.now) more) }
+{
+    let choices = all_arguments(alloc, scope, declared, pattern, found)?;
+    Ok(FirstChoices::Found { choices, more })
+}
+
+/// The arguments of each choice.
+fn all_arguments(
+    alloc: Global,
+    scope: Scope,
+    declared: &[Obj],
+    pattern: &[Option<Obj>],
+    found: &[Items<u16>],
+) -> Result<Items<Items<Obj>>, AllocError>
+    ensures { IfOk result (λ choices. choices ≡ map (filled scope declared.now pattern.now) found.now) }
+{
+    let mut choices = Items::empty(alloc);
+    for part in found {
+        let args = arguments(alloc, scope, declared, pattern, part.items())?;
+        choices.push(Items::new(args))?;
+    }
+    Ok(choices)
+}

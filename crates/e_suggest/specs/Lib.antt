@@ -1,0 +1,2 @@
+pub mod Suggestions
+pub mod Laws

@@ -1,0 +1,51 @@
+//! The good choices of arguments for a statement.
+ghost use Rattle.std.specs.Prelude.{◌≡◌, ◌≤◌, IsTrue, IfOk, length, replicate, None};
+ghost use Rattle.e_literal.specs.Use.{is_statement};
+ghost use Rattle.e_theorem.specs.Statements.{stated};
+ghost use Rattle.e_suggest.specs.Suggestions.{SuggestedIs};
+
+use e_licence::{Context, FirstChoices, first_choices};
+use e_literal::{Items, Obj};
+use e_theorem::Statement;
+use std::alloc::{AllocError, Global};
+
+/// What is answered on the choices of arguments for a statement.
+#[derive(Drop)]
+pub enum Suggested {
+    /// The first of the good choices in order, and whether there are more.
+    Found {
+        choices: Items<Items<Obj>>,
+        more: bool,
+    },
+    /// Under some choice a given literal is wide, and this is the width of one of its systems.
+    TooWide(u128),
+}
+
+/// The first of all choices of arguments at which each given literal of the statement is allowed, at most so many, and
+/// whether there are more. They are compared in declared order by the objects' numbers. The statement has at most 6 declared
+/// objects. It fails only out of memory.
+///
+/// The search is faster where the context has solved its facts: [`Context::solve`].
+pub fn all(
+    alloc: Global,
+    context: &Context,
+    statement: &Statement,
+    most: usize,
+) -> Result<Suggested, AllocError>
+    requires states { IsTrue (is_statement (stated statement.now)) }
+    requires few { length statement.now.declared ≤ 6 }
+    ensures { IfOk result (SuggestedIs (stated statement.now) context.now most) }
+{
+    let pattern = only_blanks(alloc, statement.declared.len())?;
+    match first_choices(alloc, context, statement, &pattern, most)? {
+        FirstChoices::Found { choices, more } => Ok(Suggested::Found { choices, more }),
+        FirstChoices::TooWide(width) => Ok(Suggested::TooWide(width)),
+    }
+}
+
+/// So many blanks.
+fn only_blanks(alloc: Global, count: usize) -> Result<Vec<Option<Obj>>, AllocError>
+    ensures { IfOk result (λ v. v.items ≡ replicate count None) }
+{
+    Vec::from_elem(alloc, None, count)
+}
