@@ -29,7 +29,8 @@ use Rattle.e_deriv.specs.Naming.{names_lines}
 use Rattle.e_deriv.specs.Fitting.{is_small, is_small_statement}
 use Rattle.e_deriv.proofs.Choices.{written_again, no_blank_again, fills_again, least_of_good}
 use Rattle.e_deriv.proofs.Stops.{none_not_allowed}
-use Rattle.e_clause.specs.Written.{is_good_cert}
+use Rattle.e_clause.specs.declared.cert.Version.TheVariants as version
+use Rattle.e_clause.specs.Versions.{is_cert_of}
 use Rattle.e_licence.specs.Contexts.{Basis}
 use Rattle.e_prove.specs.declared.application.Use.{Use}
 use Rattle.e_prove.specs.declared.step_stop.StepStop.{StepStop}
@@ -39,7 +40,7 @@ use Rattle.e_prove.specs.inner.StepStates.{after_apply}
 use Rattle.e_prove.specs.inner.StopsOfSteps.{StepStopsAmong, StepStopsFilling, StepStopsApplying, as_match}
 use Rattle.e_prove.specs.inner.LicensedSteps.{IsLicensedStep, IsStopOfStep}
 use Rattle.e_prove.specs.inner.Applications.{CanApply, IsUse}
-use Rattle.e_deriv.specs.Written.{has_good_certs}
+use Rattle.e_deriv.specs.Versions.{has_certs_of}
 use Rattle.e_deriv.proofs.Smallness.{few_of_small, few_objects}
 
 -- ---- arguments without blanks
@@ -81,7 +82,7 @@ choice_fits t s pattern args h = and_right (fills pattern args) (are_arguments t
 
 -- what is used at the written arguments is used as the least good choice
 pub use_written : (t : Stated) (pattern : List (Option Obj)) (x : Basis) (u : Use) (args : List Obj) → has_no_blank pattern ≡ true → is_pattern t x.scope pattern ≡ true → args ≡ written pattern → u.args ≡ args →
-    certify_all x.scope x.facts (needs_of_use t args x.scope) u.certs.items ≡ true → list_all is_good_cert u.certs.items ≡ true → u.gives ≡ gives_of_use t args x.scope → IsUse t pattern x u
+    certify_all x.scope x.facts (needs_of_use t args x.scope) u.certs.items ≡ true → list_all (is_cert_of version.One) u.certs.items ≡ true → u.gives ≡ gives_of_use t args x.scope → IsUse t pattern x u
 use_written t pattern x u args n h is same c good g =
     let here : u.args ≡ written pattern = same ∙ is in
     let certs : certify_all x.scope x.facts (needs_of_use t u.args x.scope) u.certs.items ≡ true = subst (λ os. certify_all x.scope x.facts (needs_of_use t os x.scope) u.certs.items ≡ true) (sym same) c in
@@ -102,14 +103,14 @@ use_written t pattern x u args n h is same c good g =
 record Filled (t : Stated) (pattern entries : List (Option Obj)) (x : Basis) (certs : List Cert) : Type 0 where
   least : IsLeast t x.scope x.facts pattern (written entries)
   certified : certify_all x.scope x.facts (needs_of_use t (written entries) x.scope) certs ≡ true
-  good_certs : list_all is_good_cert certs ≡ true
+  good_certs : list_all (is_cert_of version.One) certs ≡ true
   no_blank : has_no_blank entries ≡ true
   fill : fills entries (written entries) ≡ true
   again : filled_in (written entries) ≡ entries
 
 licensed_by_choice : (before : List Stated) (theorem : ℕ) (pattern entries : List (Option Obj)) (names : List (List ℕ)) (old certs : List Cert) (x : StepState) → Filled (theorem_at before theorem) pattern entries x.context certs →
     IsLicensedStep before (ApplyStep theorem pattern names old) x (ApplyStep theorem entries names certs) (after_apply (theorem_at before theorem) (written entries) names x)
-unfolding lines erased filled_by names_lines step_script has_good_certs
+unfolding lines erased filled_by names_lines step_script has_certs_of
 licensed_by_choice before theorem pattern entries names old certs x h =
     let t = theorem_at before theorem in
     let s = x.context.scope in
@@ -230,7 +231,7 @@ match_stops_so t x pattern args h k least stops_at is = subst (StepStopsFilling 
 -- ---- what the code says
 
 pub used_is_written : (t : Stated) (pattern : List (Option Obj)) (x : Basis) (args : List Obj) (r : Result Use StepStop) → has_no_blank pattern ≡ true → is_pattern t x.scope pattern ≡ true → args ≡ written pattern →
-    IfOk r (λ u. u.args ≡ args) → IfOk r (λ u. certify_all x.scope x.facts (needs_of_use t args x.scope) u.certs.items ≡ true) → IfOk r (λ u. list_all is_good_cert u.certs.items ≡ true) →
+    IfOk r (λ u. u.args ≡ args) → IfOk r (λ u. certify_all x.scope x.facts (needs_of_use t args x.scope) u.certs.items ≡ true) → IfOk r (λ u. list_all (is_cert_of version.One) u.certs.items ≡ true) →
     IfOk r (λ u. u.gives ≡ gives_of_use t args x.scope) → IfOk r (IsUse t pattern x)
 used_is_written t pattern x args (Err h) n f is a b g c = tt
 used_is_written t pattern x args (Ok u) n f is a b g c = use_written t pattern x u args n f is a b g c

@@ -1,5 +1,5 @@
 -- Blocks whose steps are licensed one after another, and what the code says of them.
-use Rattle.std.proofs.Common.{◌≡◌, ℕ, ◌+◌, ◌≤◌, ◌<◌, ◌^◌, List, [], ◌∷◌, ◌++◌, length, drop, get_or, refl, sym, ap, ◌∙◌, subst, Option, Result, Ok, Err, arith, Box, Global}
+use Rattle.std.proofs.Common.{◌≡◌, ℕ, ◌+◌, ◌-◌, ◌≤◌, ◌<◌, ◌^◌, List, [], ◌∷◌, ◌++◌, length, drop, get_or, refl, sym, ap, ◌∙◌, subst, Option, Result, Ok, Err, arith, Box, Global}
 use Rattle.std.proofs.lemmas.Grind.{common_steps}
 use Rattle.std.specs.Prelude.{IfOk, OnOk, take}
 use Rattle.e_literal.specs.declared.literal.Lit.{Lit}
@@ -32,7 +32,8 @@ use Rattle.e_prove.specs.inner.StopsOfSteps.{StepStopsAmong, UnlessNoMemory, Sto
 use Rattle.e_prove.specs.inner.PassedSteps.{IsReadyFor, IsReadyStep, IsDerived, KeepsHeld, StopsWithin, IsPassed, StepStops}
 use Rattle.e_prove.proofs.HeldStates.{after_is}
 use Rattle.e_prove.proofs.PassedSteps.{passed_none, passed_more, passed_as, stops_first, same_names}
-use Rattle.e_prove.proofs.InnerBlocks.{ClaimReady, claim_stops, passed_claim, SuperposedReady, Certifies, superposed_stops, passed_superposed, superposed_step_stops, SplitReady, split_ready, split_other, split_derives, split_first, split_second}
+use Rattle.e_prove.proofs.StopsInLists.{stop_within, before_more, stop_before}
+use Rattle.e_prove.proofs.InnerBlocks.{ClaimReady, claim_size, claim_stops, passed_claim, SuperposedReady, Certifies, superposed_size, superposed_stops, passed_superposed, superposed_step_stops, SplitReady, split_ready, split_other, split_derives, split_first, split_second}
 use Rattle.e_book.proofs.KeptBlocks.{size_split}
 
 pub on_ok : {A E : Type 0} (p : Type 0) (r : Result A E) → p → OnOk r p
@@ -54,7 +55,7 @@ parts items i d =
     let e : take i items ++ drop i items ≡ items = grind (arith, common_steps) in
     sym (steps_script-append (take i items) (drop i items) d) ∙ ap (λ xs. steps_script xs d) e
 
-whole : (items seen : List Step) (i : ℕ) (s : Step) (d : Script) → seen ≡ items → i < length seen → s ≡ get_or seen i s →
+pub whole : (items seen : List Step) (i : ℕ) (s : Step) (d : Script) → seen ≡ items → i < length seen → s ≡ get_or seen i s →
     steps_script (take i items) (step_script s (steps_script (drop (i + 1) items) d)) ≡ steps_script items d
 whole items seen i s d same lt is = ap (steps_script (take i items)) (sym (steps_at items seen d i s same lt is)) ∙ parts items i d
 
@@ -83,7 +84,7 @@ step_stops before items seen done close i s x y goal first n t same lt is p r k 
     let left = steps_script (drop (i + 1) items) close in
     let e = whole items seen i s close same lt is in
     let ready = subst (λ d. IsReadyFor before d x goal) (sym e) r in
-    subst (λ d. StopsWithin before d x goal first t) e (p.stops (step_script s left) goal t ready (k left goal (p.ready (step_script s left) goal ready)))
+    subst (λ d. StopsWithin before d x goal first t) e (p.stops (step_script s left) goal t ready (k left goal (p.ready (step_script s left) goal ready)).0)
 
 pub step_passed : (before : List Stated) (items seen done grown : List Step) (i : ℕ) (s d : Step) (x y z : StepState) (first n m : ℕ) → seen ≡ items → i < length seen → s ≡ get_or seen i s → grown ≡ done ++ d ∷ [] →
     IsPassed before (steps_script (take i items)) x first (steps_script done) y n → IsPassed before (step_script s) y n (step_script d) z m →
@@ -95,7 +96,7 @@ step_passed before items seen done grown i s d x y z first n m same lt is more p
 
 -- ---- the close of a block
 
-all_taken : (items seen : List Step) (i : ℕ) (d : Script) → seen ≡ items → length seen ≤ i → steps_script (take i items) d ≡ steps_script items d
+pub all_taken : (items seen : List Step) (i : ℕ) (d : Script) → seen ≡ items → length seen ≤ i → steps_script (take i items) d ≡ steps_script items d
 all_taken items seen i d same le =
     let e : take i seen ≡ seen = grind (arith, common_steps) in
     ap (λ xs. steps_script xs d) (subst (λ xs. take i xs ≡ xs) same e)
@@ -150,8 +151,11 @@ claim_passed before step shown seen inner x z after n o proved (Ok p) is same re
 pub claim_stopped : (before : List Stated) (step : Step) (shown : List Lit) (inner : Box Block Global) (x : StepState) (n : ℕ) (t : Stop) → step ≡ ClaimStep shown inner → ClaimReady before shown (script_of inner.value) x →
     StopsWithin before (script_of inner.value) x (goal_of shown) (n + 1) t → StepStops before step x n t
 claim_stopped before step shown inner x n t is ready k rest goal r =
-    subst (λ w. StopsWithin before w x goal n t) (sym (ap (λ s. step_script s rest) is ∙ step_script-Claim shown inner rest))
-    (claim_stops before shown (script_of inner.value) rest x goal n t ready.over k)
+    let same = ap (λ s. step_script s rest) is ∙ step_script-Claim shown inner rest in
+    let count = ap size same ∙ claim_size shown (script_of inner.value) rest in (
+      subst (λ w. StopsWithin before w x goal n t) (sym same) (claim_stops before shown (script_of inner.value) rest x goal n t ready.over k),
+      before_more (n + 1 + size (script_of inner.value)) (n + size (step_script step rest) - size rest) t (omega (arith, count)) (stop_within before (script_of inner.value) x (goal_of shown) (n + 1) t k),
+    )
 
 -- ---- a superposition
 
@@ -175,14 +179,24 @@ pub superposed_stopped : (before : List Stated) (step : Step) (form : Superpose)
     step ≡ SuperposedStep form names shown written inner → SuperposedReady before form names shown (script_of inner.value) x → Certifies form x certs →
     StopsWithin before (script_of inner.value) (after_superposed form names x) (goal_of shown) (n + 1) t → StepStops before step x n t
 superposed_stopped before step form names shown written certs inner x n t is ready cs k rest goal r =
-    subst (λ w. StopsWithin before w x goal n t) (sym (ap (λ s. step_script s rest) is ∙ step_script-Superposed form names shown written inner rest))
-    (superposed_stops before form names shown written certs (script_of inner.value) rest x goal n t ready.fits ready.over cs k)
+    let same = ap (λ s. step_script s rest) is ∙ step_script-Superposed form names shown written inner rest in
+    let count = ap size same ∙ superposed_size form names shown written (script_of inner.value) rest in (
+      subst (λ w. StopsWithin before w x goal n t) (sym same)
+          (superposed_stops before form names shown written certs (script_of inner.value) rest x goal n t ready.fits ready.over cs k),
+      before_more (n + 1 + size (script_of inner.value)) (n + size (step_script step rest) - size rest) t (omega (arith, count))
+          (stop_within before (script_of inner.value) (after_superposed form names x) (goal_of shown) (n + 1) t k),
+    )
 
 pub superposed_refused : (before : List Stated) (step : Step) (form : Superpose) (names : List (List ℕ)) (shown : List Lit) (written : List Cert) (inner : Box Block Global) (x after : StepState) (n : ℕ) (h : StepStop) (t : Stop) →
     step ≡ SuperposedStep form names shown written inner → StepStopsAmong x.context (superposing.needs form) h → UnlessNoMemory (after.names ≡ x.names) h → StopOf h n after.names t → StepStops before step x n t
 superposed_refused before step form names shown written inner x after n h t is k m e rest goal r =
-    subst (λ w. StopsWithin before w x goal n t) (sym (ap (λ s. step_script s rest) is ∙ step_script-Superposed form names shown written inner rest))
-    (stops_first before (Superposed form names shown written (script_of inner.value) rest) x goal n h t (superposed_step_stops before form names shown written (script_of inner.value) rest (Superposed form names shown written (script_of inner.value) rest) x goal h k) (same_names h n x after t m e))
+    let here = Superposed form names shown written (script_of inner.value) rest in
+    let same = ap (λ s. step_script s rest) is ∙ step_script-Superposed form names shown written inner rest in
+    let count = ap size same ∙ superposed_size form names shown written (script_of inner.value) rest in (
+      subst (λ w. StopsWithin before w x goal n t) (sym same)
+          (stops_first before here x goal n h t (superposed_step_stops before form names shown written (script_of inner.value) rest here x goal h k) (same_names h n x after t m e)),
+      stop_before h n (n + size (step_script step rest) - size rest) after.names t (omega (arith, count)) e,
+    )
 
 -- ---- a split
 

@@ -14,7 +14,8 @@ use Rattle.e_clause.proofs.Sound.{all_allowed_of_certified, contradictory_of_cer
 use Rattle.e_clause.specs.Wide.{IsTooWideContradiction}
 use Rattle.e_literal.specs.declared.object.Term.{Term}
 use Rattle.e_literal.proofs.Booleans.{and_left}
-use Rattle.e_clause.specs.Written.{is_good_cert}
+use Rattle.e_clause.specs.declared.cert.Version.TheVariants as version
+use Rattle.e_clause.specs.Versions.{is_cert_of}
 use Rattle.e_licence.specs.declared.contradiction.Refuted.{Refuted}
 use Rattle.e_licence.specs.declared.contradiction.Refuted.TheVariants as refuted
 use Rattle.e_licence.specs.Licences.{IsCertifiedAgainst, IsConsistentBy, IsRefuted}
@@ -26,7 +27,7 @@ use Rattle.e_prove.specs.inner.PassedSteps.{IsReadyFor}
 use Rattle.e_deriv.specs.Goal.{Goal, are_for, goal_with}
 use Rattle.e_deriv.specs.Parts.{filled_by}
 use Rattle.e_deriv.specs.Lines.{lines}
-use Rattle.e_deriv.specs.Written.{has_good_certs}
+use Rattle.e_deriv.specs.Versions.{has_certs_of}
 use Rattle.e_licence.specs.Contexts.{Basis}
 use Rattle.e_prove.specs.declared.step_stop.StepStop.{StepStop}
 use Rattle.e_prove.specs.declared.step_stop.StepStop.TheVariants as step_stop
@@ -49,8 +50,8 @@ unfolding close_script
 qed_fits before objects certs x goal r = qed_lines before objects certs x goal r
 
 closed_by : (before : List Stated) (objects : List Obj) (written certs : List Cert) (x : Basis) (goal : Goal) → are_for goal x.scope objects ≡ true →
-    IsTrue (certify_all x.scope x.facts (goal_with goal objects) certs) → IsTrue (list_all is_good_cert certs) → IsClosed before (QedClose objects written) x goal (QedClose objects certs)
-unfolding lines erased filled_by close_script has_good_certs
+    IsTrue (certify_all x.scope x.facts (goal_with goal objects) certs) → IsTrue (list_all (is_cert_of version.One) certs) → IsClosed before (QedClose objects written) x goal (QedClose objects certs)
+unfolding lines erased filled_by close_script has_certs_of
 closed_by before objects written certs x goal form h g =
     record {
       licensed = (record { fits = form; allowed = all_allowed_of_certified x.scope x.facts (goal_with goal objects) certs h; beside = tt }, tt);
@@ -62,7 +63,7 @@ closed_by before objects written certs x goal form h g =
 -- a qed of which each literal has its certificate
 pub closed_qed : (before : List Stated) (objects kept : List Obj) (written certs given : List Cert) (wanted : List Lit) (x : Basis) (goal : Goal) →
     kept ≡ objects → given ≡ certs → wanted ≡ goal_with goal objects → are_for goal x.scope objects ≡ true → IsTrue (certify_all x.scope x.facts wanted certs) →
-    IsTrue (list_all is_good_cert certs) → IsClosed before (QedClose objects written) x goal (QedClose kept given)
+    IsTrue (list_all (is_cert_of version.One) certs) → IsClosed before (QedClose objects written) x goal (QedClose kept given)
 closed_qed before objects kept written certs given wanted x goal same these all form h g =
     rw (same, these) (closed_by before objects written certs x goal form (subst (λ ls. certify_all x.scope x.facts ls certs ≡ true) all h) g)
 
@@ -85,7 +86,7 @@ qed_stops before objects written wanted x goal h all k = qed_stops_by before obj
 -- a contradiction with its certificate
 closed_by_against : (before : List Stated) (written : Option Against) (a : Against) (x : Basis) (goal : Goal) → IsCertifiedAgainst x a →
     IsClosed before (ContradictionClose written) x goal (ContradictionClose (Some a))
-unfolding lines erased filled_by close_script has_good_certs
+unfolding lines erased filled_by close_script has_certs_of
 closed_by_against before written a x goal h =
     record {
       licensed = (record { fits = refl; allowed = tt; beside = contradictory_of_certified x.scope x.facts a h.certifies }, tt);

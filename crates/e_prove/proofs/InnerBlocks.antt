@@ -13,9 +13,11 @@ use Rattle.e_clause.specs.declared.cert.Cert.{Cert}
 use Rattle.e_clause.specs.Certify.{certify_all}
 use Rattle.e_clause.specs.Judged.{are_good}
 use Rattle.e_clause.proofs.Sound.{all_allowed_of_certified}
-use Rattle.e_clause.specs.Written.{is_good_cert}
+use Rattle.e_clause.specs.declared.cert.Version.TheVariants as version
+use Rattle.e_clause.specs.Versions.{is_cert_of}
 use Rattle.e_construct.specs.declared.superpose.Superpose.{Superpose}
 use Rattle.e_construct.specs.Superposing as superposing
+use Rattle.e_deriv.specs.declared.names.Names.{Names}
 use Rattle.e_deriv.specs.declared.stop.Stop.{Stop}
 use Rattle.e_deriv.specs.Script.{Script, Claim, Superposed, Cases, size, erased}
 use Rattle.e_deriv.specs.Goal.{Goal, goal_of}
@@ -35,9 +37,9 @@ use Rattle.e_prove.specs.declared.step_state.StepState.{StepState}
 use Rattle.e_prove.specs.inner.StepStates.{after_literal, after_superposed, after_block}
 use Rattle.e_prove.specs.inner.StopsOfSteps.{StepStopsAt, StepStopsAmong}
 use Rattle.e_prove.specs.inner.LicensedSteps.{line_at, has_form}
-use Rattle.e_prove.specs.inner.PassedSteps.{IsReadyFor, IsDerived, StopIn, StopsWithin, IsPassed}
-use Rattle.e_prove.proofs.StopsInLists.{stop_after, stop_left, stop_right, names_length, all_both, lits_first, lits_second}
-use Rattle.e_deriv.specs.Written.{has_good_certs}
+use Rattle.e_prove.specs.inner.PassedSteps.{IsReadyFor, IsDerived, Arrival, IsReachedIn, ReachesWithin, StopsWithin, IsPassed}
+use Rattle.e_prove.proofs.StopsInLists.{reached_after, reached_left, reached_right, stops_by, names_length, all_both, lits_first, lits_second}
+use Rattle.e_deriv.specs.Versions.{has_certs_of}
 
 -- few objects are in scope before the step
 abbrev few_before : Line → Bool
@@ -88,7 +90,7 @@ claim_rest before shown inner derived rest x goal d r =
 
 claim_derives : (before : List Stated) (shown : List Lit) (inner derived rest more : Script) (x : StepState) (goal : Goal) → are_over x.context.scope shown ≡ true → IsDerived before inner x (goal_of shown) derived →
     IsDerived before rest (after_block shown x) goal more → IsDerived before (Claim shown inner rest) x goal (Claim shown derived more)
-unfolding lines erased filled_by has_good_certs
+unfolding lines erased filled_by has_certs_of
 claim_derives before shown inner derived rest more x goal over d m =
     let s = x.context.scope in
     let facts = x.context.facts in
@@ -104,11 +106,11 @@ claim_derives before shown inner derived rest more x goal over d m =
       written = and_from _ _ d.written m.written;
     }
 
--- a stop in its block
-pub claim_stops : (before : List Stated) (shown : List Lit) (inner rest : Script) (x : StepState) (goal : Goal) (n : ℕ) (stop : Stop) → are_over x.context.scope shown ≡ true →
-    StopsWithin before inner x (goal_of shown) (n + 1) stop → StopsWithin before (Claim shown inner rest) x goal n stop
+-- what is found in its block
+pub claim_reaches : (before : List Stated) (shown : List Lit) (inner rest : Script) (x : StepState) (goal : Goal) (n : ℕ) (a : Arrival) (i : ℕ) (seen : Names) → are_over x.context.scope shown ≡ true →
+    ReachesWithin before inner x (goal_of shown) (n + 1) a i seen → ReachesWithin before (Claim shown inner rest) x goal n a i seen
 unfolding lines names_lines
-claim_stops before shown inner rest x goal n stop over k =
+claim_reaches before shown inner rest x goal n a i seen over k =
     let s = x.context.scope in
     let facts = x.context.facts in
     let one = lines before inner k.filled s facts (goal_of shown) in
@@ -117,16 +119,21 @@ claim_stops before shown inner rest x goal n stop over k =
     let ms = names_lines before x.names rest in
     record {
       filled = Claim shown k.filled rest;
-      stops =
-          stop_after before (line_at (Claim shown inner rest) (Claim shown k.filled rest) x.context goal) (one ++ other) x.names (ns ++ ms) n stop (record { fits = over; allowed = tt; beside = tt })
-          (stop_left before one other ns ms (n + 1) stop k.stops);
+      reached =
+          reached_after before (line_at (Claim shown inner rest) (Claim shown k.filled rest) x.context goal) (one ++ other) x.names (ns ++ ms) n a i seen (record { fits = over; allowed = tt; beside = tt })
+          (reached_left before one other ns ms (n + 1) a i seen k.reached);
     }
 
--- a stop after it
-claim_later : (before : List Stated) (shown : List Lit) (inner derived rest : Script) (x : StepState) (goal : Goal) (n next : ℕ) (stop : Stop) → are_over x.context.scope shown ≡ true →
-    IsDerived before inner x (goal_of shown) derived → next ≡ n + 1 + size inner → StopsWithin before rest (after_block shown x) goal next stop → StopsWithin before (Claim shown inner rest) x goal n stop
+pub claim_stops : (before : List Stated) (shown : List Lit) (inner rest : Script) (x : StepState) (goal : Goal) (n : ℕ) (stop : Stop) → are_over x.context.scope shown ≡ true →
+    StopsWithin before inner x (goal_of shown) (n + 1) stop → StopsWithin before (Claim shown inner rest) x goal n stop
+claim_stops before shown inner rest x goal n stop over k =
+    stops_by before inner (Claim shown inner rest) x x (goal_of shown) goal (n + 1) n stop (λ a i seen h. claim_reaches before shown inner rest x goal n a i seen over h) k
+
+-- and after it
+pub claim_reaches_later : (before : List Stated) (shown : List Lit) (inner derived rest : Script) (x : StepState) (goal : Goal) (n next : ℕ) (a : Arrival) (i : ℕ) (seen : Names) → are_over x.context.scope shown ≡ true →
+    IsDerived before inner x (goal_of shown) derived → next ≡ n + 1 + size inner → ReachesWithin before rest (after_block shown x) goal next a i seen → ReachesWithin before (Claim shown inner rest) x goal n a i seen
 unfolding lines names_lines
-claim_later before shown inner derived rest x goal n next stop over d count k =
+claim_reaches_later before shown inner derived rest x goal n next a i seen over d count k =
     let s = x.context.scope in
     let facts = x.context.facts in
     let one = lines before inner derived s facts (goal_of shown) in
@@ -135,13 +142,18 @@ claim_later before shown inner derived rest x goal n next stop over d count k =
     let ms = names_lines before x.names rest in
     record {
       filled = Claim shown derived k.filled;
-      stops =
-          stop_after before (line_at (Claim shown inner rest) (Claim shown derived k.filled) x.context goal) (one ++ other) x.names (ns ++ ms) n stop (record { fits = over; allowed = tt; beside = tt })
-          (stop_right before one other ns ms (size inner) (n + 1) stop (lines_length before inner derived s facts (goal_of shown)) (names_length before x.names inner) d.licensed
-          (subst (λ m. StopIn before other ms m stop) count k.stops));
+      reached =
+          reached_after before (line_at (Claim shown inner rest) (Claim shown derived k.filled) x.context goal) (one ++ other) x.names (ns ++ ms) n a i seen (record { fits = over; allowed = tt; beside = tt })
+          (reached_right before one other ns ms (size inner) (n + 1) a i seen (lines_length before inner derived s facts (goal_of shown)) (names_length before x.names inner) d.licensed
+          (subst (λ m. IsReachedIn before other ms m a i seen) count k.reached));
     }
 
-claim_size : (shown : List Lit) (inner rest : Script) → size (Claim shown inner rest) ≡ 1 + size inner + size rest
+claim_later : (before : List Stated) (shown : List Lit) (inner derived rest : Script) (x : StepState) (goal : Goal) (n next : ℕ) (stop : Stop) → are_over x.context.scope shown ≡ true →
+    IsDerived before inner x (goal_of shown) derived → next ≡ n + 1 + size inner → StopsWithin before rest (after_block shown x) goal next stop → StopsWithin before (Claim shown inner rest) x goal n stop
+claim_later before shown inner derived rest x goal n next stop over d count k =
+    stops_by before rest (Claim shown inner rest) (after_block shown x) x goal goal next n stop (λ a i seen h. claim_reaches_later before shown inner derived rest x goal n next a i seen over d count h) k
+
+pub claim_size : (shown : List Lit) (inner rest : Script) → size (Claim shown inner rest) ≡ 1 + size inner + size rest
 unfolding size
 claim_size shown inner rest = refl
 
@@ -152,6 +164,7 @@ passed_claim before shown inner derived x n next over d count =
       ready = λ rest goal r. claim_rest before shown inner derived rest x goal d r;
       derives = λ rest more goal r m. claim_derives before shown inner derived rest more x goal over d m;
       stops = λ rest goal stop r k. claim_later before shown inner derived rest x goal n next stop over d count k;
+      reaches = λ rest goal a i seen r k. claim_reaches_later before shown inner derived rest x goal n next a i seen over d count k;
       number = λ rest. let e = claim_size shown inner rest in omega (arith, e, count);
       kept = refl;
     }
@@ -216,7 +229,7 @@ superposed_rest before form names shown certs inner derived rest x goal d r =
 
 -- it is certified where its needs are, by certificates that name literals that are well formed
 abbrev pub Certifies : Superpose → StepState → List Cert → Type 0
-Certifies form x certs = IsTrue (certify_all x.context.scope x.context.facts (superposing.needs form) certs) × IsTrue (list_all is_good_cert certs)
+Certifies form x certs = IsTrue (certify_all x.context.scope x.context.facts (superposing.needs form) certs) × IsTrue (list_all (is_cert_of version.One) certs)
 
 superposed_licensed : (before : List Stated) (form : Superpose) (names : List (List ℕ)) (shown : List Lit) (written certs : List Cert) (inner rest f : Script) (x : StepState) (goal : Goal) →
     superposing.fits form x.context.scope ≡ true → are_over x.context.scope shown ≡ true → Certifies form x certs →
@@ -227,7 +240,7 @@ superposed_licensed before form names shown written certs inner rest f x goal fi
 superposed_derives : (before : List Stated) (form : Superpose) (names : List (List ℕ)) (shown : List Lit) (written certs : List Cert) (inner derived rest more : Script) (x : StepState) (goal : Goal) →
     superposing.fits form x.context.scope ≡ true → are_over x.context.scope shown ≡ true → Certifies form x certs → IsDerived before inner (after_superposed form names x) (goal_of shown) derived →
     IsDerived before rest (after_block shown x) goal more → IsDerived before (Superposed form names shown written inner rest) x goal (Superposed form names shown certs derived more)
-unfolding lines erased filled_by has_good_certs
+unfolding lines erased filled_by has_certs_of
 superposed_derives before form names shown written certs inner derived rest more x goal fit over c d m =
     let s = x.context.scope in
     let facts = x.context.facts in
@@ -245,12 +258,12 @@ superposed_derives before form names shown written certs inner derived rest more
       written = and_from _ _ c.1 (and_from _ _ d.written m.written);
     }
 
--- a stop in its block
-pub superposed_stops : (before : List Stated) (form : Superpose) (names : List (List ℕ)) (shown : List Lit) (written certs : List Cert) (inner rest : Script) (x : StepState) (goal : Goal) (n : ℕ) (stop : Stop) →
+-- what is found in its block, and after it
+pub superposed_reaches : (before : List Stated) (form : Superpose) (names : List (List ℕ)) (shown : List Lit) (written certs : List Cert) (inner rest : Script) (x : StepState) (goal : Goal) (n : ℕ) (a : Arrival) (i : ℕ) (seen : Names) →
     superposing.fits form x.context.scope ≡ true → are_over x.context.scope shown ≡ true → Certifies form x certs →
-    StopsWithin before inner (after_superposed form names x) (goal_of shown) (n + 1) stop → StopsWithin before (Superposed form names shown written inner rest) x goal n stop
+    ReachesWithin before inner (after_superposed form names x) (goal_of shown) (n + 1) a i seen → ReachesWithin before (Superposed form names shown written inner rest) x goal n a i seen
 unfolding lines names_lines
-superposed_stops before form names shown written certs inner rest x goal n stop fit over c k =
+superposed_reaches before form names shown written certs inner rest x goal n a i seen fit over c k =
     let s = x.context.scope in
     let facts = x.context.facts in
     let t = grown s superposing.made in
@@ -262,16 +275,22 @@ superposed_stops before form names shown written certs inner rest x goal n stop 
     let f = Superposed form names shown certs k.filled rest in
     record {
       filled = f;
-      stops =
-          stop_after before (line_at (Superposed form names shown written inner rest) f x.context goal) (one ++ other) x.names (ns ++ ms) n stop
-          (superposed_licensed before form names shown written certs inner rest f x goal fit over c) (stop_left before one other ns ms (n + 1) stop k.stops);
+      reached =
+          reached_after before (line_at (Superposed form names shown written inner rest) f x.context goal) (one ++ other) x.names (ns ++ ms) n a i seen
+          (superposed_licensed before form names shown written certs inner rest f x goal fit over c) (reached_left before one other ns ms (n + 1) a i seen k.reached);
     }
 
-superposed_later : (before : List Stated) (form : Superpose) (names : List (List ℕ)) (shown : List Lit) (written certs : List Cert) (inner derived rest : Script) (x : StepState) (goal : Goal) (n next : ℕ) (stop : Stop) →
+pub superposed_stops : (before : List Stated) (form : Superpose) (names : List (List ℕ)) (shown : List Lit) (written certs : List Cert) (inner rest : Script) (x : StepState) (goal : Goal) (n : ℕ) (stop : Stop) →
+    superposing.fits form x.context.scope ≡ true → are_over x.context.scope shown ≡ true → Certifies form x certs →
+    StopsWithin before inner (after_superposed form names x) (goal_of shown) (n + 1) stop → StopsWithin before (Superposed form names shown written inner rest) x goal n stop
+superposed_stops before form names shown written certs inner rest x goal n stop fit over c k =
+    stops_by before inner (Superposed form names shown written inner rest) (after_superposed form names x) x (goal_of shown) goal (n + 1) n stop (λ a i seen h. superposed_reaches before form names shown written certs inner rest x goal n a i seen fit over c h) k
+
+pub superposed_reaches_later : (before : List Stated) (form : Superpose) (names : List (List ℕ)) (shown : List Lit) (written certs : List Cert) (inner derived rest : Script) (x : StepState) (goal : Goal) (n next : ℕ) (a : Arrival) (i : ℕ) (seen : Names) →
     superposing.fits form x.context.scope ≡ true → are_over x.context.scope shown ≡ true → Certifies form x certs → IsDerived before inner (after_superposed form names x) (goal_of shown) derived →
-    next ≡ n + 1 + size inner → StopsWithin before rest (after_block shown x) goal next stop → StopsWithin before (Superposed form names shown written inner rest) x goal n stop
+    next ≡ n + 1 + size inner → ReachesWithin before rest (after_block shown x) goal next a i seen → ReachesWithin before (Superposed form names shown written inner rest) x goal n a i seen
 unfolding lines names_lines
-superposed_later before form names shown written certs inner derived rest x goal n next stop fit over c d count k =
+superposed_reaches_later before form names shown written certs inner derived rest x goal n next a i seen fit over c d count k =
     let s = x.context.scope in
     let facts = x.context.facts in
     let t = grown s superposing.made in
@@ -284,14 +303,20 @@ superposed_later before form names shown written certs inner derived rest x goal
     let f = Superposed form names shown certs derived k.filled in
     record {
       filled = f;
-      stops =
-          stop_after before (line_at (Superposed form names shown written inner rest) f x.context goal) (one ++ other) x.names (ns ++ ms) n stop
+      reached =
+          reached_after before (line_at (Superposed form names shown written inner rest) f x.context goal) (one ++ other) x.names (ns ++ ms) n a i seen
           (superposed_licensed before form names shown written certs inner rest f x goal fit over c)
-          (stop_right before one other ns ms (size inner) (n + 1) stop (lines_length before inner derived t given (goal_of shown)) (names_length before inside inner) d.licensed
-          (subst (λ m. StopIn before other ms m stop) count k.stops));
+          (reached_right before one other ns ms (size inner) (n + 1) a i seen (lines_length before inner derived t given (goal_of shown)) (names_length before inside inner) d.licensed
+          (subst (λ m. IsReachedIn before other ms m a i seen) count k.reached));
     }
 
-superposed_size : (form : Superpose) (names : List (List ℕ)) (shown : List Lit) (certs : List Cert) (inner rest : Script) → size (Superposed form names shown certs inner rest) ≡ 1 + size inner + size rest
+superposed_later : (before : List Stated) (form : Superpose) (names : List (List ℕ)) (shown : List Lit) (written certs : List Cert) (inner derived rest : Script) (x : StepState) (goal : Goal) (n next : ℕ) (stop : Stop) →
+    superposing.fits form x.context.scope ≡ true → are_over x.context.scope shown ≡ true → Certifies form x certs → IsDerived before inner (after_superposed form names x) (goal_of shown) derived →
+    next ≡ n + 1 + size inner → StopsWithin before rest (after_block shown x) goal next stop → StopsWithin before (Superposed form names shown written inner rest) x goal n stop
+superposed_later before form names shown written certs inner derived rest x goal n next stop fit over c d count k =
+    stops_by before rest (Superposed form names shown written inner rest) (after_block shown x) x goal goal next n stop (λ a i seen h. superposed_reaches_later before form names shown written certs inner derived rest x goal n next a i seen fit over c d count h) k
+
+pub superposed_size : (form : Superpose) (names : List (List ℕ)) (shown : List Lit) (certs : List Cert) (inner rest : Script) → size (Superposed form names shown certs inner rest) ≡ 1 + size inner + size rest
 unfolding size
 superposed_size form names shown certs inner rest = refl
 
@@ -303,6 +328,7 @@ passed_superposed before form names shown written certs inner derived x n next f
       ready = λ rest goal r. superposed_rest before form names shown written inner derived rest x goal d r;
       derives = λ rest more goal r m. superposed_derives before form names shown written certs inner derived rest more x goal fit over c d m;
       stops = λ rest goal stop r k. superposed_later before form names shown written certs inner derived rest x goal n next stop fit over c d count k;
+      reaches = λ rest goal a i seen r k. superposed_reaches_later before form names shown written certs inner derived rest x goal n next a i seen fit over c d count k;
       number = λ rest. let e = superposed_size form names shown written inner rest in omega (arith, e, count);
       kept = refl;
     }
@@ -363,7 +389,7 @@ split_other before lit first second derived x goal d r =
 
 pub split_derives : (before : List Stated) (lit : Lit) (first second one other : Script) (x : StepState) (goal : Goal) → all_in_scope x.context.scope lit ≡ true → IsDerived before first (after_literal lit x) goal one →
     IsDerived before second (after_literal (negation lit) x) goal other → IsDerived before (Cases lit first second) x goal (Cases lit one other)
-unfolding lines erased filled_by has_good_certs
+unfolding lines erased filled_by has_certs_of
 split_derives before lit first second one other x goal over d e =
     let s = x.context.scope in
     let facts = x.context.facts in
@@ -379,11 +405,11 @@ split_derives before lit first second one other x goal over d e =
       written = and_from _ _ d.written e.written;
     }
 
--- a stop in the first block
-pub split_first : (before : List Stated) (lit : Lit) (first second : Script) (x : StepState) (goal : Goal) (n : ℕ) (stop : Stop) → all_in_scope x.context.scope lit ≡ true →
-    StopsWithin before first (after_literal lit x) goal (n + 1) stop → StopsWithin before (Cases lit first second) x goal n stop
+-- what is found in the first block
+pub split_reaches_first : (before : List Stated) (lit : Lit) (first second : Script) (x : StepState) (goal : Goal) (n : ℕ) (a : Arrival) (i : ℕ) (seen : Names) → all_in_scope x.context.scope lit ≡ true →
+    ReachesWithin before first (after_literal lit x) goal (n + 1) a i seen → ReachesWithin before (Cases lit first second) x goal n a i seen
 unfolding lines names_lines
-split_first before lit first second x goal n stop over k =
+split_reaches_first before lit first second x goal n a i seen over k =
     let s = x.context.scope in
     let facts = x.context.facts in
     let one = lines before first k.filled s (joined facts lit) goal in
@@ -393,17 +419,22 @@ split_first before lit first second x goal n stop over k =
     let f = Cases lit k.filled second in
     record {
       filled = f;
-      stops =
-          stop_after before (line_at (Cases lit first second) f x.context goal) (one ++ other) x.names (ns ++ ms) n stop (record { fits = over; allowed = tt; beside = tt })
-          (stop_left before one other ns ms (n + 1) stop k.stops);
+      reached =
+          reached_after before (line_at (Cases lit first second) f x.context goal) (one ++ other) x.names (ns ++ ms) n a i seen (record { fits = over; allowed = tt; beside = tt })
+          (reached_left before one other ns ms (n + 1) a i seen k.reached);
     }
 
+pub split_first : (before : List Stated) (lit : Lit) (first second : Script) (x : StepState) (goal : Goal) (n : ℕ) (stop : Stop) → all_in_scope x.context.scope lit ≡ true →
+    StopsWithin before first (after_literal lit x) goal (n + 1) stop → StopsWithin before (Cases lit first second) x goal n stop
+split_first before lit first second x goal n stop over k =
+    stops_by before first (Cases lit first second) (after_literal lit x) x goal goal (n + 1) n stop (λ a i seen h. split_reaches_first before lit first second x goal n a i seen over h) k
+
 -- and in the second, where the first is derived
-pub split_second : (before : List Stated) (lit : Lit) (first second derived : Script) (x : StepState) (goal : Goal) (n next : ℕ) (stop : Stop) → all_in_scope x.context.scope lit ≡ true →
-    IsDerived before first (after_literal lit x) goal derived → next ≡ n + 1 + size first → StopsWithin before second (after_literal (negation lit) x) goal next stop →
-    StopsWithin before (Cases lit first second) x goal n stop
+pub split_reaches_second : (before : List Stated) (lit : Lit) (first second derived : Script) (x : StepState) (goal : Goal) (n next : ℕ) (a : Arrival) (i : ℕ) (seen : Names) → all_in_scope x.context.scope lit ≡ true →
+    IsDerived before first (after_literal lit x) goal derived → next ≡ n + 1 + size first → ReachesWithin before second (after_literal (negation lit) x) goal next a i seen →
+    ReachesWithin before (Cases lit first second) x goal n a i seen
 unfolding lines names_lines
-split_second before lit first second derived x goal n next stop over d count k =
+split_reaches_second before lit first second derived x goal n next a i seen over d count k =
     let s = x.context.scope in
     let facts = x.context.facts in
     let one = lines before first derived s (joined facts lit) goal in
@@ -413,8 +444,14 @@ split_second before lit first second derived x goal n next stop over d count k =
     let f = Cases lit derived k.filled in
     record {
       filled = f;
-      stops =
-          stop_after before (line_at (Cases lit first second) f x.context goal) (one ++ other) x.names (ns ++ ms) n stop (record { fits = over; allowed = tt; beside = tt })
-          (stop_right before one other ns ms (size first) (n + 1) stop (lines_length before first derived s (joined facts lit) goal) (names_length before x.names first) d.licensed
-          (subst (λ m. StopIn before other ms m stop) count k.stops));
+      reached =
+          reached_after before (line_at (Cases lit first second) f x.context goal) (one ++ other) x.names (ns ++ ms) n a i seen (record { fits = over; allowed = tt; beside = tt })
+          (reached_right before one other ns ms (size first) (n + 1) a i seen (lines_length before first derived s (joined facts lit) goal) (names_length before x.names first) d.licensed
+          (subst (λ m. IsReachedIn before other ms m a i seen) count k.reached));
     }
+
+pub split_second : (before : List Stated) (lit : Lit) (first second derived : Script) (x : StepState) (goal : Goal) (n next : ℕ) (stop : Stop) → all_in_scope x.context.scope lit ≡ true →
+    IsDerived before first (after_literal lit x) goal derived → next ≡ n + 1 + size first → StopsWithin before second (after_literal (negation lit) x) goal next stop →
+    StopsWithin before (Cases lit first second) x goal n stop
+split_second before lit first second derived x goal n next stop over d count k =
+    stops_by before second (Cases lit first second) (after_literal (negation lit) x) x goal goal next n stop (λ a i seen h. split_reaches_second before lit first second derived x goal n next a i seen over d count h) k

@@ -17,16 +17,17 @@ use Rattle.e_deriv.specs.Parts.{filled_by}
 use Rattle.e_deriv.specs.Lines.{lines}
 use Rattle.e_deriv.specs.Steps.{is_cited}
 use Rattle.e_deriv.specs.Naming.{names_lines}
-use Rattle.e_clause.specs.Written.{is_good_cert}
+use Rattle.e_clause.specs.declared.cert.Version.TheVariants as version
+use Rattle.e_clause.specs.Versions.{is_cert_of}
 use Rattle.e_prove.specs.declared.step_state.StepState.{StepState}
 use Rattle.e_prove.specs.inner.StepStates.{after_literal, after_make}
 use Rattle.e_prove.specs.inner.LicensedSteps.{IsLicensedStep}
-use Rattle.e_deriv.specs.Written.{has_good_certs}
+use Rattle.e_deriv.specs.Versions.{has_certs_of}
 
 -- ---- a citation
 
 licensed_by : (before : List Stated) (by : By) (x : StepState) → is_cited x.context.facts by ≡ true → IsLicensedStep before (CiteStep by) x (CiteStep by) (after_literal by.lit x)
-unfolding lines erased filled_by names_lines step_script has_good_certs
+unfolding lines erased filled_by names_lines step_script has_certs_of
 licensed_by before by x h =
     record {
       licensed = λ rest more goal form. record { fits = form; allowed = tt; beside = h };
@@ -45,9 +46,9 @@ licensed_cite before by derived x after same h gives = rw (same, gives) (license
 
 -- ---- a hence
 
-licensed_by_cert : (before : List Stated) (lit : Lit) (written : Option Cert) (cert : Cert) (x : StepState) → IsTrue (certifies x.context.scope x.context.facts lit cert) → IsTrue (is_good_cert cert) →
+licensed_by_cert : (before : List Stated) (lit : Lit) (written : Option Cert) (cert : Cert) (x : StepState) → IsTrue (certifies x.context.scope x.context.facts lit cert) → IsTrue (is_cert_of version.One cert) →
     IsLicensedStep before (HenceStep lit written) x (HenceStep lit (Some cert)) (after_literal lit x)
-unfolding lines erased filled_by names_lines step_script has_good_certs
+unfolding lines erased filled_by names_lines step_script has_certs_of
 licensed_by_cert before lit written cert x h g =
     record {
       licensed = λ rest more goal form. record { fits = form; allowed = (allowed_of_certified x.context.scope x.context.facts lit cert h, tt); beside = tt };
@@ -61,15 +62,15 @@ licensed_by_cert before lit written cert x h g =
     }
 
 pub licensed_hence : (before : List Stated) (lit derived : Lit) (written : Option Cert) (cert : Cert) (x after : StepState) → derived ≡ lit →
-    IsTrue (certifies x.context.scope x.context.facts lit cert) → IsTrue (is_good_cert cert) → after ≡ after_literal lit x →
+    IsTrue (certifies x.context.scope x.context.facts lit cert) → IsTrue (is_cert_of version.One cert) → after ≡ after_literal lit x →
     IsLicensedStep before (HenceStep lit written) x (HenceStep derived (Some cert)) after
 licensed_hence before lit derived written cert x after same h g gives = rw (same, gives) (licensed_by_cert before lit written cert x h g)
 
 -- ---- a construction
 
 licensed_by_certs : (before : List Stated) (form : Construction) (names : List (List ℕ)) (written certs : List Cert) (x : StepState) → IsTrue (certify_all x.context.scope x.context.facts (needs form) certs) →
-    IsTrue (list_all is_good_cert certs) → IsLicensedStep before (MakeStep form names written) x (MakeStep form names certs) (after_make form names x)
-unfolding lines erased filled_by names_lines step_script has_good_certs
+    IsTrue (list_all (is_cert_of version.One) certs) → IsLicensedStep before (MakeStep form names written) x (MakeStep form names certs) (after_make form names x)
+unfolding lines erased filled_by names_lines step_script has_certs_of
 licensed_by_certs before form names written certs x h g =
     record {
       licensed = λ rest more goal fit. record { fits = fit; allowed = all_allowed_of_certified x.context.scope x.context.facts (needs form) certs h; beside = tt };
@@ -83,7 +84,7 @@ licensed_by_certs before form names written certs x h g =
     }
 
 pub licensed_make : (before : List Stated) (form derived : Construction) (names kept : List (List ℕ)) (written certs given : List Cert) (needed : List Lit) (x after : StepState) →
-    derived ≡ form → kept ≡ names → given ≡ certs → needed ≡ needs form → IsTrue (certify_all x.context.scope x.context.facts needed certs) → IsTrue (list_all is_good_cert certs) → after ≡ after_make form names x →
+    derived ≡ form → kept ≡ names → given ≡ certs → needed ≡ needs form → IsTrue (certify_all x.context.scope x.context.facts needed certs) → IsTrue (list_all (is_cert_of version.One) certs) → after ≡ after_make form names x →
     IsLicensedStep before (MakeStep form names written) x (MakeStep derived kept given) after
 licensed_make before form derived names kept written certs given needed x after same these those all h g gives =
     rw (same, these, those, gives) (licensed_by_certs before form names written certs x (subst (λ ls. certify_all x.context.scope x.context.facts ls certs ≡ true) all h) g)

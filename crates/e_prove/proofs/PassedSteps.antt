@@ -1,5 +1,5 @@
 -- What is licensed step by step, whatever comes after it.
-use Rattle.std.proofs.Common.{◌≡◌, ℕ, ◌+◌, List, ◌∷◌, refl, sym, ap, ◌∙◌, subst, Bool, true, Result, Ok, Err, arith}
+use Rattle.std.proofs.Common.{◌≡◌, ℕ, ◌+◌, ◌-◌, ◌<◌, List, ◌∷◌, refl, sym, ap, ◌∙◌, subst, Bool, true, Result, Ok, Err, arith}
 use Rattle.std.specs.Prelude.{IfOk, IfErr}
 use Rattle.std.specs.List.{list_all}
 use Rattle.std.proofs.lemmas.Bool.{and_from}
@@ -8,6 +8,7 @@ use Rattle.e_literal.specs.declared.literal.Lit.{Lit}
 use Rattle.e_literal.specs.Use.{Stated}
 use Rattle.e_literal.proofs.Booleans.{and_left, and_right}
 use Rattle.e_deriv.specs.declared.block.Step.{Step}
+use Rattle.e_deriv.specs.declared.block.Step.TheVariants as steps
 use Rattle.e_deriv.specs.declared.block.Close.{Close}
 use Rattle.e_deriv.specs.declared.names.Names.{Names}
 use Rattle.e_deriv.specs.declared.stop.Stop.{Stop}
@@ -26,13 +27,13 @@ use Rattle.e_prove.specs.declared.block.ProvedStep.{ProvedStep}
 use Rattle.e_prove.specs.declared.block.ProvedClose.{ProvedClose}
 use Rattle.e_prove.specs.inner.StopsOfSteps.{StepStopsAt, UnlessNoMemory, StopOf, IsWithNumber}
 use Rattle.e_prove.specs.inner.LicensedSteps.{IsLicensedStep, IsStopOfStep, IsClosed, IsStopOfClose, line_at, lines_at, has_form}
-use Rattle.e_prove.specs.inner.PassedSteps.{IsReadyFor, IsDerived, KeepsHeld, StopIn, StopsWithin, IsPassed, StepStops}
-use Rattle.e_prove.proofs.StopsInLists.{stop_after, stop_first, tests_again, form_is_blind, scope_is_blind}
+use Rattle.e_prove.specs.inner.PassedSteps.{IsReadyFor, IsDerived, KeepsHeld, Arrival, Stands, IsReachedIn, StopIn, ReachesWithin, Reaches, StopsWithin, IsPassed, StepStops}
+use Rattle.e_prove.proofs.StopsInLists.{reached_first, reached_after, stop_first, stops_by, stop_before, tests_again, form_is_blind, scope_is_blind}
 
 -- ---- nothing licensed yet, and one thing after another
 
 pub passed_none : (before : List Stated) (x : StepState) (n : ℕ) → KeepsHeld x x → IsPassed before (λ d. d) x n (λ d. d) x n
-passed_none before x n k = record { ready = λ rest goal r. r; derives = λ rest more goal r d. d; stops = λ rest goal s r h. h; number = λ rest. refl; kept = k }
+passed_none before x n k = record { ready = λ rest goal r. r; derives = λ rest more goal r d. d; stops = λ rest goal s r h. h; reaches = λ rest goal a i names r h. h; number = λ rest. refl; kept = k }
 
 pub passed_more : (before : List Stated) (f f' g g' : Script → Script) (x y z : StepState) (n m k : ℕ) → KeepsHeld x z → IsPassed before f x n f' y m → IsPassed before g y m g' z k →
     IsPassed before (λ d. f (g d)) x n (λ d. f' (g' d)) z k
@@ -41,6 +42,7 @@ passed_more before f f' g g' x y z n m k kept a b =
       ready = λ rest goal r. b.ready rest goal (a.ready (g rest) goal r);
       derives = λ rest more goal r d. a.derives (g rest) (g' more) goal r (b.derives rest more goal (a.ready (g rest) goal r) d);
       stops = λ rest goal s r h. a.stops (g rest) goal s r (b.stops rest goal s (a.ready (g rest) goal r) h);
+      reaches = λ rest goal v i names r h. a.reaches (g rest) goal v i names r (b.reaches rest goal v i names (a.ready (g rest) goal r) h);
       number = λ rest. a.number (g rest) ∙ b.number rest;
       kept = kept;
     }
@@ -55,6 +57,8 @@ passed_as before f f' g g' x y n m e e' a =
           (subst (IsDerived before (f rest) x goal) (e' more) (a.derives rest more goal (subst (λ w. IsReadyFor before w x goal) (sym (e rest)) r) d));
       stops = λ rest goal s r h.
           subst (λ w. StopsWithin before w x goal n s) (e rest) (a.stops rest goal s (subst (λ w. IsReadyFor before w x goal) (sym (e rest)) r) h);
+      reaches = λ rest goal v i names r h.
+          subst (λ w. ReachesWithin before w x goal n v i names) (e rest) (a.reaches rest goal v i names (subst (λ w. IsReadyFor before w x goal) (sym (e rest)) r) h);
       number = λ rest. ap (λ w. n + size w) (sym (e rest)) ∙ a.number rest;
       kept = a.kept;
     }
@@ -76,6 +80,23 @@ pub has_form_first : (before : List Stated) (d f : Script) (x : StepState) (goal
 has_form_first before d f x goal xs e r =
     first_is (has_form before) (line_at d f x.context goal) xs (lines_at before d f x.context goal) e
     (tests_again before (has_form before) (form_is_blind before) d f d x.context.scope x.context.facts x.context.facts goal ∙ r.forms)
+
+-- what is found after a licensed step
+licensed_reaches : (before : List Stated) (step derived : Step) (x after : StepState) (n : ℕ) (rest : Script) (goal : Goal) (a : Arrival) (i : ℕ) (names : Names) → IsLicensedStep before step x derived after →
+    IsReadyFor before (step_script step rest) x goal → ReachesWithin before rest after goal (n + 1) a i names → ReachesWithin before (step_script step rest) x goal n a i names
+licensed_reaches before step derived x after n rest goal a i names j r h =
+    let e = step_script step rest in
+    let f = step_script derived h.filled in
+    let y = line_at e f x.context goal in
+    let ys = lines_at before rest h.filled after.context goal in
+    let form = has_form_first before e f x goal ys (j.next rest h.filled goal) r in
+    record {
+      filled = f;
+      reached =
+          subst (λ xs. IsReachedIn before xs (names_lines before x.names e) n a i names) (sym (j.next rest h.filled goal))
+          (subst (λ ns. IsReachedIn before (y ∷ ys) ns n a i names) (sym (j.named rest))
+          (reached_after before y ys x.names (names_lines before after.names rest) n a i names (j.licensed rest h.filled goal form) h.reached));
+    }
 
 pub passed_of_licensed : (before : List Stated) (step derived : Step) (x after : StepState) (n : ℕ) → ((rest : Script) → size (step_script step rest) ≡ 1 + size rest) → IsLicensedStep before step x derived after →
     IsPassed before (step_script step) x n (step_script derived) after (n + 1)
@@ -109,21 +130,23 @@ passed_of_licensed before step derived x after n one j =
             written = j.written more d.written;
           };
       stops = λ rest goal s r h.
-          let e = step_script step rest in
-          let f = step_script derived h.filled in
-          let y = line_at e f x.context goal in
-          let ys = lines_at before rest h.filled after.context goal in
-          let form = has_form_first before e f x goal ys (j.next rest h.filled goal) r in
-          record {
-            filled = f;
-            stops =
-                subst (λ xs. StopIn before xs (names_lines before x.names e) n s) (sym (j.next rest h.filled goal))
-                (subst (λ ns. StopIn before (y ∷ ys) ns n s) (sym (j.named rest))
-                (stop_after before y ys x.names (names_lines before after.names rest) n s (j.licensed rest h.filled goal form) h.stops));
-          };
+          stops_by before rest (step_script step rest) after x goal goal (n + 1) n s (λ a i names k. licensed_reaches before step derived x after n rest goal a i names j r k) h;
+      reaches = λ rest goal a i names r h. licensed_reaches before step derived x after n rest goal a i names j r h;
       number = λ rest. let e = one rest in omega (arith, e);
       kept = j.kept;
     }
+
+-- ---- how many steps a step has
+
+-- it is longer with a step before it
+size_more : (step : Step) (rest : Script) → size rest < size (step_script step rest)
+unfolding step_script size
+size_more (steps.Cite by) rest = omega arith
+size_more (steps.Hence lit cert) rest = omega arith
+size_more (steps.Make form names certs) rest = omega arith
+size_more (steps.Apply theorem args names certs) rest = omega arith
+size_more (steps.Claim' shown p0 n0 row0 close0) rest = omega arith
+size_more (steps.Superposed' form names shown certs p0 n0 row0 close0) rest = omega arith
 
 -- ---- what a step that stops is answered as
 
@@ -163,6 +186,20 @@ stops_first before here x goal n h s k e =
       stops =
           subst (λ xs. StopIn before xs (names_lines before x.names here) n s) (sym a.1)
           (subst (λ ns. StopIn before (y ∷ a.0) ns n s) (sym b.1) (stop_first before y a.0 x.names b.0 n h s k e));
+    }
+
+-- before the first step of a script this holds
+pub reaches_first : (before : List Stated) (here : Script) (x : StepState) (goal : Goal) (n : ℕ) → Reaches before here x goal n n x
+reaches_first before here x goal n =
+    let a = lines_begin before here here x.context.scope x.context.facts goal in
+    let b = names_begin before x.names here in
+    let y = line_at here here x.context goal in
+    let at = Stands x.context.scope x.context.facts in
+    record {
+      filled = here;
+      reached =
+          subst (λ xs. IsReachedIn before xs (names_lines before x.names here) n at n x.names) (sym a.1)
+          (subst (λ ns. IsReachedIn before (y ∷ a.0) ns n at n x.names) (sym b.1) (reached_first before y a.0 x.names b.0 n at (refl, refl)));
     }
 
 -- out of memory stops anywhere
@@ -212,9 +249,17 @@ pub numbered_stops : (before : List Stated) (step : Step) (x after : StepState) 
 numbered_stops before step x after n answered (Ok p) k m e = tt
 numbered_stops before step x after n (Ok d) (Err (stop.Unlicensed a b c f)) k m e = absurd e
 numbered_stops before step x after n (Ok d) (Err (stop.TooWide a b c f)) k m e = absurd e
-numbered_stops before step x after n (Ok d) (Err stop.NoMemory) k m e = λ rest goal r. stops_for_memory before (step_script step rest) x goal n
+numbered_stops before step x after n (Ok d) (Err stop.NoMemory) k m e = λ rest goal r. (stops_for_memory before (step_script step rest) x goal n, tt)
 numbered_stops before step x after n (Err h) (Err s) k m e =
-    λ rest goal r. stops_first before (step_script step rest) x goal n h s (k rest (step_script step rest) goal) (names_kept h n x after s m e)
+    λ rest goal r. (
+      stops_first before (step_script step rest) x goal n h s (k rest (step_script step rest) goal) (names_kept h n x after s m e),
+      stop_before h n (n + size (step_script step rest) - size rest) after.names s (let more = size_more step rest in omega (arith, more)) e,
+    )
+
+-- out of memory stops any step
+pub step_stops_as_memory : (before : List Stated) (step : Step) (x : StepState) (n : ℕ) {A : Type 0} (r : Result A Stop) → IfErr r (λ s. s ≡ stop.NoMemory) → IfErr r (StepStops before step x n)
+step_stops_as_memory before step x n (Ok a) e = tt
+step_stops_as_memory before step x n (Err s) e = subst (StepStops before step x n) (sym e) (λ rest goal r. (stops_for_memory before (step_script step rest) x goal n, tt))
 
 -- and of a close that has no block inside
 pub numbered_closed : (before : List Stated) (close : Close) (x : StepState) (goal : Goal) (answered : Result Close StepStop) (r : Result ProvedClose Stop) → IfOk answered (λ d. IsClosed before close x.context goal d) →

@@ -1,5 +1,5 @@
 -- Lists of steps, one after the other, and where licensing stops in them.
-use Rattle.std.proofs.Common.{◌≡◌, ℕ, zero, suc, ◌+◌, List, [], ◌∷◌, ◌++◌, length, refl, sym, ap, ap₂, ◌∙◌, subst, Bool, true, ◌&&◌, Some, arith, length-append}
+use Rattle.std.proofs.Common.{◌≡◌, ℕ, zero, suc, ◌+◌, ◌<◌, ◌≤◌, List, [], ◌∷◌, ◌++◌, length, refl, sym, ap, ap₂, ◌∙◌, subst, Bool, true, ◌&&◌, Some, arith, length-append}
 use Rattle.std.specs.Prelude.{take, slice_get}
 use Rattle.std.specs.List.{list_all}
 use Rattle.std.proofs.lemmas.List.Folds.{list_all-append}
@@ -24,11 +24,14 @@ use Rattle.e_deriv.specs.Naming.{named, names_lines}
 use Rattle.e_deriv.specs.Licensed.{Licensed, AllLicensed}
 use Rattle.e_deriv.specs.Fitting.{LitsFit, is_small}
 use Rattle.e_deriv.proofs.Agreement.{both_licensed}
+use Rattle.e_deriv.proofs.Stops.{lines_length}
+use Rattle.e_prove.specs.declared.step_state.StepState.{StepState}
 use Rattle.e_prove.specs.declared.step_stop.StepStop.{StepStop}
 use Rattle.e_prove.specs.declared.step_stop.StepStop.TheVariants as step_stop
 use Rattle.e_prove.specs.inner.StopsOfSteps.{StepStopsAt, StopOf, stop_of}
 use Rattle.e_prove.specs.inner.LicensedSteps.{has_form}
-use Rattle.e_prove.specs.inner.PassedSteps.{StepStopIn, StopIn}
+use Rattle.e_prove.specs.Stops.{IsStopBefore}
+use Rattle.e_prove.specs.inner.PassedSteps.{Arrival, Halts, ArrivesAt, IsReachedIn, StopIn, ReachesWithin, StopsWithin}
 
 -- ---- places
 
@@ -52,74 +55,100 @@ take_right [] ys p q e = ap (λ n. take n ys) (omega (arith, e))
 take_right (a ∷ xs) ys p zero e = absurd (omega (arith, e))
 take_right (a ∷ xs) ys p (suc q) e = ap (λ zs. a ∷ zs) (take_right xs ys p q (omega (arith, e)))
 
--- ---- stops
+-- ---- what is found at a step
 
 -- at the first step
-pub step_stop_first : (before : List Stated) (x : Line) (xs : List Line) (m : Names) (ns : List Names) (first : ℕ) (h : StepStop) → StepStopsAt before x h → StepStopIn before (x ∷ xs) (m ∷ ns) first h first m
-step_stop_first before x xs m ns first h k = record { place = 0; number = omega arith; line = x; at = refl; earlier = tt; stops_at = k; named = refl }
+pub reached_first : (before : List Stated) (x : Line) (xs : List Line) (m : Names) (ns : List Names) (first : ℕ) (a : Arrival) → ArrivesAt before x a → IsReachedIn before (x ∷ xs) (m ∷ ns) first a first m
+reached_first before x xs m ns first a k = record { place = 0; number = omega arith; line = x; at = refl; earlier = tt; arrives = k; named = refl }
 
 -- after a step that is licensed
-step_stop_after : (before : List Stated) (x : Line) (xs : List Line) (m : Names) (ns : List Names) (first : ℕ) (h : StepStop) (n : ℕ) (names : Names) →
-    Licensed before x → StepStopIn before xs ns (first + 1) h n names → StepStopIn before (x ∷ xs) (m ∷ ns) first h n names
-step_stop_after before x xs m ns first h n names l k =
-    record { place = suc k.place; number = omega (arith, k.number); line = k.line; at = k.at; earlier = (l, k.earlier); stops_at = k.stops_at; named = k.named }
+pub reached_after : (before : List Stated) (x : Line) (xs : List Line) (m : Names) (ns : List Names) (first : ℕ) (a : Arrival) (n : ℕ) (names : Names) →
+    Licensed before x → IsReachedIn before xs ns (first + 1) a n names → IsReachedIn before (x ∷ xs) (m ∷ ns) first a n names
+reached_after before x xs m ns first a n names l k =
+    record { place = suc k.place; number = omega (arith, k.number); line = k.line; at = k.at; earlier = (l, k.earlier); arrives = k.arrives; named = k.named }
 
 -- in the first of two lists
-step_stop_left : (before : List Stated) (xs ys : List Line) (ns ms : List Names) (first : ℕ) (h : StepStop) (n : ℕ) (names : Names) →
-    StepStopIn before xs ns first h n names → StepStopIn before (xs ++ ys) (ns ++ ms) first h n names
-step_stop_left before xs ys ns ms first h n names k =
+pub reached_left : (before : List Stated) (xs ys : List Line) (ns ms : List Names) (first : ℕ) (a : Arrival) (n : ℕ) (names : Names) →
+    IsReachedIn before xs ns first a n names → IsReachedIn before (xs ++ ys) (ns ++ ms) first a n names
+reached_left before xs ys ns ms first a n names k =
     record {
       place = k.place;
       number = k.number;
       line = k.line;
       at = at_left xs ys k.place k.line k.at;
       earlier = subst (AllLicensed before) (sym (take_left xs ys k.place k.line k.at)) k.earlier;
-      stops_at = k.stops_at;
+      arrives = k.arrives;
       named = at_left ns ms k.place names k.named;
     }
 
 -- in the second, where the steps of the first are licensed
-step_stop_right : (before : List Stated) (xs ys : List Line) (ns ms : List Names) (k first : ℕ) (h : StepStop) (n : ℕ) (names : Names) → length xs ≡ k → length ns ≡ k →
-    AllLicensed before xs → StepStopIn before ys ms (first + k) h n names → StepStopIn before (xs ++ ys) (ns ++ ms) first h n names
-step_stop_right before xs ys ns ms k first h n names e d l r =
+pub reached_right : (before : List Stated) (xs ys : List Line) (ns ms : List Names) (k first : ℕ) (a : Arrival) (n : ℕ) (names : Names) → length xs ≡ k → length ns ≡ k →
+    AllLicensed before xs → IsReachedIn before ys ms (first + k) a n names → IsReachedIn before (xs ++ ys) (ns ++ ms) first a n names
+reached_right before xs ys ns ms k first a n names e d l r =
     record {
       place = k + r.place;
       number = omega (arith, r.number);
       line = r.line;
       at = at_right xs ys r.place (k + r.place) (omega (arith, e)) ∙ r.at;
       earlier = subst (AllLicensed before) (sym (take_right xs ys r.place (k + r.place) (omega (arith, e)))) (both_licensed before xs (take r.place ys) l r.earlier);
-      stops_at = r.stops_at;
+      arrives = r.arrives;
       named = at_right ns ms r.place (k + r.place) (omega (arith, d)) ∙ r.named;
     }
 
 -- ---- stops
 
-stop_map : (before : List Stated) (xs ys : List Line) (ns ms : List Names) (first second : ℕ) (s : Stop) →
-    ((h : StepStop) (n : ℕ) (names : Names) → StepStopIn before xs ns first h n names → StepStopIn before ys ms second h n names) → StopIn before xs ns first s → StopIn before ys ms second s
-stop_map before xs ys ns ms first second (stop.Unlicensed n wanted values names) f k = f (step_stop.Lacks wanted values) n names k
-stop_map before xs ys ns ms first second (stop.TooWide n wanted width names) f k = f (step_stop.TooWide wanted width) n names k
-stop_map before xs ys ns ms first second stop.NoMemory f k = tt
-
-pub stop_after : (before : List Stated) (x : Line) (xs : List Line) (m : Names) (ns : List Names) (first : ℕ) (s : Stop) → Licensed before x → StopIn before xs ns (first + 1) s → StopIn before (x ∷ xs) (m ∷ ns) first s
-stop_after before x xs m ns first s l k =
-    stop_map before xs (x ∷ xs) ns (m ∷ ns) (first + 1) first s (λ h n names. step_stop_after before x xs m ns first h n names l) k
-
-pub stop_left : (before : List Stated) (xs ys : List Line) (ns ms : List Names) (first : ℕ) (s : Stop) → StopIn before xs ns first s → StopIn before (xs ++ ys) (ns ++ ms) first s
-stop_left before xs ys ns ms first s k = stop_map before xs (xs ++ ys) ns (ns ++ ms) first first s (step_stop_left before xs ys ns ms first) k
-
-pub stop_right : (before : List Stated) (xs ys : List Line) (ns ms : List Names) (k first : ℕ) (s : Stop) → length xs ≡ k → length ns ≡ k → AllLicensed before xs → StopIn before ys ms (first + k) s → StopIn before (xs ++ ys) (ns ++ ms) first s
-stop_right before xs ys ns ms k first s e d l r = stop_map before ys (xs ++ ys) ms (ns ++ ms) (first + k) first s (λ h n names. step_stop_right before xs ys ns ms k first h n names e d l) r
-
 -- at the first step, with these names before it
 stop_at_first : (before : List Stated) (x : Line) (xs : List Line) (m : Names) (ns : List Names) (first : ℕ) (h : StepStop) → StepStopsAt before x h → StopIn before (x ∷ xs) (m ∷ ns) first (stop_of h first m)
-stop_at_first before x xs m ns first (step_stop.Lacks wanted values) k = step_stop_first before x xs m ns first (step_stop.Lacks wanted values) k
-stop_at_first before x xs m ns first (step_stop.TooWide wanted width) k = step_stop_first before x xs m ns first (step_stop.TooWide wanted width) k
+stop_at_first before x xs m ns first (step_stop.Lacks wanted values) k = reached_first before x xs m ns first (Halts (step_stop.Lacks wanted values)) k
+stop_at_first before x xs m ns first (step_stop.TooWide wanted width) k = reached_first before x xs m ns first (Halts (step_stop.TooWide wanted width)) k
 stop_at_first before x xs m ns first step_stop.NoMemory k = tt
 
 pub stop_first : (before : List Stated) (x : Line) (xs : List Line) (m : Names) (ns : List Names) (first : ℕ) (h : StepStop) (s : Stop) → StepStopsAt before x h → StopOf h first m s → StopIn before (x ∷ xs) (m ∷ ns) first s
 stop_first before x xs m ns first h (stop.Unlicensed n wanted values names) k e = subst (StopIn before (x ∷ xs) (m ∷ ns) first) (sym e) (stop_at_first before x xs m ns first h k)
 stop_first before x xs m ns first h (stop.TooWide n wanted width names) k e = subst (StopIn before (x ∷ xs) (m ∷ ns) first) (sym e) (stop_at_first before x xs m ns first h k)
 stop_first before x xs m ns first h stop.NoMemory k e = tt
+
+-- where all that is found in the one script is found in the other, so is a stop
+pub stops_by : (before : List Stated) (d e : Script) (x y : StepState) (goal goal' : Goal) (n m : ℕ) (s : Stop) →
+    ((a : Arrival) (k : ℕ) (names : Names) → ReachesWithin before d x goal n a k names → ReachesWithin before e y goal' m a k names) → StopsWithin before d x goal n s → StopsWithin before e y goal' m s
+stops_by before d e x y goal goal' n m (stop.Unlicensed k wanted values names) f h =
+    let r = f (Halts (step_stop.Lacks wanted values)) k names (record { filled = h.filled; reached = h.stops }) in record { filled = r.filled; stops = r.reached }
+stops_by before d e x y goal goal' n m (stop.TooWide k wanted width names) f h =
+    let r = f (Halts (step_stop.TooWide wanted width)) k names (record { filled = h.filled; reached = h.stops }) in record { filled = r.filled; stops = r.reached }
+stops_by before d e x y goal goal' n m stop.NoMemory f h = record { filled = e; stops = tt }
+
+-- ---- where a stop is
+
+pub at_less : {A : Type 0} (xs : List A) (p : ℕ) (x : A) → slice_get xs p ≡ Some x → p < length xs
+at_less [] p x e = absurd (none-some x e)
+at_less (a ∷ xs) zero x e = omega arith
+at_less (a ∷ xs) (suc p) x e = let k = at_less xs p x e in omega (arith, k)
+
+-- a stop within a script is at one of its steps
+pub stop_within : (before : List Stated) (d : Script) (x : StepState) (goal : Goal) (n : ℕ) (s : Stop) → StopsWithin before d x goal n s → IsStopBefore (n + size d) s
+stop_within before d x goal n (stop.Unlicensed k wanted values names) h =
+    let many = lines_length before d h.filled x.context.scope x.context.facts goal in
+    omega (arith, many, h.stops.number, at_less _ h.stops.place h.stops.line h.stops.at)
+stop_within before d x goal n (stop.TooWide k wanted width names) h =
+    let many = lines_length before d h.filled x.context.scope x.context.facts goal in
+    omega (arith, many, h.stops.number, at_less _ h.stops.place h.stops.line h.stops.at)
+stop_within before d x goal n stop.NoMemory h = tt
+
+pub before_more : (n m : ℕ) (s : Stop) → n ≤ m → IsStopBefore n s → IsStopBefore m s
+before_more n m (stop.Unlicensed k wanted values names) le h = omega (arith, le, h)
+before_more n m (stop.TooWide k wanted width names) le h = omega (arith, le, h)
+before_more n m stop.NoMemory le h = tt
+
+stop_of_before : (h : StepStop) (n m : ℕ) (names : Names) → n < m → IsStopBefore m (stop_of h n names)
+stop_of_before (step_stop.Lacks wanted values) n m names less = less
+stop_of_before (step_stop.TooWide wanted width) n m names less = less
+stop_of_before step_stop.NoMemory n m names less = tt
+
+-- a stop at a step is before the next one
+pub stop_before : (h : StepStop) (n m : ℕ) (names : Names) (s : Stop) → n < m → StopOf h n names s → IsStopBefore m s
+stop_before h n m names (stop.Unlicensed a b c d) less e = subst (IsStopBefore m) (sym e) (stop_of_before h n m names less)
+stop_before h n m names (stop.TooWide a b c d) less e = subst (IsStopBefore m) (sym e) (stop_of_before h n m names less)
+stop_before h n m names stop.NoMemory less e = tt
 
 -- ---- how many steps there are
 

@@ -18,8 +18,10 @@ use Rattle.e_deriv.specs.Naming.{names_lines, declared_names}
 use Rattle.e_deriv.specs.Certified.{Certified}
 use Rattle.e_deriv.specs.Fitting.{IsFitting}
 use Rattle.e_prove.specs.inner.StepStates.{start_of}
-use Rattle.e_prove.specs.inner.PassedSteps.{IsReadyFor, IsDerived, StopsWithin}
-use Rattle.e_prove.specs.Stops.{HasNames}
+use Rattle.e_prove.specs.declared.step_state.StepState.{StepState}
+use Rattle.e_prove.specs.inner.PassedSteps.{IsReadyFor, IsDerived, Reaches, StopsWithin}
+use Rattle.e_prove.specs.Places.{IsPlace}
+use Rattle.e_prove.specs.Stops.{StopIs, HasNames}
 use Rattle.e_prove.proofs.ReadySteps.{first_facts}
 
 -- ---- how many objects there are
@@ -73,6 +75,45 @@ names_at before t names script stop.NoMemory k = tt
 pub names_are : (before : List Stated) (t : Stated) (names : Names) (script : Script) (x : _) (goal : Goal) (s : Stop) → x ≡ start_of t names → goal ≡ goal_of_statement t → StopsWithin before script x goal 1 s → HasNames before t names script s
 names_are before t names script x goal s is same k =
     names_at before t names script s (subst (λ y. StopsWithin before script y (goal_of_statement t) 1 s) is (subst (λ g. StopsWithin before script x g 1 s) same k))
+
+stop_at : (before : List Stated) (t : Stated) (names : Names) (script : Script) (s : Stop) → StopsWithin before script (start_of t names) (goal_of_statement t) 1 s → StopIs before t script s
+stop_at before t names script (stop.Unlicensed n wanted values seen) k =
+    record {
+      line = k.stops.line;
+      context = record { filled = k.filled; place = k.stops.place; number = omega (arith, k.stops.number); at = k.stops.at; earlier = k.stops.earlier };
+      lacks = k.stops.arrives.0;
+      shown = k.stops.arrives.1;
+    }
+stop_at before t names script (stop.TooWide n wanted width seen) k =
+    record {
+      line = k.stops.line;
+      context = record { filled = k.filled; place = k.stops.place; number = omega (arith, k.stops.number); at = k.stops.at; earlier = k.stops.earlier };
+      too_wide = k.stops.arrives;
+    }
+stop_at before t names script stop.NoMemory k = tt
+
+pub stop_is : (before : List Stated) (t : Stated) (names : Names) (script : Script) (x : _) (goal : Goal) (s : Stop) → x ≡ start_of t names → goal ≡ goal_of_statement t → StopsWithin before script x goal 1 s → StopIs before t script s
+stop_is before t names script x goal s is same k =
+    stop_at before t names script s (subst (λ y. StopsWithin before script y (goal_of_statement t) 1 s) is (subst (λ g. StopsWithin before script x g 1 s) same k))
+
+-- ---- the place
+
+place_at : (before : List Stated) (t : Stated) (names : Names) (script : Script) (n : ℕ) (y : StepState) → Reaches before script (start_of t names) (goal_of_statement t) 1 n y →
+    IsPlace before t names script n (record { context = y.context; names = y.names })
+place_at before t names script n y k =
+    let r = k.reached in
+    record {
+      line = r.line;
+      context = record { filled = k.filled; place = r.place; number = omega (arith, r.number); at = r.at; earlier = r.earlier };
+      scope = sym r.arrives.0;
+      facts = sym r.arrives.1;
+      named = sym (ap (slice_get (names_lines before (declared_names t names) script)) (omega (arith, r.number)) ∙ r.named);
+    }
+
+pub place_is : (before : List Stated) (t : Stated) (names : Names) (script : Script) (n : ℕ) (x y : StepState) (goal : Goal) → x ≡ start_of t names → goal ≡ goal_of_statement t → Reaches before script x goal 1 n y →
+    IsPlace before t names script n (record { context = y.context; names = y.names })
+place_is before t names script n x y goal is same k =
+    place_at before t names script n y (subst (λ z. Reaches before script z (goal_of_statement t) 1 n y) is (subst (λ g. Reaches before script x g 1 n y) same k))
 
 -- ---- the derivation
 

@@ -10,8 +10,11 @@ use Rattle.e_book.proofs.WrittenScripts.{erased_literals, filled_literals, writt
 use Rattle.e_deriv.specs.declared.block.Block.{Block}
 use Rattle.e_deriv.specs.Script.{Script, script_of, erased}
 use Rattle.e_deriv.specs.Parts.{filled_by}
-use Rattle.e_clause.specs.Written.{is_good_cert}
-use Rattle.e_deriv.specs.Written.{is_written_well, has_good_certs}
+use Rattle.e_clause.specs.declared.cert.Version.TheVariants as version
+use Rattle.e_clause.specs.Versions.{is_cert_of}
+use Rattle.e_deriv.specs.Written.{is_written_well}
+use Rattle.e_deriv.specs.Versions.{has_certs_of}
+use Rattle.e_deriv.proofs.Versions.{good_of_version}
 
 -- ---- certificates and blanks are no part of the literals
 
@@ -22,15 +25,15 @@ same_literals script derived e =
 -- ---- good literals and good certificates
 
 -- what is derived from a script with good literals, with good certificates, is written well
-pub each_written_well : {E : Type 0} (script : Script) (r : Result Block E) → IfOk r (λ d. erased (script_of d) ≡ filled_by (erased script) (script_of d)) → IfOk r (λ d. has_good_certs (script_of d) ≡ true) →
+pub each_written_well : {E : Type 0} (script : Script) (r : Result Block E) → IfOk r (λ d. erased (script_of d) ≡ filled_by (erased script) (script_of d)) → IfOk r (λ d. has_certs_of version.One (script_of d) ≡ true) →
     IfOk r (λ d. has_good_literals script ≡ true → is_written_well (script_of d) ≡ true)
-each_written_well script (Ok d) e k = λ h. written_well (script_of d) (same_literals script (script_of d) e ∙ h) k
+each_written_well script (Ok d) e k = λ h. written_well (script_of d) (same_literals script (script_of d) e ∙ h) (good_of_version version.One (script_of d) k)
 each_written_well script (Err s) e k = tt
 
 -- ---- certificates one after the other
 
-pub certs_more : (cs : List Cert) (c : Cert) → list_all is_good_cert cs ≡ true → is_good_cert c ≡ true → list_all is_good_cert (cs ++ c ∷ []) ≡ true
-certs_more [] c h k = and_from (is_good_cert c) true k refl
+pub certs_more : (cs : List Cert) (c : Cert) → list_all (is_cert_of version.One) cs ≡ true → is_cert_of version.One c ≡ true → list_all (is_cert_of version.One) (cs ++ c ∷ []) ≡ true
+certs_more [] c h k = and_from (is_cert_of version.One c) true k refl
 certs_more (d ∷ cs) c h k =
-    and_from (is_good_cert d) (list_all is_good_cert (cs ++ c ∷ [])) (and_left (is_good_cert d) (list_all is_good_cert cs) h)
-    (certs_more cs c (and_right (is_good_cert d) (list_all is_good_cert cs) h) k)
+    and_from (is_cert_of version.One d) (list_all (is_cert_of version.One) (cs ++ c ∷ [])) (and_left (is_cert_of version.One d) (list_all (is_cert_of version.One) cs) h)
+    (certs_more cs c (and_right (is_cert_of version.One d) (list_all (is_cert_of version.One) cs) h) k)

@@ -1,3 +1,4 @@
 pub mod Stops
+pub mod Places
 pub mod Laws
 pub mod inner

@@ -1,5 +1,5 @@
 -- When a stop is right.
-use Rattle.std.specs.Prelude.{◌≡◌, ◌-◌, List, Some, slice_get}
+use Rattle.std.specs.Prelude.{◌≡◌, ℕ, ◌-◌, ◌<◌, List, Some, slice_get}
 use Rattle.e_literal.specs.Use.{Stated}
 use Rattle.e_deriv.specs.declared.names.Names.{Names}
 use Rattle.e_deriv.specs.declared.stop.Stop.{Stop}
@@ -20,3 +20,9 @@ abbrev pub HasNames : List Stated → Stated → Names → Script → Stop → T
 HasNames before t names script (Unlicensed step wanted values seen) = Some seen ≡ slice_get (names_lines before (declared_names t names) script) (step - 1)
 HasNames before t names script (TooWide step wanted width seen) = Some seen ≡ slice_get (names_lines before (declared_names t names) script) (step - 1)
 HasNames before t names script NoMemory = Unit {0}
+
+-- the stop is at a step before the one with this number; out of memory is free
+abbrev pub IsStopBefore : ℕ → Stop → Type 0
+IsStopBefore n (Unlicensed step wanted values names) = step < n
+IsStopBefore n (TooWide step wanted width names) = step < n
+IsStopBefore n NoMemory = Unit {0}

@@ -11,7 +11,8 @@ ghost use Rattle.e_deriv.specs.Fitting.{is_small, is_small_statement};
 ghost use Rattle.e_deriv.specs.Lines.{theorem_at};
 ghost use Rattle.e_deriv.specs.Parts;
 ghost use Rattle.e_deriv.specs.Parts.{has_no_blank};
-ghost use Rattle.e_clause.specs.Written.{is_good_cert};
+ghost use Rattle.e_clause.specs.declared.cert.Version.TheVariants as version;
+ghost use Rattle.e_clause.specs.Versions.{is_cert_of};
 ghost use Rattle.e_prove.specs.inner.Applications.{CanApply, IsUse};
 ghost use Rattle.e_prove.specs.inner.StopsOfSteps.{StepStopsAmong, StepStopsFilling, StepStopsApplying, UnlessNoMemory};
 ghost use Rattle.e_prove.specs.inner.StopsOfSteps;
@@ -164,7 +165,7 @@ fn used_at(
     requires needs { IsTrue (are_good context.old.scope (needs_of_use (stated statement.now) args context.old.scope)) }
     ensures args { IfOk result (λ u. u.args ≡ args) }
     ensures certified { IfOk result (λ u. IsTrue (certify_all context.old.scope context.old.facts (needs_of_use (stated statement.now) args context.old.scope) u.certs.items)) }
-    ensures written { IfOk result (λ u. IsTrue (list_all is_good_cert u.certs.items)) }
+    ensures written { IfOk result (λ u. IsTrue (list_all (is_cert_of version.One) u.certs.items)) }
     ensures gives { IfOk result (λ u. u.gives ≡ gives_of_use (stated statement.now) args context.old.scope) }
     ensures err { IfErr result (StepStopsAmong context.old (needs_of_use (stated statement.now) args context.old.scope)) }
     ensures kept { context.new ≡ context.old }

@@ -79,7 +79,7 @@ pub fn prove_block(
 
 /// Licenses a step in its place, with the block inside it.
 #[cycle(block)]
-fn prove_step(
+pub fn prove_step(
     alloc: Global,
     before: &[Statement],
     step: &Step,

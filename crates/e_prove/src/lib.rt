@@ -7,7 +7,9 @@ mod close;
 mod inner;
 mod laws;
 mod licence;
+mod place;
 mod prover;
+mod reach;
 mod step;
 mod step_state;
 mod step_stop;
@@ -16,4 +18,5 @@ pub use laws::{
     derived_stops_for_memory, licensed_is_not_refused, licensed_stops_for_memory,
     refused_stops_there,
 };
+pub use place::{Place, context_at};
 pub use prover::prove;

@@ -6,7 +6,8 @@ ghost use Rattle.e_literal.specs.Literal.{negation};
 ghost use Rattle.e_clause.specs.Certify.{certifies, certify_all};
 ghost use Rattle.e_clause.specs.Judged.{is_good, are_good};
 ghost use Rattle.e_deriv.specs.Steps.{instance_gives};
-ghost use Rattle.e_clause.specs.Written.{is_good_cert};
+ghost use Rattle.e_clause.specs.declared.cert.Version.TheVariants as version;
+ghost use Rattle.e_clause.specs.Versions.{is_cert_of};
 ghost use Rattle.e_licence.specs.Licences.{IsLicence};
 ghost use Rattle.e_prove.specs.inner.StopsOfSteps.{StepStopsAmong};
 
@@ -23,7 +24,7 @@ use std::mem;
 pub fn licensed(alloc: Global, context: &mut Context, lit: &Lit) -> Result<Cert, StepStop>
     requires { IsTrue (is_good context.old.scope lit.now) }
     ensures ok { IfOk result (λ c. IsTrue (certifies context.old.scope context.old.facts lit.now c)) }
-    ensures written { IfOk result (λ c. IsTrue (is_good_cert c)) }
+    ensures written { IfOk result (λ c. IsTrue (is_cert_of version.One c)) }
     ensures err { IfErr result (StepStopsAmong context.old (lit.now ∷ [])) }
     ensures kept { context.new ≡ context.old }
 {
@@ -36,7 +37,7 @@ pub fn licensed(alloc: Global, context: &mut Context, lit: &Lit) -> Result<Cert,
 pub fn licences(alloc: Global, context: &mut Context, lits: &[Lit]) -> Result<Vec<Cert>, StepStop>
     requires { IsTrue (are_good context.old.scope lits.now) }
     ensures ok { IfOk result (λ cs. IsTrue (certify_all context.old.scope context.old.facts lits.now cs.items)) }
-    ensures written { IfOk result (λ cs. IsTrue (list_all is_good_cert cs.items)) }
+    ensures written { IfOk result (λ cs. IsTrue (list_all (is_cert_of version.One) cs.items)) }
     ensures err { IfErr result (StepStopsAmong context.old lits.now) }
     ensures kept { context.new ≡ context.old }
 {
@@ -52,7 +53,7 @@ pub fn licences(alloc: Global, context: &mut Context, lits: &[Lit]) -> Result<Ve
 fn to_cert(alloc: Global, context: &Context, lit: &Lit, answer: Licensed) -> Result<Cert, StepStop>
     requires { IsLicence context.now lit.now answer }
     ensures ok { IfOk result (λ c. IsTrue (certifies context.now.scope context.now.facts lit.now c)) }
-    ensures written { IfOk result (λ c. IsTrue (is_good_cert c)) }
+    ensures written { IfOk result (λ c. IsTrue (is_cert_of version.One c)) }
     ensures err { IfErr result (StepStopsAmong context.now (lit.now ∷ [])) }
 {
     match answer {

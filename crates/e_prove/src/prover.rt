@@ -10,7 +10,8 @@ ghost use Rattle.e_deriv.specs.Certified.{Certified};
 ghost use Rattle.e_book.specs.Fits.{has_good_literals};
 ghost use Rattle.e_prove.specs.Stops.{StopIs, HasNames};
 ghost use Rattle.e_deriv.specs.Written.{is_written_well};
-ghost use Rattle.e_deriv.specs.Written.{has_good_certs};
+ghost use Rattle.e_clause.specs.declared.cert.Version.TheVariants as version;
+ghost use Rattle.e_deriv.specs.Versions.{has_certs_of};
 
 use crate::block::prove_block;
 use crate::close::Goal;
@@ -25,7 +26,7 @@ use std::mem;
 /// The derivation of a theorem by its own script, from the statements before it: each step licensed in order,
 /// with a certificate for each literal that it needs. Without its certificates it is the script, with the blanks of each
 /// application filled by the least good choice. Where the literals of the script are well formed, each literal that the
-/// derivation names is.
+/// derivation names is. Its certificates cite facts by literals, not by places.
 ///
 /// `Unlicensed` comes only at the first step that is not licensed, with what it lacks, the values that show it where that
 /// is a metric literal or a contradiction, and the names in scope before it. `TooWide` comes only where each step before
@@ -37,6 +38,7 @@ pub fn prove(alloc: Global, before: &[Statement], theorem: &Theorem) -> Result<B
     ensures script { IfOk result (λ d. erased (script_of d) ≡ filled_by (erased (script_of theorem.now.block)) (script_of d)) }
     ensures least { IfOk result (λ d. AllLicensed (all_stated before.now) (proof_lines (all_stated before.now) (stated theorem.now.statement) (script_of theorem.now.block) (script_of d))) }
     ensures written { IfOk result (λ d. IsTrue (has_good_literals (script_of theorem.now.block)) → IsTrue (is_written_well (script_of d))) }
+    ensures version { IfOk result (λ d. IsTrue (has_certs_of version.One (script_of d))) }
     ensures stop { IfErr result (StopIs (all_stated before.now) (stated theorem.now.statement) (script_of theorem.now.block)) }
     ensures names { IfErr result (HasNames (all_stated before.now) (stated theorem.now.statement) theorem.now.names (script_of theorem.now.block)) }
 {
@@ -61,7 +63,7 @@ pub(crate) fn prove_parts(
     ensures certified { IfOk result (λ d. Certified (all_stated before.now) (stated statement.now) (script_of d)) }
     ensures script { IfOk result (λ d. erased (script_of d) ≡ filled_by (erased (script_of block.now)) (script_of d)) }
     ensures least { IfOk result (λ d. AllLicensed (all_stated before.now) (proof_lines (all_stated before.now) (stated statement.now) (script_of block.now) (script_of d))) }
-    ensures certs { IfOk result (λ d. IsTrue (has_good_certs (script_of d))) }
+    ensures certs { IfOk result (λ d. IsTrue (has_certs_of version.One (script_of d))) }
     ensures stop { IfErr result (StopIs (all_stated before.now) (stated statement.now) (script_of block.now)) }
     ensures names { IfErr result (HasNames (all_stated before.now) (stated statement.now) names.now (script_of block.now)) }
 {

@@ -9,7 +9,8 @@ ghost use Rattle.e_construct.specs.Construct;
 ghost use Rattle.e_deriv.specs.declared.block.Step.TheVariants.{Cite, Hence, Make};
 ghost use Rattle.e_construct.specs.Superposing;
 ghost use Rattle.e_clause.specs.Certify.{certify_all};
-ghost use Rattle.e_clause.specs.Written.{is_good_cert};
+ghost use Rattle.e_clause.specs.declared.cert.Version.TheVariants as version;
+ghost use Rattle.e_clause.specs.Versions.{is_cert_of};
 ghost use Rattle.e_prove.specs.inner.StepStates.{HasRoom, after_literal, after_make, after_superposed};
 ghost use Rattle.e_prove.specs.inner.StopsOfSteps.{StepStopsAmong, UnlessNoMemory};
 ghost use Rattle.e_prove.specs.inner.LicensedSteps.{IsLicensedStep, IsStopOfStep};
@@ -117,7 +118,7 @@ pub fn superpose(
     requires needs { IsTrue (are_good state.old.context.scope (Superposing.needs form.now)) }
     requires after { let after = after_superposed form.now names.now state.old in IsTrue (are_good_facts after.context.scope after.context.facts) }
     ensures certs { IfOk result (λ cs. IsTrue (certify_all state.old.context.scope state.old.context.facts (Superposing.needs form.now) cs.items)) }
-    ensures written { IfOk result (λ cs. IsTrue (list_all is_good_cert cs.items)) }
+    ensures written { IfOk result (λ cs. IsTrue (list_all (is_cert_of version.One) cs.items)) }
     ensures after { OnOk result (state.new ≡ after_superposed form.now names.now state.old) }
     ensures err { IfErr result (StepStopsAmong state.old.context (Superposing.needs form.now)) }
     ensures kept { IfErr result (UnlessNoMemory (state.new ≡ state.old)) }

@@ -10,7 +10,8 @@ use Rattle.e_clause.specs.Judged.{are_good, are_good_facts}
 use Rattle.e_theorem.specs.Choice.{is_choice, IsLeast}
 use Rattle.e_theorem.specs.Pattern.{is_pattern}
 use Rattle.e_deriv.specs.Fitting.{is_small, is_small_statement}
-use Rattle.e_clause.specs.Written.{is_good_cert}
+use Rattle.e_clause.specs.declared.cert.Version.TheVariants as version
+use Rattle.e_clause.specs.Versions.{is_cert_of}
 use Rattle.e_licence.specs.Contexts.{Basis}
 use Rattle.e_prove.specs.declared.application.Use.{Use}
 
@@ -32,5 +33,5 @@ pub record CanApply (t : Stated) (pattern : List (Option Obj)) (x : Basis) : Typ
 pub record IsUse (t : Stated) (pattern : List (Option Obj)) (x : Basis) (u : Use) : Type 0 where
   pub least : IsLeast t x.scope x.facts pattern u.args
   pub certified : IsTrue (certify_all x.scope x.facts (needs_of_use t u.args x.scope) u.certs.items)
-  pub written : IsTrue (list_all is_good_cert u.certs.items)
+  pub written : IsTrue (list_all (is_cert_of version.One) u.certs.items)
   pub gives : u.gives ≡ gives_of_use t u.args x.scope

@@ -12,7 +12,8 @@ use Rattle.e_deriv.specs.Naming.{names_lines}
 use Rattle.e_deriv.specs.Licensed.{Licensed, AllLicensed}
 use Rattle.e_deriv.specs.Certified.{is_certified}
 use Rattle.e_deriv.specs.Fitting.{form_fits}
-use Rattle.e_deriv.specs.Written.{has_good_certs}
+use Rattle.e_clause.specs.declared.cert.Version.TheVariants as version
+use Rattle.e_deriv.specs.Versions.{has_certs_of}
 use Rattle.e_licence.specs.Contexts.{Basis}
 use Rattle.e_prove.specs.declared.step_state.StepState.{StepState}
 use Rattle.e_prove.specs.declared.step_stop.StepStop.{StepStop}
@@ -42,7 +43,7 @@ pub record IsLicensedStep (before : List Stated) (step : Step) (x : StepState) (
       IsTrue (is_certified before (line_at (step_script derived more) (step_script derived more) x.context goal))
   pub erased : (rest more : Script) → erased more ≡ filled_by (erased rest) more →
       erased (step_script derived more) ≡ filled_by (erased (step_script step rest)) (step_script derived more)
-  pub written : (more : Script) → IsTrue (has_good_certs more) → IsTrue (has_good_certs (step_script derived more))
+  pub written : (more : Script) → IsTrue (has_certs_of version.One more) → IsTrue (has_certs_of version.One (step_script derived more))
   pub next : (rest more : Script) (goal : Goal) →
       lines_at before (step_script step rest) (step_script derived more) x.context goal
       ≡ line_at (step_script step rest) (step_script derived more) x.context goal ∷ lines_at before rest more after.context goal
@@ -62,7 +63,7 @@ pub record IsClosed (before : List Stated) (close : Close) (x : Basis) (goal : G
   pub licensed : AllLicensed before (lines_at before (close_script close) (close_script derived) x goal)
   pub certified : IsTrue (list_all (is_certified before) (lines_at before (close_script derived) (close_script derived) x goal))
   pub erased : erased (close_script derived) ≡ filled_by (erased (close_script close)) (close_script derived)
-  pub written : IsTrue (has_good_certs (close_script derived))
+  pub written : IsTrue (has_certs_of version.One (close_script derived))
 
 -- where this holds licensing stops so at the close
 abbrev pub IsStopOfClose : List Stated → Close → Basis → Goal → StepStop → Type 0

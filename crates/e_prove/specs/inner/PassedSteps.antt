@@ -1,6 +1,9 @@
 -- What it is to license the steps of a script one after another, with the blocks inside it.
-use Rattle.std.specs.Prelude.{◌≡◌, ℕ, ◌+◌, ◌<◌, ◌^◌, List, take, slice_get, IsTrue, Some}
+use Rattle.std.specs.Prelude.{◌≡◌, ℕ, ◌+◌, ◌-◌, ◌<◌, ◌^◌, List, take, slice_get, IsTrue, Some}
 use Rattle.std.specs.List.{list_all}
+use Rattle.e_literal.specs.declared.object.Scope.{Scope}
+use Rattle.e_literal.specs.declared.literal.Lit.{Lit}
+use Rattle.e_literal.specs.Literal.{negation}
 use Rattle.e_literal.specs.Use.{Stated}
 use Rattle.e_deriv.specs.declared.block.Step.{Step}
 use Rattle.e_deriv.specs.declared.names.Names.{Names}
@@ -14,10 +17,13 @@ use Rattle.e_deriv.specs.Naming.{names_lines}
 use Rattle.e_deriv.specs.Licensed.{AllLicensed}
 use Rattle.e_deriv.specs.Certified.{is_certified}
 use Rattle.e_deriv.specs.Fitting.{LitsFit, is_small, is_small_statement}
-use Rattle.e_deriv.specs.Written.{has_good_certs}
+use Rattle.e_clause.specs.declared.cert.Version.TheVariants as version
+use Rattle.e_deriv.specs.Versions.{has_certs_of}
 use Rattle.e_prove.specs.declared.step_stop.StepStop.{StepStop}
 use Rattle.e_prove.specs.declared.step_stop.StepStop.TheVariants.{Lacks, TooWide}
 use Rattle.e_prove.specs.declared.step_state.StepState.{StepState}
+use Rattle.e_prove.specs.Stops.{IsStopBefore}
+use Rattle.e_prove.specs.inner.StepStates.{after_literal}
 use Rattle.e_prove.specs.inner.StopsOfSteps.{StepStopsAt}
 use Rattle.e_prove.specs.inner.LicensedSteps.{lines_at, has_form}
 
@@ -42,7 +48,7 @@ pub record IsDerived (before : List Stated) (script : Script) (x : StepState) (g
   pub licensed : AllLicensed before (lines_at before script derived x.context goal)
   pub certified : IsTrue (list_all (is_certified before) (lines_at before derived derived x.context goal))
   pub erased : erased derived ≡ filled_by (erased script) derived
-  pub written : IsTrue (has_good_certs derived)
+  pub written : IsTrue (has_certs_of version.One derived)
 
 -- the states that are held are those from before
 abbrev pub KeepsHeld : StepState → StepState → Type 0
@@ -50,21 +56,39 @@ KeepsHeld x after = after.context.held ≡ x.context.held
 
 -- ---- stops
 
--- at one of the steps, before which all are licensed, licensing stops so; the first step has this number and this one that, and
--- these are the names in scope before it
-pub record StepStopIn (before : List Stated) (xs : List Line) (ns : List Names) (first : ℕ) (h : StepStop) (n : ℕ) (names : Names) : Type 0 where
+-- what is found at a step: that licensing stops so, or that these objects are in scope before it and these are the facts
+pub data Arrival : Type 0 where
+  Halts : (h : StepStop) → Arrival
+  Stands : (scope : Scope) (facts : List Lit) → Arrival
+
+abbrev pub ArrivesAt : List Stated → Line → Arrival → Type 0
+ArrivesAt before y (Halts h) = StepStopsAt before y h
+ArrivesAt before y (Stands scope facts) = (y.scope ≡ scope) × (y.facts ≡ facts)
+
+-- it is found at one of the steps, before which all are licensed; the first step has this number and this one that, and these are
+-- the names in scope before it
+pub record IsReachedIn (before : List Stated) (xs : List Line) (ns : List Names) (first : ℕ) (a : Arrival) (n : ℕ) (names : Names) : Type 0 where
   pub place : ℕ
   pub number : n ≡ first + place
   pub line : Line
   pub at : slice_get xs place ≡ Some line
   pub earlier : AllLicensed before (take place xs)
-  pub stops_at : StepStopsAt before line h
+  pub arrives : ArrivesAt before line a
   pub named : slice_get ns place ≡ Some names
 
 abbrev pub StopIn : List Stated → List Line → List Names → ℕ → Stop → Type 0
-StopIn before xs ns first (stop.Unlicensed n wanted values names) = StepStopIn before xs ns first (Lacks wanted values) n names
-StopIn before xs ns first (stop.TooWide n wanted width names) = StepStopIn before xs ns first (TooWide wanted width) n names
+StopIn before xs ns first (stop.Unlicensed n wanted values names) = IsReachedIn before xs ns first (Halts (Lacks wanted values)) n names
+StopIn before xs ns first (stop.TooWide n wanted width names) = IsReachedIn before xs ns first (Halts (TooWide wanted width)) n names
 StopIn before xs ns first stop.NoMemory = Unit {0}
+
+-- it is found at a step of the script, with the blanks before it filled so
+pub record ReachesWithin (before : List Stated) (script : Script) (x : StepState) (goal : Goal) (first : ℕ) (a : Arrival) (n : ℕ) (names : Names) : Type 0 where
+  pub filled : Script
+  pub reached : IsReachedIn before (lines_at before script filled x.context goal) (names_lines before x.names script) first a n names
+
+-- at step n of the script this holds, with the blanks before it filled so
+abbrev pub Reaches : List Stated → Script → StepState → Goal → ℕ → ℕ → StepState → Type 0
+Reaches before script x goal first n y = ReachesWithin before script x goal first (Stands y.context.scope y.context.facts) n y.names
 
 -- licensing stops so at a step of the script, with the blanks before it filled so
 pub record StopsWithin (before : List Stated) (script : Script) (x : StepState) (goal : Goal) (first : ℕ) (s : Stop) : Type 0 where
@@ -74,14 +98,29 @@ pub record StopsWithin (before : List Stated) (script : Script) (x : StepState) 
 -- ---- what has been licensed
 
 -- Steps before a script have been licensed where this held, and now that holds, and the next step has that number: whatever comes
--- after them, what is derived from it is derived from the whole, and a stop in it is one of the whole.
+-- after them, what is derived from it is derived from the whole, and what is found in it, or a stop in it, is found in the whole.
 pub record IsPassed (before : List Stated) (whole : Script → Script) (x : StepState) (first : ℕ) (derived : Script → Script) (after : StepState) (next : ℕ) : Type 0 where
   pub ready : (rest : Script) (goal : Goal) → IsReadyFor before (whole rest) x goal → IsReadyFor before rest after goal
   pub derives : (rest more : Script) (goal : Goal) → IsReadyFor before (whole rest) x goal → IsDerived before rest after goal more → IsDerived before (whole rest) x goal (derived more)
   pub stops : (rest : Script) (goal : Goal) (s : Stop) → IsReadyFor before (whole rest) x goal → StopsWithin before rest after goal next s → StopsWithin before (whole rest) x goal first s
+  pub reaches : (rest : Script) (goal : Goal) (a : Arrival) (n : ℕ) (names : Names) → IsReadyFor before (whole rest) x goal
+      → ReachesWithin before rest after goal next a n names → ReachesWithin before (whole rest) x goal first a n names
   pub number : (rest : Script) → first + size (whole rest) ≡ next + size rest
   pub kept : KeepsHeld x after
 
--- the step stops so, whatever comes after it
+-- the step stops so, whatever comes after it, and not at what comes after it
 abbrev pub StepStops : List Stated → Step → StepState → ℕ → Stop → Type 0
-StepStops before step x first s = (rest : Script) (goal : Goal) → IsReadyFor before (step_script step rest) x goal → StopsWithin before (step_script step rest) x goal first s
+StepStops before step x first s =
+    (rest : Script) (goal : Goal) → IsReadyFor before (step_script step rest) x goal
+    → StopsWithin before (step_script step rest) x goal first s × IsStopBefore (first + size (step_script step rest) - size rest) s
+
+-- at step n of the step's own block this holds, whatever comes after the step
+abbrev pub ReachesInStep : List Stated → Step → StepState → ℕ → ℕ → StepState → Type 0
+ReachesInStep before step x first n y =
+    (rest : Script) (goal : Goal) → IsReadyFor before (step_script step rest) x goal → Reaches before (step_script step rest) x goal first n y
+
+-- the first block of a split was licensed where its literal is a fact, and now its negation is one
+pub record IsFirstPassed (before : List Stated) (lit : Lit) (first : Script) (x : StepState) (goal : Goal) (after : StepState) : Type 0 where
+  pub derived : Script
+  pub is_derived : IsDerived before first (after_literal lit x) goal derived
+  pub is_after : after ≡ after_literal (negation lit) x

@@ -1,0 +1,69 @@
+//! What holds at a step of a theorem's script.
+ghost use Rattle.std.specs.Prelude.{◌≤◌, IfOk, IfErr};
+ghost use Rattle.e_theorem.specs.Statements.{stated, all_stated};
+ghost use Rattle.e_deriv.specs.Script.{script_of, size};
+ghost use Rattle.e_deriv.specs.Fitting.{IsFitting};
+ghost use Rattle.e_prove.specs.Places.{IsPlace};
+ghost use Rattle.e_prove.specs.Stops.{StopIs, HasNames, IsStopBefore};
+
+use crate::close::Goal;
+use crate::reach::reach;
+use crate::step_state::StepState;
+use e_book::Theorem;
+use e_deriv::{Names, Stop};
+use e_licence::Context;
+use e_literal::next_objects;
+use e_theorem::Statement;
+use std::alloc::Global;
+use std::mem;
+
+/// The objects in scope before a step and the facts, and the names of the objects.
+#[derive(Drop)]
+pub struct Place {
+    pub context: Context,
+    pub names: Names,
+}
+
+/// What holds before the step with this number, from the statements before the theorem: each step before it is licensed, with
+/// blanks filled by the least good choice. The steps are counted from 1 in text order, and the step is one of the script's.
+///
+/// A stop is one of [`crate::prove`], at a step before this one. The forms of the script's steps fit in their places, and so
+/// do the literals, as those of a theorem that is read do.
+pub fn context_at(
+    alloc: Global,
+    before: &[Statement],
+    theorem: &Theorem,
+    step: u32,
+) -> Result<Place, Stop>
+    requires fitting { IsFitting (all_stated before.now) (stated theorem.now.statement) (script_of theorem.now.block) }
+    requires first { 1 ≤ step }
+    requires last { step ≤ size (script_of theorem.now.block) }
+    ensures place { IfOk result (IsPlace (all_stated before.now) (stated theorem.now.statement) theorem.now.names (script_of theorem.now.block) step) }
+    ensures stop { IfErr result (StopIs (all_stated before.now) (stated theorem.now.statement) (script_of theorem.now.block)) }
+    ensures names { IfErr result (HasNames (all_stated before.now) (stated theorem.now.statement) theorem.now.names (script_of theorem.now.block)) }
+    ensures earlier { IfErr result (IsStopBefore step) }
+{
+    let statement = &theorem.statement;
+    let mut state = StepState::first(alloc, statement, &theorem.names)?;
+    let made = match next_objects(alloc, state.context.scope(), statement.made.items()) {
+        Ok(made) => made,
+        Err(_) => {
+            mem::drop(state);
+            return Err(Stop::NoMemory);
+        }
+    };
+    let goal = Goal {
+        made: &made,
+        shown: statement.shown.items(),
+    };
+    match reach(alloc, before, &theorem.block, &goal, &mut state, 1, step) {
+        Ok(()) => {
+            let StepState { context, names } = state;
+            Ok(Place { context, names })
+        }
+        Err(stop) => {
+            mem::drop(state);
+            Err(stop)
+        }
+    }
+}

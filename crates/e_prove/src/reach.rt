@@ -1,0 +1,196 @@
+//! Licensing up to a step: the blocks around it are entered and not left.
+ghost use Rattle.std.specs.Prelude.{◌≡◌, ◌+◌, ◌<◌, ◌≤◌, ◌^◌, IfErr, IsTrue, OnOk};
+ghost use Rattle.e_literal.specs.Literal.{negation};
+ghost use Rattle.e_literal.specs.Facts.{joined};
+ghost use Rattle.e_clause.specs.Judged.{are_good_facts};
+ghost use Rattle.e_theorem.specs.Statements.{all_stated};
+ghost use Rattle.e_deriv.specs.Script.{Script, script_of, step_script, close_script};
+ghost use Rattle.e_prove.specs.Stops.{IsStopBefore};
+ghost use Rattle.e_prove.specs.inner.StepStates.{after_literal, goal_view};
+ghost use Rattle.e_prove.specs.inner.PassedSteps.{IsReadyFor, IsDerived, IsReadyStep, Reaches, ReachesInStep, IsFirstPassed, StopsWithin, StepStops};
+
+use crate::block::{prove_block, prove_step};
+use crate::close::Goal;
+use crate::step::superpose;
+use crate::step_state::StepState;
+use crate::step_stop::stop_at;
+use e_deriv::{Block, Close, Step, Stop, size};
+use e_literal::Lit;
+use e_theorem::Statement;
+use std::alloc::Global;
+use std::mem;
+
+/// How many step and close lines a step has, with those of the block inside it.
+fn lines_of(step: &Step) -> u32
+    requires { (rest : Script) → Rattle.e_deriv.specs.Script.size (step_script step.now rest) < 2 ^ 32 + Rattle.e_deriv.specs.Script.size rest }
+    ensures { (rest : Script) → Rattle.e_deriv.specs.Script.size (step_script step.now rest) ≡ result + Rattle.e_deriv.specs.Script.size rest }
+{
+    match step {
+        Step::Cite(_) => 1,
+        Step::Hence { .. } => 1,
+        Step::Make { .. } => 1,
+        Step::Apply { .. } => 1,
+        Step::Claim { inner, .. } => 1 + size(inner),
+        Step::Superposed { inner, .. } => 1 + size(inner),
+    }
+}
+
+/// Licenses the steps of a block that come before the step with this number, where its first step has that one. What
+/// holds is then what holds before the step: the blocks around it are entered, and not left.
+#[cycle(reach)]
+pub fn reach(
+    alloc: Global,
+    before: &[Statement],
+    block: &Block,
+    goal: &Goal,
+    state: &mut StepState,
+    first: u32,
+    target: u32,
+) -> Result<(), Stop>
+    requires ready { IsReadyFor (all_stated before.now) (script_of block.now) state.old (goal_view goal.now) }
+    requires few { first + Rattle.e_deriv.specs.Script.size (script_of block.now) < 2 ^ 32 }
+    requires from { first ≤ target }
+    requires within { target < first + Rattle.e_deriv.specs.Script.size (script_of block.now) }
+    ensures reached { OnOk result (Reaches (all_stated before.now) (script_of block.now) state.old (goal_view goal.now) first target state.new) }
+    ensures err { IfErr result (StopsWithin (all_stated before.now) (script_of block.now) state.old (goal_view goal.now) first) }
+    ensures earlier { IfErr result (IsStopBefore target) }
+{
+    let mut number = first;
+    for step in &block.steps {
+        if number == target {
+            return Ok(());
+        }
+        let lines = lines_of(step);
+        let next = number + lines;
+        if target < next {
+            return enter_step(alloc, before, step, state, number, target);
+        }
+        match prove_step(alloc, before, step, state, number) {
+            Ok(proved) => {
+                number = proved.next;
+                mem::drop(proved);
+            }
+            Err(stop) => return Err(stop),
+        }
+    }
+    if number == target {
+        return Ok(());
+    }
+    enter_close(alloc, before, &block.close, goal, state, number, target)
+}
+
+/// Enters the block inside a step, where the step with this number is in it.
+#[cycle(reach)]
+fn enter_step(
+    alloc: Global,
+    before: &[Statement],
+    step: &Step,
+    state: &mut StepState,
+    number: u32,
+    target: u32,
+) -> Result<(), Stop>
+    requires ready { IsReadyStep (all_stated before.now) step.now state.old number }
+    requires inside { number < target }
+    requires within { (rest : Script) → target + Rattle.e_deriv.specs.Script.size rest < number + Rattle.e_deriv.specs.Script.size (step_script step.now rest) }
+    ensures reached { OnOk result (ReachesInStep (all_stated before.now) step.now state.old number target state.new) }
+    ensures err { IfErr result (StepStops (all_stated before.now) step.now state.old number) }
+    ensures earlier { IfErr result (IsStopBefore target) }
+{
+    match step {
+        Step::Cite(_) => unreachable!(),
+        Step::Hence { .. } => unreachable!(),
+        Step::Make { .. } => unreachable!(),
+        Step::Apply { .. } => unreachable!(),
+        Step::Claim { shown, inner } => {
+            let goal = Goal {
+                made: &[],
+                shown: shown.items(),
+            };
+            reach(alloc, before, inner, &goal, state, number + 1, target)
+        }
+        Step::Superposed {
+            form,
+            names,
+            shown,
+            inner,
+            ..
+        } => {
+            match superpose(alloc, form, names.items(), state) {
+                Ok(certs) => mem::drop(certs),
+                Err(step_stop) => return Err(stop_at(alloc, step_stop, state, number)),
+            }
+            let goal = Goal {
+                made: &[],
+                shown: shown.items(),
+            };
+            reach(alloc, before, inner, &goal, state, number + 1, target)
+        }
+    }
+}
+
+/// Enters a block of a split, where the step with this number is in it: the second one after the first is licensed.
+#[cycle(reach)]
+fn enter_close(
+    alloc: Global,
+    before: &[Statement],
+    close: &Close,
+    goal: &Goal,
+    state: &mut StepState,
+    number: u32,
+    target: u32,
+) -> Result<(), Stop>
+    requires ready { IsReadyFor (all_stated before.now) (close_script close.now) state.old (goal_view goal.now) }
+    requires few { number + Rattle.e_deriv.specs.Script.size (close_script close.now) < 2 ^ 32 }
+    requires inside { number < target }
+    requires within { target < number + Rattle.e_deriv.specs.Script.size (close_script close.now) }
+    ensures reached { OnOk result (Reaches (all_stated before.now) (close_script close.now) state.old (goal_view goal.now) number target state.new) }
+    ensures err { IfErr result (StopsWithin (all_stated before.now) (close_script close.now) state.old (goal_view goal.now) number) }
+    ensures earlier { IfErr result (IsStopBefore target) }
+{
+    match close {
+        Close::Qed { .. } => unreachable!(),
+        Close::Contradiction { .. } => unreachable!(),
+        Close::Cases { lit, first, second } => {
+            let count = size(first);
+            let middle = number + 1 + count;
+            if target < middle {
+                state.assume(alloc, lit)?;
+                return reach(alloc, before, first, goal, state, number + 1, target);
+            }
+            match pass_first(alloc, before, lit, first, goal, state, number + 1) {
+                Ok(()) => reach(alloc, before, second, goal, state, middle, target),
+                Err(stop) => Err(stop),
+            }
+        }
+    }
+}
+
+/// Licenses the first block of a split, and begins the second: the negation of the literal is a fact.
+fn pass_first(
+    alloc: Global,
+    before: &[Statement],
+    lit: &Lit,
+    block: &Block,
+    goal: &Goal,
+    state: &mut StepState,
+    first: u32,
+) -> Result<(), Stop>
+    requires ready { IsReadyFor (all_stated before.now) (script_of block.now) (after_literal lit.now state.old) (goal_view goal.now) }
+    requires few { first + Rattle.e_deriv.specs.Script.size (script_of block.now) < 2 ^ 32 }
+    requires second { (derived : Script) → IsDerived (all_stated before.now) (script_of block.now) (after_literal lit.now state.old) (goal_view goal.now) derived → IsTrue (are_good_facts state.old.context.scope (joined state.old.context.facts (negation lit.now))) }
+    ensures passed { OnOk result (IsFirstPassed (all_stated before.now) lit.now (script_of block.now) state.old (goal_view goal.now) state.new) }
+    ensures err { IfErr result (StopsWithin (all_stated before.now) (script_of block.now) (after_literal lit.now state.old) (goal_view goal.now) first) }
+{
+    let outer = state.hold(alloc)?;
+    state.assume(alloc, lit)?;
+    match prove_block(alloc, before, block, goal, state, first) {
+        Ok(proved) => mem::drop(proved),
+        Err(stop) => {
+            mem::drop(outer);
+            return Err(stop);
+        }
+    }
+    state.release(outer);
+    state.assume_not(alloc, lit)?;
+    Ok(())
+}
