@@ -158,7 +158,7 @@ same_turned Line Circle e = absurd cc
 same_turned Circle Point e = absurd cc
 same_turned Circle Line e = absurd cc
 
-of_sorts : (ns : Names) (sorts : List Sort) (names : List (List ℕ)) (os : List Obj) → length names ≡ length sorts → objects_of_sorts ns sorts names ≡ Ok os → are_of_sorts (scope_of_names ns) sorts os ≡ true
+pub of_sorts : (ns : Names) (sorts : List Sort) (names : List (List ℕ)) (os : List Obj) → length names ≡ length sorts → objects_of_sorts ns sorts names ≡ Ok os → are_of_sorts (scope_of_names ns) sorts os ≡ true
 of_sorts ns [] [] os n e = subst (λ (l : List Obj). are_of_sorts (scope_of_names ns) [] l ≡ true) (ok_is [] os e) refl
 of_sorts ns [] (name ∷ names) os n e = absurd (omega (arith, n))
 of_sorts ns (sort ∷ sorts) [] os n e = absurd (omega (arith, n))

@@ -108,7 +108,7 @@ run_head known t h o =
 
 -- ---- the proof
 
-run_proof_lines : (known : List Headed) (t : Entry) → HasSpelling known t → InOrder t.names → Taken known (started t) (begins t) t.script
+pub run_proof_lines : (known : List Headed) (t : Entry) → HasSpelling known t → InOrder t.names → Taken known (started t) (begins t) t.script
 run_proof_lines known t h o =
     let s : Scope = scope_of (stated t.statement) in
     let before = stated_by known in
@@ -170,14 +170,14 @@ answered t rest = Ok (Some (t, rest))
 -- ---- the whole
 
 -- the draft behind the last close line
-abbrev shut_draft : Entry → Inside → Draft
+abbrev pub shut_draft : Entry → Inside → Draft
 shut_draft t last = record (proving (started t) last) { steps = steps_of t.script; outers = []; close = close_of t.script; place = Closed }
 
-closed_last : (t : Entry) (last : Inside) → closed (proving (started t) last) [] (steps_of t.script) (close_of t.script) ≡ Ok (shut_draft t last)
+pub closed_last : (t : Entry) (last : Inside) → closed (proving (started t) last) [] (steps_of t.script) (close_of t.script) ≡ Ok (shut_draft t last)
 unfolding closed
 closed_last t last = refl
 
-step_end : (known : List Headed) (t : Entry) (last : Inside) → step known (shut_draft t last) forms.End ≡ Ok (record (shut_draft t last) { place = Done })
+pub step_end : (known : List Headed) (t : Entry) (last : Inside) → step known (shut_draft t last) forms.End ≡ Ok (record (shut_draft t last) { place = Done })
 unfolding step stepped
 step_end known t last = refl
 

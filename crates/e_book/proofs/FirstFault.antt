@@ -1,5 +1,5 @@
 -- The first fault of lines is that of a front, and whatever follows it is nothing to it.
-use Rattle.std.proofs.Common.{◌≡◌, ℕ, Bool, true, false, cond, inl, inr, List, [], ◌∷◌, ◌++◌, Option, Some, None, Result, Ok, Err, refl, sym, ap, subst}
+use Rattle.std.proofs.Common.{◌≡◌, ℕ, Bool, true, false, cond, inl, inr, [], ◌∷◌, ◌++◌, Option, Some, None, Result, Ok, Err, refl, sym, ap, subst}
 use Rattle.std.specs.Prelude.{◌⊎◌}
 use Rattle.e_text.specs.Tokens.{tokens_of}
 use Rattle.e_text.specs.Lines.{Seen}
@@ -8,15 +8,11 @@ use Rattle.e_book.specs.declared.fault.Kind.{Kind}
 use Rattle.e_book.specs.declared.fault.BookFault.{BookFault}
 use Rattle.e_book.specs.declared.fault.BookFault.TheVariants as faults
 use Rattle.e_book.specs.Reading.{◌>>=◌}
-use Rattle.e_book.specs.Headed.{Headed}
-use Rattle.e_book.specs.Entry.{Entry}
+use Rattle.e_book.specs.declared.known.Known.{Known}
 use Rattle.e_book.specs.Grammar.{is_skipped}
-use Rattle.e_book.specs.Open.{Open}
-use Rattle.e_book.specs.Grammar.{Rest, ended, or_more, no_more, put_there, line_read, read_from}
+use Rattle.e_book.specs.Grammar.{Rest}
+use Rattle.e_book.specs.Definitions.{BookItem, Coming, Answer, whole, whole_or, at_end, put_there, line_said, item_from}
 use Rattle.e_book.specs.FirstFault.{Leaves, IsFaulty, BreaksAt, IsFirst}
-
-abbrev Answer : Type 0
-Answer = Result (Option (Entry × Rest)) BookFault
 
 abbrev wrong : BookFault → Answer
 wrong fault = Err fault
@@ -31,63 +27,63 @@ by_case true x y z P e t f = t refl e
 by_case false x y z P e t f = f refl e
 
 -- what follows a line
-abbrev behind : List Headed → ℕ → Rest → Open → Answer
-behind known last lines n = or_more (ended n) lines (read_from known last (Some n) lines)
+abbrev behind : Known → ℕ → Rest → Coming → Answer
+behind known last lines n = whole_or (whole n) lines (item_from known last (Some n) lines)
 
-pub front_fault : (known : List Headed) (o left : Option Open) (front : Rest) (line : Result Seen LineFault) (fault : BookFault) → Leaves known o front left → IsFaulty known left line fault
-    → (last : ℕ) (other : Rest) → read_from known last o (front ++ line ∷ other) ≡ wrong fault
+pub front_fault : (known : Known) (o left : Option Coming) (front : Rest) (line : Result Seen LineFault) (fault : BookFault) → Leaves known o front left → IsFaulty known left line fault
+    → (last : ℕ) (other : Rest) → item_from known last o (front ++ line ∷ other) ≡ wrong fault
 front_fault known o left [] (Err f) fault e q last other = ap (λ (x : BookFault). wrong x) q
 front_fault known o left [] (Ok l) fault e q last other =
-    let p : IsFaulty known o (Ok l) fault = subst (λ (s : Option Open). IsFaulty known s (Ok l) fault) (sym e) q in
+    let p : IsFaulty known o (Ok l) fault = subst (λ (s : Option Coming). IsFaulty known s (Ok l) fault) (sym e) q in
     rw (p.0, p.1) refl
 front_fault known o left (Err f ∷ ls) line fault h q last other = absurd h
 front_fault known o left (Ok l ∷ ls) line fault h q last other =
-    in_case (is_skipped (tokens_of l.bytes)) (read_from known last o (ls ++ line ∷ other))
-    (put_there l.number (line_read known o (tokens_of l.bytes)) >>= λ n. behind known last (ls ++ line ∷ other) n) (wrong fault)
+    in_case (is_skipped (tokens_of l.bytes)) (item_from known last o (ls ++ line ∷ other))
+    (put_there l.number (line_said known o (tokens_of l.bytes)) >>= λ n. behind known last (ls ++ line ∷ other) n) (wrong fault)
     (λ t. front_fault known o left ls line fault (h.0 t) q last other)
     (λ f. let s = h.1 f in rw (s.1, s.2) (front_fault known (Some s.0) left ls line fault s.3 q last other))
 
 -- one more line before the front
-longer : (known : List Headed) (last : ℕ) (o m : Option Open) (l : Seen) (ls : Rest) (fault : BookFault)
-    → ((front : Rest) (left : Option Open) → Leaves known m front left → Leaves known o (Ok l ∷ front) left) → IsFirst known last m ls fault → IsFirst known last o (Ok l ∷ ls) fault
+longer : (known : Known) (last : ℕ) (o m : Option Coming) (l : Seen) (ls : Rest) (fault : BookFault)
+    → ((front : Rest) (left : Option Coming) → Leaves known m front left → Leaves known o (Ok l ∷ front) left) → IsFirst known last m ls fault → IsFirst known last o (Ok l ∷ ls) fault
 longer known last o m l ls fault more (inl b) =
     inl (record { front = Ok l ∷ b.front; line = b.line; rest = b.rest; all = ap (λ (x : Rest). Ok l ∷ x) b.all; left = b.left; taken = more b.front b.left b.taken; faulty = b.faulty })
 longer known last o m l ls fault more (inr e) = inr (e.0, more ls (Some e.0) e.1, e.2)
 
-unended : (last : ℕ) (o : Option Open) (fault : BookFault) → no_more last o ≡ wrong fault → (n : Open) × (o ≡ Some n) × (faults.Unended last ≡ fault)
+unended : (last : ℕ) (o : Option Coming) (fault : BookFault) → at_end last o ≡ wrong fault → (n : Coming) × (o ≡ Some n) × (faults.Unended last ≡ fault)
 unended last None fault e = absurd cc
 unended last (Some n) fault e = (n, refl, cc)
 
-abbrev read_open : Open → Result Open Kind
-read_open n = Ok n
+abbrev read_coming : Coming → Result Coming Kind
+read_coming n = Ok n
 
-unfinished : (known : List Headed) (last : ℕ) (n : Open) (ls : Rest) (fault : BookFault) (t : Option Entry) → ended n ≡ t → or_more t ls (read_from known last (Some n) ls) ≡ wrong fault
-    → (ended n ≡ None) × (read_from known last (Some n) ls ≡ wrong fault)
+unfinished : (known : Known) (last : ℕ) (n : Coming) (ls : Rest) (fault : BookFault) (t : Option BookItem) → whole n ≡ t → whole_or t ls (item_from known last (Some n) ls) ≡ wrong fault
+    → (whole n ≡ None) × (item_from known last (Some n) ls ≡ wrong fault)
 unfinished known last n ls fault None is e = (is, e)
 unfinished known last n ls fault (Some t) is e = absurd cc
 
 -- what a line made of it, where it ends in a fault
-went : (known : List Headed) (last : ℕ) (l : Seen) (ls : Rest) (r : Result Open Kind) (fault : BookFault) → (put_there l.number r >>= λ n. behind known last ls n) ≡ wrong fault
-    → (put_there l.number r ≡ Err fault) ⊎ ((n : Open) × (r ≡ read_open n) × (ended n ≡ None) × (read_from known last (Some n) ls ≡ wrong fault))
+went : (known : Known) (last : ℕ) (l : Seen) (ls : Rest) (r : Result Coming Kind) (fault : BookFault) → (put_there l.number r >>= λ n. behind known last ls n) ≡ wrong fault
+    → (put_there l.number r ≡ Err fault) ⊎ ((n : Coming) × (r ≡ read_coming n) × (whole n ≡ None) × (item_from known last (Some n) ls ≡ wrong fault))
 went known last l ls (Err k) fault e = inl cc
-went known last l ls (Ok n) fault e = let u = unfinished known last n ls fault (ended n) refl e in inr (n, refl, u.0, u.1)
+went known last l ls (Ok n) fault e = let u = unfinished known last n ls fault (whole n) refl e in inr (n, refl, u.0, u.1)
 
-pub first_fault : (known : List Headed) (last : ℕ) (o : Option Open) (lines : Rest) (fault : BookFault) → read_from known last o lines ≡ wrong fault → IsFirst known last o lines fault
+pub first_fault : (known : Known) (last : ℕ) (o : Option Coming) (lines : Rest) (fault : BookFault) → item_from known last o lines ≡ wrong fault → IsFirst known last o lines fault
 first_fault known last o [] fault e = let u = unended last o fault e in inr (u.0, u.1, u.2)
 first_fault known last o (Err f ∷ ls) fault e = inl (record { front = []; line = Err f; rest = ls; all = refl; left = o; taken = refl; faulty = cc })
 first_fault known last o (Ok l ∷ ls) fault e =
-    by_case (is_skipped (tokens_of l.bytes)) (read_from known last o ls)
-    (put_there l.number (line_read known o (tokens_of l.bytes)) >>= λ n. behind known last ls n) (wrong fault) (IsFirst known last o (Ok l ∷ ls) fault) e
+    by_case (is_skipped (tokens_of l.bytes)) (item_from known last o ls)
+    (put_there l.number (line_said known o (tokens_of l.bytes)) >>= λ n. behind known last ls n) (wrong fault) (IsFirst known last o (Ok l ∷ ls) fault) e
     (λ t h. longer known last o o l ls fault (λ front left k. ((λ u. k), (λ f. absurd cc))) (first_fault known last o ls fault h))
-    (λ f h. elim (went known last l ls (line_read known o (tokens_of l.bytes)) fault h) [
+    (λ f h. elim (went known last l ls (line_said known o (tokens_of l.bytes)) fault h) [
       | inl x ↦ inl (record { front = []; line = Ok l; rest = ls; all = refl; left = o; taken = refl; faulty = (f, x) })
       | inr x ↦ longer known last o (Some x.0) l ls fault (λ front left k. ((λ t. absurd cc), (λ g. (x.0, x.1, x.2, k)))) (first_fault known last (Some x.0) ls fault x.3)
     ])
 
--- ---- from the first line of a theorem on
+-- ---- from the first line on
 
-pub fault_is_first : (known : List Headed) (last : ℕ) (lines : Rest) (fault : BookFault) → read_from known last None lines ≡ wrong fault → IsFirst known last None lines fault
+pub fault_is_first : (known : Known) (last : ℕ) (lines : Rest) (fault : BookFault) → item_from known last None lines ≡ wrong fault → IsFirst known last None lines fault
 fault_is_first known last lines fault e = first_fault known last None lines fault e
 
-pub fault_of_front : (known : List Headed) (lines : Rest) (fault : BookFault) (b : BreaksAt known None lines fault) (last : ℕ) (other : Rest) → read_from known last None (b.front ++ b.line ∷ other) ≡ wrong fault
+pub fault_of_front : (known : Known) (lines : Rest) (fault : BookFault) (b : BreaksAt known None lines fault) (last : ℕ) (other : Rest) → item_from known last None (b.front ++ b.line ∷ other) ≡ wrong fault
 fault_of_front known lines fault b last other = front_fault known None b.left b.front b.line fault b.taken b.faulty last other

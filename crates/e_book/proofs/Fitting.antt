@@ -1,9 +1,8 @@
 -- A theorem that is read can be judged, where the earlier ones are statements; and it is one.
-use Rattle.std.proofs.Common.{◌≡◌, ℕ, ◌≤◌, Bool, true, ◌&&◌, List, [], ◌∷◌, ◌++◌, length, Option, Some, None, Result, Ok, Err, refl, sym, ap, subst, arith}
-use Rattle.std.specs.Prelude.{IsTrue, IfOk, IfSome}
+use Rattle.std.proofs.Common.{◌≡◌, ℕ, ◌≤◌, Bool, true, ◌&&◌, List, [], ◌∷◌, ◌++◌, length, None, Result, Ok, refl, sym, ap, subst, arith}
 use Rattle.std.specs.List.{list_all}
 use Rattle.std.proofs.lemmas.Bool.{le-leb, and_parts, and_from}
-use Rattle.e_text.specs.Lines.{Seen, Ahead}
+use Rattle.e_text.specs.Lines.{Seen}
 use Rattle.e_text.specs.declared.line.LineFault.{LineFault}
 use Rattle.e_literal.specs.declared.object.Sort.TheVariants as sorts
 use Rattle.e_literal.specs.declared.object.Scope.{Scope}
@@ -32,11 +31,8 @@ use Rattle.e_book.specs.Limits.{most_of, within, count_monomials}
 use Rattle.e_book.specs.Headed.{Headed, headed, stated_by}
 use Rattle.e_book.specs.Scope.{scope_of_names}
 use Rattle.e_book.specs.LineLimits.{FewNamed, few_objects}
-use Rattle.e_book.specs.declared.theorem.Theorem.{Theorem}
-use Rattle.e_book.specs.declared.fault.BookFault.{BookFault}
-use Rattle.e_book.specs.Entry.{Entry, entry_of}
+use Rattle.e_book.specs.Entry.{Entry}
 use Rattle.e_book.specs.Fits.{NewNamesFit, Fits}
-use Rattle.e_book.specs.Grammar.{BookReads}
 use Rattle.e_book.specs.Book.{read_from}
 use Rattle.e_book.proofs.Answered.{within_ok, answered, pair}
 use Rattle.e_book.proofs.InScope.{bind_ok}
@@ -201,10 +197,3 @@ one_more_stated [] title t h k = and_from _ _ k refl
 one_more_stated (x ∷ known) title t h k =
     let p = and_parts (is_small_statement (stated x.statement)) (list_all is_small_statement (stated_by known)) h in
     and_from _ _ p.0 (one_more_stated known title t p.1 k)
-
--- what is answered states something
-pub answer_states : (known : List Headed) (last : ℕ) (ahead : List (Result Seen LineFault)) (result : Result (Option Theorem) BookFault) (new : Ahead) → BookReads result new (read_from known last None ahead)
-    → IfOk result (λ o. IfSome o (λ t. IsTrue (is_small_statement (stated t.statement))))
-answer_states known last ahead (Ok (Some t)) new e = reading_states known last ahead new.lines (entry_of t) e
-answer_states known last ahead (Ok None) new e = tt
-answer_states known last ahead (Err f) new e = tt

@@ -25,12 +25,10 @@ use Rattle.e_book.specs.Steps.{allowed, built, applied, claimed, superposed, spl
 use Rattle.e_book.specs.Open.{Open, Stating, Proving}
 use Rattle.e_book.specs.Grammar.{Rest, nothing_said, begins, goes_on, next, line_after, line_read, ended, or_more}
 use Rattle.e_book.specs.Grammar as grammar
-use Rattle.e_text.specs.Lines.{Ahead}
-use Rattle.e_book.specs.declared.theorem.Theorem.{Theorem}
 use Rattle.e_book.specs.Canonical.{forms_of, line_of}
 use Rattle.e_book.specs.HasSpelling.{HasSpelling}
 use Rattle.e_book.specs.Laws.{Shows}
-use Rattle.e_book.specs.Grammar.{is_skipped, put_at, BookReads}
+use Rattle.e_book.specs.Grammar.{is_skipped, put_at}
 use Rattle.e_book.specs.Book.{line_step, is_last, is_done}
 use Rattle.e_book.specs.Book as parser
 use Rattle.e_book.proofs.InScope.{bind_ok, ok_is, read_ok}
@@ -47,7 +45,7 @@ use Rattle.e_book.proofs.StatementLines.{declare_alike, give_alike, make_alike, 
 
 -- ---- what the spelling of a line says of its items
 
-abbrev HasItems : Form → Type 0
+abbrev pub HasItems : Form → Type 0
 HasItems (forms.Given raws) = 0 < length raws
 HasItems (forms.Made sort new) = 0 < length new
 HasItems (forms.Show raws) = 0 < length raws
@@ -85,7 +83,7 @@ has_items = record {
   of_end = tt;
 }
 
-items_read : (words : List (List ℕ)) (f : Form) → form_of words ≡ Ok f → HasItems f
+pub items_read : (words : List (List ℕ)) (f : Form) → form_of words ≡ Ok f → HasItems f
 items_read = form_by_word HasItems has_items
 
 -- ---- a line at each place
@@ -172,7 +170,7 @@ by_place known places.Splitting d f at b few some = at_splitting known d f b few
 by_place known places.Closed d f at b few some = at_closed known d f b few
 by_place known places.Done d f at b few some = at_done known d f
 
-step_alike : (known : List Headed) (d : Draft) (f : Form) → Tied known d → HasItems f → Alike known (step known d f) (line_after known (Some (open_of d)) f)
+pub step_alike : (known : List Headed) (d : Draft) (f : Form) → Tied known d → HasItems f → Alike known (step known d f) (line_after known (Some (open_of d)) f)
 unfolding step
 step_alike known d f t some = by_place known d.place d f refl t.body t.names some
 
@@ -191,7 +189,7 @@ begun_tied known t =
 abbrev begins_titled : List Headed → List ℕ → Result Open Kind
 begins_titled known t = kept ((leb (length known + 1) most_theorems, limits.Theorems) ∷ []) (Stating (nothing_said t))
 
-begin_alike : (known : List Headed) (f : Form) → Alike known (begin known f) (begins known f)
+pub begin_alike : (known : List Headed) (f : Form) → Alike known (begin known f) (begins known f)
 unfolding begin
 begin_alike known (forms.Theorem t) =
     let n = Stating (nothing_said t) in
@@ -271,10 +269,6 @@ pub grammar_read : (known : List Headed) (last : ℕ) (lines : Rest) → parser.
 grammar_read known last lines = read_alike known last None lines tt
 
 -- ---- what is known of what the parser reads, of what the grammar reads
-
-pub reads_grammar : (known : List Headed) (last : ℕ) (lines : Rest) (result : Result (Option Theorem) BookFault) (new : Ahead) → BookReads result new (parser.read_from known last None lines)
-    → BookReads result new (grammar.read_from known last None lines)
-reads_grammar known last lines result new h = subst (λ (r : Answer). BookReads result new r) (grammar_read known last lines) h
 
 pub canonical_grammar : (known : List Headed) (last : ℕ) (t : Entry) (lines rest : Rest) → HasSpelling known t → Shows lines (map line_of (forms_of known t)) rest → grammar.read_from known last None lines ≡ whole t rest
 canonical_grammar known last t lines rest h s = sym (grammar_read known last lines) ∙ canonical_lines_read known last t lines rest h s

@@ -334,11 +334,11 @@ keeps_stepped known d e (forms.Cases l) g a s h = keeps_cases known d e l g (pro
 keeps_stepped known d e forms.Else g a s h = keeps_else known d e g (splitting d.place a) h
 keeps_stepped known d e forms.End g a s h = keeps_end known d e g a h
 
-keeps : (known : List Headed) (d e : Draft) (f : Form) → Good known d → Said f → step known d f ≡ Ok e → Good known e
+pub keeps : (known : List Headed) (d e : Draft) (f : Form) → Good known d → Said f → step known d f ≡ Ok e → Good known e
 unfolding step
 keeps known d e f g said h = let p = passes (allowed d.place f) (stepped known d f) e h in keeps_stepped known d e f g p.0 said p.1
 
-good_begun : (known : List Headed) (t : List ℕ) → is_known known t ≡ false → Good known (begun t)
+pub good_begun : (known : List Headed) (t : List ℕ) → is_known known t ≡ false → Good known (begun t)
 good_begun known t n =
     let head : HeadOf known (begun t) = record {
       new = n;
@@ -355,7 +355,7 @@ good_begun known t n =
     let none : NoProofOf (begun t) = record { steps = refl; outers = refl; lines = refl; facts = refl; terms = refl } in
     record { head = head; body = (refl, refl, refl, none) }
 
-keeps_begin : (known : List Headed) (f : Form) (e : Draft) → begin known f ≡ Ok e → Good known e
+pub keeps_begin : (known : List Headed) (f : Form) (e : Draft) → begin known f ≡ Ok e → Good known e
 unfolding begin
 keeps_begin known (forms.Theorem t) e h =
     let n = untaken (is_known known t) (within (length known + 1) most_theorems limits.Theorems >>= λ few. read_ok (begun t)) e h in
@@ -377,7 +377,7 @@ last_shut : (known : List Headed) (p : Place) (d : Draft) → is_last p ≡ true
 last_shut known Done d a b = b
 last_shut known p d a b = absurd cc
 
-fits_read : (known : List Headed) (d : Draft) → Good known d → is_done d ≡ true → Fits known (entry_of_draft d)
+pub fits_read : (known : List Headed) (d : Draft) → Good known d → is_done d ≡ true → Fits known (entry_of_draft d)
 fits_read known d good a =
     let g = good.head in
     let t = stated (statement_of_draft d) in

@@ -59,7 +59,6 @@ pub mod CanonicalRead
 pub mod FormsByWord
 pub mod SaidForms
 pub mod ReadSpelled
-pub mod ReadingOn
 pub mod FirstFault
 pub mod ParserState
 pub mod LimitTests
@@ -68,4 +67,18 @@ pub mod BlockLines
 pub mod BlockEnds
 pub mod StatementLines
 pub mod GrammarRead
+pub mod NotionsBeside
+pub mod FreshTitles
+pub mod ItemLoops
+pub mod SaidAgain
+pub mod SameTitle
+pub mod NamesInRange
+pub mod ItemsWritten
+pub mod OutWritten
+pub mod LinesByWord
+pub mod ComingTied
+pub mod ComingKept
+pub mod ReadingOn
+pub mod CanonicalItems
+pub mod ItemsRead
 mod Checks

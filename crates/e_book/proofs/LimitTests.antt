@@ -69,7 +69,7 @@ kept ps n = all_kept ps >>= λ few. read_ok n
 abbrev pub then_limits : List Headed → Form → Open → Result Open Kind
 then_limits known f n = kept (limits_kept known f n) n
 
-by_test : (P : Bool → Bool → Type 0) (a most : ℕ) → P true false → (a ≤ most → P false true) → P (ltb most a) (leb a most)
+pub by_test : (P : Bool → Bool → Type 0) (a most : ℕ) → P true false → (a ≤ most → P false true) → P (ltb most a) (leb a most)
 by_test P a most over under =
     elim (cases_lt most a) [
       | inl lt ↦ subst (λ (o : Bool). P o (leb a most)) (sym (lt-ltb most a lt)) (subst (λ (f : Bool). P true f) (sym (lt-leb a most lt)) over)

@@ -268,7 +268,7 @@ abbrev pub LitsNamed : List RawLit → Type 0
 LitsNamed [] = ⊥
 LitsNamed (l ∷ ls) = AllByRecursion LitNamed (l ∷ ls)
 
-split_again : (l : RawLit) (ls : List RawLit) → LitNamed l → AllByRecursion LitNamed ls → slice_split is_semicolon (lit_words l ++ more_words ls) ≡ map lit_words (l ∷ ls)
+pub split_again : (l : RawLit) (ls : List RawLit) → LitNamed l → AllByRecursion LitNamed ls → slice_split is_semicolon (lit_words l ++ more_words ls) ≡ map lit_words (l ∷ ls)
 split_again l [] h k = ap (slice_split is_semicolon) (append-nil (lit_words l)) ∙ slice_split_none is_semicolon (lit_words l) (All-from_recursion (λ w. is_semicolon w ≡ false) (lit_words l) (signed_without l.neg l.atom h.atom))
 split_again l (m ∷ ls) h k =
     slice_split_at is_semicolon (lit_words l) (codes ";") (lit_words m ++ more_words ls) (All-from_recursion (λ w. is_semicolon w ≡ false) (lit_words l) (signed_without l.neg l.atom h.atom)) refl

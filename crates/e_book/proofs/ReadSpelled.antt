@@ -51,10 +51,12 @@ use Rattle.e_book.specs.DraftViews.{script_of_close, statement_of_draft, entry_o
 use Rattle.e_book.specs.Entry.{Entry}
 use Rattle.e_book.specs.Grammar.{is_skipped, put_at}
 use Rattle.e_book.specs.Book.{line_step, is_last, is_done, read_from}
+use Rattle.e_book.specs.Fits.{Fits}
 use Rattle.e_book.specs.HasSpelling.{HasSpelling, AreNames, is_plain, is_place, is_named_by_title, names_theorems}
 use Rattle.e_book.proofs.Answered.{within_ok, passes, untaken, put_ok, answered, pair, first_is, skip_or, Answer}
 use Rattle.e_book.proofs.InScope.{bind_ok, ok_is, read_ok, each_length}
-use Rattle.e_book.proofs.Keeps.{reading_fits, no_title}
+use Rattle.e_book.proofs.Drafts.{Good}
+use Rattle.e_book.proofs.Keeps.{reading_fits, fits_read, no_title}
 use Rattle.e_book.proofs.SaidForms.{Said, form_said}
 use Rattle.e_book.proofs.KeptSums.{terms_added}
 use Rattle.e_book.proofs.Uses.{GoodUse, use_fits, found_title}
@@ -178,7 +180,7 @@ SomeShown Splitting shown = 0 < length shown
 SomeShown Closed shown = 0 < length shown
 SomeShown Done shown = 0 < length shown
 
-record Spelled (known : List Headed) (d : Draft) : Type 0 where
+pub record Spelled (known : List Headed) (d : Draft) : Type 0 where
   few : length known < most_theorems
   title : is_title d.title ≡ true
   naming : Naming d.names
@@ -502,7 +504,7 @@ spelled_stepped known d e (forms.Cases raw) g s a h = spelled_split known d e ra
 spelled_stepped known d e forms.Else g s a h = spelled_else known d e g a h
 spelled_stepped known d e forms.End g s a h = spelled_end known d e g a h
 
-spelled_next : (known : List Headed) (d e : Draft) (f : Form) → Spelled known d → Said f → step known d f ≡ Ok e → Spelled known e
+pub spelled_next : (known : List Headed) (d e : Draft) (f : Form) → Spelled known d → Said f → step known d f ≡ Ok e → Spelled known e
 unfolding step
 spelled_next known d e f g s h = let p = passes (allowed d.place f) (stepped known d f) e h in spelled_stepped known d e f g s p.0 p.1
 
@@ -511,7 +513,7 @@ spelled_next known d e f g s h = let p = passes (allowed d.place f) (stepped kno
 no_names : Naming (record { points = []; lines = []; circles = [] })
 no_names = record { point_names = tt; line_names = tt; circle_names = tt }
 
-spelled_begin : (known : List Headed) (f : Form) (e : Draft) → Said f → begin known f ≡ Ok e → Spelled known e
+pub spelled_begin : (known : List Headed) (f : Form) (e : Draft) → Said f → begin known f ≡ Ok e → Spelled known e
 unfolding begin
 spelled_begin known (forms.Theorem t) e s h =
     let n = untaken (is_known known t) (within (length known + 1) most_theorems limits.Theorems >>= λ few. read_ok (begun t)) e h in
@@ -532,7 +534,7 @@ spelled_line known None words e g h = let f = bind_ok (form_of words) (λ f. beg
 spelled_line known (Some d) words e g h = let f = bind_ok (form_of words) (λ f. step known d f) e h in spelled_next known d e f.0 g (form_said words f.0 f.1) f.2
 
 -- what is known of a theorem beside that it fits
-record Named (known : List Headed) (t : Entry) : Type 0 where
+pub record Named (known : List Headed) (t : Entry) : Type 0 where
   few : length known < most_theorems
   title : is_title t.title ≡ true
   naming : Naming t.names
@@ -543,7 +545,7 @@ at_last : (p : Place) (shown : List Lit) → is_last p ≡ true → SomeShown p 
 at_last Done shown a s = s
 at_last p shown a s = absurd cc
 
-all_named : (known : List Headed) (d : Draft) → Spelled known d → is_done d ≡ true → Named known (entry_of_draft d)
+pub all_named : (known : List Headed) (d : Draft) → Spelled known d → is_done d ≡ true → Named known (entry_of_draft d)
 all_named known d g a = record { few = g.few; title = g.title; naming = g.naming; some = at_last d.place d.shown a g.some; said = plain_script known d.steps d.close g.blocks.inside g.blocks.shut }
 
 reading_names : (known : List Headed) (last : ℕ) (draft : Option Draft) (lines rest : List (Result Seen LineFault)) (t : Entry) → SpelledSoFar known draft → read_from known last draft lines ≡ answered (pair t rest) → Named known t
@@ -565,10 +567,8 @@ reading_names known last draft (Ok line ∷ lines) rest t g e =
           ]
     ]
 
-pub read_is_spelled : (known : List Headed) (last : ℕ) (t : Entry) (lines rest : List (Result Seen LineFault)) → read_from known last None lines ≡ Ok (Some (t, rest)) → HasSpelling known t
-read_is_spelled known last t lines rest e =
-    let f = reading_fits known last None lines rest t tt e in
-    let n = reading_names known last None lines rest t tt e in
+has_spelling : (known : List Headed) (t : Entry) → Fits known t → Named known t → HasSpelling known t
+has_spelling known t f n =
     let s = and_parts (is_plain t.script) (names_theorems known t.script) n.said in
     record {
       fits = f;
@@ -581,3 +581,10 @@ read_is_spelled known last t lines rest e =
       script = s.0;
       theorems = s.1;
     }
+
+-- a draft whose last line has come
+pub done_spelled : (known : List Headed) (d : Draft) → Good known d → Spelled known d → is_done d ≡ true → HasSpelling known (entry_of_draft d)
+done_spelled known d good g a = has_spelling known (entry_of_draft d) (fits_read known d good a) (all_named known d g a)
+
+pub read_is_spelled : (known : List Headed) (last : ℕ) (t : Entry) (lines rest : List (Result Seen LineFault)) → read_from known last None lines ≡ Ok (Some (t, rest)) → HasSpelling known t
+read_is_spelled known last t lines rest e = has_spelling known t (reading_fits known last None lines rest t tt e) (reading_names known last None lines rest t tt e)

@@ -64,7 +64,7 @@ kept false w n e = absurd cc
 abbrev pair : List ℕ → List (List ℕ) → List ℕ × List (List ℕ)
 pair w ws = (w, ws)
 
-title_said : (ws : List (List ℕ)) (p : List ℕ × List (List ℕ)) → title_at ws ≡ Ok p → is_title p.0 ≡ true
+pub title_said : (ws : List (List ℕ)) (p : List ℕ × List (List ℕ)) → title_at ws ≡ Ok p → is_title p.0 ≡ true
 unfolding title_at word_at
 title_said [] p e = absurd cc
 title_said (w ∷ ws) p e =
@@ -73,7 +73,7 @@ title_said (w ∷ ws) p e =
     let t : is_title a.0 ≡ true = subst (λ (x : List ℕ). is_title x ≡ true) k.1 k.0 in
     subst (λ (q : List ℕ × List (List ℕ)). is_title q.0 ≡ true) (ok_is (pair a.0 ws) p a.2) t
 
-names_said : (ws ns : List (List ℕ)) → names_of ws ≡ Ok ns → AreNames ns
+pub names_said : (ws ns : List (List ℕ)) → names_of ws ≡ Ok ns → AreNames ns
 names_said [] ns e = subst AreNames (ok_is [] ns e) tt
 names_said (w ∷ ws) ns e =
     let a = bind_ok (or_malformed (name_of w)) (λ y. names_of ws >>= λ ys. read_ok (y ∷ ys)) ns e in
@@ -139,7 +139,7 @@ place_taken : (b : Bool) (w : List ℕ) (ws : List (List ℕ)) (n : ℕ) → len
 place_taken true w ws n e = omega (arith, e)
 place_taken false w ws n e = omega (arith, e)
 
-words_count : (new : Bool) (ps : List Piece) (ws : List (List ℕ)) → are_words_of ps ws ≡ true → length (words_at new ps ws) ≡ places new ps
+pub words_count : (new : Bool) (ps : List Piece) (ws : List (List ℕ)) → are_words_of ps ws ≡ true → length (words_at new ps ws) ≡ places new ps
 words_count new [] [] h = refl
 words_count new [] (w ∷ ws) h = absurd cc
 words_count new (p ∷ ps) [] h = absurd cc

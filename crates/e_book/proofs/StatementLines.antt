@@ -73,7 +73,7 @@ may_declare places.Making d sort new st s = sym (and_right (is_empty d.given) (n
 may_declare places.Showing d sort new st s = sym (and_right (is_empty d.given) (none_made (statement_of_draft d)) (and_right (is_empty d.made) (is_empty d.shown) s))
 may_declare p d sort new st s = absurd st
 
-may_give : (p : Place) (d : Draft) (raws : List RawLit) → IsStating p → Stands p d → allowed p (forms.Given raws) ≡ none_made (statement_of_draft d)
+pub may_give : (p : Place) (d : Draft) (raws : List RawLit) → IsStating p → Stands p d → allowed p (forms.Given raws) ≡ none_made (statement_of_draft d)
 may_give places.Declaring d raws st s = sym (and_from (is_empty d.made) (is_empty d.shown) s.1 s.2)
 may_give places.Giving d raws st s = sym (and_from (is_empty d.made) (is_empty d.shown) s.1 s.2)
 may_give places.Making d raws st s = sym (and_left (is_empty d.made) (is_empty d.shown) s.0)

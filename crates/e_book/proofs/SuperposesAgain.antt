@@ -45,3 +45,7 @@ superpose_again s g =
     let n : length (front s) ≡ 13 = length-filled superpose_pieces s.new s.args g.made g.arguments in
     ap (λ (ws : List (List ℕ)). head_of ws (drop 13 (front s ++ rest))) (take_at (front s) rest 13 n)
     ∙ ap (λ (ws : List (List ℕ)). head_of (front s) ws) (drop_at (front s) rest 13 n) ∙ head_again s g
+
+-- behind the thirteen words before them
+pub lits_behind : (s : RawSuperpose) → SuperposeNamed s → drop 13 (superpose_words s) ≡ lits_words s.shown
+lits_behind s g = drop_at (front s) (lits_words s.shown) 13 (length-filled superpose_pieces s.new s.args g.made g.arguments)

@@ -1,4 +1,4 @@
--- The grammar of books: each line has a form, then its names are looked up, and then the limits are asked.
+-- The grammar of theorems: each line has a form, then its names are looked up, and then the limits are asked.
 use Rattle.std.specs.Prelude.{◌≡◌, ◌==◌, ℕ, ◌+◌, List, [], ◌∷◌, ◌++◌, length, replicate, nat_le, Bool, true, false, ◌&&◌, Option, Some, None, Result, Ok, Err, if◌then◌else◌}
 use Rattle.e_literal.specs.declared.object.Sort.{Sort}
 use Rattle.e_theorem.specs.declared.statement.Statement.{Statement}
@@ -17,10 +17,9 @@ use Rattle.e_book.specs.declared.fault.BookFault.TheVariants as faults
 use Rattle.e_book.specs.declared.form.Form.{Form}
 use Rattle.e_book.specs.declared.form.Form.TheVariants as forms
 use Rattle.e_book.specs.Reading.{◌>>=◌}
-use Rattle.e_book.specs.declared.theorem.Theorem.{Theorem}
 use Rattle.e_book.specs.Faults.{at_line, line_fault}
 use Rattle.e_book.specs.Headed.{Headed, is_known}
-use Rattle.e_book.specs.Entry.{Entry, entry_of}
+use Rattle.e_book.specs.Entry.{Entry}
 use Rattle.e_book.specs.Forms.{form_of}
 use Rattle.e_book.specs.Limits.{most_theorems}
 use Rattle.e_book.specs.Scope.{fresh, lit_in, lits_in, by_in, let_in, qed_in}
@@ -138,9 +137,6 @@ abbrev pub no_more : ℕ → Option Open → Result (Option (Entry × Rest)) Boo
 no_more last None = Ok None
 no_more last (Some o) = Err (faults.Unended last)
 
-abbrev pub put_there : ℕ → Result Open Kind → Result Open BookFault
-put_there line read = put_at line read
-
 -- the next theorem and the lines behind it, or the first fault; last is the number behind the last line
 abbrev pub read_from : List Headed → ℕ → Option Open → Rest → Result (Option (Entry × Rest)) BookFault
 read_from known last o [] = no_more last o
@@ -163,8 +159,3 @@ BookFails (faults.NameTaken line) read = read ≡ Err (faults.NameTaken line)
 BookFails (faults.WrongSort line) read = read ≡ Err (faults.WrongSort line)
 BookFails (faults.Limit line what) read = read ≡ Err (faults.Limit line what)
 BookFails (faults.Unended line) read = read ≡ Err (faults.Unended line)
-
-abbrev pub BookReads : Result (Option Theorem) BookFault → Ahead → Result (Option (Entry × List (Result Seen LineFault))) BookFault → Type 0
-BookReads (Ok (Some t)) new read = read ≡ Ok (Some (entry_of t, new.lines))
-BookReads (Ok None) new read = read ≡ Ok None
-BookReads (Err f) new read = BookFails f read

@@ -48,6 +48,14 @@ most_terms = 1024
 abbrev pub most_blanks : ℕ
 most_blanks = 6
 
+-- definitions of a book
+abbrev pub most_notions : ℕ
+most_notions = 200
+
+-- literals that items stand for, in one theorem or one definition
+abbrev pub most_expanded : ℕ
+most_expanded = 4096
+
 abbrev pub what_of : Sort → What
 what_of sorts.Point = limits.Points
 what_of sorts.Line = limits.Lines

@@ -10,8 +10,8 @@ ghost use Rattle.e_book.specs.Canonical.{made_words};
 ghost use Rattle.e_book.specs.Applies.{argument_of, arguments_of, made_names, apply_of, known_place, entry_in, entries_in, apply_in, count_blanks};
 
 use crate::fault::{Kind, Trouble};
-use crate::known::Known;
 use crate::scope::{fresh, object_as};
+use crate::theorems::Theorems;
 use crate::words::{cut, some_names};
 use e_deriv::Names;
 use e_literal::{Items, Obj, Sort};
@@ -93,7 +93,7 @@ pub(crate) fn apply_of(alloc: Global, words: &[&[u8]]) -> Result<RawApply, Troub
 }
 
 /// The place of the earlier theorem with this title.
-fn place_of_title(known: &Known, title: Title) -> Result<usize, Trouble>
+fn place_of_title(known: &Theorems, title: Title) -> Result<usize, Trouble>
     ensures value { Gives (λ k. k) result (known_place (place_in known.now title)) }
     ensures within { IfOk result (λ k. k < length known.now) }
 {
@@ -153,7 +153,7 @@ pub struct Application {
 #[tactic(auto, unfolding(crate::specs::Applies::apply_in))]
 pub fn apply_in(
     alloc: Global,
-    known: &Known,
+    known: &Theorems,
     names: &Names,
     raw: &RawApply,
 ) -> Result<Application, Trouble>

@@ -11,7 +11,6 @@ use crate::applies::{Application, RawApply, apply_in, count_blanks};
 use crate::blocks::Outers;
 use crate::fault::{Kind, Trouble, What};
 use crate::form::Form;
-use crate::known::Known;
 use crate::lets::RawLet;
 use crate::limits::{
     MAX_BLANKS, MAX_FACTS, MAX_STEPS, MAX_THEOREMS, few_monos, few_objects, most_of, terms_of,
@@ -21,6 +20,7 @@ use crate::literal::RawLit;
 use crate::scope::{by_in, fresh, let_in, lit_in, put_lits, put_names, scope_of_names};
 use crate::steps::{CloseLine, Steps};
 use crate::theorem::Theorem;
+use crate::theorems::Theorems;
 use e_construct::Construction;
 use e_deriv::{Names, Step};
 use e_literal::{Items, Lit, Scope, Sort, grown};
@@ -70,7 +70,7 @@ pub struct Draft {
     pub place: Place,
 }
 
-fn allowed(place: Place, form: &Form) -> bool
+pub(crate) fn allowed(place: Place, form: &Form) -> bool
     ensures { result ≡ allowed place form.now }
 {
     match form {
@@ -160,13 +160,14 @@ impl Draft {
     ghost use Rattle.e_theorem.specs.Statements.{stated};
     ghost use Rattle.e_book.specs.Limits.{most_theorems};
     ghost use Rattle.e_book.specs.LineLimits.{few_objects};
-    ghost use Rattle.e_book.specs.Steps.{FitsScope, begin, step, stepped, declares, supposes, makes, proof_begun, cited, inferred, with_step, with_terms, built, used_by, applied};
+    ghost use Rattle.e_book.specs.Steps.{FitsScope, begin, begun, step, stepped, declares, supposes, makes, shows, proof_begun, cited, inferred, with_step, with_terms, built, used_by, applied};
     ghost use Rattle.e_book.specs.DraftViews.{entry_of_draft};
     ghost use Rattle.e_book.specs.Entry.{entry_of};
+    ghost use Rattle.e_book.specs.inner.Machine.{names_there};
 
     /// A theorem begun by its first line.
     #[tactic(auto, unfolding(crate::specs::Steps::begin))]
-    pub fn begin(alloc: Global, known: &Known, form: &Form) -> Result<Draft, Trouble>
+    pub fn begin(alloc: Global, known: &Theorems, form: &Form) -> Result<Draft, Trouble>
         ensures value { Gives (λ d. d) result (begin known.now form.now) }
         ensures fits { IfOk result FitsScope }
         ensures few { OnOk result (length known.now ≤ most_theorems) }
@@ -180,8 +181,16 @@ impl Draft {
         if known.len() >= MAX_THEOREMS {
             return Err(Trouble::Fault(Kind::Limit(What::Theorems)));
         }
-        Ok(Draft {
-            title: *title,
+        Ok(Draft::begun(alloc, *title))
+    }
+
+    /// What has come where only the title has.
+    pub(crate) fn begun(alloc: Global, title: Title) -> Draft
+        ensures value { result ≡ begun title }
+        ensures fits { FitsScope result }
+    {
+        Draft {
+            title,
             names: no_names(alloc),
             in_scope: no_names(alloc),
             declared: Items::empty(alloc),
@@ -195,11 +204,21 @@ impl Draft {
             outers: Outers::new(alloc),
             close: CloseLine::Qed(Items::empty(alloc)),
             place: Place::Declaring,
-        })
+        }
+    }
+
+    /// The names of the objects that the next line may name.
+    pub(crate) fn names_there(&self) -> &Names
+        ensures { result.now ≡ names_there self.now }
+    {
+        match self.place {
+            Place::Proving => &self.in_scope,
+            _ => &self.names,
+        }
     }
 
     /// The draft with the next line.
-    pub fn taking(mut self, alloc: Global, known: &Known, form: &Form) -> Result<Draft, Trouble>
+    pub fn taking(mut self, alloc: Global, known: &Theorems, form: &Form) -> Result<Draft, Trouble>
         requires draft { FitsScope self }
         requires known { length known.now ≤ most_theorems }
         ensures value { Gives (λ d. d) result (step known.now self form.now) }
@@ -216,7 +235,12 @@ impl Draft {
 
     /// The next line: its form at this place, its names from left to right, then the limits.
     #[tactic(auto, unfolding(crate::specs::Steps::step))]
-    pub(crate) fn step(&mut self, alloc: Global, known: &Known, form: &Form) -> Result<(), Trouble>
+    pub(crate) fn step(
+        &mut self,
+        alloc: Global,
+        known: &Theorems,
+        form: &Form,
+    ) -> Result<(), Trouble>
         requires draft { FitsScope self.old }
         requires known { length known.now ≤ most_theorems }
         ensures value { Moves result self.new (step known.now self.old form.now) }
@@ -229,7 +253,7 @@ impl Draft {
     }
 
     #[tactic(auto, unfolding(crate::specs::Steps::stepped))]
-    fn stepped(&mut self, alloc: Global, known: &Known, form: &Form) -> Result<(), Trouble>
+    fn stepped(&mut self, alloc: Global, known: &Theorems, form: &Form) -> Result<(), Trouble>
         requires draft { FitsScope self.old }
         requires known { length known.now ≤ most_theorems }
         ensures value { Moves result self.new (stepped known.now self.old form.now) }
@@ -240,12 +264,7 @@ impl Draft {
             Form::Declare(sort, names) => self.declare(alloc, *sort, names.items()),
             Form::Given(raw) => self.give(alloc, raw.items()),
             Form::Made(sort, names) => self.make(alloc, *sort, names.items()),
-            Form::Show(raw) => {
-                put_lits(alloc, &self.names, raw.items(), &mut self.shown)?;
-                few_monos(raw.items())?;
-                self.place = Place::Showing;
-                Ok(())
-            }
+            Form::Show(raw) => self.show(alloc, raw.items()),
             Form::Proof => self.begin_proof(alloc),
             Form::By(rule, args, lit) => self.cite(alloc, *rule, args.items(), lit),
             Form::Hence(raw) => self.infer(alloc, raw),
@@ -268,7 +287,12 @@ impl Draft {
     }
 
     /// Declared objects.
-    fn declare(&mut self, alloc: Global, sort: Sort, names: &[Name]) -> Result<(), Trouble>
+    pub(crate) fn declare(
+        &mut self,
+        alloc: Global,
+        sort: Sort,
+        names: &[Name],
+    ) -> Result<(), Trouble>
         requires { FitsScope self.old }
         ensures value { Moves result self.new (declares self.old sort names.now) }
         ensures fits { OnOk result (FitsScope self.new) }
@@ -289,6 +313,18 @@ impl Draft {
         let sorts = repeated(alloc, sort, names.len())?;
         self.made.append(sorts.items())?;
         self.place = Place::Making;
+        Ok(())
+    }
+
+    /// Shown literals: their names, and then the limits of each.
+    pub(crate) fn show(&mut self, alloc: Global, raw: &[RawLit]) -> Result<(), Trouble>
+        requires { FitsScope self.old }
+        ensures value { Moves result self.new (shows self.old raw.now) }
+        ensures fits { OnOk result (FitsScope self.new) }
+    {
+        put_lits(alloc, &self.names, raw, &mut self.shown)?;
+        few_monos(raw)?;
+        self.place = Place::Showing;
         Ok(())
     }
 
@@ -392,7 +428,7 @@ impl Draft {
 
     /// The use of an earlier theorem: its title and the names, and then the limits.
     #[tactic(auto, unfolding(crate::specs::Steps::applied))]
-    fn apply(&mut self, alloc: Global, known: &Known, raw: &RawApply) -> Result<(), Trouble>
+    fn apply(&mut self, alloc: Global, known: &Theorems, raw: &RawApply) -> Result<(), Trouble>
         requires draft { FitsScope self.old }
         requires known { length known.now ≤ most_theorems }
         ensures value { Moves result self.new (applied known.now self.old raw.now) }

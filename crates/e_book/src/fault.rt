@@ -48,6 +48,10 @@ pub enum What {
     Terms,
     /// Blanks of a line, at most 6.
     Blanks,
+    /// Definitions of a book, at most 200.
+    Notions,
+    /// Literals that items stand for, in one theorem or one definition, at most 4,096.
+    Expanded,
     /// A number of a figure: at most 1,000,000 in size, and a square at most 10^12.
     Number,
 }
@@ -81,10 +85,11 @@ pub enum BookFault {
     /// The line has no form at its place, or a wrong number of names.
     #[error("line {line} has no form here")]
     Malformed { line: u32 },
-    /// A name that is not in scope, or a rule that there is not.
+    /// A name that is not in scope, or a rule, a theorem or a definition that there is not.
     #[error("line {line} uses an unknown name")]
     UnknownName { line: u32 },
-    /// A new name that is in scope, or new twice on its line; a title that an earlier theorem has.
+    /// A new name that is in scope, or new twice on its line; a title that an earlier theorem or
+    /// definition has.
     #[error("line {line} gives a name that is taken")]
     NameTaken { line: u32 },
     /// An object of another sort than its place wants.
@@ -92,8 +97,8 @@ pub enum BookFault {
     WrongSort { line: u32 },
     #[error("line {line} passes the limit on {what:?}")]
     Limit { line: u32, what: What },
-    /// The text ends inside a theorem; the line is the one behind the last.
-    #[error("the text ends inside a theorem, at line {line}")]
+    /// The text ends inside a theorem or a definition; the line is the one behind the last.
+    #[error("the text ends inside a theorem or a definition, at line {line}")]
     Unended { line: u32 },
     #[error("out of memory")]
     NoMemory,

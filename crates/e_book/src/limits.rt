@@ -44,6 +44,12 @@ pub const MAX_FACTS: usize = 2_048;
 /// How many monomials the literals that are facts may have, repeats counted.
 pub const MAX_TERMS: usize = 1_024;
 
+/// How many definitions a book may have.
+pub const MAX_NOTIONS: usize = 200;
+
+/// How many literals items may stand for, in one theorem or one definition.
+pub const MAX_EXPANDED: usize = 4_096;
+
 /// At most so many, or the limit.
 pub(crate) fn within(count: usize, most: usize, what: What) -> Result<(), Trouble>
     ensures { Gives (λ u. u) result (within count most what) }

@@ -1,20 +1,19 @@
-//! A theorem while its lines come, one after another.
-ghost use Rattle.std.specs.Prelude.{◌≡◌, ◌≤◌, ◌<◌, ◌^◌, List, length, None, IfOk, OnOk, IfSome, OnSome};
+//! A theorem or a definition while its lines come, one after another.
+ghost use Rattle.std.specs.Prelude.{◌≡◌, ◌<◌, ◌^◌, length, None, IfOk, OnOk, IfSome, OnSome, IsTrue};
 ghost use Rattle.e_text.specs.Lines.{seen};
 ghost use Rattle.e_text.specs.Tokens.{tokens_of};
-ghost use Rattle.e_book.specs.Limits.{most_theorems};
 ghost use Rattle.e_book.specs.Reading.{texts, Gives};
-ghost use Rattle.e_book.specs.Steps.{FitsScope};
 ghost use Rattle.e_book.specs.Grammar.{starts_with_hash, is_skipped, last_line};
-ghost use Rattle.e_book.specs.Book.{line_step, is_done, IsBegun, TakesWords, TakesLine, ReadsOn, end_of};
-ghost use Rattle.e_book.specs.Entry.{entry_of};
-ghost use Rattle.e_book.specs.HasSpelling.{HasSpelling};
+ghost use Rattle.e_book.specs.Titled.{are_notions};
+ghost use Rattle.e_book.specs.Definitions.{IsGoodItem};
+ghost use Rattle.e_book.specs.inner.Machine.{FitsComing, line_step, is_done, IsBegun, TakesWords, TakesLine, ReadsOn, end_of};
 
-use crate::draft::{Draft, Place};
+use crate::coming::Coming;
+use crate::draft::Place;
 use crate::fault::{BookFault, Trouble, of_line};
-use crate::form::form_of;
+use crate::item::Item;
+use crate::items::line_of;
 use crate::known::Known;
-use crate::theorem::Theorem;
 use crate::words::collected;
 use e_text::{Line, Lines};
 use std::alloc::Global;
@@ -39,73 +38,71 @@ pub fn is_skipped(words: &[&[u8]]) -> bool
     }
 }
 
-fn is_done(draft: &Draft) -> bool
-    ensures { result ≡ is_done draft.now }
+fn is_done(coming: &Coming) -> bool
+    ensures { result ≡ is_done coming.now }
 {
-    matches!(draft.place, Place::Done)
+    matches!(coming.draft.place, Place::Done)
 }
 
-/// A line begins a theorem, or goes on with it.
-#[tactic(auto, unfolding(crate::specs::Book::line_step))]
+/// A line begins a theorem or a definition, or goes on with it.
+#[tactic(auto, unfolding(crate::specs::inner::Machine::line_step))]
 fn line_step(
     alloc: Global,
     known: &Known,
-    draft: Option<Draft>,
+    coming: Option<Coming>,
     words: &[&[u8]],
-) -> Result<Draft, Trouble>
-    requires draft { IfSome draft FitsScope }
-    requires known { OnSome draft (length known.now ≤ most_theorems) }
-    ensures value { Gives (λ d. d) result (line_step known.now draft (texts words.now)) }
-    ensures fits { IfOk result FitsScope }
-    ensures few { OnOk result (length known.now ≤ most_theorems) }
+) -> Result<Coming, Trouble>
+    requires coming { IfSome coming (FitsComing known.now) }
+    requires notions { IsTrue (are_notions known.now.notions) }
+    ensures value { Gives (λ c. c) result (line_step known.now coming (texts words.now)) }
+    ensures fits { IfOk result (FitsComing known.now) }
 {
-    let form = match form_of(alloc, words) {
-        Ok(form) => form,
+    let line = match line_of(alloc, words) {
+        Ok(line) => line,
         Err(trouble) => {
-            mem::drop(draft);
+            mem::drop(coming);
             return Err(trouble);
         }
     };
-    let next = match draft {
-        None => Draft::begin(alloc, known, &form),
-        Some(draft) => draft.taking(alloc, known, &form),
+    let next = match coming {
+        None => Coming::begin(alloc, known, &line),
+        Some(coming) => coming.taking(alloc, known, &line),
     };
-    mem::drop(form);
+    mem::drop(line);
     next
 }
 
-/// What has come of the next theorem: nothing before its first line. After a fault it is not used
+/// What has come of the next theorem or definition: nothing before its first line. After a fault it is not used
 /// again.
 #[derive(Drop)]
 pub struct Reading {
-    pub draft: Option<Draft>,
+    pub coming: Option<Coming>,
 }
 
 impl Reading {
-    /// Before the first line of a theorem.
+    /// Before the first line.
     pub fn new() -> Reading
-        ensures { result ≡ record { draft = None } }
+        ensures { result ≡ record { coming = None } }
     {
-        Reading { draft: None }
+        Reading { coming: None }
     }
 
-    /// Takes the next line: the theorem that ends with it, if one does, and then what comes begins
-    /// the next.
+    /// Takes the next line: the theorem or the definition that ends with it, if one does, and then
+    /// what comes begins the next.
     ///
-    /// Whether the line is skipped, goes on with the theorem, ends it or has a fault does not depend
-    /// on the lines behind it.
+    /// Whether the line is skipped, goes on with it, ends it or has a fault does not depend on the
+    /// lines behind it.
     pub fn take(
         &mut self,
         alloc: Global,
         known: &Known,
         line: &Line,
-    ) -> Result<Option<Theorem>, BookFault>
+    ) -> Result<Option<Item>, BookFault>
         requires number { line.now.number < 2 ^ 32 }
-        requires draft { IfSome self.old.draft FitsScope }
-        requires few { OnSome self.old.draft (length known.now ≤ most_theorems) }
-        ensures takes { TakesLine known.now self.old.draft (seen line.now) result self.new.draft }
-        ensures fits { OnOk result (IfSome self.new.draft FitsScope) }
-        ensures few { OnOk result (OnSome self.new.draft (length known.now ≤ most_theorems)) }
+        requires coming { IfSome self.old.coming (FitsComing known.now) }
+        requires notions { IsTrue (are_notions known.now.notions) }
+        ensures takes { TakesLine known.now self.old.coming (seen line.now) result self.new.coming }
+        ensures fits { OnOk result (IfSome self.new.coming (FitsComing known.now)) }
     {
         let words = collected(alloc, line.bytes)?;
         self.take_tokens(alloc, known, line, &words)
@@ -118,14 +115,13 @@ impl Reading {
         known: &Known,
         line: &Line,
         words: &[&[u8]],
-    ) -> Result<Option<Theorem>, BookFault>
+    ) -> Result<Option<Item>, BookFault>
         requires words { texts words.now ≡ tokens_of line.now.bytes.now }
         requires number { line.now.number < 2 ^ 32 }
-        requires draft { IfSome self.old.draft FitsScope }
-        requires few { OnSome self.old.draft (length known.now ≤ most_theorems) }
-        ensures takes { TakesLine known.now self.old.draft (seen line.now) result self.new.draft }
-        ensures fits { OnOk result (IfSome self.new.draft FitsScope) }
-        ensures few { OnOk result (OnSome self.new.draft (length known.now ≤ most_theorems)) }
+        requires coming { IfSome self.old.coming (FitsComing known.now) }
+        requires notions { IsTrue (are_notions known.now.notions) }
+        ensures takes { TakesLine known.now self.old.coming (seen line.now) result self.new.coming }
+        ensures fits { OnOk result (IfSome self.new.coming (FitsComing known.now)) }
     {
         if is_skipped(words) {
             return Ok(None);
@@ -140,40 +136,38 @@ impl Reading {
         known: &Known,
         number: u32,
         words: &[&[u8]],
-    ) -> Result<Option<Theorem>, BookFault>
-        requires draft { IfSome self.old.draft FitsScope }
-        requires few { OnSome self.old.draft (length known.now ≤ most_theorems) }
-        ensures takes { TakesWords known.now self.old.draft number (texts words.now) result self.new.draft }
-        ensures fits { OnOk result (IfSome self.new.draft FitsScope) }
-        ensures few { OnOk result (OnSome self.new.draft (length known.now ≤ most_theorems)) }
+    ) -> Result<Option<Item>, BookFault>
+        requires coming { IfSome self.old.coming (FitsComing known.now) }
+        requires notions { IsTrue (are_notions known.now.notions) }
+        ensures takes { TakesWords known.now self.old.coming number (texts words.now) result self.new.coming }
+        ensures fits { OnOk result (IfSome self.new.coming (FitsComing known.now)) }
     {
-        let draft = self.draft.take();
-        let next = match line_step(alloc, known, draft, words) {
+        let coming = self.coming.take();
+        let next = match line_step(alloc, known, coming, words) {
             Ok(next) => next,
             Err(trouble) => return Err(trouble.at(number)),
         };
         if is_done(&next) {
-            return Ok(Some(next.into_theorem(alloc)));
+            return Ok(Some(next.into_item(alloc)));
         }
-        mem::drop(mem::replace(&mut self.draft, Some(next)));
+        mem::drop(mem::replace(&mut self.coming, Some(next)));
         Ok(None)
     }
 
-    /// Takes lines up to the end of a theorem, or all that are ahead.
+    /// Takes lines up to the end of a theorem or a definition, or all that are ahead.
     fn read_lines(
         &mut self,
         alloc: Global,
         lines: &mut Lines,
         known: &Known,
-    ) -> Result<Option<Theorem>, BookFault>
+    ) -> Result<Option<Item>, BookFault>
         requires lines { last_line lines.old < 2 ^ 32 }
-        requires draft { IfSome self.old.draft FitsScope }
-        requires few { OnSome self.old.draft (length known.now ≤ most_theorems) }
-        ensures reads { ReadsOn known.now self.old.draft lines.old.lines result self.new.draft lines.new.lines }
+        requires coming { IfSome self.old.coming (FitsComing known.now) }
+        requires notions { IsTrue (are_notions known.now.notions) }
+        ensures reads { ReadsOn known.now self.old.coming lines.old.lines result self.new.coming lines.new.lines }
         ensures last { OnOk result (last_line lines.new ≡ last_line lines.old) }
         ensures shorter { IfOk result (λ t. OnSome t (length lines.new.lines < length lines.old.lines)) }
-        ensures fits { OnOk result (IfSome self.new.draft FitsScope) }
-        ensures few { OnOk result (OnSome self.new.draft (length known.now ≤ most_theorems)) }
+        ensures fits { OnOk result (IfSome self.new.coming (FitsComing known.now)) }
     {
         while let Some(line) = lines.next() {
             let line = match line {
@@ -182,44 +176,43 @@ impl Reading {
             };
             match self.take(alloc, known, &line)? {
                 None => {}
-                Some(theorem) => return Ok(Some(theorem)),
+                Some(item) => return Ok(Some(item)),
             }
         }
         Ok(None)
     }
 
-    /// Takes lines up to the end of a theorem, or all that are ahead: then the theorem may go on with
-    /// lines that come later.
+    /// Takes lines up to the end of a theorem or a definition, or all that are ahead: then it may go on
+    /// with lines that come later.
     ///
     /// A fault is the first from here on, whatever lines come later; after it the lines are not used
-    /// again. A theorem is what `next_theorem` gives where all lines come at once.
+    /// again. What ends is what `next_item` gives where all lines come at once.
     pub fn read(
         &mut self,
         alloc: Global,
         lines: &mut Lines,
         known: &Known,
-    ) -> Result<Option<Theorem>, BookFault>
+    ) -> Result<Option<Item>, BookFault>
         requires lines { last_line lines.old < 2 ^ 32 }
-        requires draft { IfSome self.old.draft FitsScope }
-        requires few { OnSome self.old.draft (length known.now ≤ most_theorems) }
-        requires begun { IsBegun known.now self.old.draft }
-        ensures reads { ReadsOn known.now self.old.draft lines.old.lines result self.new.draft lines.new.lines }
+        requires coming { IfSome self.old.coming (FitsComing known.now) }
+        requires notions { IsTrue (are_notions known.now.notions) }
+        requires begun { IsBegun known.now self.old.coming }
+        ensures reads { ReadsOn known.now self.old.coming lines.old.lines result self.new.coming lines.new.lines }
         ensures last { OnOk result (last_line lines.new ≡ last_line lines.old) }
         ensures shorter { IfOk result (λ t. OnSome t (length lines.new.lines < length lines.old.lines)) }
-        ensures fits { OnOk result (IfSome self.new.draft FitsScope) }
-        ensures few { OnOk result (OnSome self.new.draft (length known.now ≤ most_theorems)) }
-        ensures begun { OnOk result (IsBegun known.now self.new.draft) }
-        ensures spelled { IfOk result (λ o. IfSome o (λ t. HasSpelling known.now (entry_of t))) }
+        ensures fits { OnOk result (IfSome self.new.coming (FitsComing known.now)) }
+        ensures begun { OnOk result (IsBegun known.now self.new.coming) }
+        ensures good { IfOk result (λ o. IfSome o (IsGoodItem known.now)) }
     {
         self.read_lines(alloc, lines, known)
     }
 
-    /// No lines come any more, and the next would have this number: a fault inside a theorem.
+    /// No lines come any more, and the next would have this number: a fault inside a theorem or a definition.
     pub fn end(&self, line: u64) -> Result<(), BookFault>
         requires { line < 2 ^ 32 }
-        ensures { result ≡ end_of line self.now.draft }
+        ensures { result ≡ end_of line self.now.coming }
     {
-        match &self.draft {
+        match &self.coming {
             None => Ok(()),
             Some(_) => Err(BookFault::Unended { line: line as u32 }),
         }

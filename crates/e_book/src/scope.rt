@@ -410,7 +410,7 @@ pub fn let_in(alloc: Global, names: &Names, raw: &RawLet) -> Result<Construction
 }
 
 /// An object for each sort.
-fn objects_of_sorts(
+pub(crate) fn objects_of_sorts(
     alloc: Global,
     names: &Names,
     sorts: &[Sort],

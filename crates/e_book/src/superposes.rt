@@ -54,7 +54,7 @@ pub fn superposition_pieces() -> &'static [Piece]
 }
 
 /// The words up to `show`, and those behind them.
-fn parted<'a, 'b>(words: &'a [&'b [u8]]) -> (&'a [&'b [u8]], &'a [&'b [u8]])
+pub(crate) fn parted<'a, 'b>(words: &'a [&'b [u8]]) -> (&'a [&'b [u8]], &'a [&'b [u8]])
     ensures head { texts result.0.now ≡ take 13 (texts words.now) }
     ensures rest { texts result.1.now ≡ drop 13 (texts words.now) }
 {
@@ -86,7 +86,7 @@ pub(crate) fn superpose_of(alloc: Global, words: &[&[u8]]) -> Result<RawSuperpos
 
 /// The points and lines, as they stand there.
 #[tactic(auto, unfolding(crate::specs::Superposes::placed_in))]
-fn placed_in(names: &Names, args: &[Name]) -> Result<Superpose, Trouble>
+pub(crate) fn placed_in(names: &Names, args: &[Name]) -> Result<Superpose, Trouble>
     requires { FewNames names.now }
     ensures { Gives (λ s. s) result (placed_in names.now args.now) }
 {

@@ -4,4 +4,4 @@ use Rattle.e_book.proofs.ReadingOn.{takes_nothing}
 use Rattle.e_book.proofs.reading.Reading.take.Goals as goal
 
 pub returns-in_err-words-clause-takes : goal.returns-in_err-words-clause-takes
-returns-in_err-words-clause-takes c = takes_nothing c.args.known.now c.args.self.now.draft c.args.self.now.draft (seen c.args.line.now) c.from_residual.result (search rules)
+returns-in_err-words-clause-takes c = takes_nothing c.args.known.now c.args.self.now.coming c.args.self.now.coming (seen c.args.line.now) c.from_residual.result (search rules)

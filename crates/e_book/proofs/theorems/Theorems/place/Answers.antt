@@ -3,7 +3,7 @@ use Rattle.std.specs.List.{position}
 use Rattle.std.specs.Str.{bytes_eq}
 use Rattle.e_book.specs.Headed.{Headed, titles}
 use Rattle.e_book.proofs.SideBySide.{titles_of}
-use Rattle.e_book.proofs.known.Known.place.Goals as goal
+use Rattle.e_book.proofs.theorems.Theorems.place.Goals as goal
 
 pub returns : goal.returns
 returns c =

@@ -1,7 +1,7 @@
 use Rattle.std.proofs.Common.{◌<◌, length, ap, sym, ◌∙◌, arith}
 use Rattle.e_book.specs.Headed.{theorem_of}
 use Rattle.e_book.proofs.SideBySide.{length_side_by_side, statement_at}
-use Rattle.e_book.proofs.known.Known.statement.Goals as goal
+use Rattle.e_book.proofs.theorems.Theorems.statement.Goals as goal
 
 pub index-requires : goal.index-requires
 index-requires c =

@@ -1,0 +1,5 @@
+use Rattle.e_book.proofs.ItemsRead.{notions_grammar}
+use Rattle.e_book.proofs.laws.read_definitions_are_notions.Goals as goal
+
+pub returns : goal.returns
+returns c = notions_grammar

@@ -1,0 +1,174 @@
+-- The grammar of books: theorems and definitions, one after another.
+use Rattle.std.specs.Prelude.{◌≡◌, ℕ, ◌+◌, List, [], ◌∷◌, length, map, nat_le, Bool, true, false, Option, Some, None, IsTrue, Result, Ok, Err, if◌then◌else◌}
+use Rattle.std.specs.Option.{option_map}
+use Rattle.e_text.specs.Tokens.{tokens_of}
+use Rattle.e_text.specs.Lines.{Ahead}
+use Rattle.e_theorem.specs.Statements.{stated}
+use Rattle.e_deriv.specs.declared.names.Names.{Names}
+use Rattle.e_deriv.specs.Script.{script_of}
+use Rattle.e_deriv.specs.Fitting.{is_small_statement, IsFitting}
+use Rattle.e_book.specs.declared.fault.Kind.{Kind}
+use Rattle.e_book.specs.declared.fault.Kind.TheVariants.{Malformed, NameTaken}
+use Rattle.e_book.specs.declared.fault.What.TheVariants as limits
+use Rattle.e_book.specs.declared.fault.BookFault.{BookFault}
+use Rattle.e_book.specs.declared.fault.BookFault.TheVariants as faults
+use Rattle.e_book.specs.declared.form.Form.{Form}
+use Rattle.e_book.specs.declared.form.Form.TheVariants as forms
+use Rattle.e_book.specs.declared.items.RawItem.{RawItem}
+use Rattle.e_book.specs.declared.items.Listing.{Listing}
+use Rattle.e_book.specs.declared.items.RawLine.{RawLine}
+use Rattle.e_book.specs.declared.items.RawLine.TheVariants.{Plain, Define, Listed}
+use Rattle.e_book.specs.declared.item.Item.{Item}
+use Rattle.e_book.specs.declared.item.Item.TheVariants as items
+use Rattle.e_book.specs.declared.known.Known.{Known}
+use Rattle.e_book.specs.Reading.{◌>>=◌}
+use Rattle.e_book.specs.Faults.{line_fault}
+use Rattle.e_book.specs.Headed.{stated_by}
+use Rattle.e_book.specs.Taken.{is_taken}
+use Rattle.e_book.specs.Titled.{Titled, titled, defines, is_notion}
+use Rattle.e_book.specs.Limits.{most_notions, most_expanded}
+use Rattle.e_book.specs.Canonical.{raw_of}
+use Rattle.e_book.specs.Entry.{Entry, entry_of}
+use Rattle.e_book.specs.HasSpelling.{HasSpelling}
+use Rattle.e_book.specs.Items.{line_of, listing_form, is_show}
+use Rattle.e_book.specs.Meanings.{items_in}
+use Rattle.e_book.specs.Open.{Head, Open, Stating}
+use Rattle.e_book.specs.Counts.{context_at, all_kept}
+use Rattle.e_book.specs.Grammar.{Rest, nothing_said, begins, is_empty, next, line_after, ended, is_skipped, put_at, BookFails}
+
+-- what a book consists of
+pub data BookItem : Type 0 where
+  OfTheorem : (theorem : Entry) → BookItem
+  OfNotion : (notion : Titled) → BookItem
+
+-- What has been said of a theorem or of a definition whose lines come, and how many literals its items stand for. A definition says what it
+-- means as a statement says what it shows.
+pub data Coming : Type 0 where
+  InTheorem : (so_far : Open) (expanded : ℕ) → Coming
+  InDefinition : (head : Head) (expanded : ℕ) → Coming
+  Defined : (notion : Titled) → Coming
+
+-- ---- the first line: theorems and definitions share their titles
+
+abbrev pub has_notion_title : List Titled → Form → Bool
+has_notion_title notions (forms.Theorem t) = defines notions t
+has_notion_title notions f = false
+
+abbrev pub first_line : Known → RawLine → Result Coming Kind
+first_line known (Plain f) = if has_notion_title known.notions f then Err NameTaken else (begins known.theorems f >>= λ o. Ok (InTheorem o 0))
+first_line known (Define t) =
+    if is_taken known t then Err NameTaken else
+    (all_kept ((nat_le (length known.notions + 1) most_notions, limits.Notions) ∷ []) >>= λ kept. Ok (InDefinition (nothing_said t) 0))
+first_line known (Listed line items) = Err Malformed
+
+-- ---- a line without items
+
+-- more declared objects of a definition, or more of what it means
+abbrev pub says_more : Form → Bool
+says_more (forms.Declare sort new) = true
+says_more (forms.Show raws) = true
+says_more f = false
+
+abbrev pub still_defined : ℕ → Open → Result Coming Kind
+still_defined n (Stating h) = Ok (InDefinition h n)
+still_defined n o = Err Malformed
+
+abbrev pub meant : Head → Titled
+meant h = titled h.title (record { declared = h.statement.declared; means = h.statement.shown })
+
+-- the last line of a definition, which means something
+abbrev pub ends_definition : Head → Form → Result Coming Kind
+ends_definition h forms.End = if is_empty h.statement.shown then Err Malformed else Ok (Defined (meant h))
+ends_definition h f = Err Malformed
+
+abbrev pub plain_line : Known → Coming → Form → Result Coming Kind
+plain_line known (InTheorem o n) f = line_after known.theorems (Some o) f >>= λ m. Ok (InTheorem m n)
+plain_line known (InDefinition h n) f =
+    if says_more f then (line_after known.theorems (Some (Stating h)) f >>= λ o. still_defined n o) else ends_definition h f
+plain_line known (Defined t) f = Err Malformed
+
+-- ---- a line with items: the literals that they stand for are written out in their place
+
+-- The line may come there, and then the names are looked up from left to right: the line with the literals, with the names of their
+-- objects, and how many of them are of notions.
+abbrev pub written_out : Known → Open → Listing → List RawItem → Result (Form × ℕ) Kind
+written_out known o line is =
+    let ns : Names = (context_at known.theorems o).names in
+    next known.theorems o (listing_form line []) >>= λ there. items_in known.notions ns 0 is >>= λ p. Ok (listing_form line (map (raw_of ns) p.0), p.1)
+
+abbrev pub counted : ℕ → Coming → Result Coming Kind
+counted n (InTheorem o m) = all_kept ((nat_le (m + n) most_expanded, limits.Expanded) ∷ []) >>= λ kept. Ok (InTheorem o (m + n))
+counted n (InDefinition h m) = all_kept ((nat_le (m + n) most_expanded, limits.Expanded) ∷ []) >>= λ kept. Ok (InDefinition h (m + n))
+counted n (Defined t) = Err Malformed
+
+-- it is taken as it is written out; the last limit is that of the literals that items stand for
+abbrev pub listed_line : Known → Coming → Listing → List RawItem → Result Coming Kind
+listed_line known (InTheorem o n) line is = written_out known o line is >>= λ w. plain_line known (InTheorem o n) w.0 >>= λ c. counted w.1 c
+listed_line known (InDefinition h n) line is =
+    if is_show line then (written_out known (Stating h) line is >>= λ w. plain_line known (InDefinition h n) w.0 >>= λ c. counted w.1 c) else Err Malformed
+listed_line known (Defined t) line is = Err Malformed
+
+-- ---- lines
+
+abbrev pub next_line : Known → Coming → RawLine → Result Coming Kind
+next_line known c (Plain f) = plain_line known c f
+next_line known c (Define t) = Err Malformed
+next_line known c (Listed line is) = listed_line known c line is
+
+abbrev pub line_said : Known → Option Coming → List (List ℕ) → Result Coming Kind
+line_said known None words = line_of words >>= λ l. first_line known l
+line_said known (Some c) words = line_of words >>= λ l. next_line known c l
+
+abbrev pub put_there : ℕ → Result Coming Kind → Result Coming BookFault
+put_there line read = put_at line read
+
+-- a theorem or a definition whose last line has come
+abbrev pub whole : Coming → Option BookItem
+whole (InTheorem o n) = option_map OfTheorem (ended o)
+whole (InDefinition h n) = None
+whole (Defined t) = Some (OfNotion t)
+
+abbrev pub Answer : Type 0
+Answer = Result (Option (BookItem × Rest)) BookFault
+
+abbrev pub whole_or : Option BookItem → Rest → Answer → Answer
+whole_or None lines more = more
+whole_or (Some i) lines more = Ok (Some (i, lines))
+
+abbrev pub at_end : ℕ → Option Coming → Answer
+at_end last None = Ok None
+at_end last (Some c) = Err (faults.Unended last)
+
+-- the next theorem or definition and the lines behind it, or the first fault; last is the number behind the last line
+abbrev pub item_from : Known → ℕ → Option Coming → Rest → Answer
+item_from known last c [] = at_end last c
+item_from known last c (Err f ∷ lines) = Err (line_fault f)
+item_from known last c (Ok line ∷ lines) =
+    if is_skipped (tokens_of line.bytes) then item_from known last c lines else
+    (put_at line.number (line_said known c (tokens_of line.bytes)) >>= λ n. whole_or (whole n) lines (item_from known last (Some n) lines))
+
+-- ---- what is answered
+
+abbrev pub view_of : Item → BookItem
+view_of (items.Theorem t) = OfTheorem (entry_of t)
+view_of (items.Notion title n) = OfNotion (titled title n)
+
+-- what was answered is what the grammar says, unless memory ran out
+abbrev pub BookReads : Result (Option Item) BookFault → Ahead → Answer → Type 0
+BookReads (Ok (Some i)) new read = read ≡ Ok (Some (view_of i, new.lines))
+BookReads (Ok None) new read = read ≡ Ok None
+BookReads (Err f) new read = BookFails f read
+
+-- A theorem that is read has a spelling, and a title that no definition has. A definition that is read has a title that nothing has, means
+-- something, and speaks of its declared objects alone.
+abbrev pub IsGood : Known → BookItem → Type 0
+IsGood known (OfTheorem t) = HasSpelling known.theorems t × (defines known.notions t.title ≡ false)
+IsGood known (OfNotion n) = (is_taken known n.title ≡ false) × IsTrue (is_notion n.notion)
+
+abbrev pub IsGoodItem : Known → Item → Type 0
+IsGoodItem known i = IsGood known (view_of i)
+
+-- where the theorems before are statements, a theorem that is read can be judged, and is one
+abbrev pub IsFittingItem : Known → Item → Type 0
+IsFittingItem known (items.Theorem t) = IsFitting (stated_by known.theorems) (stated t.statement) (script_of t.block) × IsTrue (is_small_statement (stated t.statement))
+IsFittingItem known (items.Notion title n) = Unit {0}

@@ -1,0 +1,179 @@
+-- A theorem or a definition as the parser holds it while its lines come.
+use Rattle.std.specs.Prelude.{◌≡◌, ℕ, ◌+◌, ◌≤◌, Bool, true, false, not, ◌||◌, List, [], ◌∷◌, ◌++◌, length, map, Option, Some, None, Result, Ok, Err, if◌then◌else◌}
+use Rattle.e_text.specs.Tokens.{tokens_of}
+use Rattle.e_text.specs.Lines.{Seen, AreGood}
+use Rattle.e_deriv.specs.declared.names.Names.{Names}
+use Rattle.e_book.specs.declared.fault.Kind.{Kind}
+use Rattle.e_book.specs.declared.fault.Kind.TheVariants.{Malformed, NameTaken}
+use Rattle.e_book.specs.declared.fault.What.TheVariants as limits
+use Rattle.e_book.specs.declared.fault.BookFault.{BookFault}
+use Rattle.e_book.specs.declared.fault.BookFault.TheVariants as faults
+use Rattle.e_book.specs.declared.form.Form.{Form}
+use Rattle.e_book.specs.declared.form.Form.TheVariants as forms
+use Rattle.e_book.specs.declared.items.RawItem.{RawItem}
+use Rattle.e_book.specs.declared.items.Listing.{Listing}
+use Rattle.e_book.specs.declared.items.Listing.TheVariants as listings
+use Rattle.e_book.specs.declared.items.RawLine.{RawLine}
+use Rattle.e_book.specs.declared.items.RawLine.TheVariants.{Plain, Define, Listed}
+use Rattle.e_book.specs.declared.item.Item.{Item}
+use Rattle.e_book.specs.declared.known.Known.{Known}
+use Rattle.e_book.specs.declared.draft.Place.{Place}
+use Rattle.e_book.specs.declared.draft.Place.TheVariants.{Showing, Proving, Done}
+use Rattle.e_book.specs.declared.draft.Draft.{Draft}
+use Rattle.e_book.specs.declared.coming.Coming.{Coming}
+use Rattle.e_book.specs.Reading.{◌>>=◌}
+use Rattle.e_book.specs.Faults.{line_fault}
+use Rattle.e_book.specs.Taken.{is_taken}
+use Rattle.e_book.specs.Titled.{Titled, titled}
+use Rattle.e_book.specs.Limits.{most_theorems, most_notions, most_expanded, within}
+use Rattle.e_book.specs.Scope.{right_count, fresh}
+use Rattle.e_book.specs.Superposes.{placed_in}
+use Rattle.e_book.specs.Canonical.{raw_of}
+use Rattle.e_book.specs.Steps.{allowed, declares, shows, begun, begin, FitsScope}
+use Rattle.e_book.specs.Steps as steps
+use Rattle.e_book.specs.Book.{is_last}
+use Rattle.e_book.specs.DraftViews.{entry_of_draft}
+use Rattle.e_book.specs.Items.{line_of, listing_form, is_show}
+use Rattle.e_book.specs.Meanings.{items_in}
+use Rattle.e_book.specs.Grammar.{Rest, is_skipped, put_at, BookFails}
+use Rattle.e_book.specs.Definitions.{BookItem, OfTheorem, OfNotion, Answer, has_notion_title, view_of}
+
+-- ---- a line with items
+
+abbrev pub names_at_place : Place → (names in_scope : Names) → Names
+names_at_place Proving names in_scope = in_scope
+names_at_place p names in_scope = names
+
+-- the names of the objects that the next line may name
+abbrev pub names_there : Draft → Names
+names_there d = names_at_place d.place d.names d.in_scope
+
+-- the names before the literals, from left to right
+abbrev pub head_names : Names → Listing → Result (Unit {0}) Kind
+head_names ns (listings.Superpose args new) = placed_in ns args >>= λ form. fresh ns [] new
+head_names ns line = Ok tt
+
+-- a line that takes literals may come here
+abbrev pub is_ready : Draft → Listing → Result (Unit {0}) Kind
+is_ready d line = right_count (allowed d.place (listing_form line [])) >>= λ right. head_names d.in_scope line
+
+-- the line with its items written out, and how many literals are of notions
+abbrev pub written : List Titled → Draft → Listing → List RawItem → Result (Form × ℕ) Kind
+written notions d line is =
+    is_ready d line >>= λ ready. items_in notions (names_there d) 0 is >>= λ p. Ok (listing_form line (map (raw_of (names_there d)) p.0), p.1)
+
+-- ---- the first line
+
+abbrev pub coming : Bool → Draft → Coming
+coming defines d = record { defines = defines; draft = d; expanded = 0 }
+
+unfoldable pub begins_theorem : Known → Form → Result Coming Kind
+begins_theorem known f = if has_notion_title known.notions f then Err NameTaken else (begin known.theorems f >>= λ d. Ok (coming false d))
+
+unfoldable pub begins_definition : Known → List ℕ → Result Coming Kind
+begins_definition known t =
+    if is_taken known t then Err NameTaken else (within (length known.notions + 1) most_notions limits.Notions >>= λ few. Ok (coming true (begun t)))
+
+unfoldable pub begins : Known → RawLine → Result Coming Kind
+begins known (Plain f) = begins_theorem known f
+begins known (Define t) = begins_definition known t
+begins known (Listed line is) = Err Malformed
+
+-- ---- each other line
+
+abbrev pub is_showing : Place → Bool
+is_showing Showing = true
+is_showing p = false
+
+unfoldable pub defines_on : Draft → Form → Result Draft Kind
+defines_on d (forms.Declare sort new) = right_count (allowed d.place (forms.Declare sort new)) >>= λ right. declares d sort new
+defines_on d (forms.Show raws) = right_count (allowed d.place (forms.Show raws)) >>= λ right. shows d raws
+defines_on d forms.End = right_count (is_showing d.place) >>= λ right. Ok (record d { place = Done })
+defines_on d f = Err Malformed
+
+abbrev pub with_draft : Coming → Draft → Coming
+with_draft c d = record c { draft = d }
+
+unfoldable pub goes_on : Known → Coming → Form → Result Coming Kind
+goes_on known c f =
+    if c.defines then (defines_on c.draft f >>= λ d. Ok (with_draft c d)) else (steps.step known.theorems c.draft f >>= λ d. Ok (with_draft c d))
+
+-- it is taken as it is written out, and then the limit of what items stand for
+unfoldable pub lists : Known → Coming → Listing → List RawItem → Result Coming Kind
+lists known c line is = do
+  right ← right_count (not c.defines || is_show line)
+  w ← written known.notions c.draft line is
+  e ← goes_on known c w.0
+  few ← within (e.expanded + w.1) most_expanded limits.Expanded
+  Ok (record e { expanded = e.expanded + w.1 })
+
+unfoldable pub step : Known → Coming → RawLine → Result Coming Kind
+step known c (Plain f) = goes_on known c f
+step known c (Define t) = Err Malformed
+step known c (Listed line is) = lists known c line is
+
+pub record FitsComing (known : Known) (c : Coming) : Type 0 where
+  pub draft : FitsScope c.draft
+  pub expanded : c.expanded ≤ most_expanded
+  pub few : c.defines ≡ false → length known.theorems ≤ most_theorems
+
+-- ---- lines
+
+unfoldable pub line_step : Known → Option Coming → List (List ℕ) → Result Coming Kind
+line_step known None words = line_of words >>= λ l. begins known l
+line_step known (Some c) words = line_of words >>= λ l. step known c l
+
+abbrev pub is_done : Coming → Bool
+is_done c = is_last c.draft.place
+
+abbrev pub notion_of_draft : Draft → Titled
+notion_of_draft d = titled d.title (record { declared = d.declared; means = d.shown })
+
+-- what the lines make
+abbrev pub item_of : Coming → BookItem
+item_of c = if c.defines then OfNotion (notion_of_draft c.draft) else OfTheorem (entry_of_draft c.draft)
+
+abbrev pub at_end : ℕ → Option Coming → Answer
+at_end last None = Ok None
+at_end last (Some c) = Err (faults.Unended last)
+
+-- the next theorem or definition and the lines behind it, or the first fault
+abbrev pub item_from : Known → ℕ → Option Coming → Rest → Answer
+item_from known last c [] = at_end last c
+item_from known last c (Err f ∷ lines) = Err (line_fault f)
+item_from known last c (Ok line ∷ lines) =
+    if is_skipped (tokens_of line.bytes) then item_from known last c lines else
+    (put_at line.number (line_step known c (tokens_of line.bytes)) >>= λ d. if is_done d then Ok (Some (item_of d, lines)) else item_from known last (Some d) lines)
+
+-- ---- reading on from what has come, whatever lines come
+
+-- what has come is what some lines made of it
+pub record IsBegun (known : Known) (c : Option Coming) : Type 0 where
+  pub front : Rest
+  pub reads : (last : ℕ) (more : Rest) → item_from known last None (front ++ more) ≡ item_from known last c more
+
+-- what the words of a line make of it
+abbrev pub TakesWords : Known → Option Coming → ℕ → List (List ℕ) → Result (Option Item) BookFault → Option Coming → Type 0
+TakesWords known old number words (Ok None) new = (c : Coming) × (line_step known old words ≡ Ok c) × (is_done c ≡ false) × (new ≡ Some c)
+TakesWords known old number words (Ok (Some i)) new = (c : Coming) × (line_step known old words ≡ Ok c) × (is_done c ≡ true) × (view_of i ≡ item_of c) × (new ≡ None)
+TakesWords known old number words (Err f) new = BookFails f (put_at number (line_step known old words))
+
+-- what a line makes of it: to read on from here through the line is to read on from there; or the line ends the theorem or the definition;
+-- or it is the first with a fault
+abbrev pub TakesLine : Known → Option Coming → Seen → Result (Option Item) BookFault → Option Coming → Type 0
+TakesLine known old l (Ok None) new = (last : ℕ) (more : Rest) → item_from known last old (Ok l ∷ more) ≡ item_from known last new more
+TakesLine known old l (Ok (Some i)) new = (new ≡ None) × ((last : ℕ) (more : Rest) → item_from known last old (Ok l ∷ more) ≡ Ok (Some (view_of i, more)))
+TakesLine known old l (Err f) new = (last : ℕ) (more : Rest) → BookFails f (item_from known last old (Ok l ∷ more))
+
+-- what the lines that are ahead make of it: all are taken, and none has a fault; or a theorem or a definition ends, and these are left
+abbrev pub ReadsOn : Known → Option Coming → Rest → Result (Option Item) BookFault → Option Coming → Rest → Type 0
+ReadsOn known old lines (Ok None) new left =
+    (left ≡ []) × AreGood lines × ((last : ℕ) (more : Rest) → item_from known last old (lines ++ more) ≡ item_from known last new more)
+ReadsOn known old lines (Ok (Some i)) new left =
+    (new ≡ None) × (AreGood left → AreGood lines) × ((last : ℕ) (more : Rest) → item_from known last old (lines ++ more) ≡ Ok (Some (view_of i, left ++ more)))
+ReadsOn known old lines (Err f) new left = (last : ℕ) (more : Rest) → BookFails f (item_from known last old (lines ++ more))
+
+-- no lines come any more: that is a fault inside a theorem or a definition
+abbrev pub end_of : ℕ → Option Coming → Result (Unit {0}) BookFault
+end_of line None = Ok tt
+end_of line (Some c) = Err (faults.Unended line)

@@ -1,0 +1,326 @@
+//! A theorem or a definition while its lines come.
+ghost use Rattle.std.specs.Prelude.{◌≡◌, ◌≤◌, ◌+◌, [], IfOk, OnOk, IsTrue};
+ghost use Rattle.e_book.specs.Reading.{Gives, Moves};
+ghost use Rattle.e_book.specs.Limits.{most_expanded};
+ghost use Rattle.e_book.specs.Titled.{are_notions};
+ghost use Rattle.e_book.specs.Items.{listing_form, superpose_form, is_show};
+ghost use Rattle.e_book.specs.Scope.{right_count};
+ghost use Rattle.e_book.specs.Definitions.{has_notion_title, OfNotion, view_of};
+ghost use Rattle.e_book.specs.Steps.{allowed, FitsScope};
+ghost use Rattle.e_book.specs.inner.Machine.{FitsComing, is_ready, written, begins, begins_theorem, begins_definition, step, goes_on, defines_on, lists, item_of, notion_of_draft};
+
+use crate::draft::{Draft, Place, allowed};
+use crate::fault::{Kind, Trouble, What};
+use crate::form::Form;
+use crate::item::Item;
+use crate::items::{Listing, RawItem, RawLine};
+use crate::known::Known;
+use crate::limits::{MAX_EXPANDED, MAX_NOTIONS, within};
+use crate::literal::RawLit;
+use crate::meanings::put_items;
+use crate::scope::fresh;
+use crate::superposes::{RawSuperpose, placed_in};
+use e_literal::Items;
+use e_text::{Name, Title};
+use e_theorem::Notion;
+use std::alloc::{AllocError, Global};
+use std::mem;
+
+/// What has come of a theorem or of a definition.
+#[derive(Drop)]
+pub struct Coming {
+    /// Whether it is a definition: what it means is what its draft shows.
+    pub defines: bool,
+    pub draft: Draft,
+    /// How many literals its items stand for.
+    pub expanded: usize,
+}
+
+/// Whether it begins a theorem with the title of a definition.
+fn has_notion_title(known: &Known, form: &Form) -> bool
+    ensures { result ≡ has_notion_title known.now.notions form.now }
+{
+    match form {
+        Form::Theorem(title) => known.notions.is_known(*title),
+        _ => false,
+    }
+}
+
+/// A line with these literals.
+fn listing_form(alloc: Global, line: &Listing, raws: Items<RawLit>) -> Result<Form, AllocError>
+    ensures { IfOk result (λ f. f ≡ listing_form line.now raws) }
+{
+    match line {
+        Listing::Given => Ok(Form::Given(raws)),
+        Listing::Show => Ok(Form::Show(raws)),
+        Listing::Claim => Ok(Form::Claim(raws)),
+        Listing::Superpose { args, new } => superpose_form(alloc, args.items(), new.items(), raws),
+    }
+}
+
+fn superpose_form(
+    alloc: Global,
+    args: &[Name],
+    new: &[Name],
+    shown: Items<RawLit>,
+) -> Result<Form, AllocError>
+    ensures { IfOk result (λ f. f ≡ superpose_form args.now new.now shown) }
+{
+    let args = Items::new(Vec::from_slice(alloc, args)?);
+    let new = Items::new(Vec::from_slice(alloc, new)?);
+    Ok(Form::Superpose(RawSuperpose { args, new, shown }))
+}
+
+/// A line with its items written out, and how many literals they stand for.
+#[derive(Drop)]
+struct Written {
+    form: Form,
+    count: usize,
+}
+
+impl Coming {
+    /// The first line.
+    #[tactic(auto, unfolding(crate::specs::inner::Machine::begins))]
+    pub(crate) fn begin(alloc: Global, known: &Known, line: &RawLine) -> Result<Coming, Trouble>
+        ensures value { Gives (λ c. c) result (begins known.now line.now) }
+        ensures fits { IfOk result (FitsComing known.now) }
+    {
+        match line {
+            RawLine::Plain(form) => Coming::begin_theorem(alloc, known, form),
+            RawLine::Define(title) => Coming::begin_definition(alloc, known, *title),
+            RawLine::Listed(_, _) => Err(Trouble::Fault(Kind::Malformed)),
+        }
+    }
+
+    #[tactic(auto, unfolding(crate::specs::inner::Machine::begins_theorem))]
+    fn begin_theorem(alloc: Global, known: &Known, form: &Form) -> Result<Coming, Trouble>
+        ensures value { Gives (λ c. c) result (begins_theorem known.now form.now) }
+        ensures fits { IfOk result (FitsComing known.now) }
+    {
+        if has_notion_title(known, form) {
+            return Err(Trouble::Fault(Kind::NameTaken));
+        }
+        let draft = Draft::begin(alloc, &known.theorems, form)?;
+        Ok(Coming {
+            defines: false,
+            draft,
+            expanded: 0,
+        })
+    }
+
+    #[tactic(auto, unfolding(crate::specs::inner::Machine::begins_definition))]
+    fn begin_definition(alloc: Global, known: &Known, title: Title) -> Result<Coming, Trouble>
+        ensures value { Gives (λ c. c) result (begins_definition known.now title) }
+        ensures fits { IfOk result (FitsComing known.now) }
+    {
+        if known.is_taken(title) {
+            return Err(Trouble::Fault(Kind::NameTaken));
+        }
+        if known.notions.len() >= MAX_NOTIONS {
+            return Err(Trouble::Fault(Kind::Limit(What::Notions)));
+        }
+        Ok(Coming {
+            defines: true,
+            draft: Draft::begun(alloc, title),
+            expanded: 0,
+        })
+    }
+
+    /// What has come with the next line.
+    pub(crate) fn taking(
+        mut self,
+        alloc: Global,
+        known: &Known,
+        line: &RawLine,
+    ) -> Result<Coming, Trouble>
+        requires coming { FitsComing known.now self }
+        requires notions { IsTrue (are_notions known.now.notions) }
+        ensures value { Gives (λ c. c) result (step known.now self line.now) }
+        ensures fits { IfOk result (FitsComing known.now) }
+    {
+        match self.step(alloc, known, line) {
+            Ok(()) => Ok(self),
+            Err(trouble) => {
+                mem::drop(self);
+                Err(trouble)
+            }
+        }
+    }
+
+    #[tactic(auto, unfolding(crate::specs::inner::Machine::step))]
+    fn step(&mut self, alloc: Global, known: &Known, line: &RawLine) -> Result<(), Trouble>
+        requires coming { FitsComing known.now self.old }
+        requires notions { IsTrue (are_notions known.now.notions) }
+        ensures value { Moves result self.new (step known.now self.old line.now) }
+        ensures fits { OnOk result (FitsComing known.now self.new) }
+    {
+        match line {
+            RawLine::Plain(form) => self.go_on(alloc, known, form),
+            RawLine::Define(_) => Err(Trouble::Fault(Kind::Malformed)),
+            RawLine::Listed(line, items) => self.list(alloc, known, line, items.items()),
+        }
+    }
+
+    /// A line without items.
+    #[tactic(auto, unfolding(crate::specs::inner::Machine::goes_on))]
+    fn go_on(&mut self, alloc: Global, known: &Known, form: &Form) -> Result<(), Trouble>
+        requires coming { FitsComing known.now self.old }
+        ensures value { Moves result self.new (goes_on known.now self.old form.now) }
+        ensures fits { OnOk result (FitsComing known.now self.new) }
+    {
+        if self.defines {
+            return self.define(alloc, form);
+        }
+        self.draft.step(alloc, &known.theorems, form)
+    }
+
+    /// A line of a definition.
+    #[tactic(auto, unfolding(crate::specs::inner::Machine::defines_on))]
+    fn define(&mut self, alloc: Global, form: &Form) -> Result<(), Trouble>
+        requires { FitsScope self.old.draft }
+        ensures value { Moves result self.new.draft (defines_on self.old.draft form.now) }
+        ensures fits { OnOk result (FitsScope self.new.draft) }
+        ensures kept { (self.new.defines ≡ self.old.defines) × (self.new.expanded ≡ self.old.expanded) }
+    {
+        match form {
+            Form::Declare(sort, names) => {
+                right_place(allowed(self.draft.place, form))?;
+                self.draft.declare(alloc, *sort, names.items())
+            }
+            Form::Show(raw) => {
+                right_place(allowed(self.draft.place, form))?;
+                self.draft.show(alloc, raw.items())
+            }
+            Form::End => {
+                right_place(matches!(self.draft.place, Place::Showing))?;
+                self.draft.place = Place::Done;
+                Ok(())
+            }
+            _ => Err(Trouble::Fault(Kind::Malformed)),
+        }
+    }
+
+    /// A line with items: they are written out, and it is taken; then the limit of the literals that they stand for.
+    #[tactic(auto, unfolding(crate::specs::inner::Machine::lists))]
+    fn list(
+        &mut self,
+        alloc: Global,
+        known: &Known,
+        line: &Listing,
+        items: &[RawItem],
+    ) -> Result<(), Trouble>
+        requires coming { FitsComing known.now self.old }
+        requires notions { IsTrue (are_notions known.now.notions) }
+        ensures value { Moves result self.new (lists known.now self.old line.now items.now) }
+        ensures fits { OnOk result (FitsComing known.now self.new) }
+    {
+        right_place(!self.defines || is_show(line))?;
+        let Written { form, count } = self.write(alloc, known, line, items)?;
+        let taken = self.go_on(alloc, known, &form);
+        mem::drop(form);
+        taken?;
+        within(self.expanded + count, MAX_EXPANDED, What::Expanded)?;
+        self.expanded += count;
+        Ok(())
+    }
+
+    /// The line with its items written out: its place, then its names from left to right.
+    fn write(
+        &self,
+        alloc: Global,
+        known: &Known,
+        line: &Listing,
+        items: &[RawItem],
+    ) -> Result<Written, Trouble>
+        requires coming { FitsComing known.now self.now }
+        requires notions { IsTrue (are_notions known.now.notions) }
+        ensures value { Gives (λ w. (w.form, w.count)) result (written known.now.notions self.now.draft line.now items.now) }
+        ensures count { IfOk result (λ w. w.count ≤ most_expanded + 1) }
+    {
+        self.draft.ready(line)?;
+        let names = self.draft.names_there();
+        let mut raws = Items::empty(alloc);
+        let count = put_items(alloc, &known.notions, names, items, 0, &mut raws)?;
+        let form = listing_form(alloc, line, raws)?;
+        Ok(Written { form, count })
+    }
+
+    /// What the lines make, where the last has come.
+    pub(crate) fn into_item(self, alloc: Global) -> Item
+        ensures { view_of result ≡ item_of self }
+    {
+        let Coming { defines, draft, .. } = self;
+        if defines {
+            return into_definition(draft);
+        }
+        Item::Theorem(draft.into_theorem(alloc))
+    }
+}
+
+/// The definition that the lines make.
+fn into_definition(draft: Draft) -> Item
+    ensures { view_of result ≡ OfNotion (notion_of_draft draft) }
+{
+    let Draft {
+        title,
+        declared,
+        shown,
+        ..
+    } = draft;
+    Item::Notion(
+        title,
+        Notion {
+            declared,
+            means: shown,
+        },
+    )
+}
+
+/// Whether a line that takes literals may come at a place.
+fn may_come(place: Place, line: &Listing) -> bool
+    ensures { result ≡ allowed place (listing_form line.now []) }
+{
+    match line {
+        Listing::Given => matches!(place, Place::Declaring | Place::Giving),
+        Listing::Show => matches!(
+            place,
+            Place::Declaring | Place::Giving | Place::Making | Place::Showing
+        ),
+        Listing::Claim => matches!(place, Place::Proving),
+        Listing::Superpose { .. } => matches!(place, Place::Proving),
+    }
+}
+
+/// Whether it is a line of shown literals.
+fn is_show(line: &Listing) -> bool
+    ensures { result ≡ is_show line.now }
+{
+    matches!(line, Listing::Show)
+}
+
+impl Draft {
+    /// Whether a line that takes literals may come here, and then the names before them, from left to right.
+    fn ready(&self, line: &Listing) -> Result<(), Trouble>
+        requires { FitsScope self.now }
+        ensures { Gives (λ u. u) result (is_ready self.now line.now) }
+    {
+        right_place(may_come(self.place, line))?;
+        match line {
+            Listing::Superpose { args, new } => {
+                placed_in(&self.in_scope, args.items())?;
+                fresh(&self.in_scope, new.items())
+            }
+            _ => Ok(()),
+        }
+    }
+}
+
+fn right_place(right: bool) -> Result<(), Trouble>
+    ensures { Gives (λ u. u) result (right_count right) }
+{
+    if right {
+        Ok(())
+    } else {
+        Err(Trouble::Fault(Kind::Malformed))
+    }
+}
