@@ -1,6 +1,6 @@
 -- Each derivation text has a judgement.
-use Rattle.std.proofs.Common.{◌≡◌, inl, inr, ℕ, zero, suc, ◌+◌, ◌<◌, ◌≤◌, Bool, true, false, true≢false, List, [], ◌∷◌, length, Option, Some, None, Result, Ok, Err, refl, sym, ap, ◌∙◌, arith}
-use Rattle.e_text.specs.Lines.{Seen}
+use Rattle.std.proofs.Common.{◌≡◌, inl, inr, ℕ, zero, suc, ◌+◌, ◌<◌, ◌≤◌, List, [], ◌∷◌, length, Option, Some, None, Result, Ok, Err, refl, ap, arith}
+use Rattle.e_clause.specs.declared.cert.Version.{Version}
 use Rattle.e_theorem.specs.Statements.{stated}
 use Rattle.e_deriv.specs.Certified.{is_certified, derivation_lines, verdict}
 use Rattle.e_book.specs.Reading.{◌>>=◌}
@@ -13,7 +13,7 @@ use Rattle.e_read.proofs.TakenLines.{either}
 use Rattle.e_verify.proofs.Passing.{all_pass}
 use Rattle.e_judgement.specs.declared.judgement.Judgement.{Judgement}
 use Rattle.e_judgement.specs.declared.judgement.Judgement.TheVariants.{Bad, Garbled}
-use Rattle.e_judgement.specs.Judged.{Rest, with_theorem, ReadsNext, IsCertified, Passes, JudgedBehind, Closes, IsJudged, is_head, JudgesLines, lines_of_text}
+use Rattle.e_judgement.specs.Judged.{Rest, with_theorem, ReadsNext, IsCertified, Passes, JudgedBehind, Closes, IsJudged, version_of, JudgedBehindHead, JudgesLines, lines_of_text}
 use Rattle.e_judgement.specs.Laws.{EachTextIsJudged}
 
 -- ---- fewer lines are left behind what is read
@@ -47,57 +47,56 @@ shorter known last r (Ok l ∷ lines) p rest e =
           shorter_on (finished x.0.draft x.0.kept) lines rest (piece_from known last x.0 lines) p x.2 (λ h. shorter known last x.0 lines p rest h)
     ]
 
--- ---- theorems one after another
+module _ (v : Version) where
+  -- ---- theorems one after another
 
--- with this known, these lines are judged in some way
-abbrev Runs : ℕ → List Headed → Rest → Type 0
-Runs last known lines =
-    (j : Judgement) × (ts : List Entry) × (now : List Headed) × (rest : Rest) × Passes last known lines ts now rest × Closes last now rest j
+  -- with this known, these lines are judged in some way
+  abbrev Runs : ℕ → List Headed → Rest → Type 0
+  Runs last known lines =
+      (j : Judgement) × (ts : List Entry) × (now : List Headed) × (rest : Rest) × Passes v last known lines ts now rest × Closes v last now rest j
 
-ends_here : (last : ℕ) (known : List Headed) (lines : Rest) (j : Judgement) → Closes last known lines j → Runs last known lines
-ends_here last known lines j c = (j, [], known, lines, (refl, refl), c)
+  ends_here : (last : ℕ) (known : List Headed) (lines : Rest) (j : Judgement) → Closes v last known lines j → Runs last known lines
+  ends_here last known lines j c = (j, [], known, lines, (refl, refl), c)
 
-goes_on : (last : ℕ) (known : List Headed) (lines after : Rest) (t : Entry) → ReadsNext last known lines t after → IsCertified known t → Runs last (with_theorem known t) after → Runs last known lines
-goes_on last known lines after t reads certified r = (r.0, t ∷ r.1, r.2, r.3, (after, reads, certified, r.4), r.5)
+  goes_on : (last : ℕ) (known : List Headed) (lines after : Rest) (t : Entry) → ReadsNext v last known lines t after → IsCertified known t → Runs last (with_theorem known t) after → Runs last known lines
+  goes_on last known lines after t reads certified r = (r.0, t ∷ r.1, r.2, r.3, (after, reads, certified, r.4), r.5)
 
-by_verdict : (last : ℕ) (known : List Headed) (lines after : Rest) (t : Entry) → ReadsNext last known lines t after → (v : Result ℕ ℕ) → verdict (stated_by known) (stated t.statement) t.script ≡ v
-    → Runs last (with_theorem known t) after → Runs last known lines
-by_verdict last known lines after t reads (Ok n) is more =
-    let before = stated_by known in
-    goes_on last known lines after t reads (all_pass (is_certified before) (derivation_lines before (stated t.statement) t.script) 1 n is) more
-by_verdict last known lines after t reads (Err step) is more = ends_here last known lines (Bad t.title step) (inr (inr (t, after, step, reads, is, refl)))
+  by_verdict : (last : ℕ) (known : List Headed) (lines after : Rest) (t : Entry) → ReadsNext v last known lines t after → (a : Result ℕ ℕ) → verdict (stated_by known) (stated t.statement) t.script ≡ a
+      → Runs last (with_theorem known t) after → Runs last known lines
+  by_verdict last known lines after t reads (Ok n) is more =
+      let before = stated_by known in
+      goes_on last known lines after t reads (all_pass (is_certified before) (derivation_lines before (stated t.statement) t.script) 1 n is) more
+  by_verdict last known lines after t reads (Err step) is more = ends_here last known lines (Bad t.title step) (inr (inr (t, after, step, reads, is, refl)))
 
-by_piece : (last : ℕ) (known : List Headed) (lines : Rest) (a : Result Found ℕ) → piece_from known last at_start lines ≡ a
-    → ((t : Entry) (after : Rest) → ReadsNext last known lines t after → Runs last (with_theorem known t) after) → Runs last known lines
-by_piece last known lines (Err line) e more = ends_here last known lines (Garbled line) (inr (inl (line, e, refl)))
-by_piece last known lines (Ok (Last, rest)) e more = ends_here last known lines (JudgedBehind (length known) rest) (inl (rest, e, refl))
-by_piece last known lines (Ok (Derived t, after)) e more =
-    by_verdict last known lines after t e (verdict (stated_by known) (stated t.statement) t.script) refl (more t after e)
+  by_piece : (last : ℕ) (known : List Headed) (lines : Rest) (a : Result Found ℕ) → piece_from known last (at_start v) lines ≡ a
+      → ((t : Entry) (after : Rest) → ReadsNext v last known lines t after → Runs last (with_theorem known t) after) → Runs last known lines
+  by_piece last known lines (Err line) e more = ends_here last known lines (Garbled line) (inr (inl (line, e, refl)))
+  by_piece last known lines (Ok (Last, rest)) e more = ends_here last known lines (JudgedBehind (length known) rest) (inl (rest, e, refl))
+  by_piece last known lines (Ok (Derived t, after)) e more =
+      by_verdict last known lines after t e (verdict (stated_by known) (stated t.statement) t.script) refl (more t after e)
 
-by_size : (size last : ℕ) (known : List Headed) (lines : Rest) → length lines ≤ size → Runs last known lines
-by_size zero last known lines le =
-    by_piece last known lines (piece_from known last at_start lines) refl (λ t after r. absurd (omega (arith, le, shorter known last at_start lines (Derived t) after r)))
-by_size (suc size) last known lines le =
-    by_piece last known lines (piece_from known last at_start lines) refl
-    (λ t after r. by_size size last (with_theorem known t) after (omega (arith, le, shorter known last at_start lines (Derived t) after r)))
+  by_size : (size last : ℕ) (known : List Headed) (lines : Rest) → length lines ≤ size → Runs last known lines
+  by_size zero last known lines le =
+      by_piece last known lines (piece_from known last (at_start v) lines) refl (λ t after r. absurd (omega (arith, le, shorter known last (at_start v) lines (Derived t) after r)))
+  by_size (suc size) last known lines le =
+      by_piece last known lines (piece_from known last (at_start v) lines) refl
+      (λ t after r. by_size size last (with_theorem known t) after (omega (arith, le, shorter known last (at_start v) lines (Derived t) after r)))
 
--- ---- the whole
+  -- ---- the whole
 
-judged_behind : (last : ℕ) (lines : Rest) → (j : Judgement) × IsJudged last lines j
-judged_behind last lines =
-    let r = by_size (length lines) last [] lines (omega arith) in
-    (r.0, record { theorems = r.1; known = r.2; rest = r.3; passes = r.4; closes = r.5 })
+  judged_behind : (last : ℕ) (lines : Rest) → (j : Judgement) × IsJudged v last lines j
+  judged_behind last lines =
+      let r = by_size (length lines) last [] lines (omega arith) in
+      (r.0, record { theorems = r.1; known = r.2; rest = r.3; passes = r.4; closes = r.5 })
 
-by_head : (l : Seen) (lines : Rest) (b : Bool) → is_head l ≡ b → (j : Judgement) × JudgesLines (Ok l ∷ lines) j
-by_head l lines true is =
-    let r = judged_behind (2 + length lines) lines in
-    (r.0, ((λ t. r.1), (λ f. absurd (true≢false (sym is ∙ f)))))
-by_head l lines false is = (Garbled 1, ((λ t. absurd (true≢false (sym t ∙ is))), (λ f. refl)))
+by_version : (o : Option Version) (lines : Rest) → (j : Judgement) × JudgedBehindHead o lines j
+by_version None lines = (Garbled 1, refl)
+by_version (Some v) lines = judged_behind v (2 + length lines) lines
 
 by_lines : (lines : Rest) → (j : Judgement) × JudgesLines lines j
 by_lines [] = (Garbled 1, refl)
 by_lines (Err f ∷ lines) = (Garbled 1, refl)
-by_lines (Ok l ∷ lines) = by_head l lines (is_head l) refl
+by_lines (Ok l ∷ lines) = by_version (version_of l) lines
 
 pub each_text_is_judged : EachTextIsJudged
 each_text_is_judged text = by_lines (lines_of_text text)

@@ -1,5 +1,5 @@
-mod Passing
+pub mod Passing
 pub mod OneJudgement
 mod EachText
 mod WithCertificates
-mod Verifiable
+pub mod Verifiable

@@ -1,7 +1,8 @@
 -- A derivation text has one judgement.
-use Rattle.std.proofs.Common.{◌≡◌, inl, inr, ℕ, ◌+◌, Bool, true, false, true≢false, cond, ◌&&◌, List, [], ◌∷◌, length, Result, Ok, Err, refl, sym, ap, subst, ◌∙◌}
-use Rattle.std.specs.Prelude.{IsTrue, IsFalse}
+use Rattle.std.proofs.Common.{◌≡◌, inl, inr, ℕ, ◌+◌, Bool, true, false, true≢false, cond, ◌&&◌, List, [], ◌∷◌, length, Result, Ok, Err, sym, ap, subst, ◌∙◌}
+use Rattle.std.specs.Prelude.{Option, Some, None}
 use Rattle.std.specs.List.{list_all}
+use Rattle.e_clause.specs.declared.cert.Version.{Version}
 use Rattle.e_theorem.specs.Statements.{stated}
 use Rattle.e_deriv.specs.Lines.{Line, first_failure}
 use Rattle.e_deriv.specs.Certified.{is_certified, derivation_lines, verdict}
@@ -11,7 +12,7 @@ use Rattle.e_read.specs.Text.{Piece, Derived, Last}
 use Rattle.e_read.proofs.Bridge.{no_last, derived_is}
 use Rattle.e_judgement.specs.declared.judgement.Judgement.{Judgement}
 use Rattle.e_judgement.specs.declared.judgement.Judgement.TheVariants.{Bad, Garbled}
-use Rattle.e_judgement.specs.Judged.{Rest, with_theorem, ReadsNext, IsCertified, Passes, JudgedBehind, Closes, IsJudged, is_head, JudgesLines, JudgesText, lines_of_text}
+use Rattle.e_judgement.specs.Judged.{Rest, with_theorem, ReadsNext, IsCertified, Passes, JudgedBehind, Closes, IsJudged, version_of, JudgedBehindHead, JudgesLines, JudgesText, lines_of_text}
 
 -- what was read, and the lines behind it
 abbrev Found : Type 0
@@ -82,62 +83,63 @@ same_bad known t u n m e h k =
     let s = same_step n m (sym h ∙ v ∙ k) in
     ap (λ (x : Entry). Bad x.title n) e ∙ ap (Bad u.title) s
 
--- with the same known, the same lines end in one way
-one_close : (last : ℕ) (known : List Headed) (lines : Rest) (a b : Judgement) → Closes last known lines a → Closes last known lines b → a ≡ b
-one_close last known lines a b (inl h) (inl k) = h.2 ∙ ap (JudgedBehind (length known)) (same_end h.0 k.0 (sym h.1 ∙ k.1)) ∙ sym k.2
-one_close last known lines a b (inl h) (inr (inl k)) = absurd (ended_not_broken h.0 k.0 (sym h.1 ∙ k.1))
-one_close last known lines a b (inl h) (inr (inr k)) = absurd (found_not_ended k.0 k.1 h.0 (sym k.3 ∙ h.1))
-one_close last known lines a b (inr (inl h)) (inl k) = absurd (ended_not_broken k.0 h.0 (sym k.1 ∙ h.1))
-one_close last known lines a b (inr (inl h)) (inr (inl k)) = h.2 ∙ ap Garbled (same_line h.0 k.0 (sym h.1 ∙ k.1)) ∙ sym k.2
-one_close last known lines a b (inr (inl h)) (inr (inr k)) = absurd (found_not_broken k.0 k.1 h.0 (sym k.3 ∙ h.1))
-one_close last known lines a b (inr (inr h)) (inl k) = absurd (found_not_ended h.0 h.1 k.0 (sym h.3 ∙ k.1))
-one_close last known lines a b (inr (inr h)) (inr (inl k)) = absurd (found_not_broken h.0 h.1 k.0 (sym h.3 ∙ k.1))
-one_close last known lines a b (inr (inr h)) (inr (inr k)) =
-    h.5 ∙ same_bad known h.0 k.0 h.2 k.2 (same_entry h.0 k.0 h.1 k.1 (sym h.3 ∙ k.3)) h.4 k.4 ∙ sym k.5
+module _ (v : Version) where
+  -- with the same known, the same lines end in one way
+  one_close : (last : ℕ) (known : List Headed) (lines : Rest) (a b : Judgement) → Closes v last known lines a → Closes v last known lines b → a ≡ b
+  one_close last known lines a b (inl h) (inl k) = h.2 ∙ ap (JudgedBehind (length known)) (same_end h.0 k.0 (sym h.1 ∙ k.1)) ∙ sym k.2
+  one_close last known lines a b (inl h) (inr (inl k)) = absurd (ended_not_broken h.0 k.0 (sym h.1 ∙ k.1))
+  one_close last known lines a b (inl h) (inr (inr k)) = absurd (found_not_ended k.0 k.1 h.0 (sym k.3 ∙ h.1))
+  one_close last known lines a b (inr (inl h)) (inl k) = absurd (ended_not_broken k.0 h.0 (sym k.1 ∙ h.1))
+  one_close last known lines a b (inr (inl h)) (inr (inl k)) = h.2 ∙ ap Garbled (same_line h.0 k.0 (sym h.1 ∙ k.1)) ∙ sym k.2
+  one_close last known lines a b (inr (inl h)) (inr (inr k)) = absurd (found_not_broken k.0 k.1 h.0 (sym k.3 ∙ h.1))
+  one_close last known lines a b (inr (inr h)) (inl k) = absurd (found_not_ended h.0 h.1 k.0 (sym h.3 ∙ k.1))
+  one_close last known lines a b (inr (inr h)) (inr (inl k)) = absurd (found_not_broken h.0 h.1 k.0 (sym h.3 ∙ k.1))
+  one_close last known lines a b (inr (inr h)) (inr (inr k)) =
+      h.5 ∙ same_bad known h.0 k.0 h.2 k.2 (same_entry h.0 k.0 h.1 k.1 (sym h.3 ∙ k.3)) h.4 k.4 ∙ sym k.5
 
--- where the next theorem passes the lines do not end
-no_close : (last : ℕ) (known : List Headed) (lines : Rest) (t : Entry) (after : Rest) (a : Judgement) → ReadsNext last known lines t after → IsCertified known t → Closes last known lines a → ⊥
-no_close last known lines t after a r c (inl h) = found_not_ended t after h.0 (sym r ∙ h.1)
-no_close last known lines t after a r c (inr (inl h)) = found_not_broken t after h.0 (sym r ∙ h.1)
-no_close last known lines t after a r c (inr (inr h)) =
-    certified_no_failure known t h.2 c
-    (ap (λ (x : Entry). verdict (stated_by known) (stated x.statement) x.script) (same_entry t h.0 after h.1 (sym r ∙ h.3)) ∙ h.4)
+  -- where the next theorem passes the lines do not end
+  no_close : (last : ℕ) (known : List Headed) (lines : Rest) (t : Entry) (after : Rest) (a : Judgement) → ReadsNext v last known lines t after → IsCertified known t → Closes v last known lines a → ⊥
+  no_close last known lines t after a r c (inl h) = found_not_ended t after h.0 (sym r ∙ h.1)
+  no_close last known lines t after a r c (inr (inl h)) = found_not_broken t after h.0 (sym r ∙ h.1)
+  no_close last known lines t after a r c (inr (inr h)) =
+      certified_no_failure known t h.2 c
+      (ap (λ (x : Entry). verdict (stated_by known) (stated x.statement) x.script) (same_entry t h.0 after h.1 (sym r ∙ h.3)) ∙ h.4)
 
-closes_at : (last : ℕ) (known now : List Headed) (lines rest : Rest) (a : Judgement) → known ≡ now → lines ≡ rest → Closes last now rest a → Closes last known lines a
-closes_at last known now lines rest a e f h =
-    subst (λ (k : List Headed). Closes last k lines a) (sym e) (subst (λ (l : Rest). Closes last now l a) (sym f) h)
+  closes_at : (last : ℕ) (known now : List Headed) (lines rest : Rest) (a : Judgement) → known ≡ now → lines ≡ rest → Closes v last now rest a → Closes v last known lines a
+  closes_at last known now lines rest a e f h =
+      subst (λ (k : List Headed). Closes v last k lines a) (sym e) (subst (λ (l : Rest). Closes v last now l a) (sym f) h)
 
-passes_at : (last : ℕ) (known now : List Headed) (lines after rest : Rest) (ts : List Entry) (t u : Entry) → u ≡ t → after ≡ lines
-    → Passes last (with_theorem known u) after ts now rest → Passes last (with_theorem known t) lines ts now rest
-passes_at last known now lines after rest ts t u e f h =
-    subst (λ (l : Rest). Passes last (with_theorem known t) l ts now rest) f
-    (subst (λ (x : Entry). Passes last (with_theorem known x) after ts now rest) e h)
+  passes_at : (last : ℕ) (known now : List Headed) (lines after rest : Rest) (ts : List Entry) (t u : Entry) → u ≡ t → after ≡ lines
+      → Passes v last (with_theorem known u) after ts now rest → Passes v last (with_theorem known t) lines ts now rest
+  passes_at last known now lines after rest ts t u e f h =
+      subst (λ (l : Rest). Passes v last (with_theorem known t) l ts now rest) f
+      (subst (λ (x : Entry). Passes v last (with_theorem known x) after ts now rest) e h)
 
--- the same lines are judged in one way
-one_way : (last : ℕ) (known : List Headed) (lines : Rest) (ts us : List Entry) (k1 k2 : List Headed) (r1 r2 : Rest) (a b : Judgement)
-    → Passes last known lines ts k1 r1 → Passes last known lines us k2 r2 → Closes last k1 r1 a → Closes last k2 r2 b → a ≡ b
-one_way last known lines [] [] k1 k2 r1 r2 a b p q h k =
-    one_close last known lines a b (closes_at last known k1 lines r1 a p.0 p.1 h) (closes_at last known k2 lines r2 b q.0 q.1 k)
-one_way last known lines [] (u ∷ us) k1 k2 r1 r2 a b p q h k =
-    absurd (no_close last known lines u q.0 a q.1 q.2 (closes_at last known k1 lines r1 a p.0 p.1 h))
-one_way last known lines (t ∷ ts) [] k1 k2 r1 r2 a b p q h k =
-    absurd (no_close last known lines t p.0 b p.1 p.2 (closes_at last known k2 lines r2 b q.0 q.1 k))
-one_way last known lines (t ∷ ts) (u ∷ us) k1 k2 r1 r2 a b p q h k =
-    let e = sym q.1 ∙ p.1 in
-    one_way last (with_theorem known t) p.0 ts us k1 k2 r1 r2 a b p.3
-    (passes_at last known k2 p.0 q.0 r2 us t u (same_entry u t q.0 p.0 e) (same_rest u t q.0 p.0 e) q.3) h k
+  -- the same lines are judged in one way
+  one_way : (last : ℕ) (known : List Headed) (lines : Rest) (ts us : List Entry) (k1 k2 : List Headed) (r1 r2 : Rest) (a b : Judgement)
+      → Passes v last known lines ts k1 r1 → Passes v last known lines us k2 r2 → Closes v last k1 r1 a → Closes v last k2 r2 b → a ≡ b
+  one_way last known lines [] [] k1 k2 r1 r2 a b p q h k =
+      one_close last known lines a b (closes_at last known k1 lines r1 a p.0 p.1 h) (closes_at last known k2 lines r2 b q.0 q.1 k)
+  one_way last known lines [] (u ∷ us) k1 k2 r1 r2 a b p q h k =
+      absurd (no_close last known lines u q.0 a q.1 q.2 (closes_at last known k1 lines r1 a p.0 p.1 h))
+  one_way last known lines (t ∷ ts) [] k1 k2 r1 r2 a b p q h k =
+      absurd (no_close last known lines t p.0 b p.1 p.2 (closes_at last known k2 lines r2 b q.0 q.1 k))
+  one_way last known lines (t ∷ ts) (u ∷ us) k1 k2 r1 r2 a b p q h k =
+      let e = sym q.1 ∙ p.1 in
+      one_way last (with_theorem known t) p.0 ts us k1 k2 r1 r2 a b p.3
+      (passes_at last known k2 p.0 q.0 r2 us t u (same_entry u t q.0 p.0 e) (same_rest u t q.0 p.0 e) q.3) h k
 
-one_judged : (last : ℕ) (lines : Rest) (a b : Judgement) → IsJudged last lines a → IsJudged last lines b → a ≡ b
-one_judged last lines a b p q = one_way last [] lines p.theorems q.theorems p.known q.known p.rest q.rest a b p.passes q.passes p.closes q.closes
+  one_judged : (last : ℕ) (lines : Rest) (a b : Judgement) → IsJudged v last lines a → IsJudged v last lines b → a ≡ b
+  one_judged last lines a b p q = one_way last [] lines p.theorems q.theorems p.known q.known p.rest q.rest a b p.passes q.passes p.closes q.closes
 
-by_head : (t : Bool) (last : ℕ) (lines : Rest) (a b : Judgement) → (IsTrue t → IsJudged last lines a) × (IsFalse t → a ≡ Garbled 1) → (IsTrue t → IsJudged last lines b) × (IsFalse t → b ≡ Garbled 1) → a ≡ b
-by_head true last lines a b h k = one_judged last lines a b (h.0 refl) (k.0 refl)
-by_head false last lines a b h k = h.1 refl ∙ sym (k.1 refl)
+by_version : (o : Option Version) (lines : Rest) (a b : Judgement) → JudgedBehindHead o lines a → JudgedBehindHead o lines b → a ≡ b
+by_version None lines a b h k = h ∙ sym k
+by_version (Some v) lines a b h k = one_judged v (2 + length lines) lines a b h k
 
 by_lines : (lines : Rest) (a b : Judgement) → JudgesLines lines a → JudgesLines lines b → a ≡ b
 by_lines [] a b h k = h ∙ sym k
 by_lines (Err f ∷ lines) a b h k = h ∙ sym k
-by_lines (Ok l ∷ lines) a b h k = by_head (is_head l) (2 + length lines) lines a b h k
+by_lines (Ok l ∷ lines) a b h k = by_version (version_of l) lines a b h k
 
 pub one_judgement : (text : List ℕ) (a b : Judgement) → JudgesText text a → JudgesText text b → a ≡ b
 one_judgement text a b h k = by_lines (lines_of_text text) a b h k

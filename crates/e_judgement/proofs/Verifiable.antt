@@ -4,6 +4,7 @@ use Rattle.std.specs.List.{list_all}
 use Rattle.e_text.specs.Lines.{Seen}
 use Rattle.e_text.specs.declared.line.LineFault.{LineFault}
 use Rattle.e_literal.specs.Use.{scope_of}
+use Rattle.e_clause.specs.declared.cert.Version.{Version}
 use Rattle.e_theorem.specs.Statements.{stated}
 use Rattle.e_deriv.specs.Script.{erased}
 use Rattle.e_deriv.specs.Goal.{facts_of_statement, goal_of_statement}
@@ -19,9 +20,9 @@ use Rattle.e_read.proofs.Bridge.{derives}
 use Rattle.e_read.proofs.GoodReadings.{good_certs_read}
 use Rattle.e_judgement.proofs.WithCertificates.{size_erased, small_with}
 
-pub verifiable : (known : List Headed) (last : ℕ) (lines rest : List (Result Seen LineFault)) (t : Entry) → list_all is_small_statement (stated_by known) ≡ true → is_small_statement (stated t.statement) ≡ true → HasSpelling known (bare t)
-    → piece_from known last at_start lines ≡ derives t rest → IsVerifiable (stated_by known) (stated t.statement) t.script
-verifiable known last lines rest t states small spelled e =
+pub verifiable : (v : Version) (known : List Headed) (last : ℕ) (lines rest : List (Result Seen LineFault)) (t : Entry) → list_all is_small_statement (stated_by known) ≡ true → is_small_statement (stated t.statement) ≡ true → HasSpelling known (bare t)
+    → piece_from known last (at_start v) lines ≡ derives t rest → IsVerifiable (stated_by known) (stated t.statement) t.script
+verifiable v known last lines rest t states small spelled e =
     let bs = stated_by known in
     let st = stated t.statement in
     let fit : IsFitting bs st (erased t.script) = fitting known (bare t) states spelled.fits in
@@ -30,5 +31,5 @@ verifiable known last lines rest t states small spelled e =
       statement = small;
       short = omega (arith, fit.short, size_erased t.script);
       scopes = small_with bs t.script (erased t.script) t.script (scope_of st) (facts_of_statement st) (facts_of_statement st) (goal_of_statement st) (goal_of_statement st) fit.scopes;
-      written = written_well t.script (sym (erased_literals t.script) ∙ spelled.fits.good_script) (good_certs_read known last lines rest t e);
+      written = written_well t.script (sym (erased_literals t.script) ∙ spelled.fits.good_script) (good_certs_read v known last lines rest t e);
     }

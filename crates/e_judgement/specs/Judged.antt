@@ -1,9 +1,11 @@
 -- The judgement of a derivation text: its theorems are taken one after another, up to the first block in which a line has no form at
 -- its place or is not certified.
-use Rattle.std.specs.Prelude.{◌≡◌, ◌⊎◌, ℕ, ◌+◌, Bool, ◌&&◌, List, [], ◌∷◌, ◌++◌, length, codes, Result, Ok, Err, IsTrue, IsFalse}
+use Rattle.std.specs.Prelude.{◌≡◌, ◌⊎◌, ℕ, ◌+◌, Bool, ◌&&◌, List, [], ◌∷◌, ◌++◌, length, codes, Option, Some, None, Result, Ok, Err, if◌then◌else◌}
 use Rattle.std.specs.Str.{bytes_eq}
 use Rattle.e_text.specs.Lines.{Seen, lines_of, fault_line}
 use Rattle.e_text.specs.declared.line.LineFault.{LineFault}
+use Rattle.e_clause.specs.declared.cert.Version.{Version}
+use Rattle.e_clause.specs.declared.cert.Version.TheVariants.{One, Two}
 use Rattle.e_theorem.specs.Statements.{stated}
 use Rattle.e_deriv.specs.Certified.{Certified, verdict}
 use Rattle.e_book.specs.Headed.{Headed, headed, stated_by}
@@ -20,19 +22,19 @@ Rest = List (Result Seen LineFault)
 abbrev pub with_theorem : List Headed → Entry → List Headed
 with_theorem known t = known ++ headed t.title t.statement ∷ []
 
--- with this known, these lines begin with this theorem and its derivation, and those are left behind it
-abbrev pub ReadsNext : ℕ → List Headed → Rest → Entry → Rest → Type 0
-ReadsNext last known lines t after = piece_from known last at_start lines ≡ Ok (Derived t, after)
+-- with this known, these lines begin with this theorem and its derivation, in this version, and those are left behind it
+abbrev pub ReadsNext : Version → ℕ → List Headed → Rest → Entry → Rest → Type 0
+ReadsNext v last known lines t after = piece_from known last (at_start v) lines ≡ Ok (Derived t, after)
 
 -- with this known, each certificate of the theorem's derivation certifies at its own line
 abbrev pub IsCertified : List Headed → Entry → Type 0
 IsCertified known t = Certified (stated_by known) (stated t.statement) t.script
 
 -- these theorems are read one after another, and each is certified by those before it; then this is known, and these lines are left
-abbrev pub Passes : ℕ → List Headed → Rest → List Entry → List Headed → Rest → Type 0
-Passes last known lines [] now rest = (known ≡ now) × (lines ≡ rest)
-Passes last known lines (t ∷ ts) now rest =
-    (after : Rest) × ReadsNext last known lines t after × IsCertified known t × Passes last (with_theorem known t) after ts now rest
+abbrev pub Passes : Version → ℕ → List Headed → Rest → List Entry → List Headed → Rest → Type 0
+Passes v last known lines [] now rest = (known ≡ now) × (lines ≡ rest)
+Passes v last known lines (t ∷ ts) now rest =
+    (after : Rest) × ReadsNext v last known lines t after × IsCertified known t × Passes v last (with_theorem known t) after ts now rest
 
 -- the number of a line
 abbrev pub number_of : Result Seen LineFault → ℕ
@@ -45,40 +47,53 @@ JudgedBehind n [] = Verified n
 JudgedBehind n (x ∷ xs) = Garbled (number_of x)
 
 -- the last line comes
-abbrev pub EndsThere : ℕ → List Headed → Rest → Judgement → Type 0
-EndsThere last known lines j = (rest : Rest) × (piece_from known last at_start lines ≡ Ok (Last, rest)) × (j ≡ JudgedBehind (length known) rest)
+abbrev pub EndsThere : Version → ℕ → List Headed → Rest → Judgement → Type 0
+EndsThere v last known lines j = (rest : Rest) × (piece_from known last (at_start v) lines ≡ Ok (Last, rest)) × (j ≡ JudgedBehind (length known) rest)
 
 -- a line of the next block has no form at its place
-abbrev pub BreaksThere : ℕ → List Headed → Rest → Judgement → Type 0
-BreaksThere last known lines j = (line : ℕ) × (piece_from known last at_start lines ≡ Err line) × (j ≡ Garbled line)
+abbrev pub BreaksThere : Version → ℕ → List Headed → Rest → Judgement → Type 0
+BreaksThere v last known lines j = (line : ℕ) × (piece_from known last (at_start v) lines ≡ Err line) × (j ≡ Garbled line)
 
 -- each line of the next block has a form, and this is the first that is not certified
-abbrev pub FailsThere : ℕ → List Headed → Rest → Judgement → Type 0
-FailsThere last known lines j =
-    (t : Entry) × (after : Rest) × (step : ℕ) × ReadsNext last known lines t after
+abbrev pub FailsThere : Version → ℕ → List Headed → Rest → Judgement → Type 0
+FailsThere v last known lines j =
+    (t : Entry) × (after : Rest) × (step : ℕ) × ReadsNext v last known lines t after
     × (verdict (stated_by known) (stated t.statement) t.script ≡ Err step) × (j ≡ Bad t.title step)
 
 -- with this known, these lines end so
-abbrev pub Closes : ℕ → List Headed → Rest → Judgement → Type 0
-Closes last known lines j = EndsThere last known lines j ⊎ (BreaksThere last known lines j ⊎ FailsThere last known lines j)
+abbrev pub Closes : Version → ℕ → List Headed → Rest → Judgement → Type 0
+Closes v last known lines j = EndsThere v last known lines j ⊎ (BreaksThere v last known lines j ⊎ FailsThere v last known lines j)
 
--- these lines behind the head are theorems, each certified by those before it, and then end so
-pub record IsJudged (last : ℕ) (lines : Rest) (j : Judgement) : Type 0 where
+-- these lines behind the head of this version are theorems, each certified by those before it, and then end so
+pub record IsJudged (v : Version) (last : ℕ) (lines : Rest) (j : Judgement) : Type 0 where
   pub theorems : List Entry
   pub known : List Headed
   pub rest : Rest
-  pub passes : Passes last [] lines theorems known rest
-  pub closes : Closes last known rest j
+  pub passes : Passes v last [] lines theorems known rest
+  pub closes : Closes v last known rest j
 
 -- the first line of a derivation text
-abbrev pub is_head : Seen → Bool
-is_head l = is_lf_end l.end && bytes_eq l.bytes (codes "derivation 1")
+abbrev pub head_of : Version → List ℕ
+head_of One = codes "derivation 1"
+head_of Two = codes "derivation 2"
+
+abbrev pub is_head : Version → Seen → Bool
+is_head v l = is_lf_end l.end && bytes_eq l.bytes (head_of v)
+
+-- the version that it says
+abbrev pub version_of : Seen → Option Version
+version_of l = if is_head One l then Some One else if is_head Two l then Some Two else None
+
+-- behind a line that says this the lines are judged so
+abbrev pub JudgedBehindHead : Option Version → Rest → Judgement → Type 0
+JudgedBehindHead None lines j = j ≡ Garbled 1
+JudgedBehindHead (Some v) lines j = IsJudged v (2 + length lines) lines j
 
 -- a text begins with the head line
 abbrev pub JudgesLines : Rest → Judgement → Type 0
 JudgesLines [] j = j ≡ Garbled 1
 JudgesLines (Err f ∷ lines) j = j ≡ Garbled 1
-JudgesLines (Ok l ∷ lines) j = (IsTrue (is_head l) → IsJudged (2 + length lines) lines j) × (IsFalse (is_head l) → j ≡ Garbled 1)
+JudgesLines (Ok l ∷ lines) j = JudgedBehindHead (version_of l) lines j
 
 -- the lines of a derivation text: each has at most 262,144 bytes, and all bytes count
 abbrev pub lines_of_text : List ℕ → Rest

@@ -8,10 +8,11 @@ ghost use Rattle.e_book.specs.Grammar.{last_line};
 ghost use Rattle.e_book.specs.Headed.{headed, is_known, stated_by};
 ghost use Rattle.e_verify.specs.Checking.{RejectIs};
 ghost use Rattle.e_verify.specs.Verdicts.{IsVerifiable};
-ghost use Rattle.e_judgement.specs.Judged.{is_head, JudgesText, JudgedBehind, IsJudged};
+ghost use Rattle.e_judgement.specs.Judged.{head_of, is_head, version_of, JudgesText, JudgedBehind, IsJudged};
 
 use crate::judgement::Judgement;
-use e_book::{Known, Theorem};
+use e_book::{Theorem, Theorems};
+use e_clause::Version;
 use e_read::{Piece, TextFault, read};
 use e_text::{Line, LineEnd, Lines, faulty_line};
 use e_verify::{Reject, verify};
@@ -19,17 +20,40 @@ use std::alloc::{AllocError, Global};
 use std::mem;
 
 /// The most bytes that a line of a derivation text may have.
-const LONGEST_LINE: usize = 262_144;
+pub const LONGEST_LINE: usize = 262_144;
 
-/// Whether a line is the first one of a derivation text.
-fn is_head(line: &Line) -> bool
-    ensures { result ≡ is_head (seen line.now) }
+/// The first line of a derivation text of this version.
+fn head_of(version: Version) -> &'static [u8]
+    ensures { result.now ≡ head_of version }
 {
-    matches!(line.end, LineEnd::Lf) && line.bytes == b"derivation 1".as_slice()
+    match version {
+        Version::One => b"derivation 1",
+        Version::Two => b"derivation 2",
+    }
+}
+
+/// Whether a line is the first one of a derivation text of this version.
+fn is_head(version: Version, line: &Line) -> bool
+    ensures { result ≡ is_head version (seen line.now) }
+{
+    matches!(line.end, LineEnd::Lf) && line.bytes == head_of(version)
+}
+
+/// The version that the first line of a derivation text says, if it is one.
+pub fn version_of(line: &Line) -> Option<Version>
+    ensures { result ≡ version_of (seen line.now) }
+{
+    if is_head(Version::One, line) {
+        return Some(Version::One);
+    }
+    if is_head(Version::Two, line) {
+        return Some(Version::Two);
+    }
+    None
 }
 
 /// Behind the last line of a text nothing stands.
-fn behind_the_last(lines: &mut Lines, theorems: u32) -> Judgement
+pub fn behind_the_last(lines: &mut Lines, theorems: u32) -> Judgement
     ensures { result ≡ JudgedBehind theorems lines.old.lines }
 {
     match lines.next() {
@@ -42,7 +66,7 @@ fn behind_the_last(lines: &mut Lines, theorems: u32) -> Judgement
 }
 
 /// Checks a theorem that is read by those that are known.
-fn check(alloc: Global, known: &Known, theorem: &Theorem) -> Result<(), Reject>
+pub fn check(alloc: Global, known: &Theorems, theorem: &Theorem) -> Result<(), Reject>
     requires { IsVerifiable (stated_by known.now) (stated theorem.now.statement) (script_of theorem.now.block) }
     ensures certified { OnOk result (Certified (stated_by known.now) (stated theorem.now.statement) (script_of theorem.now.block)) }
     ensures bad { IfErr result (RejectIs (verdict (stated_by known.now) (stated theorem.now.statement) (script_of theorem.now.block))) }
@@ -56,7 +80,7 @@ fn check(alloc: Global, known: &Known, theorem: &Theorem) -> Result<(), Reject>
 }
 
 /// Keeps the title and the statement of a theorem.
-fn keep(known: &mut Known, theorem: Theorem) -> Result<(), AllocError>
+pub fn keep(known: &mut Theorems, theorem: Theorem) -> Result<(), AllocError>
     requires { is_known known.old theorem.title ≡ false }
     ensures { OnOk result (known.new ≡ known.old ++ headed theorem.title theorem.statement ∷ []) }
 {
@@ -74,14 +98,15 @@ fn keep(known: &mut Known, theorem: Theorem) -> Result<(), AllocError>
 /// Judges the theorems one after another, and keeps each that is certified.
 fn judge_theorems(
     alloc: Global,
-    known: &mut Known,
+    version: Version,
+    known: &mut Theorems,
     lines: &mut Lines,
 ) -> Result<Judgement, AllocError>
     requires { known.old ≡ [] }
-    ensures { IfOk result (λ j. IsJudged (last_line lines.old) lines.old.lines j) }
+    ensures { IfOk result (λ j. IsJudged version (last_line lines.old) lines.old.lines j) }
 {
     loop {
-        let theorem = match read(alloc, lines, known) {
+        let theorem = match read(alloc, lines, known, version) {
             Ok(Piece::Theorem(theorem)) => theorem,
             Ok(Piece::Last { theorems }) => return Ok(behind_the_last(lines, theorems)),
             Err(TextFault::Garbled { line }) => return Ok(Judgement::Garbled { line }),
@@ -105,8 +130,8 @@ fn judge_theorems(
 
 /// Judges a derivation text. It fails only for want of memory.
 ///
-/// The text is verified exactly where it is the head line `derivation 1`, blocks in which each line has its form and each
-/// certificate certifies at its own line, and the line `accepted N` with their number, and nothing stands behind that. Else the
+/// The text is verified exactly where it is the head line `derivation 1` or `derivation 2`, which says the version, blocks of that
+/// version in which each line has its form and each certificate certifies at its own line, and the line `accepted N` with their number, and nothing stands behind that. Else the
 /// first block in which something is wrong decides: it is garbled at its first line that has no form at its place, or, where each
 /// has one, bad at its first line that is not certified. No search is part of this.
 pub fn judge(alloc: Global, text: &[u8]) -> Result<Judgement, AllocError>
@@ -119,11 +144,11 @@ pub fn judge(alloc: Global, text: &[u8]) -> Result<Judgement, AllocError>
         Some(Err(_)) => return Ok(Judgement::Garbled { line: 1 }),
         None => return Ok(Judgement::Garbled { line: 1 }),
     };
-    if !is_head(&first) {
+    let Some(version) = version_of(&first) else {
         return Ok(Judgement::Garbled { line: 1 });
-    }
-    let mut known = Known::new(alloc);
-    let judged = judge_theorems(alloc, &mut known, &mut lines);
+    };
+    let mut known = Theorems::new(alloc);
+    let judged = judge_theorems(alloc, version, &mut known, &mut lines);
     mem::drop(known);
     judged
 }

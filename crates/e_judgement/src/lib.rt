@@ -7,5 +7,5 @@ mod judging;
 mod laws;
 
 pub use judgement::Judgement;
-pub use judging::judge;
+pub use judging::{LONGEST_LINE, behind_the_last, check, judge, keep, version_of};
 pub use laws::{each_text_is_judged, texts_have_one_judgement};

@@ -3,6 +3,7 @@ use Rattle.std.proofs.Common.{◌≡◌, ℕ, Bool, true, false, inl, inr, List,
 use Rattle.std.specs.Prelude.{◌⊎◌}
 use Rattle.e_text.specs.Lines.{Seen, fault_line}
 use Rattle.e_text.specs.declared.line.LineFault.{LineFault}
+use Rattle.e_clause.specs.declared.cert.Version.{Version}
 use Rattle.e_book.specs.Headed.{Headed}
 use Rattle.e_book.specs.Entry.{Entry}
 use Rattle.e_read.specs.declared.reading.Reading.{Reading}
@@ -86,9 +87,9 @@ first_from known last r (Err f ∷ ls) n e =
     inl (at_once known r (Err f) ls n (λ end other. piece_fault known end r f other ∙ ap wrong is))
 first_from known last r (Ok l ∷ ls) n e = by_line known last r l ls n (λ next h. first_from known last next ls n h) e
 
-pub garbled_first : (known : List Headed) (last : ℕ) (lines : Rest) (n : ℕ) → piece_from known last at_start lines ≡ wrong n → GarblesAt known lines n ⊎ (EndsTooSoon known lines × (n ≡ last))
-garbled_first known last lines n e = to_law (first_from known last at_start lines n e)
+pub garbled_first : (v : Version) (known : List Headed) (last : ℕ) (lines : Rest) (n : ℕ) → piece_from known last (at_start v) lines ≡ wrong n → GarblesAt v known lines n ⊎ (EndsTooSoon v known lines × (n ≡ last))
+garbled_first v known last lines n e = to_law (first_from known last (at_start v) lines n e)
   where
-    to_law : From known at_start lines n ⊎ TooSoon known at_start lines last n → GarblesAt known lines n ⊎ (EndsTooSoon known lines × (n ≡ last))
+    to_law : From known (at_start v) lines n ⊎ TooSoon known (at_start v) lines last n → GarblesAt v known lines n ⊎ (EndsTooSoon v known lines × (n ≡ last))
     to_law (inl b) = inl (record { front = b.front; line = b.line; rest = b.rest; all = b.all; before = b.before; there = b.there })
     to_law (inr t) = inr t

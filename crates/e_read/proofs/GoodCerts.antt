@@ -1,66 +1,68 @@
--- With certificates whose literals are well formed, a script that is filled has such certificates.
+-- With certificates of one version, a script that is filled has such certificates.
 use Rattle.std.proofs.Common.{◌≡◌, Bool, true, List, [], ◌∷◌, refl}
 use Rattle.std.specs.List.{list_all}
 use Rattle.std.specs.Option.{option_map_or}
 use Rattle.std.proofs.lemmas.Bool.{and_parts, and_from}
 use Rattle.e_clause.specs.declared.cert.Cert.{Cert}
 use Rattle.e_deriv.specs.Script.{Script, Cite, Hence, Make, Apply, Claim, Superposed, Qed, Contradiction, Cases}
-use Rattle.e_deriv.specs.Written.{has_good_certs}
+use Rattle.e_deriv.specs.Versions.{has_certs_of}
 use Rattle.e_read.specs.declared.kept.Kept.{Kept}
 use Rattle.e_read.specs.declared.kept.Kept.TheVariants as kept
 use Rattle.e_read.specs.Filled.{first_cert, next_certs, next_against, behind_next, filled}
-use Rattle.e_clause.specs.Written.{is_good_cert, is_good_against}
+use Rattle.e_clause.specs.declared.cert.Version.{Version}
+use Rattle.e_clause.specs.Versions.{is_cert_of, is_against_of}
 
--- the literals of what was read below a line are well formed
-abbrev pub is_good_kept : Kept → Bool
-is_good_kept (kept.Certs cs) = list_all is_good_cert cs
-is_good_kept (kept.Against a) = is_good_against a
+module _ (v : Version) where
+  -- what was read below a line is of the version
+  abbrev pub is_good_kept : Kept → Bool
+  is_good_kept (kept.Certs cs) = list_all (is_cert_of v) cs
+  is_good_kept (kept.Against a) = is_against_of v a
 
-abbrev pub AreGood : List Kept → Type 0
-AreGood ks = list_all is_good_kept ks ≡ true
+  abbrev pub AreGood : List Kept → Type 0
+  AreGood ks = list_all is_good_kept ks ≡ true
 
-first_good : (cs : List Cert) → list_all is_good_cert cs ≡ true → option_map_or is_good_cert (first_cert cs) true ≡ true
-first_good [] h = refl
-first_good (c ∷ cs) h = (and_parts (is_good_cert c) (list_all is_good_cert cs) h).0
+  first_good : (cs : List Cert) → list_all (is_cert_of v) cs ≡ true → option_map_or (is_cert_of v) (first_cert cs) true ≡ true
+  first_good [] h = refl
+  first_good (c ∷ cs) h = (and_parts (is_cert_of v c) (list_all (is_cert_of v) cs) h).0
 
-certs_good : (ks : List Kept) → AreGood ks → list_all is_good_cert (next_certs ks) ≡ true
-certs_good [] h = refl
-certs_good (kept.Certs cs ∷ ks) h = (and_parts (list_all is_good_cert cs) (list_all is_good_kept ks) h).0
-certs_good (kept.Against a ∷ ks) h = refl
+  certs_good : (ks : List Kept) → AreGood ks → list_all (is_cert_of v) (next_certs ks) ≡ true
+  certs_good [] h = refl
+  certs_good (kept.Certs cs ∷ ks) h = (and_parts (list_all (is_cert_of v) cs) (list_all is_good_kept ks) h).0
+  certs_good (kept.Against a ∷ ks) h = refl
 
-against_good : (ks : List Kept) → AreGood ks → option_map_or is_good_against (next_against ks) true ≡ true
-against_good [] h = refl
-against_good (kept.Certs cs ∷ ks) h = refl
-against_good (kept.Against a ∷ ks) h = (and_parts (is_good_against a) (list_all is_good_kept ks) h).0
+  against_good : (ks : List Kept) → AreGood ks → option_map_or (is_against_of v) (next_against ks) true ≡ true
+  against_good [] h = refl
+  against_good (kept.Certs cs ∷ ks) h = refl
+  against_good (kept.Against a ∷ ks) h = (and_parts (is_against_of v a) (list_all is_good_kept ks) h).0
 
-behind_good : (ks : List Kept) → AreGood ks → AreGood (behind_next ks)
-behind_good [] h = refl
-behind_good (k ∷ ks) h = (and_parts (is_good_kept k) (list_all is_good_kept ks) h).1
+  behind_good : (ks : List Kept) → AreGood ks → AreGood (behind_next ks)
+  behind_good [] h = refl
+  behind_good (k ∷ ks) h = (and_parts (is_good_kept k) (list_all is_good_kept ks) h).1
 
--- with good certificates the script has good ones, and good ones are left
-pub filled_good : (d : Script) (ks : List Kept) → AreGood ks → (has_good_certs (filled d ks).0 ≡ true) × AreGood (filled d ks).1
-unfolding has_good_certs filled
-filled_good (Cite by rest) ks h = filled_good rest ks h
-filled_good (Hence lit cert rest) ks h =
-    let r = filled_good rest (behind_next ks) (behind_good ks h) in
-    (and_from _ _ (first_good (next_certs ks) (certs_good ks h)) r.0, r.1)
-filled_good (Make form names certs rest) ks h =
-    let r = filled_good rest (behind_next ks) (behind_good ks h) in
-    (and_from _ _ (certs_good ks h) r.0, r.1)
-filled_good (Apply theorem args names certs rest) ks h =
-    let r = filled_good rest (behind_next ks) (behind_good ks h) in
-    (and_from _ _ (certs_good ks h) r.0, r.1)
-filled_good (Claim shown inner rest) ks h =
-    let i = filled_good inner ks h in
-    let r = filled_good rest (filled inner ks).1 i.1 in
-    (and_from _ _ i.0 r.0, r.1)
-filled_good (Superposed form names shown certs inner rest) ks h =
-    let i = filled_good inner (behind_next ks) (behind_good ks h) in
-    let r = filled_good rest (filled inner (behind_next ks)).1 i.1 in
-    (and_from _ _ (certs_good ks h) (and_from _ _ i.0 r.0), r.1)
-filled_good (Qed objects certs) ks h = (certs_good ks h, behind_good ks h)
-filled_good (Contradiction against) ks h = (against_good ks h, behind_good ks h)
-filled_good (Cases lit first second) ks h =
-    let i = filled_good first ks h in
-    let r = filled_good second (filled first ks).1 i.1 in
-    (and_from _ _ i.0 r.0, r.1)
+  -- with good certificates the script has good ones, and good ones are left
+  pub filled_good : (d : Script) (ks : List Kept) → AreGood ks → (has_certs_of v (filled d ks).0 ≡ true) × AreGood (filled d ks).1
+  unfolding has_certs_of filled
+  filled_good (Cite by rest) ks h = filled_good rest ks h
+  filled_good (Hence lit cert rest) ks h =
+      let r = filled_good rest (behind_next ks) (behind_good ks h) in
+      (and_from _ _ (first_good (next_certs ks) (certs_good ks h)) r.0, r.1)
+  filled_good (Make form names certs rest) ks h =
+      let r = filled_good rest (behind_next ks) (behind_good ks h) in
+      (and_from _ _ (certs_good ks h) r.0, r.1)
+  filled_good (Apply theorem args names certs rest) ks h =
+      let r = filled_good rest (behind_next ks) (behind_good ks h) in
+      (and_from _ _ (certs_good ks h) r.0, r.1)
+  filled_good (Claim shown inner rest) ks h =
+      let i = filled_good inner ks h in
+      let r = filled_good rest (filled inner ks).1 i.1 in
+      (and_from _ _ i.0 r.0, r.1)
+  filled_good (Superposed form names shown certs inner rest) ks h =
+      let i = filled_good inner (behind_next ks) (behind_good ks h) in
+      let r = filled_good rest (filled inner (behind_next ks)).1 i.1 in
+      (and_from _ _ (certs_good ks h) (and_from _ _ i.0 r.0), r.1)
+  filled_good (Qed objects certs) ks h = (certs_good ks h, behind_good ks h)
+  filled_good (Contradiction against) ks h = (against_good ks h, behind_good ks h)
+  filled_good (Cases lit first second) ks h =
+      let i = filled_good first ks h in
+      let r = filled_good second (filled first ks).1 i.1 in
+      (and_from _ _ i.0 r.0, r.1)

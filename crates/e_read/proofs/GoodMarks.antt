@@ -1,5 +1,5 @@
--- The literals of certificates that are read are well formed.
-use Rattle.std.proofs.Common.{◌≡◌, ℕ, ◌+◌, Bool, true, false, cond, ◌&&◌, ltb, List, [], ◌∷◌, ◌++◌, length, Option, Some, None, Result, Ok, Err, refl, subst}
+-- The certificates that are read are of the version of the text, and their literals are well formed.
+use Rattle.std.proofs.Common.{◌≡◌, ℕ, ◌+◌, Bool, true, false, cond, ◌&&◌, ◌^◌, ltb, List, [], ◌∷◌, ◌++◌, length, Option, Some, None, Result, Ok, Err, refl, subst}
 use Rattle.std.specs.Prelude.{ℤ, slice_get, ◌==◌}
 use Rattle.std.specs.List.{list_all}
 use Rattle.std.specs.Str.{bytes_eq}
@@ -46,10 +46,12 @@ use Rattle.e_read.specs.declared.owed.Due.TheVariants as due
 use Rattle.e_read.specs.declared.owed.Owed.{Owed}
 use Rattle.e_read.specs.declared.kept.Kept.{Kept}
 use Rattle.e_read.specs.declared.kept.Kept.TheVariants as kept
-use Rattle.e_read.specs.Marks.{mark_of, mark_line}
+use Rattle.e_read.specs.Marks.{mark_of, mark_line, row_is_of, mark_is_of}
 use Rattle.e_read.specs.Strict.{is_strict_mark, strict_mark}
 use Rattle.e_read.specs.Owed.{most_rows, fact_in, row_in, with_row, row_put, sum_begun, differs_put, sums_ended, has_more, certificate, transfer_put, part_put, metric_put, takes_metric, clash_put, transfer_rule, count_others, transfer_at, transfer_in, transfer_begun, ended, sums_behind, due_behind, marked, kept_of, settled}
-use Rattle.e_clause.specs.Written.{is_good_name, is_good_sum, is_good_sums, is_good_part, is_good_cert, is_good_against}
+use Rattle.e_clause.specs.Written.{is_good_name}
+use Rattle.e_clause.specs.declared.cert.Version.{Version}
+use Rattle.e_clause.specs.Versions.{by_literals, by_places, is_name_of, is_sum_of, are_sums_of, is_part_of, is_cert_of, is_against_of}
 use Rattle.e_read.proofs.GoodCerts.{AreGood}
 use Rattle.e_read.proofs.MarkLits.{OfRow, OfMark, mark_lit}
 
@@ -99,205 +101,227 @@ good_row ns rows.Right r said e = subst GoodName (ok_is names.Right r e) refl
 good_row ns (rows.Least raw) r said e = let t = bind_ok (term_in ns raw) (λ t. read_ok (names.Least t)) r e in subst GoodName (ok_is (names.Least t.0) r t.2) refl
 good_row ns rows.Above r said e = subst GoodName (ok_is names.Above r e) refl
 good_row ns rows.Below r said e = subst GoodName (ok_is names.Below r e) refl
+good_row ns (rows.FactAt k) r said e = subst GoodName (ok_is (names.FactAt k) r e) said
 
--- ---- what is owed
+-- the name of a row that has a form in a version is of that version
+pub version_row : (v : Version) (ns : Names) (raw : RawRow) (r : RowName) → row_is_of v raw ≡ true → RowSaid raw → row_in ns raw ≡ Ok r → is_name_of v r ≡ true
+unfolding row_in
+version_row v ns (rows.Fact raw) r of said e =
+    let l = bind_ok (fact_in ns raw) (λ l. read_ok (names.Fact l)) r e in
+    subst (λ (x : RowName). is_name_of v x ≡ true) (ok_is (names.Fact l.0) r l.2) (and_from (by_literals v) (is_well_formed l.0) of (good_fact ns raw l.0 said l.1))
+version_row v ns (rows.FactAt k) r of said e = subst (λ (x : RowName). is_name_of v x ≡ true) (ok_is (names.FactAt k) r e) (and_from (by_places v) (ltb k (2 ^ 32)) of said)
+version_row v ns rows.Goal r of said e = subst (λ (x : RowName). is_name_of v x ≡ true) (ok_is names.Goal r e) refl
+version_row v ns (rows.Pos raw) r of said e = let t = bind_ok (term_in ns raw) (λ t. read_ok (names.Pos t)) r e in subst (λ (x : RowName). is_name_of v x ≡ true) (ok_is (names.Pos t.0) r t.2) refl
+version_row v ns (rows.Top raw) r of said e = let t = bind_ok (term_in ns raw) (λ t. read_ok (names.Top t)) r e in subst (λ (x : RowName). is_name_of v x ≡ true) (ok_is (names.Top t.0) r t.2) refl
+version_row v ns rows.Right r of said e = subst (λ (x : RowName). is_name_of v x ≡ true) (ok_is names.Right r e) refl
+version_row v ns (rows.Least raw) r of said e = let t = bind_ok (term_in ns raw) (λ t. read_ok (names.Least t)) r e in subst (λ (x : RowName). is_name_of v x ≡ true) (ok_is (names.Least t.0) r t.2) refl
+version_row v ns rows.Above r of said e = subst (λ (x : RowName). is_name_of v x ≡ true) (ok_is names.Above r e) refl
+version_row v ns rows.Below r of said e = subst (λ (x : RowName). is_name_of v x ≡ true) (ok_is names.Below r e) refl
 
-abbrev pub is_good_open : Option OpenSums → Bool
-is_good_open None = true
-is_good_open (Some sums.Begun) = true
-is_good_open (Some (sums.One sum)) = is_good_sum sum
-is_good_open (Some (sums.Differs differs)) = is_good_name differs
-is_good_open (Some (sums.Above differs sum)) = is_good_name differs && is_good_sum sum
-is_good_open (Some (sums.Below differs above sum)) = is_good_name differs && (is_good_sum above && is_good_sum sum)
+module _ (v : Version) where
+  -- ---- what is owed
 
-abbrev pub are_good_certs : List Cert → Bool
-are_good_certs cs = list_all is_good_cert cs
+  abbrev pub is_good_open : Option OpenSums → Bool
+  is_good_open None = true
+  is_good_open (Some sums.Begun) = true
+  is_good_open (Some (sums.One sum)) = is_sum_of v sum
+  is_good_open (Some (sums.Differs differs)) = is_name_of v differs
+  is_good_open (Some (sums.Above differs sum)) = is_name_of v differs && is_sum_of v sum
+  is_good_open (Some (sums.Below differs above sum)) = is_name_of v differs && (is_sum_of v above && is_sum_of v sum)
 
-abbrev pub are_good_parts : List Part → Bool
-are_good_parts ps = list_all is_good_part ps
+  abbrev pub are_good_certs : List Cert → Bool
+  are_good_certs cs = list_all (is_cert_of v) cs
 
-abbrev pub is_good_due : Due → Bool
-is_good_due due.Nothing = true
-is_good_due (due.Literals wanted certs None) = are_good_certs certs
-is_good_due (due.Literals wanted certs (Some t)) = are_good_certs certs && are_good_parts t.parts
-is_good_due (due.Contradiction None) = true
-is_good_due (due.Contradiction (Some a)) = is_good_against a
+  abbrev pub are_good_parts : List Part → Bool
+  are_good_parts ps = list_all (is_part_of v) ps
 
-abbrev pub GoodOpen : Option OpenSums → Type 0
-GoodOpen s = is_good_open s ≡ true
+  abbrev pub is_good_due : Due → Bool
+  is_good_due due.Nothing = true
+  is_good_due (due.Literals wanted certs None) = are_good_certs certs
+  is_good_due (due.Literals wanted certs (Some t)) = are_good_certs certs && are_good_parts t.parts
+  is_good_due (due.Contradiction None) = true
+  is_good_due (due.Contradiction (Some a)) = is_against_of v a
 
-abbrev pub GoodDue : Due → Type 0
-GoodDue d = is_good_due d ≡ true
+  abbrev pub GoodOpen : Option OpenSums → Type 0
+  GoodOpen s = is_good_open s ≡ true
 
-pub record GoodOwed (o : Owed) : Type 0 where
-  pub certs : GoodDue o.due
-  pub rows_of_sums : GoodOpen o.sums
+  abbrev pub GoodDue : Due → Type 0
+  GoodDue d = is_good_due d ≡ true
 
-to_open : (x s : OpenSums) → GoodOpen (Some x) → read_ok x ≡ Ok s → GoodOpen (Some s)
-to_open x s h e = subst (λ (y : OpenSums). GoodOpen (Some y)) (ok_is x s e) h
+  pub record GoodOwed (o : Owed) : Type 0 where
+    pub certs : GoodDue o.due
+    pub rows_of_sums : GoodOpen o.sums
 
-to_due : (x d : Due) → GoodDue x → read_ok x ≡ Ok d → GoodDue d
-to_due x d h e = subst GoodDue (ok_is x d e) h
+  to_open : (x s : OpenSums) → GoodOpen (Some x) → read_ok x ≡ Ok s → GoodOpen (Some s)
+  to_open x s h e = subst (λ (y : OpenSums). GoodOpen (Some y)) (ok_is x s e) h
 
-to_owed : (x o : Owed) → GoodOwed x → read_ok x ≡ Ok o → GoodOwed o
-to_owed x o h e = subst GoodOwed (ok_is x o e) h
+  to_due : (x d : Due) → GoodDue x → read_ok x ≡ Ok d → GoodDue d
+  to_due x d h e = subst GoodDue (ok_is x d e) h
 
-with_row_good : (sum new : List (ℤ × RowName)) (m : ℤ) (r : RowName) → is_good_sum sum ≡ true → GoodName r → with_row sum m r ≡ Ok new → is_good_sum new ≡ true
-with_row_good sum new m r h k e =
-    let p = passed (ltb (length sum) most_rows) (read_ok (sum ++ (m, r) ∷ [])) new e in
-    subst (λ (x : List (ℤ × RowName)). is_good_sum x ≡ true) (ok_is (sum ++ (m, r) ∷ []) new p.1) (all_both (λ (x : ℤ × RowName). is_good_name x.1) sum ((m, r) ∷ []) h (and_from _ _ k refl))
+  to_owed : (x o : Owed) → GoodOwed x → read_ok x ≡ Ok o → GoodOwed o
+  to_owed x o h e = subst GoodOwed (ok_is x o e) h
 
-row_put_good : (s : Option OpenSums) (m : ℤ) (r : RowName) (new : OpenSums) → GoodOpen s → GoodName r → row_put s m r ≡ Ok new → GoodOpen (Some new)
-row_put_good (Some (sums.One sum)) m r new h k e =
-    let x = bind_ok (with_row sum m r) (λ x. read_ok (sums.One x)) new e in
-    to_open (sums.One x.0) new (with_row_good sum x.0 m r h k x.1) x.2
-row_put_good (Some (sums.Above differs sum)) m r new h k e =
-    let x = bind_ok (with_row sum m r) (λ x. read_ok (sums.Above differs x)) new e in
-    let p = and_parts (is_good_name differs) (is_good_sum sum) h in
-    to_open (sums.Above differs x.0) new (and_from _ _ p.0 (with_row_good sum x.0 m r p.1 k x.1)) x.2
-row_put_good (Some (sums.Below differs above sum)) m r new h k e =
-    let x = bind_ok (with_row sum m r) (λ x. read_ok (sums.Below differs above x)) new e in
-    let p = and_parts (is_good_name differs) (is_good_sum above && is_good_sum sum) h in
-    let q = and_parts (is_good_sum above) (is_good_sum sum) p.1 in
-    to_open (sums.Below differs above x.0) new (and_from _ _ p.0 (and_from _ _ q.0 (with_row_good sum x.0 m r q.1 k x.1))) x.2
-row_put_good s m r new h k e = absurd cc
+  with_row_good : (sum new : List (ℤ × RowName)) (m : ℤ) (r : RowName) → is_sum_of v sum ≡ true → is_name_of v r ≡ true → with_row sum m r ≡ Ok new → is_sum_of v new ≡ true
+  with_row_good sum new m r h k e =
+      let p = passed (ltb (length sum) most_rows) (read_ok (sum ++ (m, r) ∷ [])) new e in
+      subst (λ (x : List (ℤ × RowName)). is_sum_of v x ≡ true) (ok_is (sum ++ (m, r) ∷ []) new p.1) (all_both (λ (x : ℤ × RowName). is_name_of v x.1) sum ((m, r) ∷ []) h (and_from _ _ k refl))
 
-sum_begun_good : (s : Option OpenSums) (new : OpenSums) → GoodOpen s → sum_begun s ≡ Ok new → GoodOpen (Some new)
-sum_begun_good (Some sums.Begun) new h e = to_open (sums.One []) new refl e
-sum_begun_good (Some (sums.Differs differs)) new h e = to_open (sums.Above differs []) new (and_from _ _ h refl) e
-sum_begun_good (Some (sums.Above differs sum)) new h e =
-    let p = and_parts (is_good_name differs) (is_good_sum sum) h in
-    let x = passed (ltb 0 (length sum)) (read_ok (sums.Below differs sum [])) new e in
-    to_open (sums.Below differs sum []) new (and_from _ _ p.0 (and_from _ _ p.1 refl)) x.1
-sum_begun_good s new h e = absurd cc
+  row_put_good : (s : Option OpenSums) (m : ℤ) (r : RowName) (new : OpenSums) → GoodOpen s → is_name_of v r ≡ true → row_put s m r ≡ Ok new → GoodOpen (Some new)
+  row_put_good (Some (sums.One sum)) m r new h k e =
+      let x = bind_ok (with_row sum m r) (λ x. read_ok (sums.One x)) new e in
+      to_open (sums.One x.0) new (with_row_good sum x.0 m r h k x.1) x.2
+  row_put_good (Some (sums.Above differs sum)) m r new h k e =
+      let x = bind_ok (with_row sum m r) (λ x. read_ok (sums.Above differs x)) new e in
+      let p = and_parts (is_name_of v differs) (is_sum_of v sum) h in
+      to_open (sums.Above differs x.0) new (and_from _ _ p.0 (with_row_good sum x.0 m r p.1 k x.1)) x.2
+  row_put_good (Some (sums.Below differs above sum)) m r new h k e =
+      let x = bind_ok (with_row sum m r) (λ x. read_ok (sums.Below differs above x)) new e in
+      let p = and_parts (is_name_of v differs) (is_sum_of v above && is_sum_of v sum) h in
+      let q = and_parts (is_sum_of v above) (is_sum_of v sum) p.1 in
+      to_open (sums.Below differs above x.0) new (and_from _ _ p.0 (and_from _ _ q.0 (with_row_good sum x.0 m r q.1 k x.1))) x.2
+  row_put_good s m r new h k e = absurd cc
 
-differs_put_good : (s : Option OpenSums) (r : RowName) (new : OpenSums) → GoodName r → differs_put s r ≡ Ok new → GoodOpen (Some new)
-differs_put_good (Some sums.Begun) r new k e = to_open (sums.Differs r) new k e
-differs_put_good s r new k e = absurd cc
+  sum_begun_good : (s : Option OpenSums) (new : OpenSums) → GoodOpen s → sum_begun s ≡ Ok new → GoodOpen (Some new)
+  sum_begun_good (Some sums.Begun) new h e = to_open (sums.One []) new refl e
+  sum_begun_good (Some (sums.Differs differs)) new h e = to_open (sums.Above differs []) new (and_from _ _ h refl) e
+  sum_begun_good (Some (sums.Above differs sum)) new h e =
+      let p = and_parts (is_name_of v differs) (is_sum_of v sum) h in
+      let x = passed (ltb 0 (length sum)) (read_ok (sums.Below differs sum [])) new e in
+      to_open (sums.Below differs sum []) new (and_from _ _ p.0 (and_from _ _ p.1 refl)) x.1
+  sum_begun_good s new h e = absurd cc
 
-sums_ended_good : (s : OpenSums) (all : Sums) → GoodOpen (Some s) → sums_ended s ≡ Ok all → is_good_sums all ≡ true
-sums_ended_good (sums.One sum) all h e =
-    let x = passed (ltb 0 (length sum)) (read_ok (One sum)) all e in
-    subst (λ (y : Sums). is_good_sums y ≡ true) (ok_is (One sum) all x.1) h
-sums_ended_good (sums.Below differs above sum) all h e =
-    let x = passed (ltb 0 (length sum)) (read_ok (Two differs above sum)) all e in
-    subst (λ (y : Sums). is_good_sums y ≡ true) (ok_is (Two differs above sum) all x.1) h
-sums_ended_good s all h e = absurd cc
+  differs_put_good : (s : Option OpenSums) (r : RowName) (new : OpenSums) → is_name_of v r ≡ true → differs_put s r ≡ Ok new → GoodOpen (Some new)
+  differs_put_good (Some sums.Begun) r new k e = to_open (sums.Differs r) new k e
+  differs_put_good s r new k e = absurd cc
 
--- ---- certificates
+  sums_ended_good : (s : OpenSums) (all : Sums) → GoodOpen (Some s) → sums_ended s ≡ Ok all → are_sums_of v all ≡ true
+  sums_ended_good (sums.One sum) all h e =
+      let x = passed (ltb 0 (length sum)) (read_ok (One sum)) all e in
+      subst (λ (y : Sums). are_sums_of v y ≡ true) (ok_is (One sum) all x.1) h
+  sums_ended_good (sums.Below differs above sum) all h e =
+      let x = passed (ltb 0 (length sum)) (read_ok (Two differs above sum)) all e in
+      subst (λ (y : Sums). are_sums_of v y ≡ true) (ok_is (Two differs above sum) all x.1) h
+  sums_ended_good s all h e = absurd cc
 
-transfer_put_good : (wanted : List Lit) (certs : List Cert) (t : OpenTransfer) (new : Due) → are_good_certs certs ≡ true → are_good_parts t.parts ≡ true → transfer_put wanted certs t ≡ Ok new → GoodDue new
-transfer_put_good wanted certs t new h k e =
-    either GoodDue (length t.parts == t.owed) (read_ok (due.Literals wanted (certs ++ certificate t ∷ []) None)) (read_ok (due.Literals wanted certs (Some t))) new e
-    (to_due (due.Literals wanted (certs ++ certificate t ∷ []) None) new (all_both is_good_cert certs (certificate t ∷ []) h (and_from _ _ k refl)))
-    (to_due (due.Literals wanted certs (Some t)) new (and_from _ _ h k))
+  -- ---- certificates
 
-part_put_good : (d : Due) (p : Part) (new : Due) → GoodDue d → is_good_part p ≡ true → part_put d p ≡ Ok new → GoodDue new
-part_put_good (due.Literals wanted certs None) p new h k e =
-    let x = passed (has_more wanted certs) (read_ok (due.Literals wanted (certs ++ Plain p ∷ []) None)) new e in
-    to_due (due.Literals wanted (certs ++ Plain p ∷ []) None) new (all_both is_good_cert certs (Plain p ∷ []) h (and_from _ _ k refl)) x.1
-part_put_good (due.Literals wanted certs (Some t)) p new h k e =
-    let q = and_parts (are_good_certs certs) (are_good_parts t.parts) h in
-    transfer_put_good wanted certs (record t { parts = t.parts ++ p ∷ [] }) new q.0 (all_both is_good_part t.parts (p ∷ []) q.1 (and_from _ _ k refl)) e
-part_put_good d p new h k e = absurd cc
+  transfer_put_good : (wanted : List Lit) (certs : List Cert) (t : OpenTransfer) (new : Due) → are_good_certs certs ≡ true → are_good_parts t.parts ≡ true → transfer_put wanted certs t ≡ Ok new → GoodDue new
+  transfer_put_good wanted certs t new h k e =
+      either GoodDue (length t.parts == t.owed) (read_ok (due.Literals wanted (certs ++ certificate t ∷ []) None)) (read_ok (due.Literals wanted certs (Some t))) new e
+      (to_due (due.Literals wanted (certs ++ certificate t ∷ []) None) new (all_both (is_cert_of v) certs (certificate t ∷ []) h (and_from _ _ k refl)))
+      (to_due (due.Literals wanted certs (Some t)) new (and_from _ _ h k))
 
-metric_put_good : (d : Due) (m : MetricCert) (new : Due) → GoodDue d → is_good_sums m.sums ≡ true → metric_put d m ≡ Ok new → GoodDue new
-metric_put_good (due.Contradiction None) m new h k e = to_due (due.Contradiction (Some (against.Metric m))) new k e
-metric_put_good (due.Contradiction (Some a)) m new h k e = part_put_good (due.Contradiction (Some a)) (parts.Metric m) new h k e
-metric_put_good due.Nothing m new h k e = part_put_good due.Nothing (parts.Metric m) new h k e
-metric_put_good (due.Literals wanted certs t) m new h k e = part_put_good (due.Literals wanted certs t) (parts.Metric m) new h k e
+  part_put_good : (d : Due) (p : Part) (new : Due) → GoodDue d → is_part_of v p ≡ true → part_put d p ≡ Ok new → GoodDue new
+  part_put_good (due.Literals wanted certs None) p new h k e =
+      let x = passed (has_more wanted certs) (read_ok (due.Literals wanted (certs ++ Plain p ∷ []) None)) new e in
+      to_due (due.Literals wanted (certs ++ Plain p ∷ []) None) new (all_both (is_cert_of v) certs (Plain p ∷ []) h (and_from _ _ k refl)) x.1
+  part_put_good (due.Literals wanted certs (Some t)) p new h k e =
+      let q = and_parts (are_good_certs certs) (are_good_parts t.parts) h in
+      transfer_put_good wanted certs (record t { parts = t.parts ++ p ∷ [] }) new q.0 (all_both (is_part_of v) t.parts (p ∷ []) q.1 (and_from _ _ k refl)) e
+  part_put_good d p new h k e = absurd cc
 
-clash_put_good : (d : Due) (l : Lit) (new : Due) → clash_put d l ≡ Ok new → GoodDue new
-clash_put_good (due.Contradiction None) l new e = to_due (due.Contradiction (Some (against.Clash l))) new refl e
-clash_put_good d l new e = absurd cc
+  metric_put_good : (d : Due) (m : MetricCert) (new : Due) → GoodDue d → are_sums_of v m.sums ≡ true → metric_put d m ≡ Ok new → GoodDue new
+  metric_put_good (due.Contradiction None) m new h k e = to_due (due.Contradiction (Some (against.Metric m))) new k e
+  metric_put_good (due.Contradiction (Some a)) m new h k e = part_put_good (due.Contradiction (Some a)) (parts.Metric m) new h k e
+  metric_put_good due.Nothing m new h k e = part_put_good due.Nothing (parts.Metric m) new h k e
+  metric_put_good (due.Literals wanted certs t) m new h k e = part_put_good (due.Literals wanted certs t) (parts.Metric m) new h k e
 
--- a transfer that is begun has no part yet
-no_parts : (ns : Names) (l : Lit) (title : List ℕ) (raws : List (List ℕ)) (t : OpenTransfer) → transfer_in ns l title raws ≡ Ok t → are_good_parts t.parts ≡ true
-unfolding transfer_in transfer_at
-no_parts ns l title raws t e =
-    let then : ℕ → List Obj → List Lit → OpenTransfer = λ r args lits. record { rule = r; args = args; parts = []; owed = count_others l lits } in
-    let last : ℕ → List Obj → Result OpenTransfer Kind = λ r args. transfer_at l r args in
-    let third : ℕ → Sig → Result OpenTransfer Kind = λ r s. args_in ns s raws >>= λ args. last r args in
-    let second : ℕ → Sig → Result OpenTransfer Kind = λ r s. right_count (length raws == s.points + s.lines + s.circles) >>= λ right. third r s in
-    let r = bind_ok (transfer_rule (place_of title)) (λ r. variables_of (sig_of r) >>= λ s. second r s) t e in
-    let s = bind_ok (variables_of (sig_of r.0)) (λ s. second r.0 s) t r.2 in
-    let right = bind_ok (right_count (length raws == s.0.points + s.0.lines + s.0.circles)) (λ right. third r.0 s.0) t s.2 in
-    let args = bind_ok (args_in ns s.0 raws) (λ args. last r.0 args) t right.2 in
-    let lits = bind_ok (or_malformed (Inst r.0 args.0)) (λ lits. read_ok (then r.0 args.0 lits)) t args.2 in
-    subst (λ (x : OpenTransfer). are_good_parts x.parts ≡ true) (ok_is (then r.0 args.0 lits.0) t lits.2) refl
+  clash_put_good : (d : Due) (l : Lit) (new : Due) → clash_put d l ≡ Ok new → GoodDue new
+  clash_put_good (due.Contradiction None) l new e = to_due (due.Contradiction (Some (against.Clash l))) new refl e
+  clash_put_good d l new e = absurd cc
 
-transfer_begun_good : (ns : Names) (d : Due) (title : List ℕ) (raws : List (List ℕ)) (new : Due) → GoodDue d → transfer_begun ns d title raws ≡ Ok new → GoodDue new
-transfer_begun_good ns (due.Literals wanted certs None) title raws new h e =
-    let l = bind_ok (or_malformed (slice_get wanted (length certs))) (λ l. transfer_in ns l title raws >>= λ t. transfer_put wanted certs t) new e in
-    let t = bind_ok (transfer_in ns l.0 title raws) (λ t. transfer_put wanted certs t) new l.2 in
-    transfer_put_good wanted certs t.0 new h (no_parts ns l.0 title raws t.0 t.1) t.2
-transfer_begun_good ns d title raws new h e = absurd cc
+  -- a transfer that is begun has no part yet
+  no_parts : (ns : Names) (l : Lit) (title : List ℕ) (raws : List (List ℕ)) (t : OpenTransfer) → transfer_in ns l title raws ≡ Ok t → are_good_parts t.parts ≡ true
+  unfolding transfer_in transfer_at
+  no_parts ns l title raws t e =
+      let then : ℕ → List Obj → List Lit → OpenTransfer = λ r args lits. record { rule = r; args = args; parts = []; owed = count_others l lits } in
+      let last : ℕ → List Obj → Result OpenTransfer Kind = λ r args. transfer_at l r args in
+      let third : ℕ → Sig → Result OpenTransfer Kind = λ r s. args_in ns s raws >>= λ args. last r args in
+      let second : ℕ → Sig → Result OpenTransfer Kind = λ r s. right_count (length raws == s.points + s.lines + s.circles) >>= λ right. third r s in
+      let r = bind_ok (transfer_rule (place_of title)) (λ r. variables_of (sig_of r) >>= λ s. second r s) t e in
+      let s = bind_ok (variables_of (sig_of r.0)) (λ s. second r.0 s) t r.2 in
+      let right = bind_ok (right_count (length raws == s.0.points + s.0.lines + s.0.circles)) (λ right. third r.0 s.0) t s.2 in
+      let args = bind_ok (args_in ns s.0 raws) (λ args. last r.0 args) t right.2 in
+      let lits = bind_ok (or_malformed (Inst r.0 args.0)) (λ lits. read_ok (then r.0 args.0 lits)) t args.2 in
+      subst (λ (x : OpenTransfer). are_good_parts x.parts ≡ true) (ok_is (then r.0 args.0 lits.0) t lits.2) refl
 
--- ---- lines
+  transfer_begun_good : (ns : Names) (d : Due) (title : List ℕ) (raws : List (List ℕ)) (new : Due) → GoodDue d → transfer_begun ns d title raws ≡ Ok new → GoodDue new
+  transfer_begun_good ns (due.Literals wanted certs None) title raws new h e =
+      let l = bind_ok (or_malformed (slice_get wanted (length certs))) (λ l. transfer_in ns l title raws >>= λ t. transfer_put wanted certs t) new e in
+      let t = bind_ok (transfer_in ns l.0 title raws) (λ t. transfer_put wanted certs t) new l.2 in
+      transfer_put_good wanted certs t.0 new h (no_parts ns l.0 title raws t.0 t.1) t.2
+  transfer_begun_good ns d title raws new h e = absurd cc
 
-ended_good : (o : Owed) (s : Option OpenSums) (e : Owed) → GoodOwed o → GoodOpen s → ended o s ≡ Ok e → GoodOwed e
-ended_good o None e h k same = to_owed o e h same
-ended_good o (Some s) e h k same =
-    let then : Due → Owed = λ d. record o { due = d; sums = None } in
-    let all = bind_ok (sums_ended s) (λ all. metric_put o.due (record { sums = all }) >>= λ d. read_ok (then d)) e same in
-    let d = bind_ok (metric_put o.due (record { sums = all.0 })) (λ d. read_ok (then d)) e all.2 in
-    to_owed (then d.0) e (record { certs = metric_put_good o.due (record { sums = all.0 }) d.0 h.certs (sums_ended_good s all.0 k all.1) d.1; rows_of_sums = refl }) d.2
+  -- ---- lines
 
--- behind a line of a certificate what was read is good
-marked_good : (o : Owed) (m : Mark) (new : Owed) → GoodOwed o → MarkSaid m → marked o m ≡ Ok new → GoodOwed new
-unfolding marked
-marked_good o marks.Fact new h said same =
-    let e = bind_ok (ended o o.sums) (λ e. part_put e.due parts.Fact >>= λ d. read_ok (due_behind e d)) new same in
-    let g = ended_good o o.sums e.0 h h.rows_of_sums e.1 in
-    let d = bind_ok (part_put e.0.due parts.Fact) (λ d. read_ok (due_behind e.0 d)) new e.2 in
-    to_owed (due_behind e.0 d.0) new (record { certs = part_put_good e.0.due parts.Fact d.0 g.certs refl d.1; rows_of_sums = g.rows_of_sums }) d.2
-marked_good o marks.Metric new h said same =
-    let e = bind_ok (ended o o.sums) (λ e. cond (takes_metric e.due) (read_ok (sums_behind e sums.Begun)) (Err Malformed)) new same in
-    let g = ended_good o o.sums e.0 h h.rows_of_sums e.1 in
-    let p = passed (takes_metric e.0.due) (read_ok (sums_behind e.0 sums.Begun)) new e.2 in
-    to_owed (sums_behind e.0 sums.Begun) new (record { certs = g.certs; rows_of_sums = refl }) p.1
-marked_good o (marks.Transfer title raws) new h said same =
-    let e = bind_ok (ended o o.sums) (λ e. transfer_begun e.names e.due title raws >>= λ d. read_ok (due_behind e d)) new same in
-    let g = ended_good o o.sums e.0 h h.rows_of_sums e.1 in
-    let d = bind_ok (transfer_begun e.0.names e.0.due title raws) (λ d. read_ok (due_behind e.0 d)) new e.2 in
-    to_owed (due_behind e.0 d.0) new (record { certs = transfer_begun_good e.0.names e.0.due title raws d.0 g.certs d.1; rows_of_sums = g.rows_of_sums }) d.2
-marked_good o (marks.Clash raw) new h said same =
-    let e = bind_ok (ended o o.sums) (λ e. lit_in e.names raw >>= λ l. clash_put e.due l >>= λ d. read_ok (due_behind e d)) new same in
-    let g = ended_good o o.sums e.0 h h.rows_of_sums e.1 in
-    let l = bind_ok (lit_in e.0.names raw) (λ l. clash_put e.0.due l >>= λ d. read_ok (due_behind e.0 d)) new e.2 in
-    let d = bind_ok (clash_put e.0.due l.0) (λ d. read_ok (due_behind e.0 d)) new l.2 in
-    to_owed (due_behind e.0 d.0) new (record { certs = clash_put_good e.0.due l.0 d.0 d.1; rows_of_sums = g.rows_of_sums }) d.2
-marked_good o marks.Sum new h said same =
-    let s = bind_ok (sum_begun o.sums) (λ s. read_ok (sums_behind o s)) new same in
-    to_owed (sums_behind o s.0) new (record { certs = h.certs; rows_of_sums = sum_begun_good o.sums s.0 h.rows_of_sums s.1 }) s.2
-marked_good o (marks.Differs raw) new h said same =
-    let r = bind_ok (row_in o.names raw) (λ r. differs_put o.sums r >>= λ s. read_ok (sums_behind o s)) new same in
-    let s = bind_ok (differs_put o.sums r.0) (λ s. read_ok (sums_behind o s)) new r.2 in
-    to_owed (sums_behind o s.0) new (record { certs = h.certs; rows_of_sums = differs_put_good o.sums r.0 s.0 (good_row o.names raw r.0 said r.1) s.1 }) s.2
-marked_good o (marks.Row m raw) new h said same =
-    let r = bind_ok (row_in o.names raw) (λ r. row_put o.sums m r >>= λ s. read_ok (sums_behind o s)) new same in
-    let s = bind_ok (row_put o.sums m r.0) (λ s. read_ok (sums_behind o s)) new r.2 in
-    to_owed (sums_behind o s.0) new (record { certs = h.certs; rows_of_sums = row_put_good o.sums m r.0 s.0 h.rows_of_sums (good_row o.names raw r.0 said r.1) s.1 }) s.2
+  ended_good : (o : Owed) (s : Option OpenSums) (e : Owed) → GoodOwed o → GoodOpen s → ended o s ≡ Ok e → GoodOwed e
+  ended_good o None e h k same = to_owed o e h same
+  ended_good o (Some s) e h k same =
+      let then : Due → Owed = λ d. record o { due = d; sums = None } in
+      let all = bind_ok (sums_ended s) (λ all. metric_put o.due (record { sums = all }) >>= λ d. read_ok (then d)) e same in
+      let d = bind_ok (metric_put o.due (record { sums = all.0 })) (λ d. read_ok (then d)) e all.2 in
+      to_owed (then d.0) e (record { certs = metric_put_good o.due (record { sums = all.0 }) d.0 h.certs (sums_ended_good s all.0 k all.1) d.1; rows_of_sums = refl }) d.2
 
-pub strict_good : (o : Owed) (line : List ℕ) (ws : List (List ℕ)) (m : Mark) (new : Owed) → GoodOwed o → strict_mark line ws ≡ Ok m → marked o m ≡ Ok new → GoodOwed new
-strict_good o line ws m new h e same = marked_good o m new h (strict_said line ws m e) same
+  -- behind a line of a certificate what was read is good
+  marked_good : (o : Owed) (m : Mark) (new : Owed) → GoodOwed o → mark_is_of v m ≡ true → MarkSaid m → marked o m ≡ Ok new → GoodOwed new
+  unfolding marked
+  marked_good o marks.Fact new h of said same =
+      let e = bind_ok (ended o o.sums) (λ e. part_put e.due parts.Fact >>= λ d. read_ok (due_behind e d)) new same in
+      let g = ended_good o o.sums e.0 h h.rows_of_sums e.1 in
+      let d = bind_ok (part_put e.0.due parts.Fact) (λ d. read_ok (due_behind e.0 d)) new e.2 in
+      to_owed (due_behind e.0 d.0) new (record { certs = part_put_good e.0.due parts.Fact d.0 g.certs of d.1; rows_of_sums = g.rows_of_sums }) d.2
+  marked_good o (marks.FactAt k) new h of said same =
+      let e = bind_ok (ended o o.sums) (λ e. part_put e.due (parts.FactAt k) >>= λ d. read_ok (due_behind e d)) new same in
+      let g = ended_good o o.sums e.0 h h.rows_of_sums e.1 in
+      let d = bind_ok (part_put e.0.due (parts.FactAt k)) (λ d. read_ok (due_behind e.0 d)) new e.2 in
+      to_owed (due_behind e.0 d.0) new (record { certs = part_put_good e.0.due (parts.FactAt k) d.0 g.certs (and_from (by_places v) (ltb k (2 ^ 32)) of said) d.1; rows_of_sums = g.rows_of_sums }) d.2
+  marked_good o marks.Metric new h of said same =
+      let e = bind_ok (ended o o.sums) (λ e. cond (takes_metric e.due) (read_ok (sums_behind e sums.Begun)) (Err Malformed)) new same in
+      let g = ended_good o o.sums e.0 h h.rows_of_sums e.1 in
+      let p = passed (takes_metric e.0.due) (read_ok (sums_behind e.0 sums.Begun)) new e.2 in
+      to_owed (sums_behind e.0 sums.Begun) new (record { certs = g.certs; rows_of_sums = refl }) p.1
+  marked_good o (marks.Transfer title raws) new h of said same =
+      let e = bind_ok (ended o o.sums) (λ e. transfer_begun e.names e.due title raws >>= λ d. read_ok (due_behind e d)) new same in
+      let g = ended_good o o.sums e.0 h h.rows_of_sums e.1 in
+      let d = bind_ok (transfer_begun e.0.names e.0.due title raws) (λ d. read_ok (due_behind e.0 d)) new e.2 in
+      to_owed (due_behind e.0 d.0) new (record { certs = transfer_begun_good e.0.names e.0.due title raws d.0 g.certs d.1; rows_of_sums = g.rows_of_sums }) d.2
+  marked_good o (marks.Clash raw) new h of said same =
+      let e = bind_ok (ended o o.sums) (λ e. lit_in e.names raw >>= λ l. clash_put e.due l >>= λ d. read_ok (due_behind e d)) new same in
+      let g = ended_good o o.sums e.0 h h.rows_of_sums e.1 in
+      let l = bind_ok (lit_in e.0.names raw) (λ l. clash_put e.0.due l >>= λ d. read_ok (due_behind e.0 d)) new e.2 in
+      let d = bind_ok (clash_put e.0.due l.0) (λ d. read_ok (due_behind e.0 d)) new l.2 in
+      to_owed (due_behind e.0 d.0) new (record { certs = clash_put_good e.0.due l.0 d.0 d.1; rows_of_sums = g.rows_of_sums }) d.2
+  marked_good o marks.Sum new h of said same =
+      let s = bind_ok (sum_begun o.sums) (λ s. read_ok (sums_behind o s)) new same in
+      to_owed (sums_behind o s.0) new (record { certs = h.certs; rows_of_sums = sum_begun_good o.sums s.0 h.rows_of_sums s.1 }) s.2
+  marked_good o (marks.Differs raw) new h of said same =
+      let r = bind_ok (row_in o.names raw) (λ r. differs_put o.sums r >>= λ s. read_ok (sums_behind o s)) new same in
+      let s = bind_ok (differs_put o.sums r.0) (λ s. read_ok (sums_behind o s)) new r.2 in
+      to_owed (sums_behind o s.0) new (record { certs = h.certs; rows_of_sums = differs_put_good o.sums r.0 s.0 (version_row v o.names raw r.0 of said r.1) s.1 }) s.2
+  marked_good o (marks.Row m raw) new h of said same =
+      let r = bind_ok (row_in o.names raw) (λ r. row_put o.sums m r >>= λ s. read_ok (sums_behind o s)) new same in
+      let s = bind_ok (row_put o.sums m r.0) (λ s. read_ok (sums_behind o s)) new r.2 in
+      to_owed (sums_behind o s.0) new (record { certs = h.certs; rows_of_sums = row_put_good o.sums m r.0 s.0 h.rows_of_sums (version_row v o.names raw r.0 of said r.1) s.1 }) s.2
 
-to_kept : (x k : Option Kept) → AreGood (option_to_list x) → read_ok x ≡ Ok k → AreGood (option_to_list k)
-to_kept x k h e = subst (λ (y : Option Kept). AreGood (option_to_list y)) (ok_is x k e) h
+  pub strict_good : (o : Owed) (line : List ℕ) (ws : List (List ℕ)) (m : Mark) (new : Owed) → GoodOwed o → mark_is_of v m ≡ true → strict_mark line ws ≡ Ok m → marked o m ≡ Ok new → GoodOwed new
+  strict_good o line ws m new h of e same = marked_good o m new h of (strict_said line ws m e) same
 
-kept_good : (d : Due) (k : Option Kept) → GoodDue d → kept_of d ≡ Ok k → AreGood (option_to_list k)
-kept_good due.Nothing k h e = to_kept None k refl e
-kept_good (due.Literals wanted certs None) k h e = by (has_more wanted certs) e
-  where
-    by : (b : Bool) → cond b (Err Malformed) (read_ok (Some (kept.Certs certs))) ≡ Ok k → AreGood (option_to_list k)
-    by true x = absurd cc
-    by false x = to_kept (Some (kept.Certs certs)) k (and_from _ _ h refl) x
-kept_good (due.Literals wanted certs (Some t)) k h e = absurd cc
-kept_good (due.Contradiction None) k h e = absurd cc
-kept_good (due.Contradiction (Some a)) k h e = to_kept (Some (kept.Against a)) k (and_from _ _ h refl) e
+  to_kept : (x k : Option Kept) → AreGood v (option_to_list x) → read_ok x ≡ Ok k → AreGood v (option_to_list k)
+  to_kept x k h e = subst (λ (y : Option Kept). AreGood v (option_to_list y)) (ok_is x k e) h
 
-pub settled_good : (o : Owed) (k : Option Kept) → GoodOwed o → settled o ≡ Ok k → AreGood (option_to_list k)
-unfolding settled
-settled_good o k h same =
-    let e = bind_ok (ended o o.sums) (λ e. kept_of e.due) k same in
-    kept_good e.0.due k (ended_good o o.sums e.0 h h.rows_of_sums e.1).certs e.2
+  kept_good : (d : Due) (k : Option Kept) → GoodDue d → kept_of d ≡ Ok k → AreGood v (option_to_list k)
+  kept_good due.Nothing k h e = to_kept None k refl e
+  kept_good (due.Literals wanted certs None) k h e = by (has_more wanted certs) e
+    where
+      by : (b : Bool) → cond b (Err Malformed) (read_ok (Some (kept.Certs certs))) ≡ Ok k → AreGood v (option_to_list k)
+      by true x = absurd cc
+      by false x = to_kept (Some (kept.Certs certs)) k (and_from _ _ h refl) x
+  kept_good (due.Literals wanted certs (Some t)) k h e = absurd cc
+  kept_good (due.Contradiction None) k h e = absurd cc
+  kept_good (due.Contradiction (Some a)) k h e = to_kept (Some (kept.Against a)) k (and_from _ _ h refl) e
+
+  pub settled_good : (o : Owed) (k : Option Kept) → GoodOwed o → settled o ≡ Ok k → AreGood v (option_to_list k)
+  unfolding settled
+  settled_good o k h same =
+      let e = bind_ok (ended o o.sums) (λ e. kept_of e.due) k same in
+      kept_good e.0.due k (ended_good o o.sums e.0 h h.rows_of_sums e.1).certs e.2

@@ -1,12 +1,13 @@
 -- What holds of each literal that is read as the words say holds of the literal in a line of a certificate.
-use Rattle.std.proofs.Common.{◌≡◌, ℕ, cond, List, [], ◌∷◌, Result, Ok, Err, subst}
-use Rattle.std.specs.Prelude.{codes}
+use Rattle.std.proofs.Common.{◌≡◌, ◌∙◌, ℕ, ◌^◌, cond, true, ltb, List, [], ◌∷◌, length, Option, Some, None, Result, Ok, Err, sym, ap, subst}
+use Rattle.std.specs.Prelude.{codes, ◌==◌}
 use Rattle.std.specs.Str.{bytes_eq}
 use Rattle.e_book.specs.declared.fault.Kind.{Kind}
 use Rattle.e_book.specs.declared.fault.Kind.TheVariants.{Malformed}
 use Rattle.e_book.specs.declared.literal.RawLit.{RawLit}
 use Rattle.e_book.specs.declared.sum.RawTerm.{RawTerm}
 use Rattle.e_book.specs.Reading.{◌>>=◌, title_at, end_at, names_of}
+use Rattle.e_text.specs.Numerals.{number_of}
 use Rattle.e_book.specs.Sums.{term_of}
 use Rattle.e_book.specs.Literals.{lit_of, diagram_lit_of}
 use Rattle.e_book.proofs.InScope.{bind_ok, ok_is, read_ok}
@@ -15,11 +16,12 @@ use Rattle.e_read.specs.declared.mark.RawRow.{RawRow}
 use Rattle.e_read.specs.declared.mark.RawRow.TheVariants as rows
 use Rattle.e_read.specs.declared.mark.Mark.{Mark}
 use Rattle.e_read.specs.declared.mark.Mark.TheVariants as marks
-use Rattle.e_read.specs.Marks.{multiplier_of, bare_row, row_named, row_of, may_differ, bare, differs_of, transfer_of, row_mark_of, mark_named, mark_of}
+use Rattle.e_read.specs.Marks.{multiplier_of, placed, place_of, fact_row_of, bare_row, row_named, row_of, may_differ, bare, differs_of, transfer_of, fact_mark_of, row_mark_of, mark_named, mark_of}
 
--- what is said of a row's literal, where the row is a fact
+-- what is said of a row's literal, where the row is a fact; a place has 32 bits
 abbrev pub OfRow : (RawLit → Type 0) → RawRow → Type 0
 OfRow P (rows.Fact l) = P l
+OfRow P (rows.FactAt k) = ltb k (2 ^ 32) ≡ true
 OfRow P row = Unit {0}
 
 -- what is said of the literal of a row, and what of that of a clash
@@ -27,7 +29,12 @@ abbrev pub OfMark : (RawLit → Type 0) → (RawLit → Type 0) → Mark → Typ
 OfMark P Q (marks.Differs r) = OfRow P r
 OfMark P Q (marks.Row m r) = OfRow P r
 OfMark P Q (marks.Clash l) = Q l
+OfMark P Q (marks.FactAt k) = ltb k (2 ^ 32) ≡ true
 OfMark P Q mark = Unit {0}
+
+few_places : (o : Option ℕ) (k : ℕ) → placed o ≡ Ok k → ltb k (2 ^ 32) ≡ true
+few_places None k e = absurd cc
+few_places (Some n) k e = let p = passed (ltb n (2 ^ 32)) (read_ok n) k e in ap (λ m. ltb m (2 ^ 32)) (sym (ok_is n k p.1)) ∙ p.0
 
 module _ (P : RawLit → Type 0) (literal : (ws : List (List ℕ)) (l : RawLit) → lit_of ws ≡ Ok l → P l) where
   bare_row_lit : (ws : List (List ℕ)) (row r : RawRow) → OfRow P row → bare_row ws row ≡ Ok r → OfRow P r
@@ -38,6 +45,15 @@ module _ (P : RawLit → Type 0) (literal : (ws : List (List ℕ)) (l : RawLit) 
 
   fact_lit : (ws : List (List ℕ)) (r : RawRow) → (lit_of ws >>= λ l. read_ok (rows.Fact l)) ≡ Ok r → OfRow P r
   fact_lit ws r e = let l = bind_ok (lit_of ws) (λ l. read_ok (rows.Fact l)) r e in subst (OfRow P) (ok_is (rows.Fact l.0) r l.2) (literal ws l.0 l.1)
+
+  place_row_lit : (w : List ℕ) (r : RawRow) → (place_of w >>= λ k. read_ok (rows.FactAt k)) ≡ Ok r → OfRow P r
+  place_row_lit w r e = let k = bind_ok (place_of w) (λ k. read_ok (rows.FactAt k)) r e in subst (OfRow P) (ok_is (rows.FactAt k.0) r k.2) (few_places (number_of w) k.0 k.1)
+
+  fact_row_lit : (ws : List (List ℕ)) (r : RawRow) → fact_row_of ws ≡ Ok r → OfRow P r
+  unfolding fact_row_of
+  fact_row_lit [] r e = absurd cc
+  fact_row_lit (w ∷ ws) r e =
+      either (OfRow P) (length ws == 0) (place_of w >>= λ k. read_ok (rows.FactAt k)) (lit_of (w ∷ ws) >>= λ l. read_ok (rows.Fact l)) r e (place_row_lit w r) (fact_lit (w ∷ ws) r)
 
   no_row : (r : RawRow) → let none : Result RawRow Kind = Err Malformed in none ≡ Ok r → OfRow P r
   no_row r h = absurd cc
@@ -53,7 +69,7 @@ module _ (P : RawLit → Type 0) (literal : (ws : List (List ℕ)) (l : RawLit) 
       let r3 : Result RawRow Kind = cond (bytes_eq w (codes "top")) (term_of ws >>= λ t. read_ok (rows.Top t)) r4 in
       let r2 : Result RawRow Kind = cond (bytes_eq w (codes "pos")) (term_of ws >>= λ t. read_ok (rows.Pos t)) r3 in
       let r1 : Result RawRow Kind = cond (bytes_eq w (codes "goal")) (bare_row ws rows.Goal) r2 in
-      either (OfRow P) (bytes_eq w (codes "fact")) (lit_of ws >>= λ l. read_ok (rows.Fact l)) r1 r e (fact_lit ws r) (λ e1.
+      either (OfRow P) (bytes_eq w (codes "fact")) (fact_row_of ws) r1 r e (fact_row_lit ws r) (λ e1.
       either (OfRow P) (bytes_eq w (codes "goal")) (bare_row ws rows.Goal) r2 r e1 (bare_row_lit ws rows.Goal r tt) (λ e2.
       either (OfRow P) (bytes_eq w (codes "pos")) (term_of ws >>= λ t. read_ok (rows.Pos t)) r3 r e2 (term_row_lit ws rows.Pos r (λ t. tt)) (λ e3.
       either (OfRow P) (bytes_eq w (codes "top")) (term_of ws >>= λ t. read_ok (rows.Top t)) r4 r e3 (term_row_lit ws rows.Top r (λ t. tt)) (λ e4.
@@ -70,6 +86,14 @@ module _ (P : RawLit → Type 0) (literal : (ws : List (List ℕ)) (l : RawLit) 
   module _ (Q : RawLit → Type 0) (clashing : (ws : List (List ℕ)) (l : RawLit) → diagram_lit_of ws ≡ Ok l → Q l) where
     bare_lit : (ws : List (List ℕ)) (mark m : Mark) → OfMark P Q mark → bare ws mark ≡ Ok m → OfMark P Q m
     bare_lit ws mark m h e = let n = bind_ok (end_at ws) (λ none. read_ok mark) m e in subst (OfMark P Q) (ok_is mark m n.2) h
+
+    fact_mark_lit : (ws : List (List ℕ)) (m : Mark) → fact_mark_of ws ≡ Ok m → OfMark P Q m
+    unfolding fact_mark_of
+    fact_mark_lit [] m e = subst (OfMark P Q) (ok_is marks.Fact m e) tt
+    fact_mark_lit (w ∷ ws) m e =
+        let n = bind_ok (end_at ws) (λ none. place_of w >>= λ k. read_ok (marks.FactAt k)) m e in
+        let k = bind_ok (place_of w) (λ k. read_ok (marks.FactAt k)) m n.2 in
+        subst (OfMark P Q) (ok_is (marks.FactAt k.0) m k.2) (few_places (number_of w) k.0 k.1)
 
     differs_lit : (ws : List (List ℕ)) (m : Mark) → differs_of ws ≡ Ok m → OfMark P Q m
     unfolding differs_of
@@ -104,7 +128,7 @@ module _ (P : RawLit → Type 0) (literal : (ws : List (List ℕ)) (l : RawLit) 
         let m3 : Result Mark Kind = cond (bytes_eq w (codes "clash")) (diagram_lit_of ws >>= λ l. read_ok (marks.Clash l)) m4 in
         let m2 : Result Mark Kind = cond (bytes_eq w (codes "transfer")) (transfer_of ws) m3 in
         let m1 : Result Mark Kind = cond (bytes_eq w (codes "metric")) (bare ws marks.Metric) m2 in
-        either (OfMark P Q) (bytes_eq w (codes "fact")) (bare ws marks.Fact) m1 m e (bare_lit ws marks.Fact m tt) (λ e1.
+        either (OfMark P Q) (bytes_eq w (codes "fact")) (fact_mark_of ws) m1 m e (fact_mark_lit ws m) (λ e1.
         either (OfMark P Q) (bytes_eq w (codes "metric")) (bare ws marks.Metric) m2 m e1 (bare_lit ws marks.Metric m tt) (λ e2.
         either (OfMark P Q) (bytes_eq w (codes "transfer")) (transfer_of ws) m3 m e2 (transfer_lit ws m) (λ e3.
         either (OfMark P Q) (bytes_eq w (codes "clash")) (diagram_lit_of ws >>= λ l. read_ok (marks.Clash l)) m4 m e3 (clash_lit ws m) (λ e4.

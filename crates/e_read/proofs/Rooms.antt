@@ -5,6 +5,7 @@ use Rattle.std.proofs.lemmas.Bool.{and_parts}
 use Rattle.e_literal.specs.Scopes.{nothing, grown}
 use Rattle.e_literal.specs.Use.{Stated}
 use Rattle.e_literal.proofs.Growing.{total, total_grown}
+use Rattle.e_clause.specs.declared.cert.Version.{Version}
 use Rattle.e_deriv.specs.Lines.{theorem_at}
 use Rattle.e_deriv.specs.Fitting.{is_small_statement}
 use Rattle.e_deriv.proofs.Smallness.{few_objects}
@@ -21,8 +22,8 @@ made_fits d f =
     (omega (arith, few), omega (arith, few), omega (arith, few))
 
 -- no line has come yet
-pub start_fits : FitsReading at_start
-start_fits = record { draft = tt; names = record { points = omega arith; lines = omega arith; circles = omega arith } }
+pub start_fits : (v : Version) → FitsReading (at_start v)
+start_fits v = record { draft = tt; names = record { points = omega arith; lines = omega arith; circles = omega arith } }
 
 -- so has each of small statements
 pub few_at : (before : List Stated) (k : ℕ) → list_all is_small_statement before ≡ true → length (theorem_at before k).declared + length (theorem_at before k).made ≤ 3000

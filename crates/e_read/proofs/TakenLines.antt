@@ -23,6 +23,7 @@ use Rattle.e_read.specs.declared.mark.Mark.{Mark}
 use Rattle.e_read.specs.declared.owed.Owed.{Owed}
 use Rattle.e_read.specs.declared.kept.Kept.{Kept}
 use Rattle.e_read.specs.declared.reading.Reading.{Reading}
+use Rattle.e_read.specs.Marks.{mark_is_of}
 use Rattle.e_read.specs.Strict.{is_strict, strict_of, strict_form, strict_mark, is_apart}
 use Rattle.e_read.specs.Owed.{marked, settled}
 use Rattle.e_read.specs.Laws.{begins_with_bar}
@@ -41,9 +42,11 @@ hashed b bs ws e = subst (λ (x : ℕ). form_named (x ∷ bs) ws ≡ Err Malform
 pub record Certified (r next : Reading) (line : List ℕ) (words : List (List ℕ)) : Type 0 where
   pub mark : Mark
   pub spelled : strict_mark line words ≡ Ok mark
+  pub of : mark_is_of r.version mark ≡ true
   pub owed : marked r.owed mark ≡ Ok next.owed
   pub draft : next.draft ≡ r.draft
   pub kept : next.kept ≡ r.kept
+  pub version : next.version ≡ r.version
 
 -- any other line
 pub record Stepped (known : List Headed) (r next : Reading) (line : List ℕ) : Type 0 where
@@ -54,27 +57,30 @@ pub record Stepped (known : List Headed) (r next : Reading) (line : List ℕ) : 
   pub draft : Draft
   pub owed : Owed
   pub gone : gone_on known r.draft form ≡ Ok (draft, owed)
-  pub next_is : next ≡ record { draft = Some draft; owed = owed; kept = r.kept ++ option_to_list read }
+  pub next_is : next ≡ record { version = r.version; draft = Some draft; owed = owed; kept = r.kept ++ option_to_list read }
 
 certified_line : (r next : Reading) (line : List ℕ) (words : List (List ℕ)) → certified r line words ≡ Ok next → Certified r next line words
 unfolding with_mark certified
 certified_line r next line words e =
-    let m = bind_ok (strict_mark line words) (λ m. marked r.owed m >>= λ o. Ok (record r { owed = o })) next e in
-    let o = bind_ok (marked r.owed m.0) (λ o. Ok (record r { owed = o })) next m.2 in
+    let m = bind_ok (strict_mark line words) (λ m. cond (mark_is_of r.version m) (marked r.owed m >>= λ o. Ok (record r { owed = o })) (Err Malformed)) next e in
+    let p = passed (mark_is_of r.version m.0) (marked r.owed m.0 >>= λ o. Ok (record r { owed = o })) next m.2 in
+    let o = bind_ok (marked r.owed m.0) (λ o. Ok (record r { owed = o })) next p.1 in
     let is : record r { owed = o.0 } ≡ next = ok_is (record r { owed = o.0 }) next o.2 in
     record {
       mark = m.0;
       spelled = m.1;
+      of = p.0;
       owed = o.1 ∙ ap (λ (x : Reading). Ok x.owed) is;
       draft = sym (ap (λ (x : Reading). x.draft) is);
       kept = sym (ap (λ (x : Reading). x.kept) is);
+      version = sym (ap (λ (x : Reading). x.version) is);
     }
 
 stepped_line : (known : List Headed) (r next : Reading) (line : List ℕ) → stepped known r line ≡ Ok next → Stepped known r next line
 unfolding with_form stepped
 stepped_line known r next line e =
-    let with_kept : Option Kept → Reading = λ k. record { draft = r.draft; owed = owes_nothing; kept = r.kept ++ option_to_list k } in
-    let end : Reading → Draft × Owed → Reading = λ s x. record { draft = Some x.0; owed = x.1; kept = s.kept } in
+    let with_kept : Option Kept → Reading = λ k. record { version = r.version; draft = r.draft; owed = owes_nothing; kept = r.kept ++ option_to_list k } in
+    let end : Reading → Draft × Owed → Reading = λ s x. record { version = s.version; draft = Some x.0; owed = x.1; kept = s.kept } in
     let f = bind_ok (strict_form line) (λ f. all_settled r >>= λ s. gone_on known s.draft f >>= λ x. Ok (end s x)) next e in
     let s = bind_ok (all_settled r) (λ s. gone_on known s.draft f.0 >>= λ x. Ok (end s x)) next f.2 in
     let k = bind_ok (settled r.owed) (λ k. Ok (with_kept k)) s.0 s.1 in

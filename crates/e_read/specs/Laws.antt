@@ -2,6 +2,7 @@
 use Rattle.std.specs.Prelude.{◌≡◌, ◌⊎◌, ℕ, Bool, true, false, not, List, [], ◌∷◌, ◌++◌, filter, Some, None, Result, Ok, Err}
 use Rattle.e_text.specs.Tokens.{tokens_of}
 use Rattle.e_text.specs.Lines.{Seen}
+use Rattle.e_clause.specs.declared.cert.Version.{Version}
 use Rattle.e_text.specs.declared.line.LineFault.{LineFault}
 use Rattle.e_book.specs.Headed.{Headed}
 use Rattle.e_book.specs.Entry.{Entry}
@@ -25,24 +26,24 @@ pub record ReadsAsBook (known : List Headed) (last : ℕ) (t : Entry) (lines res
 
 -- a theorem that is read with its derivation is that theorem of a book
 abbrev pub DerivationsAreOfBooks : Type 0
-DerivationsAreOfBooks = (known : List Headed) (last : ℕ) (t : Entry) (lines rest : List (Result Seen LineFault)) → piece_from known last at_start lines ≡ Ok (Derived t, rest)
+DerivationsAreOfBooks = (v : Version) (known : List Headed) (last : ℕ) (t : Entry) (lines rest : List (Result Seen LineFault)) → piece_from known last (at_start v) lines ≡ Ok (Derived t, rest)
     → ReadsAsBook known last t lines rest
 
 -- The lines begin with a front of which no line is wrong: read alone it only ends too soon. The line behind the front has no form at its
 -- place, whatever follows it, and has this number.
-pub record GarblesAt (known : List Headed) (lines : List (Result Seen LineFault)) (n : ℕ) : Type 0 where
+pub record GarblesAt (v : Version) (known : List Headed) (lines : List (Result Seen LineFault)) (n : ℕ) : Type 0 where
   pub front : List (Result Seen LineFault)
   pub line : Result Seen LineFault
   pub rest : List (Result Seen LineFault)
   pub all : lines ≡ front ++ line ∷ rest
-  pub before : (last : ℕ) → piece_from known last at_start front ≡ Err last
-  pub there : (last : ℕ) (other : List (Result Seen LineFault)) → piece_from known last at_start (front ++ line ∷ other) ≡ Err n
+  pub before : (last : ℕ) → piece_from known last (at_start v) front ≡ Err last
+  pub there : (last : ℕ) (other : List (Result Seen LineFault)) → piece_from known last (at_start v) (front ++ line ∷ other) ≡ Err n
 
 -- no line is wrong, and they end inside a theorem: at the number behind the last line, whichever it is
-abbrev pub EndsTooSoon : List Headed → List (Result Seen LineFault) → Type 0
-EndsTooSoon known lines = (last : ℕ) → piece_from known last at_start lines ≡ Err last
+abbrev pub EndsTooSoon : Version → List Headed → List (Result Seen LineFault) → Type 0
+EndsTooSoon v known lines = (last : ℕ) → piece_from known last (at_start v) lines ≡ Err last
 
 -- the garbled line is the first, and depends on the lines up to it alone
 abbrev pub GarbledLineIsFirst : Type 0
-GarbledLineIsFirst = (known : List Headed) (last : ℕ) (lines : List (Result Seen LineFault)) (n : ℕ) → piece_from known last at_start lines ≡ Err n
-    → GarblesAt known lines n ⊎ (EndsTooSoon known lines × (n ≡ last))
+GarbledLineIsFirst = (v : Version) (known : List Headed) (last : ℕ) (lines : List (Result Seen LineFault)) (n : ℕ) → piece_from known last (at_start v) lines ≡ Err n
+    → GarblesAt v known lines n ⊎ (EndsTooSoon v known lines × (n ≡ last))

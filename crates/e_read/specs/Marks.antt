@@ -1,9 +1,11 @@
 -- The lines of certificates, by their spelling alone, and how each is spelled.
-use Rattle.std.specs.Prelude.{ℕ, ℤ, pos, neg_ℤ, ◌^◌, Bool, ◌&&◌, ◌==◌, nat_lt, nat_le, List, [], ◌∷◌, Option, Some, None, Result, Ok, Err, codes, true, false, if◌then◌else◌}
+use Rattle.std.specs.Prelude.{ℕ, ℤ, pos, neg_ℤ, ◌^◌, Bool, ◌&&◌, ◌==◌, nat_lt, nat_le, List, [], ◌∷◌, length, decimal, Option, Some, None, Result, Ok, Err, codes, true, false, if◌then◌else◌}
 use Rattle.std.specs.Str.{bytes_eq}
 use Rattle.std.specs.Fmt.{signed_decimal}
 use Rattle.e_text.specs.Tokens.{joined}
 use Rattle.e_text.specs.Numerals.{number_of}
+use Rattle.e_clause.specs.declared.cert.Version.{Version}
+use Rattle.e_clause.specs.Versions.{by_literals, by_places}
 use Rattle.e_book.specs.declared.fault.Kind.{Kind}
 use Rattle.e_book.specs.declared.fault.Kind.TheVariants.{Malformed}
 use Rattle.e_book.specs.Reading.{◌>>=◌, title_at, end_at, names_of}
@@ -33,13 +35,26 @@ multiplier_of (b ∷ bs) =
 
 -- ---- rows
 
+-- a place among the facts: a numeral below 2 ^ 32
+abbrev pub placed : Option ℕ → Result ℕ Kind
+placed None = Err Malformed
+placed (Some n) = if nat_lt n (2 ^ 32) then Ok n else Err Malformed
+
+abbrev pub place_of : List ℕ → Result ℕ Kind
+place_of digits = placed (number_of digits)
+
+-- the row of a fact: one word is its place, and a literal has more
+unfoldable pub fact_row_of : List (List ℕ) → Result RawRow Kind
+fact_row_of [] = Err Malformed
+fact_row_of (w ∷ ws) = if length ws == 0 then (place_of w >>= λ k. Ok (rows.FactAt k)) else (lit_of (w ∷ ws) >>= λ l. Ok (rows.Fact l))
+
 abbrev pub bare_row : List (List ℕ) → RawRow → Result RawRow Kind
 bare_row words row = end_at words >>= λ none. Ok row
 
 -- a row, by its first word
 unfoldable pub row_named : List ℕ → List (List ℕ) → Result RawRow Kind
 row_named w ws =
-    if bytes_eq w (codes "fact") then (lit_of ws >>= λ l. Ok (rows.Fact l)) else
+    if bytes_eq w (codes "fact") then fact_row_of ws else
     if bytes_eq w (codes "goal") then bare_row ws rows.Goal else
     if bytes_eq w (codes "pos") then (term_of ws >>= λ t. Ok (rows.Pos t)) else
     if bytes_eq w (codes "top") then (term_of ws >>= λ t. Ok (rows.Top t)) else
@@ -56,6 +71,7 @@ row_of (w ∷ ws) = row_named w ws
 abbrev pub may_differ : RawRow → Bool
 may_differ (rows.Fact l) = true
 may_differ rows.Goal = true
+may_differ (rows.FactAt k) = true
 may_differ row = false
 
 -- ---- lines
@@ -73,6 +89,11 @@ transfer_of words = do
   ns ← names_of t.1
   Ok (marks.Transfer t.0 ns)
 
+-- a fact, or the one at a place
+unfoldable pub fact_mark_of : List (List ℕ) → Result Mark Kind
+fact_mark_of [] = Ok marks.Fact
+fact_mark_of (w ∷ ws) = end_at ws >>= λ none. place_of w >>= λ k. Ok (marks.FactAt k)
+
 -- a row behind its multiplier
 unfoldable pub row_mark_of : List ℕ → List (List ℕ) → Result Mark Kind
 row_mark_of w ws = do
@@ -83,7 +104,7 @@ row_mark_of w ws = do
 -- a line of a certificate, by the first word behind the sign `|`
 unfoldable pub mark_named : List ℕ → List (List ℕ) → Result Mark Kind
 mark_named w ws =
-    if bytes_eq w (codes "fact") then bare ws marks.Fact else
+    if bytes_eq w (codes "fact") then fact_mark_of ws else
     if bytes_eq w (codes "metric") then bare ws marks.Metric else
     if bytes_eq w (codes "transfer") then transfer_of ws else
     if bytes_eq w (codes "clash") then (diagram_lit_of ws >>= λ l. Ok (marks.Clash l)) else
@@ -105,6 +126,7 @@ row_words rows.Right = codes "right" ∷ []
 row_words (rows.Least t) = codes "least" ∷ term_words t
 row_words rows.Above = codes "above" ∷ []
 row_words rows.Below = codes "below" ∷ []
+row_words (rows.FactAt k) = codes "fact" ∷ decimal k ∷ []
 
 -- the words behind the sign
 abbrev pub mark_words : Mark → List (List ℕ)
@@ -115,7 +137,24 @@ mark_words (marks.Clash l) = codes "clash" ∷ lit_words l
 mark_words marks.Sum = codes "sum" ∷ []
 mark_words (marks.Differs r) = codes "differs" ∷ row_words r
 mark_words (marks.Row m r) = signed_decimal m ∷ row_words r
+mark_words (marks.FactAt k) = codes "fact" ∷ decimal k ∷ []
 
 -- a line without its end
 abbrev pub mark_line : Mark → List ℕ
 mark_line mark = joined (codes "|" ∷ mark_words mark)
+
+-- ---- versions
+
+-- the row has a form in this version: that of a fact has a literal in the first, and a place in the second
+abbrev pub row_is_of : Version → RawRow → Bool
+row_is_of v (rows.Fact l) = by_literals v
+row_is_of v (rows.FactAt k) = by_places v
+row_is_of v row = true
+
+-- the line has a form in this version
+abbrev pub mark_is_of : Version → Mark → Bool
+mark_is_of v marks.Fact = by_literals v
+mark_is_of v (marks.FactAt k) = by_places v
+mark_is_of v (marks.Differs r) = row_is_of v r
+mark_is_of v (marks.Row m r) = row_is_of v r
+mark_is_of v mark = true

@@ -56,6 +56,7 @@ row_in ns rows.Right = Ok names.Right
 row_in ns (rows.Least raw) = term_in ns raw >>= λ t. Ok (names.Least t)
 row_in ns rows.Above = Ok names.Above
 row_in ns rows.Below = Ok names.Below
+row_in ns (rows.FactAt k) = Ok (names.FactAt k)
 
 -- one more row
 abbrev pub with_row : List (ℤ × RowName) → ℤ → RowName → Result (List (ℤ × RowName)) Kind
@@ -166,6 +167,7 @@ due_behind o d = record o { due = d }
 -- what is owed behind a line of a certificate
 unfoldable pub marked : Owed → Mark → Result Owed Kind
 marked o marks.Fact = ended o o.sums >>= λ e. part_put e.due parts.Fact >>= λ d. Ok (due_behind e d)
+marked o (marks.FactAt k) = ended o o.sums >>= λ e. part_put e.due (parts.FactAt k) >>= λ d. Ok (due_behind e d)
 marked o marks.Metric = ended o o.sums >>= λ e. if takes_metric e.due then Ok (sums_behind e sums.Begun) else Err Malformed
 marked o (marks.Transfer title raws) = ended o o.sums >>= λ e. transfer_begun e.names e.due title raws >>= λ d. Ok (due_behind e d)
 marked o (marks.Clash raw) = ended o o.sums >>= λ e. lit_in e.names raw >>= λ l. clash_put e.due l >>= λ d. Ok (due_behind e d)

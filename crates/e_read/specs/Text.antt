@@ -8,6 +8,7 @@ use Rattle.e_text.specs.declared.line.Line.{Line}
 use Rattle.e_text.specs.declared.line.LineEnd.{LineEnd}
 use Rattle.e_text.specs.declared.line.LineEnd.TheVariants as ends
 use Rattle.e_text.specs.declared.line.LineFault.{LineFault}
+use Rattle.e_clause.specs.declared.cert.Version.{Version}
 use Rattle.e_deriv.specs.Script.{erased}
 use Rattle.e_book.specs.declared.fault.Kind.{Kind}
 use Rattle.e_book.specs.declared.fault.Kind.TheVariants.{Malformed}
@@ -33,6 +34,7 @@ use Rattle.e_read.specs.declared.reader.Turn.{Turn}
 use Rattle.e_read.specs.declared.reader.Turn.TheVariants as turns
 use Rattle.e_read.specs.declared.reader.TextFault.{TextFault}
 use Rattle.e_read.specs.declared.reader.TextFault.TheVariants as faults
+use Rattle.e_read.specs.Marks.{mark_is_of}
 use Rattle.e_read.specs.Strict.{strict_form, strict_mark, is_apart}
 use Rattle.e_read.specs.Owed.{marked, settled}
 use Rattle.e_read.specs.Needs.{due_of}
@@ -43,17 +45,17 @@ use Rattle.e_read.specs.Filled.{filled}
 abbrev pub owes_nothing : Owed
 owes_nothing = record { names = no_names; due = due.Nothing; sums = None }
 
--- before the first line of a block
-abbrev pub at_start : Reading
-at_start = record { draft = None; owed = owes_nothing; kept = [] }
+-- before the first line of a block, in a text of this version
+abbrev pub at_start : Version → Reading
+at_start v = record { version = v; draft = None; owed = owes_nothing; kept = [] }
 
 -- the certificates are owed that are left behind a line of one
 unfoldable pub with_mark : Reading → Mark → Result Reading Kind
 with_mark r m = marked r.owed m >>= λ o. Ok (record r { owed = o })
 
--- a line of a certificate
+-- a line of a certificate, which has a form in the version of the text
 unfoldable pub certified : Reading → List ℕ → List (List ℕ) → Result Reading Kind
-certified r line words = strict_mark line words >>= λ m. with_mark r m
+certified r line words = strict_mark line words >>= λ m. if mark_is_of r.version m then with_mark r m else Err Malformed
 
 -- what a line owes, with the names in scope before it
 unfoldable pub owed_by : List Headed → Draft → Form → Result Owed Kind
@@ -67,11 +69,11 @@ gone_on known (Some d) f =
 
 -- nothing is owed any more, and what was read is kept
 abbrev pub all_settled : Reading → Result Reading Kind
-all_settled r = settled r.owed >>= λ k. Ok (record { draft = r.draft; owed = owes_nothing; kept = r.kept ++ option_to_list k })
+all_settled r = settled r.owed >>= λ k. Ok (record { version = r.version; draft = r.draft; owed = owes_nothing; kept = r.kept ++ option_to_list k })
 
 -- any other line comes where nothing is owed any more
 unfoldable pub with_form : List Headed → Reading → Form → Result Reading Kind
-with_form known r f = all_settled r >>= λ s. gone_on known s.draft f >>= λ e. Ok (record { draft = Some e.0; owed = e.1; kept = s.kept })
+with_form known r f = all_settled r >>= λ s. gone_on known s.draft f >>= λ e. Ok (record { version = s.version; draft = Some e.0; owed = e.1; kept = s.kept })
 
 unfoldable pub stepped : List Headed → Reading → List ℕ → Result Reading Kind
 stepped known r line = strict_form line >>= λ f. with_form known r f

@@ -1,9 +1,11 @@
 //! The lines of certificates, told from their words by spelling alone.
 ghost use Rattle.std.specs.Prelude.{◌≡◌};
 ghost use Rattle.e_book.specs.Reading.{texts, Gives};
-ghost use Rattle.e_read.specs.Marks.{size_of, multiplier_of, bare_row, row_named, row_of, may_differ, bare, differs_of, transfer_of, row_mark_of, mark_named, mark_of};
+ghost use Rattle.e_read.specs.Marks.{size_of, multiplier_of, place_of, fact_row_of, bare_row, row_named, row_of, may_differ, bare, differs_of, transfer_of, fact_mark_of, row_mark_of, mark_named, mark_of, row_is_of, mark_is_of};
+ghost use Rattle.e_clause.specs.Versions.{by_literals, by_places};
 
 use e_book::{Kind, RawLit, RawTerm, Trouble, Words, diagram_lit_of, lit_of, names_of, term_of};
+use e_clause::Version;
 use e_literal::Items;
 use e_text::{Name, Title, is, number};
 use std::alloc::Global;
@@ -28,6 +30,8 @@ pub enum RawRow {
     Above,
     /// `below`
     Below,
+    /// `fact PLACE`
+    FactAt(u32),
 }
 
 /// A line of a certificate, behind its sign.
@@ -43,14 +47,19 @@ pub enum Mark {
     Clash(RawLit),
     /// `sum`
     Sum,
-    /// `differs goal` or `differs fact LITERAL`
+    /// `differs goal`, `differs fact LITERAL` or `differs fact PLACE`
     Differs(RawRow),
     /// `MULTIPLIER ROW`
     Row(i128, RawRow),
+    /// `fact PLACE`
+    FactAt(u32),
 }
 
 /// The largest size of a multiplier, 2 to the power of 80.
 const MAX_MULTIPLIER: u128 = 1_208_925_819_614_629_174_706_176;
+
+/// How many places there can be, 2 to the power of 32.
+const MAX_PLACES: u128 = 4_294_967_296;
 
 /// The size of a multiplier.
 fn size_of(digits: &[u8]) -> Result<i128, Trouble>
@@ -76,6 +85,32 @@ fn multiplier_of(word: &[u8]) -> Result<i128, Trouble>
     }
 }
 
+/// A place among the facts.
+fn place_of(digits: &[u8]) -> Result<u32, Trouble>
+    ensures { Gives (λ k. k) result (place_of digits.now) }
+{
+    match number(digits) {
+        Some(place) if place < MAX_PLACES => Ok(place as u32),
+        _ => Err(Trouble::Fault(Kind::Malformed)),
+    }
+}
+
+/// The row of a fact: one word is its place, and a literal has more.
+#[tactic(auto, unfolding(crate::specs::Marks::fact_row_of))]
+fn fact_row_of(alloc: Global, words: &[&[u8]]) -> Result<RawRow, Trouble>
+    ensures { Gives (λ r. r) result (fact_row_of (texts words.now)) }
+{
+    match words {
+        [] => Err(Trouble::Fault(Kind::Malformed)),
+        [word, rest @ ..] => {
+            if rest.is_empty() {
+                return Ok(RawRow::FactAt(place_of(word)?));
+            }
+            Ok(RawRow::Fact(lit_of(alloc, words)?))
+        }
+    }
+}
+
 fn bare_row(words: Words, row: RawRow) -> Result<RawRow, Trouble>
     ensures { Gives (λ r. r) result (bare_row words.entry row) }
 {
@@ -95,7 +130,7 @@ fn row_named(alloc: Global, word: &[u8], rest: &[&[u8]]) -> Result<RawRow, Troub
 {
     let words = Words::new(rest);
     if is(word, b"fact") {
-        return Ok(RawRow::Fact(lit_of(alloc, rest)?));
+        return fact_row_of(alloc, rest);
     }
     if is(word, b"goal") {
         return bare_row(words, RawRow::Goal);
@@ -135,7 +170,7 @@ fn row_of(alloc: Global, words: &[&[u8]]) -> Result<RawRow, Trouble>
 fn may_differ(row: &RawRow) -> bool
     ensures { result ≡ may_differ row.now }
 {
-    matches!(row, RawRow::Fact(_) | RawRow::Goal)
+    matches!(row, RawRow::Fact(_) | RawRow::Goal | RawRow::FactAt(_))
 }
 
 fn bare(words: Words, mark: Mark) -> Result<Mark, Trouble>
@@ -178,6 +213,20 @@ fn transfer_of(alloc: Global, words: &[&[u8]]) -> Result<Mark, Trouble>
     Ok(Mark::Transfer(title, names))
 }
 
+/// A fact, or the one at a place.
+#[tactic(auto, unfolding(crate::specs::Marks::fact_mark_of))]
+fn fact_mark_of(words: &[&[u8]]) -> Result<Mark, Trouble>
+    ensures { Gives (λ m. m) result (fact_mark_of (texts words.now)) }
+{
+    match words {
+        [] => Ok(Mark::Fact),
+        [word, rest @ ..] => {
+            Words::new(rest).end()?;
+            Ok(Mark::FactAt(place_of(word)?))
+        }
+    }
+}
+
 /// A row behind its multiplier.
 #[tactic(auto, unfolding(crate::specs::Marks::row_mark_of))]
 fn row_mark_of(alloc: Global, word: &[u8], rest: &[&[u8]]) -> Result<Mark, Trouble>
@@ -194,7 +243,7 @@ fn mark_named(alloc: Global, word: &[u8], rest: &[&[u8]]) -> Result<Mark, Troubl
 {
     let words = Words::new(rest);
     if is(word, b"fact") {
-        return bare(words, Mark::Fact);
+        return fact_mark_of(rest);
     }
     if is(word, b"metric") {
         return bare(words, Mark::Metric);
@@ -222,5 +271,42 @@ pub(crate) fn mark_of(alloc: Global, words: &[&[u8]]) -> Result<Mark, Trouble>
     match words {
         [] => Err(Trouble::Fault(Kind::Malformed)),
         [word, rest @ ..] => mark_named(alloc, word, rest),
+    }
+}
+
+/// Whether facts are cited by literals.
+fn by_literals(version: Version) -> bool
+    ensures { result ≡ by_literals version }
+{
+    matches!(version, Version::One)
+}
+
+/// Whether facts are cited by their places.
+fn by_places(version: Version) -> bool
+    ensures { result ≡ by_places version }
+{
+    matches!(version, Version::Two)
+}
+
+/// Whether the row has a form in this version.
+fn row_is_of(version: Version, row: &RawRow) -> bool
+    ensures { result ≡ row_is_of version row.now }
+{
+    match row {
+        RawRow::Fact(_) => by_literals(version),
+        RawRow::FactAt(_) => by_places(version),
+        _ => true,
+    }
+}
+
+/// Whether the line has a form in this version.
+pub(crate) fn mark_is_of(version: Version, mark: &Mark) -> bool
+    ensures { result ≡ mark_is_of version mark.now }
+{
+    match mark {
+        Mark::Fact => by_literals(version),
+        Mark::FactAt(_) => by_places(version),
+        Mark::Differs(row) | Mark::Row(_, row) => row_is_of(version, row),
+        _ => true,
     }
 }

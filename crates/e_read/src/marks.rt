@@ -1,5 +1,5 @@
 //! The line of each form of certificate, spelled with the names that it has.
-ghost use Rattle.std.specs.Prelude.{◌≡◌, ◌++◌, ◌∷◌, [], codes, OnOk};
+ghost use Rattle.std.specs.Prelude.{◌≡◌, ◌++◌, ◌∷◌, [], codes, decimal, OnOk};
 ghost use Rattle.e_text.specs.Tokens.{spaced};
 ghost use Rattle.e_book.specs.Canonical.{term_words};
 ghost use Rattle.e_read.specs.Marks.{row_words, mark_words, mark_line};
@@ -18,6 +18,14 @@ fn put_term_row(out: &mut Vec<u8>, word: &[u8], term: &RawTerm) -> Result<(), Al
     put_term(out, term)
 }
 
+/// A fact by its place.
+fn put_place(out: &mut Vec<u8>, place: u32) -> Result<(), AllocError>
+    ensures { OnOk result (out.new.items ≡ out.old.items ++ spaced (codes "fact" ∷ decimal place ∷ [])) }
+{
+    put(out, b"fact")?;
+    put_number(out, place)
+}
+
 fn put_row(out: &mut Vec<u8>, row: &RawRow) -> Result<(), AllocError>
     ensures { OnOk result (out.new.items ≡ out.old.items ++ spaced (row_words row.now)) }
 {
@@ -33,6 +41,7 @@ fn put_row(out: &mut Vec<u8>, row: &RawRow) -> Result<(), AllocError>
         RawRow::Least(term) => put_term_row(out, b"least", term),
         RawRow::Above => put(out, b"above"),
         RawRow::Below => put(out, b"below"),
+        RawRow::FactAt(place) => put_place(out, *place),
     }
 }
 
@@ -61,6 +70,7 @@ fn put_words(out: &mut Vec<u8>, mark: &Mark) -> Result<(), AllocError>
             put_number(out, *multiplier)?;
             put_row(out, row)
         }
+        Mark::FactAt(place) => put_place(out, *place),
     }
 }
 

@@ -21,8 +21,8 @@ ghost use Rattle.e_read.specs.Needs.{open_goal, one_each, needs_in, due_of};
 use crate::kept::Certs;
 use crate::owed::Due;
 use e_book::{
-    Draft, Form, Kind, Known, Opened, Outer, RawApply, Trouble, apply_in, let_in, lit_in, qed_in,
-    scope_of_names, superpose_in,
+    Draft, Form, Kind, Opened, Outer, RawApply, Theorems, Trouble, apply_in, let_in, lit_in,
+    qed_in, scope_of_names, superpose_in,
 };
 use e_literal::{Items, Lit, Map, Obj, Scope, Sort, grown, next_objects};
 use e_text::Name;
@@ -79,7 +79,7 @@ fn needs_in(
 #[tactic(auto, unfolding(crate::specs::Needs::needs_of_use))]
 fn needs_of_use(
     alloc: Global,
-    known: &Known,
+    known: &Theorems,
     draft: &Draft,
     raw: &RawApply,
 ) -> Result<Items<Lit>, Trouble>
@@ -183,7 +183,7 @@ fn needs_at_qed(alloc: Global, draft: &Draft, names: &[Name]) -> Result<Items<Li
 #[tactic(auto, unfolding(crate::specs::Needs::due_of))]
 pub(crate) fn due_of(
     alloc: Global,
-    known: &Known,
+    known: &Theorems,
     draft: &Draft,
     form: &Form,
 ) -> Result<Due, Trouble>

@@ -108,6 +108,7 @@ fn row_in(alloc: Global, names: &Names, row: &RawRow) -> Result<RowName, Trouble
         RawRow::Least(raw) => Ok(RowName::Least(term_in(names, raw)?)),
         RawRow::Above => Ok(RowName::Above),
         RawRow::Below => Ok(RowName::Below),
+        RawRow::FactAt(place) => Ok(RowName::FactAt(*place)),
     }
 }
 
@@ -500,6 +501,17 @@ impl Owed {
             Mark::Fact => {
                 let Owed { names, due, sums } = self.ended()?;
                 match part_put(due, Part::Fact) {
+                    Ok(due) => Ok(Owed { names, due, sums }),
+                    Err(trouble) => {
+                        mem::drop(names);
+                        mem::drop(sums);
+                        Err(trouble)
+                    }
+                }
+            }
+            Mark::FactAt(place) => {
+                let Owed { names, due, sums } = self.ended()?;
+                match part_put(due, Part::FactAt(*place)) {
                     Ok(due) => Ok(Owed { names, due, sums }),
                     Err(trouble) => {
                         mem::drop(names);

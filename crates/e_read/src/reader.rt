@@ -3,7 +3,9 @@ ghost use Rattle.std.specs.Prelude.{◌≡◌, ◌≤◌, ◌<◌, ◌-◌, ◌^
 ghost use Rattle.std.specs.List.{list_all};
 ghost use Rattle.e_text.specs.Lines.{seen};
 ghost use Rattle.e_theorem.specs.Statements.{stated};
+ghost use Rattle.e_deriv.specs.Script.{script_of};
 ghost use Rattle.e_deriv.specs.Fitting.{is_small_statement};
+ghost use Rattle.e_deriv.specs.Versions.{has_certs_of};
 ghost use Rattle.e_book.specs.Limits.{most_theorems};
 ghost use Rattle.e_book.specs.Headed.{stated_by};
 ghost use Rattle.e_book.specs.Grammar.{last_line};
@@ -12,9 +14,11 @@ ghost use Rattle.e_book.specs.HasSpelling.{HasSpelling};
 ghost use Rattle.e_read.specs.Text.{at_start, garbled_at, taken, LineIs, LineReads, TurnIs, FitsReading, piece_from, bare, OfTheorem, TextReads};
 
 use crate::reading::Reading;
-use e_book::{Known, Theorem, Trouble};
+use e_book::{Theorem, Theorems, Trouble};
+use e_clause::Version;
 use e_text::{Line, Lines, faulty_line};
 use std::alloc::{AllocError, Global};
+use std::mem;
 use thiserror::Error;
 
 /// What stands in a derivation text.
@@ -75,7 +79,7 @@ fn seen_line<'a>(lines: &mut Lines<'a>) -> Result<Line<'a>, TextFault>
 /// The block goes on with one more line.
 fn take_line(
     alloc: Global,
-    known: &Known,
+    known: &Theorems,
     reading: &mut Reading,
     line: Line<'_>,
 ) -> Result<(), TextFault>
@@ -96,7 +100,7 @@ fn take_line(
 /// What a line makes of a block.
 fn turned(
     alloc: Global,
-    known: &Known,
+    known: &Theorems,
     reading: &mut Reading,
     line: Line<'_>,
 ) -> Result<Turn, TextFault>
@@ -118,46 +122,69 @@ fn turned(
 }
 
 /// Reads line by line, up to the end of a theorem or the last line.
-fn read_piece(alloc: Global, lines: &mut Lines, known: &Known) -> Result<Piece, TextFault>
+fn read_piece(
+    alloc: Global,
+    lines: &mut Lines,
+    known: &Theorems,
+    version: Version,
+) -> Result<Piece, TextFault>
     requires few { length known.now < 2 ^ 32 - 1 }
     requires known { IsTrue (list_all is_small_statement (stated_by known.now)) }
-    ensures read { TextReads known.now result lines.new (piece_from known.now (last_line lines.old) at_start lines.old.lines) }
+    ensures read { TextReads known.now result lines.new (piece_from known.now (last_line lines.old) (at_start version) lines.old.lines) }
     ensures last { OnOk result (last_line lines.new ≡ last_line lines.old) }
     ensures shorter { OnOk result (length lines.new.lines < length lines.old.lines) }
 {
-    let mut reading = Reading::new(alloc);
+    let mut reading = Reading::new(alloc, version);
     loop {
-        let line = seen_line(lines)?;
-        match turned(alloc, known, &mut reading, line)? {
-            Turn::Last => {
+        let line = match seen_line(lines) {
+            Ok(line) => line,
+            Err(fault) => {
+                mem::drop(reading);
+                return Err(fault);
+            }
+        };
+        match turned(alloc, known, &mut reading, line) {
+            Ok(Turn::Last) => {
+                mem::drop(reading);
                 return Ok(Piece::Last {
                     theorems: known.len() as u32,
                 });
             }
-            Turn::Ended => {
+            Ok(Turn::Ended) => {
                 let theorem = reading.into_theorem(alloc)?;
                 return Ok(Piece::Theorem(theorem));
             }
-            Turn::More => {}
+            Ok(Turn::More) => {}
+            Err(fault) => {
+                mem::drop(reading);
+                return Err(fault);
+            }
         }
     }
 }
 
-/// The next theorem with its derivation, or the last line.
+/// The next theorem with its derivation, or the last line, in a text of this version.
 ///
 /// It takes the lines up to the theorem's `end`, or the last line alone. A line is garbled where it is the first that has no form
 /// at its place; after that the lines are not used again. The lines are those of a text with at most 262,144 bytes a line.
 /// The known theorems are statements, as each is that is read, and may be more than a text may have: then none is read any more.
-pub fn read(alloc: Global, lines: &mut Lines, known: &Known) -> Result<Piece, TextFault>
+pub fn read(
+    alloc: Global,
+    lines: &mut Lines,
+    known: &Theorems,
+    version: Version,
+) -> Result<Piece, TextFault>
     requires few { length known.now < 2 ^ 32 - 1 }
     requires known { IsTrue (list_all is_small_statement (stated_by known.now)) }
-    ensures read { TextReads known.now result lines.new (piece_from known.now (last_line lines.old) at_start lines.old.lines) }
+    ensures read { TextReads known.now result lines.new (piece_from known.now (last_line lines.old) (at_start version) lines.old.lines) }
     ensures last { OnOk result (last_line lines.new ≡ last_line lines.old) }
     ensures shorter { OnOk result (length lines.new.lines < length lines.old.lines) }
     // without its certificates a theorem that is read has a spelling in a book: its title is new, and it is within the limits
     ensures spelled { IfOk result (OfTheorem (λ t. HasSpelling known.now (bare (entry_of t)))) }
+    // its certificates are of that version, and name literals that are well formed
+    ensures version { IfOk result (OfTheorem (λ t. IsTrue (has_certs_of version (script_of t.block)))) }
     // its literals speak of its own objects
     ensures states { IfOk result (OfTheorem (λ t. IsTrue (is_small_statement (stated t.statement)))) }
 {
-    read_piece(alloc, lines, known)
+    read_piece(alloc, lines, known, version)
 }

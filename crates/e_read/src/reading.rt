@@ -14,11 +14,12 @@ ghost use Rattle.e_read.specs.Text.{owes_nothing, at_start, with_mark, certified
 
 use crate::filling::fill;
 use crate::kept::KeptLines;
-use crate::mark::Mark;
+use crate::mark::{Mark, mark_is_of};
 use crate::needs::due_of;
 use crate::owed::{Due, Owed};
 use crate::strict::{is_apart, strict_mark, strict_of};
-use e_book::{Draft, Form, Kind, Known, Place, Theorem, Trouble, collected};
+use e_book::{Draft, Form, Kind, Place, Theorem, Theorems, Trouble, collected};
+use e_clause::Version;
 use e_deriv::Names;
 use e_literal::Items;
 use e_text::{Line, LineEnd, is};
@@ -29,6 +30,8 @@ use std::mem;
 /// What the lines of a block have said so far.
 #[derive(Drop)]
 pub struct Reading {
+    /// The version of the text.
+    pub version: Version,
     /// The theorem, once its first line has come.
     pub draft: Option<Draft>,
     /// What the last line but those of certificates owes.
@@ -61,7 +64,7 @@ fn owes_nothing(alloc: Global) -> Owed
 #[tactic(auto, using(crate::proofs::MadeNames::few_begun))]
 fn gone_on(
     alloc: Global,
-    known: &Known,
+    known: &Theorems,
     draft: Option<Draft>,
     form: &Form,
 ) -> Result<Begun, Trouble>
@@ -86,7 +89,7 @@ fn gone_on(
 
 /// What a line owes, with the names in scope before it.
 #[tactic(auto, unfolding(crate::specs::Text::owed_by))]
-fn owed_by(alloc: Global, known: &Known, draft: &Draft, form: &Form) -> Result<Owed, Trouble>
+fn owed_by(alloc: Global, known: &Theorems, draft: &Draft, form: &Form) -> Result<Owed, Trouble>
     requires draft { FitsDraft draft.now }
     requires few { length known.now ≤ most_theorems }
     requires known { IsTrue (list_all is_small_statement (stated_by known.now)) }
@@ -109,7 +112,7 @@ fn owed_by(alloc: Global, known: &Known, draft: &Draft, form: &Form) -> Result<O
 
 /// A line goes on with a theorem.
 #[tactic(auto, using(crate::proofs::MadeNames::few_behind))]
-fn next_line(alloc: Global, known: &Known, draft: Draft, form: &Form) -> Result<Begun, Trouble>
+fn next_line(alloc: Global, known: &Theorems, draft: Draft, form: &Form) -> Result<Begun, Trouble>
     requires draft { FitsDraft draft }
     requires few { length known.now ≤ most_theorems }
     requires known { IsTrue (list_all is_small_statement (stated_by known.now)) }
@@ -138,12 +141,13 @@ fn next_line(alloc: Global, known: &Known, draft: Draft, form: &Form) -> Result<
 }
 
 impl Reading {
-    /// Before the first line.
-    pub(crate) fn new(alloc: Global) -> Reading
-        ensures value { result ≡ at_start }
+    /// Before the first line, in a text of this version.
+    pub(crate) fn new(alloc: Global, version: Version) -> Reading
+        ensures value { result ≡ at_start version }
         ensures fits { FitsReading result }
     {
         Reading {
+            version,
             draft: None,
             owed: owes_nothing(alloc),
             kept: KeptLines::new(alloc),
@@ -164,6 +168,10 @@ impl Reading {
         ensures names { OnOk result (self.new.owed.names ≡ self.old.owed.names) }
     {
         let mark = strict_mark(alloc, line, words)?;
+        if !mark_is_of(self.version, &mark) {
+            mem::drop(mark);
+            return Err(Trouble::Fault(Kind::Malformed));
+        }
         let taken = self.take_mark(alloc, &mark);
         mem::drop(mark);
         taken
@@ -188,7 +196,7 @@ impl Reading {
     fn take_step(
         &mut self,
         alloc: Global,
-        known: &Known,
+        known: &Theorems,
         line: &[u8],
         words: &[&[u8]],
     ) -> Result<(), Trouble>
@@ -208,7 +216,7 @@ impl Reading {
 
     /// Nothing is owed any more, and the theorem goes on with this form.
     #[tactic(auto, unfolding(crate::specs::Text::with_form))]
-    fn take_form(&mut self, alloc: Global, known: &Known, form: &Form) -> Result<(), Trouble>
+    fn take_form(&mut self, alloc: Global, known: &Theorems, form: &Form) -> Result<(), Trouble>
         requires reading { FitsReading self.old }
         requires few { OnSome self.old.draft (length known.now ≤ most_theorems) }
         requires known { IsTrue (list_all is_small_statement (stated_by known.now)) }
@@ -241,7 +249,7 @@ impl Reading {
     fn take_words(
         &mut self,
         alloc: Global,
-        known: &Known,
+        known: &Theorems,
         line: &[u8],
         words: &[&[u8]],
     ) -> Result<(), Trouble>
@@ -266,7 +274,7 @@ impl Reading {
 
     /// Takes a line by its bytes.
     #[tactic(auto, unfolding(crate::specs::Text::spelled))]
-    fn take_bytes(&mut self, alloc: Global, known: &Known, line: &[u8]) -> Result<(), Trouble>
+    fn take_bytes(&mut self, alloc: Global, known: &Theorems, line: &[u8]) -> Result<(), Trouble>
         requires reading { FitsReading self.old }
         requires few { OnSome self.old.draft (length known.now ≤ most_theorems) }
         requires known { IsTrue (list_all is_small_statement (stated_by known.now)) }
@@ -283,7 +291,7 @@ impl Reading {
     pub(crate) fn take(
         &mut self,
         alloc: Global,
-        known: &Known,
+        known: &Theorems,
         line: Line<'_>,
     ) -> Result<(), Trouble>
         requires reading { FitsReading self.old }
@@ -303,7 +311,7 @@ impl Reading {
     pub(crate) fn is_end(
         &self,
         alloc: Global,
-        known: &Known,
+        known: &Theorems,
         line: Line<'_>,
     ) -> Result<bool, AllocError>
         ensures { IfOk result (λ b. b ≡ is_end known.now self.now.draft (seen line.entry)) }
@@ -329,7 +337,12 @@ impl Reading {
         requires { IsTrue (is_finished self.draft) }
         ensures { IfOk result (λ t. finished self.draft self.kept ≡ Some (entry_of t)) }
     {
-        let Reading { draft, owed, kept } = self;
+        let Reading {
+            version: _,
+            draft,
+            owed,
+            kept,
+        } = self;
         mem::drop(owed);
         match draft {
             Some(draft) => derived(alloc, draft, kept),
@@ -349,7 +362,7 @@ fn last_line_of(alloc: Global, theorems: usize) -> Result<Vec<u8>, AllocError>
 }
 
 /// Whether the line is the last one of a text.
-fn is_last_line(alloc: Global, known: &Known, line: Line<'_>) -> Result<bool, AllocError>
+fn is_last_line(alloc: Global, known: &Theorems, line: Line<'_>) -> Result<bool, AllocError>
     ensures { IfOk result (λ b. b ≡ is_last_line known.now (seen line.entry)) }
 {
     let last = last_line_of(alloc, known.len())?;

@@ -2,6 +2,7 @@
 use Rattle.std.proofs.Common.{ℕ, List, [], ◌∷◌, ◌++◌, map, arith}
 use Rattle.e_text.specs.Lines.{AreShort}
 use Rattle.e_literal.specs.Use.{scope_of}
+use Rattle.e_clause.specs.declared.cert.Version.{Version}
 use Rattle.e_theorem.specs.Statements.{stated}
 use Rattle.e_deriv.specs.Script.{Script, erased}
 use Rattle.e_deriv.specs.Goal.{goal_of_statement, facts_of_statement}
@@ -21,8 +22,8 @@ use Rattle.e_roundtrip.proofs.HeadRooms.{IsFew, few_objects, length_next, short_
 use Rattle.e_roundtrip.proofs.ScriptRooms.{AllFew, short_script}
 
 -- the lines of one block
-short_block : (known : List Headed) (t : Entry) (d : Script) → AllFew known → CanBeSpelled known t d → AreShort 262144 (spelled_lines known t d)
-short_block known t d k c =
+short_block : (v : Version) (known : List Headed) (t : Entry) (d : Script) → AllFew known → CanBeSpelled v known t d → AreShort 262144 (spelled_lines known t d)
+short_block v known t d k c =
     let h = c.plain in
     let st = stated t.statement in
     let o = in_order t.names h.point_names h.line_names h.circle_names h.fits.differ in
@@ -30,7 +31,7 @@ short_block known t d k c =
     let script = script_lines known (names_of_proof t) d in
     let last = line_of end_form ∷ [] in
     short_append (map line_of (head_forms t)) (script ++ last) (short_head known (record t { script = erased d }) h) (short_append script last
-    (short_script known (started t) (begins t) d (facts_of_statement st) (goal_of_statement st) k (omega (arith, few, length_next (scope_of st) st.made)) (stood known t d c o)) (short_end, tt))
+    (short_script known (started t) (begins t) d (facts_of_statement st) (goal_of_statement st) k (omega (arith, few, length_next (scope_of st) st.made)) (stood v known t d c o)) (short_end, tt))
 
 -- one more statement with few objects
 one_more : (known : List Headed) (t : Entry) → AllFew known → IsFew t.statement → AllFew (with_theorem known t)
@@ -43,8 +44,8 @@ lines_of_blocks known [] = []
 lines_of_blocks known (p ∷ ps) = spelled_lines known p.0 p.1 ++ lines_of_blocks (with_theorem known p.0) ps
 
 -- the lines of all blocks
-pub short_blocks : (known : List Headed) (ps : List (Entry × Script)) → AllFew known → AllCanBeSpelled known ps → AreShort 262144 (lines_of_blocks known ps)
-short_blocks known [] k h = tt
-short_blocks known (p ∷ ps) k h =
+pub short_blocks : (v : Version) (known : List Headed) (ps : List (Entry × Script)) → AllFew known → AllCanBeSpelled v known ps → AreShort 262144 (lines_of_blocks known ps)
+short_blocks v known [] k h = tt
+short_blocks v known (p ∷ ps) k h =
     let few = few_objects known (record p.0 { script = erased p.1 }) h.0.plain in
-    short_append (spelled_lines known p.0 p.1) (lines_of_blocks (with_theorem known p.0) ps) (short_block known p.0 p.1 k h.0) (short_blocks (with_theorem known p.0) ps (one_more known p.0 k few) h.1)
+    short_append (spelled_lines known p.0 p.1) (lines_of_blocks (with_theorem known p.0) ps) (short_block v known p.0 p.1 k h.0) (short_blocks v (with_theorem known p.0) ps (one_more known p.0 k few) h.1)

@@ -1,10 +1,10 @@
 -- The lines of certificates are short.
-use Rattle.std.proofs.Common.{◌≡◌, ℕ, suc, ◌+◌, ◌*◌, ◌^◌, ◌≤◌, ℤ, pos, negsuc, true, leb, not, List, [], ◌∷◌, ◌++◌, length, map, Some, refl, arith}
+use Rattle.std.proofs.Common.{◌≡◌, ℕ, suc, ◌+◌, ◌*◌, ◌^◌, ◌≤◌, ℤ, pos, negsuc, true, leb, ltb, not, List, [], ◌∷◌, ◌++◌, length, map, Some, refl, arith}
 use Rattle.std.specs.Prelude.{codes, decimal}
 use Rattle.std.specs.Ordering.{int_eq}
 use Rattle.std.specs.Fmt.{signed_decimal}
 use Rattle.std.specs.List.{list_all, flat_map, AllByRecursion}
-use Rattle.std.proofs.lemmas.Bool.{leb-true, and_parts}
+use Rattle.std.proofs.lemmas.Bool.{leb-true, ltb-true, and_parts}
 use Rattle.e_text.specs.Lines.{is_allowed, AreShort}
 use Rattle.e_text.specs.Tokens.{joined}
 use Rattle.e_literal.specs.declared.literal.Lit.{Lit}
@@ -33,6 +33,12 @@ use Rattle.e_roundtrip.proofs.RuleRooms.{short_rule, few_arguments}
 
 -- ---- rows
 
+-- a fact by its place
+room_place : (k : ℕ) → ltb k (2 ^ 32) ≡ true → Room 16 (codes "fact" ∷ decimal k ∷ [])
+room_place k h =
+    let few = ltb-true k (2 ^ 32) h in
+    room_word 4 11 (codes "fact") _ refl (room_word 10 0 (decimal k) [] (short_number 10 k (omega arith) (omega (arith, few)) (omega (arith, few))) room_none)
+
 -- the words of a row
 room_row : (ns : Names) (r : RowName) → InOrder ns → is_good_name r ≡ true → Room 2182 (row_words ns r)
 room_row ns (rows.Fact l) o g = room_word 4 2177 (codes "fact") _ refl (room_one ns l o g)
@@ -43,6 +49,7 @@ room_row ns rows.Right o g = room_more 6 2182 _ (omega arith) (room_word 5 0 (co
 room_row ns (rows.Least t) o g = room_more 62 2182 _ (omega arith) (room_word 5 56 (codes "least") _ refl (room_term ns t o))
 room_row ns rows.Above o g = room_more 6 2182 _ (omega arith) (room_word 5 0 (codes "above") [] refl room_none)
 room_row ns rows.Below o g = room_more 6 2182 _ (omega arith) (room_word 5 0 (codes "below") [] refl room_none)
+room_row ns (rows.FactAt k) o g = room_more 16 2182 _ (omega arith) (room_place k g)
 
 -- one more byte
 one_more : (k b : ℕ) (w : List ℕ) → is_allowed b ≡ true → is_short k w ≡ true → is_short (k + 1) (b ∷ w) ≡ true
@@ -104,6 +111,7 @@ all_sums ns (Two differs above below) o g = (
 -- the certificate of a part
 all_part : (ns : Names) (p : Part) → InOrder ns → GoodPart ns p → AllRoom (part_lines ns p)
 all_part ns parts.Fact o g = (bar_word (codes "fact") refl, tt)
+all_part ns (parts.FactAt k) o g = (behind_bar 16 _ (omega arith) (room_place k g), tt)
 all_part ns (parts.Metric m) o g = (bar_word (codes "metric") refl, all_sums ns m.sums o g)
 
 -- all parts

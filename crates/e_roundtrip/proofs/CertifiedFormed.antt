@@ -61,6 +61,7 @@ difference facts wanted rownames.Right r e = absurd cc
 difference facts wanted (rownames.Least t) r e = absurd cc
 difference facts wanted rownames.Above r e = absurd cc
 difference facts wanted rownames.Below r e = absurd cc
+difference facts wanted (rownames.FactAt k) r e = refl
 
 sums_are : (s : Scope) (facts : List Lit) (wanted : Option Lit) (x : Sums) → sums_in s x ≡ true → is_good_sums x ≡ true → sums_refute facts wanted x ≡ true → sums_formed s x ≡ true
 sums_are s facts wanted (One xs) w g h = sum_is s xs w g (sized (record { facts = facts; wanted = wanted; above = None; below = None }) xs h)
@@ -81,6 +82,7 @@ sums_are s facts wanted (Two differs above below) w g h =
 
 part_is : (s : Scope) (facts : List Lit) (l : Lit) (p : Part) → part_in s p ≡ true → is_good_part p ≡ true → part_certifies facts l p ≡ true → part_formed s p ≡ true
 part_is s facts l parts.Fact w g h = refl
+part_is s facts l (parts.FactAt k) w g h = g
 part_is s facts l (parts.Metric m) w g h = sums_are s facts (Some l) m.sums w g (and_parts (is_metric l) (sums_refute facts (Some l) m.sums) h).1
 
 -- one part for each literal
@@ -155,7 +157,7 @@ formed_lines before (Cite by rest) s facts goal h w =
     let x = line (Cite by rest) (Cite by rest) s facts goal in
     let after = lines before rest rest s (joined facts by.lit) goal in
     let p = first_of (is_certified before) x after h in
-    then_lines before x after (line_is before x (one_certified before x p.0) refl refl) (formed_lines before rest s (joined facts by.lit) goal p.1 (cite_written by rest w))
+    then_lines before x after (line_is before x (one_certified before x p.0) refl refl) (formed_lines before rest s (joined facts by.lit) goal p.1 (cite_written by rest w).1)
 formed_lines before (Hence lit None rest) s facts goal h w =
     let x = line (Hence lit None rest) (Hence lit None rest) s facts goal in
     let after = lines before rest rest s (joined facts lit) goal in
@@ -222,7 +224,7 @@ formed_lines before (Cases lit first second) s facts goal h w =
     let q = both_of (is_certified before) one other p.1 in
     let g = cases_written lit first second w in
     then_lines before x (one ++ other) (line_is before x (one_certified before x p.0) refl refl)
-    (all_both (is_formed before) one other (formed_lines before first s (joined facts lit) goal q.0 g.0) (formed_lines before second s (joined facts (negation lit)) goal q.1 g.1))
+    (all_both (is_formed before) one other (formed_lines before first s (joined facts lit) goal q.0 g.1) (formed_lines before second s (joined facts (negation lit)) goal q.1 g.2))
 
 pub certified_formed : (before : List Stated) (t : Stated) (d : Script) → Certified before t d → is_written_well d ≡ true → Formed before t d
 certified_formed before t d c w = formed_lines before d (scope_of t) (facts_of_statement t) (goal_of_statement t) c w

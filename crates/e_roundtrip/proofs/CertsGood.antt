@@ -58,6 +58,7 @@ good_sum ns xs h =
 may : (ns : Names) (differs : RowName) → names_difference differs ≡ true → may_differ (raw_row ns differs) ≡ true
 may ns (names.Fact l) h = refl
 may ns names.Goal h = refl
+may ns (names.FactAt k) h = refl
 may ns row h = absurd cc
 
 good_sums : (ns : Names) (s : Sums) → sums_formed (scope_of_names ns) s ≡ true → GoodSums ns s
@@ -80,6 +81,7 @@ good_sums ns (Two differs above below) h =
 good_part : (ns : Names) (p : Part) → part_formed (scope_of_names ns) p ≡ true → GoodPart ns p
 good_part ns parts.Fact h = tt
 good_part ns (parts.Metric m) h = good_sums ns m.sums h
+good_part ns (parts.FactAt k) h = h
 
 good_parts : (ns : Names) (ps : List Part) → list_all (part_formed (scope_of_names ns)) ps ≡ true → AllByRecursion (GoodPart ns) ps
 good_parts ns [] h = tt

@@ -1,8 +1,9 @@
 -- The lines of certificates are read as these certificates.
 use Rattle.std.proofs.Common.{◌≡◌, ℕ, ◌+◌, ◌<◌, Bool, true, false, cond, eqb, ltb, List, [], ◌∷◌, ◌++◌, length, map, Option, Some, None, Result, Ok, refl, sym, ap, subst, ◌∙◌, arith, append_assoc, length-append}
 use Rattle.std.specs.Prelude.{slice_get}
-use Rattle.std.specs.List.{flat_map, AllByRecursion}
-use Rattle.std.proofs.lemmas.Bool.{lt-ltb, le-ltb, eq-eqb, ne_eqb}
+use Rattle.std.specs.List.{list_all, flat_map, AllByRecursion}
+use Rattle.std.specs.Option.{option_to_list}
+use Rattle.std.proofs.lemmas.Bool.{lt-ltb, le-ltb, eq-eqb, ne_eqb, and_parts}
 use Rattle.std.proofs.lemmas.List.{append-nil}
 use Rattle.e_literal.specs.declared.object.Obj.{Obj}
 use Rattle.e_literal.specs.declared.literal.Lit.{Lit}
@@ -29,6 +30,10 @@ use Rattle.e_read.specs.Owed.{certificate, transfer_put, part_put, marked, settl
 use Rattle.e_read.specs.Needs.{one_each}
 use Rattle.e_spell.specs.Certificates.{part_lines, cert_lines, against_lines}
 use Rattle.e_roundtrip.proofs.Feeding.{Fed, owing, Ends, Puts, puts_append, GoodSums, metric_fed, GoodPart, part_fed}
+use Rattle.e_clause.specs.declared.cert.Version.{Version}
+use Rattle.e_clause.specs.Versions.{is_cert_of, is_against_of}
+use Rattle.e_read.proofs.GoodCerts.{AreGood}
+use Rattle.e_roundtrip.proofs.VersionLines.{LinesOf, lines_append, metric_of, part_of, parts_of}
 use Rattle.e_roundtrip.proofs.TransfersAgain.{GoodTransfer, part_way, rule_titled, transfer_again}
 
 -- ---- transfers
@@ -137,24 +142,47 @@ certs_fed ns o front (l ∷ ls) done (c ∷ cs) order ends count g =
     let all = puts_append ns o (cert_lines ns c) (flat_map (cert_lines ns) cs) (due.Literals wanted more None) (due.Literals wanted (more ++ cs) None) one moved in
     subst (λ (x : List Cert). Puts ns o (flat_map (cert_lines ns) (c ∷ cs)) (due.Literals wanted x None)) (append_assoc done (c ∷ []) cs) all
 
+-- ---- lines of one version
+
+cert_of : (v : Version) (ns : Names) (l : Lit) (c : Cert) → InOrder ns → GoodCert ns l c → is_cert_of v c ≡ true → LinesOf v (cert_lines ns c)
+cert_of v ns l (Plain p) o g h = part_of v ns p o g h
+cert_of v ns l (Transfer t) o g h = (
+  (
+    marks.Transfer (rule_name t.rule) (map (name_of_object ns) t.args),
+    refl,
+    (rule_titled t.rule t.args g.lits g.instance, objects_named ns t.args o g.args),
+    refl,
+  ),
+  parts_of v ns t.parts o g.parts h,
+)
+
+certs_of : (v : Version) (ns : Names) (ls : List Lit) (cs : List Cert) → InOrder ns → GoodCerts ns ls cs → list_all (is_cert_of v) cs ≡ true → LinesOf v (flat_map (cert_lines ns) cs)
+certs_of v ns [] [] o g h = tt
+certs_of v ns [] (c ∷ cs) o g h = absurd g
+certs_of v ns (l ∷ ls) [] o g h = absurd g
+certs_of v ns (l ∷ ls) (c ∷ cs) o g h =
+    let p = and_parts (is_cert_of v c) (list_all (is_cert_of v) cs) h in
+    lines_append v (cert_lines ns c) (flat_map (cert_lines ns) cs) (cert_of v ns l c o g.0 p.0) (certs_of v ns ls cs o g.1 p.1)
+
 -- ---- what is kept behind them
 
--- the lines are taken, and then this is kept
+-- the lines are taken, and then this is kept; where that is of a version, the lines have a form in it
 pub record Keeps (ns : Names) (d : Due) (lines : List (List (List ℕ))) (k : Option Kept) : Type 0 where
   pub last : Owed
   pub fed : Fed (owing ns d None) lines last
   pub settles : settled last ≡ Ok k
+  pub of : (v : Version) → AreGood v (option_to_list k) → LinesOf v lines
 
 pub certs_kept : (ns : Names) (wanted : List Lit) (cs : List Cert) → InOrder ns → GoodCerts ns wanted cs → Keeps ns (one_each wanted) (flat_map (cert_lines ns) cs) (Some (kept.Certs cs))
 unfolding settled
 certs_kept ns wanted cs order g =
     let p = certs_fed ns (owing ns (one_each wanted) None) [] wanted [] cs order refl refl g in
     let all : ltb (length cs) (length wanted) ≡ false = le-ltb _ _ (omega (arith, as_many ns wanted cs g)) in
-    record { last = p.last; fed = p.fed; settles = rw (p.ends, all) refl }
+    record { last = p.last; fed = p.fed; settles = rw (p.ends, all) refl; of = λ v h. certs_of v ns wanted cs order g (and_parts (list_all (is_cert_of v) cs) true h).0 }
 
 pub nothing_kept : (ns : Names) → Keeps ns due.Nothing [] None
 unfolding settled
-nothing_kept ns = record { last = owing ns due.Nothing None; fed = refl; settles = refl }
+nothing_kept ns = record { last = owing ns due.Nothing None; fed = refl; settles = refl; of = λ v h. tt }
 
 -- a certificate of a contradiction that has a form
 abbrev pub GoodAgainst : Names → Against → Type 0
@@ -178,7 +206,8 @@ against_kept ns (against.Clash l) order g =
         refl,
       );
       settles = refl;
+      of = λ v h. ((marks.Clash (raw_of ns l), refl, (lit_named ns l order g.0 good, diagram_is_raw ns l g.1), refl), tt);
     }
 against_kept ns (against.Metric m) order g =
     let p = metric_fed ns (owing ns (due.Contradiction None) None) (due.Contradiction None) (due.Contradiction (Some (against.Metric m))) m order refl g refl in
-    record { last = p.last; fed = p.fed; settles = rw p.ends refl }
+    record { last = p.last; fed = p.fed; settles = rw p.ends refl; of = λ v h. metric_of v ns m order g (and_parts (is_against_of v (against.Metric m)) true h).0 }

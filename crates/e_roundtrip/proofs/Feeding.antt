@@ -1,5 +1,5 @@
 -- Lines of certificates that are taken one after another, and what is owed behind them.
-use Rattle.std.proofs.Common.{◌≡◌, ℕ, ◌+◌, ◌≤◌, ◌<◌, ℤ, Bool, true, false, cond, ltb, List, [], ◌∷◌, ◌++◌, length, map, Option, Some, None, Ok, Err, refl, sym, ap, subst, arith, append_assoc, length-append}
+use Rattle.std.proofs.Common.{◌≡◌, ◌^◌, ℕ, ◌+◌, ◌≤◌, ◌<◌, ℤ, Bool, true, false, cond, ltb, List, [], ◌∷◌, ◌++◌, length, map, Option, Some, None, Ok, Err, refl, sym, ap, subst, arith, append_assoc, length-append}
 use Rattle.std.specs.Prelude.{codes}
 use Rattle.std.specs.Fmt.{signed_decimal}
 use Rattle.std.specs.List.{AllByRecursion}
@@ -187,6 +187,7 @@ metric_fed ns o d e m order ends g put =
 abbrev pub GoodPart : Names → Part → Type 0
 GoodPart ns parts.Fact = Unit {0}
 GoodPart ns (parts.Metric m) = GoodSums ns m.sums
+GoodPart ns (parts.FactAt k) = ltb k (2 ^ 32) ≡ true
 
 metric_part : (d e : Due) (m : MetricCert) → part_put d (parts.Metric m) ≡ Ok e → metric_put d m ≡ Ok e
 metric_part due.Nothing e m h = h
@@ -199,6 +200,11 @@ unfolding marked
 part_fed ns o d e parts.Fact order ends g put = record {
   last = owing ns e None;
   fed = (owing ns e None, record { mark = marks.Fact; spelled = refl; named = tt; leads = rw (ends, put) refl }, refl);
+  ends = refl;
+}
+part_fed ns o d e (parts.FactAt k) order ends g put = record {
+  last = owing ns e None;
+  fed = (owing ns e None, record { mark = marks.FactAt k; spelled = refl; named = g; leads = rw (ends, put) refl }, refl);
   ends = refl;
 }
 part_fed ns o d e (parts.Metric m) order ends g put = metric_fed ns o d e m order ends g (metric_part d e m put)

@@ -118,7 +118,7 @@ pub draft_is : (x y : Draft) → (let some : Draft → Option Draft = λ d. Some
 draft_is x y e = cc
 
 none_along : (known : List Headed) (d : Draft) → Along known d [] d []
-none_along known d = λ r ks s. record { last = r; taken = refl; stands = subst (λ (x : List Kept). Stands r d x) (sym (append-nil ks)) s }
+none_along known d = λ r ks of s. record { last = r; version = refl; taken = refl; stands = subst (λ (x : List Kept). Stands r d x) (sym (append-nil ks)) s }
 
 moved : (ds es ms ns : List Sort) (fs : List Form) → ds ≡ es → ms ≡ ns → Heads es ns fs → Heads ds ms fs
 moved ds es ms ns fs a b h = subst (λ (x : List Sort). Heads x ms fs) (sym a) (subst (λ (x : List Sort). Heads es x fs) (sym b) h)

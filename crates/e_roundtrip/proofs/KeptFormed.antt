@@ -72,6 +72,7 @@ row_in_scope ns (rows.Least raw) r e =
     subst (InScope (scope_of_names ns)) (ok_is (names.Least t.0) r t.2) (term_in_scope ns raw t.0 t.1)
 row_in_scope ns rows.Above r e = subst (InScope (scope_of_names ns)) (ok_is names.Above r e) refl
 row_in_scope ns rows.Below r e = subst (InScope (scope_of_names ns)) (ok_is names.Below r e) refl
+row_in_scope ns (rows.FactAt k) r e = subst (InScope (scope_of_names ns)) (ok_is (names.FactAt k) r e) refl
 
 -- a row of a line, with its names and its limits
 pub record RowFormed (s : Scope) (m : ℤ) (r : RowName) : Type 0 where
@@ -88,6 +89,7 @@ difference_read ns (rows.Fact raw) r m e =
     let l = bind_ok (fact_in ns raw) (λ l. read_ok (names.Fact l)) r e in
     subst (λ (x : RowName). names_difference x ≡ true) (ok_is (names.Fact l.0) r l.2) refl
 difference_read ns rows.Goal r m e = subst (λ (x : RowName). names_difference x ≡ true) (ok_is names.Goal r e) refl
+difference_read ns (rows.FactAt k) r m e = subst (λ (x : RowName). names_difference x ≡ true) (ok_is (names.FactAt k) r e) refl
 difference_read ns raw r m e = absurd cc
 
 pub difference_put : (ns : Names) (raw : RawRow) (r : RowName) → may_differ raw ≡ true → RowSaid raw → row_in ns raw ≡ Ok r → difference_formed (scope_of_names ns) r ≡ true

@@ -5,6 +5,7 @@ use Rattle.std.proofs.lemmas.Slice.Eq.{bytes_eq-Decides}
 use Rattle.e_text.specs.Lines.{Seen}
 use Rattle.e_text.specs.declared.line.LineEnd.{LineEnd}
 use Rattle.e_text.specs.declared.line.LineEnd.TheVariants as ends
+use Rattle.e_clause.specs.declared.cert.Version.{Version}
 use Rattle.e_book.specs.declared.draft.Draft.{Draft}
 use Rattle.e_book.specs.declared.fault.Kind.{Kind}
 use Rattle.e_book.specs.declared.fault.Kind.TheVariants.{Malformed}
@@ -67,6 +68,7 @@ no_mark : (m : Mark) (o : Owed) → marked owes_nothing m ≡ Ok o → ⊥
 unfolding marked
 no_mark marks.Fact o e = refused o e
 no_mark marks.Metric o e = refused o e
+no_mark (marks.FactAt k) o e = refused o e
 no_mark (marks.Transfer title raws) o e = refused o e
 no_mark (marks.Clash raw) o e = refused o (bind_ok (lit_in owes_nothing.names raw) (λ l. clash_put due.Nothing l >>= λ d. Ok (due_behind owes_nothing d)) o e).2
 no_mark marks.Sum o e = refused o e
@@ -85,20 +87,20 @@ at_end a b e = ap (λ (x : Answer). x.1) (inside (Last, a) (Last, b) e) where
   inside x y e = cc
 
 -- where reading ends with the last line, the lines ahead begin with it
-pub last_shown : (known : List Headed) (last : ℕ) (lines rest : Rest) → piece_from known last at_start lines ≡ ended rest → ShowsEnded lines (last_line_of (length known) ∷ []) rest
+pub last_shown : (v : Version) (known : List Headed) (last : ℕ) (lines rest : Rest) → piece_from known last (at_start v) lines ≡ ended rest → ShowsEnded lines (last_line_of (length known) ∷ []) rest
 unfolding piece_from
-last_shown known last [] rest e = absurd cc
-last_shown known last (Err f ∷ lines) rest e = absurd cc
-last_shown known last (Ok l ∷ lines) rest e =
-    let next : Result Reading ℕ = garbled_at l.number (taken known at_start l) in
+last_shown v known last [] rest e = absurd cc
+last_shown v known last (Err f ∷ lines) rest e = absurd cc
+last_shown v known last (Ok l ∷ lines) rest e =
+    let next : Result Reading ℕ = garbled_at l.number (taken known (at_start v) l) in
     let then : Reading → Result Answer ℕ = λ x. or_on (finished x.draft x.kept) lines (piece_from known last x lines) in
     elim (either (is_last_line known l) (ended lines) (next >>= then) (ended rest) e) [
       | inl p ↦ let q = said l.end l.bytes (last_line_of (length known)) p.0 in (q.0, q.1, at_end lines rest p.1)
       | inr p ↦
           let x = bind_ok next then (Last, rest) p.1 in
-          let took = garbled_ok l.number (taken known at_start l) x.0 x.1 in
+          let took = garbled_ok l.number (taken known (at_start v) l) x.0 x.1 in
           let more = goes_on_last (finished x.0.draft x.0.kept) lines rest (piece_from known last x.0 lines) x.2 in
-          elim (line_taken known at_start x.0 l took) [
+          elim (line_taken known (at_start v) x.0 l took) [
             | inl c ↦ absurd (no_mark c.2.mark x.0.owed c.2.owed)
             | inr s ↦ absurd (never_last known last x.0 s.1.draft lines rest (ap (λ (y : Reading). y.draft) s.1.next_is) more)
           ]

@@ -20,6 +20,7 @@ pub mod FilledBack
 pub mod MarksAgain
 pub mod RowsAgain
 pub mod Feeding
+pub mod VersionLines
 pub mod TransfersAgain
 pub mod CertsPut
 pub mod CertsGood

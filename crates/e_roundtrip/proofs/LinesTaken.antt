@@ -1,8 +1,11 @@
 -- Lines that are taken one after another, in the one spelling of a derivation.
-use Rattle.std.proofs.Common.{◌≡◌, ℕ, true, false, List, [], ◌∷◌, ◌++◌, map, Option, Some, None, Ok, refl, sym, ap, subst, ◌∙◌, append_assoc}
+use Rattle.std.proofs.Common.{◌≡◌, ℕ, Bool, true, false, List, [], ◌∷◌, ◌++◌, map, Option, Some, None, Ok, refl, sym, ap, subst, ◌∙◌, append_assoc}
 use Rattle.std.specs.Prelude.{codes}
 use Rattle.std.specs.Option.{option_to_list}
 use Rattle.std.specs.Str.{bytes_eq}
+use Rattle.std.specs.List.{list_all}
+use Rattle.std.proofs.lemmas.List.Folds.{list_all-append}
+use Rattle.std.proofs.lemmas.Bool.{and_parts}
 use Rattle.e_text.specs.Tokens.{tokens_of, joined}
 use Rattle.e_literal.specs.declared.object.Sort.TheVariants as sorts
 use Rattle.e_construct.specs.declared.construction.Shape.{Shape}
@@ -25,7 +28,9 @@ use Rattle.e_read.specs.declared.owed.Due.{Due}
 use Rattle.e_read.specs.declared.owed.Owed.{Owed}
 use Rattle.e_read.specs.declared.kept.Kept.{Kept}
 use Rattle.e_read.specs.declared.reading.Reading.{Reading}
-use Rattle.e_read.specs.Marks.{mark_line}
+use Rattle.e_clause.specs.declared.cert.Version.{Version}
+use Rattle.e_read.specs.Marks.{mark_line, mark_is_of}
+use Rattle.e_read.proofs.GoodCerts.{is_good_kept, AreGood}
 use Rattle.e_read.specs.Strict.{is_strict, strict_of, strict_form, is_apart}
 use Rattle.e_read.specs.Owed.{marked, settled}
 use Rattle.e_read.specs.Needs.{due_of}
@@ -33,6 +38,7 @@ use Rattle.e_read.specs.Text.{certified, with_mark, owed_by, with_form, stepped,
 use Rattle.e_roundtrip.proofs.MarksAgain.{MarkNamed, mark_tokens_again, strict_mark_again}
 use Rattle.e_roundtrip.proofs.Feeding.{OneMark, Fed, owing}
 use Rattle.e_roundtrip.proofs.CertsPut.{Keeps}
+use Rattle.e_roundtrip.proofs.VersionLines.{LineOf, LinesOf, same_mark}
 
 -- ---- lines of the script are in the one spelling
 
@@ -127,61 +133,70 @@ pub record Stands (r : Reading) (d : Draft) (ks : List Kept) : Type 0 where
 
 pub record Reached (known : List Headed) (r : Reading) (lines : List (List ℕ)) (e : Draft) (ks : List Kept) : Type 0 where
   pub last : Reading
+  pub version : last.version ≡ r.version
   pub taken : AllTaken known r lines last
   pub stands : Stands last e ks
 
--- the lines lead from one draft to another, and so much more is kept
+-- the lines lead from one draft to another, and so much more is kept, where that is of the version of the text
 abbrev pub Along : List Headed → Draft → List (List ℕ) → Draft → List Kept → Type 0
-Along known d lines e more = (r : Reading) (ks : List Kept) → Stands r d ks → Reached known r lines e (ks ++ more)
+Along known d lines e more = (r : Reading) (ks : List Kept) → AreGood r.version more → Stands r d ks → Reached known r lines e (ks ++ more)
+
+abbrev AreOf : Version → List Kept → Bool
+AreOf v ks = list_all (is_good_kept v) ks
 
 pub along_append : (known : List Headed) (d e f : Draft) (xs ys : List (List ℕ)) (js ls : List Kept) → Along known d xs e js → Along known e ys f ls → Along known d (xs ++ ys) f (js ++ ls)
-along_append known d e f xs ys js ls p q = λ r ks s.
-    let a = p r ks s in
-    let b = q a.last (ks ++ js) a.stands in
+along_append known d e f xs ys js ls p q = λ r ks of s.
+    let both = and_parts (AreOf r.version js) (AreOf r.version ls) (sym (list_all-append (is_good_kept r.version) js ls) ∙ of) in
+    let a = p r ks both.0 s in
+    let b = q a.last (ks ++ js) (subst (λ (v : Version). AreGood v ls) (sym a.version) both.1) a.stands in
     record {
       last = b.last;
+      version = b.version ∙ a.version;
       taken = taken_append known r a.last b.last xs ys a.taken b.taken;
       stands = subst (λ (x : List Kept). Stands b.last f x) (append_assoc ks js ls) b.stands;
     }
 
 -- ---- lines of certificates
 
-mark_leads : (known : List Headed) (r : Reading) (m : Mark) (o : Owed) → MarkNamed m → marked r.owed m ≡ Ok o → worded known r (mark_line m) (tokens_of (mark_line m)) ≡ Ok (record r { owed = o })
+mark_leads : (known : List Headed) (r : Reading) (m : Mark) (o : Owed) → MarkNamed m → mark_is_of r.version m ≡ true → marked r.owed m ≡ Ok o → worded known r (mark_line m) (tokens_of (mark_line m)) ≡ Ok (record r { owed = o })
 unfolding with_mark certified worded
-mark_leads known r m o h e =
-    ap (λ (ws : List (List ℕ)). worded known r (mark_line m) ws) (mark_tokens_again m h) ∙ rw (strict_mark_again m h, e) refl
+mark_leads known r m o h of e =
+    ap (λ (ws : List (List ℕ)). worded known r (mark_line m) ws) (mark_tokens_again m h) ∙ rw (strict_mark_again m h, of, e) refl
 
-words_lead : (known : List Headed) (r : Reading) (words : List (List ℕ)) (o : Owed) → OneMark r.owed words o → worded known r (joined words) (tokens_of (joined words)) ≡ Ok (record r { owed = o })
-words_lead known r words o m =
-    subst (λ (ws : List (List ℕ)). worded known r (joined ws) (tokens_of (joined ws)) ≡ Ok (record r { owed = o })) (sym m.spelled) (mark_leads known r m.mark o m.named m.leads)
+words_lead : (known : List Headed) (r : Reading) (words : List (List ℕ)) (o : Owed) → LineOf r.version words → OneMark r.owed words o → worded known r (joined words) (tokens_of (joined words)) ≡ Ok (record r { owed = o })
+words_lead known r words o l m =
+    let same : l.0 ≡ m.mark = same_mark l.0 m.mark l.2 m.named (sym l.1 ∙ m.spelled) in
+    let of : mark_is_of r.version m.mark ≡ true = sym (ap (mark_is_of r.version) same) ∙ l.3 in
+    subst (λ (ws : List (List ℕ)). worded known r (joined ws) (tokens_of (joined ws)) ≡ Ok (record r { owed = o })) (sym m.spelled) (mark_leads known r m.mark o m.named of m.leads)
 
-marks_taken : (known : List Headed) (r : Reading) (d : Draft) (lines : List (List (List ℕ))) (last : Owed) → r.draft ≡ Some d → is_done d ≡ false → Fed r.owed lines last → AllTaken known r (map joined lines) (record r { owed = last })
-marks_taken known r d [] last here going fed = ap (λ (o : Owed). record r { owed = o }) fed
-marks_taken known r d (words ∷ lines) last here going fed = (
+marks_taken : (known : List Headed) (r : Reading) (d : Draft) (lines : List (List (List ℕ))) (last : Owed) → r.draft ≡ Some d → is_done d ≡ false → LinesOf r.version lines → Fed r.owed lines last → AllTaken known r (map joined lines) (record r { owed = last })
+marks_taken known r d [] last here going of fed = ap (λ (o : Owed). record r { owed = o }) fed
+marks_taken known r d (words ∷ lines) last here going of fed = (
   record r { owed = fed.0 },
-  record { before = d; here = here; leads = words_lead known r words fed.0 fed.1; after = d; there = here; going = going },
-  marks_taken known (record r { owed = fed.0 }) d lines last here going fed.2,
+  record { before = d; here = here; leads = words_lead known r words fed.0 of.0 fed.1; after = d; there = here; going = going },
+  marks_taken known (record r { owed = fed.0 }) d lines last here going of.1 fed.2,
 )
 
 -- ---- a line of the script with its certificates
 
 pub form_leads : (known : List Headed) (r : Reading) (d e : Draft) (ks : List Kept) (f : Form) (owed : Due) → Stands r d ks → GoodForm f → is_strict (as_read f) ≡ true → is_apart d (as_read f) ≡ true → due_of known d (as_read f) ≡ Ok owed
-    → step known d (as_read f) ≡ Ok e → worded known r (line_of f) (tokens_of (line_of f)) ≡ Ok (record { draft = Some e; owed = owing d.in_scope owed None; kept = ks })
+    → step known d (as_read f) ≡ Ok e → worded known r (line_of f) (tokens_of (line_of f)) ≡ Ok (record { version = r.version; draft = Some e; owed = owing d.in_scope owed None; kept = ks })
 unfolding with_form owed_by stepped
 form_leads known r d e ks f owed s good strict apart due steps =
     ap (worded known r (line_of f)) (words_again f good) ∙ no_bar known r (line_of f) f
-    ∙ rw (strict_form_again f good strict, s.settles, s.draft, apart, due, steps) (ap (λ (x : List Kept). Ok (record { draft = Some e; owed = owing d.in_scope owed None; kept = x })) s.kept)
+    ∙ rw (strict_form_again f good strict, s.settles, s.draft, apart, due, steps) (ap (λ (x : List Kept). Ok (record { version = r.version; draft = Some e; owed = owing d.in_scope owed None; kept = x })) s.kept)
 
 pub step_along : (known : List Headed) (d e : Draft) (f : Form) (owed : Due) (lines : List (List (List ℕ))) (k : Option Kept) → GoodForm f → is_strict (as_read f) ≡ true → is_apart d (as_read f) ≡ true → due_of known d (as_read f) ≡ Ok owed
     → step known d (as_read f) ≡ Ok e → is_done e ≡ false → Keeps d.in_scope owed lines k → Along known d (line_of f ∷ map joined lines) e (option_to_list k)
-step_along known d e f owed lines k good strict apart due steps going keeps = λ r ks s.
-    let begun : Reading = record { draft = Some e; owed = owing d.in_scope owed None; kept = ks } in
+step_along known d e f owed lines k good strict apart due steps going keeps = λ r ks of s.
+    let begun : Reading = record { version = r.version; draft = Some e; owed = owing d.in_scope owed None; kept = ks } in
     record {
       last = record begun { owed = keeps.last };
+      version = refl;
       taken = (
         begun,
         record { before = d; here = s.draft; leads = form_leads known r d e ks f owed s good strict apart due steps; after = e; there = refl; going = going },
-        marks_taken known begun e lines keeps.last refl going keeps.fed,
+        marks_taken known begun e lines keeps.last refl going (keeps.of r.version of) keeps.fed,
       );
       stands = record { draft = refl; read = k; settles = keeps.settles; kept = refl };
     }

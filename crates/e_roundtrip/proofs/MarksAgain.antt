@@ -1,19 +1,26 @@
 -- The line of a mark is read as that mark.
-use Rattle.std.proofs.Common.{◌≡◌, ℕ, zero, suc, ◌≤◌, ◌<◌, ◌^◌, ℤ, pos, negsuc, Bool, true, false, not, ◌||◌, ltb, leb, eqb, List, [], ◌∷◌, length, Ok, refl, ◌∙◌, arith, rules, tests}
+use Rattle.std.proofs.Common.{◌≡◌, ℕ, zero, suc, ◌≤◌, ◌<◌, ◌^◌, ℤ, pos, negsuc, Bool, true, false, not, ◌||◌, ltb, leb, eqb, List, [], ◌∷◌, ◌++◌, length, Ok, refl, sym, ap, subst, ◌∙◌, arith, rules, tests}
 use Rattle.std.specs.Prelude.{codes, unsigned_abs}
 use Rattle.std.specs.Fmt.{decimal, signed_decimal}
 use Rattle.std.specs.Ordering.{int_eq}
 use Rattle.std.specs.Str.{bytes_eq}
 use Rattle.std.specs.List.{list_all}
-use Rattle.std.proofs.lemmas.Bool.{leb-true, lt-ltb, le-leb, ne_eqb, not-true, and_parts}
+use Rattle.std.proofs.lemmas.Bool.{leb-true, ltb-true, lt-ltb, le-leb, ne_eqb, not-true, and_parts}
 use Rattle.e_text.specs.Names.{is_digit, is_title}
 use Rattle.e_text.specs.Numerals.{is_numeral}
 use Rattle.e_text.specs.Tokens.{is_blank, has_bytes, is_token, tokens_of, AreTokens}
 use Rattle.e_text.proofs.NumeralWords.{is_numeral-decimal, number_of-decimal, is_token-numeral}
 use Rattle.e_text.proofs.TokenWords.{tokens_of-joined, is_token-title}
 use Rattle.e_clause.specs.Sum.{is_good_multiplier}
-use Rattle.e_book.specs.Reading.{title_at, word_at, end_at}
-use Rattle.e_book.specs.Literals.{is_diagram_raw}
+use Rattle.e_book.specs.declared.sum.RawMono.{RawMono}
+use Rattle.e_book.specs.declared.sum.RawTerm.{RawTerm}
+use Rattle.e_book.specs.declared.sum.RawTerm.TheVariants as rawterms
+use Rattle.e_book.specs.declared.literal.RawAtom.{RawAtom}
+use Rattle.e_book.specs.declared.literal.RawAtom.TheVariants as raw
+use Rattle.e_book.specs.declared.literal.RawLit.{RawLit}
+use Rattle.e_book.specs.Canonical.{term_words, coefficient_words, mono_words, more_monos, sum_words, sums_words, signed_words, lit_words}
+use Rattle.e_book.specs.Reading.{◌>>=◌, title_at, word_at, end_at}
+use Rattle.e_book.specs.Literals.{lit_of, is_diagram_raw}
 use Rattle.e_book.specs.HasSpelling.{AreNames}
 use Rattle.e_book.proofs.Differ.{same_bytes}
 use Rattle.e_book.proofs.NamesAgain.{titled, names_again}
@@ -24,7 +31,7 @@ use Rattle.e_read.specs.declared.mark.RawRow.{RawRow}
 use Rattle.e_read.specs.declared.mark.RawRow.TheVariants as rows
 use Rattle.e_read.specs.declared.mark.Mark.{Mark}
 use Rattle.e_read.specs.declared.mark.Mark.TheVariants as marks
-use Rattle.e_read.specs.Marks.{size_of, multiplier_of, row_named, row_of, may_differ, differs_of, transfer_of, row_mark_of, mark_named, mark_of, row_words, mark_words, mark_line}
+use Rattle.e_read.specs.Marks.{size_of, multiplier_of, place_of, fact_row_of, fact_mark_of, row_named, row_of, may_differ, differs_of, transfer_of, row_mark_of, mark_named, mark_of, row_words, mark_words, mark_line}
 use Rattle.e_read.specs.Strict.{is_direct, is_strict_row, is_strict_mark, strict_mark}
 
 -- ---- what is known of the lines of certificates
@@ -35,6 +42,7 @@ RowNamed (rows.Fact l) = LitNamed l × (is_direct l ≡ true)
 RowNamed (rows.Pos t) = TermNamed t
 RowNamed (rows.Top t) = TermNamed t
 RowNamed (rows.Least t) = TermNamed t
+RowNamed (rows.FactAt k) = ltb k (2 ^ 32) ≡ true
 RowNamed row = Unit {0}
 
 abbrev pub MarkNamed : Mark → Type 0
@@ -42,6 +50,7 @@ MarkNamed (marks.Transfer rule ns) = (is_title rule ≡ true) × AreNames ns
 MarkNamed (marks.Clash l) = LitNamed l × (is_diagram_raw l.atom ≡ true)
 MarkNamed (marks.Differs r) = RowNamed r × (may_differ r ≡ true)
 MarkNamed (marks.Row m r) = (is_good_multiplier m ≡ true) × RowNamed r
+MarkNamed (marks.FactAt k) = ltb k (2 ^ 32) ≡ true
 MarkNamed mark = Unit {0}
 
 -- ---- multipliers
@@ -100,11 +109,100 @@ word_apart : (m : ℤ) (c : ℕ) (cs : List ℕ) → is_good_multiplier m ≡ tr
 word_apart (pos n) c cs h k = number_apart (decimal n) c cs (is_numeral-decimal n (small n (sized (pos n) h).few)) k
 word_apart (negsuc n) c cs h k = let e : eqb 45 c ≡ false = ne_eqb 45 c (λ e. absurd (omega (arith, e, k))) in rw e refl
 
+-- ---- places
+
+place_again : (k : ℕ) → ltb k (2 ^ 32) ≡ true → place_of (decimal k) ≡ Ok k
+place_again k h = let few = ltb-true k (2 ^ 32) h in rw (number_of-decimal k (omega (arith, few)), h) refl
+
+place_token : (k : ℕ) → ltb k (2 ^ 32) ≡ true → is_token (decimal k) ≡ true
+place_token k h = let few = ltb-true k (2 ^ 32) h in is_token-numeral (decimal k) (is_numeral-decimal k (omega (arith, few)))
+
+-- ---- a literal has more than one word
+
+-- there is a word
+record Some (ws : List (List ℕ)) : Type 0 where
+  first : List ℕ
+  rest : List (List ℕ)
+  are : ws ≡ first ∷ rest
+
+some_left : (xs ys : List (List ℕ)) → Some xs → Some (xs ++ ys)
+some_left xs ys s = record { first = s.first; rest = s.rest ++ ys; are = ap (λ (ws : List (List ℕ)). ws ++ ys) s.are }
+
+some_right : (xs ys : List (List ℕ)) → Some ys → Some (xs ++ ys)
+some_right [] ys s = s
+some_right (x ∷ xs) ys s = record { first = x; rest = xs ++ ys; are = refl }
+
+term_some : (t : RawTerm) → Some (term_words t)
+term_some (rawterms.Seg x y) = record { first = _; rest = _; are = refl }
+term_some (rawterms.Ang x y z) = record { first = _; rest = _; are = refl }
+term_some (rawterms.Area x y z) = record { first = _; rest = _; are = refl }
+term_some rawterms.Right = record { first = _; rest = _; are = refl }
+
+sum_some : (ms : List RawMono) → Some (sum_words ms)
+sum_some [] = record { first = _; rest = _; are = refl }
+sum_some (m ∷ ms) = some_left (mono_words m) (more_monos ms) (some_right (coefficient_words m.coeff) (term_words m.term) (term_some m.term))
+
+-- there are two
+record TwoWords (ws : List (List ℕ)) : Type 0 where
+  first : List ℕ
+  second : List ℕ
+  rest : List (List ℕ)
+  are : ws ≡ first ∷ second ∷ rest
+
+then_two : (rest : List (List ℕ)) (x sign : List ℕ) (ys : List (List ℕ)) → TwoWords (x ∷ (rest ++ sign ∷ ys))
+then_two [] x sign ys = record { first = x; second = sign; rest = ys; are = refl }
+then_two (y ∷ rest) x sign ys = record { first = x; second = y; rest = rest ++ sign ∷ ys; are = refl }
+
+sums_two : (x : List RawMono) (sign : List ℕ) (y : List RawMono) → TwoWords (sums_words x sign y)
+sums_two x sign y =
+    let s = sum_some x in
+    subst (λ (ws : List (List ℕ)). TwoWords (ws ++ sign ∷ sum_words y)) (sym s.are) (then_two s.rest s.first sign (sum_words y))
+
+atom_two : (neg : Bool) (a : RawAtom) → TwoWords (signed_words neg a)
+atom_two true (raw.SumsEqual x y) = sums_two x (codes "!=") y
+atom_two false (raw.SumsEqual x y) = sums_two x (codes "=") y
+atom_two false (raw.SumsLess x y) = sums_two x (codes "<") y
+atom_two false (raw.SumsAtMost x y) = sums_two x (codes "<=") y
+atom_two true (raw.SumsLess x y) =
+    let t = sums_two x (codes "<") y in record { first = codes "not"; second = t.first; rest = t.second ∷ t.rest; are = ap (λ (ws : List (List ℕ)). codes "not" ∷ ws) t.are }
+atom_two true (raw.SumsAtMost x y) =
+    let t = sums_two x (codes "<=") y in record { first = codes "not"; second = t.first; rest = t.second ∷ t.rest; are = ap (λ (ws : List (List ℕ)). codes "not" ∷ ws) t.are }
+atom_two true (raw.On x y) = record { first = _; second = _; rest = _; are = refl }
+atom_two false (raw.On x y) = record { first = _; second = _; rest = _; are = refl }
+atom_two true (raw.Inside x y) = record { first = _; second = _; rest = _; are = refl }
+atom_two false (raw.Inside x y) = record { first = _; second = _; rest = _; are = refl }
+atom_two true (raw.Center x y) = record { first = _; second = _; rest = _; are = refl }
+atom_two false (raw.Center x y) = record { first = _; second = _; rest = _; are = refl }
+atom_two true (raw.Between x y z) = record { first = _; second = _; rest = _; are = refl }
+atom_two false (raw.Between x y z) = record { first = _; second = _; rest = _; are = refl }
+atom_two true (raw.Same x y z) = record { first = _; second = _; rest = _; are = refl }
+atom_two false (raw.Same x y z) = record { first = _; second = _; rest = _; are = refl }
+atom_two true (raw.Meets x y) = record { first = _; second = _; rest = _; are = refl }
+atom_two false (raw.Meets x y) = record { first = _; second = _; rest = _; are = refl }
+atom_two true (raw.Equal x y) = record { first = _; second = _; rest = _; are = refl }
+atom_two false (raw.Equal x y) = record { first = _; second = _; rest = _; are = refl }
+
+-- so the row of a fact with a literal is no row with a place
+two_at : (a b : List ℕ) (rest : List (List ℕ)) → fact_row_of (a ∷ b ∷ rest) ≡ (lit_of (a ∷ b ∷ rest) >>= λ l. Ok (rows.Fact l))
+unfolding fact_row_of
+two_at a b rest = let some : eqb (length (b ∷ rest)) 0 ≡ false = ne_eqb _ _ (λ e. absurd (omega (arith, e))) in rw some refl
+
+two_read : (ws : List (List ℕ)) → TwoWords ws → fact_row_of ws ≡ (lit_of ws >>= λ l. Ok (rows.Fact l))
+two_read ws t = subst (λ (x : List (List ℕ)). fact_row_of x ≡ (lit_of x >>= λ l. Ok (rows.Fact l))) (sym t.are) (two_at t.first t.second t.rest)
+
+fact_again : (l : RawLit) → LitNamed l → fact_row_of (lit_words l) ≡ Ok (rows.Fact l)
+fact_again l h = two_read (lit_words l) (atom_two l.neg l.atom) ∙ rw (lit_again l h) refl
+
 -- ---- the words of a mark
+
+place_row_again : (k : ℕ) → ltb k (2 ^ 32) ≡ true → fact_row_of (decimal k ∷ []) ≡ Ok (rows.FactAt k)
+unfolding fact_row_of
+place_row_again k h = rw (place_again k h) refl
 
 row_again : (r : RawRow) → RowNamed r → row_of (row_words r) ≡ Ok r
 unfolding row_of row_named end_at
-row_again (rows.Fact l) h = rw (lit_again l h.0) refl
+row_again (rows.Fact l) h = fact_again l h.0
+row_again (rows.FactAt k) h = place_row_again k h
 row_again rows.Goal h = refl
 row_again (rows.Pos t) h = rw (term_again t h) refl
 row_again (rows.Top t) h = rw (term_again t h) refl
@@ -113,9 +211,10 @@ row_again (rows.Least t) h = rw (term_again t h) refl
 row_again rows.Above h = refl
 row_again rows.Below h = refl
 
-mark_again : (m : Mark) → MarkNamed m → mark_of (mark_words m) ≡ Ok m
-unfolding mark_of mark_named transfer_of differs_of row_mark_of title_at word_at end_at
+pub mark_again : (m : Mark) → MarkNamed m → mark_of (mark_words m) ≡ Ok m
+unfolding mark_of mark_named fact_mark_of transfer_of differs_of row_mark_of title_at word_at end_at
 mark_again marks.Fact h = refl
+mark_again (marks.FactAt k) h = rw (place_again k h) refl
 mark_again marks.Metric h = refl
 mark_again (marks.Transfer rule ns) h = rw (titled rule h.0, names_again ns h.1) refl
 mark_again (marks.Clash l) h = rw (diagram_again l h.0 h.1) refl
@@ -142,6 +241,7 @@ row_tokens rows.Right h = (refl, tt)
 row_tokens (rows.Least t) h = (refl, term_tokens t h)
 row_tokens rows.Above h = (refl, tt)
 row_tokens rows.Below h = (refl, tt)
+row_tokens (rows.FactAt k) h = (refl, (place_token k h, tt))
 
 abbrev unbroken : List ℕ → Bool
 unbroken w = list_all (λ b. not (is_blank b)) w
@@ -157,6 +257,7 @@ multiplier_token (negsuc n) h =
 mark_tokens : (m : Mark) → MarkNamed m → AreTokens (mark_words m)
 mark_tokens marks.Fact h = (refl, tt)
 mark_tokens marks.Metric h = (refl, tt)
+mark_tokens (marks.FactAt k) h = (refl, (place_token k h, tt))
 mark_tokens (marks.Transfer rule ns) h = (refl, (is_token-title rule h.0, names_tokens ns h.1))
 mark_tokens (marks.Clash l) h = (refl, lit_tokens l h.0)
 mark_tokens marks.Sum h = (refl, tt)
@@ -178,10 +279,12 @@ strict_row rows.Right h = refl
 strict_row (rows.Least t) h = refl
 strict_row rows.Above h = refl
 strict_row rows.Below h = refl
+strict_row (rows.FactAt k) h = refl
 
 strict : (m : Mark) → MarkNamed m → is_strict_mark m ≡ true
 strict marks.Fact h = refl
 strict marks.Metric h = refl
+strict (marks.FactAt k) h = refl
 strict (marks.Transfer rule ns) h = refl
 strict (marks.Clash l) h = refl
 strict marks.Sum h = refl

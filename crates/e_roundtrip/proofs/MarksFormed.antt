@@ -45,7 +45,7 @@ use Rattle.e_read.specs.declared.owed.Due.TheVariants as due
 use Rattle.e_read.specs.declared.owed.Owed.{Owed}
 use Rattle.e_read.specs.declared.kept.Kept.{Kept}
 use Rattle.e_read.specs.declared.kept.Kept.TheVariants as kept
-use Rattle.e_read.specs.Marks.{sized, size_of, multiplier_of, row_of, may_differ, bare, differs_of, transfer_of, row_mark_of, mark_named, mark_of, mark_line}
+use Rattle.e_read.specs.Marks.{sized, size_of, multiplier_of, row_of, may_differ, bare, differs_of, transfer_of, row_mark_of, mark_named, mark_of, mark_line, place_of as place_in, fact_mark_of}
 use Rattle.e_read.specs.Strict.{is_strict_mark, strict_mark}
 use Rattle.e_read.specs.Owed.{has_more, certificate, row_in, row_put, sum_begun, differs_put, sums_ended, transfer_put, part_put, metric_put, takes_metric, clash_put, transfer_rule, count_others, transfer_at, transfer_in, transfer_begun, ended, sums_behind, due_behind, marked, kept_of, settled}
 use Rattle.e_read.proofs.GoodMarks.{MarkSaid, strict_said}
@@ -121,6 +121,14 @@ row_numbers w ws m e =
     let r = bind_ok (row_of ws) (λ r. read_ok (marks.Row n.0 r)) m n.2 in
     subst Numbers (ok_is (marks.Row n.0 r.0) m r.2) (multiplier_good w n.0 n.1)
 
+fact_numbers : (ws : List (List ℕ)) (m : Mark) → fact_mark_of ws ≡ Ok m → Numbers m
+unfolding fact_mark_of
+fact_numbers [] m e = subst Numbers (ok_is marks.Fact m e) tt
+fact_numbers (w ∷ ws) m e =
+    let n = bind_ok (end_at ws) (λ none. place_in w >>= λ k. read_ok (marks.FactAt k)) m e in
+    let k = bind_ok (place_in w) (λ k. read_ok (marks.FactAt k)) m n.2 in
+    subst Numbers (ok_is (marks.FactAt k.0) m k.2) tt
+
 transfer_numbers : (ws : List (List ℕ)) (m : Mark) → transfer_of ws ≡ Ok m → Numbers m
 unfolding transfer_of
 transfer_numbers ws m e =
@@ -141,7 +149,7 @@ named_numbers w ws m e =
     let m3 : Result Mark Kind = cond (bytes_eq w (codes "clash")) (diagram_lit_of ws >>= λ l. read_ok (marks.Clash l)) m4 in
     let m2 : Result Mark Kind = cond (bytes_eq w (codes "transfer")) (transfer_of ws) m3 in
     let m1 : Result Mark Kind = cond (bytes_eq w (codes "metric")) (bare ws marks.Metric) m2 in
-    either Numbers (bytes_eq w (codes "fact")) (bare ws marks.Fact) m1 m e (bare_numbers ws marks.Fact m tt) (λ e1.
+    either Numbers (bytes_eq w (codes "fact")) (fact_mark_of ws) m1 m e (fact_numbers ws m) (λ e1.
     either Numbers (bytes_eq w (codes "metric")) (bare ws marks.Metric) m2 m e1 (bare_numbers ws marks.Metric m tt) (λ e2.
     either Numbers (bytes_eq w (codes "transfer")) (transfer_of ws) m3 m e2 (transfer_numbers ws m) (λ e3.
     either Numbers (bytes_eq w (codes "clash")) (diagram_lit_of ws >>= λ l. read_ok (marks.Clash l)) m4 m e3 (clash_numbers ws m) (λ e4.
@@ -234,6 +242,11 @@ marked_formed o marks.Fact new h said signed numbers same =
     let g = ended_formed o o.sums e.0 h h.rows_of_sums e.1 in
     let d = bind_ok (part_put e.0.due parts.Fact) (λ d. read_ok (due_behind e.0 d)) new e.2 in
     to_owed (due_behind e.0 d.0) new (record { certs = part_put_formed (scope_of_names e.0.names) e.0.due parts.Fact d.0 g.certs refl d.1; rows_of_sums = g.rows_of_sums }) d.2
+marked_formed o (marks.FactAt k) new h said signed numbers same =
+    let e = bind_ok (ended o o.sums) (λ e. part_put e.due (parts.FactAt k) >>= λ d. read_ok (due_behind e d)) new same in
+    let g = ended_formed o o.sums e.0 h h.rows_of_sums e.1 in
+    let d = bind_ok (part_put e.0.due (parts.FactAt k)) (λ d. read_ok (due_behind e.0 d)) new e.2 in
+    to_owed (due_behind e.0 d.0) new (record { certs = part_put_formed (scope_of_names e.0.names) e.0.due (parts.FactAt k) d.0 g.certs said d.1; rows_of_sums = g.rows_of_sums }) d.2
 marked_formed o marks.Metric new h said signed numbers same =
     let e = bind_ok (ended o o.sums) (λ e. cond (takes_metric e.due) (read_ok (sums_behind e sums.Begun)) (Err Malformed)) new same in
     let g = ended_formed o o.sums e.0 h h.rows_of_sums e.1 in

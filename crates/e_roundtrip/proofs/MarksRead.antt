@@ -46,12 +46,14 @@ CanonicalMark mark = OfMark Canonical Canonical mark
 
 row_canonical : (r : RawRow) → is_strict_row r ≡ true → RowSigned r → CanonicalRow r
 row_canonical (rows.Fact l) d s = canonical l d s
+row_canonical (rows.FactAt k) d s = s
 row_canonical r d s = tt
 
 mark_canonical : (m : Mark) → is_strict_mark m ≡ true → MarkSigned m → CanonicalMark m
 mark_canonical (marks.Differs r) d s = row_canonical r d s
 mark_canonical (marks.Row m r) d s = row_canonical r d s
 mark_canonical (marks.Clash l) d s = diagram_canonical l s
+mark_canonical (marks.FactAt k) d s = s
 mark_canonical m d s = tt
 
 -- a line of a certificate is that of its mark

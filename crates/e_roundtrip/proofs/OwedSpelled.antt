@@ -137,6 +137,7 @@ row_spelled ns (rows.Least t) r c e =
     ap (row_words ns) (sym (ok_is (names.Least a.0) r a.2)) ∙ ap (λ (x : RawTerm). codes "least" ∷ term_words x) (term_named ns ns t a.0 (keeps_all ns) a.1)
 row_spelled ns rows.Above r c e = ap (row_words ns) (sym (ok_is names.Above r e))
 row_spelled ns rows.Below r c e = ap (row_words ns) (sym (ok_is names.Below r e))
+row_spelled ns (rows.FactAt k) r c e = ap (row_words ns) (sym (ok_is (names.FactAt k) r e))
 
 -- ---- sums
 
@@ -353,6 +354,11 @@ marked_spelled o new marks.Fact f c h =
     let d = bind_ok (part_put e.0.due parts.Fact) (λ d. read_ok (due_behind e.0 d)) new e.2 in
     let end = ended_spelled o.names o.due o.sums e.0 f e.1 in
     subst (λ (x : Owed). Marked o x marks.Fact) (ok_is (due_behind e.0 d.0) new d.2) (due_marked o e.0 d.0 marks.Fact end (part_put_spelled e.0.names e.0.due d.0 parts.Fact end.fits d.1))
+marked_spelled o new (marks.FactAt k) f c h =
+    let e = bind_ok (ended o o.sums) (λ e. part_put e.due (parts.FactAt k) >>= λ d. read_ok (due_behind e d)) new h in
+    let d = bind_ok (part_put e.0.due (parts.FactAt k)) (λ d. read_ok (due_behind e.0 d)) new e.2 in
+    let end = ended_spelled o.names o.due o.sums e.0 f e.1 in
+    subst (λ (x : Owed). Marked o x (marks.FactAt k)) (ok_is (due_behind e.0 d.0) new d.2) (due_marked o e.0 d.0 (marks.FactAt k) end (part_put_spelled e.0.names e.0.due d.0 (parts.FactAt k) end.fits d.1))
 marked_spelled o new marks.Metric f c h =
     let e = bind_ok (ended o o.sums) (λ e. cond (takes_metric e.due) (read_ok (sums_behind e sums.Begun)) (Err Malformed)) new h in
     let t = passed (takes_metric e.0.due) (read_ok (sums_behind e.0 sums.Begun)) new e.2 in

@@ -42,7 +42,9 @@ use Rattle.e_read.specs.Strict.{is_strict, is_apart}
 use Rattle.e_read.specs.Needs.{due_of}
 use Rattle.e_read.specs.Filled.{filled}
 use Rattle.e_read.specs.Text.{spelled, Derived, Last, owes_nothing, at_start, owed_by, gone_on, worded, is_lf_end, taken, derived, garbled_at, is_finished, finished, or_on, is_end, piece_from}
+use Rattle.e_clause.specs.declared.cert.Version.{Version}
 use Rattle.e_read.proofs.Consequences.{text_spelled}
+use Rattle.e_read.proofs.GoodReadings.{version_read}
 use Rattle.e_read.proofs.TakenLines.{Certified, Stepped, line_taken, form_read, either}
 use Rattle.e_read.proofs.Bridge.{Answer, derives, no_last, garbled_ok, derived_is, goes_on, unfinished, still, closed_is}
 use Rattle.e_spell.specs.Spelling.{script_lines, spelled_lines}
@@ -293,20 +295,21 @@ whole known last r (Ok l ∷ lines) rest t done s unended e =
           ])
     ]
 
-pub read_is_spelled_so : (known : List Headed) (last : ℕ) (t : Entry) (lines rest : List (Result Seen LineFault)) → piece_from known last at_start lines ≡ derives t rest → ShowsEnded lines (spelled_lines known t t.script) rest
-read_is_spelled_so known last t lines rest e =
-    let r = whole known last at_start lines rest t [] (start_said known) refl e in
+pub read_is_spelled_so : (v : Version) (known : List Headed) (last : ℕ) (t : Entry) (lines rest : List (Result Seen LineFault)) → piece_from known last (at_start v) lines ≡ derives t rest → ShowsEnded lines (spelled_lines known t t.script) rest
+read_is_spelled_so v known last t lines rest e =
+    let r = whole known last (at_start v) lines rest t [] (start_said known) refl e in
     subst (λ (texts : List (List ℕ)). ShowsEnded lines texts rest) r.all r.shows
 
 -- what is read can be spelled, by its form
-pub read_is_formed_so : (known : List Headed) (last : ℕ) (t : Entry) (lines rest : List (Result Seen LineFault)) → piece_from known last at_start lines ≡ derives t rest → CanBeSpelled known t t.script
-read_is_formed_so known last t lines rest e =
-    let r = whole known last at_start lines rest t [] (start_said known) refl e in
-    let plain = text_spelled known last lines rest t e in
+pub read_is_formed_so : (v : Version) (known : List Headed) (last : ℕ) (t : Entry) (lines rest : List (Result Seen LineFault)) → piece_from known last (at_start v) lines ≡ derives t rest → CanBeSpelled v known t t.script
+read_is_formed_so v known last t lines rest e =
+    let r = whole known last (at_start v) lines rest t [] (start_said known) refl e in
+    let plain = text_spelled v known last lines rest t e in
     let st = stated t.statement in
     let before = stated_by known in
     let facts = facts_of_statement st in
     record {
       plain = plain;
       formed = subst (λ (s : Scope). list_all (is_formed before) (lines_from before t.script t.script s facts (goal_of_statement st)) ≡ true) (declared_scope st t.names plain.fits.scope) (r.formed facts);
+      version = version_read v known last lines rest t e;
     }

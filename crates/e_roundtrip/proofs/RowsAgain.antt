@@ -36,6 +36,7 @@ raw_row ns names.Right = rows.Right
 raw_row ns (names.Least t) = rows.Least (raw_term ns t)
 raw_row ns names.Above = rows.Above
 raw_row ns names.Below = rows.Below
+raw_row ns (names.FactAt k) = rows.FactAt k
 
 -- its spelling
 pub row_spelled : (ns : Names) (r : RowName) → spelled_row ns r ≡ row_words (raw_row ns r)
@@ -47,6 +48,7 @@ row_spelled ns names.Right = refl
 row_spelled ns (names.Least t) = refl
 row_spelled ns names.Above = refl
 row_spelled ns names.Below = refl
+row_spelled ns (names.FactAt k) = refl
 
 -- ---- terms
 
@@ -101,10 +103,12 @@ row_in_again ns names.Right o g = refl
 row_in_again ns (names.Least t) o g = rw (term_read ns t o g.within).read refl
 row_in_again ns names.Above o g = refl
 row_in_again ns names.Below o g = refl
+row_in_again ns (names.FactAt k) o g = refl
 
 pub row_named_again : (ns : Names) (r : RowName) → InOrder ns → GoodName ns r → RowNamed (raw_row ns r)
 row_named_again ns (names.Fact l) o g = (lit_named ns l o g.within g.good, lit_direct ns l)
 row_named_again ns names.Goal o g = tt
+row_named_again ns (names.FactAt k) o g = g.good
 row_named_again ns (names.Pos t) o g = (term_read ns t o g.within).named
 row_named_again ns (names.Top t) o g = (term_read ns t o g.within).named
 row_named_again ns names.Right o g = tt

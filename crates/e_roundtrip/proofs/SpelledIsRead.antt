@@ -1,5 +1,5 @@
 -- The lines of a derivation's one spelling are read as the theorem with that derivation.
-use Rattle.std.proofs.Common.{◌≡◌, ℕ, true, false, List, [], ◌∷◌, ◌++◌, length, map, Option, Some, None, Result, Ok, Err, refl, sym, ap, subst, ◌∙◌, arith, append_assoc}
+use Rattle.std.proofs.Common.{◌≡◌, ℕ, true, false, ◌&&◌, List, [], ◌∷◌, ◌++◌, length, map, Option, Some, None, Result, Ok, Err, refl, sym, ap, subst, ◌∙◌, arith, append_assoc}
 use Rattle.std.specs.List.{list_all}
 use Rattle.std.proofs.lemmas.List.{append-nil}
 use Rattle.e_text.specs.Tokens.{tokens_of}
@@ -47,7 +47,17 @@ use Rattle.e_spell.specs.Spelling.{script_lines}
 use Rattle.e_roundtrip.specs.Formed.{is_formed}
 use Rattle.e_roundtrip.specs.Spelled.{ShowsEnded, CanBeSpelled}
 use Rattle.e_roundtrip.specs.Laws.{SpelledIsRead}
-use Rattle.e_roundtrip.proofs.FilledBack.{kepts, filled_back}
+use Rattle.e_roundtrip.proofs.FilledBack.{kepts, filled_back, kept_against}
+use Rattle.std.specs.Option.{option_map_or, option_to_list}
+use Rattle.std.proofs.lemmas.Bool.{and_parts, and_from}
+use Rattle.e_literal.proofs.Booleans.{all_both}
+use Rattle.e_clause.specs.declared.cert.Version.{Version}
+use Rattle.e_clause.specs.declared.cert.Cert.{Cert}
+use Rattle.e_clause.specs.declared.cert.Against.{Against}
+use Rattle.e_clause.specs.Versions.{is_cert_of, is_against_of}
+use Rattle.e_deriv.specs.Versions.{has_certs_of}
+use Rattle.e_deriv.specs.Script.{Cite, Hence, Make, Apply, Claim, Superposed, Qed, Contradiction, Cases}
+use Rattle.e_read.proofs.GoodCerts.{is_good_kept, AreGood}
 use Rattle.e_roundtrip.proofs.LinesTaken.{strict_form_again, no_bar, AllTaken, Stands, Along, along_append, form_leads}
 use Rattle.e_roundtrip.proofs.Standing.{Stood}
 use Rattle.e_roundtrip.proofs.ScriptAlong.{script_spelled}
@@ -59,8 +69,8 @@ use Rattle.e_roundtrip.proofs.HeadAlong.{draft_is, head_along, statement_heads}
 abbrev plain_entry : Entry → Script → Entry
 plain_entry t d = record t { script = erased d }
 
-pub stood : (known : List Headed) (t : Entry) (d : Script) → CanBeSpelled known t d → InOrder t.names → Stood known (started t) (begins t) d (facts_of_statement (stated t.statement)) (goal_of_statement (stated t.statement))
-stood known t d c o =
+pub stood : (v : Version) (known : List Headed) (t : Entry) (d : Script) → CanBeSpelled v known t d → InOrder t.names → Stood known (started t) (begins t) d (facts_of_statement (stated t.statement)) (goal_of_statement (stated t.statement))
+stood v known t d c o =
     let h = c.plain in
     let s : Scope = scope_of (stated t.statement) in
     let before = stated_by known in
@@ -103,9 +113,9 @@ record Middle (known : List Headed) (t : Entry) (d : Script) : Type 0 where
   last : Inside
   along : Along known (begun t.title) (middle known t d) (shut_draft t d last) (kepts d)
 
-middle_along : (known : List Headed) (t : Entry) (d : Script) → CanBeSpelled known t d → InOrder t.names → Middle known t d
-middle_along known t d c o =
-    let proof = script_spelled known (started t) (begins t) d (facts_of_statement (stated t.statement)) (goal_of_statement (stated t.statement)) (stood known t d c o) in
+middle_along : (v : Version) (known : List Headed) (t : Entry) (d : Script) → CanBeSpelled v known t d → InOrder t.names → Middle known t d
+middle_along v known t d c o =
+    let proof = script_spelled known (started t) (begins t) d (facts_of_statement (stated t.statement)) (goal_of_statement (stated t.statement)) (stood v known t d c o) in
     let p = proving (started t) (begins t) in
     let e = shut_draft t d proof.last in
     let statement = head_along known (begun t.title) p (stating_forms t) (run_statement known (plain_entry t d) c.plain o) (statement_heads t.names t.statement) in
@@ -113,6 +123,33 @@ middle_along known t d c o =
       last = proof.last;
       along = along_append known (begun t.title) p e (map line_of (stating_forms t)) (script_lines known (names_of_proof t) d) [] (kepts d) statement (proof.along e (closed_last t d proof.last) refl);
     }
+
+-- ---- what is kept is of the version
+
+kept_if_any : (v : Version) (c : Option Cert) → option_map_or (is_cert_of v) c true ≡ true → list_all (is_cert_of v) (option_to_list c) ≡ true
+kept_if_any v None h = refl
+kept_if_any v (Some c) h = and_from (is_cert_of v c) true h refl
+
+kept_against_of : (v : Version) (a : Option Against) → option_map_or (is_against_of v) a true ≡ true → is_good_kept v (kept_against a) ≡ true
+kept_against_of v None h = refl
+kept_against_of v (Some a) h = h
+
+kepts_of : (v : Version) (d : Script) → has_certs_of v d ≡ true → AreGood v (kepts d)
+unfolding has_certs_of kepts
+kepts_of v (Cite by rest) h = kepts_of v rest h
+kepts_of v (Hence lit cert rest) h = let p = and_parts (option_map_or (is_cert_of v) cert true) (has_certs_of v rest) h in and_from _ _ (kept_if_any v cert p.0) (kepts_of v rest p.1)
+kepts_of v (Make form names certs rest) h = let p = and_parts (list_all (is_cert_of v) certs) (has_certs_of v rest) h in and_from _ _ p.0 (kepts_of v rest p.1)
+kepts_of v (Apply theorem args names certs rest) h = let p = and_parts (list_all (is_cert_of v) certs) (has_certs_of v rest) h in and_from _ _ p.0 (kepts_of v rest p.1)
+kepts_of v (Claim shown inner rest) h =
+    let p = and_parts (has_certs_of v inner) (has_certs_of v rest) h in all_both (is_good_kept v) (kepts inner) (kepts rest) (kepts_of v inner p.0) (kepts_of v rest p.1)
+kepts_of v (Superposed form names shown certs inner rest) h =
+    let p = and_parts (list_all (is_cert_of v) certs) (has_certs_of v inner && has_certs_of v rest) h in
+    let q = and_parts (has_certs_of v inner) (has_certs_of v rest) p.1 in
+    and_from _ _ p.0 (all_both (is_good_kept v) (kepts inner) (kepts rest) (kepts_of v inner q.0) (kepts_of v rest q.1))
+kepts_of v (Qed objects certs) h = and_from _ _ h refl
+kepts_of v (Contradiction against) h = and_from _ _ (kept_against_of v against h) refl
+kepts_of v (Cases lit first second) h =
+    let p = and_parts (has_certs_of v first) (has_certs_of v second) h in all_both (is_good_kept v) (kepts first) (kepts second) (kepts_of v first p.0) (kepts_of v second p.1)
 
 -- ---- lines that are read
 
@@ -151,20 +188,20 @@ all_read known number r next (text ∷ texts) more (Ok l ∷ all) rest a sh =
 
 -- ---- the first line
 
-abbrev titled : Entry → Reading
-titled t = record { draft = Some (begun t.title); owed = owes_nothing; kept = [] }
+abbrev titled : Version → Entry → Reading
+titled v t = record { version = v; draft = Some (begun t.title); owed = owes_nothing; kept = [] }
 
-title_stands : (t : Entry) → Stands (titled t) (begun t.title) []
+title_stands : (v : Version) (t : Entry) → Stands (titled v t) (begun t.title) []
 unfolding settled
-title_stands t = record { draft = refl; read = None; settles = refl; kept = refl }
+title_stands v t = record { draft = refl; read = None; settles = refl; kept = refl }
 
-title_leads : (known : List Headed) (t : Entry) (d : Script) → HasSpelling known (plain_entry t d) → worded known at_start (line_of (forms.Theorem t.title)) (tokens_of (line_of (forms.Theorem t.title))) ≡ Ok (titled t)
+title_leads : (v : Version) (known : List Headed) (t : Entry) (d : Script) → HasSpelling known (plain_entry t d) → worded known (at_start v) (line_of (forms.Theorem t.title)) (tokens_of (line_of (forms.Theorem t.title))) ≡ Ok (titled v t)
 unfolding settled with_form line_stepped
-title_leads known t d h =
+title_leads v known t d h =
     let f = forms.Theorem t.title in
     let r = run_title known t.title h.title h.fits.new h.few_theorems in
     let begins : begin known f ≡ Ok (begun t.title) = r.2 ∙ ap (λ (x : Draft). Ok x) (draft_is r.0 (begun t.title) r.4) in
-    ap (worded known at_start (line_of f)) (words_again f h.title) ∙ no_bar known at_start (line_of f) f ∙ rw (strict_form_again f h.title refl, begins) refl
+    ap (worded known (at_start v) (line_of f)) (words_again f h.title) ∙ no_bar known (at_start v) (line_of f) f ∙ rw (strict_form_again f h.title refl, begins) refl
 
 -- a first line of a theorem is no last line of a text
 not_last : (known : List Headed) (l : Seen) (title : List ℕ) → l.bytes ≡ line_of (forms.Theorem title) → is_end known None l ≡ false
@@ -209,23 +246,23 @@ end_read known number t d last r (Ok l ∷ all) rest h s sh =
 
 -- ---- the law
 
-whole_read : (known : List Headed) (number : ℕ) (t : Entry) (d : Script) (all rest : List (Result Seen LineFault)) → CanBeSpelled known t d → ShowsEnded all (line_of (forms.Theorem t.title) ∷ (middle known t d ++ line_of forms.End ∷ [])) rest
-    → piece_from known number at_start all ≡ Ok (Derived (record t { script = d }), rest)
+whole_read : (v : Version) (known : List Headed) (number : ℕ) (t : Entry) (d : Script) (all rest : List (Result Seen LineFault)) → CanBeSpelled v known t d → ShowsEnded all (line_of (forms.Theorem t.title) ∷ (middle known t d ++ line_of forms.End ∷ [])) rest
+    → piece_from known number (at_start v) all ≡ Ok (Derived (record t { script = d }), rest)
 unfolding piece_from
-whole_read known number t d [] rest c sh = absurd sh
-whole_read known number t d (Err f ∷ all) rest c sh = absurd sh
-whole_read known number t d (Ok l ∷ all) rest c sh =
+whole_read v known number t d [] rest c sh = absurd sh
+whole_read v known number t d (Err f ∷ all) rest c sh = absurd sh
+whole_read v known number t d (Ok l ∷ all) rest c sh =
     let h = c.plain in
     let o = in_order t.names h.point_names h.line_names h.circle_names h.fits.differ in
-    let m = middle_along known t d c o in
-    let reached = m.along (titled t) [] (title_stands t) in
-    let left = all_read known number (titled t) reached.last (middle known t d) (line_of forms.End ∷ []) all rest reached.taken sh.2 in
-    one_read known number at_start (titled t) l all (line_of (forms.Theorem t.title)) (not_last known l t.title sh.0) sh.0 sh.1 (title_leads known t d h) refl
+    let m = middle_along v known t d c o in
+    let reached = m.along (titled v t) [] (kepts_of v d c.version) (title_stands v t) in
+    let left = all_read known number (titled v t) reached.last (middle known t d) (line_of forms.End ∷ []) all rest reached.taken sh.2 in
+    one_read known number (at_start v) (titled v t) l all (line_of (forms.Theorem t.title)) (not_last known l t.title sh.0) sh.0 sh.1 (title_leads v known t d h) refl
     ∙ left.same ∙ end_read known number t d m.last reached.last left.ahead rest h reached.stands left.shown
 
 pub spelled_is_read : SpelledIsRead
-spelled_is_read known last t d lines rest c sh =
+spelled_is_read v known last t d lines rest c sh =
     let a = map line_of (stating_forms t) in
     let b = script_lines known (names_of_proof t) d in
     let end = line_of end_form ∷ [] in
-    whole_read known last t d lines rest c (subst (λ (x : List (List ℕ)). ShowsEnded lines (line_of (forms.Theorem t.title) ∷ x) rest) (sym (append_assoc a b end)) sh)
+    whole_read v known last t d lines rest c (subst (λ (x : List (List ℕ)). ShowsEnded lines (line_of (forms.Theorem t.title) ∷ x) rest) (sym (append_assoc a b end)) sh)

@@ -1,6 +1,9 @@
 -- What is written of derivations is judged as their verdicts say, and verified where all are certified.
 use Rattle.std.proofs.Common.{◌≡◌, ℕ, ◌+◌, ◌≤◌, List, [], ◌∷◌, ◌++◌, length, refl, sym, ap, subst, ◌∙◌, arith, append_assoc, length-append}
-use Rattle.std.specs.Prelude.{codes, decimal}
+use Rattle.std.specs.Prelude.{codes, decimal, Option, Some}
+use Rattle.e_text.specs.declared.line.LineEnd.TheVariants.{Lf}
+use Rattle.e_clause.specs.declared.cert.Version.{Version}
+use Rattle.e_clause.specs.declared.cert.Version.TheVariants.{One, Two}
 use Rattle.std.proofs.lemmas.List.{append-nil}
 use Rattle.e_text.specs.Lines.{Bounds, Spot, AreShort, lf_text, numbered}
 use Rattle.e_text.proofs.WrittenLines.{lines_of-lf_text}
@@ -12,8 +15,8 @@ use Rattle.e_book.specs.Canonical.{text_of}
 use Rattle.e_read.specs.Text.{last_line_of}
 use Rattle.e_spell.specs.Spelling.{spelled_lines}
 use Rattle.e_judgement.specs.declared.judgement.Judgement.TheVariants.{Verified}
-use Rattle.e_judgement.specs.Judged.{with_theorem, JudgesLines, JudgesText}
-use Rattle.e_roundtrip.specs.Written.{AllCanBeSpelled, judgement_of, blocks_of, written, accepted_line}
+use Rattle.e_judgement.specs.Judged.{with_theorem, head_of, version_of, JudgedBehindHead, JudgesLines, JudgesText}
+use Rattle.e_roundtrip.specs.Written.{AllCanBeSpelled, judgement_of, blocks_of, head_line, written, accepted_line}
 use Rattle.e_roundtrip.specs.Laws.{WrittenIsJudged, WrittenIsVerified}
 use Rattle.e_roundtrip.proofs.Rooms.{IsShortLine, short_number, short_append, room_none, room_word, room_line}
 use Rattle.e_roundtrip.proofs.BlockRooms.{lines_of_blocks, short_blocks}
@@ -43,50 +46,61 @@ blocks_are_lines known (p ∷ ps) =
 pub last_is_line : (n : ℕ) → accepted_line n ≡ lf_text (last_line_of n ∷ [])
 last_is_line n = ap (λ (t : List ℕ). codes "accepted " ++ t) (ap (λ (t : List ℕ). t ++ 10 ∷ []) (sym (append-nil (decimal n))))
 
--- all lines of the text
-abbrev all_lines : List (Entry × Script) → List (List ℕ)
-all_lines ps = codes "derivation 1" ∷ (lines_of_blocks [] ps ++ last_line_of (length ps) ∷ [])
+-- the head line is short, and says its version
+short_head : (v : Version) → IsShortLine (head_of v)
+short_head One = (refl, omega arith)
+short_head Two = (refl, omega arith)
 
--- the text is these lines
-written_is : (ps : List (Entry × Script)) → written ps ≡ lf_text (all_lines ps)
-written_is ps =
-    ap (λ (t : List ℕ). codes "derivation 1\n" ++ t)
-    (ap (λ (t : List ℕ). t ++ accepted_line (length ps)) (blocks_are_lines [] ps) ∙ ap (λ (t : List ℕ). lf_text (lines_of_blocks [] ps) ++ t) (last_is_line (length ps))
-    ∙ sym (lf_text_append (lines_of_blocks [] ps) (last_line_of (length ps) ∷ [])))
+says : (v : Version) → version_of (record { number = 1; bytes = head_of v; end = Lf }) ≡ Some v
+says One = refl
+says Two = refl
 
--- ---- the whole
+module _ (v : Version) where
+  -- all lines of the text
+  abbrev all_lines : List (Entry × Script) → List (List ℕ)
+  all_lines ps = head_of v ∷ (lines_of_blocks [] ps ++ last_line_of (length ps) ∷ [])
 
--- the lines are judged so
-judged_lines : (ps : List (Entry × Script)) → AllCanBeSpelled [] ps → JudgesLines (numbered 1 (all_lines ps)) (judgement_of [] ps)
-judged_lines ps h = ((λ head. judged _ 2 ps h), (λ other. absurd cc))
+  -- the text is these lines
+  written_is : (ps : List (Entry × Script)) → written v ps ≡ lf_text (all_lines ps)
+  written_is ps =
+      ap (λ (t : List ℕ). head_line v ++ t)
+      (ap (λ (t : List ℕ). t ++ accepted_line (length ps)) (blocks_are_lines [] ps) ∙ ap (λ (t : List ℕ). lf_text (lines_of_blocks [] ps) ++ t) (last_is_line (length ps))
+      ∙ sym (lf_text_append (lines_of_blocks [] ps) (last_line_of (length ps) ∷ [])))
+      ∙ append_assoc (head_of v) (10 ∷ []) (lf_text (lines_of_blocks [] ps ++ last_line_of (length ps) ∷ []))
 
--- a text has few theorems
-few_theorems : (known : List Headed) (ps : List (Entry × Script)) → AllCanBeSpelled known ps → length known ≤ most_theorems → length known + length ps ≤ most_theorems
-few_theorems known [] h le = omega (arith, le)
-few_theorems known (p ∷ ps) h le =
-    let n = length-append known (headed p.0.title p.0.statement ∷ []) in
-    omega (arith, few_theorems (with_theorem known p.0) ps h.1 (omega (arith, n, h.0.plain.few_theorems)), n)
+  -- ---- the whole
 
--- the last line is short
-short_last : (n : ℕ) → n ≤ most_theorems → IsShortLine (last_line_of n)
-short_last n le = room_line 13 _ (omega arith) (room_word 8 4 (codes "accepted") _ refl (room_word 3 0 (decimal n) [] (short_number 3 n (omega arith) (omega (arith, le)) (omega (arith, le))) room_none))
+  -- the lines are judged so
+  judged_lines : (ps : List (Entry × Script)) → AllCanBeSpelled v [] ps → JudgesLines (numbered 1 (all_lines ps)) (judgement_of [] ps)
+  judged_lines ps h = subst (λ (o : Option Version). JudgedBehindHead o (numbered 2 (lines_of_blocks [] ps ++ last_line_of (length ps) ∷ [])) (judgement_of [] ps)) (sym (says v)) (judged v _ 2 ps h)
 
--- so is each line
-all_short : (ps : List (Entry × Script)) → AllCanBeSpelled [] ps → AreShort 262144 (all_lines ps)
-all_short ps h =
-    ((refl, omega arith), short_append (lines_of_blocks [] ps) (last_line_of (length ps) ∷ []) (short_blocks [] ps tt h) (short_last (length ps) (omega (arith, few_theorems [] ps h (omega arith))), tt))
+  -- a text has few theorems
+  few_theorems : (known : List Headed) (ps : List (Entry × Script)) → AllCanBeSpelled v known ps → length known ≤ most_theorems → length known + length ps ≤ most_theorems
+  few_theorems known [] h le = omega (arith, le)
+  few_theorems known (p ∷ ps) h le =
+      let n = length-append known (headed p.0.title p.0.statement ∷ []) in
+      omega (arith, few_theorems (with_theorem known p.0) ps h.1 (omega (arith, n, h.0.plain.few_theorems)), n)
+
+  -- the last line is short
+  short_last : (n : ℕ) → n ≤ most_theorems → IsShortLine (last_line_of n)
+  short_last n le = room_line 13 _ (omega arith) (room_word 8 4 (codes "accepted") _ refl (room_word 3 0 (decimal n) [] (short_number 3 n (omega arith) (omega (arith, le)) (omega (arith, le))) room_none))
+
+  -- so is each line
+  all_short : (ps : List (Entry × Script)) → AllCanBeSpelled v [] ps → AreShort 262144 (all_lines ps)
+  all_short ps h =
+      (short_head v, short_append (lines_of_blocks [] ps) (last_line_of (length ps) ∷ []) (short_blocks v [] ps tt h) (short_last (length ps) (omega (arith, few_theorems [] ps h (omega arith))), tt))
 
 -- what is written is read as its lines, and these are judged so
 pub written_is_judged : WrittenIsJudged
-written_is_judged ps h =
-    let w : Bounds = record { longest = 262144; most = length (lf_text (all_lines ps)) } in
+written_is_judged v ps h =
+    let w : Bounds = record { longest = 262144; most = length (lf_text (all_lines v ps)) } in
     let at : Spot = record { line = 1; before = 0 } in
-    let e = written_is ps in
+    let e = written_is v ps in
     subst (λ (t : List ℕ). JudgesText t (judgement_of [] ps)) (sym e)
-    (subst (λ ls. JudgesLines ls (judgement_of [] ps)) (sym (lines_of-lf_text w at (all_lines ps) (all_short ps h) (omega arith))) (judged_lines ps h))
+    (subst (λ ls. JudgesLines ls (judgement_of [] ps)) (sym (lines_of-lf_text w at (all_lines v ps) (all_short v ps h) (omega arith))) (judged_lines v ps h))
 
 pub written_is_verified : WrittenIsVerified
-written_is_verified ps h =
+written_is_verified v ps h =
     let known : List Headed = [] in
     let n : length known + length ps ≡ length ps = omega arith in
-    subst (JudgesText (written ps)) (all_verified [] ps h ∙ ap (λ (k : ℕ). Verified k) n) (written_is_judged ps (all_spelled [] ps h))
+    subst (JudgesText (written v ps)) (all_verified v [] ps h ∙ ap (λ (k : ℕ). Verified k) n) (written_is_judged v ps (all_spelled v [] ps h))

@@ -1,5 +1,5 @@
 -- When the certificates of a derivation have the form that lines of a text can have, whether they certify or not.
-use Rattle.std.specs.Prelude.{ℤ, List, [], ◌∷◌, length, Bool, true, false, not, ◌&&◌, ◌==◌, Some, None, IsTrue}
+use Rattle.std.specs.Prelude.{ℤ, ◌^◌, nat_lt, List, [], ◌∷◌, length, Bool, true, false, not, ◌&&◌, ◌==◌, Some, None, IsTrue}
 use Rattle.std.specs.Option.{option_map_or}
 use Rattle.std.specs.List.{list_all}
 use Rattle.e_literal.specs.declared.object.Scope.{Scope}
@@ -8,11 +8,11 @@ use Rattle.e_literal.specs.Literal.{all_in_scope}
 use Rattle.e_literal.specs.Facts.{is_metric, others}
 use Rattle.e_literal.specs.Use.{Stated}
 use Rattle.e_clause.specs.declared.cert.RowName.{RowName}
-use Rattle.e_clause.specs.declared.cert.RowName.TheVariants.{Fact, Goal}
+use Rattle.e_clause.specs.declared.cert.RowName.TheVariants.{Fact, Goal, FactAt}
 use Rattle.e_clause.specs.declared.cert.Sums.{Sums}
 use Rattle.e_clause.specs.declared.cert.Sums.TheVariants.{One, Two}
 use Rattle.e_clause.specs.declared.cert.Part.{Part}
-use Rattle.e_clause.specs.declared.cert.Part.TheVariants.{Fact as FactPart, Metric}
+use Rattle.e_clause.specs.declared.cert.Part.TheVariants.{Fact as FactPart, Metric, FactAt as FactPartAt}
 use Rattle.e_clause.specs.declared.cert.Cert.{Cert}
 use Rattle.e_clause.specs.declared.cert.Cert.TheVariants.{Plain, Transfer}
 use Rattle.e_clause.specs.declared.cert.Against.{Against}
@@ -39,6 +39,7 @@ sum_formed s xs = is_good_size xs && (sum_in s xs && is_good_sum xs)
 abbrev pub names_difference : RowName → Bool
 names_difference (Fact l) = true
 names_difference Goal = true
+names_difference (FactAt k) = true
 names_difference row = false
 
 abbrev pub difference_formed : Scope → RowName → Bool
@@ -53,6 +54,7 @@ sums_formed s (Two differs first second) = difference_formed s differs && (sum_f
 abbrev pub part_formed : Scope → Part → Bool
 part_formed s FactPart = true
 part_formed s (Metric m) = sums_formed s m.sums
+part_formed s (FactPartAt k) = nat_lt k (2 ^ 32)
 
 -- an instance of a transfer rule, in scope, with one part for each place that has another literal than this one
 abbrev pub has_parts : Lit → List Part → List Lit → Bool

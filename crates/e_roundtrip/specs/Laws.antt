@@ -3,6 +3,7 @@ use Rattle.std.specs.Prelude.{◌≡◌, ℕ, IsTrue, List, [], ◌++◌, length
 use Rattle.e_text.specs.Lines.{Seen, text_of_lines}
 use Rattle.e_text.specs.declared.line.LineFault.{LineFault}
 use Rattle.e_literal.specs.Use.{Stated}
+use Rattle.e_clause.specs.declared.cert.Version.{Version}
 use Rattle.e_theorem.specs.Statements.{stated}
 use Rattle.e_deriv.specs.Script.{Script, erased}
 use Rattle.e_deriv.specs.Parts.{filled_by}
@@ -21,20 +22,20 @@ use Rattle.e_roundtrip.specs.Written.{AllCanBeSpelled, AllCanBeVerified, SpellsP
 
 -- ---- what is read is spelled so
 
--- what is read as a theorem with its derivation is spelled so: the lines are exactly those of its one spelling
+-- what is read in a version as a theorem with its derivation is spelled so: the lines are exactly those of its one spelling
 abbrev pub ReadIsSpelled : Type 0
-ReadIsSpelled = (known : List Headed) (last : ℕ) (t : Entry) (lines rest : List (Result Seen LineFault)) → piece_from known last at_start lines ≡ Ok (Derived t, rest)
+ReadIsSpelled = (v : Version) (known : List Headed) (last : ℕ) (t : Entry) (lines rest : List (Result Seen LineFault)) → piece_from known last (at_start v) lines ≡ Ok (Derived t, rest)
     → ShowsEnded lines (spelled_lines known t t.script) rest
 
 -- so their bytes are its one text: no other text is read as the same theorem with the same derivation
 abbrev pub ReadTextIsSpelled : Type 0
-ReadTextIsSpelled = (known : List Headed) (last : ℕ) (t : Entry) (lines rest : List (Result Seen LineFault)) → piece_from known last at_start lines ≡ Ok (Derived t, rest)
+ReadTextIsSpelled = (v : Version) (known : List Headed) (last : ℕ) (t : Entry) (lines rest : List (Result Seen LineFault)) → piece_from known last (at_start v) lines ≡ Ok (Derived t, rest)
     → text_of_lines lines ≡ spelled known t t.script ++ text_of_lines rest
 
 -- and the derivation can be spelled, by its form: so that form is the form of what is read
 abbrev pub ReadCanBeSpelled : Type 0
-ReadCanBeSpelled = (known : List Headed) (last : ℕ) (t : Entry) (lines rest : List (Result Seen LineFault)) → piece_from known last at_start lines ≡ Ok (Derived t, rest)
-    → CanBeSpelled known t t.script
+ReadCanBeSpelled = (v : Version) (known : List Headed) (last : ℕ) (t : Entry) (lines rest : List (Result Seen LineFault)) → piece_from known last (at_start v) lines ≡ Ok (Derived t, rest)
+    → CanBeSpelled v known t t.script
 
 -- ---- what is spelled is read
 
@@ -45,8 +46,8 @@ CertifiedIsFormed = (before : List Stated) (t : Stated) (d : Script) → Certifi
 -- the lines of a derivation's one spelling, whatever follows them, are read as the theorem with that derivation
 abbrev pub SpelledIsRead : Type 0
 SpelledIsRead =
-    (known : List Headed) (last : ℕ) (t : Entry) (d : Script) (lines rest : List (Result Seen LineFault)) → CanBeSpelled known t d
-    → ShowsEnded lines (spelled_lines known t d) rest → piece_from known last at_start lines ≡ Ok (Derived (record t { script = d }), rest)
+    (v : Version) (known : List Headed) (last : ℕ) (t : Entry) (d : Script) (lines rest : List (Result Seen LineFault)) → CanBeSpelled v known t d
+    → ShowsEnded lines (spelled_lines known t d) rest → piece_from known last (at_start v) lines ≡ Ok (Derived (record t { script = d }), rest)
 
 -- a theorem that can be spelled still can when its blanks are filled: when its script is that of a certified derivation without the
 -- certificates, which differs from its own only in the arguments at the lines that use earlier theorems
@@ -61,12 +62,12 @@ FilledHasSpelling =
 -- the first line that is not certified, and never garbled, however long it is
 abbrev pub WrittenIsJudged : Type 0
 WrittenIsJudged =
-    (ps : List (Entry × Script)) → AllCanBeSpelled [] ps → JudgesText (written ps) (judgement_of [] ps)
+    (v : Version) (ps : List (Entry × Script)) → AllCanBeSpelled v [] ps → JudgesText (written v ps) (judgement_of [] ps)
 
 -- what is written of certified derivations is a derivation text that is judged verified, with their number
 abbrev pub WrittenIsVerified : Type 0
 WrittenIsVerified =
-    (ps : List (Entry × Script)) → AllCanBeVerified [] ps → JudgesText (written ps) (Verified (length ps))
+    (v : Version) (ps : List (Entry × Script)) → AllCanBeVerified v [] ps → JudgesText (written v ps) (Verified (length ps))
 
 -- and a text that is judged verified is so written: it spells proofs, and nothing else
 abbrev pub VerifiedIsWritten : Type 0

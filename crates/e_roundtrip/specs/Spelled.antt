@@ -1,10 +1,12 @@
 -- Lines that show texts, and derivations that lines can spell.
-use Rattle.std.specs.Prelude.{◌≡◌, ℕ, List, [], ◌∷◌, Result, Ok, Err}
+use Rattle.std.specs.Prelude.{◌≡◌, ℕ, IsTrue, List, [], ◌∷◌, Result, Ok, Err}
 use Rattle.e_text.specs.Lines.{Seen}
 use Rattle.e_text.specs.declared.line.LineEnd.TheVariants.{Lf}
 use Rattle.e_text.specs.declared.line.LineFault.{LineFault}
+use Rattle.e_clause.specs.declared.cert.Version.{Version}
 use Rattle.e_theorem.specs.Statements.{stated}
 use Rattle.e_deriv.specs.Script.{Script, erased}
+use Rattle.e_deriv.specs.Versions.{has_certs_of}
 use Rattle.e_book.specs.Headed.{Headed, stated_by}
 use Rattle.e_book.specs.Entry.{Entry}
 use Rattle.e_book.specs.HasSpelling.{HasSpelling}
@@ -17,9 +19,11 @@ ShowsEnded [] (text ∷ texts) rest = ⊥
 ShowsEnded (Err f ∷ lines) (text ∷ texts) rest = ⊥
 ShowsEnded (Ok l ∷ lines) (text ∷ texts) rest = (l.bytes ≡ text) × (l.end ≡ Lf) × ShowsEnded lines texts rest
 
--- what a derivation of a theorem is that lines can spell, by its form alone: whether its certificates certify is not asked
-pub record CanBeSpelled (known : List Headed) (t : Entry) (d : Script) : Type 0 where
+-- what a derivation of a theorem is that lines of a text of this version can spell, by its form alone: whether its certificates certify is not asked
+pub record CanBeSpelled (v : Version) (known : List Headed) (t : Entry) (d : Script) : Type 0 where
   -- so is the theorem, with the derivation's script for its own
   pub plain : HasSpelling known (record t { script = erased d })
   -- each line has as many certificates as it owes, of good form
   pub formed : Formed (stated_by known) (stated t.statement) d
+  -- its certificates are of the version
+  pub version : IsTrue (has_certs_of v d)

@@ -1,5 +1,6 @@
 -- The text of derivations that follow one another.
 use Rattle.std.specs.Prelude.{◌≡◌, ℕ, List, [], ◌∷◌, ◌++◌, length, codes, decimal, Result, Ok, Err}
+use Rattle.e_clause.specs.declared.cert.Version.{Version}
 use Rattle.e_theorem.specs.Statements.{stated}
 use Rattle.e_deriv.specs.Script.{Script}
 use Rattle.e_deriv.specs.Proves.{IsProof}
@@ -10,22 +11,22 @@ use Rattle.e_spell.specs.Spelling.{spelled}
 use Rattle.e_roundtrip.specs.Spelled.{CanBeSpelled}
 use Rattle.e_judgement.specs.declared.judgement.Judgement.{Judgement}
 use Rattle.e_judgement.specs.declared.judgement.Judgement.TheVariants.{Verified, Bad}
-use Rattle.e_judgement.specs.Judged.{with_theorem}
+use Rattle.e_judgement.specs.Judged.{with_theorem, head_of}
 
--- theorems, each with a derivation of it that lines can spell: each where those before it are known
-abbrev pub AllCanBeSpelled : List Headed → List (Entry × Script) → Type 0
-AllCanBeSpelled known [] = Unit {0}
-AllCanBeSpelled known (p ∷ ps) = CanBeSpelled known p.0 p.1 × AllCanBeSpelled (with_theorem known p.0) ps
+-- theorems, each with a derivation of it that lines of this version can spell: each where those before it are known
+abbrev pub AllCanBeSpelled : Version → List Headed → List (Entry × Script) → Type 0
+AllCanBeSpelled v known [] = Unit {0}
+AllCanBeSpelled v known (p ∷ ps) = CanBeSpelled v known p.0 p.1 × AllCanBeSpelled v (with_theorem known p.0) ps
 
 -- lines can spell the derivation, and each of its certificates certifies
-pub record CanBeVerified (known : List Headed) (t : Entry) (d : Script) : Type 0 where
-  pub spelled : CanBeSpelled known t d
+pub record CanBeVerified (v : Version) (known : List Headed) (t : Entry) (d : Script) : Type 0 where
+  pub spelled : CanBeSpelled v known t d
   pub certified : Certified (stated_by known) (stated t.statement) d
 
 -- theorems, each with a derivation of it: each where those before it are known
-abbrev pub AllCanBeVerified : List Headed → List (Entry × Script) → Type 0
-AllCanBeVerified known [] = Unit {0}
-AllCanBeVerified known (p ∷ ps) = CanBeVerified known p.0 p.1 × AllCanBeVerified (with_theorem known p.0) ps
+abbrev pub AllCanBeVerified : Version → List Headed → List (Entry × Script) → Type 0
+AllCanBeVerified v known [] = Unit {0}
+AllCanBeVerified v known (p ∷ ps) = CanBeVerified v known p.0 p.1 × AllCanBeVerified v (with_theorem known p.0) ps
 
 -- after the verdict on a derivation: bad at the line that is not certified, or what those behind it are judged
 abbrev pub judged_after : List ℕ → Result ℕ ℕ → Judgement → Judgement
@@ -44,25 +45,26 @@ blocks_of known [] = []
 blocks_of known (p ∷ ps) = spelled known p.0 p.1 ++ blocks_of (with_theorem known p.0) ps
 
 -- the line that comes before the blocks
-abbrev pub head_line : List ℕ
-head_line = codes "derivation 1\n"
+abbrev pub head_line : Version → List ℕ
+head_line v = head_of v ++ codes "\n"
 
 -- the line behind the blocks: how many they are
 abbrev pub accepted_line : ℕ → List ℕ
 accepted_line n = codes "accepted " ++ (decimal n ++ codes "\n")
 
 -- the head line, the blocks, and the last line
-abbrev pub written : List (Entry × Script) → List ℕ
-written ps = head_line ++ (blocks_of [] ps ++ accepted_line (length ps))
+abbrev pub written : Version → List (Entry × Script) → List ℕ
+written v ps = head_line v ++ (blocks_of [] ps ++ accepted_line (length ps))
 
 -- each derivation proves its theorem's statement from those of the theorems before it
 abbrev pub AllProved : List Headed → List (Entry × Script) → Type 0
 AllProved known [] = Unit {0}
 AllProved known (p ∷ ps) = IsProof (stated_by known) (stated p.0.statement) p.1 × AllProved (with_theorem known p.0) ps
 
--- the text is the head line, the spellings of so many theorems, each with a derivation that proves it, and the line with their number
+-- the text is the head line of its version, the spellings of so many theorems, each with a derivation that proves it, and the line with their number
 pub record SpellsProofs (n : ℕ) (text : List ℕ) : Type 0 where
+  pub version : Version
   pub theorems : List (Entry × Script)
   pub count : length theorems ≡ n
   pub proved : AllProved [] theorems
-  pub bytes : text ≡ written theorems
+  pub bytes : text ≡ written version theorems

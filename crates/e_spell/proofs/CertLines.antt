@@ -7,7 +7,7 @@ use Rattle.e_clause.specs.declared.cert.RowName.{RowName}
 use Rattle.e_clause.specs.declared.cert.Sums.{Sums}
 use Rattle.e_clause.specs.declared.cert.Sums.TheVariants.{One, Two}
 use Rattle.e_clause.specs.declared.cert.Part.{Part}
-use Rattle.e_clause.specs.declared.cert.Part.TheVariants.{Fact, Metric}
+use Rattle.e_clause.specs.declared.cert.Part.TheVariants.{Fact, Metric, FactAt}
 use Rattle.e_clause.specs.declared.cert.Cert.{Cert}
 use Rattle.e_clause.specs.declared.cert.Cert.TheVariants.{Plain, Transfer}
 use Rattle.e_clause.specs.declared.cert.Against.{Against}
@@ -40,6 +40,7 @@ sums_go ns (Two differs above below) = both_go (sum_lines ns above) (sum_lines n
 part_goes : (ns : Names) (p : Part) → Go (part_lines ns p)
 part_goes ns Fact = refl
 part_goes ns (Metric m) = sums_go ns m.sums
+part_goes ns (FactAt k) = refl
 
 parts_go : (ns : Names) (ps : List Part) → Go (flat_map (part_lines ns) ps)
 parts_go ns [] = refl

@@ -8,7 +8,7 @@ use Rattle.e_clause.specs.declared.cert.Sums.{Sums}
 use Rattle.e_clause.specs.declared.cert.Sums.TheVariants.{One, Two}
 use Rattle.e_clause.specs.declared.cert.MetricCert.{MetricCert}
 use Rattle.e_clause.specs.declared.cert.Part.{Part}
-use Rattle.e_clause.specs.declared.cert.Part.TheVariants.{Fact, Metric}
+use Rattle.e_clause.specs.declared.cert.Part.TheVariants.{Fact, Metric, FactAt}
 use Rattle.e_clause.specs.declared.cert.Cert.{Cert}
 use Rattle.e_clause.specs.declared.cert.Cert.TheVariants.{Plain, Transfer}
 use Rattle.e_clause.specs.declared.cert.Against.{Against}
@@ -46,6 +46,7 @@ of_metric ns m = ap (λ (t : List ℕ). bar_text (codes "metric" ∷ []) ++ t) (
 of_part : (ns : Names) (p : Part) → words_text (part_lines ns p) ≡ part_text ns p
 of_part ns Fact = refl
 of_part ns (Metric m) = of_metric ns m
+of_part ns (FactAt k) = append-nil (part_text ns (FactAt k))
 
 of_parts : (ns : Names) (ps : List Part) → words_text (flat_map (part_lines ns) ps) ≡ parts_text ns ps
 of_parts ns [] = refl

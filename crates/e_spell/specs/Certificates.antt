@@ -1,5 +1,5 @@
 -- The lines of certificates, as their words.
-use Rattle.std.specs.Prelude.{ℕ, ℤ, List, [], ◌∷◌, ◌++◌, map, codes, Option, Some, None}
+use Rattle.std.specs.Prelude.{ℕ, ℤ, List, [], ◌∷◌, ◌++◌, map, codes, decimal, Option, Some, None}
 use Rattle.std.specs.Fmt.{signed_decimal}
 use Rattle.std.specs.List.{flat_map}
 use Rattle.e_clause.specs.declared.cert.RowName.{RowName}
@@ -8,7 +8,7 @@ use Rattle.e_clause.specs.declared.cert.Sums.{Sums}
 use Rattle.e_clause.specs.declared.cert.Sums.TheVariants.{One, Two}
 use Rattle.e_clause.specs.declared.cert.MetricCert.{MetricCert}
 use Rattle.e_clause.specs.declared.cert.Part.{Part}
-use Rattle.e_clause.specs.declared.cert.Part.TheVariants.{Fact, Metric}
+use Rattle.e_clause.specs.declared.cert.Part.TheVariants.{Fact, Metric, FactAt}
 use Rattle.e_clause.specs.declared.cert.TransferCert.{TransferCert}
 use Rattle.e_clause.specs.declared.cert.Cert.{Cert}
 use Rattle.e_clause.specs.declared.cert.Cert.TheVariants.{Plain, Transfer}
@@ -34,6 +34,7 @@ row_words ns rows.Right = codes "right" ∷ []
 row_words ns (rows.Least t) = codes "least" ∷ named_term ns t
 row_words ns rows.Above = codes "above" ∷ []
 row_words ns rows.Below = codes "below" ∷ []
+row_words ns (rows.FactAt k) = codes "fact" ∷ decimal k ∷ []
 
 -- a row behind its multiplier
 abbrev pub row_line : Names → ℤ × RowName → List (List ℕ)
@@ -57,6 +58,7 @@ metric_lines ns m = (codes "|" ∷ codes "metric" ∷ []) ∷ sums_lines ns m.su
 abbrev pub part_lines : Names → Part → List (List (List ℕ))
 part_lines ns Fact = (codes "|" ∷ codes "fact" ∷ []) ∷ []
 part_lines ns (Metric m) = metric_lines ns m
+part_lines ns (FactAt k) = (codes "|" ∷ codes "fact" ∷ decimal k ∷ []) ∷ []
 
 -- the rule and its arguments, and the certificates of the parts in order
 abbrev pub transfer_lines : Names → TransferCert → List (List (List ℕ))

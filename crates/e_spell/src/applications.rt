@@ -6,7 +6,7 @@ ghost use Rattle.e_book.specs.Canonical.{argument_name, argument_word, made_word
 ghost use Rattle.e_spell.specs.inner.Parts.{application_words, application_text};
 
 use crate::literals::name_of_object;
-use e_book::{Known, put_made_names};
+use e_book::{Theorems, put_made_names};
 use e_deriv::Names;
 use e_literal::Obj;
 use e_text::Name;
@@ -15,7 +15,7 @@ use std::alloc::AllocError;
 
 /// The title of the theorem at a place; nothing where there is none.
 #[tactic(auto, using(crate::proofs::Applied::titles_at))]
-fn put_title_at(out: &mut Vec<u8>, known: &Known, place: usize) -> Result<(), AllocError>
+fn put_title_at(out: &mut Vec<u8>, known: &Theorems, place: usize) -> Result<(), AllocError>
     ensures { OnOk result (out.new.items ≡ out.old.items ++ 32 ∷ title_at known.now place) }
 {
     if place < known.len() {
@@ -47,7 +47,7 @@ fn put_arguments(out: &mut Vec<u8>, names: &Names, args: &[Option<Obj>]) -> Resu
 /// An earlier theorem by its title, its arguments, and names for the objects that it makes.
 fn put_application(
     out: &mut Vec<u8>,
-    known: &Known,
+    known: &Theorems,
     names: &Names,
     theorem: u32,
     args: &[Option<Obj>],
@@ -64,7 +64,7 @@ fn put_application(
 /// The line that uses an earlier theorem.
 pub(crate) fn put_apply(
     out: &mut Vec<u8>,
-    known: &Known,
+    known: &Theorems,
     names: &Names,
     theorem: u32,
     args: &[Option<Obj>],

@@ -1,10 +1,10 @@
 //! The lines of certificates.
-ghost use Rattle.std.specs.Prelude.{◌≡◌, ◌++◌, ◌∷◌, codes, OnOk};
+ghost use Rattle.std.specs.Prelude.{◌≡◌, ◌++◌, ◌∷◌, [], codes, decimal, OnOk};
 ghost use Rattle.std.specs.Option.{option_to_list};
 ghost use Rattle.e_text.specs.Tokens.{spaced};
 ghost use Rattle.e_book.specs.Canonical.{lit_words, raw_of};
 ghost use Rattle.e_spell.specs.Certificates.{named_term, row_words};
-ghost use Rattle.e_spell.specs.inner.Parts.{row_text, sum_text, rows_text, differs_text, sums_text, metric_text, part_text, parts_text, instance_text, transfer_text, cert_text, certs_text, against_text, contradiction_text};
+ghost use Rattle.e_spell.specs.inner.Parts.{place_text, row_text, sum_text, rows_text, differs_text, sums_text, metric_text, part_text, parts_text, instance_text, transfer_text, cert_text, certs_text, against_text, contradiction_text};
 
 use crate::literals::{put_literal, put_literal_line, put_objects};
 use crate::rules::put_rule;
@@ -30,6 +30,14 @@ fn put_fact_row(out: &mut Vec<u8>, names: &Names, lit: &Lit) -> Result<(), Alloc
     put_literal(out, names, lit)
 }
 
+/// A fact by its place.
+fn put_place(out: &mut Vec<u8>, place: u32) -> Result<(), AllocError>
+    ensures { OnOk result (out.new.items ≡ out.old.items ++ spaced (codes "fact" ∷ decimal place ∷ [])) }
+{
+    put(out, b"fact")?;
+    put_number(out, place)
+}
+
 /// The name of a row.
 fn put_row(out: &mut Vec<u8>, names: &Names, row: &RowName) -> Result<(), AllocError>
     ensures { OnOk result (out.new.items ≡ out.old.items ++ spaced (row_words names.now row.now)) }
@@ -43,6 +51,7 @@ fn put_row(out: &mut Vec<u8>, names: &Names, row: &RowName) -> Result<(), AllocE
         RowName::Least(term) => put_term_row(out, names, b"least", *term),
         RowName::Above => put(out, b"above"),
         RowName::Below => put(out, b"below"),
+        RowName::FactAt(place) => put_place(out, *place),
     }
 }
 
@@ -106,12 +115,22 @@ fn put_metric(out: &mut Vec<u8>, names: &Names, cert: &MetricCert) -> Result<(),
     put_sums(out, names, &cert.sums)
 }
 
+/// The line of a fact by its place.
+fn put_place_line(out: &mut Vec<u8>, place: u32) -> Result<(), AllocError>
+    ensures { OnOk result (out.new.items ≡ out.old.items ++ place_text place) }
+{
+    out.extend_from_slice(b"|")?;
+    put_place(out, place)?;
+    end_line(out)
+}
+
 fn put_part(out: &mut Vec<u8>, names: &Names, part: &Part) -> Result<(), AllocError>
     ensures { OnOk result (out.new.items ≡ out.old.items ++ part_text names.now part.now) }
 {
     match part {
         Part::Fact => put_line(out, b"| fact"),
         Part::Metric(cert) => put_metric(out, names, cert),
+        Part::FactAt(place) => put_place_line(out, *place),
     }
 }
 

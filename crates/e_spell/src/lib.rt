@@ -16,6 +16,6 @@ mod sums;
 mod writer;
 
 pub use laws::lines_are_the_theorem;
-pub use literals::put_literal;
+pub use literals::{put_literal, put_objects};
 pub use stops::spell_stop;
 pub use writer::spell;

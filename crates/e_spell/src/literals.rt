@@ -54,12 +54,8 @@ fn circle(names: &Names, i: u16) -> &[u8]
     name_at(names.circles.items(), i as usize)
 }
 
-/// The names of objects.
-pub(crate) fn put_objects(
-    out: &mut Vec<u8>,
-    names: &Names,
-    objects: &[Obj],
-) -> Result<(), AllocError>
+/// Writes the names of objects, each behind a space; an object without a name is written as nothing. It fails only for want of memory.
+pub fn put_objects(out: &mut Vec<u8>, names: &Names, objects: &[Obj]) -> Result<(), AllocError>
     ensures { OnOk result (out.new.items ≡ out.old.items ++ spaced (map (name_of_object names.now) objects.now)) }
 {
     for object in objects {

@@ -13,7 +13,7 @@ use crate::constructions::{put_let, put_superpose};
 use crate::literals::{put_literal, put_literal_line, put_literals, put_objects};
 use crate::rules::put_rule;
 use crate::scope::{name_new, with_copies};
-use e_book::Known;
+use e_book::Theorems;
 use e_clause::{Against, By, Cert};
 use e_construct::{Construction, Superpose};
 use e_deriv::{Block, Close, Names, Step};
@@ -72,7 +72,7 @@ fn put_made(
 /// The use of an earlier theorem, and a certificate for each literal that it needs, with the names in scope before it.
 fn put_applied(
     out: &mut Vec<u8>,
-    known: &Known,
+    known: &Theorems,
     names: &Names,
     theorem: u32,
     args: &[Option<Obj>],
@@ -116,7 +116,7 @@ fn put_superposed(
 fn put_step(
     alloc: Global,
     out: &mut Vec<u8>,
-    known: &Known,
+    known: &Theorems,
     names: &Names,
     step: &Step,
 ) -> Result<(), AllocError>
@@ -169,7 +169,7 @@ fn put_step(
 fn put_steps(
     alloc: Global,
     out: &mut Vec<u8>,
-    known: &Known,
+    known: &Theorems,
     names: &mut Names,
     steps: &[Step],
 ) -> Result<(), AllocError>
@@ -222,7 +222,7 @@ fn put_contradiction(
 fn put_close(
     alloc: Global,
     out: &mut Vec<u8>,
-    known: &Known,
+    known: &Theorems,
     names: &Names,
     close: &Close,
 ) -> Result<(), AllocError>
@@ -246,7 +246,7 @@ fn put_close(
 fn put_block(
     alloc: Global,
     out: &mut Vec<u8>,
-    known: &Known,
+    known: &Theorems,
     names: &Names,
     block: &Block,
 ) -> Result<(), AllocError>
@@ -266,7 +266,7 @@ fn put_block(
 pub(crate) fn put_proof(
     alloc: Global,
     out: &mut Vec<u8>,
-    known: &Known,
+    known: &Theorems,
     names: &Names,
     block: &Block,
 ) -> Result<(), AllocError>

@@ -8,7 +8,7 @@ ghost use Rattle.e_spell.specs.inner.Counts.{scope_of_counts};
 ghost use Rattle.e_spell.specs.inner.Parts.{names_behind};
 
 use crate::declarations::Counts;
-use e_book::Known;
+use e_book::Theorems;
 use e_construct::Superpose;
 use e_deriv::{Names, Step};
 use e_literal::{Items, Sort};
@@ -66,7 +66,7 @@ pub(crate) fn with_copies(
 /// The names of the made objects of an earlier theorem come into scope.
 #[tactic(auto, using(crate::proofs::Applied::made_past))]
 fn name_shown(
-    known: &Known,
+    known: &Theorems,
     names: &mut Names,
     place: usize,
     new: &[Name],
@@ -82,7 +82,7 @@ fn name_shown(
 
 /// The names of the objects that a step makes come into scope. Those of the block inside it are gone behind it.
 #[tactic(auto, using(crate::proofs::ScriptTexts::plain))]
-pub(crate) fn name_new(known: &Known, names: &mut Names, step: &Step) -> Result<(), AllocError>
+pub(crate) fn name_new(known: &Theorems, names: &mut Names, step: &Step) -> Result<(), AllocError>
     ensures { OnOk result (names.new ≡ names_behind known.now names.old (plain_step step.now)) }
 {
     match step {

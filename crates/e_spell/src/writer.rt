@@ -8,7 +8,7 @@ ghost use Rattle.e_spell.specs.Spelling.{spelled};
 use crate::head::put_head;
 use crate::proof::put_proof;
 use crate::scope::first_names;
-use e_book::{Known, Theorem};
+use e_book::{Theorem, Theorems};
 use e_deriv::Block;
 use std::alloc::{AllocError, Global};
 use std::mem;
@@ -16,7 +16,7 @@ use std::mem;
 fn put_theorem(
     alloc: Global,
     out: &mut Vec<u8>,
-    known: &Known,
+    known: &Theorems,
     theorem: &Theorem,
     deriv: &Block,
 ) -> Result<(), AllocError>
@@ -38,7 +38,7 @@ fn put_theorem(
 /// memory. The text takes at most a few times the memory of the theorem, the derivation and the titles that it writes.
 pub fn spell(
     alloc: Global,
-    known: &Known,
+    known: &Theorems,
     theorem: &Theorem,
     deriv: &Block,
 ) -> Result<Vec<u8>, AllocError>

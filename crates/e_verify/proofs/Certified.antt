@@ -53,6 +53,7 @@ use Rattle.e_deriv.specs.Certified.{is_certified}
 use Rattle.e_verify.specs.Checking.{line_at}
 use Rattle.e_deriv.proofs.Keeping.{stay_joined, stay_all}
 use Rattle.e_deriv.proofs.Smallness.{few_of_small, few_objects}
+use Rattle.e_verify.proofs.FormedFacts.{all_formed, joined_formed, all_joined_formed, make_gives_formed, use_gives_formed}
 use Rattle.e_verify.proofs.FirstLines.{checked, cite_lines, hence_lines, make_lines, after_make, apply_lines, after_apply}
 
 -- ---- a citation
@@ -83,16 +84,17 @@ cited_is s facts by lits needs kind args lit inst one is =
     let d = diagram_rule by.rule (rule_of_instance by.rule by.args lits inst) kind in
     ap (has_all facts) is ∙ rw (d, args, lit, inst, one) refl
 
-pub checked_cite : (before : List Stated) (by : By) (x after : Standing) (b : Bool) → b ≡ (is_citation x.scope by && is_cited x.facts by) → after ≡ with_facts (joined x.facts by.lit) x → IsChecked before (Cite by) x after b
-checked_cite before by x after b t e = checked before (Cite by) x (with_facts (joined x.facts by.lit) x) after b (λ rest goal. t) (cite_lines before by x) (stay_joined x.facts by.lit) e
+pub checked_cite : (before : List Stated) (by : By) (x after : Standing) (b : Bool) → is_well_formed by.lit ≡ true → b ≡ (is_citation x.scope by && is_cited x.facts by) → after ≡ with_facts (joined x.facts by.lit) x → IsChecked before (Cite by) x after b
+checked_cite before by x after b f t e =
+    checked before (Cite by) x (with_facts (joined x.facts by.lit) x) after b (λ rest goal. t) (cite_lines before by x) (stay_joined x.facts by.lit) (λ g. joined_formed x.facts by.lit g f) e
 
 -- ---- a hence
 
-pub checked_hence : (before : List Stated) (lit : Lit) (given : Option Cert) (cert : Cert) (x after : Standing) → given ≡ Some cert → all_in_scope x.scope lit ≡ true → certifies x.scope x.facts lit cert ≡ true
+pub checked_hence : (before : List Stated) (lit : Lit) (given : Option Cert) (cert : Cert) (x after : Standing) → is_well_formed lit ≡ true → given ≡ Some cert → all_in_scope x.scope lit ≡ true → certifies x.scope x.facts lit cert ≡ true
     → after ≡ with_facts (joined x.facts lit) x → IsChecked before (Hence lit given) x after true
-checked_hence before lit given cert x after is h k e =
+checked_hence before lit given cert x after f is h k e =
     subst (λ o. IsChecked before (Hence lit o) x after true) (sym is)
-    (checked before (Hence lit (Some cert)) x (with_facts (joined x.facts lit) x) after true (λ rest goal. rw (h, k) refl) (hence_lines before lit (Some cert) x) (stay_joined x.facts lit) e)
+    (checked before (Hence lit (Some cert)) x (with_facts (joined x.facts lit) x) after true (λ rest goal. rw (h, k) refl) (hence_lines before lit (Some cert) x) (stay_joined x.facts lit) (λ g. joined_formed x.facts lit g f) e)
 
 -- ---- a construction
 
@@ -106,7 +108,9 @@ make_formed form s h = each (all_in_scope s) is_well_formed (λ l k. and_right (
 
 pub checked_make : (before : List Stated) (form : Construction) (names : List (List ℕ)) (certs : List Cert) (x after : Standing) → fits form x.scope ≡ true → certify_all x.scope x.facts (needs form) certs ≡ true
     → after ≡ after_make form x → IsChecked before (Make form names certs) x after true
-checked_make before form names certs x after h k e = checked before (Make form names certs) x (after_make form x) after true (λ rest goal. rw (h, k) refl) (make_lines before form names certs x) (stay_all x.facts (gives form x.scope)) e
+checked_make before form names certs x after h k e =
+    checked before (Make form names certs) x (after_make form x) after true (λ rest goal. rw (h, k) refl) (make_lines before form names certs x) (stay_all x.facts (gives form x.scope))
+    (λ g. all_joined_formed x.facts (gives form x.scope) g (make_gives_formed form x.scope h)) e
 
 pub few_new : (s : Scope) (form : Construction) (n : ℕ) → is_small s ≡ true → n ≡ length (made form) → (s.points + n < 2 ^ 16) × (s.lines + n < 2 ^ 16) × (s.circles + n < 2 ^ 16)
 few_new s form n h e = let f = few_of_small s h in (omega (arith, f.points, e, few_made form), omega (arith, f.lines, e, few_made form), omega (arith, f.circles, e, few_made form))
@@ -114,24 +118,28 @@ few_new s form n h e = let f = few_of_small s h in (omega (arith, f.points, e, f
 -- ---- an application
 
 pub refused : (before : List Stated) (whole : Script → Script) (x after : Standing) → ((rest : Script) (goal : Goal) → is_certified before (line_at (whole rest) x goal) ≡ false) → IsChecked before whole x after false
-refused before whole x after h = record { test = λ rest goal. sym (h rest goal); next = λ t. absurd (true≢false (sym t)); kept = λ t. absurd (true≢false (sym t)) }
+refused before whole x after h =
+    record { test = λ rest goal. sym (h rest goal); next = λ t. absurd (true≢false (sym t)); kept = λ t. absurd (true≢false (sym t)); formed = λ t g. absurd (true≢false (sym t)) }
 
 fills_written : (args : List (Option Obj)) → has_no_blank args ≡ true → fills args (written args) ≡ true
 fills_written [] h = refl
 fills_written (None ∷ args) h = absurd (true≢false (sym h))
 fills_written (Some o ∷ args) h = ap (λ b. b && fills args (written args)) (same_obj_self o) ∙ fills_written args h
 
-pub checked_apply : (before : List Stated) (theorem : ℕ) (args : List (Option Obj)) (names : List (List ℕ)) (certs : List Cert) (t : Stated) (x after : Standing) → slice_get before theorem ≡ Some t → has_no_blank args ≡ true
+pub checked_apply : (before : List Stated) (theorem : ℕ) (args : List (Option Obj)) (names : List (List ℕ)) (certs : List Cert) (t : Stated) (x after : Standing) → is_small_statement t ≡ true → slice_get before theorem ≡ Some t → has_no_blank args ≡ true
     → are_arguments t x.scope (written args) ≡ true → certify_all x.scope x.facts (needs_of_use t (written args) x.scope) certs ≡ true → after ≡ after_apply t (written args) x
     → IsChecked before (Apply theorem args names certs) x after true
-checked_apply before theorem args names certs t x after at blank fit k e =
+checked_apply before theorem args names certs t x after small at blank fit k e =
     let is : theorem_at before theorem ≡ t = ap (λ o. unwrap_or o no_statement) at in
     let low = lt-ltb theorem (length before) (in_range before theorem t at) in
     let fit' = ap (λ u. are_arguments u x.scope (written args)) is ∙ fit in
     let k' = ap (λ u. certify_all x.scope x.facts (needs_of_use u (written args) x.scope) certs) is ∙ k in
     checked before (Apply theorem args names certs) x (after_apply (theorem_at before theorem) (written args) x) after true
     (λ rest goal. rw (low, fills_written args blank, fit', k', blank) refl) (apply_lines before theorem args names certs x)
-    (stay_all x.facts (gives_of_use (theorem_at before theorem) (written args) x.scope)) (e ∙ ap (λ u. after_apply u (written args) x) (sym is))
+    (stay_all x.facts (gives_of_use (theorem_at before theorem) (written args) x.scope))
+    (λ g. all_joined_formed x.facts (gives_of_use (theorem_at before theorem) (written args) x.scope) g
+    (ap (λ u. all_formed (gives_of_use u (written args) x.scope)) is ∙ use_gives_formed t (written args) x.scope small fit))
+    (e ∙ ap (λ u. after_apply u (written args) x) (sym is))
 
 pub no_arguments : (before : List Stated) (theorem : ℕ) (args : List (Option Obj)) (names : List (List ℕ)) (certs : List Cert) (t : Stated) (x after : Standing) → slice_get before theorem ≡ Some t
     → are_arguments t x.scope (written args) ≡ false → IsChecked before (Apply theorem args names certs) x after false
@@ -199,3 +207,11 @@ pub superposed_certified : (form : Superpose) (shown : List Lit) (certs : List C
     → certify_all x.scope x.facts (superposing.needs form) certs ≡ true → (before : List Stated) (names : List (List ℕ)) (inner rest : Script) (goal : Goal)
     → true ≡ is_certified before (line_at (Superposed form names shown certs inner rest) x goal)
 superposed_certified form shown certs x h k m before names inner rest goal = rw (h, k, m) refl
+
+-- where it is certified it fits
+pub superposed_fits : (before : List Stated) (form : Superpose) (names : List (List ℕ)) (shown : List Lit) (certs : List Cert) (inner rest : Script) (x : Standing) (goal : Goal)
+    → true ≡ is_certified before (line_at (Superposed form names shown certs inner rest) x goal) → superposing.fits form x.scope ≡ true
+superposed_fits before form names shown certs inner rest x goal h =
+    let fit = superposing.fits form x.scope && are_over x.scope shown in
+    let cert = certify_all x.scope x.facts (superposing.needs form) certs && true in
+    and_left (superposing.fits form x.scope) (are_over x.scope shown) (and_left fit cert (sym h))

@@ -1,5 +1,5 @@
 -- The first line of a script, and the lines behind it.
-use Rattle.std.proofs.Common.{◌≡◌, ℕ, List, [], ◌∷◌, ◌++◌, refl, sym, ap, ◌∙◌, subst, Bool, Option}
+use Rattle.std.proofs.Common.{◌≡◌, ℕ, List, [], ◌∷◌, ◌++◌, refl, sym, ap, ◌∙◌, subst, Bool, true, Option}
 use Rattle.e_literal.specs.declared.object.Obj.{Obj}
 use Rattle.e_literal.specs.declared.literal.Lit.{Lit}
 use Rattle.e_literal.specs.Literal.{negation}
@@ -20,6 +20,7 @@ use Rattle.e_deriv.specs.Certified.{is_certified}
 use Rattle.e_verify.specs.declared.standing.Standing.{Standing}
 use Rattle.e_verify.specs.inner.Standing.{with_facts, after_superposed}
 use Rattle.e_verify.specs.Checking.{line_at, lines_at, IsChecked, KeepsFacts}
+use Rattle.e_verify.proofs.FormedFacts.{all_formed}
 
 pub cite_lines : (before : List Stated) (by : By) (x : Standing) (rest : Script) (goal : Goal)
     → lines_at before (Cite by rest) x goal ≡ line_at (Cite by rest) x goal ∷ lines_at before rest (with_facts (joined x.facts by.lit) x) goal
@@ -89,6 +90,7 @@ some_lines before (Contradiction against) x goal = (_, refl)
 some_lines before (Cases lit first second) x goal = (_, refl)
 
 pub checked : (before : List Stated) (whole : Script → Script) (x y after : Standing) (b : Bool) → ((rest : Script) (goal : Goal) → b ≡ is_certified before (line_at (whole rest) x goal))
-    → ((rest : Script) (goal : Goal) → lines_at before (whole rest) x goal ≡ line_at (whole rest) x goal ∷ lines_at before rest y goal) → KeepsFacts x y → after ≡ y → IsChecked before whole x after b
-checked before whole x y after b t l k e =
-    record { test = t; next = λ h rest goal. l rest goal ∙ ap (λ z. line_at (whole rest) x goal ∷ lines_at before rest z goal) (sym e); kept = λ h. subst (KeepsFacts x) (sym e) k }
+    → ((rest : Script) (goal : Goal) → lines_at before (whole rest) x goal ≡ line_at (whole rest) x goal ∷ lines_at before rest y goal) → KeepsFacts x y
+    → (all_formed x.facts ≡ true → all_formed y.facts ≡ true) → after ≡ y → IsChecked before whole x after b
+checked before whole x y after b t l k f e =
+    record { test = t; next = λ h rest goal. l rest goal ∙ ap (λ z. line_at (whole rest) x goal ∷ lines_at before rest z goal) (sym e); kept = λ h. subst (KeepsFacts x) (sym e) k; formed = λ h g. ap (λ (z : Standing). all_formed z.facts) e ∙ f g }

@@ -36,7 +36,8 @@ use Rattle.e_clause.specs.Written.{is_good_cert, is_good_against}
 use Rattle.e_verify.specs.Checking.{line_at, verdict_at, RejectIs, IsReadyFor, IsReadyStep, KeepsFacts, IsPassed, StepRejects}
 use Rattle.e_verify.proofs.FirstLines.{some_lines, qed_lines, contradiction_lines}
 use Rattle.e_deriv.proofs.Keeping.{stay_on, stay_joined, stay_all}
-use Rattle.e_verify.proofs.Passing.{told_closed, told_open, reject_as, scope_small, hence_written, make_written, apply_written, superposed_written, qed_written, contradiction_written, claim_inner, passed_claim, claim_rejected, claim_bad, superposed_inner, IsHead, passed_superposed, superposed_rejected, bad_line, cases_first, cases_second, cases_same, cases_rejected, cases_bad}
+use Rattle.e_verify.proofs.Certified.{superposed_fits}
+use Rattle.e_verify.proofs.Passing.{told_closed, told_open, reject_as, scope_small, cite_written, hence_written, make_written, apply_written, superposed_written, qed_written, contradiction_written, claim_inner, passed_claim, claim_rejected, claim_bad, superposed_inner, IsHead, passed_superposed, superposed_rejected, bad_line, cases_first, cases_second, cases_same, cases_rejected, cases_bad}
 
 -- ---- the steps of a block
 
@@ -62,7 +63,7 @@ pub step_next : (before : List Stated) (items seen : List Step) (close : Script)
 step_next before items seen close i s y z goal n m same lt is r p =
     p.ready (steps_script (drop (i + 1) items) close) goal (subst (λ d. IsReadyFor before d y goal n) (steps_at items seen close i s same lt is) r)
 
-none_left : (xs : List Step) (i : ℕ) → length xs ≤ i → drop i xs ≡ []
+pub none_left : (xs : List Step) (i : ℕ) → length xs ≤ i → drop i xs ≡ []
 none_left [] zero h = refl
 none_left [] (suc i) h = refl
 none_left (x ∷ xs) zero h = absurd (omega (arith, h))
@@ -107,6 +108,12 @@ make_is s form names certs is rest = ap (λ t. step_script t rest) is ∙ step_s
 pub apply_is : (s : Step) (theorem : ℕ) (args : List (Option Obj)) (names : List (List ℕ)) (certs : List Cert) → s ≡ ApplyStep theorem args names certs → (rest : Script) → step_script s rest ≡ Apply theorem args names certs rest
 apply_is s theorem args names certs is rest = ap (λ t. step_script t rest) is ∙ step_script-Apply theorem args names certs rest
 
+pub formed_step : (before : List Stated) (s : Step) (x : Standing) (n : ℕ) → IsReadyStep before s x n → list_all is_well_formed x.facts ≡ true
+formed_step before s x n r = r.ready.facts
+
+pub cite_parts : (before : List Stated) (s : Step) (by : By) (x : Standing) (n : ℕ) → s ≡ CiteStep by → IsReadyStep before s x n → is_well_formed by.lit ≡ true
+cite_parts before s by x n is r = (cite_written by r.rest (subst (λ d. IsReadyFor before d x r.goal n) (cite_is s by is r.rest) r.ready).written).0
+
 pub hence_parts : (before : List Stated) (s : Step) (lit : Lit) (cert : Option Cert) (x : Standing) (n : ℕ) → s ≡ HenceStep lit cert → IsReadyStep before s x n → (is_well_formed lit ≡ true) × (option_map_or is_good_cert cert true ≡ true)
 hence_parts before s lit cert x n is r =
     let w = hence_written lit cert r.rest (subst (λ d. IsReadyFor before d x r.goal n) (hence_is s lit cert is r.rest) r.ready).written in (w.0, w.1)
@@ -122,7 +129,7 @@ apply_parts before s theorem args names certs seen x n is same r =
 
 -- ---- blocks that are left
 
-left_is : (o : Outer) (x z y : Standing) → o ≡ outer_of x → KeepsFacts x z → y ≡ left_for o z → y ≡ x
+pub left_is : (o : Outer) (x z y : Standing) → o ≡ outer_of x → KeepsFacts x z → y ≡ left_for o z → y ≡ x
 left_is o x z y e k is = is ∙ ap (λ m. left_for m z) e ∙ ap (λ fs. with_facts fs x) k
 
 -- ---- a claim
@@ -177,9 +184,9 @@ superposed_parts before s form names shown certs seen inner x n is same r =
     ∙ (superposed_written form names shown certs (script_of inner.value) r.rest (subst (λ d. IsReadyFor before d x r.goal n) (superposed_is s form names shown certs inner is r.rest) r.ready).written).1
 
 pub superposed_ready : (before : List Stated) (s : Step) (form : Superpose) (names : List (List ℕ)) (shown seen : List Lit) (certs : List Cert) (inner : Box Block Global) (block : Block) (x z : Standing) (n : ℕ)
-    → s ≡ SuperposedStep form names shown certs inner → seen ≡ shown → block ≡ inner.value → z ≡ after_superposed form x → IsReadyStep before s x n → IsReadyFor before (script_of block) z (goal_of seen) (n + 1)
-superposed_ready before s form names shown seen certs inner block x z n is same at begun r =
-    let q = superposed_inner before form names shown certs (script_of inner.value) r.rest x r.goal n (subst (λ d. IsReadyFor before d x r.goal n) (superposed_is s form names shown certs inner is r.rest) r.ready) in
+    → s ≡ SuperposedStep form names shown certs inner → seen ≡ shown → block ≡ inner.value → z ≡ after_superposed form x → superposing.fits form x.scope ≡ true → IsReadyStep before s x n → IsReadyFor before (script_of block) z (goal_of seen) (n + 1)
+superposed_ready before s form names shown seen certs inner block x z n is same at begun fit r =
+    let q = superposed_inner before form names shown certs (script_of inner.value) r.rest x r.goal n fit (subst (λ d. IsReadyFor before d x r.goal n) (superposed_is s form names shown certs inner is r.rest) r.ready) in
     subst (λ b. IsReadyFor before (script_of b) z (goal_of seen) (n + 1)) (sym at)
     (subst (λ ls. IsReadyFor before (script_of inner.value) z (goal_of ls) (n + 1)) (sym same) (subst (λ w. IsReadyFor before (script_of inner.value) w (goal_of shown) (n + 1)) (sym begun) q))
 
@@ -191,6 +198,11 @@ head_as : (before : List Stated) (form : Superpose) (names : List (List ℕ)) (s
 head_as before form names shown over certs seen x b c like same is h inner rest goal =
     sym is ∙ h names inner rest goal ∙ ap (λ ls. is_certified before (line_at (Superposed form names ls seen inner rest) x goal)) like
     ∙ ap (λ cs. is_certified before (line_at (Superposed form names shown cs inner rest) x goal)) same
+
+-- what is tested and certified fits
+pub tested_fits : (before : List Stated) (form : Superpose) (shown : List Lit) (certs : List Cert) (x : Standing) (b : Bool) → b ≡ true → IsTested before form shown certs x b → superposing.fits form x.scope ≡ true
+tested_fits before form shown certs x b is h =
+    superposed_fits before form [] shown certs (Qed [] []) (Qed [] []) x (goal_of []) (sym is ∙ h [] (Qed [] []) (Qed [] []) (goal_of []))
 
 pub superposed_fails : (before : List Stated) (s : Step) (form : Superpose) (names : List (List ℕ)) (shown over : List Lit) (certs seen : List Cert) (inner : Box Block Global) (x : Standing) (n : ℕ) (b : Bool)
     → s ≡ SuperposedStep form names shown certs inner → over ≡ shown → seen ≡ certs → b ≡ false → IsTested before form over seen x b → StepRejects before s x n (Bad n)

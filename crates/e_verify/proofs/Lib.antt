@@ -9,9 +9,17 @@ pub mod WrittenAlike
 pub mod Summing
 pub mod Paired
 pub mod Formed
+pub mod FormedFacts
 pub mod FirstLines
 pub mod Certified
 pub mod Closing
 pub mod Passing
 pub mod Inside
 pub mod Verified
+pub mod AlikeRows
+pub mod AlikeSums
+pub mod PlacedSums
+pub mod PlacedCertificates
+pub mod PairedPlaces
+pub mod NumberedLines
+pub mod NumberedSteps

@@ -34,6 +34,8 @@ use Rattle.e_deriv.specs.Written.{is_written_well}
 use Rattle.e_verify.specs.Checking.{line_at, lines_at, verdict_at, RejectIs, IsReadyFor, IsChecked, IsPassed, StepRejects}
 use Rattle.e_verify.proofs.FirstLines.{some_lines, claim_lines, superposed_lines, cases_lines}
 use Rattle.e_deriv.proofs.Keeping.{stay_all}
+use Rattle.e_construct.specs.Superposing as superposing
+use Rattle.e_verify.proofs.FormedFacts.{joined_formed, all_joined_formed, superposed_gives_formed}
 
 -- ---- the first failure
 
@@ -124,9 +126,9 @@ scope_small before d x goal n r = let l = some_lines before d x goal in first_sm
 
 -- ---- what is written well
 
-pub cite_written : (by : By) (rest : Script) → is_written_well (Cite by rest) ≡ true → is_written_well rest ≡ true
+pub cite_written : (by : By) (rest : Script) → is_written_well (Cite by rest) ≡ true → (is_well_formed by.lit ≡ true) × (is_written_well rest ≡ true)
 unfolding is_written_well
-cite_written by rest h = and_right (is_well_formed by.lit) (is_written_well rest) h
+cite_written by rest h = (and_left (is_well_formed by.lit) (is_written_well rest) h, and_right (is_well_formed by.lit) (is_written_well rest) h)
 
 pub hence_written : (lit : Lit) (cert : Option Cert) (rest : Script) → is_written_well (Hence lit cert rest) ≡ true → (is_well_formed lit ≡ true) × (option_map_or is_good_cert cert true ≡ true) × (is_written_well rest ≡ true)
 unfolding is_written_well
@@ -171,13 +173,13 @@ pub contradiction_written : (against : Option Against) → is_written_well (Cont
 unfolding is_written_well
 contradiction_written against h = h
 
-pub cases_written : (lit : Lit) (first second : Script) → is_written_well (Cases lit first second) ≡ true → (is_written_well first ≡ true) × (is_written_well second ≡ true)
+pub cases_written : (lit : Lit) (first second : Script) → is_written_well (Cases lit first second) ≡ true → (is_well_formed lit ≡ true) × (is_written_well first ≡ true) × (is_written_well second ≡ true)
 unfolding is_written_well
 cases_written lit first second h =
     let a = is_well_formed lit in
     let b = is_written_well first in
     let c = is_written_well second in
-    (and_left b c (and_right a (b && c) h), and_right b c (and_right a (b && c) h))
+    (and_left a (b && c) h, and_left b c (and_right a (b && c) h), and_right b c (and_right a (b && c) h))
 
 -- ---- a step that is one line
 
@@ -186,7 +188,7 @@ pub record IsLine (whole : Script → Script) : Type 0 where
   pub size_is : (rest : Script) → size (whole rest) ≡ 1 + size rest
 
 pub cite_line : (by : By) → IsLine (Cite by)
-cite_line by = record { written = cite_written by; size_is = size-Cite by }
+cite_line by = record { written = λ rest h. (cite_written by rest h).1; size_is = size-Cite by }
 
 pub hence_line : (lit : Lit) (cert : Option Cert) → IsLine (Hence lit cert)
 hence_line lit cert = record { written = λ rest h. (hence_written lit cert rest h).2; size_is = size-Hence lit cert }
@@ -211,6 +213,7 @@ told_passed before step whole x after n b (Ok next) is line c h =
           record {
             written = line.written rest q.written;
             scopes = rest_small (line_at (whole rest) x goal) (lines_at before rest after goal) (lines_at before (whole rest) x goal) (c.next h.0 rest goal) q.scopes;
+            facts = c.formed h.0 q.facts;
             shown = q.shown;
             few = omega (arith, h.1, q.few, line.size_is rest);
           };
@@ -252,6 +255,7 @@ claim_inner before shown inner rest x goal n r =
     record {
       written = w.1;
       scopes = left_small (lines_at before inner x (goal_of shown)) (lines_at before rest (with_facts (joined_all x.facts shown) x) goal) s;
+      facts = r.facts;
       shown = w.0;
       few = omega (arith, r.few, size-Claim shown inner rest);
     }
@@ -268,6 +272,7 @@ passed_claim before shown inner x n m h e =
           record {
             written = (claim_written shown inner rest r.written).2;
             scopes = right_small A (lines_at before rest after goal) s;
+            facts = all_joined_formed x.facts shown r.facts (claim_written shown inner rest r.written).0;
             shown = r.shown;
             few = omega (arith, r.few, size-Claim shown inner rest, size_of before inner x (goal_of shown) (n + 1) m e);
           };
@@ -295,14 +300,15 @@ claim_bad before shown inner rest x goal n h = bad_line before (Claim shown inne
 -- ---- a superposition
 
 pub superposed_inner : (before : List Stated) (form : Superpose) (names : List (List ℕ)) (shown : List Lit) (certs : List Cert) (inner rest : Script) (x : Standing) (goal : Goal) (n : ℕ)
-    → IsReadyFor before (Superposed form names shown certs inner rest) x goal n → IsReadyFor before inner (after_superposed form x) (goal_of shown) (n + 1)
-superposed_inner before form names shown certs inner rest x goal n r =
+    → superposing.fits form x.scope ≡ true → IsReadyFor before (Superposed form names shown certs inner rest) x goal n → IsReadyFor before inner (after_superposed form x) (goal_of shown) (n + 1)
+superposed_inner before form names shown certs inner rest x goal n fit r =
     let w = superposed_written form names shown certs inner rest r.written in
     let d = Superposed form names shown certs inner rest in
     let s = rest_small (line_at d x goal) _ (lines_at before d x goal) (superposed_lines before form names shown certs inner x rest goal) r.scopes in
     record {
       written = w.2;
       scopes = left_small (lines_at before inner (after_superposed form x) (goal_of shown)) (lines_at before rest (with_facts (joined_all x.facts shown) x) goal) s;
+      facts = all_joined_formed x.facts (superposing.gives form x.scope) r.facts (superposed_gives_formed form x.scope fit);
       shown = w.0;
       few = omega (arith, r.few, size-Superposed form names shown certs inner rest);
     }
@@ -324,6 +330,7 @@ passed_superposed before form names shown certs inner x n m h e =
           record {
             written = (superposed_written form names shown certs inner rest r.written).3;
             scopes = right_small A (lines_at before rest after goal) s;
+            facts = all_joined_formed x.facts shown r.facts (superposed_written form names shown certs inner rest r.written).0;
             shown = r.shown;
             few = omega (arith, r.few, size-Superposed form names shown certs inner rest, size_of before inner (after_superposed form x) (goal_of shown) (n + 1) m e);
           };
@@ -353,8 +360,9 @@ cases_first before lit first second x goal n r =
     let w = cases_written lit first second r.written in
     let s = rest_small (line_at (Cases lit first second) x goal) _ (lines_at before (Cases lit first second) x goal) (cases_lines before lit first second x goal) r.scopes in
     record {
-      written = w.0;
+      written = w.1;
       scopes = left_small (lines_at before first (with_facts (joined x.facts lit) x) goal) (lines_at before second (with_facts (joined x.facts (negation lit)) x) goal) s;
+      facts = joined_formed x.facts lit r.facts w.0;
       shown = r.shown;
       few = omega (arith, r.few, size-Cases lit first second);
     }
@@ -365,8 +373,9 @@ cases_second before lit first second x goal n m r e =
     let w = cases_written lit first second r.written in
     let s = rest_small (line_at (Cases lit first second) x goal) _ (lines_at before (Cases lit first second) x goal) (cases_lines before lit first second x goal) r.scopes in
     record {
-      written = w.1;
+      written = w.2;
       scopes = right_small (lines_at before first (with_facts (joined x.facts lit) x) goal) (lines_at before second (with_facts (joined x.facts (negation lit)) x) goal) s;
+      facts = joined_formed x.facts (negation lit) r.facts w.0;
       shown = r.shown;
       few = omega (arith, r.few, size-Cases lit first second, size_of before first (with_facts (joined x.facts lit) x) goal (n + 1) m e);
     }

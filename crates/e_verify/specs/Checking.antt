@@ -30,11 +30,12 @@ abbrev pub RejectIs : Result ℕ ℕ → Reject → Type 0
 RejectIs verdict (Bad step) = verdict ≡ Err step
 RejectIs verdict NoMemory = Unit {0}
 
--- the literals of the script and of the goal are well formed, at most 1,000 objects of each sort are in scope before each line,
+-- the literals of the script, of the facts and of the goal are well formed, at most 1,000 objects of each sort are in scope before each line,
 -- and there are numbers for all lines
 pub record IsReadyFor (before : List Stated) (d : Script) (x : Standing) (goal : Goal) (first : ℕ) : Type 0 where
   pub written : IsTrue (is_written_well d)
   pub scopes : IsTrue (list_all (λ y. is_small y.scope) (lines_at before d x goal))
+  pub facts : IsTrue (list_all is_well_formed x.facts)
   pub shown : IsTrue (list_all is_well_formed goal.shown)
   pub few : first + size d < 2 ^ 32
 
@@ -48,11 +49,12 @@ pub record IsReadyStep (before : List Stated) (step : Step) (x : Standing) (firs
 abbrev pub KeepsFacts : Standing → Standing → Type 0
 KeepsFacts x after = take (length x.facts) after.facts ≡ x.facts
 
--- the line before whatever comes is certified, or is not; where it is, that holds after it
+-- the line before whatever comes is certified, or is not; where it is, that holds after it, and well-formed facts stay well formed
 pub record IsChecked (before : List Stated) (whole : Script → Script) (x after : Standing) (certified : Bool) : Type 0 where
   pub test : (rest : Script) (goal : Goal) → certified ≡ is_certified before (line_at (whole rest) x goal)
   pub next : IsTrue certified → (rest : Script) (goal : Goal) → lines_at before (whole rest) x goal ≡ line_at (whole rest) x goal ∷ lines_at before rest after goal
   pub kept : IsTrue certified → KeepsFacts x after
+  pub formed : IsTrue certified → IsTrue (list_all is_well_formed x.facts) → IsTrue (list_all is_well_formed after.facts)
 
 -- lines before a script have been checked where this held, and now that holds, and the next line has that number
 pub record IsPassed (before : List Stated) (whole : Script → Script) (x : Standing) (first : ℕ) (after : Standing) (next : ℕ) : Type 0 where

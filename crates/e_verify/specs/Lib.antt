@@ -1,3 +1,4 @@
 pub mod Checking
 pub mod Verdicts
+pub mod Numbered
 pub mod inner

@@ -6,3 +6,4 @@ pub mod Placed
 pub mod Fingerprint
 pub mod Alike
 pub mod Standing
+pub mod Numbering

@@ -7,6 +7,7 @@ ghost use Rattle.e_clause.specs.Certify;
 ghost use Rattle.e_clause.specs.PartCertificate;
 ghost use Rattle.e_clause.specs.Written.{is_good_part, is_good_cert, is_good_against};
 
+use crate::alike::are_same;
 use crate::facts::Facts;
 use crate::metric::sums_refute;
 use crate::scope::{cert_in, sums_in};
@@ -25,6 +26,7 @@ pub fn certify_all(
     lits: &[Lit],
     certs: &[Cert],
 ) -> Result<bool, AllocError>
+    requires facts { IsTrue (list_all is_well_formed facts.now) }
     requires lits { IsTrue (list_all is_well_formed lits.now) }
     requires certs { IsTrue (list_all is_good_cert certs.now) }
     ensures { IfOk result (λ b. b ≡ Certify.certify_all scope facts.now lits.now certs.now) }
@@ -50,6 +52,7 @@ pub fn certifies(
     lit: &Lit,
     cert: &Cert,
 ) -> Result<bool, AllocError>
+    requires facts { IsTrue (list_all is_well_formed facts.now) }
     requires lit { IsTrue (is_well_formed lit.now) }
     requires cert { IsTrue (is_good_cert cert.now) }
     ensures { IfOk result (λ b. b ≡ Certify.certifies scope facts.now lit.now cert.now) }
@@ -70,7 +73,8 @@ pub fn certifies_against(
     facts: &Facts,
     against: &Against,
 ) -> Result<bool, AllocError>
-    requires { IsTrue (is_good_against against.now) }
+    requires facts { IsTrue (list_all is_well_formed facts.now) }
+    requires against { IsTrue (is_good_against against.now) }
     ensures { IfOk result (λ b. b ≡ Certify.certifies_against scope facts.now against.now) }
 {
     match against {
@@ -92,24 +96,36 @@ pub fn certifies_against(
     }
 }
 
-/// Whether the literal is among the facts, or its sums show that it follows from them.
+/// Whether the literal is among the facts, or at the place among them, or its sums show that it follows from them.
 pub fn part_certifies(
     alloc: Global,
     facts: &Facts,
     lit: &Lit,
     part: &Part,
 ) -> Result<bool, AllocError>
+    requires facts { IsTrue (list_all is_well_formed facts.now) }
     requires lit { IsTrue (is_well_formed lit.now) }
     requires part { IsTrue (is_good_part part.now) }
     ensures { IfOk result (λ b. b ≡ PartCertificate.part_certifies facts.now lit.now part.now) }
 {
     match part {
         Part::Fact => Ok(facts.has(lit)),
+        Part::FactAt(place) => Ok(is_fact_at(facts, lit, *place)),
         Part::Metric(cert) => {
             if kind(lit).is_none() {
                 return Ok(false);
             }
             sums_refute(alloc, facts, Some(lit), &cert.sums)
         }
+    }
+}
+
+/// Whether the fact at this place, counted from 0, is the same as the literal.
+fn is_fact_at(facts: &Facts, lit: &Lit, place: u32) -> bool
+    ensures { result ≡ PartCertificate.is_fact_at facts.now lit.now place }
+{
+    match facts.at(place) {
+        Some(fact) => are_same(fact, lit),
+        None => false,
     }
 }

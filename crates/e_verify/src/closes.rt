@@ -28,6 +28,7 @@ pub fn qed(
     goal: &Goal,
     standing: &Standing,
 ) -> Result<bool, AllocError>
+    requires facts { IsTrue (list_all is_well_formed standing.now.facts) }
     requires shown { IsTrue (list_all is_well_formed goal.now.shown.now) }
     requires certs { IsTrue (list_all is_good_cert certs.now) }
     ensures { IfOk result (λ b. (before : List Stated) → b ≡ is_certified before (line_at (Qed objects.now certs.now) standing.now (goal_said goal.now))) }
@@ -45,7 +46,8 @@ pub fn contradiction(
     against: &Option<Against>,
     standing: &Standing,
 ) -> Result<bool, AllocError>
-    requires { IsTrue (option_map_or is_good_against against.now true) }
+    requires facts { IsTrue (list_all is_well_formed standing.now.facts) }
+    requires against { IsTrue (option_map_or is_good_against against.now true) }
     ensures { IfOk result (λ b. (before : List Stated) (goal : BlockGoal) → b ≡ is_certified before (line_at (Contradiction against.now) standing.now goal)) }
 {
     match against {
@@ -56,7 +58,7 @@ pub fn contradiction(
 
 /// Whether the objects are one for each of the made ones, of its sort, and in scope.
 #[tactic(auto, using(crate::proofs::Closing::objects))]
-fn are_of_sorts(scope: Scope, made: &[Obj], objects: &[Obj]) -> bool
+pub(crate) fn are_of_sorts(scope: Scope, made: &[Obj], objects: &[Obj]) -> bool
     ensures { result ≡ Scopes.are_of_sorts scope (map (λ o. o.sort) made.now) objects.now }
 {
     match (made, objects) {
@@ -72,7 +74,7 @@ fn are_of_sorts(scope: Scope, made: &[Obj], objects: &[Obj]) -> bool
 }
 
 /// The literals of the goal with these objects for its made ones.
-fn goal_with(alloc: Global, goal: &Goal, objects: &[Obj]) -> Result<Vec<Lit>, AllocError>
+pub(crate) fn goal_with(alloc: Global, goal: &Goal, objects: &[Obj]) -> Result<Vec<Lit>, AllocError>
     requires one_sort { map (λ o. o.sort) goal.now.made.now ≡ map (λ o. o.sort) objects.now }
     ensures { IfOk result (λ lits. lits.items ≡ Rattle.e_deriv.specs.Goal.goal_with (goal_said goal.now) objects.now) }
 {

@@ -1,7 +1,8 @@
 // The facts before a line.
 
-ghost use Rattle.std.specs.Prelude.{◌≡◌, ◌≤◌, [], take, length, OnOk};
-ghost use Rattle.std.specs.List.{list_any};
+ghost use Rattle.std.specs.Prelude.{◌≡◌, ◌≤◌, [], take, length, slice_get, OnOk};
+ghost use Rattle.std.specs.List.{list_any, position};
+ghost use Rattle.std.specs.Option.{option_copied};
 ghost use Rattle.e_literal.specs.Facts.{has, has_all, joined, joined_all, are_equal_points};
 ghost use Rattle.e_literal.specs.Literal.{negation};
 ghost use Rattle.e_literal.specs.Same.{same_lit, term_eq};
@@ -81,6 +82,26 @@ impl Facts {
         ensures { result ≡ Rattle.e_literal.specs.Facts.has self.now lit.now }
     {
         has_same(&self.lits, lit, fingerprint_of(lit))
+    }
+
+    /// The fact at this place, counted from 0.
+    pub fn at(&self, place: u32) -> Option<&Lit>
+        ensures { option_copied result ≡ slice_get self.now place }
+    {
+        match self.lits.get(place as usize) {
+            Some(fact) => Some(&fact.lit),
+            None => None,
+        }
+    }
+
+    /// The place of the first fact that is the same, counted from 0.
+    pub fn place_of(&self, lit: &Lit) -> Option<usize>
+        ensures { result ≡ position (λ f. same_lit f lit.now) self.now }
+    {
+        let fingerprint = fingerprint_of(lit);
+        self.lits
+            .iter()
+            .position(|fact| fact.is_same(lit, fingerprint))
     }
 
     /// Whether each of the literals is there.

@@ -1,4 +1,4 @@
-//! Checks a derivation, certificate by certificate. Nothing is searched for.
+//! Checks a derivation, certificate by certificate, and puts the places of facts into certificates. Nothing is searched for.
 #![tactic(auto)]
 
 mod adding;
@@ -6,11 +6,14 @@ mod alike;
 mod block;
 mod certificate;
 mod closes;
+mod ending;
 mod facts;
 mod fingerprint;
 mod instances;
 mod key;
 mod metric;
+mod numbering;
+mod places;
 mod reject;
 mod rows;
 mod scope;
@@ -21,5 +24,6 @@ mod totals;
 mod transfer;
 mod verifier;
 
+pub use numbering::numbered;
 pub use reject::Reject;
 pub use verifier::verify;

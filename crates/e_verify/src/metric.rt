@@ -2,6 +2,7 @@
 
 ghost use Rattle.std.specs.Prelude.{◌≡◌, IfOk, IfSome, IsTrue, true, option_and_then, if◌then◌else◌, Some, None};
 ghost use Rattle.std.specs.Option.{option_map, option_map_or, option_copied};
+ghost use Rattle.std.specs.List.{list_all};
 ghost use Rattle.e_literal.specs.WellFormed.{is_well_formed};
 ghost use Rattle.e_clause.specs.Sum.{says_differ};
 ghost use Rattle.e_clause.specs.MetricCertificate;
@@ -10,7 +11,7 @@ ghost use Rattle.e_verify.specs.inner.Views.{row_said, comparison_said};
 ghost use Rattle.e_clause.specs.Written.{is_good_name, is_good_sum, is_good_sums};
 
 use crate::facts::Facts;
-use crate::rows::{Comparison, Place, Row, Says, fact_row, goal_row};
+use crate::rows::{Comparison, Place, Row, Says, fact_row, goal_row, row_at};
 use crate::sums::refutes;
 use e_clause::{RowName, Sums};
 use e_literal::Lit;
@@ -23,6 +24,7 @@ pub fn sums_refute<'a>(
     wanted: Option<&'a Lit>,
     sums: &'a Sums,
 ) -> Result<bool, AllocError>
+    requires facts { IsTrue (list_all is_well_formed facts.now) }
     requires wanted { IsTrue (option_map_or is_well_formed (option_copied wanted) true) }
     requires sums { IsTrue (is_good_sums sums.now) }
     ensures { IfOk result (λ b. b ≡ MetricCertificate.sums_refute facts.now (option_copied wanted.entry) sums.now) }
@@ -57,6 +59,7 @@ fn both_refute<'a>(
     above: &'a [(i128, RowName)],
     below: &'a [(i128, RowName)],
 ) -> Result<bool, AllocError>
+    requires facts { IsTrue (list_all is_well_formed facts.now) }
     requires wanted { IsTrue (option_map_or is_well_formed (option_copied wanted) true) }
     requires row { IsTrue (is_short row) }
     requires above { IsTrue (is_good_sum above.now) }
@@ -83,10 +86,11 @@ fn both_refute<'a>(
 
 /// The row that says that its form is not 0, or none where the name may not be used here.
 fn differing<'a>(
-    facts: &Facts,
+    facts: &'a Facts,
     wanted: Option<&'a Lit>,
     name: &'a RowName,
 ) -> Option<Comparison<'a>>
+    requires facts { IsTrue (list_all is_well_formed facts.now) }
     requires wanted { IsTrue (option_map_or is_well_formed (option_copied wanted) true) }
     requires name { IsTrue (is_good_name name.now) }
     ensures row { option_map comparison_said result ≡ MetricCertificate.differing facts.now (option_copied wanted.entry) name.now }
@@ -95,6 +99,7 @@ fn differing<'a>(
     match name {
         RowName::Fact(lit) => if_not(fact_row(facts, lit)),
         RowName::Goal => if_not(goal_row(wanted)),
+        RowName::FactAt(place) => if_not(row_at(facts, *place)),
         _ => None,
     }
 }

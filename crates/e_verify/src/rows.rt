@@ -2,6 +2,7 @@
 
 ghost use Rattle.std.specs.Prelude.{◌≡◌, IfSome, IsTrue, true};
 ghost use Rattle.std.specs.Option.{option_map, option_map_or, option_copied};
+ghost use Rattle.std.specs.List.{list_all};
 ghost use Rattle.e_literal.specs.Rows;
 ghost use Rattle.e_literal.specs.Rows.{row_of_atom};
 ghost use Rattle.e_literal.specs.WellFormed.{is_good_atom, is_well_formed};
@@ -92,6 +93,7 @@ pub fn row_named<'a>(place: &Place<'a>, name: &'a RowName) -> Option<Row<'a>>
         RowName::Least(term) => least_row(place, *term),
         RowName::Above => place.above,
         RowName::Below => place.below,
+        RowName::FactAt(at) => unless_not(row_at(place.facts, *at)),
     }
 }
 
@@ -105,6 +107,18 @@ pub fn fact_row<'a>(facts: &Facts, lit: &'a Lit) -> Option<Comparison<'a>>
         row_of(&lit.atom, lit.neg)
     } else {
         None
+    }
+}
+
+/// The row of the fact at this place, counted from 0, whatever it says.
+pub fn row_at<'a>(facts: &'a Facts, place: u32) -> Option<Comparison<'a>>
+    requires { IsTrue (list_all is_well_formed facts.now) }
+    ensures row { option_map comparison_said result ≡ Sum.row_at facts.now place }
+    ensures small { IfSome result (λ c. IsTrue (is_short c)) }
+{
+    match facts.at(place) {
+        Some(lit) => row_of(&lit.atom, lit.neg),
+        None => None,
     }
 }
 

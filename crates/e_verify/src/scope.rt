@@ -46,7 +46,7 @@ fn part_in(scope: Scope, part: &Part) -> bool
     ensures { result ≡ PartCertificate.part_in scope part.now }
 {
     match part {
-        Part::Fact => true,
+        Part::Fact | Part::FactAt(_) => true,
         Part::Metric(cert) => sums_in(scope, &cert.sums),
     }
 }
@@ -79,7 +79,8 @@ fn name_in(scope: Scope, name: &RowName) -> bool
     match name {
         RowName::Fact(lit) => in_scope(lit, scope),
         RowName::Pos(term) | RowName::Top(term) | RowName::Least(term) => term_in(scope, *term),
-        RowName::Goal | RowName::Right | RowName::Above | RowName::Below => true,
+        RowName::Goal | RowName::Right | RowName::Above | RowName::Below | RowName::FactAt(_) =>
+            true,
     }
 }
 

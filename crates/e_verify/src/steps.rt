@@ -31,6 +31,7 @@ use std::alloc::{AllocError, Global};
 
 /// Whether a citation is certified; then its literal is a fact.
 pub fn cite(alloc: Global, by: &By, standing: &mut Standing) -> Result<bool, AllocError>
+    requires { IsTrue (is_well_formed by.now.lit) }
     ensures { IfOk result (λ b. (before : List Stated) → IsChecked before (Cite by.now) standing.old standing.new b) }
 {
     if !is_cited(alloc, standing.scope, &standing.facts, by)? {
@@ -64,6 +65,7 @@ pub fn hence(
     cert: &Option<Cert>,
     standing: &mut Standing,
 ) -> Result<bool, AllocError>
+    requires facts { IsTrue (list_all is_well_formed standing.old.facts) }
     requires lit { IsTrue (is_well_formed lit.now) }
     requires cert { IsTrue (option_map_or is_good_cert cert.now true) }
     ensures { IfOk result (λ b. (before : List Stated) → IsChecked before (Hence lit.now cert.now) standing.old standing.new b) }
@@ -88,6 +90,7 @@ pub fn make(
     certs: &[Cert],
     standing: &mut Standing,
 ) -> Result<bool, AllocError>
+    requires facts { IsTrue (list_all is_well_formed standing.old.facts) }
     requires scope { IsTrue (is_small standing.old.scope) }
     requires certs { IsTrue (list_all is_good_cert certs.now) }
     ensures { IfOk result (λ b. (before : List Stated) (names : List (List ℕ)) → IsChecked before (Make form.now names certs.now) standing.old standing.new b) }
@@ -115,6 +118,7 @@ pub fn apply(
     certs: &[Cert],
     standing: &mut Standing,
 ) -> Result<bool, AllocError>
+    requires facts { IsTrue (list_all is_well_formed standing.old.facts) }
     requires scope { IsTrue (is_small standing.old.scope) }
     requires statements { IsTrue (list_all is_small_statement (all_stated before.now)) }
     requires certs { IsTrue (list_all is_good_cert certs.now) }
@@ -148,6 +152,7 @@ pub fn superpose(
     certs: &[Cert],
     standing: &mut Standing,
 ) -> Result<bool, AllocError>
+    requires facts { IsTrue (list_all is_well_formed standing.old.facts) }
     requires scope { IsTrue (is_small standing.old.scope) }
     requires certs { IsTrue (list_all is_good_cert certs.now) }
     ensures test { IfOk result (λ b. (before : List Stated) (names : List (List ℕ)) (inner rest : Script) (goal : Goal) → b ≡ is_certified before (line_at (Superposed form.now names shown.now certs.now inner rest) standing.old goal)) }
@@ -168,7 +173,10 @@ pub fn superpose(
 }
 
 /// The arguments, or none where one of them is a blank.
-fn all_written(alloc: Global, args: &[Option<Obj>]) -> Result<Option<Vec<Obj>>, AllocError>
+pub(crate) fn all_written(
+    alloc: Global,
+    args: &[Option<Obj>],
+) -> Result<Option<Vec<Obj>>, AllocError>
     ensures { IfOk result (λ o. option_map (λ v. v.items) o ≡ (if has_no_blank args.now then Some (written args.now) else None)) }
 {
     let mut objects = Vec::new(alloc);

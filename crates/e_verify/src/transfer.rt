@@ -21,7 +21,8 @@ pub fn transfer_certifies(
     lit: &Lit,
     cert: &TransferCert,
 ) -> Result<bool, AllocError>
-    requires { IsTrue (list_all is_good_part cert.now.parts) }
+    requires facts { IsTrue (list_all is_well_formed facts.now) }
+    requires parts { IsTrue (list_all is_good_part cert.now.parts) }
     ensures { IfOk result (λ b. b ≡ TransferCertificate.transfer_certifies facts.now lit.now cert.now) }
 {
     if !cert.rule.is_transfer() {
@@ -45,6 +46,7 @@ fn parts_certify(
     lits: &[Lit],
     parts: &[Part],
 ) -> Result<bool, AllocError>
+    requires facts { IsTrue (list_all is_well_formed facts.now) }
     requires lits { IsTrue (list_all is_well_formed lits.now) }
     requires parts { IsTrue (list_all is_good_part parts.now) }
     ensures { IfOk result (λ b. b ≡ TransferCertificate.parts_certify facts.now (map negation lits.now) parts.now) }

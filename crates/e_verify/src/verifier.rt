@@ -19,7 +19,7 @@ use e_literal::{Scope, grown, next_objects};
 use e_theorem::Statement;
 use std::alloc::{AllocError, Global};
 
-const NOTHING: Scope = Scope {
+pub(crate) const NOTHING: Scope = Scope {
     points: 0,
     lines: 0,
     circles: 0,
@@ -56,7 +56,11 @@ pub fn verify(
 }
 
 /// What holds before the first line: the declared objects are in scope, and the given literals are facts.
-fn begin(alloc: Global, scope: Scope, statement: &Statement) -> Result<Standing, AllocError>
+pub(crate) fn begin(
+    alloc: Global,
+    scope: Scope,
+    statement: &Statement,
+) -> Result<Standing, AllocError>
     requires { scope ≡ scope_of (stated statement.now) }
     ensures { IfOk result (λ x. x ≡ start_of (stated statement.now)) }
 {

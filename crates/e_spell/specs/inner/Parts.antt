@@ -19,7 +19,7 @@ use Rattle.e_clause.specs.declared.cert.Sums.{Sums}
 use Rattle.e_clause.specs.declared.cert.Sums.TheVariants.{One, Two}
 use Rattle.e_clause.specs.declared.cert.MetricCert.{MetricCert}
 use Rattle.e_clause.specs.declared.cert.Part.{Part}
-use Rattle.e_clause.specs.declared.cert.Part.TheVariants.{Fact, Metric}
+use Rattle.e_clause.specs.declared.cert.Part.TheVariants.{Fact, Metric, FactAt}
 use Rattle.e_clause.specs.declared.cert.TransferCert.{TransferCert}
 use Rattle.e_clause.specs.declared.cert.Against.{Against}
 use Rattle.e_clause.specs.declared.cert.Against.TheVariants.{Clash, Metric as MetricAgainst}
@@ -71,9 +71,14 @@ sums_text ns (Two differs above below) = differs_text ns differs ++ (sum_text ns
 abbrev pub metric_text : Names → MetricCert → List ℕ
 metric_text ns m = bar_text (codes "metric" ∷ []) ++ sums_text ns m.sums
 
+-- a fact by its place
+abbrev pub place_text : ℕ → List ℕ
+place_text k = bar_text (codes "fact" ∷ decimal k ∷ [])
+
 abbrev pub part_text : Names → Part → List ℕ
 part_text ns Fact = bar_text (codes "fact" ∷ [])
 part_text ns (Metric m) = metric_text ns m
+part_text ns (FactAt k) = place_text k
 
 abbrev pub parts_text : Names → List Part → List ℕ
 parts_text ns ps = flat_map (part_text ns) ps

@@ -10,7 +10,7 @@ use Rattle.e_judgement.proofs.judging.judge_theorems.Given as goal
 
 abbrev pub invariant-loop-theorem : goal.invariant-loop-theorem
 invariant-loop-theorem l = record {
-  history : History (last_line l.initial.lines) l.initial.lines.lines l.known l.lines.lines;
+  history : History l.version (last_line l.initial.lines) l.initial.lines.lines l.known l.lines.lines;
   small : IsTrue (list_all is_small_statement (stated_by l.known));
   few : length l.known ≤ most_theorems;
   last : last_line l.lines ≡ last_line l.initial.lines;

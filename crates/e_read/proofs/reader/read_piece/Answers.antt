@@ -7,8 +7,8 @@ use Rattle.e_read.specs.Text.{piece_from}
 use Rattle.e_read.proofs.Pieces.{read_ended}
 use Rattle.e_read.proofs.reader.read_piece.Goals as goal
 
-pub loop-reading-init : goal.loop-reading-init
-loop-reading-init c = record {
+pub loop-line-init : goal.loop-line-init
+loop-line-init c = record {
   read = ap (λ (r : Reading). piece_from c.args.known.now (last_line c.args.lines.now) r c.args.lines.now.lines) c.new-reading.ensures.value;
   last = refl;
   fewer = omega arith;
@@ -16,7 +16,7 @@ loop-reading-init c = record {
   few = rw c.new-reading.ensures.value tt;
 }
 
-pub returns-in-Ended-clause-read : goal.returns-in-Ended-clause-read
-returns-in-Ended-clause-read c =
-    read_ended c.args.known.now (last_line c.args.lines.now) c.loop-reading.reading c.turned.new.reading (seen c.in_ok-line.line) c.loop-reading.lines.lines c.seen_line.new.lines.lines _ (entry_of c.in_ok-theorem-in-Ended.theorem) _ c.in-Ended.is c.in_ok-turned.ensures.turn
-    c.in_ok-theorem-in-Ended.ensures c.in_ok-line.ensures.line c.loop-reading.invariant.read
+pub returns-in-Ok-Ended-clause-read : goal.returns-in-Ok-Ended-clause-read
+returns-in-Ok-Ended-clause-read c =
+    read_ended c.args.known.now (last_line c.args.lines.now) c.loop-line.reading c.turned.new.reading (seen c.in-Ok.line) c.loop-line.lines.lines c.seen_line.new.lines.lines _ (entry_of c.in_ok-theorem-in-Ok-Ended.theorem) _ refl (rw c.in-Ok-Ended.field-0-is at c.in-Ok-Ended.ensures.turn)
+    c.in_ok-theorem-in-Ok-Ended.ensures c.in-Ok.ensures.line c.loop-line.invariant.read

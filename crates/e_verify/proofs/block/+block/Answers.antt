@@ -6,7 +6,7 @@ use Rattle.e_verify.specs.inner.Standing.{goal_said}
 use Rattle.e_verify.specs.Checking.{verdict_at, IsReadyFor, IsChecked}
 use Rattle.e_deriv.proofs.Keeping.{all_stay}
 use Rattle.e_verify.proofs.Passing.{cite_line, hence_line, make_line, apply_line, told_passed, told_bad}
-use Rattle.e_verify.proofs.Inside.{step_ready, step_rejects, step_same, step_next, steps_end, kept_on, ok_as, err_as, few_one, few_step, small_step, cite_is, hence_is, make_is, apply_is, hence_parts, make_parts, apply_parts, claim_ready, claim_fails, claim_stops, claim_done, superposed_parts, superposed_ready, superposed_fails, superposed_stops, superposed_done, qed_parts, contradiction_parts, qed_ok, qed_bad, contradiction_ok, contradiction_bad, split_fails, first_ready, first_stops, behind_first, second_ready, split_same, kept_behind}
+use Rattle.e_verify.proofs.Inside.{step_ready, step_rejects, step_same, step_next, steps_end, kept_on, ok_as, err_as, few_one, few_step, small_step, formed_step, cite_parts, tested_fits, cite_is, hence_is, make_is, apply_is, hence_parts, make_parts, apply_parts, claim_ready, claim_fails, claim_stops, claim_done, superposed_parts, superposed_ready, superposed_fails, superposed_stops, superposed_done, qed_parts, contradiction_parts, qed_ok, qed_bad, contradiction_ok, contradiction_bad, split_fails, first_ready, first_stops, behind_first, second_ready, split_same, kept_behind}
 use Rattle.e_verify.proofs.block.+block.Goals as goal
 use Rattle.e_verify.proofs.Added.{on_ok}
 
@@ -101,6 +101,12 @@ verify_step-returns-in_ok-cite-in-Cite-clause-err t c =
     told_bad before c.args.step.now (Cite c.in-Cite.by) c.args.standing.now c.cite.new.standing c.args.number c.in_ok-cite-in-Cite.field-0 c.told.result (cite_is c.args.step.now c.in-Cite.by c.in-Cite.is)
     (c.in_ok-cite-in-Cite.ensures before) c.told.ensures.err
 
+pub verify_step-cite-requires : goal.verify_step-cite-requires
+verify_step-cite-requires t c = cite_parts (all_stated c.args.before.now) c.args.step.now c.in-Cite.by c.args.standing.now c.args.number c.in-Cite.is c.requires.ready
+
+pub verify_step-hence-requires-clause-facts : goal.verify_step-hence-requires-clause-facts
+verify_step-hence-requires-clause-facts t c = formed_step (all_stated c.args.before.now) c.args.step.now c.args.standing.now c.args.number c.requires.ready
+
 pub verify_step-hence-requires-clause-lit : goal.verify_step-hence-requires-clause-lit
 verify_step-hence-requires-clause-lit t c =
     (hence_parts (all_stated c.args.before.now) c.args.step.now c.in-Hence.lit c.in-Hence.cert c.args.standing.now c.args.number c.in-Hence.is c.requires.ready).0
@@ -123,6 +129,9 @@ verify_step-returns-in_ok-hence-in-Hence-clause-err t c =
     told_bad before c.args.step.now (Hence y.lit y.cert) c.args.standing.now c.hence.new.standing c.args.number c.in_ok-hence-in-Hence.field-0 c.told-in-Hence.result (hence_is c.args.step.now y.lit y.cert y.is)
     (c.in_ok-hence-in-Hence.ensures before) c.told-in-Hence.ensures.err
 
+pub verify_step-make-requires-clause-facts : goal.verify_step-make-requires-clause-facts
+verify_step-make-requires-clause-facts t c = formed_step (all_stated c.args.before.now) c.args.step.now c.args.standing.now c.args.number c.requires.ready
+
 pub verify_step-make-requires-clause-scope : goal.verify_step-make-requires-clause-scope
 verify_step-make-requires-clause-scope t c = small_step (all_stated c.args.before.now) c.args.step.now c.args.standing.now c.args.number c.requires.ready
 
@@ -144,6 +153,9 @@ verify_step-returns-in_ok-make-in-Make-clause-err t c =
     let y = c.in-Make in
     told_bad before c.args.step.now (Make y.form y.names y.certs) c.args.standing.now c.make.new.standing c.args.number c.in_ok-make-in-Make.field-0 c.told-in-Make.result (make_is c.args.step.now y.form y.names y.certs y.is)
     (subst (λ cs. IsChecked before (Make y.form y.names cs) c.args.standing.now c.make.new.standing c.in_ok-make-in-Make.field-0) c.items.ensures (c.in_ok-make-in-Make.ensures before y.names)) c.told-in-Make.ensures.err
+
+pub verify_step-apply-requires-clause-facts : goal.verify_step-apply-requires-clause-facts
+verify_step-apply-requires-clause-facts t c = formed_step (all_stated c.args.before.now) c.args.step.now c.args.standing.now c.args.number c.requires.ready
 
 pub verify_step-apply-requires-clause-scope : goal.verify_step-apply-requires-clause-scope
 verify_step-apply-requires-clause-scope t c = small_step (all_stated c.args.before.now) c.args.step.now c.args.standing.now c.args.number c.requires.ready
@@ -213,6 +225,9 @@ verify_close-told-requires t c = few_one (all_stated c.args.before.now) (close_s
 pub verify_close-told-requires-in-Contradiction : goal.verify_close-told-requires-in-Contradiction
 verify_close-told-requires-in-Contradiction t c = few_one (all_stated c.args.before.now) (close_script c.args.close.now) c.args.standing.now (goal_said c.args.goal.now) c.args.number c.requires.ready
 
+pub verify_close-qed-requires-clause-facts : goal.verify_close-qed-requires-clause-facts
+verify_close-qed-requires-clause-facts t c = c.requires.ready.facts
+
 pub verify_close-qed-requires-clause-shown : goal.verify_close-qed-requires-clause-shown
 verify_close-qed-requires-clause-shown t c = c.requires.ready.shown
 
@@ -235,8 +250,11 @@ verify_close-returns-in_ok-qed-in-Qed-clause-err t c =
     qed_bad before c.args.close.now y.objects c.items-objects.result.now y.certs c.items.result.now c.args.standing.now (goal_said c.args.goal.now) c.args.number c.in_ok-qed-in-Qed.field-0 c.told.result y.is c.items-objects.ensures c.items.ensures
     (c.in_ok-qed-in-Qed.ensures before) c.told.ensures.err
 
-pub verify_close-contradiction-requires : goal.verify_close-contradiction-requires
-verify_close-contradiction-requires t c =
+pub verify_close-contradiction-requires-clause-facts : goal.verify_close-contradiction-requires-clause-facts
+verify_close-contradiction-requires-clause-facts t c = c.requires.ready.facts
+
+pub verify_close-contradiction-requires-clause-against : goal.verify_close-contradiction-requires-clause-against
+verify_close-contradiction-requires-clause-against t c =
     contradiction_parts (all_stated c.args.before.now) c.args.close.now c.in-Contradiction.against c.args.standing.now (goal_said c.args.goal.now) c.args.number c.in-Contradiction.is c.requires.ready
 
 pub verify_close-returns-in_ok-contradiction-in-Contradiction-clause-ok : goal.verify_close-returns-in_ok-contradiction-in-Contradiction-clause-ok
@@ -252,6 +270,9 @@ verify_close-returns-in_ok-contradiction-in-Contradiction-clause-err t c =
     (c.in_ok-contradiction-in-Contradiction.ensures before (goal_said c.args.goal.now)) c.told-in-Contradiction.ensures.err
 
 -- ---- a superposition
+
+pub verify_step-superpose-requires-clause-facts : goal.verify_step-superpose-requires-clause-facts
+verify_step-superpose-requires-clause-facts t c = formed_step (all_stated c.args.before.now) c.args.step.now c.args.standing.now c.args.number c.requires.ready
 
 pub verify_step-superpose-requires-clause-scope : goal.verify_step-superpose-requires-clause-scope
 verify_step-superpose-requires-clause-scope t c = small_step (all_stated c.args.before.now) c.args.step.now c.args.standing.now c.args.number c.requires.ready
@@ -277,7 +298,10 @@ verify_step-verify_block-requires-in-Superposed t c =
       search (rules, the_lemmas),
       (
         superposed_ready (all_stated c.args.before.now) c.args.step.now y.form y.names y.shown c.items-in-Superposed-3.result.now y.certs y.inner c.deref-in-Superposed.result.now c.args.standing.now c.superpose.new.standing c.args.number y.is
-            c.items-in-Superposed-3.ensures c.deref-in-Superposed.ensures (c.in_ok-superpose-in-Superposed.ensures.after c.if-not-branch.false) c.requires.ready,
+            c.items-in-Superposed-3.ensures c.deref-in-Superposed.ensures (c.in_ok-superpose-in-Superposed.ensures.after c.if-not-branch.false)
+            (tested_fits (all_stated c.args.before.now) y.form c.items-in-Superposed.result.now c.items-in-Superposed-2.result.now c.args.standing.now c.in_ok-superpose-in-Superposed.field-0 c.if-not-branch.false
+            (c.in_ok-superpose-in-Superposed.ensures.test (all_stated c.args.before.now)))
+            c.requires.ready,
         c.requires.statements,
       ),
     )

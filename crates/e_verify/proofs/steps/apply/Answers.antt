@@ -99,6 +99,7 @@ returns c names =
     let needs = c.items.ensures ∙ c.in-Ok.ensures.needs ∙ ap (λ os. needs_of_use t os x.scope) os in
     let gives = c.items-3.ensures ∙ c.in-Ok.ensures.gives ∙ ap (λ os. gives_of_use t os x.scope) os in
     let scope = c.grown-standing.ensures ∙ ap (grown x.scope) c.items-2.ensures in
-    checked_apply (all_stated c.args.before.now) c.args.theorem c.args.args.now names c.args.certs.now t x c.suppose_all.new.self (theorem_there c.args.before.now c.args.theorem c.in-Some.statement.now c.in-Some.ensures.lookup.3.0 c.in-Some.ensures.lookup.1) w.0
+    let f = fits_of c.args.before.now c.args.theorem c.args.args.now c.in-Some.statement.now c.in-Some-2.objects.items c.requires.statements c.in-Some.ensures.lookup.3.0 c.in-Some.ensures.lookup.1 e in
+    checked_apply (all_stated c.args.before.now) c.args.theorem c.args.args.now names c.args.certs.now t x c.suppose_all.new.self f.small (theorem_there c.args.before.now c.args.theorem c.in-Some.statement.now c.in-Some.ensures.lookup.3.0 c.in-Some.ensures.lookup.1) w.0
     (ap (λ os. are_arguments t x.scope os) (sym os) ∙ c.in-Ok.ensures.fit) (ap (λ ls. certify_all x.scope x.facts ls c.args.certs.now) (sym needs) ∙ sym c.in_ok-certify_all.ensures ∙ c.if-not-branch.false)
     (c.in_ok-suppose_all.ensures ∙ ap (λ s. as_standing s (joined_all x.facts c.items-3.result.now)) scope ∙ ap (λ ls. as_standing (grown x.scope t.made) (joined_all x.facts ls)) gives)

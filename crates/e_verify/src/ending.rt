@@ -1,0 +1,138 @@
+// What is left of an inner block that has its places.
+
+ghost use Rattle.std.specs.Prelude.{◌≡◌, IfOk, OnOk};
+ghost use Rattle.e_literal.specs.Facts.{joined_all};
+ghost use Rattle.e_deriv.specs.Script.{Script, Claim, Superposed, Cases, script_of, step_script, close_script};
+ghost use Rattle.e_verify.specs.inner.Standing.{left_for, with_facts};
+
+use crate::standing::{Outer, Standing};
+use e_clause::Cert;
+use e_construct::Superpose;
+use e_deriv::{Block, Close, Step, copy_lits};
+use e_literal::{Items, Lit, copy};
+use e_text::Name;
+use std::alloc::{AllocError, Global};
+use std::mem;
+
+/// A superposition with its certificates, without its block.
+#[derive(Drop)]
+pub struct Head<'a> {
+    pub form: &'a Superpose,
+    pub names: &'a [Name],
+    pub certs: Items<Cert>,
+}
+
+/// The block ends, and what it shows are facts where it was entered; hands out equal literals.
+fn show_after(
+    alloc: Global,
+    shown: &[Lit],
+    outer: Outer,
+    standing: &mut Standing,
+) -> Result<Items<Lit>, AllocError>
+    ensures shown { IfOk result (λ ls. ls ≡ shown.now) }
+    ensures after { OnOk result (standing.new ≡ with_facts (joined_all (left_for outer standing.old).facts shown.now) (left_for outer standing.old)) }
+{
+    standing.leave(outer);
+    standing.suppose_all(alloc, shown)?;
+    copy_lits(alloc, shown)
+}
+
+/// A claim whose block has its places: what it shows are facts where the block was entered.
+#[tactic(auto, using(e_deriv::proofs::Scripts::scripts))]
+pub fn claimed(
+    alloc: Global,
+    shown: &[Lit],
+    block: Block,
+    outer: Outer,
+    standing: &mut Standing,
+) -> Result<Step, AllocError>
+    ensures step { IfOk result (λ s. (rest : Script) → step_script s rest ≡ Claim shown.now (script_of block) rest) }
+    ensures after { OnOk result (standing.new ≡ with_facts (joined_all (left_for outer standing.old).facts shown.now) (left_for outer standing.old)) }
+{
+    let shown = match show_after(alloc, shown, outer, standing) {
+        Ok(shown) => shown,
+        Err(_) => {
+            mem::drop(block);
+            return Err(AllocError);
+        }
+    };
+    let inner = Box::new(alloc, block)?;
+    Ok(Step::Claim { shown, inner })
+}
+
+/// A superposition whose block has its places: what it shows are facts where the block was entered.
+#[tactic(auto, using(e_deriv::proofs::Scripts::scripts))]
+pub fn superposed(
+    alloc: Global,
+    head: Head,
+    shown: &[Lit],
+    block: Block,
+    outer: Outer,
+    standing: &mut Standing,
+) -> Result<Step, AllocError>
+    ensures step { IfOk result (λ s. (rest : Script) → step_script s rest ≡ Superposed head.entry.form.now head.entry.names.now shown.now head.entry.certs (script_of block) rest) }
+    ensures after { OnOk result (standing.new ≡ with_facts (joined_all (left_for outer standing.old).facts shown.now) (left_for outer standing.old)) }
+{
+    let Head { form, names, certs } = head;
+    let shown = match show_after(alloc, shown, outer, standing) {
+        Ok(shown) => shown,
+        Err(_) => {
+            mem::drop(block);
+            return Err(AllocError);
+        }
+    };
+    let names = match Vec::from_slice(alloc, names) {
+        Ok(names) => names,
+        Err(_) => {
+            mem::drop(block);
+            return Err(AllocError);
+        }
+    };
+    let inner = Box::new(alloc, block)?;
+    Ok(Step::Superposed {
+        form: *form,
+        names: Items::new(names),
+        shown,
+        certs,
+        inner,
+    })
+}
+
+/// Two blocks, boxed.
+fn boxed(alloc: Global, first: Block, second: Block) -> Result<(Box<Block>, Box<Block>), AllocError>
+    ensures first { IfOk result (λ p. p.0.value ≡ first) }
+    ensures second { IfOk result (λ p. p.1.value ≡ second) }
+{
+    let first = match Box::new(alloc, first) {
+        Ok(first) => first,
+        Err(failed) => {
+            mem::drop(failed);
+            mem::drop(second);
+            return Err(AllocError);
+        }
+    };
+    match Box::new(alloc, second) {
+        Ok(second) => Ok((first, second)),
+        Err(failed) => {
+            mem::drop(failed);
+            mem::drop(first);
+            Err(AllocError)
+        }
+    }
+}
+
+/// A split whose blocks have their places.
+#[tactic(auto, using(e_deriv::proofs::Scripts::scripts))]
+pub fn split(alloc: Global, lit: &Lit, first: Block, second: Block) -> Result<Close, AllocError>
+    ensures { IfOk result (λ c. close_script c ≡ Cases lit.now (script_of first) (script_of second)) }
+{
+    let (first, second) = boxed(alloc, first, second)?;
+    match copy(alloc, lit) {
+        Ok(lit) => Ok(Close::Cases { lit, first, second }),
+        Err(_) => {
+            mem::drop(first);
+            mem::drop(second);
+            Err(AllocError)
+        }
+    }
+}

@@ -1,0 +1,392 @@
+//! Derivations with the places of the facts that their certificates cite, in place of the literals.
+
+ghost use Rattle.std.specs.Prelude.{◌≡◌, ◌<◌, ◌^◌, List, length, IfOk, OnOk, IsTrue};
+ghost use Rattle.std.specs.List.{list_all};
+ghost use Rattle.std.specs.Option.{option_map};
+ghost use Rattle.e_literal.specs.Use.{Stated};
+ghost use Rattle.e_construct.specs.Superposing as superposing;
+ghost use Rattle.e_theorem.specs.Statements.{stated, all_stated};
+ghost use Rattle.e_clause.specs.declared.cert.Version.TheVariants as version;
+ghost use Rattle.e_deriv.specs.Certified.{Certified};
+ghost use Rattle.e_deriv.specs.Fitting.{is_small, is_small_statement};
+ghost use Rattle.e_deriv.specs.declared.block.Close.TheVariants.{Contradiction as ContradictionClose};
+ghost use Rattle.e_deriv.specs.Script.{Cite, Hence, Make, Apply, Qed, script_of, step_script, close_script, erased};
+ghost use Rattle.e_deriv.specs.Versions.{has_certs_of};
+ghost use Rattle.e_verify.specs.Numbered;
+ghost use Rattle.e_verify.specs.Numbered.{derivation_with_places};
+ghost use Rattle.e_verify.specs.Verdicts.{IsVerifiable};
+ghost use Rattle.e_verify.specs.Checking.{KeepsFacts};
+ghost use Rattle.e_verify.specs.inner.Numbering.{HaveFew, IsNumberedStep, places_at};
+ghost use Rattle.e_verify.specs.inner.Standing.{after_superposed, goal_said};
+
+use crate::closes::{are_of_sorts, goal_with};
+use crate::ending::{Head, claimed, split, superposed};
+use crate::facts::Facts;
+use crate::places::{placed_against, placed_cert, placed_certs};
+use crate::standing::{Goal, Standing};
+use crate::steps::all_written;
+use crate::verifier::{NOTHING, begin};
+use e_clause::{Against, By, Cert};
+use e_construct::{Construction, Superpose};
+use e_deriv::{Block, Close, Step, copy_by, copy_construction};
+use e_literal::{Items, Lit, Obj, Scope, copy, grown, next_objects};
+use e_text::Name;
+use e_theorem::{Statement, UseFault, use_of};
+use std::alloc::{AllocError, Global};
+use std::mem;
+
+/// The most objects of a sort.
+const MOST_OBJECTS: u16 = 1_000;
+
+/// The first number that is no place.
+const PLACES: usize = 1 << 32;
+
+/// The derivation where each certificate cites a fact by its place among the facts before its line, and none by a literal. It has the
+/// same lines, and what is certified stays so. One that has places already is itself.
+///
+/// A certified derivation fails only out of memory.
+pub fn numbered(
+    alloc: Global,
+    before: &[Statement],
+    statement: &Statement,
+    deriv: &Block,
+) -> Result<Block, AllocError>
+    requires verifiable { IsVerifiable (all_stated before.now) (stated statement.now) (script_of deriv.now) }
+    requires certified { Certified (all_stated before.now) (stated statement.now) (script_of deriv.now) }
+    ensures numbered { IfOk result (λ d. script_of d ≡ derivation_with_places (all_stated before.now) (stated statement.now) (script_of deriv.now)) }
+    ensures script { IfOk result (λ d. erased (script_of d) ≡ erased (script_of deriv.now)) }
+    ensures certified { IfOk result (λ d. Certified (all_stated before.now) (stated statement.now) (script_of d)) }
+    ensures version { IfOk result (λ d. IsTrue (has_certs_of version.Two (script_of d))) }
+{
+    let scope = grown(NOTHING, statement.declared.items());
+    let made = next_objects(alloc, scope, statement.made.items())?;
+    let mut standing = begin(alloc, scope, statement)?;
+    let goal = Goal {
+        made: &made,
+        shown: statement.shown.items(),
+    };
+    number_block(alloc, before, deriv, &goal, &mut standing)
+}
+
+/// The block with places, where this holds before it.
+#[cycle(number)]
+fn number_block(
+    alloc: Global,
+    before: &[Statement],
+    block: &Block,
+    goal: &Goal,
+    standing: &mut Standing,
+) -> Result<Block, AllocError>
+    requires { IsTrue (list_all is_small_statement (all_stated before.now)) }
+    ensures same { IfOk result (λ b. script_of b ≡ places_at (all_stated before.now) (script_of block.now) standing.old (goal_said goal.now)) }
+    ensures few { OnOk result (HaveFew (all_stated before.now) (script_of block.now) standing.old (goal_said goal.now)) }
+    ensures kept { OnOk result (KeepsFacts standing.old standing.new) }
+{
+    let mut steps = Vec::new(alloc);
+    for step in &block.steps {
+        match number_step(alloc, before, step, standing) {
+            Ok(numbered) => steps.push(numbered)?,
+            Err(_) => return Err(AllocError),
+        }
+    }
+    match number_close(alloc, before, &block.close, goal, standing) {
+        Ok(close) => Ok(Block { steps, close }),
+        Err(_) => Err(AllocError),
+    }
+}
+
+/// The step with places, and the block inside it.
+#[cycle(number)]
+fn number_step(
+    alloc: Global,
+    before: &[Statement],
+    step: &Step,
+    standing: &mut Standing,
+) -> Result<Step, AllocError>
+    requires { IsTrue (list_all is_small_statement (all_stated before.now)) }
+    ensures step { IfOk result (λ s. IsNumberedStep (all_stated before.now) (step_script step.now) standing.old (step_script s) standing.new) }
+    ensures few { OnOk result (length standing.old.facts < 2 ^ 32) }
+{
+    if standing.facts.mark() >= PLACES {
+        return Err(AllocError);
+    }
+    match step {
+        Step::Cite(by) => cite(alloc, by, standing),
+        Step::Hence { lit, cert } => hence(alloc, lit, cert, standing),
+        Step::Make { form, names, certs } => {
+            make(alloc, form, names.items(), certs.items(), standing)
+        }
+        Step::Apply {
+            theorem,
+            args,
+            names,
+            certs,
+        } => {
+            let line = Application {
+                theorem: *theorem,
+                args: args.items(),
+                names: names.items(),
+                certs: certs.items(),
+            };
+            apply(alloc, before, &line, standing)
+        }
+        Step::Claim { shown, inner } => {
+            let outer = standing.enter();
+            let goal = Goal {
+                made: &[],
+                shown: shown.items(),
+            };
+            match number_block(alloc, before, inner, &goal, standing) {
+                Ok(numbered) => claimed(alloc, shown.items(), numbered, outer, standing),
+                Err(_) => Err(AllocError),
+            }
+        }
+        Step::Superposed {
+            form,
+            names,
+            shown,
+            certs,
+            inner,
+        } => {
+            let outer = standing.enter();
+            let certs = match superpose(alloc, form, certs.items(), standing) {
+                Ok(certs) => certs,
+                Err(_) => return Err(AllocError),
+            };
+            let goal = Goal {
+                made: &[],
+                shown: shown.items(),
+            };
+            match number_block(alloc, before, inner, &goal, standing) {
+                Ok(numbered) => {
+                    let head = Head {
+                        form,
+                        names: names.items(),
+                        certs,
+                    };
+                    superposed(alloc, head, shown.items(), numbered, outer, standing)
+                }
+                Err(_) => Err(AllocError),
+            }
+        }
+    }
+}
+
+/// The close with places, and the blocks that a split has inside.
+#[cycle(number)]
+fn number_close(
+    alloc: Global,
+    before: &[Statement],
+    close: &Close,
+    goal: &Goal,
+    standing: &mut Standing,
+) -> Result<Close, AllocError>
+    requires { IsTrue (list_all is_small_statement (all_stated before.now)) }
+    ensures same { IfOk result (λ c. close_script c ≡ places_at (all_stated before.now) (close_script close.now) standing.old (goal_said goal.now)) }
+    ensures few { OnOk result (HaveFew (all_stated before.now) (close_script close.now) standing.old (goal_said goal.now)) }
+    ensures kept { OnOk result (KeepsFacts standing.old standing.new) }
+{
+    if standing.facts.mark() >= PLACES {
+        return Err(AllocError);
+    }
+    match close {
+        Close::Qed { objects, certs } => {
+            qed(alloc, objects.items(), certs.items(), goal, standing)
+        }
+        Close::Contradiction { against } => contradiction(alloc, against, &standing.facts),
+        Close::Cases { lit, first, second } => {
+            let outer = standing.enter();
+            standing.suppose(alloc, lit)?;
+            let one = match number_block(alloc, before, first, goal, standing) {
+                Ok(one) => one,
+                Err(_) => return Err(AllocError),
+            };
+            standing.leave(outer);
+            match standing.suppose_not(alloc, lit) {
+                Ok(()) => {}
+                Err(_) => {
+                    mem::drop(one);
+                    return Err(AllocError);
+                }
+            }
+            match number_block(alloc, before, second, goal, standing) {
+                Ok(other) => split(alloc, lit, one, other),
+                Err(_) => {
+                    mem::drop(one);
+                    Err(AllocError)
+                }
+            }
+        }
+    }
+}
+
+#[tactic(auto, using(crate::proofs::NumberedSteps::placing))]
+fn cite(alloc: Global, by: &By, standing: &mut Standing) -> Result<Step, AllocError>
+    ensures { IfOk result (λ s. (before : List Stated) → IsNumberedStep before (Cite by.now) standing.old (step_script s) standing.new) }
+{
+    standing.suppose(alloc, &by.lit)?;
+    let by = copy_by(alloc, by)?;
+    Ok(Step::Cite(by))
+}
+
+#[tactic(auto, using(crate::proofs::NumberedSteps::placing))]
+fn hence(
+    alloc: Global,
+    lit: &Lit,
+    cert: &Option<Cert>,
+    standing: &mut Standing,
+) -> Result<Step, AllocError>
+    ensures { IfOk result (λ s. (before : List Stated) → IsNumberedStep before (Hence lit.now cert.now) standing.old (step_script s) standing.new) }
+{
+    let cert = placed_option(alloc, &standing.facts, lit, cert)?;
+    standing.suppose(alloc, lit)?;
+    let lit = copy(alloc, lit)?;
+    Ok(Step::Hence { lit, cert })
+}
+
+/// The certificate of a hence, where it has one.
+fn placed_option(
+    alloc: Global,
+    facts: &Facts,
+    lit: &Lit,
+    cert: &Option<Cert>,
+) -> Result<Option<Cert>, AllocError>
+    ensures { IfOk result (λ c. c ≡ option_map (Numbered.placed_cert facts.now lit.now) cert.now) }
+{
+    match cert {
+        Some(cert) => Ok(Some(placed_cert(alloc, facts, lit, cert)?)),
+        None => Ok(None),
+    }
+}
+
+#[tactic(auto, using(crate::proofs::NumberedSteps::placing))]
+fn make(
+    alloc: Global,
+    form: &Construction,
+    names: &[Name],
+    certs: &[Cert],
+    standing: &mut Standing,
+) -> Result<Step, AllocError>
+    ensures { IfOk result (λ s. (before : List Stated) → IsNumberedStep before (Make form.now names.now certs.now) standing.old (step_script s) standing.new) }
+{
+    let scope = standing.scope;
+    if !has_room(scope) || !form.fits(scope) {
+        return Err(AllocError);
+    }
+    let needs = form.needs(alloc)?;
+    let certs = placed_certs(alloc, &standing.facts, &needs, certs)?;
+    let given = form.gives(alloc, scope)?;
+    standing.scope = grown(scope, form.made());
+    standing.facts.join(given)?;
+    let names = Items::new(Vec::from_slice(alloc, names)?);
+    let form = copy_construction(alloc, form)?;
+    Ok(Step::Make { form, names, certs })
+}
+
+/// An application, as its line says it.
+#[derive(Clone, Copy)]
+struct Application<'a> {
+    theorem: u32,
+    args: &'a [Option<Obj>],
+    names: &'a [Name],
+    certs: &'a [Cert],
+}
+
+#[tactic(auto, using(crate::proofs::NumberedSteps::placing))]
+fn apply(
+    alloc: Global,
+    before: &[Statement],
+    line: &Application,
+    standing: &mut Standing,
+) -> Result<Step, AllocError>
+    requires { IsTrue (list_all is_small_statement (all_stated before.now)) }
+    ensures { IfOk result (λ s. IsNumberedStep (all_stated before.now) (Apply line.now.theorem line.now.args.now line.now.names.now line.now.certs.now) standing.old (step_script s) standing.new) }
+{
+    let scope = standing.scope;
+    let Some(statement) = before.get(line.theorem as usize) else {
+        return Err(AllocError);
+    };
+    let Some(objects) = all_written(alloc, line.args)? else {
+        return Err(AllocError);
+    };
+    if !has_room(scope) {
+        return Err(AllocError);
+    }
+    let applied = match use_of(alloc, statement, &objects, scope) {
+        Ok(applied) => applied,
+        Err(UseFault::BadArgs | UseFault::NoMemory) => return Err(AllocError),
+    };
+    let certs = placed_certs(alloc, &standing.facts, applied.needs.items(), line.certs)?;
+    standing.scope = grown(scope, statement.made.items());
+    standing.suppose_all(alloc, applied.gives.items())?;
+    let args = Items::new(Vec::from_slice(alloc, line.args)?);
+    let names = Items::new(Vec::from_slice(alloc, line.names)?);
+    Ok(Step::Apply {
+        theorem: line.theorem,
+        args,
+        names,
+        certs,
+    })
+}
+
+/// The certificates of a superposition; then the copied points are in scope, and what it gives are facts.
+fn superpose(
+    alloc: Global,
+    form: &Superpose,
+    certs: &[Cert],
+    standing: &mut Standing,
+) -> Result<Items<Cert>, AllocError>
+    ensures certs { IfOk result (λ cs. cs ≡ Numbered.placed_certs standing.old.facts (superposing.needs form.now) certs.now) }
+    ensures after { OnOk result (standing.new ≡ after_superposed form.now standing.old) }
+{
+    let scope = standing.scope;
+    if !has_room(scope) {
+        return Err(AllocError);
+    }
+    let needs = form.needs(alloc)?;
+    let certs = placed_certs(alloc, &standing.facts, &needs, certs)?;
+    let given = form.gives(alloc, scope)?;
+    standing.scope = grown(scope, form.made());
+    standing.facts.join(given)?;
+    Ok(certs)
+}
+
+#[tactic(auto, using(crate::proofs::NumberedSteps::placing))]
+fn qed(
+    alloc: Global,
+    objects: &[Obj],
+    certs: &[Cert],
+    goal: &Goal,
+    standing: &Standing,
+) -> Result<Close, AllocError>
+    ensures { IfOk result (λ c. (before : List Stated) → close_script c ≡ places_at before (Qed objects.now certs.now) standing.now (goal_said goal.now)) }
+{
+    if !are_of_sorts(standing.scope, goal.made, objects) {
+        return Err(AllocError);
+    }
+    let wanted = goal_with(alloc, goal, objects)?;
+    let certs = placed_certs(alloc, &standing.facts, &wanted, certs)?;
+    let objects = Items::new(Vec::from_slice(alloc, objects)?);
+    Ok(Close::Qed { objects, certs })
+}
+
+fn contradiction(
+    alloc: Global,
+    against: &Option<Against>,
+    facts: &Facts,
+) -> Result<Close, AllocError>
+    ensures { IfOk result (λ c. c ≡ ContradictionClose (option_map (Numbered.placed_against facts.now) against.now)) }
+{
+    let against = match against {
+        Some(against) => Some(placed_against(alloc, facts, against)?),
+        None => None,
+    };
+    Ok(Close::Contradiction { against })
+}
+
+/// Whether at most 1,000 objects of each sort are in scope, as before each line of a derivation that can be checked.
+fn has_room(scope: Scope) -> bool
+    ensures { result ≡ is_small scope }
+{
+    scope.points <= MOST_OBJECTS && scope.lines <= MOST_OBJECTS && scope.circles <= MOST_OBJECTS
+}
