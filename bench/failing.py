@@ -1,9 +1,10 @@
 """Makes each read, each write and each allocation of a run fail in turn, and looks at what the program answers.
 
 Words: the program. The books are one of one theorem, one of two, of which the second applies the first with a blank, and Euclid's first
-and fourth propositions; each is checked, and what is written of it is verified, and so is the first proposition by other certificates.
-After a failed read the answer must be a read fault, with exit status 4, or the usual one where the library asks again; `check` writes
-before it the blocks of the theorems that were read by then. After a failed write it must be a front of the usual bytes, with 5; after a
+and fourth propositions, and the first stated by a definition; each is checked, and what is written of it is verified and upgraded, and
+so is the first proposition by other certificates; of the two theorems it is asked what may be applied. After a failed read the answer
+must be a read fault, with exit status 4, or the usual one where the library asks again; `check` writes before it the blocks of the
+theorems that were read by then. After a failed write it must be a front of the usual bytes, with 5; after a
 refused allocation the usual answer, or what was written and `no memory`, with 6. It needs a C compiler.
 """
 
@@ -18,6 +19,7 @@ TWO = (
     "theorem T1\npoints a\nlines L\ngiven on a L\nshow on a L\nproof\nqed\nend\n"
     "theorem T2\npoints a\nlines L M\ngiven on a L ; on a M\nshow on a L\nproof\napply T1 a _\nqed\nend\n"
 )
+DEFINED = "define D\npoints a\nlines L\nshow on a L\nend\n" + TWO.replace("given on a L ; on a M", "given as D a L ; as D a M")
 # The first proposition by certificates that `check` does not write.
 TEXT = """\
 derivation 1
@@ -64,7 +66,7 @@ end
 accepted 1
 """
 KINDS = ("alloc", "read", "write")
-HEAD = b"derivation 1\n"
+HEADS = {"check": b"derivation 1\n", "upgrade": b"derivation 2\n"}
 
 
 def run(words, text, room, kind=None, call=None):
@@ -77,10 +79,10 @@ def run(words, text, room, kind=None, call=None):
         return ran.returncode, ran.stdout, dict(zip(KINDS, map(int, counts.read().split())))
 
 
-def is_front_of_blocks(out, usual, last):
+def is_front_of_blocks(command, out, usual, last):
     """Whether these are the head line and whole blocks of the usual bytes, and then this line."""
     front = out[: -len(last)]
-    return out.endswith(last) and usual.startswith(front) and (front == HEAD or front.endswith(b"\nend\n"))
+    return out.endswith(last) and usual.startswith(front) and (front == HEADS[command] or front.endswith(b"\nend\n"))
 
 
 def is_right(kind, command, ran, usual):
@@ -89,28 +91,29 @@ def is_right(kind, command, ran, usual):
         return kind != "write"
     if kind == "read":
         last = b"read fault\n"
-        return status == 4 and (is_front_of_blocks(out, usual[1], last) if command == "check" else out == last)
+        return status == 4 and (is_front_of_blocks(command, out, usual[1], last) if command in HEADS else out == last)
     if kind == "write":
         return status == 5 and usual[1].startswith(out) and out != usual[1]
     last = b"no memory\n"
-    if command == "check":
-        return status == 6 and (out == b"" or is_front_of_blocks(out, usual[1], last))
+    if command in HEADS:
+        return status == 6 and (out == b"" or is_front_of_blocks(command, out, usual[1], last))
     return status == 6 and out in (b"", last)
 
 
-def tried(program, command, name, text, room):
+def tried(program, words, name, text, room):
     """Runs a command on a text with each call failing in turn: what it writes where none fails, and how many answers are wrong."""
-    status, usual, counts = run([program, command], text, room)
+    command, *_ = words.split()
+    status, usual, counts = run([program, *words.split()], text, room)
     told = {}
     wrong = 0
     for kind in KINDS:
         for call in range(counts[kind]):
-            ran = run([program, command], text, room, kind, call)[:2]
+            ran = run([program, *words.split()], text, room, kind, call)[:2]
             told[kind, ran[0]] = told.get((kind, ran[0]), 0) + 1
             if not is_right(kind, command, ran, (status, usual)):
                 wrong += 1
-                print(f"WRONG: {command} of {name}, {kind} {call}: exit {ran[0]}, {ran[1][-60:]!r}")
-    print(f"{command} of {name}: {counts}; answers: " + ", ".join(f"{k} exit {s}: {n}" for (k, s), n in sorted(told.items())))
+                print(f"WRONG: {words} of {name}, {kind} {call}: exit {ran[0]}, {ran[1][-60:]!r}")
+    print(f"{words} of {name}: {counts}; answers: " + ", ".join(f"{k} exit {s}: {n}" for (k, s), n in sorted(told.items())))
     return usual, wrong
 
 
@@ -122,12 +125,16 @@ def example(name):
 def main(program):
     with tempfile.TemporaryDirectory() as room:
         subprocess.run(["cc", "-O1", "-shared", "-fPIC", "-o", f"{room}/failing.so", f"{HERE}/failing.c", "-ldl"], check=True)
-        books = [("one theorem", ONE.encode()), ("two theorems", TWO.encode()), ("I.1", example("I.1")), ("I.4", example("I.4"))]
+        books = [("one theorem", ONE.encode()), ("two theorems", TWO.encode()), ("two theorems by a definition", DEFINED.encode())]
+        books += [("I.1", example("I.1")), ("I.4", example("I.4"))]
         wrong = 0
         for name, book in books:
             text, wrong_checks = tried(program, "check", name, book, room)
-            wrong += wrong_checks + tried(program, "verify", name, text, room)[1]
-        wrong += tried(program, "verify", "I.1 by other certificates", TEXT.encode(), room)[1]
+            wrong += wrong_checks + sum(tried(program, command, name, text, room)[1] for command in ("verify", "upgrade"))
+            if name.startswith("two"):
+                wrong += tried(program, "suggest T2 1", name, book, room)[1]
+        for command in ("verify", "upgrade"):
+            wrong += tried(program, command, "I.1 by other certificates", TEXT.encode(), room)[1]
     print("wrong answers:", wrong)
     sys.exit(1 if wrong else 0)
 

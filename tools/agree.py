@@ -6,7 +6,7 @@
 Each of FILES is a derivation text, or a book, of which `check` makes one; by default they are the
 accepted books of examples/. Of each text, and of N damaged ones, the two answers and the two exit
 statuses have to be equal. A text to be damaged is one block of a file behind those that it applies,
-so that also the blocks of a long book are quick; short texts are taken more often than long ones,
+so that also the blocks of a long book are quick; each is taken in both versions; short texts are taken more often than long ones,
 and none with more lines than --lines. The same seed damages the same texts in the same way. With
 --keep each text on which the two differ is written into a file of DIR.
 
@@ -30,23 +30,29 @@ WORDS = """not on inside center between same-side meets = != < <= + 0 1 2 ; : | 
 fact metric transfer clash sum differs goal pos top least above below made points lines circles given
 show proof by hence let apply as claim superpose onto qed contradiction cases else end avoid point line
 circle side opposite of beyond from outside meet centers _ # a b c L M A -1 00 1208925819614629174706176
-1208925819614629174706177 1000000 1000001""".split()
+1208925819614629174706177 1000000 1000001 4294967295 4294967296""".split()
 
 
-def derivation_of(exe, path):
-    """The derivation text of a file, or nothing where it is a book that is not accepted."""
+def derivations_of(exe, path):
+    """The derivation texts of a file, one of each version that it has, or none where it is a book
+    that is not accepted."""
     data = path.read_bytes()
-    if data.startswith(b"derivation 1\n"):
-        return data.decode("ascii")
-    made = subprocess.run([exe, "check"], input=data, capture_output=True)
-    return made.stdout.decode("ascii") if made.returncode == 0 else None
+    if not data.startswith(b"derivation "):
+        made = subprocess.run([exe, "check"], input=data, capture_output=True)
+        if made.returncode != 0:
+            return []
+        data = made.stdout
+    upgraded = subprocess.run([exe, "upgrade"], input=data, capture_output=True)
+    texts = {data, upgraded.stdout} if upgraded.returncode == 0 else {data}
+    return [text.decode("ascii") for text in sorted(texts)]
 
 
 def texts_of_blocks(text):
     """For each block its text: the head, the blocks that it needs, the block, and the last line."""
     blocks, needed, texts = {}, {}, []
     block = []
-    for line in text.split("\n")[1:-2]:
+    head, *lines = text.split("\n")[:-2]
+    for line in lines:
         block.append(line)
         if line == "end":
             title = block[0].split()[1]
@@ -55,7 +61,7 @@ def texts_of_blocks(text):
             blocks[title] = block
             before = [line for other in blocks if other in needed[title] for line in blocks[other]]
             last = f"accepted {len(needed[title]) + 1}"
-            texts.append((["derivation 1", *before, *block, last], len(before) + 1))
+            texts.append(([head, *before, *block, last], len(before) + 1))
             block = []
     return texts
 
@@ -412,8 +418,7 @@ def main():
 
     trials, blocks = [], []
     for path in options.files or sorted(TOP.glob("examples/**/*.book")):
-        text = derivation_of(options.exe, path)
-        if text is not None:
+        for text in derivations_of(options.exe, path):
             texts = [(str(path), *text) for text in texts_of_blocks(text)]
             blocks += [block for block in texts if len(block[1]) <= options.lines]
             trials += [(str(path), text.encode("ascii"))] if text.count("\n") <= options.lines else []

@@ -1,5 +1,5 @@
 #!/usr/bin/env python3
-"""Verifies a derivation text, version 1, independently of the program `elements`.
+"""Verifies a derivation text, of version 1 or 2, independently of the program `elements`.
 
     python3 tools/verify.py < TEXT        or        python3 tools/verify.py FILE
 
@@ -24,7 +24,7 @@ SORTS = {"points": POINT, "lines": LINE, "circles": CIRCLE}
 MOST_OBJECTS = {POINT: 40, LINE: 24, CIRCLE: 16}
 MOST_THEOREMS, MOST_STEPS, MOST_DEPTH = 500, 1024, 32
 MOST_FACTS, MOST_TERMS, MOST_MONOMIALS, MOST_COEFFICIENT = 2048, 1024, 32, 1_000_000
-MOST_ROWS, MOST_MULTIPLIER, MOST_LINE_BYTES = 4096, 2**80, 262_144
+MOST_ROWS, MOST_MULTIPLIER, MOST_LINE_BYTES, MOST_PLACE = 4096, 2**80, 262_144, 2**32 - 1
 RESERVED = """theorem points lines circles given made show proof end by hence let apply as claim
     superpose onto qed contradiction cases else not on inside center between meets seg ang area
     right point line circle side opposite of beyond from outside meet centers avoid define
@@ -209,7 +209,8 @@ def fits(pattern, words, scope):
     return dict(zip(pattern, words)) if kinds == wanted and len(pattern) == len(words) else None
 
 class Context(namedtuple("Context", "scope facts terms fact_count term_count")):
-    """The objects and the facts before a line, the terms of the facts, and what limits count."""
+    """The objects and the facts before a line, the terms of the facts, and what limits count. The
+    facts are in order, each by its key."""
     def has(self, literal):
         return literal.key() in self.facts
 
@@ -221,11 +222,11 @@ class Context(namedtuple("Context", "scope facts terms fact_count term_count")):
             scope[name] = sort
         held = list(scope.values())
         need(all(held.count(sort) <= most for sort, most in MOST_OBJECTS.items()))
-        facts, terms, term_count = set(self.facts), set(self.terms), self.term_count
+        facts, terms, term_count = dict(self.facts), set(self.terms), self.term_count
         for literal in literals:
             term_count += len(literal.terms())
             if literal.key() not in facts:  # else the fact stays as it was written first
-                facts.add(literal.key())
+                facts[literal.key()] = literal
                 terms.update(literal.terms())
         fact_count = self.fact_count + len(literals)
         need(fact_count <= MOST_FACTS and term_count <= MOST_TERMS)
@@ -267,7 +268,9 @@ class Verifier:
     def answer(self):
         """The answer to the text, and the exit status."""
         try:
-            need(self.take() == ["derivation", "1"])
+            word, *version = self.take()
+            need(word == "derivation" and version in (["1"], ["2"]))
+            self.by_places = version == ["2"]
             while (words := self.take())[0] != "accepted":
                 self.theorem(words)
                 if self.bad_step is not None:
@@ -283,7 +286,7 @@ class Verifier:
         title = words[1]
         need(title not in self.theorems and len(self.theorems) < MOST_THEOREMS)
         self.step, self.bad_step = 0, None
-        declared, context, words = self.objects([], Context({}, set(), set(), 0, 0))
+        declared, context, words = self.objects([], Context({}, {}, set(), 0, 0))
         given, shown = [], []
         while words[0] == "given":
             given.append(literal_in(words[1:], context.scope))
@@ -430,8 +433,21 @@ class Verifier:
             others = [place for place in places if place.key() != wanted.key()]
             parts = [self.certificate(place.negation(), context, True) for place in others]
             return all(parts) and len(others) < len(places)
+        if kind == "fact" and self.by_places:
+            fact = self.fact(words, context)
+            return fact is not None and fact.key() == wanted.key()
         need(kind in ("fact", "metric") and not words)
         return self.metric(wanted, context) if kind == "metric" else context.has(wanted)
+
+    def fact(self, words, context):
+        """The fact at a place, counted from 0, or in version 1 the literal, if it is the same as a
+        fact; else None."""
+        if self.by_places:
+            need(len(words) == 1)
+            place = 0 if words == ["0"] else number_in(words[0], MOST_PLACE)
+            return dict(enumerate(context.facts.values())).get(place)
+        literal = literal_in(words, context.scope)
+        return literal if context.has(literal) else None
 
     def metric(self, wanted, context):
         """One sum, or two below `differs`. Below `contradiction` nothing is wanted."""
@@ -441,10 +457,10 @@ class Verifier:
         if kind == "sum" and not words:
             return self.sum(refuted, context, {}) and may_follow
         need(kind == "differs" and words and (words == ["goal"] or words[0] == "fact"))
-        literal = refuted if words == ["goal"] else literal_in(words[1:], context.scope)
+        literal = refuted if words == ["goal"] else self.fact(words[1:], context)
         says, form = said(literal)
         negative = {term: -coefficient for term, coefficient in form.items()}
-        usable = may_follow and says == "differs" and (words == ["goal"] or context.has(literal))
+        usable = may_follow and says == "differs"
         for side in ({"above": ("more", form)}, {"below": ("more", negative)}):
             need(self.take() == ["|", "sum"])
             usable &= self.sum(refuted, context, side)
@@ -474,8 +490,7 @@ class Verifier:
             alone = {"goal": said(refuted), "right": ("more", {RIGHT: 1})} | side
             return alone.get(word, WRONG_USE)
         if word == "fact":
-            literal = literal_in(rest, context.scope)
-            return said(literal) if context.has(literal) else WRONG_USE
+            return said(self.fact(rest, context))
         need(word in ("pos", "top", "least"))
         term, form = term_in(rest, context.scope), {}
         add(form, term, -1 if word == "top" else 1)

@@ -16,6 +16,7 @@ use Rattle.e_deriv.specs.Steps.{needs_as_written}
 use Rattle.e_theorem.specs.WideChoice.{SomeChoiceIsWide}
 use Rattle.e_literal.specs.Use.{Stated}
 use Rattle.e_deriv.specs.Refused.{SomeIsWide, IsWideAt, IsTooWide}
+use Rattle.e_book.specs.declared.known.Known.{Known}
 use Rattle.e_book.specs.Headed.{Headed, stated_by}
 use Rattle.e_book.specs.Entry.{Entry}
 use Rattle.e_run.specs.Outcome.{Rest, BookOutcome, IsOutcomeOf, Begins, StopsAt, RefusedAt, HasWide, lines_of_book}
@@ -31,21 +32,21 @@ answered_at : (lines : Rest) (end other : BookOutcome) (answer : Status) → oth
 answered_at lines end other answer e h = subst (λ (x : BookOutcome). IsAnswer lines x answer) e h
 
 -- where the book ends so after these theorems, an answer to that is one to its outcome
-pub answered_so : (text : List ℕ) (end : BookOutcome) (answer : Status) (theorems : List Entry) (known : List Headed) (rest : Rest) (other : BookOutcome) → IsOutcomeOf text end
+pub answered_so : (text : List ℕ) (end : BookOutcome) (answer : Status) (theorems : List Entry) (known : Known) (rest : Rest) (other : BookOutcome) → IsOutcomeOf text end
     → Begins (lines_of_book text) theorems known rest → OutcomeAfter (lines_of_book text) other known rest → IsAnswer (lines_of_book text) other answer → IsAnswer (lines_of_book text) end answer
 answered_so text end answer theorems known rest other h b e k =
     answered_at (lines_of_book text) end other answer
     (outcome_is_one (lines_of_book text) theorems h.theorems other end (record { known = known; rest = rest; begins = b; ends = e }) h.outcome) k
 
-stop_of_refusal : (known : List Headed) (t : Entry) (title : List ℕ) (step : ℕ) (wanted : Wanted) (values : Option (List (Term × ℕ))) (names : Names)
+pub stop_of_refusal : (known : List Headed) (t : Entry) (title : List ℕ) (step : ℕ) (wanted : Wanted) (values : Option (List (Term × ℕ))) (names : Names)
     → RefusedAt known t title step wanted values names → StopsAt known t title step wanted names
 stop_of_refusal known t title step wanted values names r =
     record { titled = r.titled; first = record { line = r.refused.line; context = r.refused.context; lacks = r.refused.lacks }; named = r.named }
 
 -- where the next theorem is refused the book stops there
-pub stops_so : (lines : Rest) (known : List Headed) (rest : Rest) (title : List ℕ) (step : ℕ) (wanted : Wanted) (values : Option (List (Term × ℕ))) (names : Names)
+pub stops_so : (lines : Rest) (known : Known) (rest : Rest) (title : List ℕ) (step : ℕ) (wanted : Wanted) (values : Option (List (Term × ℕ))) (names : Names)
     → Refuses lines title step wanted values names known rest → OutcomeAfter lines (outcome.Unlicensed title step wanted names) known rest
-stops_so lines known rest title step wanted values names r = (r.0, r.1, r.2, stop_of_refusal known r.0 title step wanted values names r.3)
+stops_so lines known rest title step wanted values names r = (r.0, r.1, r.2, stop_of_refusal known.theorems r.0 title step wanted values names r.3)
 
 some_wide : (before : List Stated) (x : Line) (l : Lit) (w : ℕ) → Contains (needs_as_written before x) l × IsTooWideLit x.scope x.facts l w → SomeIsWide before x
 some_wide before x l w h = record { lit = l; is_one = h.0; is_wide = wide_lit x.scope x.facts l w h.1 }
@@ -59,7 +60,7 @@ blank_wide true A B e h = absurd cc
 blank_wide false A B e h = h
 
 -- a line that is too wide is wide
-wide_line : (before : List Stated) (x : Line) (here : Script) (wanted : Wanted) (w : ℕ) → IsTooWide before x here wanted w → IsWideAt before x here
+pub wide_line : (before : List Stated) (x : Line) (here : Script) (wanted : Wanted) (w : ℕ) → IsTooWide before x here wanted w → IsWideAt before x here
 wide_line before x (Contradiction against) AContradiction w h =
     record { no_clash = h.no_clash; rows = h.rows; is_system = h.is_system; is_wide = h.has_width.is_wide }
 wide_line before x (Contradiction against) (Literal l) w h = absurd h
@@ -79,7 +80,7 @@ wide_line before x (Cases lit first second) (Literal l) w h = some_wide before x
 wide_line before x here Match w h = absurd h
 wide_line before x here AContradiction w h = absurd h
 
-pub widens_so : (lines : Rest) (theorems : List Entry) (known : List Headed) (rest : Rest) (title : List ℕ) (step : ℕ) (wanted : Wanted) (width : ℕ) (names : Names)
+pub widens_so : (lines : Rest) (theorems : List Entry) (known : Known) (rest : Rest) (title : List ℕ) (step : ℕ) (wanted : Wanted) (width : ℕ) (names : Names)
     → Begins lines theorems known rest → Widens lines title step wanted width names known rest → HasWide lines
 widens_so lines theorems known rest title step wanted width names b w =
     let at = w.3.too_wide in
@@ -88,7 +89,7 @@ widens_so lines theorems known rest title step wanted width names b w =
       known = known;
       rest = rest;
       begins = b;
-      wide = (w.0, w.1, w.2, record { step = step; line = at.line; context = at.context; is_wide = wide_line (stated_by known) at.line at.line.here wanted width at.too_wide });
+      wide = (w.0, w.1, w.2, record { step = step; line = at.line; context = at.context; is_wide = wide_line (stated_by known.theorems) at.line at.line.here wanted width at.too_wide });
     }
 
 pub is_answer_wide : (lines : Rest) (end : BookOutcome) (title : List ℕ) (step : ℕ) (wanted : Wanted) (width : ℕ) → HasWide lines → IsAnswer lines end (status.TooWide title step wanted width)

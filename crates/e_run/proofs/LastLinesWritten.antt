@@ -9,7 +9,8 @@ use Rattle.e_run.specs.declared.status.Status.{Status}
 use Rattle.e_run.specs.declared.status.Status.TheVariants as status
 use Rattle.e_run.specs.declared.blocks.BookResult.{BookResult}
 use Rattle.e_run.specs.declared.blocks.BookResult.TheVariants.{All, Stopped, Faulty}
-use Rattle.e_book.specs.Headed.{Headed}
+use Rattle.e_book.specs.declared.known.Known.{Known}
+use Rattle.e_book.specs.Taken.{nothing_known}
 use Rattle.e_run.specs.Outcome.{Rest, lines_of_book}
 use Rattle.e_run.specs.Outcome as outcome
 use Rattle.e_run.specs.LastLines.{head_line, no_memory_line, read_fault_line}
@@ -43,7 +44,7 @@ closed lines old s0 s1 s2 ds last answer result outputs h b (inr c) =
     inr (c.0, record { answer = answer; out = written_with ds last; due = outputs; grew = grew_front old s0 s1 s2 ds last h b c.1 })
 
 -- what ended so, with its last lines
-ended : (lines : Rest) (s0 s1 : Option (List ℕ)) (Holds : List Headed → Rest → Type 0) (last : List ℕ) (e : BlocksUpTo lines s0 s1 Holds) → OutputUpTo lines Holds last (written_with e.derived last)
+ended : (lines : Rest) (s0 s1 : Option (List ℕ)) (Holds : Known → Rest → Type 0) (last : List ℕ) (e : BlocksUpTo lines s0 s1 Holds) → OutputUpTo lines Holds last (written_with e.derived last)
 ended lines s0 s1 Holds last e =
     record { derived = e.derived; sound = e.sound; known = e.known; rest = e.rest; begins = e.begins; holds = e.holds; bytes = refl }
 
@@ -74,7 +75,7 @@ closed_error lines old s0 s1 s2 result h e c =
     (record { derived = e.derived; sound = e.sound; front = e.front; bytes = refl }) h e.grew c
 
 -- what ended can be taken as broken off
-pub off_of_outcome : (lines : Rest) (s0 s1 : Option (List ℕ)) (Holds : List Headed → Rest → Type 0) → BlocksUpTo lines s0 s1 Holds → BreaksOff lines s0 s1
+pub off_of_outcome : (lines : Rest) (s0 s1 : Option (List ℕ)) (Holds : Known → Rest → Type 0) → BlocksUpTo lines s0 s1 Holds → BreaksOff lines s0 s1
 off_of_outcome lines s0 s1 Holds e =
     record { derived = e.derived; sound = e.sound; front = record { known = e.known; rest = e.rest; begins = e.begins }; grew = e.grew }
 
@@ -130,7 +131,7 @@ closed_head lines old new w =
       record {
         answer = status.NoMemory;
         out = written_with [] no_memory_line;
-        due = record { derived = []; sound = tt; front = record { known = []; rest = lines; begins = (refl, refl) }; bytes = refl };
+        due = record { derived = []; sound = tt; front = record { known = nothing_known; rest = lines; begins = record { notions = []; defines = (refl, refl) } }; bytes = refl };
         grew = front;
       },
     )

@@ -11,6 +11,9 @@ mod GeneratedTitles
 mod TakenBytes
 mod ReadPieces
 mod VerifierAnswers
+mod UpgradedTexts
 mod MadeBooks
 mod Trials
 mod DrawerAnswers
+mod SuggestedLines
+mod SuggesterAnswers

@@ -8,6 +8,9 @@ use Rattle.e_text.specs.Lines.{Bounds, Spot, AreGood, IsClosed, IsOpen, lines_of
 use Rattle.e_text.proofs.Fronts.{lines_of-front}
 use Rattle.e_text.proofs.ClosedTexts.{closed_both, closed_behind, then_good, good_both, fault_is_last, then_some}
 use Rattle.e_text.proofs.WholeLines.{lines_of-take}
+use Rattle.e_book.specs.declared.coming.Coming.{Coming}
+use Rattle.e_book.specs.Definitions.{BookItem}
+use Rattle.e_book.specs.inner.Machine.{at_end}
 use Rattle.e_run.specs.declared.book.Book.{Book}
 use Rattle.e_run.specs.declared.pieces.Untaken.{Untaken}
 use Rattle.e_run.specs.declared.blocks.BookResult.{BookResult}
@@ -20,13 +23,12 @@ use Rattle.e_run.specs.LastLines.{head_line, read_fault_line}
 use Rattle.e_run.specs.Outcome.{Rest, end_line_number, lines_of_book}
 use Rattle.e_run.specs.Answers.{IsReadFault, written_with}
 use Rattle.e_run.specs.inner.BookResults.{BreaksOff, BlocksAre, SourceResultIs, IsAll, Closes}
-use Rattle.e_run.specs.inner.Progress.{History, Reaches, IsReadUpTo, PieceTakes, first_book}
+use Rattle.e_run.specs.inner.Progress.{History, IsBook, Reaches, IsReadUpTo, PieceTakes, first_book}
 use Rattle.e_run.specs.Taken.{TookFew, AllTaken, OfWholeLines, HandledAll}
 use Rattle.e_run.specs.inner.Handled.{AllBlocks, HandledBlocks, TextResultIs}
-use Rattle.e_run.proofs.TakenBooks.{reaches_first, reaches_as, off_here}
+use Rattle.e_run.proofs.TakenBooks.{tied, reaches_first, reaches_as, off_here}
 use Rattle.e_run.proofs.TakenBytes.{TakenSoFar, taken_more, taken_of, taken_map, all_of}
-use Rattle.e_book.proofs.GrammarRead.{grammar_read}
-use Rattle.e_run.proofs.WholeBook.{at_end_found, all_is_short}
+use Rattle.e_run.proofs.WholeBook.{all_is_short}
 use Rattle.e_run.proofs.LastLinesWritten.{grew_all}
 
 abbrev bounds : Bounds
@@ -233,8 +235,13 @@ last_grew old new last result (inr c) e = absurd (let f : status.WriteFault ≡ 
 
 -- ---- what was taken is handled
 
-pub handled_now : (read : List ℕ) (old : Option (List ℕ)) (b : Book) (u : Untaken) (new : Option (List ℕ)) → IsReadUpTo read old b u new → IsOpen u.bytes.items → OfWholeLines (λ lines. AllBlocks lines old new) read
-handled_now read old b u new s unended =
+-- what has come is no whole theorem or definition
+machine_ends : (last : ℕ) (c : Option Coming) (i : BookItem) (rest : Rest) → at_end last c ≡ Ok (Some (i, rest)) → ⊥
+machine_ends last None i rest e = cc
+machine_ends last (Some c) i rest e = cc
+
+pub handled_now : (read : List ℕ) (old : Option (List ℕ)) (b : Book) (u : Untaken) (new : Option (List ℕ)) → IsBook b → IsReadUpTo read old b u new → IsOpen u.bytes.items → OfWholeLines (λ lines. AllBlocks lines old new) read
+handled_now read old b u new book s unended =
     let lines = lines_of_book s.taken in
     let h = subst (λ (ls : Rest). History ls old b.known (s.reaches.tail ++ []) new b.steps) (append-nil lines) (s.reaches.history []) in (
       s.taken,
@@ -248,7 +255,7 @@ handled_now read old b u new s unended =
         known = b.known;
         rest = s.reaches.tail ++ [];
         begins = h.begins;
-        none = λ t after e. at_end_found (end_line_number lines) b.reading.draft t after (sym (s.reaches.reads (end_line_number lines) []) ∙ grammar_read b.known (end_line_number lines) (s.reaches.tail ++ []) ∙ e);
+        none = λ i after e. machine_ends (end_line_number lines) b.reading.coming i after (sym (s.reaches.reads (end_line_number lines) []) ∙ tied b (end_line_number lines) (s.reaches.tail ++ []) book ∙ e);
         grew = h.grew;
       },
     )

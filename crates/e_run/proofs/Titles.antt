@@ -1,34 +1,46 @@
--- A book that is accepted has as many theorems as lines that begin with the word theorem.
-use Rattle.std.proofs.Common.{◌≡◌, ℕ, ◌+◌, Bool, true, false, cond, List, [], ◌∷◌, length, Option, Some, None, Result, Ok, Err, refl, sym, ap, subst, ◌∙◌, arith}
-use Rattle.std.specs.Prelude.{codes}
+-- A book that is accepted has as many theorems as lines that begin with the word theorem, whatever definitions it has.
+use Rattle.std.proofs.Common.{◌≡◌, ℕ, ◌+◌, Bool, true, false, cond, ◌&&◌, List, [], ◌∷◌, length, take, drop, Option, Some, None, Result, Ok, Err, refl, sym, ap, subst, ◌∙◌, arith}
+use Rattle.std.specs.Prelude.{codes, nat_le}
+use Rattle.std.specs.Option.{option_map}
 use Rattle.std.specs.Str.{bytes_eq}
 use Rattle.std.proofs.lemmas.Bool.{eqb-true}
+use Rattle.std.proofs.lemmas.Slice.Eq.{bytes_eq-Decides}
 use Rattle.e_text.specs.Tokens.{tokens_of}
 use Rattle.e_literal.specs.declared.object.Sort.{Sort}
 use Rattle.e_literal.specs.declared.object.Sort.TheVariants.{Point, Line, Circle}
 use Rattle.e_book.specs.declared.fault.Kind.{Kind}
-use Rattle.e_book.specs.declared.fault.Kind.TheVariants.{Malformed}
+use Rattle.e_book.specs.declared.fault.Kind.TheVariants.{Malformed, NameTaken}
 use Rattle.e_book.specs.declared.fault.BookFault.{BookFault}
 use Rattle.e_book.specs.declared.form.Form.{Form}
 use Rattle.e_book.specs.declared.form.Form.TheVariants as forms
-use Rattle.e_book.specs.declared.draft.Draft.{Draft}
+use Rattle.e_book.specs.declared.fault.What.TheVariants as limits
+use Rattle.e_book.specs.declared.items.RawItem.{RawItem}
+use Rattle.e_book.specs.declared.items.Listing.{Listing}
+use Rattle.e_book.specs.declared.items.Listing.TheVariants as listings
+use Rattle.e_book.specs.declared.items.RawLine.{RawLine}
+use Rattle.e_book.specs.declared.items.RawLine.TheVariants.{Plain, Define, Listed}
+use Rattle.e_book.specs.declared.known.Known.{Known}
 use Rattle.e_book.specs.Reading.{◌>>=◌, word_at, title_at, end_at, cut_at, names_of, some_names}
 use Rattle.e_book.specs.Literals.{lit_of, diagram_lit_of, lits_of}
 use Rattle.e_book.specs.Superposes.{superpose_of}
 use Rattle.e_book.specs.Lets.{let_of}
 use Rattle.e_book.specs.Applies.{apply_of}
-use Rattle.e_book.specs.Forms.{declare_of, sort_of, made_of, by_of, theorem_of, bare, form_named, form_of}
-use Rattle.e_book.specs.Steps.{allowed, stepped, step, begin}
+use Rattle.e_book.specs.Forms.{declare_of, sort_of, made_of, by_of, theorem_of, bare, form_named}
 use Rattle.e_book.specs.Headed.{Headed}
-use Rattle.e_book.specs.DraftViews.{entry_of_draft}
 use Rattle.e_book.specs.Entry.{Entry}
-use Rattle.e_book.specs.Grammar.{is_skipped, put_at}
-use Rattle.e_book.specs.Book.{line_step, is_done, read_from}
-use Rattle.e_book.proofs.GrammarRead.{grammar_read}
-use Rattle.e_book.proofs.InScope.{bind_ok, read_ok}
-use Rattle.e_book.proofs.Choices.{of_reading}
-use Rattle.e_run.specs.Outcome.{Rest, with_theorem, Takes, Accepted, IsOutcome, end_line_number}
-use Rattle.e_run.proofs.WholeBook.{same_found, at_end_found}
+use Rattle.e_book.specs.Taken.{nothing_known, is_taken}
+use Rattle.e_book.specs.Titled.{Titled}
+use Rattle.e_book.specs.Limits.{most_notions, most_expanded}
+use Rattle.e_book.specs.Items.{has_item, items_of, define_of, placing_of, listed, line_named, line_of, is_show}
+use Rattle.e_book.specs.Open.{Open, Head, Stating, Proving, Splitting, Proved, Ended}
+use Rattle.e_book.specs.Counts.{all_kept, limits_kept}
+use Rattle.e_book.specs.Grammar.{begins, nothing_said, is_empty, next, line_after, ended, is_skipped, put_at}
+use Rattle.e_book.specs.Definitions.{BookItem, OfTheorem, OfNotion, Coming, InTheorem, InDefinition, Defined, has_notion_title, first_line, says_more, still_defined, meant, ends_definition, plain_line, written_out, counted, listed_line, next_line, line_said, whole, whole_or, item_from}
+use Rattle.e_book.proofs.InScope.{bind_ok, ok_is, read_ok}
+use Rattle.e_book.proofs.Choices.{either, passed, of_reading}
+use Rattle.e_book.proofs.FreshTitles.{was_free}
+use Rattle.e_run.specs.Outcome.{Rest, and_theorem, and_notion, Defines, Takes, Accepted, IsOutcome, end_line_number}
+use Rattle.e_run.proofs.WholeBook.{at_end_found, by_found, by_none, by_skip}
 use Rattle.e_run.proofs.VerifiedText.{known_grows}
 
 -- the words of a line with a title
@@ -45,6 +57,20 @@ abbrev pub titles : Rest → ℕ
 titles [] = 0
 titles (Err f ∷ lines) = 0
 titles (Ok l ∷ lines) = one_if (has_title (tokens_of l.bytes)) + titles lines
+
+-- this line has one
+abbrev is_title_line : RawLine → Bool
+is_title_line (Plain (forms.Theorem t)) = true
+is_title_line l = false
+
+abbrev coming_ok : Coming → Result Coming Kind
+coming_ok c = Ok c
+
+abbrev open_ok : Open → Result Open Kind
+open_ok o = Ok o
+
+abbrev refusal_of : Kind → Result Coming Kind
+refusal_of k = Err k
 
 -- ---- no other word begins a line with a title
 
@@ -132,55 +158,170 @@ no_title w ws e =
     (chosen (bytes_eq w (codes "else")) (bare ws forms.Else) r19 (alone ws forms.Else tt)
     (chosen (bytes_eq w (codes "end")) (bare ws forms.End) r20 (alone ws forms.End tt) tt))))))))))))))))))
 
+-- ---- what a line says of its title
+
+not_title : (f : Form) → IsNoTitle (Ok f) → is_title_line (Plain f) ≡ false
+not_title (forms.Theorem t) h = absurd h
+not_title f h = refl
+
+listed_none : (line : Listing) (ws : List (List ℕ)) (l : RawLine) → listed line ws ≡ Ok l → is_title_line l ≡ false
+unfolding listed
+listed_none line ws l e = of_reading (λ m. is_title_line m ≡ false) (items_of ws) (λ is. Listed line is) l (λ is k. refl) e
+
+define_none : (ws : List (List ℕ)) (l : RawLine) → define_of ws ≡ Ok l → is_title_line l ≡ false
+unfolding define_of
+define_none ws l e =
+    let t = bind_ok (title_at ws) (λ t. end_at t.1 >>= λ none. read_ok (Define t.0)) l e in
+    of_reading (λ m. is_title_line m ≡ false) (end_at t.0.1) (λ none. Define t.0.0) l (λ none k. refl) t.2
+
+plain_none : (w : List ℕ) (ws : List (List ℕ)) (l : RawLine) → bytes_eq w (codes "theorem") ≡ false → (form_named w ws >>= λ f. read_ok (Plain f)) ≡ Ok l → is_title_line l ≡ false
+plain_none w ws l is e =
+    of_reading (λ m. is_title_line m ≡ false) (form_named w ws) (λ f. Plain f) l (λ f k. not_title f (subst IsNoTitle k (no_title w ws is))) e
+
+line_none : (w : List ℕ) (ws : List (List ℕ)) (l : RawLine) → bytes_eq w (codes "theorem") ≡ false → line_named w ws ≡ Ok l → is_title_line l ≡ false
+unfolding line_named
+line_none w ws l is e =
+    let P : RawLine → Type 0 = λ m. is_title_line m ≡ false in
+    let r5 : Result RawLine Kind = form_named w ws >>= λ f. read_ok (Plain f) in
+    let placed : Result RawLine Kind = placing_of (take 13 ws) >>= λ line. listed line (drop 13 ws) in
+    let b4 = bytes_eq w (codes "superpose") && has_item (drop 13 ws) in
+    let r4 : Result RawLine Kind = cond b4 placed r5 in
+    let b3 = bytes_eq w (codes "claim") && has_item ws in
+    let r3 : Result RawLine Kind = cond b3 (listed listings.Claim ws) r4 in
+    let b2 = bytes_eq w (codes "show") && has_item ws in
+    let r2 : Result RawLine Kind = cond b2 (listed listings.Show ws) r3 in
+    let b1 = bytes_eq w (codes "given") && has_item ws in
+    let r1 : Result RawLine Kind = cond b1 (listed listings.Given ws) r2 in
+    either P (bytes_eq w (codes "define")) (define_of ws) r1 l e (define_none ws l) (λ e1.
+    either P b1 (listed listings.Given ws) r2 l e1 (listed_none listings.Given ws l) (λ e2.
+    either P b2 (listed listings.Show ws) r3 l e2 (listed_none listings.Show ws l) (λ e3.
+    either P b3 (listed listings.Claim ws) r4 l e3 (listed_none listings.Claim ws l) (λ e4.
+    either P b4 placed r5 l e4
+    (λ k. let a = bind_ok (placing_of (take 13 ws)) (λ line. listed line (drop 13 ws)) l k in listed_none a.0 (drop 13 ws) l a.2)
+    (plain_none w ws l is)))))
+
+theorem_read : (ws : List (List ℕ)) (f : Form) → theorem_of ws ≡ Ok f → is_title_line (Plain f) ≡ true
+unfolding theorem_of
+theorem_read ws f e =
+    let t = bind_ok (title_at ws) (λ t. end_at t.1 >>= λ none. read_ok (forms.Theorem t.0)) f e in
+    of_reading (λ g. is_title_line (Plain g) ≡ true) (end_at t.0.1) (λ none. forms.Theorem t.0.0) f (λ none k. refl) t.2
+
+theorem_line : (w : List ℕ) (ws : List (List ℕ)) → bytes_eq w (codes "theorem") ≡ true → line_named w ws ≡ (theorem_of ws >>= λ f. read_ok (Plain f))
+unfolding line_named form_named
+theorem_line w ws is =
+    subst (λ (x : List ℕ). line_named x ws ≡ (theorem_of ws >>= λ f. read_ok (Plain f))) (sym ((bytes_eq-Decides w (codes "theorem")).0 is)) refl
+
+line_by : (w : List ℕ) (ws : List (List ℕ)) (l : RawLine) (b : Bool) → bytes_eq w (codes "theorem") ≡ b → line_named w ws ≡ Ok l → b ≡ is_title_line l
+line_by w ws l true is e =
+    of_reading (λ m. true ≡ is_title_line m) (theorem_of ws) (λ f. Plain f) l (λ f k. sym (theorem_read ws f k)) (sym (theorem_line w ws is) ∙ e)
+line_by w ws l false is e = sym (line_none w ws l is e)
+
+-- by its first word alone
+line_title : (words : List (List ℕ)) (l : RawLine) → line_of words ≡ Ok l → has_title words ≡ is_title_line l
+unfolding line_of
+line_title [] l e = absurd cc
+line_title (w ∷ ws) l e = line_by w ws l (bytes_eq w (codes "theorem")) refl e
+
 -- ---- a line with a title begins a theorem, and each other goes on
 
-abbrev refusal : Result Draft Kind
-refusal = Err Malformed
+-- a theorem comes, not a definition
+abbrev says_theorem : Coming → Bool
+says_theorem (InTheorem o n) = true
+says_theorem (InDefinition h n) = false
+says_theorem (Defined t) = false
 
-refused : (d : Draft) → refusal ≡ Ok d → ⊥
-refused d e = absurd cc
+abbrev is_theorem : BookItem → Bool
+is_theorem (OfTheorem t) = true
+is_theorem (OfNotion n) = false
 
-neither : (b : Bool) (d : Draft) → cond b refusal refusal ≡ Ok d → ⊥
-neither true d e = refused d e
-neither false d e = refused d e
+theorem_begun : (known : Known) (b : Bool) (f : Form) (c : Coming) → cond b (refusal_of NameTaken) (begins known.theorems f >>= λ o. coming_ok (InTheorem o 0)) ≡ Ok c → says_theorem c ≡ true
+theorem_begun known true f c e = absurd cc
+theorem_begun known false f c e = of_reading (λ d. says_theorem d ≡ true) (begins known.theorems f) (λ o. InTheorem o 0) c (λ o k. refl) e
 
-not_begun : (known : List Headed) (f : Form) (d : Draft) → IsNoTitle (Ok f) → begin known f ≡ Ok d → ⊥
-unfolding begin
-not_begun known (forms.Theorem t) d h e = h
-not_begun known f d h e = refused d e
+definition_begun : (known : Known) (b : Bool) (t : List ℕ) (r : Result (Unit {0}) Kind) (c : Coming) → cond b (refusal_of NameTaken) (r >>= λ kept. coming_ok (InDefinition (nothing_said t) 0)) ≡ Ok c → says_theorem c ≡ false
+definition_begun known true t r c e = absurd cc
+definition_begun known false t r c e = of_reading (λ d. says_theorem d ≡ false) r (λ kept. InDefinition (nothing_said t) 0) c (λ kept k. refl) e
 
-title_by : (known : List Headed) (w : List ℕ) (ws : List (List ℕ)) (d : Draft) (b : Bool) → bytes_eq w (codes "theorem") ≡ b → line_step known None (w ∷ ws) ≡ Ok d → b ≡ true
-unfolding line_step form_of
-title_by known w ws d true is e = refl
-title_by known w ws d false is e =
-    let a = bind_ok (form_named w ws) (λ f. begin known f) d e in
-    absurd (not_begun known a.0 d (subst IsNoTitle a.1 (no_title w ws is)) a.2)
+no_theorem_begun : (known : List Headed) (f : Form) (o : Open) → is_title_line (Plain f) ≡ false → begins known f ≡ Ok o → ⊥
+no_theorem_begun known (forms.Theorem t) o h e = absurd cc
+no_theorem_begun known f o h e = absurd cc
 
-first_title : (known : List Headed) (words : List (List ℕ)) (d : Draft) → line_step known None words ≡ Ok d → has_title words ≡ true
-unfolding line_step form_of
-first_title known [] d e = absurd (refused d e)
-first_title known (w ∷ ws) d e = title_by known w ws d (bytes_eq w (codes "theorem")) refl e
+plain_begun : (known : Known) (f : Form) (c : Coming) (b : Bool) → is_title_line (Plain f) ≡ b → first_line known (Plain f) ≡ Ok c → b ≡ says_theorem c
+plain_begun known f c true is e = sym (theorem_begun known (has_notion_title known.notions f) f c e)
+plain_begun known f c false is e =
+    let free = was_free (has_notion_title known.notions f) (begins known.theorems f >>= λ o. coming_ok (InTheorem o 0)) c e in
+    let o = bind_ok (begins known.theorems f) (λ o. coming_ok (InTheorem o 0)) c free.1 in
+    absurd (no_theorem_begun known.theorems f o.0 is o.1)
 
-not_stepped : (known : List Headed) (a : Draft) (t : List ℕ) (d : Draft) → step known a (forms.Theorem t) ≡ Ok d → ⊥
-unfolding step stepped
-not_stepped known a t d e = neither (allowed a.place (forms.Theorem t)) d e
+first_kind : (known : Known) (l : RawLine) (c : Coming) → first_line known l ≡ Ok c → is_title_line l ≡ says_theorem c
+first_kind known (Plain f) c e = plain_begun known f c (is_title_line (Plain f)) refl e
+first_kind known (Define t) c e =
+    sym (definition_begun known (is_taken known t) t (all_kept ((nat_le (length known.notions + 1) most_notions, limits.Notions) ∷ [])) c e)
+first_kind known (Listed line is) c e = absurd cc
 
-theorem_named : (w : List ℕ) (ws : List (List ℕ)) → bytes_eq w (codes "theorem") ≡ true → form_named w ws ≡ theorem_of ws
-unfolding form_named
-theorem_named w ws e = rw e refl
+-- what comes goes on as what it is
+counted_kind : (n : ℕ) (b c : Coming) → counted n b ≡ Ok c → says_theorem b ≡ says_theorem c
+counted_kind n (InTheorem o m) c e =
+    of_reading (λ d. true ≡ says_theorem d) (all_kept ((nat_le (m + n) most_expanded, limits.Expanded) ∷ [])) (λ kept. InTheorem o (m + n)) c (λ kept k. refl) e
+counted_kind n (InDefinition h m) c e =
+    of_reading (λ d. false ≡ says_theorem d) (all_kept ((nat_le (m + n) most_expanded, limits.Expanded) ∷ [])) (λ kept. InDefinition h (m + n)) c (λ kept k. refl) e
+counted_kind n (Defined t) c e = absurd cc
 
-inside_by : (known : List Headed) (a : Draft) (w : List ℕ) (ws : List (List ℕ)) (d : Draft) (b : Bool) → bytes_eq w (codes "theorem") ≡ b → line_step known (Some a) (w ∷ ws) ≡ Ok d → b ≡ false
-unfolding line_step form_of theorem_of
-inside_by known a w ws d false is e = refl
-inside_by known a w ws d true is e =
-    let x = bind_ok (form_named w ws) (λ f. step known a f) d e in
-    let f : theorem_of ws ≡ Ok x.0 = sym (theorem_named w ws is) ∙ x.1 in
-    let t = bind_ok (title_at ws) (λ t. end_at t.1 >>= λ none. read_ok (forms.Theorem t.0)) x.0 f in
-    absurd (of_reading (λ (g : Form). step known a g ≡ Ok d → ⊥) (end_at t.0.1) (λ none. forms.Theorem t.0.0) x.0 (λ none k. not_stepped known a t.0.0 d) t.2 x.2)
+still_kind : (n : ℕ) (o : Open) (c : Coming) → still_defined n o ≡ Ok c → says_theorem c ≡ false
+still_kind n (Stating h) c e = ap says_theorem (sym (ok_is (InDefinition h n) c e))
+still_kind n o c e = absurd cc
 
-later_title : (known : List Headed) (a : Draft) (words : List (List ℕ)) (d : Draft) → line_step known (Some a) words ≡ Ok d → has_title words ≡ false
-later_title known a [] d e = refl
-later_title known a (w ∷ ws) d e = inside_by known a w ws d (bytes_eq w (codes "theorem")) refl e
+ended_kind : (h : Head) (f : Form) (c : Coming) → ends_definition h f ≡ Ok c → says_theorem c ≡ false
+ended_kind h forms.End c e = either (λ d. says_theorem d ≡ false) (is_empty h.statement.shown) (refusal_of Malformed) (coming_ok (Defined (meant h))) c e (λ k. absurd cc) (λ k. ap says_theorem (sym (ok_is (Defined (meant h)) c k)))
+ended_kind h f c e = absurd cc
+
+plain_kind : (known : Known) (b : Coming) (f : Form) (c : Coming) → plain_line known b f ≡ Ok c → says_theorem b ≡ says_theorem c
+plain_kind known (InTheorem o n) f c e = of_reading (λ d. true ≡ says_theorem d) (line_after known.theorems (Some o) f) (λ m. InTheorem m n) c (λ m k. refl) e
+plain_kind known (InDefinition h n) f c e =
+    let more : Result Coming Kind = line_after known.theorems (Some (Stating h)) f >>= λ o. still_defined n o in
+    sym (either (λ d. says_theorem d ≡ false) (says_more f) more (ends_definition h f) c e
+    (λ k. let o = bind_ok (line_after known.theorems (Some (Stating h)) f) (λ o. still_defined n o) c k in still_kind n o.0 c o.2)
+    (ended_kind h f c))
+plain_kind known (Defined t) f c e = absurd cc
+
+then_counted : (known : Known) (b : Coming) (w : Form × ℕ) (c : Coming) → (plain_line known b w.0 >>= λ d. counted w.1 d) ≡ Ok c → says_theorem b ≡ says_theorem c
+then_counted known b w c e =
+    let d = bind_ok (plain_line known b w.0) (λ d. counted w.1 d) c e in
+    plain_kind known b w.0 d.0 d.1 ∙ counted_kind w.1 d.0 c d.2
+
+listed_kind : (known : Known) (b : Coming) (line : Listing) (is : List RawItem) (c : Coming) → listed_line known b line is ≡ Ok c → says_theorem b ≡ says_theorem c
+listed_kind known (InTheorem o n) line is c e =
+    let w = bind_ok (written_out known o line is) (λ w. plain_line known (InTheorem o n) w.0 >>= λ d. counted w.1 d) c e in
+    then_counted known (InTheorem o n) w.0 c w.2
+listed_kind known (InDefinition h n) line is c e =
+    let p = passed (is_show line) (written_out known (Stating h) line is >>= λ w. plain_line known (InDefinition h n) w.0 >>= λ d. counted w.1 d) c e in
+    let w = bind_ok (written_out known (Stating h) line is) (λ w. plain_line known (InDefinition h n) w.0 >>= λ d. counted w.1 d) c p.1 in
+    then_counted known (InDefinition h n) w.0 c w.2
+listed_kind known (Defined t) line is c e = absurd cc
+
+no_next : (known : List Headed) (o : Open) (t : List ℕ) (m : Open) → next known o (forms.Theorem t) ≡ Ok m → ⊥
+no_next known (Stating h) t m e = absurd cc
+no_next known (Proving h around steps) t m e = absurd cc
+no_next known (Splitting h around) t m e = absurd cc
+no_next known (Proved h script) t m e = absurd cc
+no_next known (Ended e) t m k = absurd cc
+
+no_title_inside : (known : Known) (b : Coming) (t : List ℕ) (c : Coming) → plain_line known b (forms.Theorem t) ≡ Ok c → ⊥
+no_title_inside known (InTheorem o n) t c e =
+    let m = bind_ok (line_after known.theorems (Some o) (forms.Theorem t)) (λ m. coming_ok (InTheorem m n)) c e in
+    let a = bind_ok (next known.theorems o (forms.Theorem t)) (λ m. all_kept (limits_kept known.theorems (forms.Theorem t) m) >>= λ kept. open_ok m) m.0 m.1 in
+    no_next known.theorems o t a.0 a.1
+no_title_inside known (InDefinition h n) t c e = absurd cc
+no_title_inside known (Defined s) t c e = absurd cc
+
+plain_later : (known : Known) (b : Coming) (f : Form) (c : Coming) → plain_line known b f ≡ Ok c → is_title_line (Plain f) ≡ false
+plain_later known b (forms.Theorem t) c e = absurd (no_title_inside known b t c e)
+plain_later known b f c e = refl
+
+later_kind : (known : Known) (b : Coming) (l : RawLine) (c : Coming) → next_line known b l ≡ Ok c → (is_title_line l ≡ false) × (says_theorem b ≡ says_theorem c)
+later_kind known b (Plain f) c e = (plain_later known b f c e, plain_kind known b f c e)
+later_kind known b (Define t) c e = absurd cc
+later_kind known b (Listed line is) c e = (refl, listed_kind known b line is c e)
 
 -- a line that says nothing has none
 skipped_title : (words : List (List ℕ)) → is_skipped words ≡ true → has_title words ≡ false
@@ -188,103 +329,128 @@ skipped_title [] e = refl
 skipped_title ([] ∷ ws) e = absurd cc
 skipped_title ((b ∷ bs) ∷ ws) e = subst (λ (x : ℕ). bytes_eq (x ∷ bs) (codes "theorem") ≡ false) (sym (eqb-true b 35 e)) refl
 
--- ---- the lines of a theorem
+-- ---- the lines of a theorem or a definition
 
 abbrev Answer : Type 0
-Answer = Result (Option (Entry × Rest)) BookFault
+Answer = Result (Option (BookItem × Rest)) BookFault
 
-abbrev found : Entry → Rest → Answer
-found t rest = Ok (Some (t, rest))
+abbrev found : BookItem → Rest → Answer
+found i rest = Ok (Some (i, rest))
 
 abbrev none_left : Answer
 none_left = Ok None
 
--- how many titles come, by what has come of a theorem
-abbrev begun : Option Draft → ℕ
-begun None = 1
-begun (Some d) = 0
+-- how many titles come up to the end of this, by what has come of it; and it is what has come
+abbrev begun : Option Coming → BookItem → ℕ
+begun None i = one_if (is_theorem i)
+begun (Some c) i = 0
 
-line_count : (known : List Headed) (s : Option Draft) (words : List (List ℕ)) (d : Draft) → line_step known s words ≡ Ok d → one_if (has_title words) ≡ begun s
-line_count known None words d e = ap one_if (first_title known words d e)
-line_count known (Some a) words d e = ap one_if (later_title known a words d e)
+abbrev IsOf : Option Coming → BookItem → Type 0
+IsOf None i = Unit {0}
+IsOf (Some c) i = says_theorem c ≡ is_theorem i
 
-put_is : (n : ℕ) (r : Result Draft Kind) (d : Draft) → put_at n r ≡ Ok d → r ≡ Ok d
-put_is n (Ok x) d e = cc
-put_is n (Err k) d e = absurd cc
+-- what a line says of what comes next: it has a title where a theorem begins, and is of what has come
+line_begun : (known : Known) (s : Option Coming) (words : List (List ℕ)) (c : Coming) (i : BookItem) → line_said known s words ≡ Ok c → says_theorem c ≡ is_theorem i → (one_if (has_title words) ≡ begun s i) × IsOf s i
+line_begun known None words c i e k =
+    let l = bind_ok (line_of words) (λ l. first_line known l) c e in
+    (ap one_if (line_title words l.0 l.1 ∙ first_kind known l.0 c l.2 ∙ k), tt)
+line_begun known (Some b) words c i e k =
+    let l = bind_ok (line_of words) (λ l. next_line known b l) c e in
+    let p = later_kind known b l.0 c l.2 in
+    (ap one_if (line_title words l.0 l.1 ∙ p.0), p.1 ∙ k)
 
-choose : (P : Type 0) (b : Bool) (r q a : Answer) → cond b r q ≡ a → (b ≡ true → r ≡ a → P) → (q ≡ a → P) → P
-choose P true r q a h skipped read = skipped refl h
-choose P false r q a h skipped read = read h
+put_is : (n : ℕ) (r : Result Coming Kind) (c : Coming) → put_at n r ≡ Ok c → r ≡ Ok c
+put_is n (Ok x) c e = cc
+put_is n (Err k) c e = absurd cc
 
-behind_line : (b : Bool) (e t : Entry) (lines rest : Rest) (r : Answer) → cond b (found e lines) r ≡ found t rest → (r ≡ found t rest → titles lines ≡ titles rest) → titles lines ≡ titles rest
-behind_line true e t lines rest r h more = ap (λ (p : Entry × Rest). titles p.1) (same_found e t lines rest h)
-behind_line false e t lines rest r h more = more h
+ended_theorem : (o : Option Entry) (i : BookItem) → option_map OfTheorem o ≡ Some i → true ≡ is_theorem i
+ended_theorem None i e = absurd cc
+ended_theorem (Some t) i e = let j : OfTheorem t ≡ i = cc in ap is_theorem j
 
--- a theorem has one title, and what has begun has none any more
-count_found : (known : List Headed) (last : ℕ) (s : Option Draft) (lines : Rest) (t : Entry) (rest : Rest) → read_from known last s lines ≡ found t rest → titles lines ≡ begun s + titles rest
-count_found known last s [] t rest h = absurd (at_end_found last s t rest h)
-count_found known last s (Err f ∷ lines) t rest h = absurd cc
-count_found known last s (Ok l ∷ lines) t rest h =
+whole_kind : (c : Coming) (i : BookItem) → whole c ≡ Some i → says_theorem c ≡ is_theorem i
+whole_kind (InTheorem o n) i e = ended_theorem (ended o) i e
+whole_kind (InDefinition h n) i e = absurd cc
+whole_kind (Defined t) i e = let j : OfNotion t ≡ i = cc in ap is_theorem j
+
+-- the count up to the end, and the lines behind it
+pub record Counts (s : Option Coming) (lines : Rest) (i : BookItem) (rest : Rest) : Type 0 where
+  pub count : titles lines ≡ begun s i + titles rest
+  pub same : IsOf s i
+
+count_found : (known : Known) (last : ℕ) (s : Option Coming) (lines : Rest) (i : BookItem) (rest : Rest) → item_from known last s lines ≡ found i rest → Counts s lines i rest
+count_found known last s [] i rest h = absurd (at_end_found last s i rest h)
+count_found known last s (Err f ∷ lines) i rest h = absurd cc
+count_found known last s (Ok l ∷ lines) i rest h =
     let words = tokens_of l.bytes in
-    let whole : titles (Ok l ∷ lines) ≡ one_if (has_title words) + titles lines = refl in
-    choose (titles (Ok l ∷ lines) ≡ begun s + titles rest) (is_skipped words) (read_from known last s lines) (put_at l.number (line_step known s words) >>= λ d. cond (is_done d) (found (entry_of_draft d) lines) (read_from known last (Some d) lines)) (found t rest) h
+    let all : titles (Ok l ∷ lines) ≡ one_if (has_title words) + titles lines = refl in
+    by_skip (Counts s (Ok l ∷ lines) i rest) (is_skipped words) (item_from known last s lines) (put_at l.number (line_said known s words) >>= λ c. whole_or (whole c) lines (item_from known last (Some c) lines)) (found i rest) h
     (λ skip e.
     let none : one_if (has_title words) ≡ 0 = ap one_if (skipped_title words skip) in
-    omega (arith, whole, none, count_found known last s lines t rest e))
+    let more = count_found known last s lines i rest e in
+    record { count = omega (arith, all, none, more.count); same = more.same })
     (λ q.
-    let a = bind_ok (put_at l.number (line_step known s words)) (λ d. cond (is_done d) (found (entry_of_draft d) lines) (read_from known last (Some d) lines)) (Some (t, rest)) q in
-    let one : one_if (has_title words) ≡ begun s = line_count known s words a.0 (put_is l.number (line_step known s words) a.0 a.1) in
-    let more : titles lines ≡ titles rest = behind_line (is_done a.0) (entry_of_draft a.0) t lines rest (read_from known last (Some a.0) lines) a.2 (λ e.
-    let later : titles lines ≡ 0 + titles rest = count_found known last (Some a.0) lines t rest e in
-    omega (arith, later)) in
-    omega (arith, whole, one, more))
+    let a = bind_ok (put_at l.number (line_said known s words)) (λ c. whole_or (whole c) lines (item_from known last (Some c) lines)) (Some (i, rest)) q in
+    let said = put_is l.number (line_said known s words) a.0 a.1 in
+    by_found (Counts s (Ok l ∷ lines) i rest) (whole a.0) i lines rest (item_from known last (Some a.0) lines) a.2
+    (λ ends e.
+    let b = line_begun known s words a.0 i said (whole_kind a.0 i ends) in
+    record { count = omega (arith, all, b.0, ap titles e); same = b.1 })
+    (λ e.
+    let more = count_found known last (Some a.0) lines i rest e in
+    let later : titles lines ≡ 0 + titles rest = more.count in
+    let b = line_begun known s words a.0 i said more.same in
+    record { count = omega (arith, all, b.0, later); same = b.1 }))
 
-none_behind : (b : Bool) (e : Entry) (lines : Rest) (r : Answer) → cond b (found e lines) r ≡ none_left → (r ≡ none_left → ⊥) → ⊥
-none_behind true e lines r h more = absurd cc
-none_behind false e lines r h more = more h
-
--- the lines do not end inside a theorem
-never_none : (known : List Headed) (last : ℕ) (d : Draft) (lines : Rest) → read_from known last (Some d) lines ≡ none_left → ⊥
-never_none known last d [] h = absurd cc
-never_none known last d (Err f ∷ lines) h = absurd cc
-never_none known last d (Ok l ∷ lines) h =
+-- the lines do not end inside a theorem or a definition
+never_none : (known : Known) (last : ℕ) (c : Coming) (lines : Rest) → item_from known last (Some c) lines ≡ none_left → ⊥
+never_none known last c [] h = absurd cc
+never_none known last c (Err f ∷ lines) h = absurd cc
+never_none known last c (Ok l ∷ lines) h =
     let words = tokens_of l.bytes in
-    choose ⊥ (is_skipped words) (read_from known last (Some d) lines) (put_at l.number (line_step known (Some d) words) >>= λ x. cond (is_done x) (found (entry_of_draft x) lines) (read_from known last (Some x) lines)) none_left h
-    (λ skip e. never_none known last d lines e)
+    by_skip ⊥ (is_skipped words) (item_from known last (Some c) lines) (put_at l.number (line_said known (Some c) words) >>= λ d. whole_or (whole d) lines (item_from known last (Some d) lines)) none_left h
+    (λ skip e. never_none known last c lines e)
     (λ q.
-    let a = bind_ok (put_at l.number (line_step known (Some d) words)) (λ x. cond (is_done x) (found (entry_of_draft x) lines) (read_from known last (Some x) lines)) None q in
-    none_behind (is_done a.0) (entry_of_draft a.0) lines (read_from known last (Some a.0) lines) a.2 (λ e. never_none known last a.0 lines e))
+    let a = bind_ok (put_at l.number (line_said known (Some c) words)) (λ d. whole_or (whole d) lines (item_from known last (Some d) lines)) None q in
+    by_none ⊥ (whole a.0) lines (item_from known last (Some a.0) lines) a.2 (λ e. never_none known last a.0 lines e))
 
 -- and where none is read any more, no line has a title
-count_end : (known : List Headed) (last : ℕ) (lines : Rest) → read_from known last None lines ≡ none_left → titles lines ≡ 0
+count_end : (known : Known) (last : ℕ) (lines : Rest) → item_from known last None lines ≡ none_left → titles lines ≡ 0
 count_end known last [] h = refl
 count_end known last (Err f ∷ lines) h = absurd cc
 count_end known last (Ok l ∷ lines) h =
     let words = tokens_of l.bytes in
-    let whole : titles (Ok l ∷ lines) ≡ one_if (has_title words) + titles lines = refl in
-    choose (titles (Ok l ∷ lines) ≡ 0) (is_skipped words) (read_from known last None lines) (put_at l.number (line_step known None words) >>= λ x. cond (is_done x) (found (entry_of_draft x) lines) (read_from known last (Some x) lines)) none_left h
+    let all : titles (Ok l ∷ lines) ≡ one_if (has_title words) + titles lines = refl in
+    by_skip (titles (Ok l ∷ lines) ≡ 0) (is_skipped words) (item_from known last None lines) (put_at l.number (line_said known None words) >>= λ c. whole_or (whole c) lines (item_from known last (Some c) lines)) none_left h
     (λ skip e.
     let none : one_if (has_title words) ≡ 0 = ap one_if (skipped_title words skip) in
-    omega (arith, whole, none, count_end known last lines e))
+    omega (arith, all, none, count_end known last lines e))
     (λ q.
-    let a = bind_ok (put_at l.number (line_step known None words)) (λ x. cond (is_done x) (found (entry_of_draft x) lines) (read_from known last (Some x) lines)) None q in
-    absurd (none_behind (is_done a.0) (entry_of_draft a.0) lines (read_from known last (Some a.0) lines) a.2 (λ e. never_none known last a.0 lines e)))
+    let a = bind_ok (put_at l.number (line_said known None words)) (λ c. whole_or (whole c) lines (item_from known last (Some c) lines)) None q in
+    absurd (by_none ⊥ (whole a.0) lines (item_from known last (Some a.0) lines) a.2 (λ e. never_none known last a.0 lines e)))
 
 -- ---- the whole
 
-count_taken : (last : ℕ) (known : List Headed) (lines : Rest) (ts : List Entry) (now : List Headed) (rest : Rest) → Takes last known lines ts now rest → titles lines ≡ length ts + titles rest
-count_taken last known lines [] now rest h = omega (arith, ap titles h.1)
+-- definitions have none
+count_defined : (last : ℕ) (known : Known) (lines : Rest) (ns : List Titled) (now : Known) (rest : Rest) → Defines last known lines ns now rest → titles lines ≡ titles rest
+count_defined last known lines [] now rest d = ap titles d.1
+count_defined last known lines (n ∷ ns) now rest d =
+    let none : titles lines ≡ 0 + titles d.0 = (count_found known last None lines (OfNotion n) d.0 d.1).count in
+    omega (arith, none, count_defined last (and_notion known n) d.0 ns now rest d.2)
+
+count_taken : (last : ℕ) (known : Known) (lines : Rest) (ts : List Entry) (now : Known) (rest : Rest) → Takes last known lines ts now rest → titles lines ≡ length ts + titles rest
+count_taken last known lines [] now rest h = omega (arith, count_defined last known lines h.notions now rest h.defines)
 count_taken last known lines (t ∷ ts) now rest h =
-    let one : titles lines ≡ 1 + titles h.0 = count_found known last None lines t h.0 (grammar_read known last lines ∙ h.1) in
-    omega (arith, one, count_taken last (with_theorem known t) h.0 ts now rest h.3)
+    let before = count_defined last known lines h.2.notions h.0 h.1 h.2.defines in
+    let one : titles h.1 ≡ 1 + titles h.3 = (count_found h.0 last None h.1 (OfTheorem t) h.3 h.4).count in
+    omega (arith, before, one, count_taken last (and_theorem h.0 t) h.3 ts now rest h.6)
 
 -- an accepted book has as many titles as theorems
 pub accepted_titles : (lines : Rest) (ts : List Entry) (n : ℕ) → IsOutcome lines ts (Accepted n) → titles lines ≡ n
 accepted_titles lines ts n h =
     omega (
       arith,
-      count_taken (end_line_number lines) [] lines ts h.known h.rest h.begins,
-      count_end h.known (end_line_number lines) h.rest (grammar_read h.known (end_line_number lines) h.rest ∙ h.ends.0),
-      known_grows (end_line_number lines) [] lines ts h.known h.rest h.begins,
+      count_taken (end_line_number lines) nothing_known lines ts h.known h.rest h.begins,
+      count_end h.known (end_line_number lines) h.rest h.ends.0,
+      known_grows (end_line_number lines) nothing_known lines ts h.known h.rest h.begins,
       h.ends.1,
     )

@@ -3,7 +3,7 @@ use Rattle.std.proofs.Common.{◌≡◌, inl, inr, ℕ, ◌≤◌, List, [], Opt
 use Rattle.e_io.specs.Bytes.{Grew}
 use Rattle.e_text.proofs.WholeLines.{lines_of-take}
 use Rattle.e_deriv.specs.declared.stop.Stop.TheVariants as stops
-use Rattle.e_book.specs.Headed.{Headed}
+use Rattle.e_book.specs.declared.known.Known.{Known}
 use Rattle.e_generate.specs.Generated.{generated_text}
 use Rattle.e_judgement.specs.declared.judgement.Judgement.TheVariants as judgements
 use Rattle.e_judgement.specs.Judged.{JudgesText}
@@ -68,7 +68,7 @@ tried_answered lines n s answer line h a l = subst (λ (x : Status). TrialAnswer
 
 -- ---- the answer to any other book
 
-stopped_there : (lines : Rest) (s0 s1 : Option (List ℕ)) (Holds : List Headed → Rest → Type 0) → BlocksUpTo lines s0 s1 Holds → IsStopped lines Holds
+stopped_there : (lines : Rest) (s0 s1 : Option (List ℕ)) (Holds : Known → Rest → Type 0) → BlocksUpTo lines s0 s1 Holds → IsStopped lines Holds
 stopped_there lines s0 s1 Holds e = record { derived = e.derived; sound = e.sound; known = e.known; rest = e.rest; begins = e.begins; holds = e.holds }
 
 -- the blocks end in another way

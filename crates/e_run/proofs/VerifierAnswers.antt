@@ -11,7 +11,7 @@ use Rattle.e_roundtrip.proofs.VerifiedTexts.{verified_is_written}
 use Rattle.e_run.specs.declared.status.Status.{Status}
 use Rattle.e_run.specs.declared.status.Status.TheVariants as status
 use Rattle.e_run.specs.Outcome.{Rest, lines_of_book}
-use Rattle.e_run.specs.Answers.{Checks, ChecksBook, IsReadFault, IsWriteFault}
+use Rattle.e_run.specs.Answers.{Checks, ChecksBook, IsAllOf, IsReadFault, IsWriteFault}
 use Rattle.e_run.specs.Proofs.{WroteProofs, ReadProofs}
 use Rattle.e_run.specs.Input.{IsTextOf}
 use Rattle.e_run.specs.inner.BookResults.{Closes}
@@ -45,10 +45,10 @@ no_write_fault (judgements.Verified n) answer e h = subst IsWriteFault e h
 no_write_fault (judgements.Bad title step) answer e h = subst IsWriteFault e h
 no_write_fault (judgements.Garbled line) answer e h = subst IsWriteFault e h
 
--- some text is the source's
-pub any_text : (left old new : Option (List ℕ)) (answer : Status) → ((text : List ℕ) → Verifies text old new answer) → VerifiesText left old new answer
-any_text None old new answer h = ([], tt, h [])
-any_text (Some text) old new answer h = (text, refl, h text)
+-- some text is the source's, of which this holds
+pub any_of : (left : Option (List ℕ)) (Holds : List ℕ → Type 0) → ((text : List ℕ) → Holds text) → (text : List ℕ) × IsAllOf left text × Holds text
+any_of None Holds h = ([], tt, h [])
+any_of (Some text) Holds h = (text, refl, h text)
 
 -- where few bytes were taken of a list, they are all of it
 all_taken : (n : ℕ) (text : List ℕ) → length (take (n + 1) text) ≤ n → take (n + 1) text ≡ text
@@ -59,17 +59,15 @@ all_taken n text few =
     ]
 
 -- a text that is short enough was read whole
-pub short_text : (left : Option (List ℕ)) (read : List ℕ) (old new : Option (List ℕ)) (answer : Status)
-    → IsTextOf (2 ^ 60 + 1) left read → length read ≤ 2 ^ 60 → Verifies read old new answer → VerifiesText left old new answer
-short_text None read old new answer e few h = (read, tt, h)
-short_text (Some text) read old new answer e few h =
-    (text, refl, subst (λ (t : List ℕ). Verifies t old new answer) (e ∙ all_taken (2 ^ 60) text (subst (λ (t : List ℕ). length t ≤ 2 ^ 60) e few)) h)
+pub short_of : (left : Option (List ℕ)) (read : List ℕ) (Holds : List ℕ → Type 0) → IsTextOf (2 ^ 60 + 1) left read → length read ≤ 2 ^ 60 → Holds read → (text : List ℕ) × IsAllOf left text × Holds text
+short_of None read Holds e few h = (read, tt, h)
+short_of (Some text) read Holds e few h = (text, refl, subst Holds (e ∙ all_taken (2 ^ 60) text (subst (λ (t : List ℕ). length t ≤ 2 ^ 60) e few)) h)
 
 -- and one of which more was read is too long
-pub long_text : (left : Option (List ℕ)) (read : List ℕ) (old new : Option (List ℕ)) (answer : Status)
-    → IsTextOf (2 ^ 60 + 1) left read → 2 ^ 60 < length read → ((text : List ℕ) → 2 ^ 60 < length text → Verifies text old new answer) → VerifiesText left old new answer
-long_text None read old new answer e far h = (read, tt, h read far)
-long_text (Some text) read old new answer e far h = (text, refl, h text (farther text read e far))
+pub long_of : (left : Option (List ℕ)) (read : List ℕ) (Holds : List ℕ → Type 0) → IsTextOf (2 ^ 60 + 1) left read → 2 ^ 60 < length read → ((text : List ℕ) → 2 ^ 60 < length text → Holds text)
+    → (text : List ℕ) × IsAllOf left text × Holds text
+long_of None read Holds e far h = (read, tt, h read far)
+long_of (Some text) read Holds e far h = (text, refl, h text (farther text read e far))
   where
     farther : (text read : List ℕ) → read ≡ take (2 ^ 60 + 1) text → 2 ^ 60 < length read → 2 ^ 60 < length text
     farther text read e far =
@@ -77,6 +75,18 @@ long_text (Some text) read old new answer e far h = (text, refl, h text (farther
           | inl more ↦ more
           | inr le ↦ subst (λ (t : List ℕ). 2 ^ 60 < length t) (e ∙ take_all (2 ^ 60 + 1) text (omega (arith, le))) far
         ]
+
+-- the same of what `verify` answers
+pub any_text : (left old new : Option (List ℕ)) (answer : Status) → ((text : List ℕ) → Verifies text old new answer) → VerifiesText left old new answer
+any_text left old new answer h = any_of left (λ text. Verifies text old new answer) h
+
+pub short_text : (left : Option (List ℕ)) (read : List ℕ) (old new : Option (List ℕ)) (answer : Status)
+    → IsTextOf (2 ^ 60 + 1) left read → length read ≤ 2 ^ 60 → Verifies read old new answer → VerifiesText left old new answer
+short_text left read old new answer e few h = short_of left read (λ text. Verifies text old new answer) e few h
+
+pub long_text : (left : Option (List ℕ)) (read : List ℕ) (old new : Option (List ℕ)) (answer : Status)
+    → IsTextOf (2 ^ 60 + 1) left read → 2 ^ 60 < length read → ((text : List ℕ) → 2 ^ 60 < length text → Verifies text old new answer) → VerifiesText left old new answer
+long_text left read old new answer e far h = long_of left read (λ text. Verifies text old new answer) e far h
 
 -- where a text has a judgement, the answer is that
 due_judged : (text : List ℕ) (j : Judgement) (answer : Status) (out : List ℕ) → length text ≤ 2 ^ 60 → JudgesText text j → TextAnswer text answer out → (answer ≡ answer_of j) ⊎ IsFailure answer

@@ -1,5 +1,5 @@
 -- A book that is accepted has no line with a fault, and so no byte past its limit.
-use Rattle.std.proofs.Common.{◌≡◌, ℕ, zero, suc, ◌+◌, ◌<◌, ◌≤◌, Bool, true, false, cond, ltb, List, [], ◌∷◌, ◌++◌, length, take, drop, replicate, inl, inr, Option, Some, None, Result, Ok, Err, sym, ap, subst, ◌∙◌, arith, length-append, length-drop, length-take-le}
+use Rattle.std.proofs.Common.{◌≡◌, ℕ, zero, suc, ◌+◌, ◌<◌, ◌≤◌, Bool, true, false, cond, ltb, List, [], ◌∷◌, ◌++◌, length, take, drop, replicate, inl, inr, Option, Some, None, Result, Ok, Err, refl, sym, ap, subst, arith, length-append, length-drop, length-take-le}
 use Rattle.std.specs.List.{position_or_len}
 use Rattle.std.proofs.lemmas.List.{length-replicate}
 use Rattle.std.proofs.lemmas.Bool.{lt-ltb, cases_lt}
@@ -11,79 +11,90 @@ use Rattle.e_text.specs.Lines.{is_lf, Bounds, Spot, Seen, AreGood, checked, clos
 use Rattle.e_text.proofs.FirstLine.{then_lines}
 use Rattle.e_text.proofs.WholeLines.{lines_of-closed, lines_of-open, spot_behind}
 use Rattle.e_book.specs.declared.fault.BookFault.{BookFault}
-use Rattle.e_book.specs.declared.draft.Draft.{Draft}
+use Rattle.e_book.specs.declared.known.Known.{Known}
 use Rattle.e_book.specs.Reading.{◌>>=◌}
-use Rattle.e_book.specs.Headed.{Headed}
-use Rattle.e_book.specs.DraftViews.{entry_of_draft}
 use Rattle.e_book.specs.Entry.{Entry}
 use Rattle.e_book.specs.Grammar.{is_skipped, put_at}
-use Rattle.e_book.specs.Book.{read_from, at_end, is_done, line_step}
-use Rattle.e_book.proofs.GrammarRead.{grammar_read}
+use Rattle.e_book.specs.Taken.{nothing_known}
+use Rattle.e_book.specs.Titled.{Titled}
+use Rattle.e_book.specs.Definitions.{BookItem, OfTheorem, OfNotion, Coming, line_said, whole, whole_or, at_end, item_from}
 use Rattle.e_book.proofs.InScope.{bind_ok}
-use Rattle.e_run.specs.Outcome.{Rest, with_theorem, Takes, Accepted, IsOutcome, end_line_number, lines_of_book}
+use Rattle.e_run.specs.Outcome.{Rest, and_theorem, and_notion, Defines, Takes, Accepted, IsOutcome, end_line_number, lines_of_book}
 use Rattle.e_run.specs.declared.blocks.BookResult.{BookResult}
 use Rattle.e_run.specs.declared.blocks.BookResult.TheVariants.{All, Stopped, Faulty}
 use Rattle.e_run.specs.Answers.{theorems_of}
 use Rattle.e_run.specs.inner.BookResults.{BookResultIs, IsAll}
 
 abbrev Answer : Type 0
-Answer = Result (Option (Entry × Rest)) BookFault
+Answer = Result (Option (BookItem × Rest)) BookFault
 
-abbrev found : Entry → Rest → Answer
-found t rest = Ok (Some (t, rest))
+abbrev found : BookItem → Rest → Answer
+found i rest = Ok (Some (i, rest))
 
 abbrev none_left : Answer
 none_left = Ok None
 
-abbrev pair : Entry → Rest → Entry × Rest
-pair t rest = (t, rest)
+abbrev pair : BookItem → Rest → BookItem × Rest
+pair i rest = (i, rest)
 
-pub same_found : (t u : Entry) (xs ys : Rest) → found t xs ≡ found u ys → pair t xs ≡ pair u ys
-same_found t u xs ys e = cc
+pub same_found : (i j : BookItem) (xs ys : Rest) → found i xs ≡ found j ys → pair i xs ≡ pair j ys
+same_found i j xs ys e = cc
 
-pub at_end_found : (last : ℕ) (s : Option Draft) (t : Entry) (rest : Rest) → at_end last s ≡ found t rest → ⊥
-at_end_found last None t rest e = cc
-at_end_found last (Some d) t rest e = cc
+pub at_end_found : (last : ℕ) (s : Option Coming) (i : BookItem) (rest : Rest) → at_end last s ≡ found i rest → ⊥
+at_end_found last None i rest e = cc
+at_end_found last (Some c) i rest e = cc
 
--- where a theorem is read, the lines are good if those after it are
-by_found : (b : Bool) (e t : Entry) (lines rest : Rest) (r : Answer) → cond b (found e lines) r ≡ found t rest → AreGood rest → (r ≡ found t rest → AreGood lines) → AreGood lines
-by_found true e t lines rest r h good more = subst AreGood (sym (ap (λ (p : Entry × Rest). p.1) (same_found e t lines rest h))) good
-by_found false e t lines rest r h good more = more h
+-- where something is read, it ends here, or it goes on
+pub by_found : (P : Type 0) (o : Option BookItem) (i : BookItem) (lines rest : Rest) (r : Answer) → whole_or o lines r ≡ found i rest → (o ≡ Some i → lines ≡ rest → P) → (r ≡ found i rest → P) → P
+by_found P None i lines rest r h ends more = more h
+by_found P (Some j) i lines rest r h ends more =
+    let e = same_found j i lines rest h in
+    ends (ap (λ (p : BookItem × Rest). Some p.0) e) (ap (λ (p : BookItem × Rest). p.1) e)
 
-by_skip : (b : Bool) (lines : Rest) (r q a : Answer) → cond b r q ≡ a → (r ≡ a → AreGood lines) → (q ≡ a → AreGood lines) → AreGood lines
-by_skip true lines r q a h skipped read = skipped h
-by_skip false lines r q a h skipped read = read h
+-- where none is read, it goes on
+pub by_none : (P : Type 0) (o : Option BookItem) (lines : Rest) (r : Answer) → whole_or o lines r ≡ none_left → (r ≡ none_left → P) → P
+by_none P None lines r h more = more h
+by_none P (Some j) lines r h more = absurd cc
 
-good_before : (known : List Headed) (last : ℕ) (s : Option Draft) (lines : Rest) (t : Entry) (rest : Rest) → read_from known last s lines ≡ found t rest → AreGood rest → AreGood lines
-good_before known last s [] t rest h good = absurd (at_end_found last s t rest h)
-good_before known last s (Err f ∷ lines) t rest h good = absurd cc
-good_before known last s (Ok l ∷ lines) t rest h good =
-    by_skip (is_skipped (tokens_of l.bytes)) lines (read_from known last s lines) (put_at l.number (line_step known s (tokens_of l.bytes)) >>= λ d. cond (is_done d) (found (entry_of_draft d) lines) (read_from known last (Some d) lines)) (found t rest) h
-    (λ e. good_before known last s lines t rest e good)
-    (λ q. let a = bind_ok (put_at l.number (line_step known s (tokens_of l.bytes))) (λ d. cond (is_done d) (found (entry_of_draft d) lines) (read_from known last (Some d) lines)) (Some (t, rest)) q in
-    by_found (is_done a.0) (entry_of_draft a.0) t lines rest (read_from known last (Some a.0) lines) a.2 good (λ e. good_before known last (Some a.0) lines t rest e good))
+pub by_skip : (P : Type 0) (b : Bool) (r q a : Answer) → cond b r q ≡ a → (b ≡ true → r ≡ a → P) → (q ≡ a → P) → P
+by_skip P true r q a h skipped read = skipped refl h
+by_skip P false r q a h skipped read = read h
 
-by_none : (b : Bool) (e : Entry) (lines : Rest) (r : Answer) → cond b (found e lines) r ≡ none_left → (r ≡ none_left → AreGood lines) → AreGood lines
-by_none true e lines r h more = absurd cc
-by_none false e lines r h more = more h
+-- where something is read, the lines are good if those behind it are
+good_before : (known : Known) (last : ℕ) (s : Option Coming) (lines : Rest) (i : BookItem) (rest : Rest) → item_from known last s lines ≡ found i rest → AreGood rest → AreGood lines
+good_before known last s [] i rest h good = absurd (at_end_found last s i rest h)
+good_before known last s (Err f ∷ lines) i rest h good = absurd cc
+good_before known last s (Ok l ∷ lines) i rest h good =
+    let words = tokens_of l.bytes in
+    by_skip (AreGood lines) (is_skipped words) (item_from known last s lines) (put_at l.number (line_said known s words) >>= λ c. whole_or (whole c) lines (item_from known last (Some c) lines)) (found i rest) h
+    (λ skip e. good_before known last s lines i rest e good)
+    (λ q. let a = bind_ok (put_at l.number (line_said known s words)) (λ c. whole_or (whole c) lines (item_from known last (Some c) lines)) (Some (i, rest)) q in
+    by_found (AreGood lines) (whole a.0) i lines rest (item_from known last (Some a.0) lines) a.2 (λ ends e. subst AreGood (sym e) good) (λ e. good_before known last (Some a.0) lines i rest e good))
 
 -- where none is read any more, all lines are good
-good_at_end : (known : List Headed) (last : ℕ) (s : Option Draft) (lines : Rest) → read_from known last s lines ≡ none_left → AreGood lines
+good_at_end : (known : Known) (last : ℕ) (s : Option Coming) (lines : Rest) → item_from known last s lines ≡ none_left → AreGood lines
 good_at_end known last s [] h = tt
 good_at_end known last s (Err f ∷ lines) h = absurd cc
 good_at_end known last s (Ok l ∷ lines) h =
-    by_skip (is_skipped (tokens_of l.bytes)) lines (read_from known last s lines) (put_at l.number (line_step known s (tokens_of l.bytes)) >>= λ d. cond (is_done d) (found (entry_of_draft d) lines) (read_from known last (Some d) lines)) none_left h
-    (λ e. good_at_end known last s lines e)
-    (λ q. let a = bind_ok (put_at l.number (line_step known s (tokens_of l.bytes))) (λ d. cond (is_done d) (found (entry_of_draft d) lines) (read_from known last (Some d) lines)) None q in
-    by_none (is_done a.0) (entry_of_draft a.0) lines (read_from known last (Some a.0) lines) a.2 (λ e. good_at_end known last (Some a.0) lines e))
+    let words = tokens_of l.bytes in
+    by_skip (AreGood lines) (is_skipped words) (item_from known last s lines) (put_at l.number (line_said known s words) >>= λ c. whole_or (whole c) lines (item_from known last (Some c) lines)) none_left h
+    (λ skip e. good_at_end known last s lines e)
+    (λ q. let a = bind_ok (put_at l.number (line_said known s words)) (λ c. whole_or (whole c) lines (item_from known last (Some c) lines)) None q in
+    by_none (AreGood lines) (whole a.0) lines (item_from known last (Some a.0) lines) a.2 (λ e. good_at_end known last (Some a.0) lines e))
 
-good_taken : (last : ℕ) (known : List Headed) (lines : Rest) (ts : List Entry) (now : List Headed) (rest : Rest) → Takes last known lines ts now rest → AreGood rest → AreGood lines
-good_taken last known lines [] now rest h good = subst AreGood (sym h.1) good
+good_defined : (last : ℕ) (known : Known) (lines : Rest) (ns : List Titled) (now : Known) (rest : Rest) → Defines last known lines ns now rest → AreGood rest → AreGood lines
+good_defined last known lines [] now rest d good = subst AreGood (sym d.1) good
+good_defined last known lines (n ∷ ns) now rest d good =
+    good_before known last None lines (OfNotion n) d.0 d.1 (good_defined last (and_notion known n) d.0 ns now rest d.2 good)
+
+good_taken : (last : ℕ) (known : Known) (lines : Rest) (ts : List Entry) (now : Known) (rest : Rest) → Takes last known lines ts now rest → AreGood rest → AreGood lines
+good_taken last known lines [] now rest h good = good_defined last known lines h.notions now rest h.defines good
 good_taken last known lines (t ∷ ts) now rest h good =
-    good_before known last None lines t h.0 (grammar_read known last lines ∙ h.1) (good_taken last (with_theorem known t) h.0 ts now rest h.3 good)
+    good_defined last known lines h.2.notions h.0 h.1 h.2.defines
+    (good_before h.0 last None h.1 (OfTheorem t) h.3 h.4 (good_taken last (and_theorem h.0 t) h.3 ts now rest h.6 good))
 
 pub good_accepted : (lines : Rest) (ts : List Entry) (n : ℕ) → IsOutcome lines ts (Accepted n) → AreGood lines
-good_accepted lines ts n h = good_taken _ [] lines ts h.known h.rest h.begins (good_at_end h.known (end_line_number lines) None h.rest (grammar_read h.known (end_line_number lines) h.rest ∙ h.ends.0))
+good_accepted lines ts n h = good_taken _ nothing_known lines ts h.known h.rest h.begins (good_at_end h.known (end_line_number lines) None h.rest h.ends.0)
 
 -- ---- a text without a faulty line is short enough
 

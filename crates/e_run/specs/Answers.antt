@@ -1,6 +1,7 @@
 -- What a run answers to a text, and what it writes.
 use Rattle.std.specs.Prelude.{◌≡◌, ℕ, ◌+◌, List, [], ◌∷◌, ◌++◌, map, Option, Some, None, IsTrue}
 use Rattle.e_literal.specs.declared.object.Term.{Term}
+use Rattle.e_clause.specs.declared.cert.Version.TheVariants.{One}
 use Rattle.e_theorem.specs.Statements.{stated}
 use Rattle.e_deriv.specs.declared.stop.Wanted.{Wanted}
 use Rattle.e_deriv.specs.declared.names.Names.{Names}
@@ -11,6 +12,8 @@ use Rattle.e_deriv.specs.Licensed.{AllLicensed}
 use Rattle.e_deriv.specs.Proves.{IsProof}
 use Rattle.e_deriv.specs.Certified.{Certified}
 use Rattle.e_deriv.specs.Written.{is_written_well}
+use Rattle.e_deriv.specs.Versions.{has_certs_of}
+use Rattle.e_book.specs.declared.known.Known.{Known}
 use Rattle.e_book.specs.Headed.{Headed, stated_by}
 use Rattle.e_book.specs.Entry.{Entry}
 use Rattle.e_spell.specs.Spelling.{spelled, unlicensed_text, too_wide_text}
@@ -30,13 +33,15 @@ pub record Derived : Type 0 where
 
 -- The derivation proves the theorem's statement from those that are known, and each of its certificates certifies at its own line.
 -- Without its certificates it is the theorem's own script, with its blanks filled, and so filled each line of the script is licensed:
--- the arguments of each application are the least good choice. The literals that its certificates name are well formed.
+-- the arguments of each application are the least good choice. The literals that its certificates name are well formed, and no fact is
+-- named by its place.
 pub record IsDerived (known : List Headed) (d : Derived) : Type 0 where
   pub proves : IsProof (stated_by known) (stated d.theorem.statement) d.derivation
   pub certified : Certified (stated_by known) (stated d.theorem.statement) d.derivation
   pub own : erased d.derivation ≡ filled_by (erased d.theorem.script) d.derivation
   pub least : AllLicensed (stated_by known) (proof_lines (stated_by known) (stated d.theorem.statement) d.theorem.script d.derivation)
   pub written : IsTrue (is_written_well d.derivation)
+  pub version : IsTrue (has_certs_of One d.derivation)
 
 -- each by those before it
 abbrev pub AllDerived : List Headed → List Derived → Type 0
@@ -71,28 +76,28 @@ abbrev pub written_with : List Derived → List ℕ → List ℕ
 written_with ds last = head_line ++ (blocks_of [] ds ++ last)
 
 -- theorems with their derivations, which are the first of the book, and what holds after them
-pub record OutputUpTo (lines : Rest) (Holds : List Headed → Rest → Type 0) (last out : List ℕ) : Type 0 where
+pub record OutputUpTo (lines : Rest) (Holds : Known → Rest → Type 0) (last out : List ℕ) : Type 0 where
   pub derived : List Derived
   pub sound : AllDerived [] derived
-  pub known : List Headed
+  pub known : Known
   pub rest : Rest
   pub begins : Begins lines (theorems_of derived) known rest
   pub holds : Holds known rest
   pub bytes : out ≡ written_with derived last
 
 -- after them the book ends so
-abbrev pub OutcomeAfter : Rest → BookOutcome → List Headed → Rest → Type 0
+abbrev pub OutcomeAfter : Rest → BookOutcome → Known → Rest → Type 0
 OutcomeAfter lines end known rest = OutcomeAt (end_line_number lines) known rest end
 
 -- the next theorem is refused at this line
-abbrev pub Refuses : Rest → List ℕ → ℕ → Wanted → Option (List (Term × ℕ)) → Names → List Headed → Rest → Type 0
+abbrev pub Refuses : Rest → List ℕ → ℕ → Wanted → Option (List (Term × ℕ)) → Names → Known → Rest → Type 0
 Refuses lines title step wanted values names known rest =
-    NextIs (end_line_number lines) known rest (λ t. RefusedAt known t title step wanted values names)
+    NextIs (end_line_number lines) known rest (λ t. RefusedAt known.theorems t title step wanted values names)
 
 -- a line of the next theorem is too wide
-abbrev pub Widens : Rest → List ℕ → ℕ → Wanted → ℕ → Names → List Headed → Rest → Type 0
+abbrev pub Widens : Rest → List ℕ → ℕ → Wanted → ℕ → Names → Known → Rest → Type 0
 Widens lines title step wanted width names known rest =
-    NextIs (end_line_number lines) known rest (λ t. TooWideAt known t title step wanted width names)
+    NextIs (end_line_number lines) known rest (λ t. TooWideAt known.theorems t title step wanted width names)
 
 -- theorems with their derivations: some of the first ones of the book
 pub record CutOff (lines : Rest) (last out : List ℕ) : Type 0 where
@@ -166,13 +171,19 @@ abbrev pub IsVerified : Status → Type 0
 IsVerified (status.Verified n) = Unit {0}
 IsVerified _ = ⊥
 
+abbrev pub IsUpgraded : Status → Type 0
+IsUpgraded (status.Upgraded n) = Unit {0}
+IsUpgraded _ = ⊥
+
 -- the status with which the program exits
 abbrev pub exit_of : Status → ℕ
 exit_of (status.Accepted n) = 0
 exit_of (status.Verified n) = 0
 exit_of (status.Made n) = 0
 exit_of (status.Tried n s) = 0
+exit_of (status.Upgraded n) = 0
 exit_of (status.Drawn n) = 0
+exit_of (status.Suggested n more) = 0
 exit_of (status.Bad title step) = 1
 exit_of (status.Garbled line) = 2
 exit_of status.TextLimit = 2
@@ -183,6 +194,7 @@ exit_of status.Usage = 3
 exit_of status.ReadFault = 4
 exit_of status.WriteFault = 5
 exit_of status.NoMemory = 6
+exit_of status.NoStep = 10
 
 -- the usage line is due with its answer
 abbrev pub UsageAnswer : Status → List ℕ → Type 0

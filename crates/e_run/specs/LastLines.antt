@@ -1,5 +1,5 @@
 -- The last lines of each answer.
-use Rattle.std.specs.Prelude.{ℕ, List, ◌++◌, codes, decimal}
+use Rattle.std.specs.Prelude.{ℕ, List, ◌++◌, Bool, if◌then◌else◌, codes, decimal}
 use Rattle.e_book.specs.declared.fault.BookFault.{BookFault}
 use Rattle.e_book.specs.declared.fault.BookFault.TheVariants as faults
 use Rattle.e_book.specs.declared.fault.What.{What}
@@ -8,6 +8,10 @@ use Rattle.e_book.specs.declared.fault.What.TheVariants as limits
 -- the line that comes before the blocks
 abbrev pub head_line : List ℕ
 head_line = codes "derivation 1\n"
+
+-- the same in the second version
+abbrev pub second_head_line : List ℕ
+second_head_line = codes "derivation 2\n"
 
 abbrev pub accepted_line : ℕ → List ℕ
 accepted_line n = codes "accepted " ++ (decimal n ++ codes "\n")
@@ -26,6 +30,8 @@ what_word limits.Monomials = codes "monomials"
 what_word limits.Coefficient = codes "coefficient"
 what_word limits.Terms = codes "terms"
 what_word limits.Blanks = codes "blanks"
+what_word limits.Notions = codes "notions"
+what_word limits.Expanded = codes "expanded"
 what_word limits.Number = codes "number"
 
 -- what is wrong with a line
@@ -52,7 +58,7 @@ abbrev pub fault_line : BookFault → List ℕ
 fault_line f = codes "fault " ++ (decimal (faulty_line f) ++ fault_words f)
 
 abbrev pub usage_line : List ℕ
-usage_line = codes "usage: elements check | verify | make N | trial N | figure\n"
+usage_line = codes "usage: elements check | verify | make N | trial N | upgrade | figure | suggest TITLE STEP\n"
 
 abbrev pub read_fault_line : List ℕ
 read_fault_line = codes "read fault\n"
@@ -62,6 +68,13 @@ no_memory_line = codes "no memory\n"
 
 abbrev pub verified_line : ℕ → List ℕ
 verified_line n = codes "verified " ++ (decimal n ++ codes "\n")
+
+-- the number of lines that are suggested; of a thousand whether more are left
+abbrev pub suggested_line : ℕ → Bool → List ℕ
+suggested_line n more = codes "suggest " ++ (decimal n ++ (if more then codes " more\n" else codes "\n"))
+
+abbrev pub no_step_line : List ℕ
+no_step_line = codes "no step\n"
 
 -- the theorem and the number of its line
 abbrev pub bad_line : List ℕ → ℕ → List ℕ

@@ -7,9 +7,11 @@ pub mod Answers
 pub mod Proofs
 pub mod Taken
 pub mod VerifierAnswers
+pub mod Upgrades
 pub mod DrawerAnswers
 pub mod MadeBooks
 pub mod Trials
+pub mod SuggesterAnswers
 pub mod Runs
 pub mod Laws
 pub mod inner

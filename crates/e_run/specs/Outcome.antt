@@ -1,4 +1,4 @@
--- The outcome of a book: its theorems are taken one after another, up to the first fault or the first unlicensed line.
+-- The outcome of a book: its theorems and definitions are taken one after another, up to the first fault or the first unlicensed line.
 use Rattle.std.specs.Prelude.{◌≡◌, ℕ, ◌+◌, ◌-◌, slice_get, List, [], ◌∷◌, ◌++◌, length, Option, Some, None, Result, Ok, Err}
 use Rattle.e_text.specs.Lines.{Seen, lines_of}
 use Rattle.e_text.specs.declared.line.LineFault.{LineFault}
@@ -14,7 +14,10 @@ use Rattle.e_deriv.specs.Refused.{IsRefused, IsWideLine, IsTooWideAt}
 use Rattle.e_book.specs.declared.fault.BookFault.{BookFault}
 use Rattle.e_book.specs.Headed.{Headed, headed, stated_by}
 use Rattle.e_book.specs.Entry.{Entry}
-use Rattle.e_book.specs.Grammar.{read_from}
+use Rattle.e_book.specs.declared.known.Known.{Known}
+use Rattle.e_book.specs.Taken.{nothing_known}
+use Rattle.e_book.specs.Titled.{Titled}
+use Rattle.e_book.specs.Definitions.{OfTheorem, OfNotion, item_from}
 
 -- the remaining lines, cut off after the first that has a fault
 abbrev pub Rest : Type 0
@@ -29,12 +32,31 @@ pub record IsLicensed (known : List Headed) (t : Entry) : Type 0 where
   pub filled : Script
   pub licensed : AllLicensed (stated_by known) (proof_lines (stated_by known) (stated t.statement) t.script filled)
 
--- these theorems are read one after another, and each is licensed by those before it; then this is known, and these lines are left
-abbrev pub Takes : ℕ → List Headed → Rest → List Entry → List Headed → Rest → Type 0
-Takes last known lines [] now rest = (known ≡ now) × (lines ≡ rest)
+-- after a theorem, and after a definition, this is known
+abbrev pub and_theorem : Known → Entry → Known
+and_theorem known t = record known { theorems = with_theorem known.theorems t }
+
+abbrev pub and_notion : Known → Titled → Known
+and_notion known n = record known { notions = known.notions ++ n ∷ [] }
+
+-- these definitions are read one after another; then this is known, and these lines are left
+abbrev pub Defines : ℕ → Known → Rest → List Titled → Known → Rest → Type 0
+Defines last known lines [] now rest = (known ≡ now) × (lines ≡ rest)
+Defines last known lines (n ∷ ns) now rest =
+    (after : Rest) × (item_from known last None lines ≡ Ok (Some (OfNotion n, after))) × Defines last (and_notion known n) after ns now rest
+
+pub record AreDefined (last : ℕ) (known : Known) (lines : Rest) (now : Known) (rest : Rest) : Type 0 where
+  pub notions : List Titled
+  pub defines : Defines last known lines notions now rest
+
+-- these theorems are read one after another, and definitions between them, and each theorem is licensed by those before it; then this is
+-- known, and these lines are left
+abbrev pub Takes : ℕ → Known → Rest → List Entry → Known → Rest → Type 0
+Takes last known lines [] now rest = AreDefined last known lines now rest
 Takes last known lines (t ∷ ts) now rest =
-    (after : Rest) × (read_from known last None lines ≡ Ok (Some (t, after))) × IsLicensed known t
-    × Takes last (with_theorem known t) after ts now rest
+    (here : Known) × (before : Rest) × AreDefined last known lines here before
+    × (after : Rest) × (item_from here last None before ≡ Ok (Some (OfTheorem t, after))) × IsLicensed here.theorems t
+    × Takes last (and_theorem here t) after ts now rest
 
 -- how a book ends: all its theorems are taken; a line is not licensed; a line has a fault
 pub data BookOutcome : Type 0 where
@@ -50,34 +72,34 @@ pub record StopsAt (known : List Headed) (t : Entry) (title : List ℕ) (step : 
   pub named : Some names ≡ slice_get (names_lines (stated_by known) (declared_names (stated t.statement) t.names) t.script) (step - 1)
 
 -- with this known, the next theorem of these lines is one of which this holds
-abbrev pub NextIs : ℕ → List Headed → Rest → (Entry → Type 0) → Type 0
-NextIs last known lines P = (t : Entry) × (after : Rest) × (read_from known last None lines ≡ Ok (Some (t, after))) × P t
+abbrev pub NextIs : ℕ → Known → Rest → (Entry → Type 0) → Type 0
+NextIs last known lines P = (t : Entry) × (after : Rest) × (item_from known last None lines ≡ Ok (Some (OfTheorem t, after))) × P t
 
 -- with this known, these lines end so
-abbrev pub OutcomeAt : ℕ → List Headed → Rest → BookOutcome → Type 0
-OutcomeAt last known lines (Accepted n) = (read_from known last None lines ≡ Ok None) × (length known ≡ n)
+abbrev pub OutcomeAt : ℕ → Known → Rest → BookOutcome → Type 0
+OutcomeAt last known lines (Accepted n) = (item_from known last None lines ≡ Ok None) × (length known.theorems ≡ n)
 OutcomeAt last known lines (Unlicensed title step wanted names) =
-    NextIs last known lines (λ t. StopsAt known t title step wanted names)
-OutcomeAt last known lines (Faulty fault) = read_from known last None lines ≡ Err fault
+    NextIs last known lines (λ t. StopsAt known.theorems t title step wanted names)
+OutcomeAt last known lines (Faulty fault) = item_from known last None lines ≡ Err fault
 
 -- the number after the last line
 abbrev pub end_line_number : Rest → ℕ
 end_line_number lines = 1 + length lines
 
--- these are the first theorems of the lines, each licensed; then this is known, and these lines are left
-abbrev pub Begins : Rest → List Entry → List Headed → Rest → Type 0
-Begins lines theorems known rest = Takes (end_line_number lines) [] lines theorems known rest
+-- these are the first theorems of the lines, each licensed, with definitions between them; then this is known, and these lines are left
+abbrev pub Begins : Rest → List Entry → Known → Rest → Type 0
+Begins lines theorems known rest = Takes (end_line_number lines) nothing_known lines theorems known rest
 
 -- the lines are these theorems, each licensed, and then end so
 pub record IsOutcome (lines : Rest) (theorems : List Entry) (end : BookOutcome) : Type 0 where
-  pub known : List Headed
+  pub known : Known
   pub rest : Rest
   pub begins : Begins lines theorems known rest
   pub ends : OutcomeAt (end_line_number lines) known rest end
 
 -- these are the first theorems of the lines, each licensed
 pub record IsFront (lines : Rest) (theorems : List Entry) : Type 0 where
-  pub known : List Headed
+  pub known : Known
   pub rest : Rest
   pub begins : Begins lines theorems known rest
 
@@ -115,7 +137,7 @@ pub record HasWideLine (known : List Headed) (t : Entry) : Type 0 where
 -- in a theorem of these lines whose earlier ones are licensed, a line is wide, and each line before it is licensed
 pub record HasWide (lines : Rest) : Type 0 where
   pub theorems : List Entry
-  pub known : List Headed
+  pub known : Known
   pub rest : Rest
   pub begins : Begins lines theorems known rest
-  pub wide : NextIs (end_line_number lines) known rest (HasWideLine known)
+  pub wide : NextIs (end_line_number lines) known rest (HasWideLine known.theorems)

@@ -2,9 +2,8 @@
 use Rattle.std.specs.Prelude.{◌≡◌, ℕ, ◌≤◌, List, [], ◌++◌, length, Option, Some, None, Ok}
 use Rattle.e_io.specs.Bytes.{Grew}
 use Rattle.e_text.specs.Lines.{IsClosed, IsOpen}
-use Rattle.e_book.specs.Headed.{Headed}
-use Rattle.e_book.specs.Entry.{Entry}
-use Rattle.e_book.specs.Grammar.{read_from}
+use Rattle.e_book.specs.declared.known.Known.{Known}
+use Rattle.e_book.specs.Definitions.{BookItem, item_from}
 use Rattle.e_run.specs.LastLines.{read_fault_line}
 use Rattle.e_run.specs.Outcome.{Rest, Begins, end_line_number, lines_of_book}
 use Rattle.e_run.specs.Answers.{Derived, AllDerived, theorems_of, written_with}
@@ -19,16 +18,16 @@ Taken (Some all) (Some left) Holds = (taken : List ℕ) × (all ≡ taken ++ lef
 abbrev pub TookFew : Option (List ℕ) → Option (List ℕ) → Type 0
 TookFew old new = Taken old new (λ taken. length taken ≤ 4194305)
 
--- no theorem is read of these lines where no others come after them
-abbrev pub HaveNone : ℕ → List Headed → Rest → Type 0
-HaveNone last known lines = (t : Entry) (after : Rest) → ¬ (read_from known last None lines ≡ Ok (Some (t, after)))
+-- no theorem and no definition is read of these lines where no others come after them
+abbrev pub HaveNone : ℕ → Known → Rest → Type 0
+HaveNone last known lines = (i : BookItem) (after : Rest) → ¬ (item_from known last None lines ≡ Ok (Some (i, after)))
 
 -- all theorems that these lines have, each with its derivation from those before it, and these bytes are the head line, their blocks and
 -- the last lines
 pub record AllTaken (lines : Rest) (last out : List ℕ) : Type 0 where
   pub derived : List Derived
   pub sound : AllDerived [] derived
-  pub known : List Headed
+  pub known : Known
   pub rest : Rest
   pub begins : Begins lines (theorems_of derived) known rest
   pub none : HaveNone (end_line_number lines) known rest

@@ -1,7 +1,7 @@
 -- What the command `trial` answers: the generated book is checked, and what `check` would write of it is verified, within one call.
 use Rattle.std.specs.Prelude.{◌≡◌, ℕ, List, [], Option}
 use Rattle.e_deriv.specs.declared.names.Names.{Names}
-use Rattle.e_book.specs.Headed.{Headed}
+use Rattle.e_book.specs.declared.known.Known.{Known}
 use Rattle.e_spell.specs.Spelling.{unlicensed_text, too_wide_text}
 use Rattle.e_generate.specs.Generated.{generated_text}
 use Rattle.e_judgement.specs.declared.judgement.Judgement.TheVariants as judgements
@@ -20,10 +20,10 @@ pub record IsAccepted (lines : Rest) (theorems steps : ℕ) (out : List ℕ) : T
   pub steps_are : steps ≡ steps_of ended.derived
 
 -- its first theorems have derivations, and this holds after them
-pub record IsStopped (lines : Rest) (Holds : List Headed → Rest → Type 0) : Type 0 where
+pub record IsStopped (lines : Rest) (Holds : Known → Rest → Type 0) : Type 0 where
   pub derived : List Derived
   pub sound : AllDerived [] derived
-  pub known : List Headed
+  pub known : Known
   pub rest : Rest
   pub begins : Begins lines (theorems_of derived) known rest
   pub holds : Holds known rest

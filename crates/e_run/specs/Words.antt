@@ -1,9 +1,10 @@
 -- The words of a command.
 use Rattle.std.specs.Prelude.{ℕ, List, [], ◌∷◌, Bool, true, false, ◌&&◌, nat_le, Option, Some, None, codes, option_and_then, if◌then◌else◌}
 use Rattle.std.specs.Str.{bytes_eq}
+use Rattle.e_text.specs.Names.{title_of}
 use Rattle.e_text.specs.Numerals.{number_of}
 use Rattle.e_run.specs.declared.command.Command.{Command}
-use Rattle.e_run.specs.declared.command.Command.TheVariants.{Check, Verify, Figure, Make, Trial, Unknown}
+use Rattle.e_run.specs.declared.command.Command.TheVariants.{Check, Verify, Figure, Make, Suggest, Trial, Upgrade, Unknown}
 
 -- how many theorems: a numeral from 1 to 500
 abbrev pub count_of : List ℕ → Option ℕ
@@ -12,23 +13,34 @@ count_of word = option_and_then (λ n. if nat_le 1 n && nat_le n 500 then Some n
 abbrev pub plain_command : List ℕ → Command
 plain_command word =
     if bytes_eq word (codes "check") then Check else if bytes_eq word (codes "verify") then Verify else
-    if bytes_eq word (codes "figure") then Figure else Unknown
+    if bytes_eq word (codes "upgrade") then Upgrade else if bytes_eq word (codes "figure") then Figure else Unknown
 
 abbrev pub counted_command : List ℕ → Option ℕ → Command
 counted_command word None = Unknown
 counted_command word (Some n) = if bytes_eq word (codes "make") then Make n else if bytes_eq word (codes "trial") then Trial n else Unknown
 
--- `check`, `verify` and `figure` are alone, and `make` and `trial` come before a number
+-- the number of a step: a numeral from 1 to 1,024
+abbrev pub step_of : List ℕ → Option ℕ
+step_of word = option_and_then (λ n. if nat_le 1 n && nat_le n 1024 then Some n else None) (number_of word)
+
+abbrev pub placed_command : List ℕ → Option (List ℕ) → Option ℕ → Command
+placed_command word (Some title) (Some step) = if bytes_eq word (codes "suggest") then Suggest title step else Unknown
+placed_command word _ _ = Unknown
+
+-- `check`, `verify`, `upgrade` and `figure` are alone, `make` and `trial` come before a number, and `suggest` before a title and the number of a step
 abbrev pub command_of : List (List ℕ) → Command
 command_of (word ∷ []) = plain_command word
 command_of (word ∷ number ∷ []) = counted_command word (count_of number)
+command_of (word ∷ title ∷ number ∷ []) = placed_command word (title_of title) (step_of number)
 command_of _ = Unknown
 
 -- the command reads the source
 abbrev pub reads : Command → Bool
 reads Check = true
 reads Verify = true
+reads Upgrade = true
 reads Figure = true
+reads (Suggest title step) = true
 reads _ = false
 
 -- what holds of its number, where it has one
@@ -36,3 +48,8 @@ abbrev pub OfCount : (ℕ → Type 0) → Command → Type 0
 OfCount holds (Make n) = holds n
 OfCount holds (Trial n) = holds n
 OfCount holds _ = Unit {0}
+
+-- and of the number of its step
+abbrev pub OfStep : (ℕ → Type 0) → Command → Type 0
+OfStep holds (Suggest title step) = holds step
+OfStep holds _ = Unit {0}

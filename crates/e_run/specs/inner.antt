@@ -2,3 +2,5 @@
 pub mod BookResults
 pub mod Progress
 pub mod Handled
+pub mod Suggesting
+pub mod Upgrading

@@ -1,18 +1,20 @@
 //! The blocks of a book whose lines are all there: each theorem read, checked and written.
-ghost use Rattle.std.specs.Prelude.{◌≡◌, ◌≤◌, ◌<◌, ◌^◌, ◌++◌, ◌∷◌, [], false, length, IfOk, OnOk, IfErr, IsErrOf, IsTrue};
+ghost use Rattle.std.specs.Prelude.{◌≡◌, ◌≤◌, ◌<◌, ◌^◌, false, length, IfOk, OnOk, IfErr, IsErrOf, IsTrue};
 ghost use Rattle.e_io.specs.Bytes.{Rose};
 ghost use Rattle.e_theorem.specs.Statements.{stated};
 ghost use Rattle.e_deriv.specs.Script.{script_of};
 ghost use Rattle.e_deriv.specs.Fitting.{IsFitting};
-ghost use Rattle.e_book.specs.Headed.{headed, is_known, stated_by};
+ghost use Rattle.e_book.specs.Headed.{stated_by};
+ghost use Rattle.e_book.specs.Taken.{is_taken};
 ghost use Rattle.e_book.specs.Entry.{entry_of};
 ghost use Rattle.e_book.specs.Fits.{has_good_literals};
 ghost use Rattle.e_prove.specs.Stops.{StopIs, HasNames};
+ghost use Rattle.e_run.specs.Outcome.{and_theorem};
 ghost use Rattle.e_run.specs.Answers.{HasBlock};
 ghost use Rattle.e_run.specs.inner.BookResults.{BlocksAre, result_of_stop, result_of_fault};
 
 use crate::book::Book;
-use e_book::{BookFault, Known, Theorem};
+use e_book::{BookFault, Known, Theorem, Theorems};
 use e_deriv::Stop;
 use e_io::Sink;
 use e_prove::prove;
@@ -52,7 +54,7 @@ impl From<AllocError> for RunError {
 }
 
 /// The block of a theorem with its derivation from those that are known.
-pub fn block(alloc: Global, known: &Known, theorem: &Theorem) -> Result<Vec<u8>, Stop>
+pub fn block(alloc: Global, known: &Theorems, theorem: &Theorem) -> Result<Vec<u8>, Stop>
     requires fitting { IsFitting (stated_by known.now) (stated theorem.now.statement) (script_of theorem.now.block) }
     requires good { IsTrue (has_good_literals (script_of theorem.now.block)) }
     ensures block { IfOk result (λ v. HasBlock known.now (entry_of theorem.now) v.items) }
@@ -88,8 +90,8 @@ pub fn faulty(fault: BookFault) -> Result<Option<BookResult>, RunError>
 
 /// Keeps the title and the statement of a theorem.
 pub fn keep(known: &mut Known, theorem: Theorem) -> Result<(), AllocError>
-    requires { is_known known.old theorem.title ≡ false }
-    ensures { OnOk result (known.new ≡ known.old ++ headed theorem.title theorem.statement ∷ []) }
+    requires { is_taken known.old theorem.title ≡ false }
+    ensures { OnOk result (known.new ≡ and_theorem known.old (entry_of theorem)) }
 {
     let Theorem {
         title,

@@ -1,8 +1,10 @@
 //! A book while its lines come: each theorem is checked, and its block written, as soon as its last
 //! line has come.
-ghost use Rattle.std.specs.Prelude.{◌≡◌, ◌≤◌, ◌<◌, ◌^◌, ◌++◌, ℕ, List, [], Option, Some, None, Ok, IfOk, IfNone, IsErrOf};
+ghost use Rattle.std.specs.Prelude.{◌≡◌, ◌≤◌, ◌<◌, ◌^◌, ◌++◌, ℕ, List, [], Option, Some, None, Ok, false, IfOk, IfNone, IsErrOf};
 ghost use Rattle.e_io.specs.Bytes.{Rose};
-ghost use Rattle.e_book.specs.Grammar.{read_from, last_line};
+ghost use Rattle.e_book.specs.Grammar.{last_line};
+ghost use Rattle.e_book.specs.Titled.{defines};
+ghost use Rattle.e_book.specs.Definitions.{OfTheorem, view_of, item_from, IsGoodItem};
 ghost use Rattle.e_book.specs.Entry.{entry_of};
 ghost use Rattle.e_book.specs.HasSpelling.{HasSpelling};
 ghost use Rattle.e_run.specs.Outcome.{Rest, end_line_number};
@@ -11,14 +13,14 @@ ghost use Rattle.e_run.specs.inner.Progress.{History, IsBook, Reaches, Handles, 
 ghost use Rattle.e_run.specs.declared.blocks.RunError.{RunError};
 
 use crate::blocks::{BookResult, RunError, block, faulty, keep, stopped};
-use e_book::{Known, Reading, Theorem};
+use e_book::{Item, Known, Reading, Theorem};
 use e_deriv::size;
 use e_io::{Sink, write_all};
 use e_text::Lines;
 use std::alloc::Global;
 use std::mem;
 
-/// The theorems so far, and what has come of the next one.
+/// The theorems and definitions so far, and what has come of the next one.
 #[derive(Drop)]
 pub struct Book {
     pub known: Known,
@@ -49,15 +51,16 @@ impl Book {
         sink: &mut K,
     ) -> Result<Option<BookResult>, RunError>
         requires book { IsBook self.old }
-        requires begins { self.old.reading.draft ≡ None }
-        requires spelled { HasSpelling self.old.known (entry_of theorem) }
-        ensures handles { (lines rest after : Rest) (before : Option (List ℕ)) → History lines before self.old.known rest (K.written sink.old) self.old.steps → read_from self.old.known (end_line_number lines) None rest ≡ Ok (Some (entry_of theorem, after)) → Handles lines before after result self.new (K.written sink.new) }
+        requires begins { self.old.reading.coming ≡ None }
+        requires spelled { HasSpelling self.old.known.theorems (entry_of theorem) }
+        requires title { defines self.old.known.notions theorem.title ≡ false }
+        ensures handles { (lines rest after : Rest) (before : Option (List ℕ)) → History lines before self.old.known rest (K.written sink.old) self.old.steps → item_from self.old.known (end_line_number lines) None rest ≡ Ok (Some (OfTheorem (entry_of theorem), after)) → Handles lines before after result self.new (K.written sink.new) }
         ensures book { IfOk result (λ e. IfNone e (IsBook self.new)) }
-        ensures begins { IfOk result (λ e. IfNone e (self.new.reading.draft ≡ None)) }
+        ensures begins { IfOk result (λ e. IfNone e (self.new.reading.coming ≡ None)) }
         ensures rises { K.faults sink.old ≤ K.faults sink.new }
         ensures cause { IsErrOf result RunError.WriteFault → Rose (K.faults sink.old) (K.faults sink.new) }
     {
-        let block = match block(alloc, &self.known, &theorem) {
+        let block = match block(alloc, &self.known.theorems, &theorem) {
             Ok(block) => block,
             Err(stop) => {
                 let title = theorem.title;
@@ -78,7 +81,34 @@ impl Book {
         Ok(None)
     }
 
-    /// Takes the lines that remain, and handles the theorems that end in them. Nothing where all
+    /// A definition is known from its last line on; a theorem is handled.
+    fn handle_item<K: Sink>(
+        &mut self,
+        alloc: Global,
+        item: Item,
+        sink: &mut K,
+    ) -> Result<Option<BookResult>, RunError>
+        requires book { IsBook self.old }
+        requires begins { self.old.reading.coming ≡ None }
+        requires good { IsGoodItem self.old.known item }
+        ensures handles { (lines rest after : Rest) (before : Option (List ℕ)) → History lines before self.old.known rest (K.written sink.old) self.old.steps → item_from self.old.known (end_line_number lines) None rest ≡ Ok (Some (view_of item, after)) → Handles lines before after result self.new (K.written sink.new) }
+        ensures book { IfOk result (λ e. IfNone e (IsBook self.new)) }
+        ensures begins { IfOk result (λ e. IfNone e (self.new.reading.coming ≡ None)) }
+        ensures rises { K.faults sink.old ≤ K.faults sink.new }
+        ensures cause { IsErrOf result RunError.WriteFault → Rose (K.faults sink.old) (K.faults sink.new) }
+    {
+        match item {
+            Item::Theorem(theorem) => self.handle(alloc, theorem, sink),
+            Item::Notion(title, notion) => {
+                let Ok(()) = self.known.add_notion(title, notion) else {
+                    return Err(RunError::NoMemory);
+                };
+                Ok(None)
+            }
+        }
+    }
+
+    /// Takes the lines that remain, and handles the theorems and definitions that end in them. Nothing where all
     /// are taken, and the book may go on; else how it ends.
     pub fn take<K: Sink>(
         &mut self,
@@ -95,12 +125,12 @@ impl Book {
         ensures cause { IsErrOf result RunError.WriteFault → Rose (K.faults sink.old) (K.faults sink.new) }
     {
         loop {
-            let theorem = match self.reading.read(alloc, lines, &self.known) {
-                Ok(Some(theorem)) => theorem,
+            let item = match self.reading.read(alloc, lines, &self.known) {
+                Ok(Some(item)) => item,
                 Ok(None) => return Ok(None),
                 Err(fault) => return faulty(fault),
             };
-            match self.handle(alloc, theorem, sink)? {
+            match self.handle_item(alloc, item, sink)? {
                 None => {}
                 Some(book_result) => return Ok(Some(book_result)),
             }
@@ -110,7 +140,7 @@ impl Book {
     /// How the book ends where no lines come any more, and the next would have this number.
     pub fn end(&self, line: u64) -> BookResult
         requires { line < 2 ^ 32 }
-        ensures { result ≡ result_at line self.now.reading.draft self.now.theorems self.now.steps }
+        ensures { result ≡ result_at line self.now.reading.coming self.now.theorems self.now.steps }
     {
         match self.reading.end(line) {
             Ok(()) => BookResult::All {

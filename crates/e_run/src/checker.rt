@@ -49,7 +49,7 @@ pub fn last_lines(alloc: Global, book_result: &BookResult) -> Result<Vec<u8>, Al
 }
 
 /// The answer of a stop.
-fn stop_answer(title: Title, stop: Stop) -> Status
+pub fn stop_answer(title: Title, stop: Stop) -> Status
     ensures { result ≡ Rattle.e_run.specs.inner.BookResults.stop_answer title stop }
 {
     match stop {

@@ -1,11 +1,14 @@
 //! The words of a command.
 ghost use Rattle.std.specs.Prelude.{◌≡◌, ◌≤◌, IfSome, map, string_bytes};
-ghost use Rattle.e_run.specs.Words.{count_of, plain_command, counted_command, command_of, OfCount};
+ghost use Rattle.e_run.specs.Words.{count_of, step_of, plain_command, counted_command, placed_command, command_of, OfCount, OfStep};
 
-use e_text::number;
+use e_text::{Title, number};
 
 /// The most theorems of a generated book.
 const MOST_THEOREMS: u128 = 500;
+
+/// The most steps of a theorem.
+const MOST_STEPS: u128 = 1024;
 
 /// What a run is asked for.
 #[derive(Clone, Copy, PartialEq, Eq)]
@@ -17,6 +20,9 @@ pub enum Command {
     Make(u32),
     /// That many theorems are generated, checked and verified.
     Trial(u32),
+    /// What may be applied at a step of the theorem with this title.
+    Suggest(Title, u32),
+    Upgrade,
     Unknown,
 }
 
@@ -35,11 +41,14 @@ fn count_of(word: &[u8]) -> Option<u32>
 fn plain_command(word: &[u8]) -> Command
     ensures value { result ≡ plain_command word.now }
     ensures few { OfCount (λ n. n ≤ 500) result }
+    ensures first { OfStep (λ n. 1 ≤ n) result }
 {
     if word == b"check".as_slice() {
         Command::Check
     } else if word == b"verify".as_slice() {
         Command::Verify
+    } else if word == b"upgrade".as_slice() {
+        Command::Upgrade
     } else if word == b"figure".as_slice() {
         Command::Figure
     } else {
@@ -52,6 +61,7 @@ fn counted_command(word: &[u8], count: Option<u32>) -> Command
     requires { IfSome count (λ n. n ≤ 500) }
     ensures value { result ≡ counted_command word.now count }
     ensures few { OfCount (λ n. n ≤ 500) result }
+    ensures first { OfStep (λ n. 1 ≤ n) result }
 {
     let Some(count) = count else {
         return Command::Unknown;
@@ -65,14 +75,48 @@ fn counted_command(word: &[u8], count: Option<u32>) -> Command
     }
 }
 
+/// The number of a step: a numeral from 1 to 1,024.
+fn step_of(word: &[u8]) -> Option<u32>
+    ensures value { result ≡ step_of word.now }
+    ensures first { IfSome result (λ n. 1 ≤ n) }
+{
+    match number(word) {
+        Some(step) if 1 <= step && step <= MOST_STEPS => Some(step as u32),
+        _ => None,
+    }
+}
+
+/// The command of a word, a title and the number of a step.
+fn placed_command(word: &[u8], title: Option<Title>, step: Option<u32>) -> Command
+    requires { IfSome step (λ n. 1 ≤ n) }
+    ensures value { result ≡ placed_command word.now title step }
+    ensures few { OfCount (λ n. n ≤ 500) result }
+    ensures first { OfStep (λ n. 1 ≤ n) result }
+{
+    let (Some(title), Some(step)) = (title, step) else {
+        return Command::Unknown;
+    };
+    if word == b"suggest".as_slice() {
+        Command::Suggest(title, step)
+    } else {
+        Command::Unknown
+    }
+}
+
 /// What these words ask for.
 pub fn command_of(words: &[String]) -> Command
     ensures value { result ≡ command_of (map string_bytes words.now) }
     ensures few { OfCount (λ n. n ≤ 500) result }
+    ensures first { OfStep (λ n. 1 ≤ n) result }
 {
     match words {
         [word] => plain_command(word.as_bytes()),
         [word, number] => counted_command(word.as_bytes(), count_of(number.as_bytes())),
+        [word, title, number] => placed_command(
+            word.as_bytes(),
+            Title::read(title.as_bytes()),
+            step_of(number.as_bytes()),
+        ),
         _ => Command::Unknown,
     }
 }

@@ -16,7 +16,7 @@ use e_io::{Sink, Source};
 use std::alloc::Global;
 
 /// Whether the fault is want of memory, which says nothing of the text.
-fn lacks_memory(fault: BookFault) -> bool
+pub fn lacks_memory(fault: BookFault) -> bool
     ensures { result ≡ lacks_memory fault }
 {
     matches!(fault, BookFault::NoMemory)

@@ -14,7 +14,10 @@ mod pieces;
 mod runner;
 mod status;
 mod store;
+mod suggester;
+mod suggestions;
 mod trial;
+mod upgrader;
 mod verifier;
 
 pub use laws::{books_have_one_outcome, refusal_is_outcome, too_wide_is_wide};

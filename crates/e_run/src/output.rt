@@ -1,6 +1,6 @@
 //! The last lines of an answer.
 ghost use Rattle.std.specs.Prelude.{◌≡◌, ◌++◌, [], IfOk, OnOk, codes, decimal};
-ghost use Rattle.e_run.specs.LastLines.{accepted_line, tried_line, verified_line, bad_line, garbled_line, fault_line, fault_words, faulty_line, what_word};
+ghost use Rattle.e_run.specs.LastLines.{accepted_line, tried_line, verified_line, bad_line, garbled_line, suggested_line, fault_line, fault_words, faulty_line, what_word};
 
 use e_book::{BookFault, What};
 use e_text::Title;
@@ -72,6 +72,17 @@ pub fn garbled(alloc: Global, number: u64) -> Result<Vec<u8>, AllocError>
     line_with(alloc, b"garbled ", number, b"\n")
 }
 
+/// The last line of what is suggested.
+pub fn suggested(alloc: Global, lines: u32, more: bool) -> Result<Vec<u8>, AllocError>
+    ensures { IfOk result (λ v. v.items ≡ suggested_line lines more) }
+{
+    if more {
+        line_with(alloc, b"suggest ", u64::from(lines), b" more\n")
+    } else {
+        line_with(alloc, b"suggest ", u64::from(lines), b"\n")
+    }
+}
+
 /// The word of a limit.
 fn word_of(what: What) -> &'static [u8]
     ensures { result.now ≡ what_word what }
@@ -90,6 +101,8 @@ fn word_of(what: What) -> &'static [u8]
         What::Coefficient => b"coefficient",
         What::Terms => b"terms",
         What::Blanks => b"blanks",
+        What::Notions => b"notions",
+        What::Expanded => b"expanded",
         What::Number => b"number",
     }
 }

@@ -10,7 +10,9 @@ use crate::command::{Command, command_of};
 use crate::drawer::figure;
 use crate::maker::make;
 use crate::status::Status;
+use crate::suggester::suggest;
 use crate::trial::trial;
+use crate::upgrader::upgrade;
 use crate::verifier::verify;
 use e_io::{Sink, Source};
 use std::alloc::Global;
@@ -24,6 +26,10 @@ use std::alloc::Global;
 ///   number of those shown.
 /// - `make N` writes the generated book of N theorems.
 /// - `trial N` checks that book, verifies its derivations, and writes one line. `N` is a numeral from 1 to 500.
+/// - `suggest TITLE STEP` reads a book up to the theorem with this title, and writes a line for each choice of arguments at which an
+///   earlier theorem may be applied before that step. `STEP` is a numeral from 1 to 1,024.
+/// - `upgrade` reads a derivation text from the source, and writes to the sink the line `derivation 2`, the block of each theorem in
+///   that version, and the last line.
 /// - With any other words it writes the usage line.
 ///
 /// The answers are those of `Status`, and each has its cause:
@@ -41,6 +47,11 @@ use std::alloc::Global;
 ///   spells proofs.
 /// - `Made`: that book was written. `Tried`: it is accepted, with the N theorems that were asked for and so many steps, and what
 ///   `check` writes of it is verified.
+/// - `Suggested`: the lines apply earlier theorems of at most six declared objects before the step, each at a choice of arguments at which
+///   each given literal is allowed: the first 1,000 of all these choices, and none is missing before the last.
+/// - `NoStep`: the theorem has fewer steps, or the whole book is accepted and no theorem of it has this title.
+/// - `Upgraded`: the derivation text is verified. The bytes written are its theorems with the same derivations, which cite facts by their
+///   places; they spell proofs, and are verified. With `Bad` and `Garbled`, `upgrade` writes the theorems before.
 /// - `TextLimit`: the source has more than 2^60 bytes.
 /// - `ReadFault`, `WriteFault`: the count of faults of the source, or of the sink, rose in this call or is at its last value.
 pub fn run<S: Source, K: Sink>(
@@ -49,7 +60,7 @@ pub fn run<S: Source, K: Sink>(
     source: &mut S,
     sink: &mut K,
 ) -> Status
-    // What was written of an accepted book spells proofs, and so does a derivation text that is verified.
+    // What was written of an accepted book or an upgraded text spells proofs, and so does a derivation text that is verified.
     ensures proofs { HasProofs (command_of (map string_bytes words.now)) (S.left source.old) (K.written sink.old) (K.written sink.new) result }
     // What the answer means, and what was written.
     ensures runs { Runs (command_of (map string_bytes words.now)) (S.left source.old) (K.written sink.old) (K.written sink.new) result }
@@ -70,9 +81,11 @@ pub fn run<S: Source, K: Sink>(
         Command::Figure => figure(alloc, source, sink),
         Command::Make(theorems) => make(alloc, theorems, sink),
         Command::Trial(theorems) => trial(alloc, theorems, sink),
+        Command::Suggest(title, step) => suggest(alloc, title, step, source, sink),
+        Command::Upgrade => upgrade(alloc, source, sink),
         Command::Unknown => close(
             sink,
-            b"usage: elements check | verify | make N | trial N | figure\n",
+            b"usage: elements check | verify | make N | trial N | upgrade | figure | suggest TITLE STEP\n",
             Status::Usage,
         ),
     }

@@ -27,10 +27,22 @@ pub enum Status {
         theorems: u32,
         steps: u32,
     },
+    /// Each line of the derivation text has a form, and each certificate certifies at its own line; its theorems are written in the
+    /// second version.
+    Upgraded {
+        theorems: u32,
+    },
     /// The figure text is answered, with so many shown literals.
     Drawn {
         shown: u64,
     },
+    /// So many lines are suggested, and whether some are left out.
+    Suggested {
+        lines: u32,
+        more: bool,
+    },
+    /// The theorem has fewer steps, or no theorem of the book has this title.
+    NoStep,
     /// The first line that is not licensed, and what it lacks.
     Unlicensed {
         title: Title,
@@ -79,8 +91,10 @@ pub fn exit_code(status: &Status) -> u8
         Status::Accepted { .. }
         | Status::Verified { .. }
         | Status::Made { .. }
+        | Status::Upgraded { .. }
         | Status::Tried { .. }
-        | Status::Drawn { .. } => 0,
+        | Status::Drawn { .. }
+        | Status::Suggested { .. } => 0,
         Status::Unlicensed { .. } | Status::Bad { .. } => 1,
         Status::Fault(_) | Status::Garbled { .. } | Status::TextLimit => 2,
         Status::Usage => 3,
@@ -88,5 +102,6 @@ pub fn exit_code(status: &Status) -> u8
         Status::WriteFault => 5,
         Status::NoMemory => 6,
         Status::TooWide { .. } => 8,
+        Status::NoStep => 10,
     }
 }

@@ -24,9 +24,9 @@ use std::alloc::{AllocError, Global};
 use std::mem;
 
 /// An answer with its line.
-struct Answer {
-    status: Status,
-    line: Vec<u8>,
+pub struct Answer {
+    pub status: Status,
+    pub line: Vec<u8>,
 }
 
 /// The answer to an accepted book, once what is written then is verified, which it is.

@@ -52,6 +52,7 @@ fn word(licensed: &Licensed) -> &'static str {
     match licensed {
         Licensed::Yes(Cert::Plain(Part::Fact)) => "fact",
         Licensed::Yes(Cert::Plain(Part::Metric(_))) => "sums",
+        Licensed::Yes(Cert::Plain(Part::FactAt(_))) => "place",
         Licensed::Yes(Cert::Transfer(_)) => "transfer",
         Licensed::No(None) => "no",
         Licensed::No(Some(_)) => "values",

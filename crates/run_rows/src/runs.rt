@@ -53,13 +53,15 @@ fn source_of(alloc: Global, text: &[u8], calls: Calls) -> Result<MemSource, Allo
     Ok(MemSource::new(text, fail, calls.piece.max(1)))
 }
 
-/// The number that an answer has: of theorems, of steps, of shown literals, of a step or of a line; 0 where it has none.
+/// The number that an answer has: of theorems, of steps, of shown literals, of suggested lines, of a step or of a line; 0 where it has none.
 fn number_of(status: &Status) -> u64 {
     match status {
         Status::Accepted { theorems: number }
         | Status::Verified { theorems: number }
         | Status::Made { theorems: number }
+        | Status::Upgraded { theorems: number }
         | Status::Tried { steps: number, .. }
+        | Status::Suggested { lines: number, .. }
         | Status::Unlicensed { step: number, .. }
         | Status::Bad { step: number, .. }
         | Status::TooWide { step: number, .. } => u64::from(*number),

@@ -13,16 +13,16 @@ use Rattle.e_spell.specs.Spelling.{stop_text, IsStop}
 use Rattle.e_run.specs.declared.status.Status.{Status}
 use Rattle.e_run.specs.declared.status.Status.TheVariants as status
 use Rattle.e_run.specs.LastLines.{accepted_line, fault_line}
-use Rattle.e_book.specs.Headed.{Headed}
+use Rattle.e_book.specs.declared.known.Known.{Known}
 use Rattle.e_run.specs.Outcome.{Rest, Begins, IsFront}
 use Rattle.e_run.specs.Outcome as outcome
 use Rattle.e_run.specs.Answers.{Derived, AllDerived, OutcomeAfter, Refuses, Widens, theorems_of, steps_of, blocks_of}
 
 -- the blocks of these theorems with their derivations were written, and this holds after them
-pub record BlocksUpTo (lines : Rest) (old new : Option (List ℕ)) (Holds : List Headed → Rest → Type 0) : Type 0 where
+pub record BlocksUpTo (lines : Rest) (old new : Option (List ℕ)) (Holds : Known → Rest → Type 0) : Type 0 where
   pub derived : List Derived
   pub sound : AllDerived [] derived
-  pub known : List Headed
+  pub known : Known
   pub rest : Rest
   pub begins : Begins lines (theorems_of derived) known rest
   pub holds : Holds known rest

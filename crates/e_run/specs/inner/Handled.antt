@@ -1,7 +1,7 @@
 -- The blocks of a source, before the last lines are written.
 use Rattle.std.specs.Prelude.{ℕ, List, [], Option, Result}
 use Rattle.e_io.specs.Bytes.{Grew}
-use Rattle.e_book.specs.Headed.{Headed}
+use Rattle.e_book.specs.declared.known.Known.{Known}
 use Rattle.e_run.specs.declared.blocks.BookResult.{BookResult}
 use Rattle.e_run.specs.declared.blocks.RunError.{RunError}
 use Rattle.e_run.specs.Outcome.{Rest, Begins, end_line_number, lines_of_book}
@@ -13,7 +13,7 @@ use Rattle.e_run.specs.Taken.{Taken, HaveNone, OfWholeLines}
 pub record AllBlocks (lines : Rest) (old new : Option (List ℕ)) : Type 0 where
   pub derived : List Derived
   pub sound : AllDerived [] derived
-  pub known : List Headed
+  pub known : Known
   pub rest : Rest
   pub begins : Begins lines (theorems_of derived) known rest
   pub none : HaveNone (end_line_number lines) known rest

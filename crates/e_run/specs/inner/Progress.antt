@@ -4,12 +4,14 @@ use Rattle.std.specs.List.{list_all}
 use Rattle.e_io.specs.Bytes.{Grew}
 use Rattle.e_text.specs.Lines.{Ahead, AreGood, IsClosed}
 use Rattle.e_deriv.specs.Fitting.{is_small_statement}
-use Rattle.e_book.specs.declared.draft.Draft.{Draft}
+use Rattle.e_book.specs.declared.coming.Coming.{Coming}
+use Rattle.e_book.specs.declared.known.Known.{Known}
 use Rattle.e_book.specs.declared.fault.BookFault.TheVariants.{Unended}
-use Rattle.e_book.specs.Headed.{Headed, stated_by}
-use Rattle.e_book.specs.Steps.{FitsScope}
+use Rattle.e_book.specs.Headed.{stated_by}
+use Rattle.e_book.specs.Taken.{nothing_known}
+use Rattle.e_book.specs.Titled.{are_notions}
 use Rattle.e_book.specs.Grammar.{last_line}
-use Rattle.e_book.specs.Book.{read_from, IsBegun}
+use Rattle.e_book.specs.inner.Machine.{FitsComing, item_from, IsBegun}
 use Rattle.e_run.specs.declared.book.Book.{Book}
 use Rattle.e_run.specs.declared.pieces.Untaken.{Untaken}
 use Rattle.e_run.specs.declared.blocks.BookResult.{BookResult}
@@ -22,7 +24,7 @@ use Rattle.e_run.specs.inner.BookResults.{BookResultIs, BlocksAre}
 -- ---- a book by its lines
 
 -- the theorems so far are the first of these lines, each with its derivation, and their blocks were written; then these lines are left
-pub record History (lines : Rest) (old : Option (List ℕ)) (known : List Headed) (rest : Rest) (new : Option (List ℕ)) (steps : ℕ) : Type 0 where
+pub record History (lines : Rest) (old : Option (List ℕ)) (known : Known) (rest : Rest) (new : Option (List ℕ)) (steps : ℕ) : Type 0 where
   pub derived : List Derived
   pub sound : AllDerived [] derived
   pub begins : Begins lines (theorems_of derived) known rest
@@ -31,25 +33,26 @@ pub record History (lines : Rest) (old : Option (List ℕ)) (known : List Headed
 
 -- before the first line
 abbrev pub first_book : Book
-first_book = record { known = []; reading = record { draft = None }; theorems = 0; steps = 0 }
+first_book = record { known = nothing_known; reading = record { coming = None }; theorems = 0; steps = 0 }
 
 -- what is known of a book between two lines
 pub record IsBook (b : Book) : Type 0 where
-  pub small : IsTrue (list_all is_small_statement (stated_by b.known))
-  pub count : length b.known ≡ b.theorems
+  pub small : IsTrue (list_all is_small_statement (stated_by b.known.theorems))
+  pub notions : IsTrue (are_notions b.known.notions)
+  pub count : length b.known.theorems ≡ b.theorems
   pub most : b.theorems ≤ 500
   pub steps : b.steps ≤ 1024 * b.theorems
-  pub draft : IfSome b.reading.draft FitsScope
-  pub begun : IsBegun b.known b.reading.draft
+  pub coming : IfSome b.reading.coming (FitsComing b.known)
+  pub begun : IsBegun b.known b.reading.coming
 
 -- By what comes: all lines of the book, and those that remain. Whatever comes, the theorems so far are the first of all lines, and to
 -- read the next one from its first line is to read on from what has come of it.
 pub record Reaches (all remaining : Rest → Rest) (old : Option (List ℕ)) (b : Book) (new : Option (List ℕ)) : Type 0 where
   pub tail : Rest
   pub history : (more : Rest) → History (all more) old b.known (tail ++ remaining more) new b.steps
-  pub reads : (last : ℕ) (more : Rest) → read_from b.known last None (tail ++ remaining more) ≡ read_from b.known last b.reading.draft (remaining more)
+  pub reads : (last : ℕ) (more : Rest) → item_from b.known last None (tail ++ remaining more) ≡ item_from b.known last b.reading.coming (remaining more)
 
--- the next theorem is taken, and these lines are left; or the blocks end or break off at it
+-- the next theorem or definition is taken, and these lines are left; or the blocks end or break off at it
 abbrev pub Handles : Rest → Option (List ℕ) → Rest → Result (Option BookResult) RunError → Book → Option (List ℕ) → Type 0
 Handles lines old after (Ok None) b new = History lines old b.known after new b.steps
 Handles lines old after (Ok (Some book_result)) b new = BookResultIs lines old new book_result
@@ -68,7 +71,7 @@ pub record AreTaken (old new : Ahead) : Type 0 where
   pub line : new.line ≡ last_line old
 
 -- how a book ends where no lines come any more
-abbrev pub result_at : ℕ → Option Draft → ℕ → ℕ → BookResult
+abbrev pub result_at : ℕ → Option Coming → ℕ → ℕ → BookResult
 result_at line None theorems steps = All theorems steps
 result_at line (Some d) theorems steps = Faulty (Unended line)
 

@@ -19,6 +19,7 @@ returns-clause-block c =
         own = c.in_ok-derivation.ensures.script;
         least = rw c.statements.ensures at c.in_ok-derivation.ensures.least;
         written = c.in_ok-derivation.ensures.written c.requires.good;
+        version = c.in_ok-derivation.ensures.version;
       };
       spells = c.in_ok-text.ensures;
     }

@@ -40,7 +40,7 @@ returns-in-Err-clause-handled g c =
     let st = c.loop-buffer.invariant.read_state in
     λ e. taken_of (g.S.Source.left c.args.source.now) (g.S.Source.left c.read.new.self) st.read (OfWholeLines (λ lines. AllBlocks lines (g.K.Sink.written c.args.sink.now) (g.K.Sink.written c.loop-buffer.sink)))
     (taken_then_failed _ (g.S.Source.left c.args.source.now) (g.S.Source.left c.loop-buffer.source) (g.S.Source.left c.read.new.self) st.read c.read.new.to _ st.so_far c.in-Err.ensures.bytes)
-    (handled_now st.read (g.K.Sink.written c.args.sink.now) c.loop-buffer.book c.loop-buffer.untaken (g.K.Sink.written c.loop-buffer.sink) st.is_read c.loop-buffer.invariant.unended)
+    (handled_now st.read (g.K.Sink.written c.args.sink.now) c.loop-buffer.book c.loop-buffer.untaken (g.K.Sink.written c.loop-buffer.sink) c.loop-buffer.invariant.book st.is_read c.loop-buffer.invariant.unended)
 
 pub returns-in-Err-clause-took : goal.returns-in-Err-clause-took
 returns-in-Err-clause-took g c =

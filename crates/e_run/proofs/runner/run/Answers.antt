@@ -1,11 +1,13 @@
 use Rattle.std.proofs.Common.{◌∙◌, ◌≤◌, sym, subst}
 use Rattle.e_run.specs.declared.command.Command.{Command}
 use Rattle.e_run.specs.Runs.{HasProofs, Runs, IsDue, TakesOf}
-use Rattle.e_run.specs.Words.{OfCount}
+use Rattle.e_run.specs.Words.{OfCount, OfStep}
 use Rattle.e_run.proofs.Completeness.{answers, answers_usage}
 use Rattle.e_run.proofs.Trials.{answers_trial, tried_count}
+use Rattle.e_run.proofs.UpgradedTexts.{answers_upgrade, upgrade_proofs}
 use Rattle.e_run.proofs.VerifierAnswers.{wrote_proofs, read_proofs, answers_text}
 use Rattle.e_run.proofs.DrawerAnswers.{answers_figure}
+use Rattle.e_run.proofs.SuggesterAnswers.{answers_suggest}
 use Rattle.e_run.proofs.runner.run.Goals as goal
 
 pub returns-in-Check-clause-proofs : goal.returns-in-Check-clause-proofs
@@ -151,6 +153,67 @@ returns-in-Trial-clause-taken g c =
     let old = g.K.Sink.written c.args.sink.now in
     let new = g.K.Sink.written c.trial.new.sink in
     subst (λ (k : Command). TakesOf k left left old new c.trial.result) (sym c.in-Trial.is ∙ c.command_of.ensures.value) tt
+
+pub suggest-requires : goal.suggest-requires
+suggest-requires g c = subst (λ (k : Command). OfStep (λ n. 1 ≤ n) k) c.in-Suggest.is c.command_of.ensures.first
+
+pub returns-in-Suggest-clause-proofs : goal.returns-in-Suggest-clause-proofs
+returns-in-Suggest-clause-proofs g c =
+    let left = g.S.Source.left c.args.source.now in
+    let old = g.K.Sink.written c.args.sink.now in
+    let new = g.K.Sink.written c.suggest.new.sink in
+    subst (λ (k : Command). HasProofs k left old new c.suggest.result) (sym c.in-Suggest.is ∙ c.command_of.ensures.value) tt
+
+pub returns-in-Suggest-clause-runs : goal.returns-in-Suggest-clause-runs
+returns-in-Suggest-clause-runs g c =
+    let left = g.S.Source.left c.args.source.now in
+    let old = g.K.Sink.written c.args.sink.now in
+    let new = g.K.Sink.written c.suggest.new.sink in
+    subst (λ (k : Command). Runs k left old new c.suggest.result) (sym c.in-Suggest.is ∙ c.command_of.ensures.value) c.suggest.ensures.suggests
+
+pub returns-in-Suggest-clause-due : goal.returns-in-Suggest-clause-due
+returns-in-Suggest-clause-due g c =
+    let left = g.S.Source.left c.args.source.now in
+    let old = g.K.Sink.written c.args.sink.now in
+    let new = g.K.Sink.written c.suggest.new.sink in
+    subst (λ (k : Command). IsDue k left c.suggest.result) (sym c.in-Suggest.is ∙ c.command_of.ensures.value) (answers_suggest c.in-Suggest.title c.in-Suggest.step left old new c.suggest.result c.suggest.ensures.suggests)
+
+pub returns-in-Suggest-clause-taken : goal.returns-in-Suggest-clause-taken
+returns-in-Suggest-clause-taken g c =
+    let left = g.S.Source.left c.args.source.now in
+    let after = g.S.Source.left c.suggest.new.source in
+    let old = g.K.Sink.written c.args.sink.now in
+    let new = g.K.Sink.written c.suggest.new.sink in
+    subst (λ (k : Command). TakesOf k left after old new c.suggest.result) (sym c.in-Suggest.is ∙ c.command_of.ensures.value) tt
+
+pub returns-in-Upgrade-clause-proofs : goal.returns-in-Upgrade-clause-proofs
+returns-in-Upgrade-clause-proofs g c =
+    let left = g.S.Source.left c.args.source.now in
+    let old = g.K.Sink.written c.args.sink.now in
+    let new = g.K.Sink.written c.upgrade.new.sink in
+    subst (λ (k : Command). HasProofs k left old new c.upgrade.result) (sym c.in-Upgrade.is ∙ c.command_of.ensures.value) (upgrade_proofs left old new c.upgrade.result c.upgrade.ensures.upgrades)
+
+pub returns-in-Upgrade-clause-runs : goal.returns-in-Upgrade-clause-runs
+returns-in-Upgrade-clause-runs g c =
+    let left = g.S.Source.left c.args.source.now in
+    let old = g.K.Sink.written c.args.sink.now in
+    let new = g.K.Sink.written c.upgrade.new.sink in
+    subst (λ (k : Command). Runs k left old new c.upgrade.result) (sym c.in-Upgrade.is ∙ c.command_of.ensures.value) c.upgrade.ensures.upgrades
+
+pub returns-in-Upgrade-clause-due : goal.returns-in-Upgrade-clause-due
+returns-in-Upgrade-clause-due g c =
+    let left = g.S.Source.left c.args.source.now in
+    let old = g.K.Sink.written c.args.sink.now in
+    let new = g.K.Sink.written c.upgrade.new.sink in
+    subst (λ (k : Command). IsDue k left c.upgrade.result) (sym c.in-Upgrade.is ∙ c.command_of.ensures.value) (answers_upgrade left old new c.upgrade.result c.upgrade.ensures.upgrades)
+
+pub returns-in-Upgrade-clause-taken : goal.returns-in-Upgrade-clause-taken
+returns-in-Upgrade-clause-taken g c =
+    let left = g.S.Source.left c.args.source.now in
+    let after = g.S.Source.left c.upgrade.new.source in
+    let old = g.K.Sink.written c.args.sink.now in
+    let new = g.K.Sink.written c.upgrade.new.sink in
+    subst (λ (k : Command). TakesOf k left after old new c.upgrade.result) (sym c.in-Upgrade.is ∙ c.command_of.ensures.value) c.upgrade.ensures.end
 
 pub returns-in-Unknown-clause-proofs : goal.returns-in-Unknown-clause-proofs
 returns-in-Unknown-clause-proofs g c =

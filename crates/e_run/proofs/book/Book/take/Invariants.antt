@@ -5,8 +5,8 @@ use Rattle.e_run.specs.Outcome.{Rest}
 use Rattle.e_run.specs.inner.Progress.{IsBook, Reaches}
 use Rattle.e_run.proofs.book.Book.take.Given as goal
 
-abbrev pub invariant-loop-theorem : goal.invariant-loop-theorem
-invariant-loop-theorem g l = record {
+abbrev pub invariant-loop-item : goal.invariant-loop-item
+invariant-loop-item g l = record {
   book : IsBook l.self;
   reaches : (all : Rest → Rest) (before : Option (List ℕ)) → Reaches all (λ more. l.initial.lines.lines ++ more) before l.initial.self (g.K.Sink.written l.initial.sink) → Reaches all (λ more. l.lines.lines ++ more) before l.self (g.K.Sink.written l.sink);
   good : AreGood l.lines.lines → AreGood l.initial.lines.lines;
@@ -14,5 +14,5 @@ invariant-loop-theorem g l = record {
   rises : g.K.Sink.faults l.initial.sink ≤ g.K.Sink.faults l.sink;
 }
 
-abbrev pub decreases-loop-theorem : goal.decreases-loop-theorem
-decreases-loop-theorem g l = length l.lines.lines
+abbrev pub decreases-loop-item : goal.decreases-loop-item
+decreases-loop-item g l = length l.lines.lines
