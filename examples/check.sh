@@ -81,6 +81,20 @@ for book in "$here"/*.book "$here"/refused/*.book "$here"/pitfalls/*.book "$here
     try_book "${book#"$here"/}" "$book" "${book%.book}.out"
 done
 
+# The answers of suggest: the first line has the words, the others what is written
+for asked in "$here"/tutorial/*.suggest; do
+    read -r title_and_step <"$asked"
+    # shellcheck disable=SC2086  # the words are to be split
+    found=$("$program" $title_and_step <"${asked%.suggest}.book" 2>"$work/errors")
+    status=$?
+    if [ "$found" = "$(tail -n +2 "$asked")" ] && [ "$status" = 0 ]; then
+        pass
+    else
+        fail "${asked#"$here"/}: found, with status $status"
+        printf '%s\n' "$found" | sed 's/^/    /'
+    fi
+done
+
 # Book I from its files
 : >"$work/joined.book"
 while read -r file; do
