@@ -1,0 +1,5 @@
+use Rattle.e_trim.proofs.WholeScripts.{trimmed_certified}
+use Rattle.e_trim.proofs.laws.trimmed_is_certified.Goals as goal
+
+pub returns : goal.returns
+returns c = trimmed_certified

@@ -1,0 +1,14 @@
+use Rattle.std.proofs.Common.{rules, ◌≡◌, ◌∙◌, [], ◌∷◌, length, ap, arith}
+use Rattle.e_trim.specs.Looked.{both, needed}
+use Rattle.e_trim.proofs.StepParts.{and_so}
+use Rattle.e_trim.proofs.SuperposedAt.{objects_at, objects_are}
+use Rattle.e_trim.proofs.steps.need_superposed.Goals as goal
+
+pub returns : goal.returns
+returns c =
+    let e : length c.args.form.now.points ≡ 6 = omega arith in
+    let f : length c.args.form.now.lines ≡ 2 = omega arith in
+    let g
+    : (c.point.result ∷ c.point-2.result ∷ c.point-3.result ∷ c.point-4.result ∷ c.point-5.result ∷ c.point-6.result ∷ c.line.result ∷ c.line-2.result ∷ []) ≡ objects_at c.args.form.now.points c.args.form.now.lines
+    = search rules in
+    and_so c.need.result (λ h. h ∙ ap (λ os. both c.args.out.now (needed os)) (g ∙ objects_are c.args.form.now e f)) c.need.ensures

@@ -1,0 +1,225 @@
+-- A derivation without the steps that nothing needs.
+use Rattle.std.specs.Prelude.{ℕ, ◌+◌, List, [], ◌∷◌, ◌++◌, map, filter, Bool, not, ◌&&◌, ◌||◌, nat_lt, if◌then◌else◌, ℤ, Option, Some}
+use Rattle.std.specs.Option.{option_map}
+use Rattle.std.specs.List.{list_any}
+use Rattle.e_literal.specs.declared.object.Obj.{Obj}
+use Rattle.e_literal.specs.declared.object.Sort.{Sort}
+use Rattle.e_literal.specs.declared.object.Sort.TheVariants.{Point, Line as ALine}
+use Rattle.e_literal.specs.declared.object.Scope.{Scope}
+use Rattle.e_literal.specs.declared.literal.Lit.{Lit}
+use Rattle.e_literal.specs.Literal.{negation, obj, is_in_scope}
+use Rattle.e_literal.specs.Facts.{has, joined, joined_all}
+use Rattle.e_literal.specs.Rename.{renamed, term_at, same_obj}
+use Rattle.e_literal.specs.Scopes.{same_sort, nothing, grown, next_objects}
+use Rattle.e_literal.specs.Use.{Stated, scope_of, gives_of_use}
+use Rattle.e_construct.specs.declared.construction.Construction.{Construction}
+use Rattle.e_construct.specs.declared.superpose.Superpose.{Superpose}
+use Rattle.e_construct.specs.Construct.{made, gives}
+use Rattle.e_construct.specs.Superposing as superposing
+use Rattle.e_clause.specs.declared.cert.By.{By}
+use Rattle.e_clause.specs.declared.cert.Cert.{Cert}
+use Rattle.e_clause.specs.declared.cert.Cert.TheVariants.{Plain, Transfer}
+use Rattle.e_clause.specs.declared.cert.Part.{Part}
+use Rattle.e_clause.specs.declared.cert.Part.TheVariants.{Fact as FactPart, Metric, FactAt as FactPartAt}
+use Rattle.e_clause.specs.declared.cert.TransferCert.{TransferCert}
+use Rattle.e_clause.specs.declared.cert.MetricCert.{MetricCert}
+use Rattle.e_clause.specs.declared.cert.Against.{Against}
+use Rattle.e_clause.specs.declared.cert.Against.TheVariants.{Clash, Metric as MetricAgainst}
+use Rattle.e_clause.specs.declared.cert.RowName.{RowName}
+use Rattle.e_clause.specs.declared.cert.RowName.TheVariants.{Fact, Pos, Top, Least}
+use Rattle.e_clause.specs.declared.cert.Sums.{Sums}
+use Rattle.e_clause.specs.declared.cert.Sums.TheVariants.{One, Two}
+use Rattle.e_deriv.specs.Script.{Script, Cite, Hence, Make, Apply, Claim, Superposed, Qed, Contradiction, Cases}
+use Rattle.e_deriv.specs.Parts.{args_of}
+use Rattle.e_deriv.specs.Goal.{Goal, goal_of, goal_of_statement, facts_of_statement}
+use Rattle.e_deriv.specs.Lines.{Line, line, theorem_at}
+use Rattle.e_trim.specs.Looked.{Wants, no_wants, both, of_line}
+
+-- ---- what a step supplies
+
+-- the literals that the step makes facts
+abbrev pub joins_at : List Stated → Script → Scope → List Lit
+joins_at before (Cite by rest) s = by.lit ∷ []
+joins_at before (Hence lit cert rest) s = lit ∷ []
+joins_at before (Make form names certs rest) s = gives form s
+joins_at before (Apply theorem args names certs rest) s =
+    gives_of_use (theorem_at before theorem) (args_of (Apply theorem args names certs rest)) s
+joins_at before (Claim shown inner rest) s = shown
+joins_at before (Superposed form names shown certs inner rest) s = shown
+joins_at before _ s = []
+
+-- the sorts of the objects that the step makes and that live on
+abbrev pub makes_at : List Stated → Script → List Sort
+makes_at before (Make form names certs rest) = made form
+makes_at before (Apply theorem args names certs rest) = (theorem_at before theorem).made
+makes_at before _ = []
+
+-- it makes a literal a fact that is looked up behind it, and none the same was a fact before
+abbrev pub supplies : List Lit → Wants → Lit → Bool
+supplies facts w l = not (has facts l) && has w.lits l
+
+abbrev pub is_needed : Wants → Obj → Bool
+is_needed w o = list_any (same_obj o) w.objects
+
+-- a step is kept where it supplies a literal, or makes an object, that is wanted behind it
+abbrev pub is_kept : List Stated → Script → Scope → List Lit → Wants → Bool
+is_kept before here s facts w =
+    list_any (supplies facts w) (joins_at before here s) || list_any (is_needed w) (next_objects s (makes_at before here))
+
+-- of what a block wants, what is outside of it: facts that stood before it, and objects that were in scope
+abbrev pub outside : Scope → List Lit → Wants → Wants
+outside s facts w = record { lits = filter (has facts) w.lits; objects = filter (is_in_scope s) w.objects }
+
+-- ---- from the close backwards
+
+-- the line at the beginning of a script, which has no blanks to fill
+abbrev pub line_at : Script → Scope → List Lit → Goal → Line
+line_at here s facts goal = line here here s facts goal
+
+-- Where this is wanted behind a step, and that by the block inside it, what is wanted from the step on: a step that is not kept
+-- wants nothing.
+abbrev pub with_step : List Stated → Script → Scope → List Lit → Goal → Wants → Wants → Wants
+with_step before here s facts goal inner w =
+    if is_kept before here s facts w then both w (both (of_line before (line_at here s facts goal)) inner) else w
+
+-- what the kept steps and the close look up and need, from here to the end of the block
+unfoldable pub wants : List Stated → Script → Scope → List Lit → Goal → Wants
+wants before (Cite by rest) s facts goal =
+    with_step before (Cite by rest) s facts goal no_wants (wants before rest s (joined facts by.lit) goal)
+wants before (Hence lit cert rest) s facts goal =
+    with_step before (Hence lit cert rest) s facts goal no_wants (wants before rest s (joined facts lit) goal)
+wants before (Make form names certs rest) s facts goal =
+    with_step before (Make form names certs rest) s facts goal no_wants
+    (wants before rest (grown s (made form)) (joined_all facts (gives form s)) goal)
+wants before (Apply theorem args names certs rest) s facts goal =
+    let here = Apply theorem args names certs rest in
+    with_step before here s facts goal no_wants
+    (wants before rest (grown s (theorem_at before theorem).made) (joined_all facts (joins_at before here s)) goal)
+wants before (Claim shown inner rest) s facts goal =
+    with_step before (Claim shown inner rest) s facts goal (outside s facts (wants before inner s facts (goal_of shown)))
+    (wants before rest s (joined_all facts shown) goal)
+wants before (Superposed form names shown certs inner rest) s facts goal =
+    with_step before (Superposed form names shown certs inner rest) s facts goal
+    (outside s facts (wants before inner (grown s superposing.made) (joined_all facts (superposing.gives form s)) (goal_of shown)))
+    (wants before rest s (joined_all facts shown) goal)
+wants before (Qed objects certs) s facts goal = of_line before (line_at (Qed objects certs) s facts goal)
+wants before (Contradiction against) s facts goal = of_line before (line_at (Contradiction against) s facts goal)
+wants before (Cases lit first second) s facts goal =
+    both (of_line before (line_at (Cases lit first second) s facts goal))
+    (both (outside s facts (wants before second s (joined facts (negation lit)) goal))
+    (outside s facts (wants before first s (joined facts lit) goal)))
+
+-- ---- the objects take the next numbers anew
+
+abbrev pub is_less : Obj → Sort → ℕ → Bool
+is_less k sort n = same_sort k.sort sort && nat_lt k.num n
+
+-- how many of the kept objects of the sort have a lesser number
+abbrev pub number : List Obj → Sort → ℕ → ℕ
+number [] sort n = 0
+number (k ∷ kept) sort n = (if is_less k sort n then 1 else 0) + number kept sort n
+
+abbrev pub obj_at : List Obj → Obj → Obj
+obj_at kept o = obj o.sort (number kept o.sort o.num)
+
+abbrev pub image_of : List Obj → Obj → Option Obj
+image_of kept o = Some (obj_at kept o)
+
+abbrev pub lit_at : List Obj → Lit → Lit
+lit_at kept l = renamed (image_of kept) l
+
+abbrev pub row_at : List Obj → RowName → RowName
+row_at kept (Fact l) = Fact (lit_at kept l)
+row_at kept (Pos t) = Pos (term_at (number kept Point) t)
+row_at kept (Top t) = Top (term_at (number kept Point) t)
+row_at kept (Least t) = Least (term_at (number kept Point) t)
+row_at kept name = name
+
+abbrev pub sum_at : List Obj → List (ℤ × RowName) → List (ℤ × RowName)
+sum_at kept xs = map (λ x. (x.0, row_at kept x.1)) xs
+
+abbrev pub sums_at : List Obj → Sums → Sums
+sums_at kept (One sum) = One (sum_at kept sum)
+sums_at kept (Two differs above below) = Two (row_at kept differs) (sum_at kept above) (sum_at kept below)
+
+abbrev pub metric_at : List Obj → MetricCert → MetricCert
+metric_at kept m = record { sums = sums_at kept m.sums }
+
+abbrev pub part_at : List Obj → Part → Part
+part_at kept FactPart = FactPart
+part_at kept (Metric m) = Metric (metric_at kept m)
+part_at kept (FactPartAt k) = FactPartAt k
+
+abbrev pub transfer_at : List Obj → TransferCert → TransferCert
+transfer_at kept t = record { rule = t.rule; args = map (obj_at kept) t.args; parts = map (part_at kept) t.parts }
+
+abbrev pub cert_at : List Obj → Cert → Cert
+cert_at kept (Plain p) = Plain (part_at kept p)
+cert_at kept (Transfer t) = Transfer (transfer_at kept t)
+
+abbrev pub against_at : List Obj → Against → Against
+against_at kept (Clash l) = Clash (lit_at kept l)
+against_at kept (MetricAgainst m) = MetricAgainst (metric_at kept m)
+
+abbrev pub by_at : List Obj → By → By
+by_at kept by = record { rule = by.rule; args = map (obj_at kept) by.args; lit = lit_at kept by.lit }
+
+abbrev pub form_at : List Obj → Construction → Construction
+form_at kept form = record { shape = form.shape; args = map (obj_at kept) form.args; avoid = map (obj_at kept) form.avoid }
+
+abbrev pub superpose_at : List Obj → Superpose → Superpose
+superpose_at kept form = record form { points = map (number kept Point) form.points; lines = map (number kept ALine) form.lines }
+
+abbrev pub args_at : List Obj → List (Option Obj) → List (Option Obj)
+args_at kept args = map (option_map (obj_at kept)) args
+
+-- ---- trimmed
+
+-- the kept steps and the close, over the kept objects; the objects that a kept step makes are kept
+unfoldable pub trimmed_from : List Stated → List Obj → Script → Scope → List Lit → Goal → Script
+trimmed_from before kept (Cite by rest) s facts goal =
+    let more = trimmed_from before kept rest s (joined facts by.lit) goal in
+    if is_kept before (Cite by rest) s facts (wants before rest s (joined facts by.lit) goal) then Cite (by_at kept by) more else more
+trimmed_from before kept (Hence lit cert rest) s facts goal =
+    let more = trimmed_from before kept rest s (joined facts lit) goal in
+    if is_kept before (Hence lit cert rest) s facts (wants before rest s (joined facts lit) goal)
+    then Hence (lit_at kept lit) (option_map (cert_at kept) cert) more else more
+trimmed_from before kept (Make form names certs rest) s facts goal =
+    let after = joined_all facts (gives form s) in
+    let wide = grown s (made form) in
+    if is_kept before (Make form names certs rest) s facts (wants before rest wide after goal)
+    then Make (form_at kept form) names (map (cert_at kept) certs)
+    (trimmed_from before (kept ++ next_objects s (made form)) rest wide after goal)
+    else trimmed_from before kept rest wide after goal
+trimmed_from before kept (Apply theorem args names certs rest) s facts goal =
+    let here = Apply theorem args names certs rest in
+    let new = (theorem_at before theorem).made in
+    let after = joined_all facts (joins_at before here s) in
+    if is_kept before here s facts (wants before rest (grown s new) after goal)
+    then Apply theorem (args_at kept args) names (map (cert_at kept) certs)
+    (trimmed_from before (kept ++ next_objects s new) rest (grown s new) after goal)
+    else trimmed_from before kept rest (grown s new) after goal
+trimmed_from before kept (Claim shown inner rest) s facts goal =
+    let more = trimmed_from before kept rest s (joined_all facts shown) goal in
+    if is_kept before (Claim shown inner rest) s facts (wants before rest s (joined_all facts shown) goal)
+    then Claim (map (lit_at kept) shown) (trimmed_from before kept inner s facts (goal_of shown)) more else more
+trimmed_from before kept (Superposed form names shown certs inner rest) s facts goal =
+    let more = trimmed_from before kept rest s (joined_all facts shown) goal in
+    let opened = joined_all facts (superposing.gives form s) in
+    if is_kept before (Superposed form names shown certs inner rest) s facts (wants before rest s (joined_all facts shown) goal)
+    then Superposed (superpose_at kept form) names (map (lit_at kept) shown) (map (cert_at kept) certs)
+    (trimmed_from before (kept ++ next_objects s superposing.made) inner (grown s superposing.made) opened (goal_of shown)) more
+    else more
+trimmed_from before kept (Qed objects certs) s facts goal = Qed (map (obj_at kept) objects) (map (cert_at kept) certs)
+trimmed_from before kept (Contradiction against) s facts goal = Contradiction (option_map (against_at kept) against)
+trimmed_from before kept (Cases lit first second) s facts goal =
+    Cases (lit_at kept lit) (trimmed_from before kept first s (joined facts lit) goal)
+    (trimmed_from before kept second s (joined facts (negation lit)) goal)
+
+-- the declared objects are kept
+abbrev pub declared_of : Stated → List Obj
+declared_of t = next_objects nothing t.declared
+
+-- of the derivation of a statement
+abbrev pub trimmed : List Stated → Stated → Script → Script
+trimmed before t d = trimmed_from before (declared_of t) d (scope_of t) (facts_of_statement t) (goal_of_statement t)

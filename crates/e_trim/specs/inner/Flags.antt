@@ -1,0 +1,67 @@
+-- Which steps are kept, as a pile: what comes last is read first, so that the flags are read in text order.
+use Rattle.std.specs.Prelude.{List, [], ◌∷◌, ◌++◌, Bool, true, false}
+use Rattle.e_literal.specs.declared.object.Scope.{Scope}
+use Rattle.e_literal.specs.declared.literal.Lit.{Lit}
+use Rattle.e_literal.specs.Literal.{negation}
+use Rattle.e_literal.specs.Facts.{joined, joined_all}
+use Rattle.e_literal.specs.Scopes.{grown}
+use Rattle.e_literal.specs.Use.{Stated}
+use Rattle.e_construct.specs.Construct.{made, gives}
+use Rattle.e_construct.specs.Superposing as superposing
+use Rattle.e_deriv.specs.Script.{Script, Cite, Hence, Make, Apply, Claim, Superposed, Qed, Contradiction, Cases}
+use Rattle.e_deriv.specs.Goal.{Goal, goal_of}
+use Rattle.e_deriv.specs.Lines.{theorem_at}
+use Rattle.e_trim.specs.Looked.{Wants, no_wants}
+use Rattle.e_trim.specs.Trimmed.{joins_at, is_kept, wants, outside}
+
+-- the flag of a step, and under it those of the block inside, which is read only where the step is kept
+abbrev pub flag : Bool → List Bool → List Bool
+flag true inner = inner ++ true ∷ []
+flag false inner = false ∷ []
+
+-- the flags of a script: under those of a step are those of what comes behind it
+unfoldable pub flags_of : List Stated → Script → Scope → List Lit → Goal → List Bool
+flags_of before (Cite by rest) s facts goal =
+    let after = joined facts by.lit in
+    flags_of before rest s after goal ++ flag (is_kept before (Cite by rest) s facts (wants before rest s after goal)) []
+flags_of before (Hence lit cert rest) s facts goal =
+    let after = joined facts lit in
+    flags_of before rest s after goal ++ flag (is_kept before (Hence lit cert rest) s facts (wants before rest s after goal)) []
+flags_of before (Make form names certs rest) s facts goal =
+    let after = joined_all facts (gives form s) in
+    let wide = grown s (made form) in
+    flags_of before rest wide after goal
+    ++ flag (is_kept before (Make form names certs rest) s facts (wants before rest wide after goal)) []
+flags_of before (Apply theorem args names certs rest) s facts goal =
+    let here = Apply theorem args names certs rest in
+    let after = joined_all facts (joins_at before here s) in
+    let wide = grown s (theorem_at before theorem).made in
+    flags_of before rest wide after goal ++ flag (is_kept before here s facts (wants before rest wide after goal)) []
+flags_of before (Claim shown inner rest) s facts goal =
+    let after = joined_all facts shown in
+    flags_of before rest s after goal
+    ++ flag (is_kept before (Claim shown inner rest) s facts (wants before rest s after goal)) (flags_of before inner s facts (goal_of shown))
+flags_of before (Superposed form names shown certs inner rest) s facts goal =
+    let after = joined_all facts shown in
+    let opened = joined_all facts (superposing.gives form s) in
+    flags_of before rest s after goal
+    ++ flag (is_kept before (Superposed form names shown certs inner rest) s facts (wants before rest s after goal))
+    (flags_of before inner (grown s superposing.made) opened (goal_of shown))
+flags_of before (Qed objects certs) s facts goal = []
+flags_of before (Contradiction against) s facts goal = []
+flags_of before (Cases lit first second) s facts goal =
+    flags_of before second s (joined facts (negation lit)) goal ++ flags_of before first s (joined facts lit) goal
+
+-- what the block inside of a step wants outside of it
+abbrev pub inside_of : List Stated → Script → Scope → List Lit → Wants
+inside_of before (Claim shown inner rest) s facts = outside s facts (wants before inner s facts (goal_of shown))
+inside_of before (Superposed form names shown certs inner rest) s facts =
+    outside s facts (wants before inner (grown s superposing.made) (joined_all facts (superposing.gives form s)) (goal_of shown))
+inside_of before _ s facts = no_wants
+
+-- the flags of the block inside of a step
+abbrev pub step_flags : List Stated → Script → Scope → List Lit → List Bool
+step_flags before (Claim shown inner rest) s facts = flags_of before inner s facts (goal_of shown)
+step_flags before (Superposed form names shown certs inner rest) s facts =
+    flags_of before inner (grown s superposing.made) (joined_all facts (superposing.gives form s)) (goal_of shown)
+step_flags before _ s facts = []

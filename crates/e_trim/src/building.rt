@@ -1,0 +1,252 @@
+// The trimmed block: the kept steps and the close, over the kept objects.
+
+ghost use Rattle.std.specs.Prelude.{◌≡◌, ◌++◌, ◌<◌, ◌^◌, length, map, IfOk, IsTrue, List};
+ghost use Rattle.std.specs.List.{list_all};
+ghost use Rattle.std.specs.Option.{option_map};
+ghost use Rattle.e_literal.specs.Scopes;
+ghost use Rattle.e_theorem.specs.Statements.{all_stated};
+ghost use Rattle.e_deriv.specs.Fitting.{is_small, is_small_statement};
+ghost use Rattle.e_deriv.specs.Script.{script_of, steps_script, step_script, close_script};
+ghost use Rattle.e_trim.specs.Trimmed;
+ghost use Rattle.e_trim.specs.inner.Standing.{FewKept};
+ghost use Rattle.e_trim.specs.inner.Building.{AreSmall, IsSmallStep, TakesFlag, IsBuilt, StepIsBuilt, CloseIsBuilt, BlockIsBuilt};
+
+use crate::numbering::{
+    new_against, new_args, new_by, new_cert, new_certs, new_construction, new_lit, new_lits,
+    new_objects, new_superpose,
+};
+use crate::steps::makes;
+use e_clause::{Against, Cert};
+use e_deriv::{Block, Close, Step};
+use e_literal::{Items, Obj, Scope, Sort, grown, next_objects};
+use e_text::Name;
+use e_theorem::Statement;
+use std::alloc::{AllocError, Global};
+use std::mem;
+
+/// The kept objects, and the next ones of the scope.
+fn with_next(
+    alloc: Global,
+    kept: &[Obj],
+    scope: Scope,
+    sorts: &[Sort],
+) -> Result<Vec<Obj>, AllocError>
+    requires small { IsTrue (is_small scope) }
+    requires few { length sorts.now < 2 ^ 15 }
+    ensures { IfOk result (λ v. v.items ≡ kept.now ++ Scopes.next_objects scope sorts.now) }
+{
+    let mut more = Vec::from_slice(alloc, kept)?;
+    let next = next_objects(alloc, scope, sorts)?;
+    more.extend_from_slice(&next)?;
+    Ok(more)
+}
+
+fn copy_names(alloc: Global, names: &[Name]) -> Result<Items<Name>, AllocError>
+    ensures { IfOk result (λ n. n ≡ names.now) }
+{
+    Ok(Items::new(Vec::from_slice(alloc, names)?))
+}
+
+fn new_cert_of(alloc: Global, kept: &[Obj], cert: &Option<Cert>) -> Result<Option<Cert>, AllocError>
+    requires { length kept.now < 2 ^ 16 }
+    ensures { IfOk result (λ c. c ≡ option_map (Trimmed.cert_at kept.now) cert.now) }
+{
+    match cert {
+        Some(cert) => Ok(Some(new_cert(alloc, kept, cert)?)),
+        None => Ok(None),
+    }
+}
+
+fn new_against_of(
+    alloc: Global,
+    kept: &[Obj],
+    against: &Option<Against>,
+) -> Result<Option<Against>, AllocError>
+    requires { length kept.now < 2 ^ 16 }
+    ensures { IfOk result (λ a. a ≡ option_map (Trimmed.against_at kept.now) against.now) }
+{
+    match against {
+        Some(against) => Ok(Some(new_against(alloc, kept, against)?)),
+        None => Ok(None),
+    }
+}
+
+/// Whether the next step is kept: its flag is taken from the pile.
+fn take_flag(flags: &mut Vec<bool>) -> bool
+    ensures { TakesFlag flags.old.items flags.new.items result }
+{
+    match flags.pop() {
+        Some(kept) => kept,
+        None => false,
+    }
+}
+
+/// Puts the kept ones of the steps behind those that are there, and gives the close. The flags are taken from the pile.
+#[cycle(build)]
+fn build(
+    alloc: Global,
+    before: &[Statement],
+    steps: &[Step],
+    close: &Close,
+    scope: Scope,
+    kept: &[Obj],
+    flags: &mut Vec<bool>,
+    out: &mut Vec<Step>,
+) -> Result<Close, AllocError>
+    requires scopes { AreSmall (all_stated before.now) (steps_script steps.now (close_script close.now)) scope }
+    requires statements { IsTrue (list_all is_small_statement (all_stated before.now)) }
+    requires few { FewKept scope kept.now }
+    ensures { IfOk result (λ c. IsBuilt (all_stated before.now) kept.now (steps_script steps.now (close_script close.now)) scope flags.old.items flags.new.items out.old.items out.new.items c) }
+{
+    match steps {
+        [] => build_close(alloc, before, close, scope, kept, flags),
+        [step, steps @ ..] => {
+            let sorts = makes(before, step);
+            let after = grown(scope, sorts);
+            if !take_flag(flags) {
+                return build(alloc, before, steps, close, after, kept, flags, out);
+            }
+            let new = build_step(alloc, before, step, scope, kept, flags)?;
+            out.push(new)?;
+            let more = with_next(alloc, kept, scope, sorts)?;
+            build(alloc, before, steps, close, after, &more, flags, out)
+        }
+    }
+}
+
+/// A kept step over the kept objects, with the block inside of it trimmed.
+#[cycle(build)]
+fn build_step(
+    alloc: Global,
+    before: &[Statement],
+    step: &Step,
+    scope: Scope,
+    kept: &[Obj],
+    flags: &mut Vec<bool>,
+) -> Result<Step, AllocError>
+    requires scopes { IsSmallStep (all_stated before.now) step.now scope }
+    requires statements { IsTrue (list_all is_small_statement (all_stated before.now)) }
+    requires few { FewKept scope kept.now }
+    ensures { IfOk result (λ s. StepIsBuilt (all_stated before.now) kept.now step.now scope flags.old.items flags.new.items s) }
+{
+    match step {
+        Step::Cite(by) => Ok(Step::Cite(new_by(alloc, kept, by)?)),
+        Step::Hence { lit, cert } => Ok(Step::Hence {
+            lit: new_lit(alloc, kept, lit)?,
+            cert: new_cert_of(alloc, kept, cert)?,
+        }),
+        Step::Make { form, names, certs } => Ok(Step::Make {
+            form: new_construction(alloc, kept, form)?,
+            names: copy_names(alloc, names.items())?,
+            certs: new_certs(alloc, kept, certs.items())?,
+        }),
+        Step::Apply {
+            theorem,
+            args,
+            names,
+            certs,
+        } => Ok(Step::Apply {
+            theorem: *theorem,
+            args: new_args(alloc, kept, args.items())?,
+            names: copy_names(alloc, names.items())?,
+            certs: new_certs(alloc, kept, certs.items())?,
+        }),
+        Step::Claim { shown, inner } => {
+            let inner = build_block(alloc, before, inner, scope, kept, flags)?;
+            let inner = Box::new(alloc, inner)?;
+            let shown = new_lits(alloc, kept, shown.items())?;
+            Ok(Step::Claim { shown, inner })
+        }
+        Step::Superposed {
+            form,
+            names,
+            shown,
+            certs,
+            inner,
+        } => {
+            let copies = form.made();
+            let inside = with_next(alloc, kept, scope, copies)?;
+            let inner = build_block(alloc, before, inner, grown(scope, copies), &inside, flags)?;
+            let inner = Box::new(alloc, inner)?;
+            let shown = new_lits(alloc, kept, shown.items())?;
+            let certs = new_certs(alloc, kept, certs.items())?;
+            let names = copy_names(alloc, names.items())?;
+            Ok(Step::Superposed {
+                form: new_superpose(kept, form),
+                names,
+                shown,
+                certs,
+                inner,
+            })
+        }
+    }
+}
+
+/// The close over the kept objects, with the blocks inside of it trimmed.
+#[cycle(build)]
+fn build_close(
+    alloc: Global,
+    before: &[Statement],
+    close: &Close,
+    scope: Scope,
+    kept: &[Obj],
+    flags: &mut Vec<bool>,
+) -> Result<Close, AllocError>
+    requires scopes { AreSmall (all_stated before.now) (close_script close.now) scope }
+    requires statements { IsTrue (list_all is_small_statement (all_stated before.now)) }
+    requires few { FewKept scope kept.now }
+    ensures { IfOk result (λ c. CloseIsBuilt (all_stated before.now) kept.now (close_script close.now) scope flags.old.items flags.new.items c) }
+{
+    match close {
+        Close::Qed { objects, certs } => Ok(Close::Qed {
+            objects: new_objects(alloc, kept, objects.items())?,
+            certs: new_certs(alloc, kept, certs.items())?,
+        }),
+        Close::Contradiction { against } => Ok(Close::Contradiction {
+            against: new_against_of(alloc, kept, against)?,
+        }),
+        Close::Cases { lit, first, second } => {
+            let first = build_block(alloc, before, first, scope, kept, flags)?;
+            let first = Box::new(alloc, first)?;
+            let second = build_block(alloc, before, second, scope, kept, flags)?;
+            let second = Box::new(alloc, second)?;
+            let lit = new_lit(alloc, kept, lit)?;
+            Ok(Close::Cases { lit, first, second })
+        }
+    }
+}
+
+/// The trimmed block, where these objects are in scope before it, and these of them are kept.
+#[cycle(build)]
+pub fn build_block(
+    alloc: Global,
+    before: &[Statement],
+    block: &Block,
+    scope: Scope,
+    kept: &[Obj],
+    flags: &mut Vec<bool>,
+) -> Result<Block, AllocError>
+    requires scopes { AreSmall (all_stated before.now) (script_of block.now) scope }
+    requires statements { IsTrue (list_all is_small_statement (all_stated before.now)) }
+    requires few { FewKept scope kept.now }
+    ensures { IfOk result (λ b. BlockIsBuilt (all_stated before.now) kept.now (script_of block.now) scope flags.old.items flags.new.items b) }
+{
+    let mut steps = Vec::new(alloc);
+    let built = build(
+        alloc,
+        before,
+        &block.steps,
+        &block.close,
+        scope,
+        kept,
+        flags,
+        &mut steps,
+    );
+    match built {
+        Ok(close) => Ok(Block { steps, close }),
+        Err(error) => {
+            mem::drop(steps);
+            Err(error)
+        }
+    }
+}

@@ -1,0 +1,12 @@
+//! Laws of trimming, each as a function that does nothing and whose contract is the law.
+ghost use Rattle.e_trim.specs.Laws.{TrimmedIsCertified, TrimmedIsShorter};
+
+/// What is trimmed of a certified derivation is certified.
+pub fn trimmed_is_certified()
+    ensures { TrimmedIsCertified }
+{}
+
+/// What is trimmed of a derivation has no more lines, and no more blocks one inside the other.
+pub fn trimmed_is_shorter()
+    ensures { TrimmedIsShorter }
+{}

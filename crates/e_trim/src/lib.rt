@@ -1,0 +1,19 @@
+//! Trimming: a derivation without the steps that nothing needs, and the earlier theorems that a derivation applies. Nothing is searched
+//! for, and nothing is certified anew: what is left keeps its certificates.
+#![tactic(auto)]
+
+mod building;
+mod instances;
+mod laws;
+mod looked;
+mod looking;
+mod noting;
+mod numbering;
+mod standing;
+mod steps;
+mod trimming;
+mod wanted;
+
+pub use laws::{trimmed_is_certified, trimmed_is_shorter};
+pub use noting::applied;
+pub use trimming::trim;

@@ -1,0 +1,72 @@
+// What holds before a line, and after it.
+
+ghost use Rattle.std.specs.Prelude.{◌≡◌, ◌≤◌, ◌<◌, ◌+◌, ◌^◌, length, OnOk, IsTrue};
+ghost use Rattle.e_literal.specs.Facts.{joined_all};
+ghost use Rattle.e_deriv.specs.Fitting.{is_small};
+ghost use Rattle.e_trim.specs.inner.Standing.{outer_of, left_for, opened};
+
+use e_facts::Facts;
+use e_literal::{Lit, Obj, Scope, Sort, copy, grown};
+use std::alloc::{AllocError, Global};
+
+/// The scope and the facts before a line.
+#[derive(Drop)]
+pub struct Standing {
+    pub scope: Scope,
+    pub facts: Facts,
+}
+
+/// What an inner block is entered from.
+#[derive(Clone, Copy)]
+pub struct Outer {
+    pub scope: Scope,
+    pub facts: usize,
+}
+
+/// What a block has to show: literals, and the made objects in them.
+#[derive(Clone, Copy)]
+pub struct Goal<'a> {
+    pub made: &'a [Obj],
+    pub shown: &'a [Lit],
+}
+
+impl Standing {
+    /// What a line, or an inner block, is entered from.
+    pub fn enter(&self) -> Outer
+        ensures { result ≡ outer_of self.now }
+    {
+        Outer {
+            scope: self.scope,
+            facts: self.facts.mark(),
+        }
+    }
+
+    /// Back to where it was entered: the objects and facts that came since are gone.
+    pub fn leave(&mut self, outer: Outer)
+        requires { outer.facts ≤ length self.old.facts }
+        ensures { self.new ≡ left_for outer self.old }
+    {
+        self.scope = outer.scope;
+        self.facts.back_to(outer.facts);
+    }
+
+    /// The next objects of these sorts come into scope, and the literals are facts.
+    pub fn open(&mut self, alloc: Global, sorts: &[Sort], lits: &[Lit]) -> Result<(), AllocError>
+        requires scope { IsTrue (is_small self.old.scope) }
+        requires few { length sorts.now < 2 ^ 15 }
+        ensures { OnOk result (self.new ≡ opened sorts.now lits.now self.old) }
+    {
+        self.scope = grown(self.scope, sorts);
+        join_copies(alloc, &mut self.facts, lits)
+    }
+}
+
+/// The literals are facts, each put last unless one the same is there.
+pub fn join_copies(alloc: Global, facts: &mut Facts, lits: &[Lit]) -> Result<(), AllocError>
+    ensures { OnOk result (facts.new ≡ joined_all facts.old lits.now) }
+{
+    for lit in lits {
+        facts.add(copy(alloc, lit)?)?;
+    }
+    Ok(())
+}

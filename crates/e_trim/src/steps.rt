@@ -1,0 +1,361 @@
+// What a step makes, and what a line wants, blocks inside of it left aside.
+
+ghost use Rattle.std.specs.Prelude.{◌≡◌, ℕ, [], ◌∷◌, map, IfOk, OnOk, IsTrue, List};
+ghost use Rattle.std.specs.List.{list_all, list_any};
+ghost use Rattle.e_literal.specs.Use.{Stated, needs_of_use, gives_of_use};
+ghost use Rattle.e_construct.specs.Superposing;
+ghost use Rattle.e_theorem.specs.Statements.{all_stated};
+ghost use Rattle.e_deriv.specs.Fitting.{is_small, is_small_statement};
+ghost use Rattle.e_deriv.specs.Goal as goals;
+ghost use Rattle.e_deriv.specs.Goal.{Goal as BlockGoal};
+ghost use Rattle.e_deriv.specs.Lines.{theorem_at};
+ghost use Rattle.e_deriv.specs.Parts.{written};
+ghost use Rattle.e_deriv.specs.Script as scripts;
+ghost use Rattle.e_deriv.specs.Script.{Script, step_script, close_script};
+ghost use Rattle.e_trim.specs.Looked.{both, needed, of_line};
+ghost use Rattle.e_trim.specs.Trimmed;
+ghost use Rattle.e_trim.specs.Trimmed.{joins_at, makes_at, line_at};
+ghost use Rattle.e_trim.specs.declared.standing.Standing as standings;
+ghost use Rattle.e_trim.specs.inner.Standing.{StepFits, IsApplied, CloseFits, goal_said, passed};
+
+use crate::instances::negated_others;
+use crate::looked::{look_against, look_cert, look_certs};
+use crate::standing::{Goal, Standing};
+use crate::wanted::{Wanted, line, point};
+use e_clause::{By, Cert};
+use e_construct::{Construction, Superpose};
+use e_deriv::{Close, Step, copy_lits};
+use e_literal::{Items, Lit, Map, Obj, Scope, Sort, copy, next_objects};
+use e_theorem::{Applied, Statement, UseFault, all_renamed, use_of};
+use std::alloc::{AllocError, Global};
+use std::mem;
+
+/// The sorts of the objects that the step makes and that live on.
+#[tactic(auto, using(crate::proofs::StepParts::by_step))]
+pub fn makes<'a>(before: &'a [Statement], step: &'a Step) -> &'a [Sort]
+    ensures { (rest : Script) → result.now ≡ makes_at (all_stated before.now) (step_script step.now rest) }
+{
+    match step {
+        Step::Make { form, .. } => form.made(),
+        Step::Apply { theorem, .. } => match before.get(*theorem as usize) {
+            Some(statement) => statement.made.items(),
+            None => &[],
+        },
+        Step::Cite(_) | Step::Hence { .. } | Step::Claim { .. } | Step::Superposed { .. } => &[],
+    }
+}
+
+/// The literal alone.
+fn one(alloc: Global, lit: &Lit) -> Result<Items<Lit>, AllocError>
+    ensures { IfOk result (λ ls. ls ≡ lit.now ∷ []) }
+{
+    let lit = copy(alloc, lit)?;
+    Ok(Items::new(vec![in alloc; lit]?))
+}
+
+/// The arguments that are written.
+pub fn written_of(alloc: Global, args: &[Option<Obj>]) -> Result<Vec<Obj>, AllocError>
+    ensures { IfOk result (λ v. v.items ≡ written args.now) }
+{
+    let mut objects = Vec::new(alloc);
+    for arg in args {
+        if let Some(object) = arg {
+            objects.push(*object)?;
+        }
+    }
+    Ok(objects)
+}
+
+/// The use of an earlier theorem at the arguments that are written, which fit.
+fn use_at(
+    alloc: Global,
+    before: &[Statement],
+    theorem: u32,
+    args: &[Option<Obj>],
+    scope: Scope,
+) -> Result<Applied, AllocError>
+    requires small { IsTrue (is_small scope) }
+    requires statements { IsTrue (list_all is_small_statement (all_stated before.now)) }
+    requires fits { IsApplied (all_stated before.now) theorem args.now scope }
+    ensures needs { IfOk result (λ a. a.needs ≡ needs_of_use (theorem_at (all_stated before.now) theorem) (written args.now) scope) }
+    ensures gives { IfOk result (λ a. a.gives ≡ gives_of_use (theorem_at (all_stated before.now) theorem) (written args.now) scope) }
+{
+    let Some(statement) = before.get(theorem as usize) else {
+        unreachable!();
+    };
+    let objects = written_of(alloc, args)?;
+    match use_of(alloc, statement, &objects, scope) {
+        Ok(applied) => Ok(applied),
+        Err(UseFault::BadArgs) => unreachable!(),
+        Err(UseFault::NoMemory) => Err(AllocError),
+    }
+}
+
+/// The literals that the step makes facts.
+#[tactic(auto, using(crate::proofs::StepParts::by_step))]
+pub fn joins(
+    alloc: Global,
+    before: &[Statement],
+    step: &Step,
+    scope: Scope,
+) -> Result<Items<Lit>, AllocError>
+    requires small { IsTrue (is_small scope) }
+    requires statements { IsTrue (list_all is_small_statement (all_stated before.now)) }
+    requires fits { StepFits (all_stated before.now) step.now scope }
+    ensures { IfOk result (λ ls. (rest : Script) → ls ≡ joins_at (all_stated before.now) (step_script step.now rest) scope) }
+{
+    match step {
+        Step::Cite(by) => one(alloc, &by.lit),
+        Step::Hence { lit, .. } => one(alloc, lit),
+        Step::Make { form, .. } => Ok(Items::new(form.gives(alloc, scope)?)),
+        Step::Apply { theorem, args, .. } => {
+            let Applied { needs, gives } = use_at(alloc, before, *theorem, args.items(), scope)?;
+            mem::drop(needs);
+            Ok(gives)
+        }
+        Step::Claim { shown, .. } | Step::Superposed { shown, .. } => {
+            copy_lits(alloc, shown.items())
+        }
+    }
+}
+
+/// Behind the step: its objects are in scope, and what it gives are facts.
+pub fn pass(
+    alloc: Global,
+    before: &[Statement],
+    step: &Step,
+    standing: &mut Standing,
+) -> Result<(), AllocError>
+    requires small { IsTrue (is_small standing.old.scope) }
+    requires statements { IsTrue (list_all is_small_statement (all_stated before.now)) }
+    requires fits { StepFits (all_stated before.now) step.now standing.old.scope }
+    ensures { OnOk result ((rest : Script) → standing.new ≡ passed (all_stated before.now) (step_script step.now rest) standing.old) }
+{
+    let lits = joins(alloc, before, step, standing.scope)?;
+    let opened = standing.open(alloc, makes(before, step), lits.items());
+    mem::drop(lits);
+    opened
+}
+
+/// Whether one of the literals is no fact, and is looked up.
+fn supplies(standing: &Standing, wanted: &Wanted, lits: &[Lit]) -> bool
+    ensures { result ≡ list_any (Trimmed.supplies standing.now.facts wanted.now) lits.now }
+{
+    lits.iter()
+        .any(|lit| !standing.facts.has(lit) && wanted.has(lit))
+}
+
+/// Whether one of the objects is needed.
+fn are_needed(wanted: &Wanted, objects: &[Obj]) -> bool
+    ensures { result ≡ list_any (Trimmed.is_needed wanted.now) objects.now }
+{
+    objects.iter().any(|object| wanted.needs(*object))
+}
+
+/// Whether the step is kept, where this is wanted behind it.
+pub fn is_kept(
+    alloc: Global,
+    before: &[Statement],
+    step: &Step,
+    standing: &Standing,
+    wanted: &Wanted,
+) -> Result<bool, AllocError>
+    requires small { IsTrue (is_small standing.now.scope) }
+    requires statements { IsTrue (list_all is_small_statement (all_stated before.now)) }
+    requires fits { StepFits (all_stated before.now) step.now standing.now.scope }
+    ensures { IfOk result (λ b. (rest : Script) → b ≡ Trimmed.is_kept (all_stated before.now) (step_script step.now rest) standing.now.scope standing.now.facts wanted.now) }
+{
+    let objects = next_objects(alloc, standing.scope, makes(before, step))?;
+    if are_needed(wanted, &objects) {
+        return Ok(true);
+    }
+    let lits = joins(alloc, before, step, standing.scope)?;
+    let supplied = supplies(standing, wanted, lits.items());
+    mem::drop(lits);
+    Ok(supplied)
+}
+
+// ---- what a step wants
+
+fn look_cite(alloc: Global, by: &By, out: &mut Wanted) -> Result<(), AllocError>
+    ensures { OnOk result ((before : List Stated) (rest : Script) (x : standings.Standing) (goal : BlockGoal) → out.new ≡ both out.old (of_line before (line_at (scripts.Cite by.now rest) x.scope x.facts goal))) }
+{
+    out.need(by.args.items())?;
+    out.need_objects_of(&by.lit)?;
+    out.look_up_all(negated_others(alloc, by.rule, by.args.items(), &by.lit)?)
+}
+
+fn look_hence(
+    alloc: Global,
+    lit: &Lit,
+    cert: &Option<Cert>,
+    standing: &Standing,
+    out: &mut Wanted,
+) -> Result<(), AllocError>
+    ensures { OnOk result ((before : List Stated) (rest : Script) (goal : BlockGoal) → out.new ≡ both out.old (of_line before (line_at (scripts.Hence lit.now cert.now rest) standing.now.scope standing.now.facts goal))) }
+{
+    out.need_objects_of(lit)?;
+    match cert {
+        Some(cert) => look_cert(alloc, &standing.facts, lit, cert, out),
+        None => Ok(()),
+    }
+}
+
+fn look_make(
+    alloc: Global,
+    form: &Construction,
+    certs: &[Cert],
+    standing: &Standing,
+    out: &mut Wanted,
+) -> Result<(), AllocError>
+    ensures { OnOk result ((before : List Stated) (names : List (List ℕ)) (rest : Script) (goal : BlockGoal) → out.new ≡ both out.old (of_line before (line_at (scripts.Make form.now names certs.now rest) standing.now.scope standing.now.facts goal))) }
+{
+    out.need(form.args.items())?;
+    out.need(form.avoid.items())?;
+    let needs = form.needs(alloc)?;
+    look_certs(alloc, &standing.facts, &needs, certs, out)
+}
+
+fn look_apply(
+    alloc: Global,
+    before: &[Statement],
+    theorem: u32,
+    args: &[Option<Obj>],
+    certs: &[Cert],
+    standing: &Standing,
+    out: &mut Wanted,
+) -> Result<(), AllocError>
+    requires small { IsTrue (is_small standing.now.scope) }
+    requires statements { IsTrue (list_all is_small_statement (all_stated before.now)) }
+    requires fits { IsApplied (all_stated before.now) theorem args.now standing.now.scope }
+    ensures { OnOk result ((names : List (List ℕ)) (rest : Script) (goal : BlockGoal) → out.new ≡ both out.old (of_line (all_stated before.now) (line_at (scripts.Apply theorem args.now names certs.now rest) standing.now.scope standing.now.facts goal))) }
+{
+    let objects = written_of(alloc, args)?;
+    out.need(&objects)?;
+    let Applied { needs, gives } = use_at(alloc, before, theorem, args, standing.scope)?;
+    mem::drop(gives);
+    let looked = look_certs(alloc, &standing.facts, needs.items(), certs, out);
+    mem::drop(needs);
+    looked
+}
+
+fn look_superpose(
+    alloc: Global,
+    form: &Superpose,
+    shown: &[Lit],
+    certs: &[Cert],
+    standing: &Standing,
+    out: &mut Wanted,
+) -> Result<(), AllocError>
+    ensures { OnOk result ((before : List Stated) (names : List (List ℕ)) (inner rest : Script) (goal : BlockGoal) → out.new ≡ both out.old (of_line before (line_at (scripts.Superposed form.now names shown.now certs.now inner rest) standing.now.scope standing.now.facts goal))) }
+{
+    need_superposed(form, out)?;
+    out.need_objects_of_all(shown)?;
+    let needs = form.needs(alloc)?;
+    look_certs(alloc, &standing.facts, &needs, certs, out)
+}
+
+/// The points and the lines of the superposition are needed.
+fn need_superposed(form: &Superpose, out: &mut Wanted) -> Result<(), AllocError>
+    ensures { OnOk result (out.new ≡ both out.old (needed (Superposing.objects_of form.now))) }
+{
+    let [a, b, c, d, g, h] = form.points;
+    let [k, l] = form.lines;
+    out.need(&[
+        point(a),
+        point(b),
+        point(c),
+        point(d),
+        point(g),
+        point(h),
+        line(k),
+        line(l),
+    ])
+}
+
+/// What the line of a step wants, the block inside of it left aside.
+pub fn look_step(
+    alloc: Global,
+    before: &[Statement],
+    step: &Step,
+    standing: &Standing,
+    out: &mut Wanted,
+) -> Result<(), AllocError>
+    requires small { IsTrue (is_small standing.now.scope) }
+    requires statements { IsTrue (list_all is_small_statement (all_stated before.now)) }
+    requires fits { StepFits (all_stated before.now) step.now standing.now.scope }
+    ensures { OnOk result ((rest : Script) (goal : BlockGoal) → out.new ≡ both out.old (of_line (all_stated before.now) (line_at (step_script step.now rest) standing.now.scope standing.now.facts goal))) }
+{
+    match step {
+        Step::Cite(by) => look_cite(alloc, by, out),
+        Step::Hence { lit, cert } => look_hence(alloc, lit, cert, standing, out),
+        Step::Make { form, certs, .. } => look_make(alloc, form, certs.items(), standing, out),
+        Step::Apply {
+            theorem,
+            args,
+            certs,
+            ..
+        } => {
+            let args = args.items();
+            look_apply(alloc, before, *theorem, args, certs.items(), standing, out)
+        }
+        Step::Claim { shown, .. } => out.need_objects_of_all(shown.items()),
+        Step::Superposed {
+            form,
+            shown,
+            certs,
+            ..
+        } => look_superpose(alloc, form, shown.items(), certs.items(), standing, out),
+    }
+}
+
+// ---- what a close wants
+
+/// The literals of the goal with these objects for its made ones.
+fn goal_with(alloc: Global, goal: &Goal, objects: &[Obj]) -> Result<Vec<Lit>, AllocError>
+    requires one_sort { map (λ o. o.sort) goal.now.made.now ≡ map (λ o. o.sort) objects.now }
+    ensures { IfOk result (λ lits. lits.items ≡ goals.goal_with (goal_said goal.now) objects.now) }
+{
+    let images = Map::paired(alloc, goal.made, objects)?;
+    all_renamed(alloc, goal.shown, &images)
+}
+
+fn look_qed(
+    alloc: Global,
+    objects: &[Obj],
+    certs: &[Cert],
+    goal: &Goal,
+    standing: &Standing,
+    out: &mut Wanted,
+) -> Result<(), AllocError>
+    requires one_sort { map (λ o. o.sort) goal.now.made.now ≡ map (λ o. o.sort) objects.now }
+    ensures { OnOk result ((before : List Stated) → out.new ≡ both out.old (of_line before (line_at (scripts.Qed objects.now certs.now) standing.now.scope standing.now.facts (goal_said goal.now)))) }
+{
+    out.need(objects)?;
+    let lits = goal_with(alloc, goal, objects)?;
+    look_certs(alloc, &standing.facts, &lits, certs, out)
+}
+
+/// What the line of a close wants, the blocks inside of it left aside.
+pub fn look_close(
+    alloc: Global,
+    close: &Close,
+    goal: &Goal,
+    standing: &Standing,
+    out: &mut Wanted,
+) -> Result<(), AllocError>
+    requires fits { CloseFits close.now standing.now.scope (goal_said goal.now) }
+    ensures { OnOk result ((before : List Stated) → out.new ≡ both out.old (of_line before (line_at (close_script close.now) standing.now.scope standing.now.facts (goal_said goal.now)))) }
+{
+    match close {
+        Close::Qed { objects, certs } => {
+            let objects = objects.items();
+            look_qed(alloc, objects, certs.items(), goal, standing, out)
+        }
+        Close::Contradiction { against } => match against {
+            Some(against) => look_against(alloc, &standing.facts, against, out),
+            None => Ok(()),
+        },
+        Close::Cases { lit, .. } => out.need_objects_of(lit),
+    }
+}
