@@ -1,8 +1,8 @@
 """Makes each read, each write and each allocation of a run fail in turn, and looks at what the program answers.
 
 Words: the program. The books are one of one theorem, one of two, of which the second applies the first with a blank, and Euclid's first
-and fourth propositions, and the first stated by a definition; each is checked, and what is written of it is verified and upgraded, and
-so is the first proposition by other certificates; of the two theorems it is asked what may be applied. After a failed read the answer
+and fourth propositions, and the first stated by a definition; each is checked, and what is written of it is verified, upgraded,
+trimmed and listed, and so is the first proposition by other certificates; of the two theorems it is asked what may be applied. After a failed read the answer
 must be a read fault, with exit status 4, or the usual one where the library asks again; `check` writes before it the blocks of the
 theorems that were read by then. After a failed write it must be a front of the usual bytes, with 5; after a
 refused allocation the usual answer, or what was written and `no memory`, with 6. It needs a C compiler.
@@ -66,7 +66,8 @@ end
 accepted 1
 """
 KINDS = ("alloc", "read", "write")
-HEADS = {"check": b"derivation 1\n", "upgrade": b"derivation 2\n"}
+HEADS = {"check": b"derivation 1\n", "upgrade": b"derivation 2\n", "trim": b"derivation 1\n", "uses": b""}
+OF_TEXTS = ("verify", "upgrade", "trim", "uses")
 
 
 def run(words, text, room, kind=None, call=None):
@@ -80,9 +81,10 @@ def run(words, text, room, kind=None, call=None):
 
 
 def is_front_of_blocks(command, out, usual, last):
-    """Whether these are the head line and whole blocks of the usual bytes, and then this line."""
+    """Whether these are the head line and whole blocks of the usual bytes, or whole lines of `uses`, and then this line."""
     front = out[: -len(last)]
-    return out.endswith(last) and usual.startswith(front) and (front == HEADS[command] or front.endswith(b"\nend\n"))
+    whole = b"\n" if command == "uses" else b"\nend\n"
+    return out.endswith(last) and usual.startswith(front) and (front == HEADS[command] or front.endswith(whole))
 
 
 def is_right(kind, command, ran, usual):
@@ -130,10 +132,10 @@ def main(program):
         wrong = 0
         for name, book in books:
             text, wrong_checks = tried(program, "check", name, book, room)
-            wrong += wrong_checks + sum(tried(program, command, name, text, room)[1] for command in ("verify", "upgrade"))
+            wrong += wrong_checks + sum(tried(program, command, name, text, room)[1] for command in OF_TEXTS)
             if name.startswith("two"):
                 wrong += tried(program, "suggest T2 1", name, book, room)[1]
-        for command in ("verify", "upgrade"):
+        for command in OF_TEXTS:
             wrong += tried(program, command, "I.1 by other certificates", TEXT.encode(), room)[1]
     print("wrong answers:", wrong)
     sys.exit(1 if wrong else 0)
