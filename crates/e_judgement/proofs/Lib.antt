@@ -1,5 +1,5 @@
 pub mod Passing
 pub mod OneJudgement
 mod EachText
-mod WithCertificates
+pub mod WithCertificates
 pub mod Verifiable

@@ -132,14 +132,15 @@ module _ (v : Version) where
   one_judged : (last : ℕ) (lines : Rest) (a b : Judgement) → IsJudged v last lines a → IsJudged v last lines b → a ≡ b
   one_judged last lines a b p q = one_way last [] lines p.theorems q.theorems p.known q.known p.rest q.rest a b p.passes q.passes p.closes q.closes
 
-by_version : (o : Option Version) (lines : Rest) (a b : Judgement) → JudgedBehindHead o lines a → JudgedBehindHead o lines b → a ≡ b
-by_version None lines a b h k = h ∙ sym k
-by_version (Some v) lines a b h k = one_judged v (2 + length lines) lines a b h k
+-- and so are those behind a head line
+pub one_behind_head : (o : Option Version) (lines : Rest) (a b : Judgement) → JudgedBehindHead o lines a → JudgedBehindHead o lines b → a ≡ b
+one_behind_head None lines a b h k = h ∙ sym k
+one_behind_head (Some v) lines a b h k = one_judged v (2 + length lines) lines a b h k
 
 by_lines : (lines : Rest) (a b : Judgement) → JudgesLines lines a → JudgesLines lines b → a ≡ b
 by_lines [] a b h k = h ∙ sym k
 by_lines (Err f ∷ lines) a b h k = h ∙ sym k
-by_lines (Ok l ∷ lines) a b h k = by_version (version_of l) lines a b h k
+by_lines (Ok l ∷ lines) a b h k = one_behind_head (version_of l) lines a b h k
 
 pub one_judgement : (text : List ℕ) (a b : Judgement) → JudgesText text a → JudgesText text b → a ≡ b
 one_judgement text a b h k = by_lines (lines_of_text text) a b h k

@@ -1,21 +1,16 @@
 //! A derivation text, theorem by theorem.
-ghost use Rattle.std.specs.Prelude.{◌≡◌, ◌≤◌, ◌^◌, ◌++◌, ◌∷◌, [], false, length, IfOk, IfErr, OnOk};
+ghost use Rattle.std.specs.Prelude.{◌≡◌, ◌≤◌, ◌^◌, ◌++◌, ◌∷◌, [], false, length, IfOk, OnOk};
 ghost use Rattle.e_text.specs.Lines.{seen};
-ghost use Rattle.e_theorem.specs.Statements.{stated};
-ghost use Rattle.e_deriv.specs.Script.{script_of};
-ghost use Rattle.e_deriv.specs.Certified.{Certified, verdict};
 ghost use Rattle.e_book.specs.Grammar.{last_line};
-ghost use Rattle.e_book.specs.Headed.{headed, is_known, stated_by};
-ghost use Rattle.e_verify.specs.Checking.{RejectIs};
-ghost use Rattle.e_verify.specs.Verdicts.{IsVerifiable};
-ghost use Rattle.e_judgement.specs.Judged.{head_of, is_head, version_of, JudgesText, JudgedBehind, IsJudged};
+ghost use Rattle.e_book.specs.Headed.{headed, is_known};
+ghost use Rattle.e_judgement.specs.Judged.{head_of, is_head, version_of, JudgesText, IsJudged};
+ghost use Rattle.e_judgement.specs.Steps.{Begins};
 
 use crate::judgement::Judgement;
+use crate::next::{NextItem, next_item};
 use e_book::{Theorem, Theorems};
 use e_clause::Version;
-use e_read::{Piece, TextFault, read};
-use e_text::{Line, LineEnd, Lines, faulty_line};
-use e_verify::{Reject, verify};
+use e_text::{Line, LineEnd, Lines};
 use std::alloc::{AllocError, Global};
 use std::mem;
 
@@ -40,7 +35,7 @@ fn is_head(version: Version, line: &Line) -> bool
 }
 
 /// The version that the first line of a derivation text says, if it is one.
-pub fn version_of(line: &Line) -> Option<Version>
+fn version_of(line: &Line) -> Option<Version>
     ensures { result ≡ version_of (seen line.now) }
 {
     if is_head(Version::One, line) {
@@ -50,33 +45,6 @@ pub fn version_of(line: &Line) -> Option<Version>
         return Some(Version::Two);
     }
     None
-}
-
-/// Behind the last line of a text nothing stands.
-pub fn behind_the_last(lines: &mut Lines, theorems: u32) -> Judgement
-    ensures { result ≡ JudgedBehind theorems lines.old.lines }
-{
-    match lines.next() {
-        None => Judgement::Verified { theorems },
-        Some(Ok(line)) => Judgement::Garbled { line: line.number },
-        Some(Err(fault)) => Judgement::Garbled {
-            line: faulty_line(fault),
-        },
-    }
-}
-
-/// Checks a theorem that is read by those that are known.
-pub fn check(alloc: Global, known: &Theorems, theorem: &Theorem) -> Result<(), Reject>
-    requires { IsVerifiable (stated_by known.now) (stated theorem.now.statement) (script_of theorem.now.block) }
-    ensures certified { OnOk result (Certified (stated_by known.now) (stated theorem.now.statement) (script_of theorem.now.block)) }
-    ensures bad { IfErr result (RejectIs (verdict (stated_by known.now) (stated theorem.now.statement) (script_of theorem.now.block))) }
-{
-    verify(
-        alloc,
-        known.statements(),
-        &theorem.statement,
-        &theorem.block,
-    )
 }
 
 /// Keeps the title and the statement of a theorem.
@@ -95,6 +63,18 @@ pub fn keep(known: &mut Theorems, theorem: Theorem) -> Result<(), AllocError>
     known.add(title, statement)
 }
 
+/// The version of the text, by its head line, which is taken.
+pub fn begins(lines: &mut Lines) -> Option<Version>
+    requires { lines.old.line ≡ 1 }
+    ensures { Begins lines.old.lines lines.new result }
+{
+    match lines.next() {
+        Some(Ok(line)) => version_of(&line),
+        Some(Err(_)) => None,
+        None => None,
+    }
+}
+
 /// Judges the theorems one after another, and keeps each that is certified.
 fn judge_theorems(
     alloc: Global,
@@ -106,24 +86,11 @@ fn judge_theorems(
     ensures { IfOk result (λ j. IsJudged version (last_line lines.old) lines.old.lines j) }
 {
     loop {
-        let theorem = match read(alloc, lines, known, version) {
-            Ok(Piece::Theorem(theorem)) => theorem,
-            Ok(Piece::Last { theorems }) => return Ok(behind_the_last(lines, theorems)),
-            Err(TextFault::Garbled { line }) => return Ok(Judgement::Garbled { line }),
-            Err(TextFault::NoMemory) => return Err(AllocError),
+        let theorem = match next_item(alloc, version, known, lines) {
+            Ok(NextItem::Theorem(theorem)) => theorem,
+            Ok(NextItem::End(judgement)) => return Ok(judgement),
+            Err(_) => return Err(AllocError),
         };
-        match check(alloc, known, &theorem) {
-            Ok(()) => {}
-            Err(Reject::Bad { step }) => {
-                let title = theorem.title;
-                mem::drop(theorem);
-                return Ok(Judgement::Bad { title, step });
-            }
-            Err(Reject::NoMemory) => {
-                mem::drop(theorem);
-                return Err(AllocError);
-            }
-        }
         keep(known, theorem)?;
     }
 }
@@ -139,12 +106,7 @@ pub fn judge(alloc: Global, text: &[u8]) -> Result<Judgement, AllocError>
     ensures { IfOk result (λ j. JudgesText text.now j) }
 {
     let mut lines = Lines::new(text, LONGEST_LINE, text.len() as u64);
-    let first = match lines.next() {
-        Some(Ok(line)) => line,
-        Some(Err(_)) => return Ok(Judgement::Garbled { line: 1 }),
-        None => return Ok(Judgement::Garbled { line: 1 }),
-    };
-    let Some(version) = version_of(&first) else {
+    let Some(version) = begins(&mut lines) else {
         return Ok(Judgement::Garbled { line: 1 });
     };
     let mut known = Theorems::new(alloc);

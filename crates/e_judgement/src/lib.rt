@@ -5,7 +5,9 @@
 mod judgement;
 mod judging;
 mod laws;
+mod next;
 
 pub use judgement::Judgement;
-pub use judging::{LONGEST_LINE, behind_the_last, check, judge, keep, version_of};
+pub use judging::{LONGEST_LINE, begins, judge, keep};
 pub use laws::{each_text_is_judged, texts_have_one_judgement};
+pub use next::{NextItem, next_item};

@@ -49,3 +49,6 @@ mod Assembly
 pub mod WrittenIsVerified
 mod LastLine
 pub mod VerifiedTexts
+mod TrimmedLimits
+mod TrimmedNames
+pub mod TrimmedSpelling

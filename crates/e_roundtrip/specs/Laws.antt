@@ -1,17 +1,22 @@
 -- What holds between reading, spelling and judging, whatever the code does.
 use Rattle.std.specs.Prelude.{◌≡◌, ℕ, IsTrue, List, [], ◌++◌, length, Result, Ok}
+use Rattle.std.specs.List.{list_all}
 use Rattle.e_text.specs.Lines.{Seen, text_of_lines}
 use Rattle.e_text.specs.declared.line.LineFault.{LineFault}
 use Rattle.e_literal.specs.Use.{Stated}
 use Rattle.e_clause.specs.declared.cert.Version.{Version}
+use Rattle.e_clause.specs.declared.cert.Version.TheVariants.{One}
 use Rattle.e_theorem.specs.Statements.{stated}
 use Rattle.e_deriv.specs.Script.{Script, erased}
 use Rattle.e_deriv.specs.Parts.{filled_by}
 use Rattle.e_deriv.specs.Certified.{Certified}
+use Rattle.e_deriv.specs.Fitting.{is_small_statement}
+use Rattle.e_deriv.specs.Versions.{has_certs_of}
 use Rattle.e_deriv.specs.Written.{is_written_well}
 use Rattle.e_book.specs.Headed.{Headed, stated_by}
 use Rattle.e_book.specs.Entry.{Entry}
 use Rattle.e_book.specs.HasSpelling.{HasSpelling}
+use Rattle.e_trim.specs.Trimmed.{trimmed}
 use Rattle.e_read.specs.Text.{Derived, at_start, piece_from}
 use Rattle.e_spell.specs.Spelling.{spelled_lines, spelled}
 use Rattle.e_judgement.specs.declared.judgement.Judgement.TheVariants.{Verified}
@@ -55,6 +60,12 @@ abbrev pub FilledHasSpelling : Type 0
 FilledHasSpelling =
     (known : List Headed) (t : Entry) (d : Script) → HasSpelling known t → erased d ≡ filled_by (erased t.script) d
     → Certified (stated_by known) (stated t.statement) d → HasSpelling known (record t { script = erased d })
+
+-- and so it still can when the idle steps of a certified derivation of the first version are left out
+abbrev pub TrimmedHasSpelling : Type 0
+TrimmedHasSpelling =
+    (known : List Headed) (t : Entry) → IsTrue (list_all is_small_statement (stated_by known)) → HasSpelling known (record t { script = erased t.script }) → IsTrue (has_certs_of One t.script)
+    → Certified (stated_by known) (stated t.statement) t.script → HasSpelling known (record t { script = erased (trimmed (stated_by known) (stated t.statement) t.script) })
 
 -- ---- what is written is judged
 

@@ -1,5 +1,5 @@
 //! What holds between reading, spelling and judging: each law is the contract of a function.
-ghost use Rattle.e_roundtrip.specs.Laws.{ReadIsSpelled, ReadTextIsSpelled, ReadCanBeSpelled, SpelledIsRead, CertifiedIsFormed, FilledHasSpelling, WrittenIsJudged, WrittenIsVerified, VerifiedIsWritten};
+ghost use Rattle.e_roundtrip.specs.Laws.{ReadIsSpelled, ReadTextIsSpelled, ReadCanBeSpelled, SpelledIsRead, CertifiedIsFormed, FilledHasSpelling, TrimmedHasSpelling, WrittenIsJudged, WrittenIsVerified, VerifiedIsWritten};
 
 /// The lines that are read as a theorem with its derivation are exactly the lines of its one spelling.
 pub fn what_is_read_is_spelled_so()
@@ -30,6 +30,11 @@ pub fn certified_is_formed()
 /// A theorem that can be spelled still can when a certified derivation fills its blanks.
 pub fn filled_has_spelling()
     ensures { FilledHasSpelling }
+{}
+
+/// A theorem that can be spelled still can when the idle steps of its certified derivation of the first version are left out.
+pub fn trimmed_has_spelling()
+    ensures { TrimmedHasSpelling }
 {}
 
 /// What is written of derivations that can be spelled is a derivation text that is judged as their verdicts say.

@@ -5,6 +5,6 @@ mod laws;
 
 pub use laws::{
     certified_is_formed, filled_has_spelling, one_text_for_one_tree, spelled_is_read,
-    verified_is_written, what_is_read_can_be_spelled, what_is_read_is_spelled_so,
-    written_is_judged, written_is_verified,
+    trimmed_has_spelling, verified_is_written, what_is_read_can_be_spelled,
+    what_is_read_is_spelled_so, written_is_judged, written_is_verified,
 };

@@ -11,7 +11,11 @@ mod GeneratedTitles
 mod TakenBytes
 mod ReadPieces
 mod VerifierAnswers
+pub mod UsedTitles
+mod VerifiedAgain
 mod UpgradedTexts
+mod TrimmedTexts
+mod RewrittenTexts
 mod MadeBooks
 mod Trials
 mod DrawerAnswers

@@ -171,10 +171,6 @@ abbrev pub IsVerified : Status → Type 0
 IsVerified (status.Verified n) = Unit {0}
 IsVerified _ = ⊥
 
-abbrev pub IsUpgraded : Status → Type 0
-IsUpgraded (status.Upgraded n) = Unit {0}
-IsUpgraded _ = ⊥
-
 -- the status with which the program exits
 abbrev pub exit_of : Status → ℕ
 exit_of (status.Accepted n) = 0
@@ -184,6 +180,8 @@ exit_of (status.Tried n s) = 0
 exit_of (status.Upgraded n) = 0
 exit_of (status.Drawn n) = 0
 exit_of (status.Suggested n more) = 0
+exit_of (status.Trimmed n) = 0
+exit_of (status.Listed n) = 0
 exit_of (status.Bad title step) = 1
 exit_of (status.Garbled line) = 2
 exit_of status.TextLimit = 2

@@ -58,7 +58,7 @@ abbrev pub fault_line : BookFault → List ℕ
 fault_line f = codes "fault " ++ (decimal (faulty_line f) ++ fault_words f)
 
 abbrev pub usage_line : List ℕ
-usage_line = codes "usage: elements check | verify | make N | trial N | upgrade | figure | suggest TITLE STEP\n"
+usage_line = codes "usage: elements check | verify | make N | trial N | upgrade | figure | trim | uses | suggest TITLE STEP\n"
 
 abbrev pub read_fault_line : List ℕ
 read_fault_line = codes "read fault\n"
@@ -82,6 +82,10 @@ bad_line title step = codes "bad " ++ (title ++ (codes " " ++ (decimal step ++ c
 
 abbrev pub garbled_line : ℕ → List ℕ
 garbled_line line = codes "garbled " ++ (decimal line ++ codes "\n")
+
+-- behind the lines of what each of n theorems applies
+abbrev pub listed_line : ℕ → List ℕ
+listed_line n = codes "listed " ++ (decimal n ++ codes "\n")
 
 abbrev pub text_limit_line : List ℕ
 text_limit_line = codes "text limit\n"

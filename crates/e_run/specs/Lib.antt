@@ -7,7 +7,7 @@ pub mod Answers
 pub mod Proofs
 pub mod Taken
 pub mod VerifierAnswers
-pub mod Upgrades
+pub mod Rewrites
 pub mod DrawerAnswers
 pub mod MadeBooks
 pub mod Trials

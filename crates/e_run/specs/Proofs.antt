@@ -11,10 +11,11 @@ abbrev pub WroteProofs : Option (List ℕ) → Option (List ℕ) → Status → 
 WroteProofs old new (status.Accepted n) = (out : List ℕ) × SpellsProofs n out × Grew old new out
 WroteProofs old new _ = Unit {0}
 
--- and where a text is upgraded
-abbrev pub WroteUpgrade : Option (List ℕ) → Option (List ℕ) → Status → Type 0
-WroteUpgrade old new (status.Upgraded n) = (out : List ℕ) × SpellsProofs n out × Grew old new out
-WroteUpgrade old new _ = Unit {0}
+-- and where a derivation text is upgraded or trimmed
+abbrev pub RewroteProofs : Option (List ℕ) → Option (List ℕ) → Status → Type 0
+RewroteProofs old new (status.Upgraded n) = (out : List ℕ) × SpellsProofs n out × Grew old new out
+RewroteProofs old new (status.Trimmed n) = (out : List ℕ) × SpellsProofs n out × Grew old new out
+RewroteProofs old new _ = Unit {0}
 
 -- where a derivation text is verified, and its source tells its bytes, they spell proofs
 abbrev pub ReadProofs : Option (List ℕ) → Status → Type 0

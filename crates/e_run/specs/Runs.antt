@@ -3,23 +3,23 @@
 use Rattle.std.specs.Prelude.{ℕ, List, Option}
 use Rattle.e_run.specs.declared.status.Status.{Status}
 use Rattle.e_run.specs.declared.command.Command.{Command}
-use Rattle.e_run.specs.declared.command.Command.TheVariants.{Check, Verify, Figure, Make, Suggest, Trial, Upgrade, Unknown}
-use Rattle.e_run.specs.Answers.{Answers, AnswersUsage, ChecksBook, IsAccepted, IsDrawn, IsReadFault, IsUpgraded, IsVerified}
+use Rattle.e_run.specs.declared.command.Command.TheVariants.{Check, Verify, Figure, Rewrite, Make, Suggest, Trial, Unknown}
+use Rattle.e_run.specs.Answers.{Answers, AnswersUsage, ChecksBook, IsAccepted, IsDrawn, IsReadFault, IsVerified}
 use Rattle.e_run.specs.DrawerAnswers.{AnswersFigure, DrawsText}
 use Rattle.e_run.specs.Input.{IsAtEnd}
 use Rattle.e_run.specs.MadeBooks.{Makes}
-use Rattle.e_run.specs.Proofs.{ReadProofs, WroteProofs, WroteUpgrade}
+use Rattle.e_run.specs.Proofs.{ReadProofs, RewroteProofs, WroteProofs}
+use Rattle.e_run.specs.Rewrites.{AnswersRewrite, IsRewritten, RewritesText}
 use Rattle.e_run.specs.SuggesterAnswers.{AnswersSuggest, SuggestsBook}
 use Rattle.e_run.specs.Taken.{HandledAll, TookFew}
 use Rattle.e_run.specs.Trials.{AnswersTrial, HasCount, Tries}
-use Rattle.e_run.specs.Upgrades.{AnswersUpgrade, UpgradesText}
 use Rattle.e_run.specs.VerifierAnswers.{AnswersText, VerifiesText}
 
--- what was written of an accepted book and of an upgraded text, and a text that is verified, spell proofs
+-- what was written of an accepted book, and of a text that is upgraded or trimmed, and a text that is verified, spell proofs
 abbrev pub HasProofs : Command → Option (List ℕ) → Option (List ℕ) → Option (List ℕ) → Status → Type 0
 HasProofs Check left old new answer = WroteProofs old new answer
 HasProofs Verify left old new answer = ReadProofs left answer
-HasProofs Upgrade left old new answer = WroteUpgrade old new answer
+HasProofs (Rewrite job) left old new answer = RewroteProofs old new answer
 HasProofs _ left old new answer = Unit {0}
 
 -- what the answer means, and what was written
@@ -27,10 +27,10 @@ abbrev pub Runs : Command → Option (List ℕ) → Option (List ℕ) → Option
 Runs Check left old new answer = ChecksBook left old new answer
 Runs Verify left old new answer = VerifiesText left old new answer
 Runs Figure left old new answer = DrawsText left old new answer
+Runs (Rewrite job) left old new answer = RewritesText job left old new answer
 Runs (Make n) left old new answer = Makes n old new answer
 Runs (Trial n) left old new answer = Tries n old new answer × HasCount n answer
 Runs (Suggest title step) left old new answer = SuggestsBook title step left old new answer
-Runs Upgrade left old new answer = UpgradesText left old new answer
 Runs Unknown left old new answer = AnswersUsage old new answer
 
 -- and the other way round: where a book has an outcome, and a text a judgement, that is the answer; and a figure text always has one;
@@ -39,9 +39,9 @@ abbrev pub IsDue : Command → Option (List ℕ) → Status → Type 0
 IsDue Check left answer = Answers left answer
 IsDue Verify left answer = AnswersText left answer
 IsDue Figure left answer = AnswersFigure left answer
+IsDue (Rewrite job) left answer = AnswersRewrite job left answer
 IsDue (Trial n) left answer = AnswersTrial n answer
 IsDue (Suggest title step) left answer = AnswersSuggest title step left answer
-IsDue Upgrade left answer = AnswersUpgrade left answer
 IsDue _ left answer = Unit {0}
 
 -- Of a source of a book at most one byte more is taken than a book may have; after a read fault all that was taken is handled: the blocks of
@@ -51,10 +51,11 @@ pub record TakesBook (left after old new : Option (List ℕ)) (answer : Status) 
   pub handled : IsReadFault answer → HandledAll left after old new
   pub end : IsAccepted answer → IsAtEnd after
 
--- what was taken of the source; a derivation text that is verified or upgraded, and a figure text that is answered, were read to their end
+-- what was taken of the source; a derivation text that is verified, upgraded, trimmed or listed, and a figure text that is answered, were
+-- read to their end
 abbrev pub TakesOf : Command → Option (List ℕ) → Option (List ℕ) → Option (List ℕ) → Option (List ℕ) → Status → Type 0
 TakesOf Check left after old new answer = TakesBook left after old new answer
 TakesOf Verify left after old new answer = IsVerified answer → IsAtEnd after
-TakesOf Upgrade left after old new answer = IsUpgraded answer → IsAtEnd after
 TakesOf Figure left after old new answer = IsDrawn answer → IsAtEnd after
+TakesOf (Rewrite job) left after old new answer = IsRewritten answer → IsAtEnd after
 TakesOf _ left after old new answer = Unit {0}

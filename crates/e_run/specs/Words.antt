@@ -4,7 +4,8 @@ use Rattle.std.specs.Str.{bytes_eq}
 use Rattle.e_text.specs.Names.{title_of}
 use Rattle.e_text.specs.Numerals.{number_of}
 use Rattle.e_run.specs.declared.command.Command.{Command}
-use Rattle.e_run.specs.declared.command.Command.TheVariants.{Check, Verify, Figure, Make, Suggest, Trial, Upgrade, Unknown}
+use Rattle.e_run.specs.declared.command.Command.TheVariants.{Check, Verify, Figure, Rewrite, Make, Suggest, Trial, Unknown}
+use Rattle.e_run.specs.declared.command.Job.TheVariants.{Upgrade, Trim, Uses}
 
 -- how many theorems: a numeral from 1 to 500
 abbrev pub count_of : List ℕ → Option ℕ
@@ -13,7 +14,8 @@ count_of word = option_and_then (λ n. if nat_le 1 n && nat_le n 500 then Some n
 abbrev pub plain_command : List ℕ → Command
 plain_command word =
     if bytes_eq word (codes "check") then Check else if bytes_eq word (codes "verify") then Verify else
-    if bytes_eq word (codes "upgrade") then Upgrade else if bytes_eq word (codes "figure") then Figure else Unknown
+    if bytes_eq word (codes "upgrade") then Rewrite Upgrade else if bytes_eq word (codes "figure") then Figure else
+    if bytes_eq word (codes "trim") then Rewrite Trim else if bytes_eq word (codes "uses") then Rewrite Uses else Unknown
 
 abbrev pub counted_command : List ℕ → Option ℕ → Command
 counted_command word None = Unknown
@@ -27,7 +29,7 @@ abbrev pub placed_command : List ℕ → Option (List ℕ) → Option ℕ → Co
 placed_command word (Some title) (Some step) = if bytes_eq word (codes "suggest") then Suggest title step else Unknown
 placed_command word _ _ = Unknown
 
--- `check`, `verify`, `upgrade` and `figure` are alone, `make` and `trial` come before a number, and `suggest` before a title and the number of a step
+-- `check`, `verify`, `upgrade`, `figure`, `trim` and `uses` are alone, `make` and `trial` come before a number, and `suggest` before a title and the number of a step
 abbrev pub command_of : List (List ℕ) → Command
 command_of (word ∷ []) = plain_command word
 command_of (word ∷ number ∷ []) = counted_command word (count_of number)
@@ -38,9 +40,9 @@ command_of _ = Unknown
 abbrev pub reads : Command → Bool
 reads Check = true
 reads Verify = true
-reads Upgrade = true
 reads Figure = true
 reads (Suggest title step) = true
+reads (Rewrite job) = true
 reads _ = false
 
 -- what holds of its number, where it has one

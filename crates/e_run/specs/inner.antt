@@ -3,4 +3,4 @@ pub mod BookResults
 pub mod Progress
 pub mod Handled
 pub mod Suggesting
-pub mod Upgrading
+pub mod Rewriting

@@ -10,19 +10,31 @@ const MOST_THEOREMS: u128 = 500;
 /// The most steps of a theorem.
 const MOST_STEPS: u128 = 1024;
 
+/// What is written of a derivation text that is verified, theorem by theorem.
+#[derive(Clone, Copy, PartialEq, Eq)]
+pub enum Job {
+    /// The block of the theorem with its derivation in the second version.
+    Upgrade,
+    /// The block of the theorem with its derivation without the steps that nothing needs.
+    Trim,
+    /// The line of the theorem, with the titles of those that it applies.
+    Uses,
+}
+
 /// What a run is asked for.
 #[derive(Clone, Copy, PartialEq, Eq)]
 pub enum Command {
     Check,
     Verify,
     Figure,
+    /// A derivation text is verified, and this is written of it.
+    Rewrite(Job),
     /// That many theorems are generated.
     Make(u32),
     /// That many theorems are generated, checked and verified.
     Trial(u32),
     /// What may be applied at a step of the theorem with this title.
     Suggest(Title, u32),
-    Upgrade,
     Unknown,
 }
 
@@ -48,9 +60,13 @@ fn plain_command(word: &[u8]) -> Command
     } else if word == b"verify".as_slice() {
         Command::Verify
     } else if word == b"upgrade".as_slice() {
-        Command::Upgrade
+        Command::Rewrite(Job::Upgrade)
     } else if word == b"figure".as_slice() {
         Command::Figure
+    } else if word == b"trim".as_slice() {
+        Command::Rewrite(Job::Trim)
+    } else if word == b"uses".as_slice() {
+        Command::Rewrite(Job::Uses)
     } else {
         Command::Unknown
     }

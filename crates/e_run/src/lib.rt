@@ -11,13 +11,14 @@ mod laws;
 mod maker;
 mod output;
 mod pieces;
+mod rewriter;
+mod rewriting;
 mod runner;
 mod status;
 mod store;
 mod suggester;
 mod suggestions;
 mod trial;
-mod upgrader;
 mod verifier;
 
 pub use laws::{books_have_one_outcome, refusal_is_outcome, too_wide_is_wide};

@@ -1,6 +1,6 @@
 //! The last lines of an answer.
 ghost use Rattle.std.specs.Prelude.{◌≡◌, ◌++◌, [], IfOk, OnOk, codes, decimal};
-ghost use Rattle.e_run.specs.LastLines.{accepted_line, tried_line, verified_line, bad_line, garbled_line, suggested_line, fault_line, fault_words, faulty_line, what_word};
+ghost use Rattle.e_run.specs.LastLines.{accepted_line, tried_line, verified_line, bad_line, garbled_line, listed_line, suggested_line, fault_line, fault_words, faulty_line, what_word};
 
 use e_book::{BookFault, What};
 use e_text::Title;
@@ -52,6 +52,13 @@ pub fn verified(alloc: Global, theorems: u32) -> Result<Vec<u8>, AllocError>
     ensures { IfOk result (λ v. v.items ≡ verified_line theorems) }
 {
     line_with(alloc, b"verified ", u64::from(theorems), b"\n")
+}
+
+/// The line behind the lines of the theorems that a derivation text applies.
+pub fn listed(alloc: Global, theorems: u32) -> Result<Vec<u8>, AllocError>
+    ensures { IfOk result (λ v. v.items ≡ listed_line theorems) }
+{
+    line_with(alloc, b"listed ", u64::from(theorems), b"\n")
 }
 
 /// The line of a step that is not certified.

@@ -9,10 +9,10 @@ use crate::checker::{check, close};
 use crate::command::{Command, command_of};
 use crate::drawer::figure;
 use crate::maker::make;
+use crate::rewriter::rewrite;
 use crate::status::Status;
 use crate::suggester::suggest;
 use crate::trial::trial;
-use crate::upgrader::upgrade;
 use crate::verifier::verify;
 use e_io::{Sink, Source};
 use std::alloc::Global;
@@ -29,7 +29,10 @@ use std::alloc::Global;
 /// - `suggest TITLE STEP` reads a book up to the theorem with this title, and writes a line for each choice of arguments at which an
 ///   earlier theorem may be applied before that step. `STEP` is a numeral from 1 to 1,024.
 /// - `upgrade` reads a derivation text from the source, and writes to the sink the line `derivation 2`, the block of each theorem in
-///   that version, and the last line.
+///   that version, as soon as it is verified, and the last line.
+/// - `trim` reads a derivation text of the first version likewise, and writes the line `derivation 1`, the block of each theorem without
+///   the steps that nothing needs, and the last line.
+/// - `uses` reads a derivation text likewise, and writes for each theorem a line with the titles of those that it applies, and the last line.
 /// - With any other words it writes the usage line.
 ///
 /// The answers are those of `Status`, and each has its cause:
@@ -50,8 +53,10 @@ use std::alloc::Global;
 /// - `Suggested`: the lines apply earlier theorems of at most six declared objects before the step, each at a choice of arguments at which
 ///   each given literal is allowed: the first 1,000 of all these choices, and none is missing before the last.
 /// - `NoStep`: the theorem has fewer steps, or the whole book is accepted and no theorem of it has this title.
-/// - `Upgraded`: the derivation text is verified. The bytes written are its theorems with the same derivations, which cite facts by their
-///   places; they spell proofs, and are verified. With `Bad` and `Garbled`, `upgrade` writes the theorems before.
+/// - `Upgraded`, `Trimmed`: the derivation text is verified. The bytes written are its theorems, with the same derivations, which cite facts
+///   by their places, or without the steps that nothing needs; they spell proofs, and are verified. `Listed`: it is verified, and the lines
+///   have the titles of all that is applied. With `Bad` and `Garbled`, these commands write the theorems before, or their lines; for `trim` a
+///   text of the second version is garbled at line 1.
 /// - `TextLimit`: the source has more than 2^60 bytes.
 /// - `ReadFault`, `WriteFault`: the count of faults of the source, or of the sink, rose in this call or is at its last value.
 pub fn run<S: Source, K: Sink>(
@@ -60,7 +65,7 @@ pub fn run<S: Source, K: Sink>(
     source: &mut S,
     sink: &mut K,
 ) -> Status
-    // What was written of an accepted book or an upgraded text spells proofs, and so does a derivation text that is verified.
+    // What was written of an accepted book, and of a text that is upgraded or trimmed, spells proofs, and so does a text that is verified.
     ensures proofs { HasProofs (command_of (map string_bytes words.now)) (S.left source.old) (K.written sink.old) (K.written sink.new) result }
     // What the answer means, and what was written.
     ensures runs { Runs (command_of (map string_bytes words.now)) (S.left source.old) (K.written sink.old) (K.written sink.new) result }
@@ -79,13 +84,13 @@ pub fn run<S: Source, K: Sink>(
         Command::Check => check(alloc, source, sink),
         Command::Verify => verify(alloc, source, sink),
         Command::Figure => figure(alloc, source, sink),
+        Command::Rewrite(job) => rewrite(alloc, job, source, sink),
         Command::Make(theorems) => make(alloc, theorems, sink),
         Command::Trial(theorems) => trial(alloc, theorems, sink),
         Command::Suggest(title, step) => suggest(alloc, title, step, source, sink),
-        Command::Upgrade => upgrade(alloc, source, sink),
         Command::Unknown => close(
             sink,
-            b"usage: elements check | verify | make N | trial N | upgrade | figure | suggest TITLE STEP\n",
+            b"usage: elements check | verify | make N | trial N | upgrade | figure | trim | uses | suggest TITLE STEP\n",
             Status::Usage,
         ),
     }

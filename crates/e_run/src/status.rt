@@ -43,6 +43,14 @@ pub enum Status {
     },
     /// The theorem has fewer steps, or no theorem of the book has this title.
     NoStep,
+    /// The derivation text is verified, and written again without the steps that nothing needs.
+    Trimmed {
+        theorems: u32,
+    },
+    /// The derivation text is verified, and the theorems that each of its theorems applies are written.
+    Listed {
+        theorems: u32,
+    },
     /// The first line that is not licensed, and what it lacks.
     Unlicensed {
         title: Title,
@@ -94,6 +102,8 @@ pub fn exit_code(status: &Status) -> u8
         | Status::Upgraded { .. }
         | Status::Tried { .. }
         | Status::Drawn { .. }
+        | Status::Trimmed { .. }
+        | Status::Listed { .. }
         | Status::Suggested { .. } => 0,
         Status::Unlicensed { .. } | Status::Bad { .. } => 1,
         Status::Fault(_) | Status::Garbled { .. } | Status::TextLimit => 2,

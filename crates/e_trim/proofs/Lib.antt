@@ -19,8 +19,8 @@ mod LinesStay
 mod TrimmedScripts
 mod QedStays
 mod ApplyStays
-mod WholeScripts
-mod Shorter
+pub mod WholeScripts
+pub mod Shorter
 pub mod Both
 pub mod TermsWritten
 pub mod Places

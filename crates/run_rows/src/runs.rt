@@ -60,6 +60,8 @@ fn number_of(status: &Status) -> u64 {
         | Status::Verified { theorems: number }
         | Status::Made { theorems: number }
         | Status::Upgraded { theorems: number }
+        | Status::Trimmed { theorems: number }
+        | Status::Listed { theorems: number }
         | Status::Tried { steps: number, .. }
         | Status::Suggested { lines: number, .. }
         | Status::Unlicensed { step: number, .. }

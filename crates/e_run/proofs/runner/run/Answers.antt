@@ -4,10 +4,10 @@ use Rattle.e_run.specs.Runs.{HasProofs, Runs, IsDue, TakesOf}
 use Rattle.e_run.specs.Words.{OfCount, OfStep}
 use Rattle.e_run.proofs.Completeness.{answers, answers_usage}
 use Rattle.e_run.proofs.Trials.{answers_trial, tried_count}
-use Rattle.e_run.proofs.UpgradedTexts.{answers_upgrade, upgrade_proofs}
 use Rattle.e_run.proofs.VerifierAnswers.{wrote_proofs, read_proofs, answers_text}
 use Rattle.e_run.proofs.DrawerAnswers.{answers_figure}
 use Rattle.e_run.proofs.SuggesterAnswers.{answers_suggest}
+use Rattle.e_run.proofs.RewrittenTexts.{answers_rewrite, rewritten_proofs}
 use Rattle.e_run.proofs.runner.run.Goals as goal
 
 pub returns-in-Check-clause-proofs : goal.returns-in-Check-clause-proofs
@@ -98,6 +98,35 @@ returns-in-Figure-clause-taken g c =
     let new = g.K.Sink.written c.figure.new.sink in
     subst (λ (k : Command). TakesOf k left after old new c.figure.result) (sym c.in-Figure.is ∙ c.command_of.ensures.value) c.figure.ensures.end
 
+pub returns-in-Rewrite-clause-proofs : goal.returns-in-Rewrite-clause-proofs
+returns-in-Rewrite-clause-proofs g c =
+    let left = g.S.Source.left c.args.source.now in
+    let old = g.K.Sink.written c.args.sink.now in
+    let new = g.K.Sink.written c.rewrite.new.sink in
+    subst (λ (k : Command). HasProofs k left old new c.rewrite.result) (sym c.in-Rewrite.is ∙ c.command_of.ensures.value) (rewritten_proofs c.in-Rewrite.job left old new c.rewrite.result c.rewrite.ensures.rewrites)
+
+pub returns-in-Rewrite-clause-runs : goal.returns-in-Rewrite-clause-runs
+returns-in-Rewrite-clause-runs g c =
+    let left = g.S.Source.left c.args.source.now in
+    let old = g.K.Sink.written c.args.sink.now in
+    let new = g.K.Sink.written c.rewrite.new.sink in
+    subst (λ (k : Command). Runs k left old new c.rewrite.result) (sym c.in-Rewrite.is ∙ c.command_of.ensures.value) c.rewrite.ensures.rewrites
+
+pub returns-in-Rewrite-clause-due : goal.returns-in-Rewrite-clause-due
+returns-in-Rewrite-clause-due g c =
+    let left = g.S.Source.left c.args.source.now in
+    let old = g.K.Sink.written c.args.sink.now in
+    let new = g.K.Sink.written c.rewrite.new.sink in
+    subst (λ (k : Command). IsDue k left c.rewrite.result) (sym c.in-Rewrite.is ∙ c.command_of.ensures.value) (answers_rewrite c.in-Rewrite.job left old new c.rewrite.result c.rewrite.ensures.rewrites)
+
+pub returns-in-Rewrite-clause-taken : goal.returns-in-Rewrite-clause-taken
+returns-in-Rewrite-clause-taken g c =
+    let left = g.S.Source.left c.args.source.now in
+    let after = g.S.Source.left c.rewrite.new.source in
+    let old = g.K.Sink.written c.args.sink.now in
+    let new = g.K.Sink.written c.rewrite.new.sink in
+    subst (λ (k : Command). TakesOf k left after old new c.rewrite.result) (sym c.in-Rewrite.is ∙ c.command_of.ensures.value) c.rewrite.ensures.end
+
 pub returns-in-Make-clause-proofs : goal.returns-in-Make-clause-proofs
 returns-in-Make-clause-proofs g c =
     let left = g.S.Source.left c.args.source.now in
@@ -185,35 +214,6 @@ returns-in-Suggest-clause-taken g c =
     let old = g.K.Sink.written c.args.sink.now in
     let new = g.K.Sink.written c.suggest.new.sink in
     subst (λ (k : Command). TakesOf k left after old new c.suggest.result) (sym c.in-Suggest.is ∙ c.command_of.ensures.value) tt
-
-pub returns-in-Upgrade-clause-proofs : goal.returns-in-Upgrade-clause-proofs
-returns-in-Upgrade-clause-proofs g c =
-    let left = g.S.Source.left c.args.source.now in
-    let old = g.K.Sink.written c.args.sink.now in
-    let new = g.K.Sink.written c.upgrade.new.sink in
-    subst (λ (k : Command). HasProofs k left old new c.upgrade.result) (sym c.in-Upgrade.is ∙ c.command_of.ensures.value) (upgrade_proofs left old new c.upgrade.result c.upgrade.ensures.upgrades)
-
-pub returns-in-Upgrade-clause-runs : goal.returns-in-Upgrade-clause-runs
-returns-in-Upgrade-clause-runs g c =
-    let left = g.S.Source.left c.args.source.now in
-    let old = g.K.Sink.written c.args.sink.now in
-    let new = g.K.Sink.written c.upgrade.new.sink in
-    subst (λ (k : Command). Runs k left old new c.upgrade.result) (sym c.in-Upgrade.is ∙ c.command_of.ensures.value) c.upgrade.ensures.upgrades
-
-pub returns-in-Upgrade-clause-due : goal.returns-in-Upgrade-clause-due
-returns-in-Upgrade-clause-due g c =
-    let left = g.S.Source.left c.args.source.now in
-    let old = g.K.Sink.written c.args.sink.now in
-    let new = g.K.Sink.written c.upgrade.new.sink in
-    subst (λ (k : Command). IsDue k left c.upgrade.result) (sym c.in-Upgrade.is ∙ c.command_of.ensures.value) (answers_upgrade left old new c.upgrade.result c.upgrade.ensures.upgrades)
-
-pub returns-in-Upgrade-clause-taken : goal.returns-in-Upgrade-clause-taken
-returns-in-Upgrade-clause-taken g c =
-    let left = g.S.Source.left c.args.source.now in
-    let after = g.S.Source.left c.upgrade.new.source in
-    let old = g.K.Sink.written c.args.sink.now in
-    let new = g.K.Sink.written c.upgrade.new.sink in
-    subst (λ (k : Command). TakesOf k left after old new c.upgrade.result) (sym c.in-Upgrade.is ∙ c.command_of.ensures.value) c.upgrade.ensures.end
 
 pub returns-in-Unknown-clause-proofs : goal.returns-in-Unknown-clause-proofs
 returns-in-Unknown-clause-proofs g c =

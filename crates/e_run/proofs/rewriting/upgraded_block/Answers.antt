@@ -1,5 +1,5 @@
 use Rattle.e_run.proofs.UpgradedTexts.{holds_on_ok}
-use Rattle.e_run.proofs.upgrader.upgraded_block.Goals as goal
+use Rattle.e_run.proofs.rewriting.upgraded_block.Goals as goal
 
 pub numbered-requires-clause-verifiable : goal.numbered-requires-clause-verifiable
 numbered-requires-clause-verifiable c = rw c.statements.ensures c.requires.verifiable

@@ -5,12 +5,12 @@ use Rattle.e_deriv.specs.Fitting.{is_small_statement}
 use Rattle.e_book.specs.Grammar.{last_line}
 use Rattle.e_book.specs.Headed.{stated_by}
 use Rattle.e_book.specs.Limits.{most_theorems}
-use Rattle.e_run.specs.inner.Upgrading.{Progress}
-use Rattle.e_run.proofs.upgrader.upgrade_theorems.Given as goal
+use Rattle.e_run.specs.inner.Rewriting.{Progress}
+use Rattle.e_run.proofs.rewriter.rewrite_theorems.Given as goal
 
 abbrev pub invariant-loop-theorem : goal.invariant-loop-theorem
 invariant-loop-theorem g l = record {
-  progress : Progress l.version (last_line l.initial.lines) l.initial.lines.lines (g.K.Sink.written l.initial.sink) (g.K.Sink.written l.sink) l.known l.lines.lines;
+  progress : Progress l.job l.version (last_line l.initial.lines) l.initial.lines.lines (g.K.Sink.written l.initial.sink) (g.K.Sink.written l.sink) l.known l.lines.lines;
   small : IsTrue (list_all is_small_statement (stated_by l.known));
   few : length l.known ≤ most_theorems;
   last : last_line l.lines ≡ last_line l.initial.lines;

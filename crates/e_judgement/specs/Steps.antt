@@ -1,0 +1,46 @@
+-- A derivation text taken theorem by theorem: what each step of that says of the text's judgement.
+use Rattle.std.specs.Prelude.{◌≡◌, ℕ, ◌<◌, List, [], ◌∷◌, length, Option, Some, None, Ok, Err, IsTrue}
+use Rattle.e_text.specs.Lines.{Seen, Ahead}
+use Rattle.e_clause.specs.declared.cert.Version.{Version}
+use Rattle.e_theorem.specs.Statements.{stated}
+use Rattle.e_deriv.specs.Fitting.{is_small_statement}
+use Rattle.e_deriv.specs.Versions.{has_certs_of}
+use Rattle.e_book.specs.Grammar.{last_line}
+use Rattle.e_book.specs.Headed.{Headed, stated_by}
+use Rattle.e_book.specs.Entry.{Entry, entry_of}
+use Rattle.e_book.specs.HasSpelling.{HasSpelling}
+use Rattle.e_read.specs.Text.{bare}
+use Rattle.e_verify.specs.Verdicts.{IsVerifiable}
+use Rattle.e_judgement.specs.declared.next.NextItem.{NextItem}
+use Rattle.e_judgement.specs.declared.next.NextItem.TheVariants.{Theorem, End}
+use Rattle.e_judgement.specs.Judged.{Rest, ReadsNext, IsCertified, Closes, version_of}
+
+-- the theorem comes next and is certified, by certificates of the version; without them it has a spelling in a book
+pub record IsNext (v : Version) (known : List Headed) (last : ℕ) (lines : Rest) (t : Entry) (after : Rest) : Type 0 where
+  pub read : ReadsNext v last known lines t after
+  pub certified : IsCertified known t
+  pub verifiable : IsVerifiable (stated_by known) (stated t.statement) t.script
+  pub version : IsTrue (has_certs_of v t.script)
+  pub spelled : HasSpelling known (bare t)
+  pub states : IsTrue (is_small_statement (stated t.statement))
+
+-- with this known, this is next
+abbrev pub NextIs : Version → List Headed → ℕ → Rest → Rest → NextItem → Type 0
+NextIs v known last lines after (Theorem t) = IsNext v known last lines (entry_of t) after
+NextIs v known last lines after (End j) = Closes v last known lines j
+
+-- behind a theorem fewer lines are ahead, and they are those of the same text
+abbrev pub GoesOn : NextItem → Ahead → Ahead → Type 0
+GoesOn (Theorem t) before after = (length after.lines < length before.lines) × (last_line after ≡ last_line before)
+GoesOn (End j) before after = Unit {0}
+
+-- the version that the first of the lines says
+abbrev pub version_at : Rest → Option Version
+version_at [] = None
+version_at (Err f ∷ lines) = None
+version_at (Ok l ∷ lines) = version_of l
+
+-- it was found so; where it is one, its line is taken, and line 2 is next
+pub record Begins (lines : Rest) (after : Ahead) (found : Option Version) : Type 0 where
+  pub head : found ≡ version_at lines
+  pub taken : (v : Version) → found ≡ Some v → (l : Seen) × (lines ≡ Ok l ∷ after.lines) × (after.line ≡ 2)

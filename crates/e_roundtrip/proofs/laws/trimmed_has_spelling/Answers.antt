@@ -1,0 +1,5 @@
+use Rattle.e_roundtrip.proofs.TrimmedSpelling.{trimmed_has_spelling}
+use Rattle.e_roundtrip.proofs.laws.trimmed_has_spelling.Goals as goal
+
+pub returns : goal.returns
+returns c = trimmed_has_spelling

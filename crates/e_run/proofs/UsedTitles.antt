@@ -1,0 +1,15 @@
+-- The title of an earlier theorem, by its place.
+use Rattle.std.proofs.Common.{◌≡◌, ℕ, ◌≤◌, List, [], length, Some, arith}
+use Rattle.std.specs.Prelude.{slice_get}
+use Rattle.std.proofs.lemmas.Grind.{common_steps}
+use Rattle.std.proofs.lemmas.List.{get_or_past, length-map}
+use Rattle.std.proofs.lemmas.Option.{get_or_from_slice_get}
+use Rattle.e_book.specs.Headed.{Headed, titles, title_at}
+
+pub title_found : (known : List Headed) (k : ℕ) (title : List ℕ) → slice_get (titles known) k ≡ Some title → title_at known k ≡ title
+title_found known k title e = get_or_from_slice_get (titles known) k title [] e
+
+pub title_past : (known : List Headed) (k : ℕ) → length known ≤ k → title_at known k ≡ []
+title_past known k le = get_or_past (titles known) k [] (omega (arith, length-map known (λ (h : Headed). h.title)))
+
+pub ruleset titles_at = (common_steps, title_found, title_past)
