@@ -12,6 +12,7 @@ What it looks for:
 - A crate that is in one of crates.txt, README.md, docs/architecture.md and crates/ and not in
   another, or that stands on other crates there.
 - docs/claim.txt, where it is not what tools/claim.py makes of the definitions.
+- A fact that a document tells otherwise than the tree has it: tools/facts.py says which.
 - A line of prose with more than 100 columns. Rows of tables in docs/ are exempt, and so are lines
   of code, and links that cannot be broken.
 
@@ -25,6 +26,7 @@ from pathlib import Path
 
 sys.dont_write_bytecode = True
 import claim  # noqa: E402
+import facts  # noqa: E402
 
 TOP = Path(sys.argv[1] if sys.argv[1:] else Path(__file__).resolve().parent.parent).resolve()
 COLUMNS = 100
@@ -229,6 +231,8 @@ def main():
     findings = []
     for check in (check_names, check_links, check_crates, check_claim, check_columns):
         check(findings)
+    for check in facts.CHECKS:
+        findings.extend(check(TOP))
     for page, number, what in sorted(findings, key=lambda finding: (str(finding[0]), finding[1])):
         print(f"{page.relative_to(TOP)}:{number}: {what}")
     print(f"lint: {len(findings)} findings")
