@@ -15,6 +15,8 @@ What it looks for:
 - A fact that a document tells otherwise than the tree has it: tools/facts.py says which.
 - A line of prose with more than 100 columns. Rows of tables in docs/ are exempt, and so are lines
   of code, and links that cannot be broken.
+- A cell of a table with more than one sentence.
+- A link that begins on one line and ends on the next.
 
 It prints each finding as FILE:LINE, ends with the line `lint: N findings`, and with the status 1
 where N is not 0.
@@ -156,6 +158,9 @@ def check_links(findings):
                     findings.append((page, number, f"no such file: {link}"))
                 elif fragment and target.suffix == ".md" and fragment not in anchors(target):
                     findings.append((page, number, f"no such heading: {link}"))
+        text = re.sub(r"`[^`]*`", lambda span: re.sub(r"\S", "x", span.group()), page.read_text(encoding="utf-8"))
+        for match in re.finditer(r"\[[^\[\]\n]*\n[^\[\]\n]*\]\(", text):
+            findings.append((page, text[: match.start()].count("\n") + 1, "a link over two lines"))
 
 
 def crates_of_list():
@@ -217,6 +222,14 @@ def check_columns(findings):
                 findings.append((page, number, f"{len(line)} columns"))
 
 
+def check_cells(findings):
+    for page in pages():
+        for number, cells in rows_of(page):
+            for cell in cells:
+                if re.search(r"\w[.] +[A-Z]", re.sub(r"`[^`]*`", "x", cell)):
+                    findings.append((page, number, "a cell with more than one sentence"))
+
+
 def check_claim(findings):
     page = TOP / "docs/claim.txt"
     made = claim.page(TOP)
@@ -229,7 +242,7 @@ def check_claim(findings):
 
 def main():
     findings = []
-    for check in (check_names, check_links, check_crates, check_claim, check_columns):
+    for check in (check_names, check_links, check_crates, check_claim, check_cells, check_columns):
         check(findings)
     for check in facts.CHECKS:
         findings.extend(check(TOP))
