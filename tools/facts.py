@@ -10,6 +10,8 @@
 - The usage line, the exit statuses and the libraries that are trusted are those of the code: `check_program`.
 - The limits and the reserved words of docs/book.md are those of the code: `check_language`.
 - What Book I applies and rests on is what its `apply` lines say: `check_book_one`.
+- Pages of definitions and files of proofs, which docs/definitions.md and docs/proofs.md name without their suffix, are
+  there: `check_files`.
 
 Each check yields findings: a page, the number of a line, and what is wrong there.
 """
@@ -345,4 +347,30 @@ def check_book_one(top):
         yield page, line_of(text, table[0]), "what Book I rests on is not what tools/rests.py makes"
 
 
-CHECKS = [check_rules, check_counts, check_crates, check_program, check_language, check_book_one]
+# ---- files that are named without their suffix
+
+
+def check_files(top):
+    specs, proofs = ({path.stem for path in top.glob(f"crates/*/{folder}/**/*.antt")} for folder in ("specs", "proofs"))
+    page = top / "docs/definitions.md"
+    for number, line in enumerate(read(page).split("\n"), 1):
+        text = re.sub(r"`[^`]*`", "", line)
+        cells = re.split(r"(?<!\\)\|", text)
+        words = re.findall(r"\b[A-Z]\w+", cells[3]) if len(cells) == 6 else re.findall(r"\b[A-Z][a-z]+[A-Z]\w+", text)
+        for word in words:
+            if word not in specs and word != "File":
+                yield page, number, f"no page of definitions: {word}"
+    page = top / "docs/proofs.md"
+    text = read(page)
+    for match in re.finditer(r"\[([^\[\]]+)\](?!\()", text):
+        for word in re.findall(r"\b[A-Z]\w+", re.sub(r"`[^`]*`", "", match.group(1))):
+            if word not in specs | proofs:
+                yield page, text[: match.start()].count("\n") + 1, f"no file of proofs: {word}"
+    for number, cells in cells_of(text):
+        if len(cells) == 3 and cells[1].startswith("e_"):
+            for word in re.findall(r"\b[A-Z]\w+", cells[2]):
+                if word not in proofs:
+                    yield page, number, f"no file of proofs: {word}"
+
+
+CHECKS = [check_rules, check_counts, check_crates, check_program, check_language, check_book_one, check_files]
