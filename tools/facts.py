@@ -336,6 +336,10 @@ def check_book_one(top):
                 yield page, number, f"{title} applies {' '.join(applied) or 'none'} and has {steps} steps"
     for title in sorted(set(theorems) - told):
         yield page, 1, f"no row for {title}"
+    page = top / "examples/book-1/uses.out"
+    lines = [" ".join(["uses", title, *applied]) for title, (applied, _) in theorems.items()]
+    if read(page) != "\n".join([*lines, f"listed {len(theorems)}", ""]):
+        yield page, 1, "not the lines of the book"
     count = f"{len(theorems)} theorems, {sum(steps for _, steps in theorems.values()):,} steps"
     for name in ("examples/README.md", "examples/book-1/README.md"):
         if count not in re.sub(r"\s+", " ", read(top / name)):
