@@ -23,9 +23,9 @@ pub mod Combining
 pub mod Keeping
 pub mod Parting
 pub mod Places
-pub mod NamedLines
+pub mod NamedConstraints
 pub mod Picked
-pub mod Spreading
+pub mod RowMultipliers
 pub mod Assigning
 pub mod Refuting
 pub mod Extending

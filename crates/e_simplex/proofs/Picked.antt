@@ -1,4 +1,4 @@
--- Where the lines are wide with one or two further forms, the rows are wide.
+-- Where the constraints are wide with one or two further forms, the rows are wide.
 use Rattle.std.proofs.Common.{◌≡◌, ◌≢◌, ℕ, zero, suc, ◌+◌, ◌<◌, ◌^◌, List, [], ◌∷◌, ◌++◌, refl, ap, arith, sym, ◌∙◌, subst, length, get_or, cond, Bool, true, false, true≢false, inl, inr, append_assoc}
 use Rattle.std.specs.Prelude.{map, unsigned_abs}
 use lib.IntN.{ℤ, neg_ℤ}
@@ -7,16 +7,16 @@ use Rattle.e_literal.specs.declared.object.Term.{Term}
 use Rattle.e_literal.specs.Rows.{Row, Says, Zero, AtLeast, More, Not}
 use Rattle.e_literal.specs.Minor.{SignedRow, entry, IsWide as IsWideRows}
 use Rattle.e_fraction.specs.Det.{det, IsPart, IsWide}
-use Rattle.e_simplex.specs.declared.lines.Line.{Line}
-use Rattle.e_simplex.specs.Lines.{line_row, rows_of}
-use Rattle.e_simplex.specs.inner.Tried.{negative_line}
-use Rattle.e_simplex.specs.Naming.{AreOnce, FormNamed, AllNamed, named_line, named_lines, keeps}
-use Rattle.e_simplex.specs.inner.Apart.{WideWith, WideWithTwo, WideApart}
+use Rattle.e_simplex.specs.declared.constraints.Constraint.{Constraint}
+use Rattle.e_simplex.specs.Constraints.{constraint_row, rows_of}
+use Rattle.e_simplex.specs.inner.Tried.{negative_constraint}
+use Rattle.e_simplex.specs.Naming.{AreOnce, FormNamed, AllNamed, named_constraint, named_constraints, keeps}
+use Rattle.e_simplex.specs.inner.Disequalities.{WideWith, WideWithTwo, WideWithSome}
 use Rattle.e_literal.proofs.Arith.{sums}
 use Rattle.e_fraction.proofs.Moved.{wide_last}
 use Rattle.e_fraction.proofs.Numbering.{column, SameEntries, wide_named}
 use Rattle.e_simplex.proofs.Disequal.{Similar, similar_det}
-use Rattle.e_simplex.proofs.NamedLines.{line_entry, negative_entry, kept_not}
+use Rattle.e_simplex.proofs.NamedConstraints.{constraint_entry, negative_entry, kept_not}
 
 abbrev signed : Row → Bool → SignedRow
 signed r d = record { row = r; down = d }
@@ -24,12 +24,12 @@ signed r d = record { row = r; down = d }
 abbrev turned : (ℕ → ℤ) → ℕ → ℤ
 turned f c = neg_ℤ (f c)
 
--- the row of a line, or that of the line that says less than 0, turned round
-abbrev row_as : Bool → Line → ℕ → ℤ
-row_as d l = cond d (turned (line_row (negative_line l))) (line_row l)
+-- the row of a constraint, or that of the constraint that says less than 0, turned round
+abbrev row_as : Bool → Constraint → ℕ → ℤ
+row_as d l = cond d (turned (constraint_row (negative_constraint l))) (constraint_row l)
 
 abbrev own_row : List Term → SignedRow → ℕ → ℤ
-own_row ts s = row_as s.down (named_line ts s.row)
+own_row ts s = row_as s.down (named_constraint ts s.row)
 
 abbrev own_rows : List Term → List SignedRow → List (ℕ → ℤ)
 own_rows ts [] = []
@@ -54,23 +54,23 @@ with_two (r ∷ rs) zero d (suc j) e = cond (keeps true r.says) (signed r d ∷ 
 with_two (r ∷ rs) (suc k) d zero e = cond (keeps true r.says) (signed r e ∷ with_one rs k d) (signed r false ∷ with_two rs (suc k) d zero e)
 with_two (r ∷ rs) (suc k) d (suc j) e = cond (keeps true r.says) (with_two rs k d j e) (signed r false ∷ with_two rs (suc k) d (suc j) e)
 
--- ---- the lines
+-- ---- the constraints
 
-rows_main : (ts : List Term) (rows : List Row) → rows_of (named_lines false ts rows) ≡ own_rows ts (mains rows)
+rows_main : (ts : List Term) (rows : List Row) → rows_of (named_constraints false ts rows) ≡ own_rows ts (mains rows)
 rows_main ts [] = refl
 rows_main ts (r ∷ rs) = by r.says r (rows_main ts rs)
   where
-    by : (s : Says) (q : Row) → rows_of (named_lines false ts rs) ≡ own_rows ts (mains rs)
-        → rows_of (cond (keeps false s) (named_line ts q ∷ named_lines false ts rs) (named_lines false ts rs)) ≡ own_rows ts (cond (keeps true s) (mains rs) (signed q false ∷ mains rs))
-    by Zero q e = ap (λ v. line_row (named_line ts q) ∷ v) e
-    by AtLeast q e = ap (λ v. line_row (named_line ts q) ∷ v) e
-    by More q e = ap (λ v. line_row (named_line ts q) ∷ v) e
+    by : (s : Says) (q : Row) → rows_of (named_constraints false ts rs) ≡ own_rows ts (mains rs)
+        → rows_of (cond (keeps false s) (named_constraint ts q ∷ named_constraints false ts rs) (named_constraints false ts rs)) ≡ own_rows ts (cond (keeps true s) (mains rs) (signed q false ∷ mains rs))
+    by Zero q e = ap (λ v. constraint_row (named_constraint ts q) ∷ v) e
+    by AtLeast q e = ap (λ v. constraint_row (named_constraint ts q) ∷ v) e
+    by More q e = ap (λ v. constraint_row (named_constraint ts q) ∷ v) e
     by Not q e = e
 
 -- ---- a row put last
 
 module _ (ts : List Term) (n size : ℕ) where
-  put_one : (b : Bool) (r : Row) (l : Line) (ls : List Line) (ms ps qs : List SignedRow) (xs : List (ℕ → ℤ)) (d : Bool) (e : Line) → l ≡ named_line ts r
+  put_one : (b : Bool) (r : Row) (l : Constraint) (ls : List Constraint) (ms ps qs : List SignedRow) (xs : List (ℕ → ℤ)) (d : Bool) (e : Constraint) → l ≡ named_constraint ts r
       → 0 < length (cond b (l ∷ ls) ls)
       → ((ys : List (ℕ → ℤ)) → 0 < length ls → IsWide (ys ++ (own_rows ts ms ++ row_as d (get_or ls 0 e) ∷ [])) n size → IsWide (ys ++ own_rows ts qs) n size)
       → IsWide (xs ++ (own_rows ts (cond b ms (signed r false ∷ ms)) ++ row_as d (get_or (cond b (l ∷ ls) ls) 0 e) ∷ [])) n size
@@ -81,7 +81,7 @@ module _ (ts : List Term) (n size : ℕ) where
       (ih (xs ++ own_row ts (signed r false) ∷ []) k
       (subst (λ v. IsWide v n size) (sym (append_assoc xs (own_row ts (signed r false) ∷ []) (own_rows ts ms ++ row_as d (get_or ls 0 e) ∷ []))) h))
 
-  skip_one : (b : Bool) (r : Row) (l : Line) (ls : List Line) (ms ps qs : List SignedRow) (xs : List (ℕ → ℤ)) (k : ℕ) (d : Bool) (e : Line)
+  skip_one : (b : Bool) (r : Row) (l : Constraint) (ls : List Constraint) (ms ps qs : List SignedRow) (xs : List (ℕ → ℤ)) (k : ℕ) (d : Bool) (e : Constraint)
       → suc k < length (cond b (l ∷ ls) ls)
       → ((ys : List (ℕ → ℤ)) → k < length ls → IsWide (ys ++ (own_rows ts ms ++ row_as d (get_or ls k e) ∷ [])) n size → IsWide (ys ++ own_rows ts ps) n size)
       → ((ys : List (ℕ → ℤ)) → suc k < length ls → IsWide (ys ++ (own_rows ts ms ++ row_as d (get_or ls (suc k) e) ∷ [])) n size → IsWide (ys ++ own_rows ts qs) n size)
@@ -93,13 +93,13 @@ module _ (ts : List Term) (n size : ℕ) where
       (jh (xs ++ own_row ts (signed r false) ∷ []) m
       (subst (λ v. IsWide v n size) (sym (append_assoc xs (own_row ts (signed r false) ∷ []) (own_rows ts ms ++ row_as d (get_or ls (suc k) e) ∷ []))) h))
 
-  wide_one : (rows : List Row) (k : ℕ) (d : Bool) (e : Line) (xs : List (ℕ → ℤ)) → k < length (named_lines true ts rows)
-      → IsWide (xs ++ (own_rows ts (mains rows) ++ row_as d (get_or (named_lines true ts rows) k e) ∷ [])) n size → IsWide (xs ++ own_rows ts (with_one rows k d)) n size
+  wide_one : (rows : List Row) (k : ℕ) (d : Bool) (e : Constraint) (xs : List (ℕ → ℤ)) → k < length (named_constraints true ts rows)
+      → IsWide (xs ++ (own_rows ts (mains rows) ++ row_as d (get_or (named_constraints true ts rows) k e) ∷ [])) n size → IsWide (xs ++ own_rows ts (with_one rows k d)) n size
   wide_one [] k d e xs l h = absurd (omega (arith, l))
   wide_one (r ∷ rs) zero d e xs l h =
-      put_one (keeps true r.says) r (named_line ts r) (named_lines true ts rs) (mains rs) [] (with_one rs zero d) xs d e refl l (λ ys m g. wide_one rs zero d e ys m g) h
+      put_one (keeps true r.says) r (named_constraint ts r) (named_constraints true ts rs) (mains rs) [] (with_one rs zero d) xs d e refl l (λ ys m g. wide_one rs zero d e ys m g) h
   wide_one (r ∷ rs) (suc k) d e xs l h =
-      skip_one (keeps true r.says) r (named_line ts r) (named_lines true ts rs) (mains rs) (with_one rs k d) (with_one rs (suc k) d) xs k d e l
+      skip_one (keeps true r.says) r (named_constraint ts r) (named_constraints true ts rs) (mains rs) (with_one rs k d) (with_one rs (suc k) d) xs k d e l
       (λ ys m g. wide_one rs k d e ys m g) (λ ys m g. wide_one rs (suc k) d e ys m g) h
 
   -- ---- two rows put last
@@ -118,69 +118,69 @@ module _ (ts : List Term) (n size : ℕ) where
   go_back : (xs zs : List (ℕ → ℤ)) (a : ℕ → ℤ) → IsWide (xs ++ a ∷ zs) n size → IsWide ((xs ++ a ∷ []) ++ zs) n size
   go_back xs zs a h = subst (λ v. IsWide v n size) (sym (append_assoc xs (a ∷ []) zs)) h
 
-  wide_two : (rows : List Row) (k : ℕ) (d : Bool) (j : ℕ) (e : Bool) (f : Line) (xs : List (ℕ → ℤ)) → k < length (named_lines true ts rows) → j < length (named_lines true ts rows) → k ≢ j
-      → IsWide (xs ++ (own_rows ts (mains rows) ++ row_as d (get_or (named_lines true ts rows) k f) ∷ row_as e (get_or (named_lines true ts rows) j f) ∷ [])) n size
+  wide_two : (rows : List Row) (k : ℕ) (d : Bool) (j : ℕ) (e : Bool) (f : Constraint) (xs : List (ℕ → ℤ)) → k < length (named_constraints true ts rows) → j < length (named_constraints true ts rows) → k ≢ j
+      → IsWide (xs ++ (own_rows ts (mains rows) ++ row_as d (get_or (named_constraints true ts rows) k f) ∷ row_as e (get_or (named_constraints true ts rows) j f) ∷ [])) n size
       → IsWide (xs ++ own_rows ts (with_two rows k d j e)) n size
   wide_two [] k d j e f xs l m a h = absurd (omega (arith, l))
   wide_two (r ∷ rs) zero d zero e f xs l m a h = absurd (a refl)
   wide_two (r ∷ rs) zero d (suc j) e f xs l m a h = by (keeps true r.says) l m h (λ ys g. wide_one rs j e f ys g) (λ ys g i w. wide_two rs zero d (suc j) e f ys g i a w)
     where
-      by : (b : Bool) → 0 < length (cond b (named_line ts r ∷ named_lines true ts rs) (named_lines true ts rs)) → suc j < length (cond b (named_line ts r ∷ named_lines true ts rs) (named_lines true ts rs))
-          → IsWide (xs ++ (own_rows ts (cond b (mains rs) (signed r false ∷ mains rs)) ++ row_as d (get_or (cond b (named_line ts r ∷ named_lines true ts rs) (named_lines true ts rs)) 0 f)
-          ∷ row_as e (get_or (cond b (named_line ts r ∷ named_lines true ts rs) (named_lines true ts rs)) (suc j) f) ∷ [])) n size
-          → ((ys : List (ℕ → ℤ)) → j < length (named_lines true ts rs) → IsWide (ys ++ (own_rows ts (mains rs) ++ row_as e (get_or (named_lines true ts rs) j f) ∷ [])) n size → IsWide (ys ++ own_rows ts (with_one rs j e)) n size)
-          → ((ys : List (ℕ → ℤ)) → 0 < length (named_lines true ts rs) → suc j < length (named_lines true ts rs)
-          → IsWide (ys ++ (own_rows ts (mains rs) ++ row_as d (get_or (named_lines true ts rs) 0 f) ∷ row_as e (get_or (named_lines true ts rs) (suc j) f) ∷ [])) n size
+      by : (b : Bool) → 0 < length (cond b (named_constraint ts r ∷ named_constraints true ts rs) (named_constraints true ts rs)) → suc j < length (cond b (named_constraint ts r ∷ named_constraints true ts rs) (named_constraints true ts rs))
+          → IsWide (xs ++ (own_rows ts (cond b (mains rs) (signed r false ∷ mains rs)) ++ row_as d (get_or (cond b (named_constraint ts r ∷ named_constraints true ts rs) (named_constraints true ts rs)) 0 f)
+          ∷ row_as e (get_or (cond b (named_constraint ts r ∷ named_constraints true ts rs) (named_constraints true ts rs)) (suc j) f) ∷ [])) n size
+          → ((ys : List (ℕ → ℤ)) → j < length (named_constraints true ts rs) → IsWide (ys ++ (own_rows ts (mains rs) ++ row_as e (get_or (named_constraints true ts rs) j f) ∷ [])) n size → IsWide (ys ++ own_rows ts (with_one rs j e)) n size)
+          → ((ys : List (ℕ → ℤ)) → 0 < length (named_constraints true ts rs) → suc j < length (named_constraints true ts rs)
+          → IsWide (ys ++ (own_rows ts (mains rs) ++ row_as d (get_or (named_constraints true ts rs) 0 f) ∷ row_as e (get_or (named_constraints true ts rs) (suc j) f) ∷ [])) n size
           → IsWide (ys ++ own_rows ts (with_two rs zero d (suc j) e)) n size)
           → IsWide (xs ++ own_rows ts (cond b (signed r d ∷ with_one rs j e) (signed r false ∷ with_two rs zero d (suc j) e))) n size
       by true p q g one two =
           go_on xs (own_rows ts (with_one rs j e)) (own_row ts (signed r d))
           (one (xs ++ own_row ts (signed r d) ∷ []) (omega (arith, q))
-          (go_back xs (own_rows ts (mains rs) ++ row_as e (get_or (named_lines true ts rs) j f) ∷ []) (own_row ts (signed r d))
-          (wide_last xs (own_rows ts (mains rs) ++ row_as e (get_or (named_lines true ts rs) j f) ∷ []) (own_row ts (signed r d)) n size
-          (push_two xs (own_rows ts (mains rs)) (own_row ts (signed r d)) (row_as e (get_or (named_lines true ts rs) j f)) g))))
+          (go_back xs (own_rows ts (mains rs) ++ row_as e (get_or (named_constraints true ts rs) j f) ∷ []) (own_row ts (signed r d))
+          (wide_last xs (own_rows ts (mains rs) ++ row_as e (get_or (named_constraints true ts rs) j f) ∷ []) (own_row ts (signed r d)) n size
+          (push_two xs (own_rows ts (mains rs)) (own_row ts (signed r d)) (row_as e (get_or (named_constraints true ts rs) j f)) g))))
       by false p q g one two =
           go_on xs (own_rows ts (with_two rs zero d (suc j) e)) (own_row ts (signed r false))
           (two (xs ++ own_row ts (signed r false) ∷ []) p q
-          (go_back xs (own_rows ts (mains rs) ++ row_as d (get_or (named_lines true ts rs) 0 f) ∷ row_as e (get_or (named_lines true ts rs) (suc j) f) ∷ []) (own_row ts (signed r false)) g))
+          (go_back xs (own_rows ts (mains rs) ++ row_as d (get_or (named_constraints true ts rs) 0 f) ∷ row_as e (get_or (named_constraints true ts rs) (suc j) f) ∷ []) (own_row ts (signed r false)) g))
   wide_two (r ∷ rs) (suc k) d zero e f xs l m a h = by (keeps true r.says) l m h (λ ys g. wide_one rs k d f ys g) (λ ys g i w. wide_two rs (suc k) d zero e f ys g i a w)
     where
-      by : (b : Bool) → suc k < length (cond b (named_line ts r ∷ named_lines true ts rs) (named_lines true ts rs)) → 0 < length (cond b (named_line ts r ∷ named_lines true ts rs) (named_lines true ts rs))
-          → IsWide (xs ++ (own_rows ts (cond b (mains rs) (signed r false ∷ mains rs)) ++ row_as d (get_or (cond b (named_line ts r ∷ named_lines true ts rs) (named_lines true ts rs)) (suc k) f)
-          ∷ row_as e (get_or (cond b (named_line ts r ∷ named_lines true ts rs) (named_lines true ts rs)) 0 f) ∷ [])) n size
-          → ((ys : List (ℕ → ℤ)) → k < length (named_lines true ts rs) → IsWide (ys ++ (own_rows ts (mains rs) ++ row_as d (get_or (named_lines true ts rs) k f) ∷ [])) n size → IsWide (ys ++ own_rows ts (with_one rs k d)) n size)
-          → ((ys : List (ℕ → ℤ)) → suc k < length (named_lines true ts rs) → 0 < length (named_lines true ts rs)
-          → IsWide (ys ++ (own_rows ts (mains rs) ++ row_as d (get_or (named_lines true ts rs) (suc k) f) ∷ row_as e (get_or (named_lines true ts rs) 0 f) ∷ [])) n size
+      by : (b : Bool) → suc k < length (cond b (named_constraint ts r ∷ named_constraints true ts rs) (named_constraints true ts rs)) → 0 < length (cond b (named_constraint ts r ∷ named_constraints true ts rs) (named_constraints true ts rs))
+          → IsWide (xs ++ (own_rows ts (cond b (mains rs) (signed r false ∷ mains rs)) ++ row_as d (get_or (cond b (named_constraint ts r ∷ named_constraints true ts rs) (named_constraints true ts rs)) (suc k) f)
+          ∷ row_as e (get_or (cond b (named_constraint ts r ∷ named_constraints true ts rs) (named_constraints true ts rs)) 0 f) ∷ [])) n size
+          → ((ys : List (ℕ → ℤ)) → k < length (named_constraints true ts rs) → IsWide (ys ++ (own_rows ts (mains rs) ++ row_as d (get_or (named_constraints true ts rs) k f) ∷ [])) n size → IsWide (ys ++ own_rows ts (with_one rs k d)) n size)
+          → ((ys : List (ℕ → ℤ)) → suc k < length (named_constraints true ts rs) → 0 < length (named_constraints true ts rs)
+          → IsWide (ys ++ (own_rows ts (mains rs) ++ row_as d (get_or (named_constraints true ts rs) (suc k) f) ∷ row_as e (get_or (named_constraints true ts rs) 0 f) ∷ [])) n size
           → IsWide (ys ++ own_rows ts (with_two rs (suc k) d zero e)) n size)
           → IsWide (xs ++ own_rows ts (cond b (signed r e ∷ with_one rs k d) (signed r false ∷ with_two rs (suc k) d zero e))) n size
       by true p q g one two =
           go_on xs (own_rows ts (with_one rs k d)) (own_row ts (signed r e))
           (one (xs ++ own_row ts (signed r e) ∷ []) (omega (arith, p))
-          (go_back xs (own_rows ts (mains rs) ++ row_as d (get_or (named_lines true ts rs) k f) ∷ []) (own_row ts (signed r e))
-          (wide_last xs (own_rows ts (mains rs) ++ row_as d (get_or (named_lines true ts rs) k f) ∷ []) (own_row ts (signed r e)) n size
-          (last_two xs (own_rows ts (mains rs)) (row_as d (get_or (named_lines true ts rs) k f)) (own_row ts (signed r e)) g))))
+          (go_back xs (own_rows ts (mains rs) ++ row_as d (get_or (named_constraints true ts rs) k f) ∷ []) (own_row ts (signed r e))
+          (wide_last xs (own_rows ts (mains rs) ++ row_as d (get_or (named_constraints true ts rs) k f) ∷ []) (own_row ts (signed r e)) n size
+          (last_two xs (own_rows ts (mains rs)) (row_as d (get_or (named_constraints true ts rs) k f)) (own_row ts (signed r e)) g))))
       by false p q g one two =
           go_on xs (own_rows ts (with_two rs (suc k) d zero e)) (own_row ts (signed r false))
           (two (xs ++ own_row ts (signed r false) ∷ []) p q
-          (go_back xs (own_rows ts (mains rs) ++ row_as d (get_or (named_lines true ts rs) (suc k) f) ∷ row_as e (get_or (named_lines true ts rs) 0 f) ∷ []) (own_row ts (signed r false)) g))
+          (go_back xs (own_rows ts (mains rs) ++ row_as d (get_or (named_constraints true ts rs) (suc k) f) ∷ row_as e (get_or (named_constraints true ts rs) 0 f) ∷ []) (own_row ts (signed r false)) g))
   wide_two (r ∷ rs) (suc k) d (suc j) e f xs l m a h =
       by (keeps true r.says) l m h (λ ys g i w. wide_two rs k d j e f ys g i (λ q. a (ap suc q)) w) (λ ys g i w. wide_two rs (suc k) d (suc j) e f ys g i a w)
     where
-      by : (b : Bool) → suc k < length (cond b (named_line ts r ∷ named_lines true ts rs) (named_lines true ts rs)) → suc j < length (cond b (named_line ts r ∷ named_lines true ts rs) (named_lines true ts rs))
-          → IsWide (xs ++ (own_rows ts (cond b (mains rs) (signed r false ∷ mains rs)) ++ row_as d (get_or (cond b (named_line ts r ∷ named_lines true ts rs) (named_lines true ts rs)) (suc k) f)
-          ∷ row_as e (get_or (cond b (named_line ts r ∷ named_lines true ts rs) (named_lines true ts rs)) (suc j) f) ∷ [])) n size
-          → ((ys : List (ℕ → ℤ)) → k < length (named_lines true ts rs) → j < length (named_lines true ts rs)
-          → IsWide (ys ++ (own_rows ts (mains rs) ++ row_as d (get_or (named_lines true ts rs) k f) ∷ row_as e (get_or (named_lines true ts rs) j f) ∷ [])) n size
+      by : (b : Bool) → suc k < length (cond b (named_constraint ts r ∷ named_constraints true ts rs) (named_constraints true ts rs)) → suc j < length (cond b (named_constraint ts r ∷ named_constraints true ts rs) (named_constraints true ts rs))
+          → IsWide (xs ++ (own_rows ts (cond b (mains rs) (signed r false ∷ mains rs)) ++ row_as d (get_or (cond b (named_constraint ts r ∷ named_constraints true ts rs) (named_constraints true ts rs)) (suc k) f)
+          ∷ row_as e (get_or (cond b (named_constraint ts r ∷ named_constraints true ts rs) (named_constraints true ts rs)) (suc j) f) ∷ [])) n size
+          → ((ys : List (ℕ → ℤ)) → k < length (named_constraints true ts rs) → j < length (named_constraints true ts rs)
+          → IsWide (ys ++ (own_rows ts (mains rs) ++ row_as d (get_or (named_constraints true ts rs) k f) ∷ row_as e (get_or (named_constraints true ts rs) j f) ∷ [])) n size
           → IsWide (ys ++ own_rows ts (with_two rs k d j e)) n size)
-          → ((ys : List (ℕ → ℤ)) → suc k < length (named_lines true ts rs) → suc j < length (named_lines true ts rs)
-          → IsWide (ys ++ (own_rows ts (mains rs) ++ row_as d (get_or (named_lines true ts rs) (suc k) f) ∷ row_as e (get_or (named_lines true ts rs) (suc j) f) ∷ [])) n size
+          → ((ys : List (ℕ → ℤ)) → suc k < length (named_constraints true ts rs) → suc j < length (named_constraints true ts rs)
+          → IsWide (ys ++ (own_rows ts (mains rs) ++ row_as d (get_or (named_constraints true ts rs) (suc k) f) ∷ row_as e (get_or (named_constraints true ts rs) (suc j) f) ∷ [])) n size
           → IsWide (ys ++ own_rows ts (with_two rs (suc k) d (suc j) e)) n size)
           → IsWide (xs ++ own_rows ts (cond b (with_two rs k d j e) (signed r false ∷ with_two rs (suc k) d (suc j) e))) n size
       by true p q g one two = one xs (omega (arith, p)) (omega (arith, q)) g
       by false p q g one two =
           go_on xs (own_rows ts (with_two rs (suc k) d (suc j) e)) (own_row ts (signed r false))
           (two (xs ++ own_row ts (signed r false) ∷ []) p q
-          (go_back xs (own_rows ts (mains rs) ++ row_as d (get_or (named_lines true ts rs) (suc k) f) ∷ row_as e (get_or (named_lines true ts rs) (suc j) f) ∷ []) (own_row ts (signed r false)) g))
+          (go_back xs (own_rows ts (mains rs) ++ row_as d (get_or (named_constraints true ts rs) (suc k) f) ∷ row_as e (get_or (named_constraints true ts rs) (suc j) f) ∷ []) (own_row ts (signed r false)) g))
 
 -- ---- rows turned round
 
@@ -291,9 +291,9 @@ ok_two ts (r ∷ rs) (suc k) d zero e h = ok_both (keeps true r.says) ts e r (wi
 ok_two ts (r ∷ rs) (suc k) d (suc j) e h = ok_cond (keeps true r.says) ts r (with_two rs k d j e) (with_two rs (suc k) d (suc j) e) h.0 (ok_two ts rs k d j e h.1) (ok_two ts rs (suc k) d (suc j) e h.1)
 
 own_entry : (ts : List Term) (d : Bool) (r : Row) (c : ℕ) → AreOnce ts → FormNamed ts r.form → (d ≡ true → r.says ≡ Not) → c < length ts + 1
-    → row_as d (named_line ts r) c ≡ entry (signed r d) (column ts c)
+    → row_as d (named_constraint ts r) c ≡ entry (signed r d) (column ts c)
 own_entry ts true r c o h n l = negative_entry ts r c (n refl) o h l
-own_entry ts false r c o h n l = line_entry ts r c o h l
+own_entry ts false r c o h n l = constraint_entry ts r c o h l
 
 own_entries : (ts : List Term) (ss : List SignedRow) → AreOnce ts → AllOk ts ss → SameEntries ts (length ts + 1) ss (own_rows ts ss)
 own_entries ts [] o h = tt
@@ -301,61 +301,61 @@ own_entries ts (s ∷ ss) o h = (λ c l. own_entry ts s.down s.row c o h.0.0 h.0
 
 -- ---- the rows are wide
 
-rows_append : (xs ys : List Line) → rows_of (xs ++ ys) ≡ rows_of xs ++ rows_of ys
+rows_append : (xs ys : List Constraint) → rows_of (xs ++ ys) ≡ rows_of xs ++ rows_of ys
 rows_append [] ys = refl
-rows_append (x ∷ xs) ys = ap (λ v. line_row x ∷ v) (rows_append xs ys)
+rows_append (x ∷ xs) ys = ap (λ v. constraint_row x ∷ v) (rows_append xs ys)
 
 module _ (ts : List Term) (rows : List Row) (o : AreOnce ts) (a : AllNamed ts rows) where
-  pub wide_main : IsWide (rows_of (named_lines false ts rows)) (length ts + 1) (2 ^ 63) → IsWideRows rows
+  pub wide_main : IsWide (rows_of (named_constraints false ts rows)) (length ts + 1) (2 ^ 63) → IsWideRows rows
   wide_main h =
       wide_named ts (length ts + 1) (mains rows) (own_rows ts (mains rows)) rows (own_entries ts (mains rows) o (ok_mains ts rows a)) (part_mains rows)
       (subst (λ v. IsWide v (length ts + 1) (2 ^ 63)) (rows_main ts rows) h)
 
-  signed_one : (k : ℕ) (d : Bool) (e : Line) → k < length (named_lines true ts rows)
-      → IsWide (own_rows ts (mains rows) ++ row_as d (get_or (named_lines true ts rows) k e) ∷ []) (length ts + 1) (2 ^ 63) → IsWideRows rows
+  signed_one : (k : ℕ) (d : Bool) (e : Constraint) → k < length (named_constraints true ts rows)
+      → IsWide (own_rows ts (mains rows) ++ row_as d (get_or (named_constraints true ts rows) k e) ∷ []) (length ts + 1) (2 ^ 63) → IsWideRows rows
   signed_one k d e l h =
       wide_named ts (length ts + 1) (with_one rows k d) (own_rows ts (with_one rows k d)) rows (own_entries ts (with_one rows k d) o (ok_one ts rows k d a)) (part_one rows k d)
       (wide_one ts (length ts + 1) (2 ^ 63) rows k d e [] l h)
 
-  signed_two : (k : ℕ) (d : Bool) (j : ℕ) (e : Line) → k < length (named_lines true ts rows) → j < length (named_lines true ts rows) → k ≢ j
-      → IsWide (own_rows ts (mains rows) ++ row_as d (get_or (named_lines true ts rows) k e) ∷ line_row (get_or (named_lines true ts rows) j e) ∷ []) (length ts + 1) (2 ^ 63) → IsWideRows rows
+  signed_two : (k : ℕ) (d : Bool) (j : ℕ) (e : Constraint) → k < length (named_constraints true ts rows) → j < length (named_constraints true ts rows) → k ≢ j
+      → IsWide (own_rows ts (mains rows) ++ row_as d (get_or (named_constraints true ts rows) k e) ∷ constraint_row (get_or (named_constraints true ts rows) j e) ∷ []) (length ts + 1) (2 ^ 63) → IsWideRows rows
   signed_two k d j e l m n h =
       wide_named ts (length ts + 1) (with_two rows k d j false) (own_rows ts (with_two rows k d j false)) rows (own_entries ts (with_two rows k d j false) o (ok_two ts rows k d j false a))
       (part_two rows k d j false)
       (wide_two ts (length ts + 1) (2 ^ 63) rows k d j false e [] l m n h)
 
-  one_line : Line
-  one_line = named_line ts (record { says = More; form = [] })
+  one_constraint : Constraint
+  one_constraint = named_constraint ts (record { says = More; form = [] })
 
-  rows_of_one : (f : Line) → rows_of (named_lines false ts rows ++ f ∷ []) ≡ own_rows ts (mains rows) ++ line_row f ∷ []
-  rows_of_one f = rows_append (named_lines false ts rows) (f ∷ []) ∙ ap (λ v. v ++ line_row f ∷ []) (rows_main ts rows)
+  rows_of_one : (f : Constraint) → rows_of (named_constraints false ts rows ++ f ∷ []) ≡ own_rows ts (mains rows) ++ constraint_row f ∷ []
+  rows_of_one f = rows_append (named_constraints false ts rows) (f ∷ []) ∙ ap (λ v. v ++ constraint_row f ∷ []) (rows_main ts rows)
 
-  rows_of_two : (f g : Line) → rows_of ((named_lines false ts rows ++ f ∷ []) ++ g ∷ []) ≡ own_rows ts (mains rows) ++ line_row f ∷ line_row g ∷ []
+  rows_of_two : (f g : Constraint) → rows_of ((named_constraints false ts rows ++ f ∷ []) ++ g ∷ []) ≡ own_rows ts (mains rows) ++ constraint_row f ∷ constraint_row g ∷ []
   rows_of_two f g =
-      rows_append (named_lines false ts rows ++ f ∷ []) (g ∷ []) ∙ ap (λ v. v ++ line_row g ∷ []) (rows_of_one f)
-      ∙ append_assoc (own_rows ts (mains rows)) (line_row f ∷ []) (line_row g ∷ [])
+      rows_append (named_constraints false ts rows ++ f ∷ []) (g ∷ []) ∙ ap (λ v. v ++ constraint_row g ∷ []) (rows_of_one f)
+      ∙ append_assoc (own_rows ts (mains rows)) (constraint_row f ∷ []) (constraint_row g ∷ [])
 
-  wide_with : (k : ℕ) → k < length (named_lines true ts rows) → WideWith (length ts + 1) (named_lines false ts rows) (named_lines true ts rows) k → IsWideRows rows
-  wide_with k l h = elim (h one_line) [
-    | inl g ↦ signed_one k false one_line l (subst (λ v. IsWide v (length ts + 1) (2 ^ 63)) (rows_of_one (get_or (named_lines true ts rows) k one_line)) g)
-    | inr g ↦ signed_one k true one_line l
-        (wide_alike (own_rows ts (mains rows) ++ line_row (negative_line (get_or (named_lines true ts rows) k one_line)) ∷ [])
-        (own_rows ts (mains rows) ++ turned (line_row (negative_line (get_or (named_lines true ts rows) k one_line))) ∷ []) (length ts + 1) (2 ^ 63)
-        (similar_turned (own_rows ts (mains rows)) [] (line_row (negative_line (get_or (named_lines true ts rows) k one_line))))
-        (subst (λ v. IsWide v (length ts + 1) (2 ^ 63)) (rows_of_one (negative_line (get_or (named_lines true ts rows) k one_line))) g))
+  wide_with : (k : ℕ) → k < length (named_constraints true ts rows) → WideWith (length ts + 1) (named_constraints false ts rows) (named_constraints true ts rows) k → IsWideRows rows
+  wide_with k l h = elim (h one_constraint) [
+    | inl g ↦ signed_one k false one_constraint l (subst (λ v. IsWide v (length ts + 1) (2 ^ 63)) (rows_of_one (get_or (named_constraints true ts rows) k one_constraint)) g)
+    | inr g ↦ signed_one k true one_constraint l
+        (wide_alike (own_rows ts (mains rows) ++ constraint_row (negative_constraint (get_or (named_constraints true ts rows) k one_constraint)) ∷ [])
+        (own_rows ts (mains rows) ++ turned (constraint_row (negative_constraint (get_or (named_constraints true ts rows) k one_constraint))) ∷ []) (length ts + 1) (2 ^ 63)
+        (similar_turned (own_rows ts (mains rows)) [] (constraint_row (negative_constraint (get_or (named_constraints true ts rows) k one_constraint))))
+        (subst (λ v. IsWide v (length ts + 1) (2 ^ 63)) (rows_of_one (negative_constraint (get_or (named_constraints true ts rows) k one_constraint))) g))
   ]
 
-  wide_with_two : (k : ℕ) → k < length (named_lines true ts rows) → WideWithTwo (length ts + 1) (named_lines false ts rows) (named_lines true ts rows) k → IsWideRows rows
-  wide_with_two k l h = elim (h.wide one_line) [
-    | inl g ↦ signed_two k false h.place one_line l h.here (λ q. h.other (sym q))
-        (subst (λ v. IsWide v (length ts + 1) (2 ^ 63)) (rows_of_two (get_or (named_lines true ts rows) k one_line) (get_or (named_lines true ts rows) h.place one_line)) g)
-    | inr g ↦ signed_two k true h.place one_line l h.here (λ q. h.other (sym q))
-        (wide_alike (own_rows ts (mains rows) ++ line_row (negative_line (get_or (named_lines true ts rows) k one_line)) ∷ line_row (get_or (named_lines true ts rows) h.place one_line) ∷ [])
-        (own_rows ts (mains rows) ++ turned (line_row (negative_line (get_or (named_lines true ts rows) k one_line))) ∷ line_row (get_or (named_lines true ts rows) h.place one_line) ∷ []) (length ts + 1) (2 ^ 63)
-        (similar_turned (own_rows ts (mains rows)) (line_row (get_or (named_lines true ts rows) h.place one_line) ∷ []) (line_row (negative_line (get_or (named_lines true ts rows) k one_line))))
-        (subst (λ v. IsWide v (length ts + 1) (2 ^ 63)) (rows_of_two (negative_line (get_or (named_lines true ts rows) k one_line)) (get_or (named_lines true ts rows) h.place one_line)) g))
+  wide_with_two : (k : ℕ) → k < length (named_constraints true ts rows) → WideWithTwo (length ts + 1) (named_constraints false ts rows) (named_constraints true ts rows) k → IsWideRows rows
+  wide_with_two k l h = elim (h.wide one_constraint) [
+    | inl g ↦ signed_two k false h.place one_constraint l h.here (λ q. h.other (sym q))
+        (subst (λ v. IsWide v (length ts + 1) (2 ^ 63)) (rows_of_two (get_or (named_constraints true ts rows) k one_constraint) (get_or (named_constraints true ts rows) h.place one_constraint)) g)
+    | inr g ↦ signed_two k true h.place one_constraint l h.here (λ q. h.other (sym q))
+        (wide_alike (own_rows ts (mains rows) ++ constraint_row (negative_constraint (get_or (named_constraints true ts rows) k one_constraint)) ∷ constraint_row (get_or (named_constraints true ts rows) h.place one_constraint) ∷ [])
+        (own_rows ts (mains rows) ++ turned (constraint_row (negative_constraint (get_or (named_constraints true ts rows) k one_constraint))) ∷ constraint_row (get_or (named_constraints true ts rows) h.place one_constraint) ∷ []) (length ts + 1) (2 ^ 63)
+        (similar_turned (own_rows ts (mains rows)) (constraint_row (get_or (named_constraints true ts rows) h.place one_constraint) ∷ []) (constraint_row (negative_constraint (get_or (named_constraints true ts rows) k one_constraint))))
+        (subst (λ v. IsWide v (length ts + 1) (2 ^ 63)) (rows_of_two (negative_constraint (get_or (named_constraints true ts rows) k one_constraint)) (get_or (named_constraints true ts rows) h.place one_constraint)) g))
   ]
 
-  pub wide_apart : WideApart (length ts + 1) (named_lines false ts rows) (named_lines true ts rows) → IsWideRows rows
-  wide_apart (k, l, inl h) = wide_with k l h
-  wide_apart (k, l, inr h) = wide_with_two k l h
+  pub wide_with_some : WideWithSome (length ts + 1) (named_constraints false ts rows) (named_constraints true ts rows) → IsWideRows rows
+  wide_with_some (k, l, inl h) = wide_with k l h
+  wide_with_some (k, l, inr h) = wide_with_two k l h

@@ -5,17 +5,17 @@ ghost use Rattle.e_literal.specs.Minor.{IsWide};
 ghost use Rattle.e_fraction.specs.Limits.{all_small};
 ghost use Rattle.e_literal.specs.Solution.{HasSolution};
 ghost use Rattle.e_fraction.specs.Views.{all_seen};
-ghost use Rattle.e_simplex.specs.Naming.{AreOnce, AllNamed, Continues, named_lines};
-ghost use Rattle.e_simplex.specs.Solved.{IsSolved, IsOutcome, columns_of, lines_of};
-ghost use Rattle.e_simplex.specs.inner.Apart.{IsNeither};
-ghost use Rattle.e_simplex.specs.Lines;
+ghost use Rattle.e_simplex.specs.Naming.{AreOnce, AllNamed, Continues, named_constraints};
+ghost use Rattle.e_simplex.specs.Solved.{IsSolved, IsOutcome, columns_of, constraints_of};
+ghost use Rattle.e_simplex.specs.inner.Disequalities.{AreBothRefuted};
+ghost use Rattle.e_simplex.specs.Constraints;
 ghost use Rattle.e_simplex.specs.inner.Paired.{PairedTo};
 ghost use Rattle.e_simplex.specs.Answer.{IsAbsurdity, IsVerdict, IsRefuted, IsHolds, IsAbsurd};
 
-use crate::apart::{Apart, keep_apart};
-use crate::naming::{lines_where, terms_of};
-use crate::solved::{Outcome, Solved, solve_lines};
-use crate::spread::{place_of_not, spread};
+use crate::disequalities::{Satisfaction, satisfy_all};
+use crate::multipliers::{multipliers_of_rows, place_of_not};
+use crate::naming::{constraints_where, terms_of};
+use crate::solved::{Outcome, Solved, solve_constraints};
 use e_fraction::Row;
 use e_literal::{Term, Values};
 use std::alloc::{AllocError, Global};
@@ -52,7 +52,7 @@ fn named_values(alloc: Global, terms: &[Term], values: &[i128]) -> Result<Values
     Ok(Values::new(pairs))
 }
 
-/// What comes of rows whose lines are refuted.
+/// What comes of rows whose constraints are refuted.
 pub fn refuted_once(
     alloc: Global,
     rows: &[Row],
@@ -62,10 +62,10 @@ pub fn refuted_once(
     requires few { length rows.now ≤ 4096 }
     requires once { AreOnce terms.now }
     requires named { AllNamed terms.now (all_seen rows.now) }
-    requires absurd { Lines.IsAbsurd (length terms.now + 1) (named_lines Rattle.std.specs.Prelude.false terms.now (all_seen rows.now)) weights.now }
+    requires absurd { Constraints.IsAbsurd (length terms.now + 1) (named_constraints Rattle.std.specs.Prelude.false terms.now (all_seen rows.now)) weights.now }
     ensures { IfOk result (IsRefuted (all_seen rows.now)) }
 {
-    let multipliers = spread(alloc, rows, weights, 0, 0)?;
+    let multipliers = multipliers_of_rows(alloc, rows, weights, 0, 0)?;
     Ok(Absurdity::One(multipliers))
 }
 
@@ -81,19 +81,19 @@ fn refuted_both(
     requires few { length rows.now ≤ 4096 }
     requires once { AreOnce terms.now }
     requires named { AllNamed terms.now (all_seen rows.now) }
-    requires neither { IsNeither (length terms.now + 1) (named_lines Rattle.std.specs.Prelude.false terms.now (all_seen rows.now)) (named_lines Rattle.std.specs.Prelude.true terms.now (all_seen rows.now)) k above.now below.now }
+    requires neither { AreBothRefuted (length terms.now + 1) (named_constraints Rattle.std.specs.Prelude.false terms.now (all_seen rows.now)) (named_constraints Rattle.std.specs.Prelude.true terms.now (all_seen rows.now)) k above.now below.now }
     ensures { IfOk result (IsRefuted (all_seen rows.now)) }
 {
     let row = place_of_not(rows, k);
     let last = above[above.len() - 1];
-    let above = spread(alloc, rows, above, k + 1, last)?;
+    let above = multipliers_of_rows(alloc, rows, above, k + 1, last)?;
     let last = below[below.len() - 1];
-    let below = spread(alloc, rows, below, k + 1, last)?;
+    let below = multipliers_of_rows(alloc, rows, below, k + 1, last)?;
     Ok(Absurdity::Two { row, above, below })
 }
 
-/// What comes of the solved lines and the rows that say `not 0`. The rows have the terms, and the columns further ones.
-pub fn told_apart(
+/// What comes of the solved constraints and the rows that say `not 0`. The rows have the terms, and the columns further ones.
+pub fn verdict_of_solved(
     alloc: Global,
     rows: &[Row],
     terms: &[Term],
@@ -108,25 +108,25 @@ pub fn told_apart(
     requires columns { AreOnce columns.now }
     requires continues { Continues terms.now columns.now }
     requires counted { length columns.now < 2 ^ 63 }
-    requires solved { IsSolved (length columns.now + 1) (named_lines Rattle.std.specs.Prelude.false columns.now (all_seen rows.now)) solved.now }
+    requires solved { IsSolved (length columns.now + 1) (named_constraints Rattle.std.specs.Prelude.false columns.now (all_seen rows.now)) solved.now }
     ensures { IfOk result (IsVerdict (all_seen rows.now)) }
 {
-    let forms = lines_where(alloc, true, columns, rows)?;
-    match keep_apart(alloc, solved, &forms, pivots)? {
-        Apart::TooWide => Ok(Verdict::TooWide),
-        Apart::Found(values) => {
+    let forms = constraints_where(alloc, true, columns, rows)?;
+    match satisfy_all(alloc, solved, &forms, pivots)? {
+        Satisfaction::TooWide => Ok(Verdict::TooWide),
+        Satisfaction::Found(values) => {
             let values = named_values(alloc, terms, &values)?;
             Ok(Verdict::Holds(values))
         }
-        Apart::Neither(k, above, below) => {
+        Satisfaction::BothRefuted(k, above, below) => {
             let both = refuted_both(alloc, rows, columns, k, &above, &below)?;
             Ok(Verdict::Absurd(both))
         }
     }
 }
 
-/// What comes of rows whose lines have this outcome.
-pub fn told(
+/// What comes of rows whose constraints have this outcome.
+pub fn verdict_of(
     alloc: Global,
     rows: &[Row],
     terms: &[Term],
@@ -141,7 +141,7 @@ pub fn told(
     requires columns { AreOnce columns.now }
     requires continues { Continues terms.now columns.now }
     requires counted { length columns.now < 2 ^ 63 }
-    requires outcome { IsOutcome (length columns.now + 1) (named_lines Rattle.std.specs.Prelude.false columns.now (all_seen rows.now)) outcome.now }
+    requires outcome { IsOutcome (length columns.now + 1) (named_constraints Rattle.std.specs.Prelude.false columns.now (all_seen rows.now)) outcome.now }
     ensures { IfOk result (IsVerdict (all_seen rows.now)) }
 {
     match outcome {
@@ -151,7 +151,7 @@ pub fn told(
             Ok(Verdict::Absurd(once))
         }
         Outcome::Holds(solved) => {
-            let apart = told_apart(alloc, rows, terms, columns, solved, pivots)?;
+            let apart = verdict_of_solved(alloc, rows, terms, columns, solved, pivots)?;
             Ok(apart)
         }
     }
@@ -184,8 +184,8 @@ pub fn decide_counting(alloc: Global, rows: &[Row], pivots: &mut u64) -> Result<
     ensures absurd { IfOk result (λ v. ¬ IsWide (all_seen rows.now) → ¬ HasSolution (all_seen rows.now) → IsAbsurd v) }
 {
     let terms = terms_of(alloc, rows)?;
-    let lines = lines_where(alloc, false, &terms, rows)?;
-    let outcome = solve_lines(alloc, lines, terms.len() + 1, pivots)?;
-    let verdict = told(alloc, rows, &terms, &terms, &outcome, pivots)?;
+    let constraints = constraints_where(alloc, false, &terms, rows)?;
+    let outcome = solve_constraints(alloc, constraints, terms.len() + 1, pivots)?;
+    let verdict = verdict_of(alloc, rows, &terms, &terms, &outcome, pivots)?;
     Ok(verdict)
 }

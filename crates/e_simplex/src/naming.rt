@@ -4,10 +4,10 @@ ghost use Rattle.std.specs.Prelude.{◌≡◌, ◌+◌, ◌<◌, ◌^◌, IfOk, 
 ghost use Rattle.e_literal.specs.declared.object.Term.{Term};
 ghost use Rattle.e_fraction.specs.Views.{says_of, all_seen};
 ghost use Rattle.e_fraction.specs.Limits.{has_small_coefficients, all_small};
-ghost use Rattle.e_simplex.specs.Lines.{IsSmallLine, AllSmallLines};
-ghost use Rattle.e_simplex.specs.Naming.{place_of, IsIn, AreOnce, Continues, FormNamed, AllNamed, named_form, named_lines};
+ghost use Rattle.e_simplex.specs.Constraints.{IsSmallConstraint, AllSmallConstraints};
+ghost use Rattle.e_simplex.specs.Naming.{place_of, IsIn, AreOnce, Continues, FormNamed, AllNamed, named_form, named_constraints};
 
-use crate::lines::{Kind, Line, Monomial};
+use crate::constraints::{Constraint, Monomial, Sense};
 use e_fraction::{Row, RowKind};
 use e_literal::{Items, Term};
 use std::alloc::{AllocError, Global};
@@ -97,23 +97,23 @@ pub fn padded(alloc: Global, terms: &[Term], count: usize) -> Result<Vec<Term>, 
     Ok(all)
 }
 
-fn kind_of(kind: RowKind) -> Kind
-    ensures { result ≡ Rattle.e_simplex.specs.Naming.kind_of (says_of kind) }
+fn sense(kind: RowKind) -> Sense
+    ensures { result ≡ Rattle.e_simplex.specs.Naming.sense_of (says_of kind) }
 {
     match kind {
-        RowKind::Zero => Kind::Zero,
-        RowKind::AtLeast => Kind::AtLeast,
-        RowKind::More | RowKind::Not => Kind::More,
+        RowKind::Zero => Sense::Zero,
+        RowKind::AtLeast => Sense::AtLeast,
+        RowKind::More | RowKind::Not => Sense::More,
     }
 }
 
-/// The line of a row. One with too many terms is out of memory.
-fn named_line(alloc: Global, row: &Row, terms: &[Term]) -> Result<Line, AllocError>
+/// The constraint of a row. One with too many terms is out of memory.
+fn named_constraint(alloc: Global, row: &Row, terms: &[Term]) -> Result<Constraint, AllocError>
     requires once { AreOnce terms.now }
     requires named { FormNamed terms.now row.now.form }
     requires coefficients { IsTrue (has_small_coefficients row.now.form) }
-    ensures small { IfOk result IsSmallLine }
-    ensures kind { IfOk result (λ l. l.kind ≡ Rattle.e_simplex.specs.Naming.kind_of (says_of row.now.kind)) }
+    ensures small { IfOk result IsSmallConstraint }
+    ensures sense { IfOk result (λ l. l.sense ≡ Rattle.e_simplex.specs.Naming.sense_of (says_of row.now.kind)) }
     ensures form { IfOk result (λ l. l.form ≡ named_form terms.now row.now.form) }
 {
     let summands = row.form.summands();
@@ -127,14 +127,14 @@ fn named_line(alloc: Global, row: &Row, terms: &[Term]) -> Result<Line, AllocErr
             column: place(terms, summands[k].1) + 1,
         })?;
     }
-    Ok(Line {
-        kind: kind_of(row.kind),
+    Ok(Constraint {
+        sense: sense(row.kind),
         form: Items::new(form),
     })
 }
 
 /// Whether the row is wanted: one that says `not 0`, or another.
-pub fn keeps(not: bool, kind: RowKind) -> bool
+pub fn is_kept(not: bool, kind: RowKind) -> bool
     ensures { result ≡ Rattle.e_simplex.specs.Naming.keeps not (says_of kind) }
 {
     match kind {
@@ -143,24 +143,24 @@ pub fn keeps(not: bool, kind: RowKind) -> bool
     }
 }
 
-/// The lines of the rows that say `not 0`, or of the others.
-pub fn lines_where(
+/// The constraints of the rows that say `not 0`, or of the others.
+pub fn constraints_where(
     alloc: Global,
     not: bool,
     terms: &[Term],
     rows: &[Row],
-) -> Result<Vec<Line>, AllocError>
+) -> Result<Vec<Constraint>, AllocError>
     requires once { AreOnce terms.now }
     requires named { AllNamed terms.now (all_seen rows.now) }
     requires coefficients { IsTrue (all_small rows.now) }
-    ensures value { IfOk result (λ v. v.items ≡ named_lines not terms.now (all_seen rows.now)) }
-    ensures small { IfOk result (λ v. AllSmallLines v.items) }
+    ensures value { IfOk result (λ v. v.items ≡ named_constraints not terms.now (all_seen rows.now)) }
+    ensures small { IfOk result (λ v. AllSmallConstraints v.items) }
 {
-    let mut lines = Vec::new(alloc);
+    let mut constraints = Vec::new(alloc);
     for i in 0..rows.len() {
-        if keeps(not, rows[i].kind) {
-            lines.push(named_line(alloc, &rows[i], terms)?)?;
+        if is_kept(not, rows[i].kind) {
+            constraints.push(named_constraint(alloc, &rows[i], terms)?)?;
         }
     }
-    Ok(lines)
+    Ok(constraints)
 }

@@ -1,29 +1,29 @@
-//! Lines with a table in which every row holds, and what comes of one line more.
+//! Constraints with a table in which every row holds, and what comes of one constraint more.
 
 ghost use Rattle.std.specs.Prelude.{◌≡◌, ◌+◌, ◌^◌, ◌<◌, ◌≤◌, ◌++◌, ◌∷◌, [], length, take, IfOk, MatchOption};
-ghost use Rattle.e_simplex.specs.Lines.{numbers, FixedTo, AllSmallLines, AllFormsWithin, IsSolution, rows_of};
+ghost use Rattle.e_simplex.specs.Constraints.{numbers, FixedTo, AllSmallConstraints, AllFormsWithin, IsSolution, rows_of};
 ghost use Rattle.e_fraction.specs.Det.{IsWide};
 ghost use Rattle.e_simplex.specs.Ends.{IsTableOf};
-ghost use Rattle.e_simplex.specs.Solved.{IsSolved, IsSolvedAs, IsOutcome, IsFit, lines_of, columns_of, AreBelow, WideFurther};
+ghost use Rattle.e_simplex.specs.Solved.{IsSolved, IsSolvedAs, IsOutcome, IsFit, constraints_of, columns_of, AreBelow, WideFurther};
 ghost use Rattle.e_simplex.specs.Entries.{AllSmall};
 
+use crate::constraints::{Constraint, is_zero};
 use crate::freeing::rested;
 use crate::further::joined;
-use crate::lines::{Line, is_zero};
 use crate::readings::{values, weights};
 use crate::solve::{End, Table};
 use e_literal::Items;
 use std::alloc::{AllocError, Global};
 
-/// Lines, which numbers are fixed at 0, and a table in which every row holds.
+/// Constraints, which numbers are fixed at 0, and a table in which every row holds.
 #[derive(Drop)]
 pub struct Solved {
-    lines: Vec<Line>,
+    constraints: Vec<Constraint>,
     fixed: Vec<bool>,
     table: Table,
 }
 
-/// What comes of lines: every one holds, or multipliers refute them, or a minor is large.
+/// What comes of constraints: every one holds, or multipliers refute them, or a minor is large.
 #[derive(Drop)]
 pub enum Outcome {
     Holds(Solved),
@@ -42,27 +42,31 @@ fn count_up(alloc: Global, count: usize) -> Result<Vec<usize>, AllocError>
     Ok(all)
 }
 
-/// Which columns are fixed at 0: that of the constants, and those of the slacks of lines that say 0.
-fn fixed_columns(alloc: Global, lines: &[Line], w: usize) -> Result<Vec<bool>, AllocError>
+/// Which columns are fixed at 0: that of the constants, and those of the slacks of constraints that say 0.
+fn fixed_columns(
+    alloc: Global,
+    constraints: &[Constraint],
+    w: usize,
+) -> Result<Vec<bool>, AllocError>
     requires some { 0 < w }
-    requires counted { w + length lines.now < 2 ^ 64 }
-    ensures { IfOk result (λ v. FixedTo (w + length lines.now) lines.now w v.items) }
+    requires counted { w + length constraints.now < 2 ^ 64 }
+    ensures { IfOk result (λ v. FixedTo (w + length constraints.now) constraints.now w v.items) }
 {
     let mut fixed = Vec::new(alloc);
-    for c in 0..w + lines.len() {
+    for c in 0..w + constraints.len() {
         let is_fixed = if c == 0 {
             true
         } else if c < w {
             false
         } else {
-            is_zero(lines[c - w].kind)
+            is_zero(constraints[c - w].sense)
         };
         fixed.push(is_fixed)?;
     }
     Ok(fixed)
 }
 
-/// The table of no line.
+/// The table of no constraint.
 fn empty_table(alloc: Global, w: usize) -> Result<Table, AllocError>
     requires { 0 < w }
     ensures { IfOk result (IsTableOf [] w) }
@@ -76,20 +80,20 @@ fn empty_table(alloc: Global, w: usize) -> Result<Table, AllocError>
     })
 }
 
-/// The table of all lines, from that of the first `from`; None where an entry has size at least 2^63.
+/// The table of all constraints, from that of the first `from`; None where an entry has size at least 2^63.
 fn table_from(
     alloc: Global,
-    lines: &[Line],
+    constraints: &[Constraint],
     from: usize,
     mut table: Table,
 ) -> Result<Option<Table>, AllocError>
-    requires fit { IsFit (length table.columns.items) lines.now }
-    requires within { from ≤ length lines.now }
-    requires table { IsTableOf (take from lines.now) (length table.columns.items) table }
-    ensures { IfOk result (λ o. MatchOption o (IsWide (rows_of lines.now) (length table.columns.items) (2 ^ 63)) (IsTableOf lines.now (length table.columns.items))) }
+    requires fit { IsFit (length table.columns.items) constraints.now }
+    requires within { from ≤ length constraints.now }
+    requires table { IsTableOf (take from constraints.now) (length table.columns.items) table }
+    ensures { IfOk result (λ o. MatchOption o (IsWide (rows_of constraints.now) (length table.columns.items) (2 ^ 63)) (IsTableOf constraints.now (length table.columns.items))) }
 {
-    for i in from..lines.len() {
-        match joined(alloc, lines, i, table)? {
+    for i in from..constraints.len() {
+        match joined(alloc, constraints, i, table)? {
             Some(more) => table = more,
             None => return Ok(None),
         }
@@ -97,23 +101,23 @@ fn table_from(
     Ok(Some(table))
 }
 
-/// What comes of lines whose table is sound.
+/// What comes of constraints whose table is sound.
 fn concluded(
     alloc: Global,
-    lines: Vec<Line>,
+    constraints: Vec<Constraint>,
     fixed: Vec<bool>,
     table: Table,
     pivots: &mut u64,
 ) -> Result<Outcome, AllocError>
-    requires fit { IsFit (length table.columns.items) lines.items }
-    requires fix { FixedTo (length table.columns.items + length lines.items) lines.items (length table.columns.items) fixed.items }
-    requires table { IsTableOf lines.items (length table.columns.items) table }
-    ensures { IfOk result (IsOutcome (length table.columns.items) lines.items) }
+    requires fit { IsFit (length table.columns.items) constraints.items }
+    requires fix { FixedTo (length table.columns.items + length constraints.items) constraints.items (length table.columns.items) fixed.items }
+    requires table { IsTableOf constraints.items (length table.columns.items) table }
+    ensures { IfOk result (IsOutcome (length table.columns.items) constraints.items) }
 {
-    match rested(alloc, &lines, table, &fixed, pivots)? {
+    match rested(alloc, &constraints, table, &fixed, pivots)? {
         End::TooWide => Ok(Outcome::TooWide),
         End::Holds(table) => Ok(Outcome::Holds(Solved {
-            lines,
+            constraints,
             fixed,
             table,
         })),
@@ -131,63 +135,67 @@ fn concluded(
     }
 }
 
-/// What comes of lines, from the table of the first `from`. The pivots that it takes are added to `pivots`.
+/// What comes of constraints, from the table of the first `from`. The pivots that it takes are added to `pivots`.
 fn continued(
     alloc: Global,
-    lines: Vec<Line>,
+    constraints: Vec<Constraint>,
     from: usize,
     table: Table,
     pivots: &mut u64,
 ) -> Result<Outcome, AllocError>
-    requires fit { IsFit (length table.columns.items) lines.items }
-    requires within { from ≤ length lines.items }
-    requires table { IsTableOf (take from lines.items) (length table.columns.items) table }
-    ensures { IfOk result (IsOutcome (length table.columns.items) lines.items) }
+    requires fit { IsFit (length table.columns.items) constraints.items }
+    requires within { from ≤ length constraints.items }
+    requires table { IsTableOf (take from constraints.items) (length table.columns.items) table }
+    ensures { IfOk result (IsOutcome (length table.columns.items) constraints.items) }
 {
     let w = table.columns.len();
-    match table_from(alloc, &lines, from, table)? {
+    match table_from(alloc, &constraints, from, table)? {
         None => Ok(Outcome::TooWide),
         Some(table) => {
-            let fixed = fixed_columns(alloc, &lines, w)?;
-            concluded(alloc, lines, fixed, table, pivots)
+            let fixed = fixed_columns(alloc, &constraints, w)?;
+            concluded(alloc, constraints, fixed, table, pivots)
         }
     }
 }
 
-/// What comes of lines. The pivots that it takes are added to `pivots`.
-pub fn solve_lines(
+/// What comes of constraints. The pivots that it takes are added to `pivots`.
+pub fn solve_constraints(
     alloc: Global,
-    lines: Vec<Line>,
+    constraints: Vec<Constraint>,
     w: usize,
     pivots: &mut u64,
 ) -> Result<Outcome, AllocError>
-    requires { IsFit w lines.items }
-    ensures { IfOk result (IsOutcome w lines.items) }
+    requires { IsFit w constraints.items }
+    ensures { IfOk result (IsOutcome w constraints.items) }
 {
     let table = empty_table(alloc, w)?;
-    continued(alloc, lines, 0, table, pivots)
+    continued(alloc, constraints, 0, table, pivots)
 }
 
-/// An equal line.
-fn copy_of_line(alloc: Global, line: &Line) -> Result<Line, AllocError>
-    ensures { IfOk result (λ l. l ≡ line.now) }
+/// An equal constraint.
+fn copy_of_constraint(alloc: Global, constraint: &Constraint) -> Result<Constraint, AllocError>
+    ensures { IfOk result (λ l. l ≡ constraint.now) }
 {
-    Ok(Line {
-        kind: line.kind,
-        form: Items::new(Vec::from_slice(alloc, line.form.items())?),
+    Ok(Constraint {
+        sense: constraint.sense,
+        form: Items::new(Vec::from_slice(alloc, constraint.form.items())?),
     })
 }
 
-/// The lines, and more.
-fn lines_with(alloc: Global, lines: &[Line], more: &[Line]) -> Result<Vec<Line>, AllocError>
-    ensures { IfOk result (λ v. v.items ≡ lines.now ++ more.now) }
+/// The constraints, and more.
+fn constraints_with(
+    alloc: Global,
+    constraints: &[Constraint],
+    more: &[Constraint],
+) -> Result<Vec<Constraint>, AllocError>
+    ensures { IfOk result (λ v. v.items ≡ constraints.now ++ more.now) }
 {
     let mut all = Vec::new(alloc);
-    for old in lines {
-        all.push(copy_of_line(alloc, old)?)?;
+    for old in constraints {
+        all.push(copy_of_constraint(alloc, old)?)?;
     }
     for further in more {
-        all.push(copy_of_line(alloc, further)?)?;
+        all.push(copy_of_constraint(alloc, further)?)?;
     }
     Ok(all)
 }
@@ -217,27 +225,30 @@ fn copy_of_table(alloc: Global, table: &Table, more: usize) -> Result<Table, All
     })
 }
 
-/// Equal lines.
-fn copies_of_lines(alloc: Global, lines: &[Line]) -> Result<Vec<Line>, AllocError>
-    ensures { IfOk result (λ v. v.items ≡ lines.now) }
+/// Equal constraints.
+fn copies_of_constraints(
+    alloc: Global,
+    constraints: &[Constraint],
+) -> Result<Vec<Constraint>, AllocError>
+    ensures { IfOk result (λ v. v.items ≡ constraints.now) }
 {
     let mut all = Vec::new(alloc);
-    for line in lines {
-        all.push(copy_of_line(alloc, line)?)?;
+    for constraint in constraints {
+        all.push(copy_of_constraint(alloc, constraint)?)?;
     }
     Ok(all)
 }
 
 impl Solved {
-    /// The same lines with the same table.
+    /// The same constraints with the same table.
     pub fn copied(&self, alloc: Global) -> Result<Solved, AllocError>
         ensures { IfOk result (IsSolvedAs self.now) }
     {
         let fixed = Vec::from_slice(alloc, &self.fixed)?;
         let table = copy_of_table(alloc, &self.table, 0)?;
-        let lines = copies_of_lines(alloc, &self.lines)?;
+        let constraints = copies_of_constraints(alloc, &self.constraints)?;
         Ok(Solved {
-            lines,
+            constraints,
             fixed,
             table,
         })
@@ -250,39 +261,44 @@ impl Solved {
         self.table.columns.len()
     }
 
-    /// What comes of the lines and more. The solved table stays as it is, and the pivots are added to `pivots`.
+    /// What comes of the constraints and more. The solved table stays as it is, and the pivots are added to `pivots`.
     pub fn with_all(
         &self,
         alloc: Global,
-        more: &[Line],
+        more: &[Constraint],
         pivots: &mut u64,
     ) -> Result<Outcome, AllocError>
-        requires solved { IsSolved (columns_of self.now) (lines_of self.now) self.now }
-        requires fit { IsFit (columns_of self.now) (lines_of self.now ++ more.now) }
-        ensures { IfOk result (IsOutcome (columns_of self.now) (lines_of self.now ++ more.now)) }
+        requires solved { IsSolved (columns_of self.now) (constraints_of self.now) self.now }
+        requires fit { IsFit (columns_of self.now) (constraints_of self.now ++ more.now) }
+        ensures { IfOk result (IsOutcome (columns_of self.now) (constraints_of self.now ++ more.now)) }
     {
-        let lines = lines_with(alloc, &self.lines, more)?;
+        let constraints = constraints_with(alloc, &self.constraints, more)?;
         let table = copy_of_table(alloc, &self.table, more.len())?;
-        continued(alloc, lines, self.lines.len(), table, pivots)
+        continued(alloc, constraints, self.constraints.len(), table, pivots)
     }
 
-    /// What comes of the lines and one more. The solved table stays as it is, and the pivots are added to `pivots`.
-    pub fn with(&self, alloc: Global, line: &Line, pivots: &mut u64) -> Result<Outcome, AllocError>
-        requires solved { IsSolved (columns_of self.now) (lines_of self.now) self.now }
-        requires fit { IsFit (columns_of self.now) (lines_of self.now ++ line.now ∷ []) }
-        ensures { IfOk result (IsOutcome (columns_of self.now) (lines_of self.now ++ line.now ∷ [])) }
+    /// What comes of the constraints and one more. The solved table stays as it is, and the pivots are added to `pivots`.
+    pub fn with(
+        &self,
+        alloc: Global,
+        constraint: &Constraint,
+        pivots: &mut u64,
+    ) -> Result<Outcome, AllocError>
+        requires solved { IsSolved (columns_of self.now) (constraints_of self.now) self.now }
+        requires fit { IsFit (columns_of self.now) (constraints_of self.now ++ constraint.now ∷ []) }
+        ensures { IfOk result (IsOutcome (columns_of self.now) (constraints_of self.now ++ constraint.now ∷ [])) }
     {
-        let more = [copy_of_line(alloc, line)?];
+        let more = [copy_of_constraint(alloc, constraint)?];
         self.with_all(alloc, &more, pivots)
     }
 
     /// The values of the columns.
     pub fn values(&self, alloc: Global) -> Result<Vec<i128>, AllocError>
-        requires { IsSolved (columns_of self.now) (lines_of self.now) self.now }
-        ensures solution { IfOk result (λ v. IsSolution (columns_of self.now) (lines_of self.now) v.items) }
+        requires { IsSolved (columns_of self.now) (constraints_of self.now) self.now }
+        ensures solution { IfOk result (λ v. IsSolution (columns_of self.now) (constraints_of self.now) v.items) }
         ensures small { IfOk result (λ v. AllSmall v.items) }
-        ensures bounded { IfOk result (λ v. AreBelow (2 ^ 64) (lines_of self.now) v.items) }
-        ensures further { IfOk result (λ v. WideFurther (columns_of self.now) (lines_of self.now) v.items) }
+        ensures bounded { IfOk result (λ v. AreBelow (2 ^ 64) (constraints_of self.now) v.items) }
+        ensures further { IfOk result (λ v. WideFurther (columns_of self.now) (constraints_of self.now) v.items) }
     {
         let found = values(
             alloc,

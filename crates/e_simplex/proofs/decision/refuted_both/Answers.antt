@@ -1,16 +1,16 @@
 use Rattle.std.proofs.Common.{◌-◌, arith, length, get_or, pos, SFits, to_z-of_z, []}
 use mir.Syntax.{w128}
 use Rattle.e_fraction.specs.Views.{all_seen}
-use Rattle.e_simplex.proofs.Spreading.{nots_most}
-use Rattle.e_simplex.specs.declared.lines.Line.{Line}
-use Rattle.e_simplex.specs.declared.lines.Kind.TheVariants.{More}
+use Rattle.e_simplex.proofs.RowMultipliers.{nots_most}
+use Rattle.e_simplex.specs.declared.constraints.Constraint.{Constraint}
+use Rattle.e_simplex.specs.declared.constraints.Sense.TheVariants.{More}
 use Rattle.e_simplex.proofs.Assigning.{none_two}
 use Rattle.e_simplex.proofs.Refuting.{small_anywhere, is_below, above_long, below_long, both_refute}
 use Rattle.e_simplex.proofs.decision.refuted_both.Goals as goal
 use Rattle.e_literal.proofs.Arith.{fits_wide}
 
-some : Line
-some = record { kind = More; form = [] }
+some : Constraint
+some = record { sense = More; form = [] }
 
 pub place_of_not-row-requires-clause-here : goal.place_of_not-row-requires-clause-here
 place_of_not-row-requires-clause-here c = is_below c.args.terms.now c.args.rows.now c.args.k c.args.above.now c.args.below.now c.requires.once c.requires.named c.requires.neither
