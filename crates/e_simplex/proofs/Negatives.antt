@@ -7,7 +7,7 @@ use Rattle.e_simplex.specs.declared.constraints.Monomial.{Monomial}
 use Rattle.e_simplex.specs.declared.constraints.Constraint.{Constraint}
 use Rattle.e_simplex.specs.declared.constraints.Sense.{Sense}
 use Rattle.e_simplex.specs.declared.constraints.Sense.TheVariants.{More}
-use Rattle.e_simplex.specs.declared.solved.Solved.{Solved}
+use Rattle.e_simplex.specs.declared.table.Table.{Table}
 use Rattle.e_fraction.specs.Tableau.{unit}
 use Rattle.e_simplex.specs.Entries.{AllSmall}
 use Rattle.e_simplex.specs.Constraints.{form_at, form_value, FormWithin, IsSmallConstraint, AllSmallConstraints, AllFormsWithin, IsSolution, ConstraintHolds}
@@ -83,7 +83,7 @@ fit_other w constraints l m small within h a b = record {
 }
 
 -- a solved table of these constraints is one of its own constraints
-pub own_solved : (w : ℕ) (constraints : List Constraint) (s : Solved) → IsSolved w constraints s → IsSolved (columns_of s) (constraints_of s) s
+pub own_solved : (w : ℕ) (constraints : List Constraint) (s : Table) → IsSolved w constraints s → IsSolved (columns_of s) (constraints_of s) s
 own_solved w constraints s h =
     subst (λ v. IsSolved v (constraints_of s) s) (sym h.table.columns_many) (subst (λ v. IsSolved w v s) (sym h.constraints_are) h)
 
@@ -103,7 +103,7 @@ last_below : (constraints : List Constraint) (l : Constraint) (values : List ℤ
 last_below constraints l values h = subst (λ x. unsigned_abs (form_value x.form values) < 2 ^ 64) (get_or_push constraints l l (length constraints) refl) (h (length constraints) l (omega (arith, length_push constraints l)))
 
 -- values of the table of the constraints and one more, which says more
-module _ (w : ℕ) (constraints : List Constraint) (l : Constraint) (s : Solved) (values : List ℤ) (more : l.sense ≡ More) (h : IsSolved w (constraints ++ l ∷ []) s)
+module _ (w : ℕ) (constraints : List Constraint) (l : Constraint) (s : Table) (values : List ℤ) (more : l.sense ≡ More) (h : IsSolved w (constraints ++ l ∷ []) s)
     (a : IsSolution (columns_of s) (constraints_of s) values) (b : AllSmall values) (c : AreBelow (2 ^ 64) (constraints_of s) values) (f : WideFurther (columns_of s) (constraints_of s) values) where
   a2 : IsSolution w (constraints ++ l ∷ []) values
   a2 = subst (λ v. IsSolution v (constraints ++ l ∷ []) values) h.table.columns_many (subst (λ v. IsSolution (columns_of s) v values) h.constraints_are a)

@@ -21,7 +21,7 @@ use Rattle.e_simplex.specs.inner.RowMultipliers.{row_multipliers, count_nots}
 use Rattle.e_simplex.specs.Answer.{each_weighed, MayTake, AreTaken, TakesMore, Refutes, RefutesBoth, IsNotAt, as_more, as_less}
 use Rattle.e_simplex.specs.inner.Disequalities.{AreBothRefuted, AreFurther, WideWithSome, AreUnequal}
 use Rattle.e_simplex.specs.Solved.{IsSolved, columns_of, constraints_of}
-use Rattle.e_simplex.specs.declared.solved.Solved.{Solved}
+use Rattle.e_simplex.specs.declared.table.Table.{Table}
 use Rattle.e_literal.specs.Minor.{IsWide}
 use Rattle.e_literal.specs.Solution.{HasSolution}
 use Rattle.e_simplex.specs.Answer.{IsVerdict, IsHolds, assigned}
@@ -448,14 +448,14 @@ law_absurd rows (Holds x) h n s = s (record { values = assigned x; satisfy = h.s
 law_absurd rows TooWide h n s = n h.0
 
 -- what is said of the constraints and columns of a solved table
-pub solved_further : (s : Solved) (w : ℕ) (constraints forms fs : List Constraint) → IsSolved w constraints s → fs ≡ forms → AreFurther w constraints forms → AreFurther (columns_of s) (constraints_of s) fs
+pub solved_further : (s : Table) (w : ℕ) (constraints forms fs : List Constraint) → IsSolved w constraints s → fs ≡ forms → AreFurther w constraints forms → AreFurther (columns_of s) (constraints_of s) fs
 solved_further s w constraints forms fs h e f =
     subst (λ v. AreFurther v (constraints_of s) fs) (sym h.table.columns_many) (subst (λ v. AreFurther w v fs) (sym h.constraints_are) (subst (AreFurther w constraints) (sym e) f))
 
-pub solved_wide : (s : Solved) (w : ℕ) (constraints forms fs : List Constraint) → IsSolved w constraints s → fs ≡ forms → WideWithSome (columns_of s) (constraints_of s) fs → WideWithSome w constraints forms
+pub solved_wide : (s : Table) (w : ℕ) (constraints forms fs : List Constraint) → IsSolved w constraints s → fs ≡ forms → WideWithSome (columns_of s) (constraints_of s) fs → WideWithSome w constraints forms
 solved_wide s w constraints forms fs h e f =
     subst (WideWithSome w constraints) e (subst (λ v. WideWithSome w v fs) h.constraints_are (subst (λ v. WideWithSome v (constraints_of s) fs) h.table.columns_many f))
 
-pub solved_unequal : (s : Solved) (w : ℕ) (constraints forms fs : List Constraint) (values : List ℤ) → IsSolved w constraints s → fs ≡ forms → AreUnequal (columns_of s) (constraints_of s) fs values → AreUnequal w constraints forms values
+pub solved_unequal : (s : Table) (w : ℕ) (constraints forms fs : List Constraint) (values : List ℤ) → IsSolved w constraints s → fs ≡ forms → AreUnequal (columns_of s) (constraints_of s) fs values → AreUnequal w constraints forms values
 solved_unequal s w constraints forms fs values h e f =
     subst (λ v. AreUnequal w constraints v values) e (subst (λ v. AreUnequal w v fs values) h.constraints_are (subst (λ v. AreUnequal v (constraints_of s) fs values) h.table.columns_many f))

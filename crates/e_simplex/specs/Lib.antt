@@ -1,6 +1,7 @@
 pub mod Entries
 pub mod Sound
 pub mod Least
+pub mod Table
 pub mod Ends
 pub mod Constraints
 pub mod Solved

@@ -1,6 +1,7 @@
 //! Decides rows over terms.
 
-ghost use Rattle.std.specs.Prelude.{◌≡◌, ◌≢◌, ℕ, ◌+◌, ◌<◌, ◌≤◌, ◌^◌, pos, length, get_or, IfOk, IsTrue};
+ghost use Rattle.std.specs.Prelude.{◌≡◌, ℕ, ◌+◌, ◌<◌, ◌≤◌, ◌^◌, length, IfOk, IsTrue};
+ghost use Rattle.std.specs.Prelude.{true, false};
 ghost use Rattle.e_literal.specs.Minor.{IsWide};
 ghost use Rattle.e_fraction.specs.Limits.{all_small};
 ghost use Rattle.e_literal.specs.Solution.{HasSolution};
@@ -15,7 +16,8 @@ ghost use Rattle.e_simplex.specs.Answer.{IsAbsurdity, IsVerdict, IsRefuted, IsHo
 use crate::disequalities::{Satisfaction, satisfy_all};
 use crate::multipliers::{multipliers_of_rows, place_of_not};
 use crate::naming::{constraints_where, terms_of};
-use crate::solved::{Outcome, Solved, solve_constraints};
+use crate::solved::{Outcome, solve_constraints};
+use crate::table::Table;
 use e_fraction::Row;
 use e_literal::{Term, Values};
 use std::alloc::{AllocError, Global};
@@ -62,7 +64,7 @@ pub fn refuted_once(
     requires few { length rows.now ≤ 4096 }
     requires once { AreOnce terms.now }
     requires named { AllNamed terms.now (all_seen rows.now) }
-    requires absurd { Constraints.IsAbsurd (length terms.now + 1) (named_constraints Rattle.std.specs.Prelude.false terms.now (all_seen rows.now)) weights.now }
+    requires absurd { Constraints.IsAbsurd (length terms.now + 1) (named_constraints false terms.now (all_seen rows.now)) weights.now }
     ensures { IfOk result (IsRefuted (all_seen rows.now)) }
 {
     let multipliers = multipliers_of_rows(alloc, rows, weights, 0, 0)?;
@@ -81,7 +83,7 @@ fn refuted_both(
     requires few { length rows.now ≤ 4096 }
     requires once { AreOnce terms.now }
     requires named { AllNamed terms.now (all_seen rows.now) }
-    requires neither { AreBothRefuted (length terms.now + 1) (named_constraints Rattle.std.specs.Prelude.false terms.now (all_seen rows.now)) (named_constraints Rattle.std.specs.Prelude.true terms.now (all_seen rows.now)) k above.now below.now }
+    requires neither { AreBothRefuted (length terms.now + 1) (named_constraints false terms.now (all_seen rows.now)) (named_constraints true terms.now (all_seen rows.now)) k above.now below.now }
     ensures { IfOk result (IsRefuted (all_seen rows.now)) }
 {
     let row = place_of_not(rows, k);
@@ -98,8 +100,7 @@ pub fn verdict_of_solved(
     rows: &[Row],
     terms: &[Term],
     columns: &[Term],
-    solved: &Solved,
-    pivots: &mut u64,
+    solved: &Table,
 ) -> Result<Verdict, AllocError>
     requires few { length rows.now ≤ 4096 }
     requires coefficients { IsTrue (all_small rows.now) }
@@ -108,11 +109,11 @@ pub fn verdict_of_solved(
     requires columns { AreOnce columns.now }
     requires continues { Continues terms.now columns.now }
     requires counted { length columns.now < 2 ^ 63 }
-    requires solved { IsSolved (length columns.now + 1) (named_constraints Rattle.std.specs.Prelude.false columns.now (all_seen rows.now)) solved.now }
+    requires solved { IsSolved (length columns.now + 1) (named_constraints false columns.now (all_seen rows.now)) solved.now }
     ensures { IfOk result (IsVerdict (all_seen rows.now)) }
 {
     let forms = constraints_where(alloc, true, columns, rows)?;
-    match satisfy_all(alloc, solved, &forms, pivots)? {
+    match satisfy_all(alloc, solved, &forms)? {
         Satisfaction::TooWide => Ok(Verdict::TooWide),
         Satisfaction::Found(values) => {
             let values = named_values(alloc, terms, &values)?;
@@ -132,7 +133,6 @@ pub fn verdict_of(
     terms: &[Term],
     columns: &[Term],
     outcome: &Outcome,
-    pivots: &mut u64,
 ) -> Result<Verdict, AllocError>
     requires few { length rows.now ≤ 4096 }
     requires coefficients { IsTrue (all_small rows.now) }
@@ -141,7 +141,7 @@ pub fn verdict_of(
     requires columns { AreOnce columns.now }
     requires continues { Continues terms.now columns.now }
     requires counted { length columns.now < 2 ^ 63 }
-    requires outcome { IsOutcome (length columns.now + 1) (named_constraints Rattle.std.specs.Prelude.false columns.now (all_seen rows.now)) outcome.now }
+    requires outcome { IsOutcome (length columns.now + 1) (named_constraints false columns.now (all_seen rows.now)) outcome.now }
     ensures { IfOk result (IsVerdict (all_seen rows.now)) }
 {
     match outcome {
@@ -151,8 +151,8 @@ pub fn verdict_of(
             Ok(Verdict::Absurd(once))
         }
         Outcome::Holds(solved) => {
-            let apart = verdict_of_solved(alloc, rows, terms, columns, solved, pivots)?;
-            Ok(apart)
+            let verdict = verdict_of_solved(alloc, rows, terms, columns, solved)?;
+            Ok(verdict)
         }
     }
 }
@@ -170,22 +170,9 @@ pub fn decide(alloc: Global, rows: &[Row]) -> Result<Verdict, AllocError>
     ensures holds { IfOk result (λ v. ¬ IsWide (all_seen rows.now) → HasSolution (all_seen rows.now) → IsHolds v) }
     ensures absurd { IfOk result (λ v. ¬ IsWide (all_seen rows.now) → ¬ HasSolution (all_seen rows.now) → IsAbsurd v) }
 {
-    let mut pivots = 0;
-    let verdict = decide_counting(alloc, rows, &mut pivots)?;
-    Ok(verdict)
-}
-
-/// [`decide`], which adds the pivots that it takes to `pivots`: a measure of the work, of which no clause speaks.
-pub fn decide_counting(alloc: Global, rows: &[Row], pivots: &mut u64) -> Result<Verdict, AllocError>
-    requires few { length rows.now ≤ 4096 }
-    requires coefficients { IsTrue (all_small rows.now) }
-    ensures verdict { IfOk result (IsVerdict (all_seen rows.now)) }
-    ensures holds { IfOk result (λ v. ¬ IsWide (all_seen rows.now) → HasSolution (all_seen rows.now) → IsHolds v) }
-    ensures absurd { IfOk result (λ v. ¬ IsWide (all_seen rows.now) → ¬ HasSolution (all_seen rows.now) → IsAbsurd v) }
-{
     let terms = terms_of(alloc, rows)?;
     let constraints = constraints_where(alloc, false, &terms, rows)?;
-    let outcome = solve_constraints(alloc, constraints, terms.len() + 1, pivots)?;
-    let verdict = verdict_of(alloc, rows, &terms, &terms, &outcome, pivots)?;
+    let outcome = solve_constraints(alloc, constraints, terms.len() + 1)?;
+    let verdict = verdict_of(alloc, rows, &terms, &terms, &outcome)?;
     Ok(verdict)
 }

@@ -1,16 +1,18 @@
 //! Values that satisfy constraints, and at which no form of a list is 0.
 
-ghost use Rattle.std.specs.Prelude.{◌≡◌, ◌≢◌, ℕ, ℤ, List, ◌^◌, ◌<◌, ◌≤◌, pos, length, get_or, unsigned_abs, IfOk, MatchOption};
+ghost use Rattle.std.specs.Prelude.{◌≡◌, ◌≢◌, ℕ, ℤ, List, ◌^◌, ◌<◌, ◌≤◌, pos, length, get_or};
+ghost use Rattle.std.specs.Prelude.{unsigned_abs, IfOk, MatchOption};
 ghost use Rattle.e_simplex.specs.declared.constraints.Constraint.{Constraint};
 ghost use Rattle.e_simplex.specs.Entries.{AllSmall};
 ghost use Rattle.e_simplex.specs.Constraints.{AllSmallConstraints, AllFormsWithin, form_value};
 ghost use Rattle.e_simplex.specs.Solved.{IsSolved, columns_of, constraints_of};
 ghost use Rattle.e_simplex.specs.inner.Points.{IsPoint};
-ghost use Rattle.e_simplex.specs.inner.Disequalities.{AreFurther, IsMoved, LargeForm, IsNextPoint, IsSatisfaction};
+ghost use Rattle.e_simplex.specs.inner.Disequalities.{AreFurther, IsMoved, LargeForm};
+ghost use Rattle.e_simplex.specs.inner.Disequalities.{IsNextPoint, IsSatisfaction};
 
 use crate::constraints::Constraint;
 use crate::multiple::{combined, least_multiple};
-use crate::solved::Solved;
+use crate::table::Table;
 use crate::unequal::{Tried, large_place, try_both, values_at};
 use std::alloc::{AllocError, Global};
 
@@ -37,8 +39,8 @@ pub enum Satisfaction {
     TooWide,
 }
 
-/// Adds the least multiple of the values found that leaves none of the first `k` forms 0; None where another form
-/// than that at `k` is large there.
+/// Adds the least multiple of the values found that leaves none of the first `k` forms 0; None where
+/// another form than that at `k` is large there.
 fn moved_point(
     alloc: Global,
     forms: &[Constraint],
@@ -54,12 +56,16 @@ fn moved_point(
     requires found { AllSmall found.now }
     requires values { length values.now ≡ length found.now }
     requires form_values { length form_values.now ≡ length forms.now }
-    requires small_values { (c : ℕ) → c < length values.now → unsigned_abs (get_or values.now c (pos 0)) < 2 ^ 90 }
-    requires small_form_values { (j : ℕ) → j < length form_values.now → unsigned_abs (get_or form_values.now j (pos 0)) < 2 ^ 90 }
-    requires below { (d : Constraint) → unsigned_abs (form_value (get_or forms.now k d).form found.now) < 2 ^ 64 }
+    requires small_values { (c : ℕ) → c < length values.now →
+        unsigned_abs (get_or values.now c (pos 0)) < 2 ^ 90 }
+    requires small_form_values { (j : ℕ) → j < length form_values.now →
+        unsigned_abs (get_or form_values.now j (pos 0)) < 2 ^ 90 }
+    requires below { (d : Constraint) →
+        unsigned_abs (form_value (get_or forms.now k d).form found.now) < 2 ^ 64 }
     requires none_before { (j : ℕ) → j < k → get_or form_values.now j (pos 0) ≢ pos 0 }
     ensures { IfOk result (λ o. MatchOption o (LargeForm forms.now k found.now)
-        (λ m. (second : List ℤ) × (t : ℕ) × IsMoved forms.now k values.now form_values.now found.now second t m)) }
+        (λ m. (second : List ℤ) × (t : ℕ)
+        × IsMoved forms.now k values.now form_values.now found.now second t m)) }
 {
     let second = values_at(alloc, forms, found)?;
     match large_place(&second, k) {
@@ -74,23 +80,25 @@ fn moved_point(
     }
 }
 
-/// From values at which the first `k` forms are not 0, and the next is, to values at which that one is not 0 either.
+/// From values at which the first `k` forms are not 0, and the next is, to values at which that one
+/// is not 0 either.
 fn next_point(
     alloc: Global,
-    solved: &Solved,
+    solved: &Table,
     forms: &[Constraint],
     k: usize,
     point: &Point,
-    pivots: &mut u64,
 ) -> Result<NextPoint, AllocError>
     requires solved { IsSolved (columns_of solved.now) (constraints_of solved.now) solved.now }
     requires forms { AreFurther (columns_of solved.now) (constraints_of solved.now) forms.now }
     requires here { k < length forms.now }
-    requires point { IsPoint (columns_of solved.now) (constraints_of solved.now) forms.now k point.now.values.items point.now.form_values.items }
+    requires point { IsPoint (columns_of solved.now) (constraints_of solved.now) forms.now k
+        point.now.values.items point.now.form_values.items }
     requires none { get_or point.now.form_values.items k (pos 0) ≡ pos 0 }
-    ensures { IfOk result (IsNextPoint (columns_of solved.now) (constraints_of solved.now) forms.now k) }
+    ensures { IfOk result
+        (IsNextPoint (columns_of solved.now) (constraints_of solved.now) forms.now k) }
 {
-    match try_both(alloc, solved, &forms[k], pivots)? {
+    match try_both(alloc, solved, &forms[k])? {
         Tried::TooWide => Ok(NextPoint::TooWide),
         Tried::BothRefuted(above, below) => Ok(NextPoint::BothRefuted(above, below)),
         Tried::Found(found) => match moved_point(
@@ -110,13 +118,13 @@ fn next_point(
 /// Values that satisfy the solved constraints and at which no form is 0.
 pub fn satisfy_all(
     alloc: Global,
-    solved: &Solved,
+    solved: &Table,
     forms: &[Constraint],
-    pivots: &mut u64,
 ) -> Result<Satisfaction, AllocError>
     requires solved { IsSolved (columns_of solved.now) (constraints_of solved.now) solved.now }
     requires forms { AreFurther (columns_of solved.now) (constraints_of solved.now) forms.now }
-    ensures { IfOk result (IsSatisfaction (columns_of solved.now) (constraints_of solved.now) forms.now) }
+    ensures { IfOk result
+        (IsSatisfaction (columns_of solved.now) (constraints_of solved.now) forms.now) }
 {
     let values = solved.values(alloc)?;
     let form_values = values_at(alloc, forms, &values)?;
@@ -130,26 +138,28 @@ pub fn satisfy_all(
                 values,
                 form_values,
             },
-            pivots,
         ),
     }
 }
 
+/// From values that satisfy the solved constraints to values at which no form is 0 either, form by
+/// form: sums and multiples of solutions are solutions.
 fn satisfy_from(
     alloc: Global,
-    solved: &Solved,
+    solved: &Table,
     forms: &[Constraint],
     mut point: Point,
-    pivots: &mut u64,
 ) -> Result<Satisfaction, AllocError>
     requires solved { IsSolved (columns_of solved.now) (constraints_of solved.now) solved.now }
     requires forms { AreFurther (columns_of solved.now) (constraints_of solved.now) forms.now }
-    requires point { IsPoint (columns_of solved.now) (constraints_of solved.now) forms.now 0 point.values.items point.form_values.items }
-    ensures { IfOk result (IsSatisfaction (columns_of solved.now) (constraints_of solved.now) forms.now) }
+    requires point { IsPoint (columns_of solved.now) (constraints_of solved.now) forms.now 0
+        point.values.items point.form_values.items }
+    ensures { IfOk result
+        (IsSatisfaction (columns_of solved.now) (constraints_of solved.now) forms.now) }
 {
     for k in 0..forms.len() {
         if point.form_values[k] == 0 {
-            match next_point(alloc, solved, forms, k, &point, pivots)? {
+            match next_point(alloc, solved, forms, k, &point)? {
                 NextPoint::Moved(more) => point = more,
                 NextPoint::BothRefuted(above, below) => return Ok(Satisfaction::BothRefuted(
                     k, above, below,

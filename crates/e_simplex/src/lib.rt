@@ -1,5 +1,6 @@
-//! Decides systems of linear rows over whole numbers of at least 0: values that satisfy them, or multipliers that
-//! show that there are none, or the proved excuse that some minor of the rows is large.
+//! Decides systems of linear rows over whole numbers of at least 0: values that satisfy them, or
+//! multipliers that show that there are none, or the proved excuse that some minor of the rows is
+//! large.
 #![tactic(auto)]
 
 mod choose;
@@ -19,8 +20,9 @@ mod readings;
 mod solve;
 mod solved;
 mod solved_rows;
+mod table;
 mod unequal;
 
-pub use decision::{Absurdity, Verdict, decide, decide_counting};
+pub use decision::{Absurdity, Verdict, decide};
 pub use e_fraction::width;
 pub use solved_rows::{Prepared, SolvedRows, prepare};

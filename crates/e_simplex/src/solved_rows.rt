@@ -1,6 +1,6 @@
 //! Rows that are solved once, and asked about with further rows.
 
-ghost use Rattle.std.specs.Prelude.{◌≡◌, ℕ, ◌++◌, ◌+◌, ◌<◌, ◌≤◌, ◌^◌, length, IfOk, IsTrue};
+ghost use Rattle.std.specs.Prelude.{◌≡◌, ℕ, ◌++◌, ◌+◌, ◌<◌, ◌≤◌, ◌^◌, length, IfOk, IsTrue, false};
 ghost use Rattle.e_literal.specs.Minor.{IsWide};
 ghost use Rattle.e_literal.specs.Solution.{HasSolution};
 ghost use Rattle.e_fraction.specs.Limits.{all_small};
@@ -14,7 +14,8 @@ ghost use Rattle.e_simplex.specs.SolvedRows.{IsTableFor};
 
 use crate::decision::{Absurdity, Verdict, decide, refuted_once, verdict_of, verdict_of_solved};
 use crate::naming::{constraints_where, padded, terms_of, terms_with};
-use crate::solved::{Outcome, Solved, solve_constraints};
+use crate::solved::{Outcome, solve_constraints};
+use crate::table::Table;
 use e_fraction::{Row, Signed};
 use e_literal::{Term, Values};
 use std::alloc::{AllocError, Global};
@@ -28,7 +29,7 @@ const SPARE: usize = 8;
 pub struct SolvedRows {
     rows: Vec<Row>,
     terms: Vec<Term>,
-    solved: Solved,
+    solved: Table,
     values: Values,
 }
 
@@ -93,7 +94,7 @@ fn with_values(
     rows: Vec<Row>,
     terms: Vec<Term>,
     columns: &[Term],
-    solved: Solved,
+    solved: Table,
 ) -> Result<Prepared, AllocError>
     requires few { length rows.items ≤ 4096 }
     requires coefficients { IsTrue (all_small rows.items) }
@@ -102,11 +103,10 @@ fn with_values(
     requires columns { AreOnce columns.now }
     requires continues { Continues terms.items columns.now }
     requires counted { length columns.now < 2 ^ 63 }
-    requires solved { IsSolved (length columns.now + 1) (named_constraints Rattle.std.specs.Prelude.false columns.now (all_seen rows.items)) solved }
+    requires solved { IsSolved (length columns.now + 1) (named_constraints false columns.now (all_seen rows.items)) solved }
     ensures { IfOk result (IsPrepared rows.items) }
 {
-    let mut pivots = 0;
-    match verdict_of_solved(alloc, &rows, &terms, columns, &solved, &mut pivots)? {
+    match verdict_of_solved(alloc, &rows, &terms, columns, &solved)? {
         Verdict::TooWide => Ok(Prepared::TooWide),
         Verdict::Absurd(absurdity) => Ok(Prepared::Absurd(absurdity)),
         Verdict::Holds(values) => Ok(Prepared::SolvedRows(SolvedRows {
@@ -129,8 +129,7 @@ pub fn prepare(alloc: Global, rows: Vec<Row>) -> Result<Prepared, AllocError>
     let terms = terms_of(alloc, &rows)?;
     let columns = padded(alloc, &terms, terms.len() + SPARE)?;
     let constraints = constraints_where(alloc, false, &columns, &rows)?;
-    let mut pivots = 0;
-    match solve_constraints(alloc, constraints, columns.len() + 1, &mut pivots)? {
+    match solve_constraints(alloc, constraints, columns.len() + 1)? {
         Outcome::TooWide => Ok(Prepared::TooWide),
         Outcome::Absurd(weights) => {
             let once = refuted_once(alloc, &rows, &columns, &weights)?;
@@ -146,7 +145,7 @@ fn decided_with(
     alloc: Global,
     rows: &[Row],
     terms: &[Term],
-    solved: &Solved,
+    solved: &Table,
     more: &[Row],
 ) -> Result<Verdict, AllocError>
     requires few { length (rows.now ++ more.now) ≤ 4096 }
@@ -156,19 +155,18 @@ fn decided_with(
 {
     let all = rows_with(alloc, rows, more)?;
     let terms = terms_with(alloc, terms, more)?;
-    let columns = padded(alloc, &terms, solved.columns() - 1)?;
-    if columns.len() + 1 != solved.columns() {
+    let columns = padded(alloc, &terms, solved.width() - 1)?;
+    if columns.len() + 1 != solved.width() {
         let verdict = decide(alloc, &all)?;
         return Ok(verdict);
     }
     let constraints = constraints_where(alloc, false, &columns, more)?;
-    let mut pivots = 0;
     if constraints.is_empty() {
-        let verdict = verdict_of_solved(alloc, &all, &terms, &columns, solved, &mut pivots)?;
+        let verdict = verdict_of_solved(alloc, &all, &terms, &columns, solved)?;
         return Ok(verdict);
     }
-    let outcome = solved.with_all(alloc, &constraints, &mut pivots)?;
-    let verdict = verdict_of(alloc, &all, &terms, &columns, &outcome, &mut pivots)?;
+    let outcome = solved.with_all(alloc, &constraints)?;
+    let verdict = verdict_of(alloc, &all, &terms, &columns, &outcome)?;
     Ok(verdict)
 }
 
@@ -178,7 +176,7 @@ fn prepared_with(
     alloc: Global,
     rows: &[Row],
     terms: &[Term],
-    solved: &Solved,
+    solved: &Table,
     more: &[Row],
 ) -> Result<Prepared, AllocError>
     requires few { length (rows.now ++ more.now) ≤ 4096 }
@@ -188,13 +186,12 @@ fn prepared_with(
 {
     let together = rows_with(alloc, rows, more)?;
     let terms = terms_with(alloc, terms, more)?;
-    let columns = padded(alloc, &terms, solved.columns() - 1)?;
-    if columns.len() + 1 != solved.columns() {
+    let columns = padded(alloc, &terms, solved.width() - 1)?;
+    if columns.len() + 1 != solved.width() {
         return prepare(alloc, together);
     }
     let constraints = constraints_where(alloc, false, &columns, more)?;
-    let mut pivots = 0;
-    match solved.with_all(alloc, &constraints, &mut pivots)? {
+    match solved.with_all(alloc, &constraints)? {
         Outcome::TooWide => Ok(Prepared::TooWide),
         Outcome::Absurd(weights) => {
             let once = refuted_once(alloc, &together, &columns, &weights)?;

@@ -1,18 +1,22 @@
 //! Values at which a form is not 0: it is tried as more than 0, and as less than 0.
 
-ghost use Rattle.std.specs.Prelude.{◌≡◌, ◌^◌, ◌≤◌, ◌++◌, ◌∷◌, [], neg_ℤ, length, unsigned_abs, true, false, ◌<◌, IfOk, MatchOption};
+ghost use Rattle.std.specs.Prelude.{◌≡◌, ◌^◌, ◌≤◌, ◌++◌, ◌∷◌, [], neg_ℤ, length, unsigned_abs};
+ghost use Rattle.std.specs.Prelude.{true, false, ◌<◌, IfOk, MatchOption};
 ghost use Rattle.e_simplex.specs.declared.constraints.Sense.TheVariants.{More};
 ghost use Rattle.e_simplex.specs.Entries.{AllSmall};
 ghost use Rattle.e_simplex.specs.Constraints.{IsSmallConstraint, AllSmallConstraints, AllFormsWithin};
 ghost use Rattle.e_simplex.specs.Solved.{IsSolved, IsFit, columns_of, constraints_of};
-ghost use Rattle.e_simplex.specs.inner.Tried.{negated, IsTried, AreValues, AreBelowBut, IsLargeAt};
+ghost use Rattle.e_simplex.specs.inner.Tried.{negated, IsTried, AreValues, AreBelowBut};
+ghost use Rattle.e_simplex.specs.inner.Tried.{IsLargeAt};
 
 use crate::constraints::{Constraint, Monomial, Sense, value_of};
-use crate::solved::{Outcome, Solved};
+use crate::solved::Outcome;
+use crate::table::Table;
 use e_literal::Items;
 use std::alloc::{AllocError, Global};
 
-/// Values at which the form is not 0, or multipliers that refute that it is more, and that it is less.
+/// Values at which the form is not 0, or multipliers that refute that it is more, and that it is
+/// less.
 #[derive(Drop)]
 pub enum Tried {
     Found(Vec<i128>),
@@ -20,7 +24,7 @@ pub enum Tried {
     TooWide,
 }
 
-fn turned_round(x: &Monomial) -> Monomial
+fn negated_monomial(x: &Monomial) -> Monomial
     requires { unsigned_abs x.now.coefficient ≤ 2 ^ 30 }
     ensures coefficient { result.coefficient ≡ neg_ℤ x.now.coefficient }
     ensures column { result.column ≡ x.now.column }
@@ -39,7 +43,7 @@ fn negative(alloc: Global, constraint: &Constraint) -> Result<Constraint, AllocE
 {
     let mut form = Vec::new(alloc);
     for x in constraint.form.items() {
-        form.push(turned_round(x))?;
+        form.push(negated_monomial(x))?;
     }
     Ok(Constraint {
         sense: Sense::More,
@@ -47,27 +51,24 @@ fn negative(alloc: Global, constraint: &Constraint) -> Result<Constraint, AllocE
     })
 }
 
-/// Tries the form of a constraint that says `more` as more than 0, and then as less, beside the solved constraints.
-pub fn try_both(
-    alloc: Global,
-    solved: &Solved,
-    constraint: &Constraint,
-    pivots: &mut u64,
-) -> Result<Tried, AllocError>
+/// Tries the form of a constraint that says `more` as more than 0, and then as less, beside the
+/// solved constraints.
+pub fn try_both(alloc: Global, solved: &Table, constraint: &Constraint) -> Result<Tried, AllocError>
     requires solved { IsSolved (columns_of solved.now) (constraints_of solved.now) solved.now }
     requires fit { IsFit (columns_of solved.now) (constraints_of solved.now ++ constraint.now ∷ []) }
     requires more { constraint.now.sense ≡ More }
-    ensures { IfOk result (IsTried (columns_of solved.now) (constraints_of solved.now) constraint.now) }
+    ensures { IfOk result
+        (IsTried (columns_of solved.now) (constraints_of solved.now) constraint.now) }
 {
-    match solved.with(alloc, constraint, pivots)? {
+    match solved.with(alloc, constraint)? {
         Outcome::Holds(more) => {
             let found = more.values(alloc)?;
             Ok(Tried::Found(found))
         }
         Outcome::TooWide => Ok(Tried::TooWide),
         Outcome::Absurd(above) => {
-            let turned = negative(alloc, constraint)?;
-            match solved.with(alloc, &turned, pivots)? {
+            let negated = negative(alloc, constraint)?;
+            match solved.with(alloc, &negated)? {
                 Outcome::Holds(more) => {
                     let found = more.values(alloc)?;
                     Ok(Tried::Found(found))

@@ -7,10 +7,10 @@ use Rattle.e_simplex.proofs.unequal.try_both.Goals as goal
 
 pub with-requires-in-Absurd-clause-fit : goal.with-requires-in-Absurd-clause-fit
 with-requires-in-Absurd-clause-fit c =
-    let e : c.in_ok-turned-in-Absurd.turned ≡ negative_constraint c.args.constraint.now
-    = one_constraint c.in_ok-turned-in-Absurd.turned c.args.constraint.now c.in_ok-turned-in-Absurd.ensures.sense c.in_ok-turned-in-Absurd.ensures.form in
+    let e : c.in_ok-negated-in-Absurd.negated ≡ negative_constraint c.args.constraint.now
+    = one_constraint c.in_ok-negated-in-Absurd.negated c.args.constraint.now c.in_ok-negated-in-Absurd.ensures.sense c.in_ok-negated-in-Absurd.ensures.form in
     let a = last_constraint (columns_of c.args.solved.now) (constraints_of c.args.solved.now) c.args.constraint.now c.requires.fit in
-    fit_other (columns_of c.args.solved.now) (constraints_of c.args.solved.now) c.args.constraint.now c.in_ok-turned-in-Absurd.turned
+    fit_other (columns_of c.args.solved.now) (constraints_of c.args.solved.now) c.args.constraint.now c.in_ok-negated-in-Absurd.negated
     c.requires.solved.fit.small c.requires.solved.fit.within c.requires.fit (subst IsSmallConstraint (sym e) (negative_small c.args.constraint.now a.0))
     (subst (λ x. FormWithin (columns_of c.args.solved.now) x.form) (sym e) (negative_within (columns_of c.args.solved.now) c.args.constraint.now a.1))
 
@@ -23,10 +23,10 @@ returns-in_ok-found-in-Holds c =
 
 pub returns-in_ok-found-in-Holds-2 : goal.returns-in_ok-found-in-Holds-2
 returns-in_ok-found-in-Holds-2 c =
-    let e : c.in_ok-turned-in-Absurd.turned ≡ negative_constraint c.args.constraint.now
-    = one_constraint c.in_ok-turned-in-Absurd.turned c.args.constraint.now c.in_ok-turned-in-Absurd.ensures.sense c.in_ok-turned-in-Absurd.ensures.form in
+    let e : c.in_ok-negated-in-Absurd.negated ≡ negative_constraint c.args.constraint.now
+    = one_constraint c.in_ok-negated-in-Absurd.negated c.args.constraint.now c.in_ok-negated-in-Absurd.ensures.sense c.in_ok-negated-in-Absurd.ensures.form in
     let h = rw c.in-Holds-2.is at c.in_ok-more-in-Absurd.ensures in
-    found_below (columns_of c.args.solved.now) (constraints_of c.args.solved.now) c.in_ok-turned-in-Absurd.turned c.in-Holds-2.more c.in_ok-found-in-Holds-2.found.items
-    c.in_ok-turned-in-Absurd.ensures.sense h
+    found_below (columns_of c.args.solved.now) (constraints_of c.args.solved.now) c.in_ok-negated-in-Absurd.negated c.in-Holds-2.more c.in_ok-found-in-Holds-2.found.items
+    c.in_ok-negated-in-Absurd.ensures.sense h
     c.in_ok-found-in-Holds-2.ensures.solution c.in_ok-found-in-Holds-2.ensures.small c.in_ok-found-in-Holds-2.ensures.bounded c.in_ok-found-in-Holds-2.ensures.further
     c.args.constraint.now e
