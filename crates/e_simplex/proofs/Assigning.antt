@@ -14,7 +14,7 @@ use Rattle.e_literal.specs.Solution.{IsSo, Satisfy, HasSolution}
 use Rattle.e_simplex.specs.declared.constraints.Constraint.{Constraint}
 use Rattle.e_simplex.specs.declared.constraints.Sense.TheVariants.{More as SenseMore}
 use Rattle.e_simplex.specs.Constraints.{form_value, ConstraintHolds, IsSolution, IsAbsurd}
-use Rattle.e_simplex.specs.Naming.{place_of, IsIn, AreOnce, Continues, FormNamed, AllNamed, named_form, named_constraint, named_constraints, sense_of, keeps}
+use Rattle.e_simplex.specs.Naming.{place_of, IsIn, AreOnce, FormNamed, AllNamed, named_form, named_constraint, named_constraints, sense_of, keeps}
 use Rattle.e_simplex.specs.Answer.{assigned, AreValuesOf}
 use Rattle.e_simplex.specs.inner.Paired.{PairedTo}
 use Rattle.e_simplex.specs.inner.Disequalities.{AreUnequal, AreBothRefuted}
@@ -24,7 +24,7 @@ use Rattle.e_simplex.proofs.Negatives.{negated_value, negative_within}
 use Rattle.e_simplex.proofs.NamedConstraints.{kept_not, within_constraints, more_constraints}
 use Rattle.e_simplex.proofs.Deciding.{forms_push}
 use Rattle.e_simplex.proofs.Refutes.{no_solution}
-use Rattle.e_simplex.proofs.Places.{term_at, constraints_continued}
+use Rattle.e_simplex.proofs.Places.{term_at}
 
 -- ---- the constraints of one row more
 
@@ -139,9 +139,9 @@ module _ (ts : List Term) (values : List ℤ) (v : Term → ℕ) (same : Values 
 
 -- ---- the values that are answered
 
-pub values_answered : (ts us : List Term) (rows : List Row) (values : List ℤ) (pairs : List (Term × ℕ)) → AreOnce ts → AllNamed ts rows → Continues ts us
-    → AreUnequal (length us + 1) (named_constraints false us rows) (named_constraints true us rows) values → PairedTo (length ts) ts values pairs → AreValuesOf rows pairs
-values_answered ts us rows values pairs o a g k p =
+pub values_answered : (ts : List Term) (rows : List Row) (w : ℕ) (values : List ℤ) (pairs : List (Term × ℕ)) → length ts < w → AreOnce ts → AllNamed ts rows
+    → AreUnequal w (named_constraints false ts rows) (named_constraints true ts rows) values → PairedTo (length ts) ts values pairs → AreValuesOf rows pairs
+values_answered ts rows w values pairs room o a h p =
     (let e : map (λ (q : Term × ℕ). q.0) pairs ≡ ts = firsts ts pairs p.shape p.term in
     record {
       once = subst AreOnce (sym e) o;
@@ -149,17 +149,12 @@ values_answered ts us rows values pairs o a g k p =
       satisfy = satisfied ts values (assigned pairs) same rows a h.solution.holds h.unequal;
     })
   where
-    h : AreUnequal (length us + 1) (named_constraints false ts rows) (named_constraints true ts rows) values
-    h =
-        subst (λ ls. AreUnequal (length us + 1) ls (named_constraints true ts rows) values) (constraints_continued false ts us rows g a)
-        (subst (λ ls. AreUnequal (length us + 1) (named_constraints false us rows) ls values) (constraints_continued true ts us rows g a) k)
-
     whole : (z : ℤ) → pos 0 ≤ℤ z → pos (unsigned_abs z) ≡ z
     whole z h = omega (arith, sums, h, abs_is z)
 
     same : (t : Term) → IsIn ts t → pos (assigned pairs t) ≡ get_or values (suc (place_of ts t)) (pos 0)
     same t i = ap pos (assigned_at ts pairs (λ c. unsigned_abs (get_or values (suc c) (pos 0))) t p.shape p.term p.number i)
-        ∙ whole (get_or values (suc (place_of ts t)) (pos 0)) (h.solution.not_negative (suc (place_of ts t)) (omega (arith, i, g.longer)))
+        ∙ whole (get_or values (suc (place_of ts t)) (pos 0)) (h.solution.not_negative (suc (place_of ts t)) (omega (arith, i, room)))
 
 -- ---- what is refuted has no solution
 

@@ -24,6 +24,7 @@ pub mod Keeping
 pub mod Parting
 pub mod Places
 pub mod NamedConstraints
+pub mod SpareColumns
 pub mod Picked
 pub mod RowMultipliers
 pub mod Assigning

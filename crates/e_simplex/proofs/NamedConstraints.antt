@@ -162,31 +162,42 @@ pub more_constraints : (ts : List Term) (rows : List Row) (i : ℕ) (d : Constra
 more_constraints ts [] i d n = absurd (omega (arith, n))
 more_constraints ts (r ∷ rs) i d n = more_cond (keeps true r.says) (named_constraint ts r) (named_constraints true ts rs) (λ e. ap sense_of (kept_not r.says e)) (more_constraints ts rs) i d n
 
-pub fit_constraints : (ts : List Term) (rows : List Row) → length ts < 2 ^ 63 → length rows ≤ 4096 → AllNamed ts rows → AllSmallConstraints (named_constraints false ts rows)
-    → IsFit (length ts + 1) (named_constraints false ts rows)
-fit_constraints ts rows n m h s = record {
+-- a form over some columns is one over more
+forms_wider : (n w : ℕ) (constraints : List Constraint) → n ≤ w → AllFormsWithin n constraints → AllFormsWithin w constraints
+forms_wider n w constraints l h k d i j e m = let g = h k d i j e m in (g.0, omega (arith, g.1, l))
+
+-- w columns, more than the terms
+pub fit_constraints : (ts : List Term) (rows : List Row) (w : ℕ) → length ts < w → w ≤ 2 ^ 63 + 8 → length rows ≤ 4096 → AllNamed ts rows → AllSmallConstraints (named_constraints false ts rows)
+    → IsFit w (named_constraints false ts rows)
+fit_constraints ts rows w r n m h s = record {
   small = s;
-  within = within_constraints false ts rows h;
-  some = omega arith;
+  within = forms_wider (length ts + 1) w (named_constraints false ts rows) (omega (arith, r)) (within_constraints false ts rows h);
+  some = omega (arith, r);
   counted = omega (arith, n, m, count_constraints false ts rows);
   few = omega (arith, m, count_constraints false ts rows);
 }
 
-pub further_constraints : (ts : List Term) (rows : List Row) → length ts < 2 ^ 63 → length rows ≤ 4096 → AllNamed ts rows → AllSmallConstraints (named_constraints false ts rows)
-    → AllSmallConstraints (named_constraints true ts rows) → AreFurther (length ts + 1) (named_constraints false ts rows) (named_constraints true ts rows)
-further_constraints ts rows n m h s g = record {
+pub further_constraints : (ts : List Term) (rows : List Row) (w : ℕ) → length ts < w → w ≤ 2 ^ 63 + 8 → length rows ≤ 4096 → AllNamed ts rows → AllSmallConstraints (named_constraints false ts rows)
+    → AllSmallConstraints (named_constraints true ts rows) → AreFurther w (named_constraints false ts rows) (named_constraints true ts rows)
+further_constraints ts rows w r n m h s g = record {
   more = more_constraints ts rows;
   fit = λ k d l. record {
     small = small_push (named_constraints false ts rows) (get_or (named_constraints true ts rows) k d) s (g k d l);
-    within = forms_push (length ts + 1) (named_constraints false ts rows) (get_or (named_constraints true ts rows) k d) (within_constraints false ts rows h) (within_constraints true ts rows h k d l);
-    some = omega arith;
+    within = forms_push w (named_constraints false ts rows) (get_or (named_constraints true ts rows) k d) main (nots k d l);
+    some = omega (arith, r);
     counted = omega (arith, n, m, count_constraints false ts rows, length_push (named_constraints false ts rows) (get_or (named_constraints true ts rows) k d));
     few = omega (arith, m, count_constraints false ts rows, length_push (named_constraints false ts rows) (get_or (named_constraints true ts rows) k d));
   };
   small = g;
-  within = within_constraints true ts rows h;
+  within = nots;
   few = omega (arith, m, count_constraints true ts rows);
 }
+  where
+    main : AllFormsWithin w (named_constraints false ts rows)
+    main = forms_wider (length ts + 1) w (named_constraints false ts rows) (omega (arith, r)) (within_constraints false ts rows h)
+
+    nots : AllFormsWithin w (named_constraints true ts rows)
+    nots = forms_wider (length ts + 1) w (named_constraints true ts rows) (omega (arith, r)) (within_constraints true ts rows h)
 
 -- a constraint is small if its form is that of a small constraint
 pub small_like : (l m : Constraint) → l.form ≡ m.form → IsSmallConstraint m → IsSmallConstraint l

@@ -16,7 +16,8 @@ use Rattle.e_literal.proofs.Arith.{sums}
 use Rattle.e_fraction.proofs.Moved.{wide_last}
 use Rattle.e_fraction.proofs.Numbering.{column, SameEntries, wide_named}
 use Rattle.e_simplex.proofs.Disequal.{Similar, similar_det}
-use Rattle.e_simplex.proofs.NamedConstraints.{constraint_entry, negative_entry, kept_not}
+use Rattle.e_simplex.proofs.SpareColumns.{narrow_wide, narrow_some}
+use Rattle.e_simplex.proofs.NamedConstraints.{constraint_entry, negative_entry, kept_not, within_constraints}
 
 abbrev signed : Row → Bool → SignedRow
 signed r d = record { row = r; down = d }
@@ -306,7 +307,7 @@ rows_append [] ys = refl
 rows_append (x ∷ xs) ys = ap (λ v. constraint_row x ∷ v) (rows_append xs ys)
 
 module _ (ts : List Term) (rows : List Row) (o : AreOnce ts) (a : AllNamed ts rows) where
-  pub wide_main : IsWide (rows_of (named_constraints false ts rows)) (length ts + 1) (2 ^ 63) → IsWideRows rows
+  wide_main : IsWide (rows_of (named_constraints false ts rows)) (length ts + 1) (2 ^ 63) → IsWideRows rows
   wide_main h =
       wide_named ts (length ts + 1) (mains rows) (own_rows ts (mains rows)) rows (own_entries ts (mains rows) o (ok_mains ts rows a)) (part_mains rows)
       (subst (λ v. IsWide v (length ts + 1) (2 ^ 63)) (rows_main ts rows) h)
@@ -356,6 +357,17 @@ module _ (ts : List Term) (rows : List Row) (o : AreOnce ts) (a : AllNamed ts ro
         (subst (λ v. IsWide v (length ts + 1) (2 ^ 63)) (rows_of_two (negative_constraint (get_or (named_constraints true ts rows) k one_constraint)) (get_or (named_constraints true ts rows) h.place one_constraint)) g))
   ]
 
-  pub wide_with_some : WideWithSome (length ts + 1) (named_constraints false ts rows) (named_constraints true ts rows) → IsWideRows rows
+  wide_with_some : WideWithSome (length ts + 1) (named_constraints false ts rows) (named_constraints true ts rows) → IsWideRows rows
   wide_with_some (k, l, inl h) = wide_with k l h
   wide_with_some (k, l, inr h) = wide_with_two k l h
+
+-- ---- the same over more columns than those of the terms
+
+module _ (ts : List Term) (rows : List Row) (w : ℕ) (o : AreOnce ts) (a : AllNamed ts rows) where
+  pub wide_over : IsWide (rows_of (named_constraints false ts rows)) w (2 ^ 63) → IsWideRows rows
+  wide_over h = wide_main ts rows o a (narrow_wide (length ts + 1) w (named_constraints false ts rows) (omega arith) (within_constraints false ts rows a) h)
+
+  pub wide_with_some_over : WideWithSome w (named_constraints false ts rows) (named_constraints true ts rows) → IsWideRows rows
+  wide_with_some_over h =
+      wide_with_some ts rows o a
+      (narrow_some (length ts + 1) w (named_constraints false ts rows) (named_constraints true ts rows) (omega arith) (within_constraints false ts rows a) (within_constraints true ts rows a) h)

@@ -459,3 +459,9 @@ solved_wide s w constraints forms fs h e f =
 pub solved_unequal : (s : Table) (w : ℕ) (constraints forms fs : List Constraint) (values : List ℤ) → IsSolved w constraints s → fs ≡ forms → AreUnequal (columns_of s) (constraints_of s) fs values → AreUnequal w constraints forms values
 solved_unequal s w constraints forms fs values h e f =
     subst (λ v. AreUnequal w constraints v values) e (subst (λ v. AreUnequal w v fs values) h.constraints_are (subst (λ v. AreUnequal v (constraints_of s) fs values) h.table.columns_many f))
+
+pub solved_both_refuted : (s : Table) (w : ℕ) (constraints forms fs : List Constraint) (k : ℕ) (above below : List ℤ) → IsSolved w constraints s → fs ≡ forms
+    → AreBothRefuted (columns_of s) (constraints_of s) fs k above below → AreBothRefuted w constraints forms k above below
+solved_both_refuted s w constraints forms fs k above below h e f =
+    subst (λ v. AreBothRefuted w constraints v k above below) e
+    (subst (λ v. AreBothRefuted w v fs k above below) h.constraints_are (subst (λ v. AreBothRefuted v (constraints_of s) fs k above below) h.table.columns_many f))

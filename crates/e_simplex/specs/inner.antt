@@ -7,3 +7,4 @@ pub mod Points
 pub mod Disequalities
 pub mod RowMultipliers
 pub mod Paired
+pub mod Weights

@@ -1,10 +1,12 @@
 //! Rows over numbered columns: column 0 has the constants, and the others stand for terms.
 
-ghost use Rattle.std.specs.Prelude.{◌≡◌, ℕ, ℤ, pos, List, ◌*◌, ◌<◌, ◌≤◌, ◌^◌, length, unsigned_abs, get_or, ◌*ℤ◌};
+ghost use Rattle.std.specs.Prelude.{◌≡◌, ℕ, ℤ, pos, List, ◌*◌, ◌<◌, ◌≤◌, ◌^◌, length};
+ghost use Rattle.std.specs.Prelude.{unsigned_abs, get_or, ◌*ℤ◌};
 ghost use Rattle.e_fraction.specs.Tableau.{unit};
 ghost use Rattle.e_simplex.specs.declared.constraints.Monomial.{Monomial};
 ghost use Rattle.e_simplex.specs.Entries.{AllSmall};
-ghost use Rattle.e_simplex.specs.Constraints.{form_at, constraint_row, constant_of, is_zero_sense, IsSmallConstraint, form_value};
+ghost use Rattle.e_simplex.specs.Constraints.{form_at, constraint_row, constant_of};
+ghost use Rattle.e_simplex.specs.Constraints.{is_zero_sense, IsSmallConstraint, form_value};
 
 use crate::number::times;
 use e_literal::Items;
@@ -45,7 +47,8 @@ fn coefficient_in(x: &Monomial, column: usize) -> i128
 
 /// The sum of the coefficients in a column.
 fn coefficient(form: &[Monomial], column: usize) -> i128
-    requires small { (k : ℕ) (d : Monomial) → k < length form.now → unsigned_abs (get_or form.now k d).coefficient ≤ 2 ^ 30 }
+    requires small { (k : ℕ) (d : Monomial) → k < length form.now
+        → unsigned_abs (get_or form.now k d).coefficient ≤ 2 ^ 30 }
     requires short { length form.now ≤ 2 ^ 32 }
     ensures value { result ≡ form_at form.now column }
     ensures small { unsigned_abs result ≤ 2 ^ 62 }
@@ -98,9 +101,11 @@ fn part(x: &Monomial, values: &[i128]) -> i128
 
 /// The value of a form.
 pub fn value_of(form: &[Monomial], values: &[i128]) -> i128
-    requires small { (k : ℕ) (d : Monomial) → k < length form.now → unsigned_abs (get_or form.now k d).coefficient ≤ 2 ^ 30 }
+    requires small { (k : ℕ) (d : Monomial) → k < length form.now
+        → unsigned_abs (get_or form.now k d).coefficient ≤ 2 ^ 30 }
     requires short { length form.now ≤ 2 ^ 32 }
-    requires within { (k : ℕ) (d : Monomial) → k < length form.now → (get_or form.now k d).column < length values.now }
+    requires within { (k : ℕ) (d : Monomial) → k < length form.now
+        → (get_or form.now k d).column < length values.now }
     requires values { AllSmall values.now }
     ensures value { result ≡ form_value form.now values.now }
 {

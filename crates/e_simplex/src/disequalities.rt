@@ -39,8 +39,8 @@ pub enum Satisfaction {
     TooWide,
 }
 
-/// Adds the least multiple of the values found that leaves none of the first `k` forms 0; None where
-/// another form than that at `k` is large there.
+/// Adds the least multiple of the values found that leaves none of the first `k` forms 0; None
+/// where another form than that at `k` is large there.
 fn moved_point(
     alloc: Global,
     forms: &[Constraint],

@@ -1,9 +1,10 @@
 //! The weights of constraints as multipliers of rows.
 
-ghost use Rattle.std.specs.Prelude.{◌≡◌, ◌+◌, ◌<◌, ◌≤◌, ◌^◌, pos, suc, cond, IfOk, length, get_or, take};
+ghost use Rattle.std.specs.Prelude.{◌≡◌, ◌+◌, ◌<◌, ◌≤◌, ◌^◌, pos, suc, cond, IfOk, length};
+ghost use Rattle.std.specs.Prelude.{get_or, take};
 ghost use Rattle.e_fraction.specs.Views.{all_seen};
 ghost use Rattle.e_simplex.specs.Answer.{IsNotAt};
-ghost use Rattle.e_simplex.specs.inner.RowMultipliers.{multiplier_of, count_nots};
+ghost use Rattle.e_simplex.specs.inner.RowMultipliers.{row_multipliers, multiplier_of, count_nots};
 
 use crate::naming::is_kept;
 use e_fraction::Row;
@@ -39,8 +40,8 @@ fn multiplier(is_not: bool, seen: usize, tried: usize, last: i128, weight: i128)
     }
 }
 
-/// The multipliers of the rows, from the weights of the constraints: of the rows that say `not 0` the one that is counted as
-/// `tried`, from 1 on, has the multiplier `last`, and the others 0.
+/// The multipliers of the rows, from the weights of the constraints: of the rows that say `not 0`
+/// the one that is counted as `tried`, from 1 on, has the multiplier `last`, and the others 0.
 pub fn multipliers_of_rows(
     alloc: Global,
     rows: &[Row],
@@ -49,7 +50,8 @@ pub fn multipliers_of_rows(
     last: i128,
 ) -> Result<Vec<i128>, AllocError>
     requires { length rows.now ≤ 4096 }
-    ensures { IfOk result (λ v. v.items ≡ Rattle.e_simplex.specs.inner.RowMultipliers.row_multipliers (all_seen rows.now) weights.now 0 tried last) }
+    ensures { IfOk result (λ v.
+        v.items ≡ row_multipliers (all_seen rows.now) weights.now 0 tried last) }
 {
     let mut all = Vec::new(alloc);
     let mut seen = 0;

@@ -5,7 +5,8 @@ ghost use Rattle.e_literal.specs.declared.object.Term.{Term};
 ghost use Rattle.e_fraction.specs.Views.{says_of, all_seen};
 ghost use Rattle.e_fraction.specs.Limits.{has_small_coefficients, all_small};
 ghost use Rattle.e_simplex.specs.Constraints.{IsSmallConstraint, AllSmallConstraints};
-ghost use Rattle.e_simplex.specs.Naming.{place_of, IsIn, AreOnce, Continues, FormNamed, AllNamed, named_form, named_constraints};
+ghost use Rattle.e_simplex.specs.Naming.{place_of, IsIn, AreOnce, Continues, FormNamed, AllNamed};
+ghost use Rattle.e_simplex.specs.Naming.{named_form, named_constraints, sense_of, keeps};
 
 use crate::constraints::{Constraint, Monomial, Sense};
 use e_fraction::{Row, RowKind};
@@ -47,7 +48,8 @@ fn with_terms(mut terms: Vec<Term>, rows: &[Row], i: usize) -> Result<Vec<Term>,
     Ok(terms)
 }
 
-/// The terms, and behind them those of the rows that are not among them, in the order in which they stand first.
+/// The terms, and after them those of the rows that are not among them, in the order in which they
+/// stand first.
 pub fn terms_with(alloc: Global, terms: &[Term], rows: &[Row]) -> Result<Vec<Term>, AllocError>
     requires { AreOnce terms.now }
     ensures once { IfOk result (λ v. AreOnce v.items) }
@@ -69,36 +71,8 @@ pub fn terms_of(alloc: Global, rows: &[Row]) -> Result<Vec<Term>, AllocError>
     terms_with(alloc, &[], rows)
 }
 
-/// The terms, and the one behind them where it is not among them.
-fn with_term(mut terms: Vec<Term>, term: Term) -> Result<Vec<Term>, AllocError>
-    requires { AreOnce terms.items }
-    ensures once { IfOk result (λ v. AreOnce v.items) }
-    ensures continues { IfOk result (λ v. Continues terms.items v.items) }
-{
-    if place(&terms, term) == terms.len() {
-        terms.push(term)?;
-    }
-    Ok(terms)
-}
-
-/// The terms, and terms behind them that stand for spare columns, until there are `count`. There may be fewer.
-pub fn padded(alloc: Global, terms: &[Term], count: usize) -> Result<Vec<Term>, AllocError>
-    requires { AreOnce terms.now }
-    ensures once { IfOk result (λ v. AreOnce v.items) }
-    ensures continues { IfOk result (λ v. Continues terms.now v.items) }
-{
-    let mut all = Vec::from_slice(alloc, terms)?;
-    for p in 0..u16::MAX {
-        if count <= all.len() {
-            return Ok(all);
-        }
-        all = with_term(all, Term::Seg(p, p))?;
-    }
-    Ok(all)
-}
-
 fn sense(kind: RowKind) -> Sense
-    ensures { result ≡ Rattle.e_simplex.specs.Naming.sense_of (says_of kind) }
+    ensures { result ≡ sense_of (says_of kind) }
 {
     match kind {
         RowKind::Zero => Sense::Zero,
@@ -113,7 +87,7 @@ fn named_constraint(alloc: Global, row: &Row, terms: &[Term]) -> Result<Constrai
     requires named { FormNamed terms.now row.now.form }
     requires coefficients { IsTrue (has_small_coefficients row.now.form) }
     ensures small { IfOk result IsSmallConstraint }
-    ensures sense { IfOk result (λ l. l.sense ≡ Rattle.e_simplex.specs.Naming.sense_of (says_of row.now.kind)) }
+    ensures sense { IfOk result (λ l. l.sense ≡ sense_of (says_of row.now.kind)) }
     ensures form { IfOk result (λ l. l.form ≡ named_form terms.now row.now.form) }
 {
     let summands = row.form.summands();
@@ -135,7 +109,7 @@ fn named_constraint(alloc: Global, row: &Row, terms: &[Term]) -> Result<Constrai
 
 /// Whether the row is wanted: one that says `not 0`, or another.
 pub fn is_kept(not: bool, kind: RowKind) -> bool
-    ensures { result ≡ Rattle.e_simplex.specs.Naming.keeps not (says_of kind) }
+    ensures { result ≡ keeps not (says_of kind) }
 {
     match kind {
         RowKind::Not => not,
@@ -153,7 +127,8 @@ pub fn constraints_where(
     requires once { AreOnce terms.now }
     requires named { AllNamed terms.now (all_seen rows.now) }
     requires coefficients { IsTrue (all_small rows.now) }
-    ensures value { IfOk result (λ v. v.items ≡ named_constraints not terms.now (all_seen rows.now)) }
+    ensures value { IfOk result (λ v.
+        v.items ≡ named_constraints not terms.now (all_seen rows.now)) }
     ensures small { IfOk result (λ v. AllSmallConstraints v.items) }
 {
     let mut constraints = Vec::new(alloc);

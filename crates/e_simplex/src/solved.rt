@@ -163,7 +163,8 @@ impl Table {
     fn extended(&self, alloc: Global, more: &[Constraint]) -> Result<Table, AllocError>
         requires solved { IsSolved (columns_of self.now) (constraints_of self.now) self.now }
         requires fit { IsFit (columns_of self.now) (constraints_of self.now ++ more.now) }
-        ensures { IfOk result (IsBegun (columns_of self.now) (constraints_of self.now ++ more.now)) }
+        ensures { IfOk result
+            (IsBegun (columns_of self.now) (constraints_of self.now ++ more.now)) }
     {
         let w = self.columns.len();
         let basis = Vec::from_slice(alloc, &self.basis)?;
@@ -222,7 +223,8 @@ impl Table {
     /// What comes of the constraints and one more. The solved table stays as it is.
     pub fn with(&self, alloc: Global, constraint: &Constraint) -> Result<Outcome, AllocError>
         requires solved { IsSolved (columns_of self.now) (constraints_of self.now) self.now }
-        requires fit { IsFit (columns_of self.now) (constraints_of self.now ++ constraint.now ∷ []) }
+        requires fit { IsFit (columns_of self.now)
+            (constraints_of self.now ++ constraint.now ∷ []) }
         ensures { IfOk result
             (IsOutcome (columns_of self.now) (constraints_of self.now ++ constraint.now ∷ [])) }
     {

@@ -6,14 +6,13 @@ ghost use Rattle.e_literal.specs.Solution.{HasSolution};
 ghost use Rattle.e_fraction.specs.Limits.{all_small};
 ghost use Rattle.e_fraction.specs.Views.{all_seen};
 ghost use Rattle.e_simplex.specs.Answer.{AreValuesOf, IsVerdict, IsHolds, IsAbsurd};
-ghost use Rattle.e_simplex.specs.Naming;
-ghost use Rattle.e_simplex.specs.Naming.{AreOnce, AllNamed, Continues, named_constraints};
+ghost use Rattle.e_simplex.specs.Naming.{AreOnce, AllNamed, named_constraints};
 ghost use Rattle.e_simplex.specs.Preparing.{IsPrepared};
-ghost use Rattle.e_simplex.specs.Solved.{IsSolved};
+ghost use Rattle.e_simplex.specs.Solved.{IsSolved, columns_of};
 ghost use Rattle.e_simplex.specs.SolvedRows.{IsTableFor};
 
 use crate::decision::{Absurdity, Verdict, decide, refuted_once, verdict_of, verdict_of_solved};
-use crate::naming::{constraints_where, padded, terms_of, terms_with};
+use crate::naming::{constraints_where, terms_of, terms_with};
 use crate::solved::{Outcome, solve_constraints};
 use crate::table::Table;
 use e_fraction::{Row, Signed};
@@ -21,10 +20,12 @@ use e_literal::{Term, Values};
 use std::alloc::{AllocError, Global};
 use std::marker::Model;
 
-/// How many terms a question may have that no settled row has, without all rows being solved again.
+/// How many columns a table has that no term of its rows has, for terms of further rows: a question
+/// with more new terms has all rows solved again.
 const SPARE: usize = 8;
 
-/// Rows that have a solution: their table, solved, and values that satisfy them. Contracts see the rows.
+/// Rows that have a solution: their table, solved, and values that satisfy them. Contracts see the
+/// rows.
 #[derive(Drop)]
 pub struct SolvedRows {
     rows: Vec<Row>,
@@ -45,7 +46,7 @@ impl Model for SolvedRows {
     ghost invariant = { λ s. AreSolved s.rows.items s.terms.items s.solved s.values };
 }
 
-/// Rows, settled, or that no values satisfy, or with a large minor.
+/// Rows, solved, or that no values satisfy, or with a large minor.
 #[derive(Drop)]
 pub enum Prepared {
     SolvedRows(SolvedRows),
@@ -93,20 +94,19 @@ fn with_values(
     alloc: Global,
     rows: Vec<Row>,
     terms: Vec<Term>,
-    columns: &[Term],
     solved: Table,
 ) -> Result<Prepared, AllocError>
     requires few { length rows.items ≤ 4096 }
     requires coefficients { IsTrue (all_small rows.items) }
     requires once { AreOnce terms.items }
     requires named { AllNamed terms.items (all_seen rows.items) }
-    requires columns { AreOnce columns.now }
-    requires continues { Continues terms.items columns.now }
-    requires counted { length columns.now < 2 ^ 63 }
-    requires solved { IsSolved (length columns.now + 1) (named_constraints false columns.now (all_seen rows.items)) solved }
+    requires room { length terms.items < columns_of solved }
+    requires counted { columns_of solved ≤ 2 ^ 63 + 8 }
+    requires solved { IsSolved (columns_of solved)
+        (named_constraints false terms.items (all_seen rows.items)) solved }
     ensures { IfOk result (IsPrepared rows.items) }
 {
-    match verdict_of_solved(alloc, &rows, &terms, columns, &solved)? {
+    match verdict_of_solved(alloc, &rows, &terms, &solved)? {
         Verdict::TooWide => Ok(Prepared::TooWide),
         Verdict::Absurd(absurdity) => Ok(Prepared::Absurd(absurdity)),
         Verdict::Holds(values) => Ok(Prepared::SolvedRows(SolvedRows {
@@ -118,29 +118,29 @@ fn with_values(
     }
 }
 
-/// Solves rows, to be asked about with further rows. The conditions are those of [`decide`]. The answer is `SolvedRows`
-/// where values satisfy every row, or `Absurd` with multipliers that refute the rows, or `TooWide`, which comes only
-/// where some minor of the rows has size at least 2^63, and the width with it.
+/// Solves rows, to be asked about with further rows. The conditions are those of [`decide`]. The
+/// answer is `SolvedRows` where values satisfy every row, or `Absurd` with multipliers that refute
+/// the rows, or `TooWide`, which comes only where some minor of the rows has size at least 2^63,
+/// and the width with it.
 pub fn prepare(alloc: Global, rows: Vec<Row>) -> Result<Prepared, AllocError>
     requires few { length rows.items ≤ 4096 }
     requires coefficients { IsTrue (all_small rows.items) }
     ensures { IfOk result (IsPrepared rows.items) }
 {
     let terms = terms_of(alloc, &rows)?;
-    let columns = padded(alloc, &terms, terms.len() + SPARE)?;
-    let constraints = constraints_where(alloc, false, &columns, &rows)?;
-    match solve_constraints(alloc, constraints, columns.len() + 1)? {
+    let constraints = constraints_where(alloc, false, &terms, &rows)?;
+    match solve_constraints(alloc, constraints, terms.len() + 1 + SPARE)? {
         Outcome::TooWide => Ok(Prepared::TooWide),
         Outcome::Absurd(weights) => {
-            let once = refuted_once(alloc, &rows, &columns, &weights)?;
+            let once = refuted_once(alloc, &rows, &weights)?;
             Ok(Prepared::Absurd(once))
         }
-        Outcome::Holds(solved) => with_values(alloc, rows, terms, &columns, solved),
+        Outcome::Holds(solved) => with_values(alloc, rows, terms, solved),
     }
 }
 
-/// What comes of rows whose table is solved and further rows, from the solved table. Where those have more new terms
-/// than the table has columns to spare, all rows are decided from nothing.
+/// What comes of rows whose table is solved and further rows, from the solved table. Where those
+/// have more new terms than the table has columns to spare, all rows are decided from nothing.
 fn decided_with(
     alloc: Global,
     rows: &[Row],
@@ -155,23 +155,22 @@ fn decided_with(
 {
     let all = rows_with(alloc, rows, more)?;
     let terms = terms_with(alloc, terms, more)?;
-    let columns = padded(alloc, &terms, solved.width() - 1)?;
-    if columns.len() + 1 != solved.width() {
+    if solved.width() <= terms.len() {
         let verdict = decide(alloc, &all)?;
         return Ok(verdict);
     }
-    let constraints = constraints_where(alloc, false, &columns, more)?;
+    let constraints = constraints_where(alloc, false, &terms, more)?;
     if constraints.is_empty() {
-        let verdict = verdict_of_solved(alloc, &all, &terms, &columns, solved)?;
+        let verdict = verdict_of_solved(alloc, &all, &terms, solved)?;
         return Ok(verdict);
     }
     let outcome = solved.with_all(alloc, &constraints)?;
-    let verdict = verdict_of(alloc, &all, &terms, &columns, &outcome)?;
+    let verdict = verdict_of(alloc, &all, &terms, &outcome)?;
     Ok(verdict)
 }
 
-/// Settles rows whose table is solved and further rows, from the solved table. Where those have more new terms than the
-/// table has columns to spare, all rows are settled from nothing.
+/// Solves rows whose table is solved and further rows, from the solved table. Where those have more
+/// new terms than the table has columns to spare, all rows are solved from nothing.
 fn prepared_with(
     alloc: Global,
     rows: &[Row],
@@ -186,18 +185,17 @@ fn prepared_with(
 {
     let together = rows_with(alloc, rows, more)?;
     let terms = terms_with(alloc, terms, more)?;
-    let columns = padded(alloc, &terms, solved.width() - 1)?;
-    if columns.len() + 1 != solved.width() {
+    if solved.width() <= terms.len() {
         return prepare(alloc, together);
     }
-    let constraints = constraints_where(alloc, false, &columns, more)?;
+    let constraints = constraints_where(alloc, false, &terms, more)?;
     match solved.with_all(alloc, &constraints)? {
         Outcome::TooWide => Ok(Prepared::TooWide),
         Outcome::Absurd(weights) => {
-            let once = refuted_once(alloc, &together, &columns, &weights)?;
+            let once = refuted_once(alloc, &together, &weights)?;
             Ok(Prepared::Absurd(once))
         }
-        Outcome::Holds(grown) => with_values(alloc, together, terms, &columns, grown),
+        Outcome::Holds(grown) => with_values(alloc, together, terms, grown),
     }
 }
 
@@ -216,7 +214,7 @@ impl SolvedRows {
         &self.values
     }
 
-    /// The same rows, settled.
+    /// The same rows, solved.
     pub fn copied(&self, alloc: Global) -> Result<SolvedRows, AllocError>
         ensures { IfOk result (λ s. s ≡ self.now) }
     {
@@ -232,20 +230,23 @@ impl SolvedRows {
         })
     }
 
-    /// [`decide`] of the rows and more behind them, from the solved table; the rows stay as they are. Where `more` has
-    /// over 8 terms that no settled row has, all rows are decided from nothing.
+    /// [`decide`] of the rows and more behind them, from the solved table; the rows stay as they
+    /// are. Where `more` has over 8 terms that no row here has, all rows are decided from nothing.
     pub fn decide_with(&self, alloc: Global, more: &[Row]) -> Result<Verdict, AllocError>
         requires few { length (self.now ++ more.now) ≤ 4096 }
         requires coefficients { IsTrue (all_small (self.now ++ more.now)) }
         ensures verdict { IfOk result (IsVerdict (all_seen (self.now ++ more.now))) }
-        ensures holds { IfOk result (λ v. ¬ IsWide (all_seen (self.now ++ more.now)) → HasSolution (all_seen (self.now ++ more.now)) → IsHolds v) }
-        ensures absurd { IfOk result (λ v. ¬ IsWide (all_seen (self.now ++ more.now)) → ¬ HasSolution (all_seen (self.now ++ more.now)) → IsAbsurd v) }
+        ensures holds { IfOk result (λ v. ¬ IsWide (all_seen (self.now ++ more.now))
+            → HasSolution (all_seen (self.now ++ more.now)) → IsHolds v) }
+        ensures absurd { IfOk result (λ v. ¬ IsWide (all_seen (self.now ++ more.now))
+            → ¬ HasSolution (all_seen (self.now ++ more.now)) → IsAbsurd v) }
     {
         let verdict = decided_with(alloc, &self.rows, &self.terms, &self.solved, more)?;
         Ok(verdict)
     }
-    /// [`prepare`] of the rows and more behind them, from the solved table; the rows stay as they are. Where `more` has
-    /// over 8 terms that no settled row has, all rows are settled from nothing.
+
+    /// [`prepare`] of the rows and more behind them, from the solved table; the rows stay as they
+    /// are. Where `more` has over 8 terms that no row here has, all rows are solved from nothing.
     pub fn with(&self, alloc: Global, more: &[Row]) -> Result<Prepared, AllocError>
         requires few { length (self.now ++ more.now) ≤ 4096 }
         requires coefficients { IsTrue (all_small (self.now ++ more.now)) }

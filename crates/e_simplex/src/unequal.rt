@@ -4,7 +4,8 @@ ghost use Rattle.std.specs.Prelude.{◌≡◌, ◌^◌, ◌≤◌, ◌++◌, ◌
 ghost use Rattle.std.specs.Prelude.{true, false, ◌<◌, IfOk, MatchOption};
 ghost use Rattle.e_simplex.specs.declared.constraints.Sense.TheVariants.{More};
 ghost use Rattle.e_simplex.specs.Entries.{AllSmall};
-ghost use Rattle.e_simplex.specs.Constraints.{IsSmallConstraint, AllSmallConstraints, AllFormsWithin};
+ghost use Rattle.e_simplex.specs.Constraints.{IsSmallConstraint, AllSmallConstraints};
+ghost use Rattle.e_simplex.specs.Constraints.{AllFormsWithin};
 ghost use Rattle.e_simplex.specs.Solved.{IsSolved, IsFit, columns_of, constraints_of};
 ghost use Rattle.e_simplex.specs.inner.Tried.{negated, IsTried, AreValues, AreBelowBut};
 ghost use Rattle.e_simplex.specs.inner.Tried.{IsLargeAt};
@@ -55,7 +56,8 @@ fn negative(alloc: Global, constraint: &Constraint) -> Result<Constraint, AllocE
 /// solved constraints.
 pub fn try_both(alloc: Global, solved: &Table, constraint: &Constraint) -> Result<Tried, AllocError>
     requires solved { IsSolved (columns_of solved.now) (constraints_of solved.now) solved.now }
-    requires fit { IsFit (columns_of solved.now) (constraints_of solved.now ++ constraint.now ∷ []) }
+    requires fit { IsFit (columns_of solved.now)
+        (constraints_of solved.now ++ constraint.now ∷ []) }
     requires more { constraint.now.sense ≡ More }
     ensures { IfOk result
         (IsTried (columns_of solved.now) (constraints_of solved.now) constraint.now) }

@@ -1,13 +1,13 @@
-// Rows that are settled, and what is answered on further rows.
+// Rows that are prepared, and what is answered on further rows.
 
 use crate::rows::rows;
 use e_fraction::{Row, have_small_coefficients};
-use e_simplex::{Settled, Settling, Verdict, settle};
+use e_simplex::{Prepared, SolvedRows, Verdict, prepare};
 use std::alloc::{AllocError, Global};
 use std::process::Abort;
 use std::test::Fail;
 
-// Settled rows, further rows, and what is answered of all.
+// Solved rows, further rows, and what is answered of all.
 fn questions() -> &'static str {
     "\
 >a-b >b-c/>a-c/holds
@@ -19,19 +19,19 @@ fn questions() -> &'static str {
 >a >b/>x-a >b-x >a-b/absurd
 >a/>c-d >e-f >g-h >i-j >k-l >m-n >o-p >q-r >s-t/holds
 >a/>c-d >e-f >g-h >i-j >k-l >m-n >o-p >q-r >r-q/absurd
->a-b >b-a//absurd when settled
-=a-b !a-b//absurd when settled"
+>a-b >b-a//absurd when prepared
+=a-b !a-b//absurd when prepared"
 }
 
 fn verdict(
     rt: &impl Abort,
     alloc: Global,
-    settled: &Settled,
+    prepared: &SolvedRows,
     more: &[Row],
 ) -> Result<&'static str, AllocError> {
-    assert!(rt; settled.rows().len() + more.len() <= 4096);
-    assert!(rt; have_small_coefficients(settled.rows()) && have_small_coefficients(more));
-    Ok(match settled.decide_with(alloc, more)? {
+    assert!(rt; prepared.rows().len() + more.len() <= 4096);
+    assert!(rt; have_small_coefficients(prepared.rows()) && have_small_coefficients(more));
+    Ok(match prepared.decide_with(alloc, more)? {
         Verdict::Holds(_) => "holds",
         Verdict::Absurd(_) => "absurd",
         Verdict::TooWide => "too wide",
@@ -47,10 +47,10 @@ fn answer(
     let more = rows(rt, alloc, more)?;
     let first = rows(rt, alloc, first)?;
     assert!(rt; first.len() <= 4096 && have_small_coefficients(&first));
-    match settle(alloc, first)? {
-        Settling::Settled(settled) => verdict(rt, alloc, &settled, &more),
-        Settling::Absurd(_) => Ok("absurd when settled"),
-        Settling::TooWide => Ok("too wide when settled"),
+    match prepare(alloc, first)? {
+        Prepared::SolvedRows(prepared) => verdict(rt, alloc, &prepared, &more),
+        Prepared::Absurd(_) => Ok("absurd when prepared"),
+        Prepared::TooWide => Ok("too wide when prepared"),
     }
 }
 
@@ -66,7 +66,7 @@ fn further_rows(rt: HostRuntime) -> Result<(), Fail> {
     Ok(())
 }
 
-// Settled rows, further rows that are settled behind them, a question, and what is answered of all.
+// Solved rows, further rows that are prepared behind them, a question, and what is answered of all.
 fn grown_questions() -> &'static str {
     "\
 >a-b/>b-c/>a-c/holds
@@ -75,27 +75,27 @@ fn grown_questions() -> &'static str {
 =a-b/!a-c/=c-d !d-b/holds
 >a/>c-d >e-f >g-h >i-j >k-l >m-n >o-p >q-r/>r-q/absurd
 >a/>c-d >e-f >g-h >i-j >k-l >m-n >o-p >q-r/>q-r >s-t/holds
->a-b/>b-a//absurd when settled
-=a-b/!a-b//absurd when settled"
+>a-b/>b-a//absurd when prepared
+=a-b/!a-b//absurd when prepared"
 }
 
 fn grown_answer(
     rt: &impl Abort,
     alloc: Global,
-    settled: &Settled,
+    prepared: &SolvedRows,
     more: &[Row],
     question: &[Row],
 ) -> Result<&'static str, AllocError> {
-    assert!(rt; settled.rows().len() + more.len() <= 4096);
-    assert!(rt; have_small_coefficients(settled.rows()) && have_small_coefficients(more));
-    match settled.with(alloc, more)? {
-        Settling::Settled(grown) => verdict(rt, alloc, &grown, question),
-        Settling::Absurd(_) => Ok("absurd when settled"),
-        Settling::TooWide => Ok("too wide when settled"),
+    assert!(rt; prepared.rows().len() + more.len() <= 4096);
+    assert!(rt; have_small_coefficients(prepared.rows()) && have_small_coefficients(more));
+    match prepared.with(alloc, more)? {
+        Prepared::SolvedRows(grown) => verdict(rt, alloc, &grown, question),
+        Prepared::Absurd(_) => Ok("absurd when prepared"),
+        Prepared::TooWide => Ok("too wide when prepared"),
     }
 }
 
-// The three lists of rows of a line, settled one behind the other and asked.
+// The three lists of rows of a line, prepared one behind the other and asked.
 fn answer_in_turn(
     rt: &impl Abort,
     alloc: Global,
@@ -107,14 +107,14 @@ fn answer_in_turn(
     let more = rows(rt, alloc, more)?;
     let first = rows(rt, alloc, first)?;
     assert!(rt; first.len() <= 4096 && have_small_coefficients(&first));
-    match settle(alloc, first)? {
-        Settling::Settled(settled) => grown_answer(rt, alloc, &settled, &more, &question),
-        Settling::Absurd(_) | Settling::TooWide => Ok("no solution of the first rows"),
+    match prepare(alloc, first)? {
+        Prepared::SolvedRows(prepared) => grown_answer(rt, alloc, &prepared, &more, &question),
+        Prepared::Absurd(_) | Prepared::TooWide => Ok("no solution of the first rows"),
     }
 }
 
 #[test]
-fn rows_settled_behind(rt: HostRuntime) -> Result<(), Fail> {
+fn rows_prepared_after(rt: HostRuntime) -> Result<(), Fail> {
     for line in grown_questions().split('\n') {
         let mut parts = line.split('/');
         let first = parts.next().unwrap_or("");
