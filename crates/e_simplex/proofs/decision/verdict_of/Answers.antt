@@ -3,7 +3,7 @@ use Rattle.e_fraction.specs.Views.{all_seen}
 use Rattle.e_fraction.proofs.Wideness.{wide_rows_width}
 use Rattle.e_simplex.specs.Naming.{named_constraints}
 use Rattle.e_simplex.specs.Solved.{IsSolved}
-use Rattle.e_simplex.proofs.Picked.{wide_over}
+use Rattle.e_simplex.proofs.WideRows.{wide_over}
 use Rattle.e_simplex.proofs.SpareColumns.{narrow_absurd}
 use Rattle.e_simplex.proofs.decision.verdict_of.Goals as goal
 

@@ -8,7 +8,7 @@ use Rattle.e_simplex.specs.inner.Disequalities.{AreBothRefuted}
 use Rattle.e_fraction.proofs.Wideness.{wide_rows_width}
 use Rattle.e_simplex.proofs.Refuting.{length_seen, solved_further, solved_wide, solved_unequal, solved_both_refuted}
 use Rattle.e_simplex.proofs.NamedConstraints.{further_constraints}
-use Rattle.e_simplex.proofs.Picked.{wide_with_some_over}
+use Rattle.e_simplex.proofs.WideRows.{wide_with_some_over}
 use Rattle.e_simplex.proofs.SpareColumns.{narrow_both}
 use Rattle.e_simplex.proofs.Assigning.{values_answered}
 use Rattle.e_simplex.proofs.decision.verdict_of_solved.Goals as goal

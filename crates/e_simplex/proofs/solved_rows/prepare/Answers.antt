@@ -7,7 +7,7 @@ use Rattle.e_simplex.specs.Naming.{AllNamed, named_constraints}
 use Rattle.e_simplex.specs.Solved.{IsFit, IsSolved, columns_of}
 use Rattle.e_simplex.specs.inner.Weights.{AreWeightsFor}
 use Rattle.e_simplex.proofs.NamedConstraints.{fit_constraints}
-use Rattle.e_simplex.proofs.Picked.{wide_over}
+use Rattle.e_simplex.proofs.WideRows.{wide_over}
 use Rattle.e_simplex.proofs.SpareColumns.{narrow_absurd}
 use Rattle.e_simplex.proofs.Refuting.{length_seen}
 use Rattle.e_simplex.proofs.solved_rows.prepare.Goals as goal

@@ -1,4 +1,4 @@
--- Steps of the loop over the forms that are not to be 0: what is point, and when the constraints are wide.
+-- One step of the loop over the forms that are not to be 0: the point that comes of it, and when the constraints are wide.
 use Rattle.std.proofs.Common.{◌≡◌, ℕ, ◌+◌, ◌^◌, ◌<◌, List, [], ◌∷◌, ◌++◌, ap, arith, sym, ◌∙◌, subst, length, get_or, ◌⊎◌, inl, inr}
 use Rattle.std.specs.Prelude.{unsigned_abs}
 use Rattle.std.proofs.lemmas.Bool.{cases_eq}
@@ -13,7 +13,7 @@ use Rattle.e_simplex.specs.Solved.{WideFurther}
 use Rattle.e_simplex.specs.inner.Tried.{IsFound, negative_constraint, AreValues, AreBelowBut}
 use Rattle.e_simplex.specs.inner.Points.{IsPoint}
 use Rattle.e_simplex.specs.inner.Disequalities.{AreFurther, LargeForm, IsMoved, WideWithTwo}
-use Rattle.e_simplex.proofs.Keeping.{point_step}
+use Rattle.e_simplex.proofs.PointSteps.{point_step}
 
 some_constraint : Constraint
 some_constraint = record { sense = More; form = [] }
