@@ -17,7 +17,7 @@ import tempfile
 RUNS = 5
 POINTS = (5, 10, 20, 40)
 # the calls that decide one linear system: the facts' rows, a goal's beside them, and rows from nothing
-QUESTIONS = ("e_simplex::settled::settle", "e_simplex::settled::Settled::decide_with", "e_simplex::decision::decide_counting")
+QUESTIONS = ("e_simplex::solved_rows::prepare", "e_simplex::solved_rows::SolvedRows::decide_with", "e_simplex::decision::decide")
 
 
 def names(letter, count):

@@ -24,13 +24,12 @@ def run(program, words):
 
 
 def main(program):
-    print("%5s %5s %-5s %9s %7s %9s  %s" % ("rows", "terms", "end", "seconds", "pivots", "KiB below", "answer"))
+    print("%5s %5s %-5s %9s %9s  %s" % ("rows", "terms", "end", "seconds", "KiB below", "answer"))
     for rows, terms in SIZES:
         for end in ("open", "shut"):
             runs = [run(program, [str(rows), str(terms), str(seed), end]) for seed in SEEDS]
             seconds, peak, line = max(runs)
-            answer, pivots, _ = line.split(": ")[1].rsplit(" ", 2)
-            print("%5d %5d %-5s %9.3f %7s %9d  %s" % (rows, terms, end, seconds, pivots, peak, answer.rstrip(",")))
+            print("%5d %5d %-5s %9.3f %9d  %s" % (rows, terms, end, seconds, peak, line.split(": ")[1]))
 
 
 if __name__ == "__main__":

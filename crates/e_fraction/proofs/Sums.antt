@@ -16,7 +16,7 @@ use Rattle.e_literal.specs.Rows.{Summands, coefficient, terms_of_rows}
 use Rattle.e_literal.specs.Absurd.{Weighed, total, is_good_sign, is_strict, is_absurd}
 use Rattle.e_fraction.specs.declared.row.Row.{Row as GivenRow}
 use Rattle.e_fraction.specs.Distinct.{have_distinct_terms}
-use Rattle.e_fraction.specs.Limits.{has_small_coefficients, all_small, are_good_multipliers}
+use Rattle.e_fraction.specs.Limits.{has_small_coefficients, all_small, small_multipliers}
 use Rattle.e_fraction.specs.Views.{says_of, seen, all_seen, weighed}
 use Rattle.e_literal.proofs.Arith.{sums}
 use Rattle.e_literal.proofs.Terms.{term_eq_is}
@@ -89,10 +89,10 @@ small_row [] i d l h = absurd (omega (arith, l))
 small_row (r ∷ rs) zero d l h = and_left (has_small_coefficients r.form) (all_small rs) h
 small_row (r ∷ rs) (suc i) d l h = small_row rs i d (omega (arith, l)) (and_right (has_small_coefficients r.form) (all_small rs) h)
 
-pub good_multiplier : (ms : List ℤ) (i : ℕ) → i < length ms → are_good_multipliers ms ≡ true → unsigned_abs (get_or ms i (pos 0)) ≤ 2 ^ 80
+pub good_multiplier : (ms : List ℤ) (i : ℕ) → i < length ms → small_multipliers ms ≡ true → unsigned_abs (get_or ms i (pos 0)) ≤ 2 ^ 80
 good_multiplier [] i l h = absurd (omega (arith, l))
-good_multiplier (m ∷ ms) zero l h = leb-true (unsigned_abs m) (2 ^ 80) (and_left (nat_le (unsigned_abs m) (2 ^ 80)) (are_good_multipliers ms) h)
-good_multiplier (m ∷ ms) (suc i) l h = good_multiplier ms i (omega (arith, l)) (and_right (nat_le (unsigned_abs m) (2 ^ 80)) (are_good_multipliers ms) h)
+good_multiplier (m ∷ ms) zero l h = leb-true (unsigned_abs m) (2 ^ 80) (and_left (nat_le (unsigned_abs m) (2 ^ 80)) (small_multipliers ms) h)
+good_multiplier (m ∷ ms) (suc i) l h = good_multiplier ms i (omega (arith, l)) (and_right (nat_le (unsigned_abs m) (2 ^ 80)) (small_multipliers ms) h)
 
 -- one row more
 pub total_more : (rows : List GivenRow) (ms : List ℤ) (i : ℕ) (d : GivenRow) (t : Term) → i < length rows → i < length ms

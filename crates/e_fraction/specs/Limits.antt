@@ -12,5 +12,5 @@ abbrev pub all_small : List Row → Bool
 all_small rows = list_all (λ r. has_small_coefficients r.form) rows
 
 -- each multiplier has size at most 2 ^ 80
-abbrev pub are_good_multipliers : List ℤ → Bool
-are_good_multipliers ms = list_all (λ m. nat_le (unsigned_abs m) (2 ^ 80)) ms
+abbrev pub small_multipliers : List ℤ → Bool
+small_multipliers ms = list_all (λ m. nat_le (unsigned_abs m) (2 ^ 80)) ms

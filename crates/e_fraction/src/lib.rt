@@ -1,4 +1,5 @@
-// Exact arithmetic on rows of whole numbers: determinants, and the sums that refute.
+//! Exact arithmetic on rows of whole numbers: the quotients of pivots, sums of rows that refute
+//! them, and a bound of their minors.
 #![tactic(auto)]
 
 mod entry;
@@ -10,5 +11,5 @@ mod widths;
 pub use entry::{Wide, cross};
 pub use row::{Row, RowKind, have_small_coefficients};
 pub use signed::{Signed, are_distinct, stands_in};
-pub use sum::{are_good_multipliers, check_sum, total};
+pub use sum::{are_small_multipliers, check_sum, total};
 pub use widths::width;

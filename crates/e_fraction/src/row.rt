@@ -1,4 +1,4 @@
-// Rows of a linear system.
+//! Rows of a linear system.
 
 ghost use Rattle.std.specs.Prelude.{◌≡◌};
 ghost use Rattle.std.specs.List.{list_all};

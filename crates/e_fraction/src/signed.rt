@@ -1,4 +1,4 @@
-// Forms: sums of terms with whole coefficients.
+//! Forms: sums of terms with whole coefficients.
 
 ghost use Rattle.std.specs.Prelude.{◌≡◌, [], IsTrue};
 ghost use Rattle.std.specs.List.{list_any};
@@ -63,6 +63,7 @@ impl Signed {
     }
 }
 
+/// The coefficient of a term in a form, 0 where it is not there.
 fn coefficient_in(summands: &[(i64, Term)], term: Term) -> i64
     requires { IsTrue (have_distinct_terms summands.now) }
     ensures { result ≡ coefficient summands.now term }

@@ -1,28 +1,29 @@
-// Sums of rows that refute them.
+//! Sums of rows that refute them.
 
-ghost use Rattle.std.specs.Prelude.{◌≡◌, ◌≤◌, ◌<◌, ◌^◌, length, IsTrue, pos, unsigned_abs, ◌*ℤ◌, ◌&&◌};
+ghost use Rattle.std.specs.Prelude.{◌≡◌, ◌≤◌, ◌<◌, ◌^◌, length, IsTrue, pos, unsigned_abs, ◌*ℤ◌};
+ghost use Rattle.std.specs.Prelude.{◌&&◌};
 ghost use Rattle.std.specs.List.{list_all, list_any, zip};
 ghost use Rattle.std.specs.Ordering.{int_eq};
 ghost use Rattle.e_literal.specs.Rows.{Summands, coefficient};
 ghost use Rattle.e_literal.specs.Absurd.{total, is_good_sign, is_strict, is_absurd};
-ghost use Rattle.e_fraction.specs.Limits.{has_small_coefficients, all_small, are_good_multipliers};
+ghost use Rattle.e_fraction.specs.Limits.{has_small_coefficients, all_small, small_multipliers};
 ghost use Rattle.e_fraction.specs.Views.{says_of, weighed, all_seen};
 ghost use Rattle.e_literal.specs.Solution.{HasSolution};
 
 use crate::row::{Row, RowKind};
 use e_literal::Term;
 
-/// Whether the sum of the rows, each times its multiplier, is absurd: the coefficients of each term add up to 0, no
-/// row that says `at least` or `more` is taken away, and one that says `more` is added. Then no values satisfy the
-/// rows. A row that says that its form is not 0 takes part in no such sum. [`have_small_coefficients`] and
-/// [`are_good_multipliers`] test the conditions.
+/// Whether the sum of the rows, each times its multiplier, is absurd: the coefficients of each term
+/// add up to 0, no row that says `at least` or `more` is taken away, and one that says `more` is
+/// added. Then no values satisfy the rows. A row that says that its form is not 0 takes part in no
+/// such sum. [`have_small_coefficients`] and [`are_small_multipliers`] test the conditions.
 ///
 /// [`have_small_coefficients`]: crate::row::have_small_coefficients
 pub fn check_sum(rows: &[Row], multipliers: &[i128]) -> bool
     requires lengths { length multipliers.now ≡ length rows.now }
     requires few { length rows.now ≤ 4096 }
     requires coefficients { IsTrue (all_small rows.now) }
-    requires multipliers { IsTrue (are_good_multipliers multipliers.now) }
+    requires multipliers { IsTrue (small_multipliers multipliers.now) }
     ensures value { result ≡ is_absurd (weighed rows.now multipliers.now) }
     ensures refutes { IsTrue result → ¬ HasSolution (all_seen rows.now) }
 {
@@ -30,8 +31,8 @@ pub fn check_sum(rows: &[Row], multipliers: &[i128]) -> bool
 }
 
 /// Whether each multiplier lies within plus or minus 2^80.
-pub fn are_good_multipliers(multipliers: &[i128]) -> bool
-    ensures { result ≡ Rattle.e_fraction.specs.Limits.are_good_multipliers multipliers.now }
+pub fn are_small_multipliers(multipliers: &[i128]) -> bool
+    ensures { result ≡ small_multipliers multipliers.now }
 {
     multipliers
         .iter()
@@ -43,8 +44,9 @@ fn cancels(rows: &[Row], multipliers: &[i128]) -> bool
     requires lengths { length multipliers.now ≡ length rows.now }
     requires few { length rows.now ≤ 4096 }
     requires coefficients { IsTrue (all_small rows.now) }
-    requires multipliers { IsTrue (are_good_multipliers multipliers.now) }
-    ensures { result ≡ list_all (λ r. list_all (λ p. int_eq (total (weighed rows.now multipliers.now) p.1) (pos 0)) r.form) rows.now }
+    requires multipliers { IsTrue (small_multipliers multipliers.now) }
+    ensures { result ≡ list_all (λ r. list_all (λ p.
+        int_eq (total (weighed rows.now multipliers.now) p.1) (pos 0)) r.form) rows.now }
 {
     rows.iter()
         .all(|row| cancels_in(row.form.summands(), rows, multipliers))
@@ -54,21 +56,22 @@ fn cancels_in(form: &[(i64, Term)], rows: &[Row], multipliers: &[i128]) -> bool
     requires lengths { length multipliers.now ≡ length rows.now }
     requires few { length rows.now ≤ 4096 }
     requires coefficients { IsTrue (all_small rows.now) }
-    requires multipliers { IsTrue (are_good_multipliers multipliers.now) }
-    ensures { result ≡ list_all (λ p. int_eq (total (weighed rows.now multipliers.now) p.1) (pos 0)) form.now }
+    requires multipliers { IsTrue (small_multipliers multipliers.now) }
+    ensures { result ≡ list_all (λ p.
+        int_eq (total (weighed rows.now multipliers.now) p.1) (pos 0)) form.now }
 {
     form.iter().all(|p| total(rows, multipliers, p.1) == 0)
 }
 
-/// The coefficient of a term in the sum of the rows, each times its multiplier. [`have_small_coefficients`] and
-/// [`are_good_multipliers`] test the conditions.
+/// The coefficient of a term in the sum of the rows, each times its multiplier.
+/// [`have_small_coefficients`] and [`are_small_multipliers`] test the conditions.
 ///
 /// [`have_small_coefficients`]: crate::row::have_small_coefficients
 pub fn total(rows: &[Row], multipliers: &[i128], term: Term) -> i128
     requires lengths { length multipliers.now ≡ length rows.now }
     requires few { length rows.now ≤ 4096 }
     requires coefficients { IsTrue (all_small rows.now) }
-    requires multipliers { IsTrue (are_good_multipliers multipliers.now) }
+    requires multipliers { IsTrue (small_multipliers multipliers.now) }
     ensures { result ≡ Rattle.e_literal.specs.Absurd.total (weighed rows.now multipliers.now) term }
 {
     let mut sum: i128 = 0;
@@ -78,7 +81,8 @@ pub fn total(rows: &[Row], multipliers: &[i128], term: Term) -> i128
     sum
 }
 
-/// The coefficient of the term in a row, times the row's multiplier: a row that takes no part is not looked at.
+/// The coefficient of the term in a row, times the row's multiplier. A row that takes no part is not
+/// looked at.
 fn weighed(row: &Row, multiplier: i128, term: Term) -> i128
     requires row { IsTrue (has_small_coefficients row.now.form) }
     requires multiplier { unsigned_abs multiplier ≤ 2 ^ 80 }
@@ -93,21 +97,24 @@ fn weighed(row: &Row, multiplier: i128, term: Term) -> i128
 
 /// Whether no row that says `at least` or `more` is taken away, and one that says `more` is added.
 fn have_absurd_signs(rows: &[Row], multipliers: &[i128]) -> bool
-    ensures { result ≡ (list_all (λ x. is_good_sign (says_of x.0.kind) x.1) (zip rows.now multipliers.now)
+    ensures { result
+        ≡ (list_all (λ x. is_good_sign (says_of x.0.kind) x.1) (zip rows.now multipliers.now)
         && list_any (λ x. is_strict (says_of x.0.kind) x.1) (zip rows.now multipliers.now)) }
 {
-    have_good_signs(rows, multipliers) && has_strict(rows, multipliers)
+    may_take_all(rows, multipliers) && has_strict(rows, multipliers)
 }
 
-fn have_good_signs(rows: &[Row], multipliers: &[i128]) -> bool
-    ensures { result ≡ list_all (λ x. is_good_sign (says_of x.0.kind) x.1) (zip rows.now multipliers.now) }
+/// Whether no row that says `at least` or `more` is taken away, and none says `not 0`.
+fn may_take_all(rows: &[Row], multipliers: &[i128]) -> bool
+    ensures { result
+        ≡ list_all (λ x. is_good_sign (says_of x.0.kind) x.1) (zip rows.now multipliers.now) }
 {
     rows.iter()
         .zip(multipliers)
-        .all(|(row, multiplier)| has_good_sign(row.kind, *multiplier))
+        .all(|(row, multiplier)| may_take(row.kind, *multiplier))
 }
 
-fn has_good_sign(kind: RowKind, multiplier: i128) -> bool
+fn may_take(kind: RowKind, multiplier: i128) -> bool
     ensures { result ≡ is_good_sign (says_of kind) multiplier }
 {
     match kind {
@@ -117,8 +124,10 @@ fn has_good_sign(kind: RowKind, multiplier: i128) -> bool
     }
 }
 
+/// Whether a row that says `more` is added.
 fn has_strict(rows: &[Row], multipliers: &[i128]) -> bool
-    ensures { result ≡ list_any (λ x. is_strict (says_of x.0.kind) x.1) (zip rows.now multipliers.now) }
+    ensures { result
+        ≡ list_any (λ x. is_strict (says_of x.0.kind) x.1) (zip rows.now multipliers.now) }
 {
     rows.iter()
         .zip(multipliers)

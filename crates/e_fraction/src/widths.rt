@@ -1,6 +1,7 @@
-// The width of a list of rows.
+//! The width of a list of rows.
 
-ghost use Rattle.std.specs.Prelude.{◌≡◌, ◌≤◌, ◌<◌, ◌+◌, ◌-◌, ◌*◌, ◌^◌, ◌++◌, length, min, max, take, map, get_or, sum_by, count_by, unsigned_abs, not};
+ghost use Rattle.std.specs.Prelude.{◌≡◌, ◌≤◌, ◌<◌, ◌+◌, ◌-◌, ◌*◌, ◌^◌, ◌++◌, length, min, max};
+ghost use Rattle.std.specs.Prelude.{take, map, get_or, sum_by, count_by, unsigned_abs, not};
 ghost use Rattle.std.specs.List.{list_any};
 ghost use Rattle.e_literal.specs.Same.{term_eq};
 ghost use Rattle.e_literal.specs.Rows.{coefficient, terms_of_rows};
@@ -12,9 +13,10 @@ use crate::row::{Row, RowKind};
 use crate::signed::stands_in;
 use e_literal::Term;
 
-/// The product over the terms of the sum of the sizes of the term's coefficients (or 1, where that is 0), times the
-/// number of rows that say `more` or `not 0` (or 1), or 2^128 - 1 where the product is greater. Before that cap it is
-/// at least the size of every minor, so the width of rows that are wide is at least 2^63.
+/// The product over the terms of the sum of the sizes of the term's coefficients (or 1, where that
+/// is 0), times the number of rows that say `more` or `not 0` (or 1), or 2^128 - 1 where the
+/// product is greater. Before that cap it is at least the size of every minor, so the width of rows
+/// that are wide is at least 2^63.
 pub fn width(rows: &[Row]) -> u128
     ensures value { result ≡ Rattle.e_literal.specs.Width.width (all_seen rows.now) }
     ensures wide { IsWide (all_seen rows.now) → 2 ^ 63 ≤ result }
@@ -43,11 +45,13 @@ fn has_constant(kind: RowKind) -> bool
     }
 }
 
-/// The product, times the weights of the terms of the row `i` that stand nowhere before.
+/// The product, times the weights of the terms of the row `i` that are in no row before it.
 fn times_weights(product: u128, rows: &[Row], i: usize) -> u128
     requires row { i < length rows.now }
-    requires product { product ≡ width_over (all_seen rows.now) (terms_of_rows (all_seen (take i rows.now))) }
-    ensures { result ≡ width_over (all_seen rows.now) (terms_of_rows (all_seen (take (i + 1) rows.now))) }
+    requires product { product
+        ≡ width_over (all_seen rows.now) (terms_of_rows (all_seen (take i rows.now))) }
+    ensures { result
+        ≡ width_over (all_seen rows.now) (terms_of_rows (all_seen (take (i + 1) rows.now))) }
 {
     let form = rows[i].form.summands();
     let mut product = product;
@@ -62,7 +66,8 @@ fn times_weights(product: u128, rows: &[Row], i: usize) -> u128
 
 /// Whether the term stands neither in one of the rows nor in the form.
 fn is_new(rows: &[Row], form: &[(i64, Term)], term: Term) -> bool
-    ensures { result ≡ not (is_among (terms_of_rows (all_seen rows.now) ++ map (λ p. p.1) form.now) term) }
+    ensures { result
+        ≡ not (is_among (terms_of_rows (all_seen rows.now) ++ map (λ p. p.1) form.now) term) }
 {
     !stands_in(form, term) && !occurs(rows, term)
 }
@@ -86,8 +91,8 @@ fn sizes(rows: &[Row], term: Term) -> u128
     ensures { result ≡ sum_by (λ r. unsigned_abs (coefficient r.form term)) rows.now }
 {
     let mut sum = 0u128;
-    for i in 0..rows.len() {
-        sum += u128::from(rows[i].form.coefficient(term).unsigned_abs());
+    for row in rows {
+        sum += u128::from(row.form.coefficient(term).unsigned_abs());
     }
     sum
 }

@@ -15,7 +15,7 @@ use Rattle.e_metric.specs.RowOrder.{AreReordered}
 use Rattle.e_metric.proofs.FirstTerms.{listed_first, some_wanted, none_wanted}
 use Rattle.e_metric.proofs.SystemRows.{flat_append}
 use Rattle.e_metric.proofs.RowOrder.{two_after}
-use Rattle.e_simplex.proofs.Spreading.{take_done}
+use Rattle.e_simplex.proofs.RowMultipliers.{take_done}
 
 -- ---- terms of more literals
 

@@ -8,7 +8,7 @@ use lib.IntN.{ℤ, pos}
 use Rattle.e_literal.specs.Rows.{Row}
 use Rattle.e_literal.proofs.Arith.{sums}
 use Rattle.e_fraction.specs.declared.row.Row.{Row as GivenRow}
-use Rattle.e_fraction.specs.Limits.{all_small, are_good_multipliers}
+use Rattle.e_fraction.specs.Limits.{all_small, small_multipliers}
 use Rattle.e_fraction.specs.Views.{seen, all_seen}
 use Rattle.e_simplex.specs.Answer.{AreTaken, Refutes, IsNotAt, as_more, as_less, RefutesBoth}
 use Rattle.e_metric.specs.inner.Certificate.{negated_at, IsWeighable}
@@ -20,18 +20,18 @@ taken_length [] (m ∷ ms) h = absurd h
 taken_length (r ∷ rs) [] h = absurd h
 taken_length (r ∷ rs) (m ∷ ms) h = ap suc (taken_length rs ms h.1)
 
-good_given : (ms : List ℤ) → ((i : ℕ) → i < length ms → unsigned_abs (get_or ms i (pos 0)) ≤ 2 ^ 80) → are_good_multipliers ms ≡ true
+good_given : (ms : List ℤ) → ((i : ℕ) → i < length ms → unsigned_abs (get_or ms i (pos 0)) ≤ 2 ^ 80) → small_multipliers ms ≡ true
 good_given [] h = refl
 good_given (m ∷ ms) h =
-    and_from (nat_le (unsigned_abs m) (2 ^ 80)) (are_good_multipliers ms) (le-leb (unsigned_abs m) (2 ^ 80) (h 0 (omega arith))) (good_given ms (λ i l. h (suc i) (omega (arith, l))))
+    and_from (nat_le (unsigned_abs m) (2 ^ 80)) (small_multipliers ms) (le-leb (unsigned_abs m) (2 ^ 80) (h 0 (omega arith))) (good_given ms (λ i l. h (suc i) (omega (arith, l))))
 
-good_negated : (ms : List ℤ) (k : ℕ) → ((i : ℕ) → i < length ms → unsigned_abs (get_or ms i (pos 0)) ≤ 2 ^ 80) → are_good_multipliers (negated_at ms k) ≡ true
+good_negated : (ms : List ℤ) (k : ℕ) → ((i : ℕ) → i < length ms → unsigned_abs (get_or ms i (pos 0)) ≤ 2 ^ 80) → small_multipliers (negated_at ms k) ≡ true
 good_negated [] zero h = refl
 good_negated [] (suc k) h = refl
 good_negated (m ∷ ms) zero h =
-    and_from (nat_le (unsigned_abs (neg_ℤ m)) (2 ^ 80)) (are_good_multipliers ms) (le-leb (unsigned_abs (neg_ℤ m)) (2 ^ 80) (omega (arith, sums, abs_is m, abs_is (neg_ℤ m), h 0 (omega arith)))) (good_given ms (λ i l. h (suc i) (omega (arith, l))))
+    and_from (nat_le (unsigned_abs (neg_ℤ m)) (2 ^ 80)) (small_multipliers ms) (le-leb (unsigned_abs (neg_ℤ m)) (2 ^ 80) (omega (arith, sums, abs_is m, abs_is (neg_ℤ m), h 0 (omega arith)))) (good_given ms (λ i l. h (suc i) (omega (arith, l))))
 good_negated (m ∷ ms) (suc k) h =
-    and_from (nat_le (unsigned_abs m) (2 ^ 80)) (are_good_multipliers (negated_at ms k)) (le-leb (unsigned_abs m) (2 ^ 80) (h 0 (omega arith))) (good_negated ms k (λ i l. h (suc i) (omega (arith, l))))
+    and_from (nat_le (unsigned_abs m) (2 ^ 80)) (small_multipliers (negated_at ms k)) (le-leb (unsigned_abs m) (2 ^ 80) (h 0 (omega arith))) (good_negated ms k (λ i l. h (suc i) (omega (arith, l))))
 
 length_negated : (ms : List ℤ) (k : ℕ) → length (negated_at ms k) ≡ length ms
 length_negated [] zero = refl

@@ -13,7 +13,7 @@ use Rattle.e_literal.proofs.Booleans.{and_left, and_right}
 use Rattle.e_clause.specs.declared.cert.RowName.{RowName}
 use Rattle.e_clause.specs.declared.cert.RowName.TheVariants.{Least}
 use Rattle.e_fraction.specs.declared.row.Row.{Row as GivenRow}
-use Rattle.e_fraction.specs.Limits.{has_small_coefficients, all_small, are_good_multipliers}
+use Rattle.e_fraction.specs.Limits.{has_small_coefficients, all_small, small_multipliers}
 use Rattle.e_fraction.specs.Views.{weighed}
 use Rattle.e_metric.specs.inner.Certificate.{IsWeighable, leasts, used_rows, used_weights}
 
@@ -44,14 +44,14 @@ used_small (r ∷ rs) (w ∷ ws) h = by (int_eq w (pos 0)) (used_small rs ws (an
     by true ih = ih
     by false ih = and_from (has_small_coefficients r.form) (all_small (used_rows rs ws)) (and_left (has_small_coefficients r.form) (all_small rs) h) ih
 
-used_good : (rs : List GivenRow) (ws : List ℤ) → are_good_multipliers ws ≡ true → are_good_multipliers (used_weights rs ws) ≡ true
+used_good : (rs : List GivenRow) (ws : List ℤ) → small_multipliers ws ≡ true → small_multipliers (used_weights rs ws) ≡ true
 used_good [] ws h = refl
 used_good (r ∷ rs) [] h = refl
-used_good (r ∷ rs) (w ∷ ws) h = by (int_eq w (pos 0)) (used_good rs ws (and_right (nat_le (unsigned_abs w) (2 ^ 80)) (are_good_multipliers ws) h))
+used_good (r ∷ rs) (w ∷ ws) h = by (int_eq w (pos 0)) (used_good rs ws (and_right (nat_le (unsigned_abs w) (2 ^ 80)) (small_multipliers ws) h))
   where
-    by : (b : Bool) → are_good_multipliers (used_weights rs ws) ≡ true → are_good_multipliers (cond b (used_weights rs ws) (w ∷ used_weights rs ws)) ≡ true
+    by : (b : Bool) → small_multipliers (used_weights rs ws) ≡ true → small_multipliers (cond b (used_weights rs ws) (w ∷ used_weights rs ws)) ≡ true
     by true ih = ih
-    by false ih = and_from (nat_le (unsigned_abs w) (2 ^ 80)) (are_good_multipliers (used_weights rs ws)) (and_left (nat_le (unsigned_abs w) (2 ^ 80)) (are_good_multipliers ws) h) ih
+    by false ih = and_from (nat_le (unsigned_abs w) (2 ^ 80)) (small_multipliers (used_weights rs ws)) (and_left (nat_le (unsigned_abs w) (2 ^ 80)) (small_multipliers ws) h) ih
 
 -- what is left of a term is the same
 used_total : (rs : List GivenRow) (ws : List ℤ) (t : Term) → total (weighed (used_rows rs ws) (used_weights rs ws)) t ≡ total (weighed rs ws) t

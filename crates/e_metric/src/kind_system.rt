@@ -19,7 +19,7 @@ use e_clause::{MetricCert, RowName};
 use e_facts::Facts;
 use e_fraction::Row;
 use e_literal::{Kind, Lit, Term};
-use e_simplex::{Settled, Settling, settle, width};
+use e_simplex::{Prepared, SolvedRows, prepare, width};
 use std::alloc::{AllocError, Global};
 use std::mem;
 
@@ -44,9 +44,9 @@ pub fn solve_kind(alloc: Global, which: Kind, facts: &Facts) -> Result<KindSyste
     let (names, rows) = split(alloc, named)?;
     let kept = copied_rows(alloc, &rows)?;
     let terms = terms_of_kind(alloc, which, facts, None)?;
-    match settle(alloc, rows)? {
-        Settling::TooWide => Ok(KindSystem::TooWide(width(&kept))),
-        Settling::Settled(settled) => {
+    match prepare(alloc, rows)? {
+        Prepared::TooWide => Ok(KindSystem::TooWide(width(&kept))),
+        Prepared::SolvedRows(settled) => {
             let raised = count_term_rows(facts, &terms);
             Ok(KindSystem::Solved(SolvedSystem {
                 names,
@@ -56,7 +56,7 @@ pub fn solve_kind(alloc: Global, which: Kind, facts: &Facts) -> Result<KindSyste
                 settled,
             }))
         }
-        Settling::Absurd(absurdity) => {
+        Prepared::Absurd(absurdity) => {
             let certified = certificate_of(alloc, which, facts, None, names, &kept, &absurdity);
             mem::drop(absurdity);
             Ok(KindSystem::Absurd(certified?))
@@ -246,7 +246,7 @@ fn joined_parts(
 }
 
 // The solved system of these, whose rows are settled.
-fn solved_with(facts: &Facts, joined: JoinedParts, settled: Settled) -> SolvedSystem
+fn solved_with(facts: &Facts, joined: JoinedParts, settled: SolvedRows) -> SolvedSystem
     ensures names { result.names.items ≡ joined.names.items }
     ensures rows { result.rows.items ≡ joined.rows.items }
     ensures terms { result.terms.items ≡ joined.terms.items }
@@ -281,16 +281,22 @@ fn joined_system(
     ensures { IfOk result (IsKindSystem which facts.now) }
 {
     match solved_system.settled.with(alloc, rows)? {
-        Settling::TooWide => {
+        Prepared::TooWide => {
             let width = system_width(alloc, which, facts, None)?;
             Ok(KindSystem::TooWide(width))
         }
-        Settling::Absurd(absurdity) => {
+        Prepared::Absurd(absurdity) => {
             let cert = solved_system.certified(alloc, which, facts, None, names, rows, &absurdity);
             mem::drop(absurdity);
             Ok(KindSystem::Absurd(cert?))
         }
-        Settling::Settled(settled) => match joined_parts(alloc, solved_system, fresh, names, rows) {
+        Prepared::SolvedRows(settled) => match joined_parts(
+            alloc,
+            solved_system,
+            fresh,
+            names,
+            rows,
+        ) {
             Ok(joined) => Ok(KindSystem::Solved(solved_with(facts, joined, settled))),
             Err(error) => {
                 mem::drop(settled);

@@ -24,7 +24,7 @@ use e_clause::{MetricCert, RowName};
 use e_facts::Facts;
 use e_fraction::{Row, Signed};
 use e_literal::{Kind, Lit, Term, Values};
-use e_simplex::{Absurdity, Settled, Verdict, width};
+use e_simplex::{Absurdity, SolvedRows, Verdict, width};
 use std::alloc::{AllocError, Global};
 use std::mem;
 
@@ -36,7 +36,7 @@ pub struct SolvedSystem {
     pub terms: Vec<Term>,
     /// How many of the rows the terms bring.
     pub raised: usize,
-    pub settled: Settled,
+    pub settled: SolvedRows,
 }
 
 /// An equal row.

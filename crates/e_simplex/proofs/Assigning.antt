@@ -1,4 +1,4 @@
--- Values of terms and values of columns: which satisfy rows, and which lines.
+-- Values of terms and values of columns: which satisfy rows, and which constraints.
 use Rattle.std.proofs.Common.{◌≡◌, ◌≢◌, ℕ, zero, suc, ◌+◌, ◌<◌, List, [], ◌∷◌, ◌++◌, refl, ap, ap₂, arith, sym, ◌∙◌, subst, length, get_or, cond, Bool, true, false, true≢false, ◌⊎◌, inl, inr}
 use Rattle.std.specs.Prelude.{map, unsigned_abs}
 use Rattle.std.proofs.lemmas.Bool.{cases_lt, cases_Bool}
@@ -11,27 +11,27 @@ use Rattle.e_literal.specs.declared.object.Term.TheVariants.{Right}
 use Rattle.e_literal.specs.Same.{term_eq}
 use Rattle.e_literal.specs.Rows.{Row, Says, Zero, AtLeast, More, Not, Summands}
 use Rattle.e_literal.specs.Solution.{IsSo, Satisfy, HasSolution}
-use Rattle.e_simplex.specs.declared.lines.Line.{Line}
-use Rattle.e_simplex.specs.declared.lines.Kind.TheVariants.{More as LineMore}
-use Rattle.e_simplex.specs.Lines.{form_value, LineHolds, IsSolution, IsAbsurd}
-use Rattle.e_simplex.specs.Naming.{place_of, IsIn, AreOnce, Continues, FormNamed, AllNamed, named_form, named_line, named_lines, kind_of, keeps}
+use Rattle.e_simplex.specs.declared.constraints.Constraint.{Constraint}
+use Rattle.e_simplex.specs.declared.constraints.Sense.TheVariants.{More as SenseMore}
+use Rattle.e_simplex.specs.Constraints.{form_value, ConstraintHolds, IsSolution, IsAbsurd}
+use Rattle.e_simplex.specs.Naming.{place_of, IsIn, AreOnce, FormNamed, AllNamed, named_form, named_constraint, named_constraints, sense_of, keeps}
 use Rattle.e_simplex.specs.Answer.{assigned, AreValuesOf}
 use Rattle.e_simplex.specs.inner.Paired.{PairedTo}
-use Rattle.e_simplex.specs.inner.Apart.{AreApart, IsNeither}
-use Rattle.e_simplex.specs.inner.Tried.{negative_line}
+use Rattle.e_simplex.specs.inner.Disequalities.{AreUnequal, AreBothRefuted}
+use Rattle.e_simplex.specs.inner.Tried.{negative_constraint}
 use Rattle.e_literal.proofs.Arith.{sums}
 use Rattle.e_simplex.proofs.Negatives.{negated_value, negative_within}
-use Rattle.e_simplex.proofs.NamedLines.{kept_not, within_lines, more_lines}
+use Rattle.e_simplex.proofs.NamedConstraints.{kept_not, within_constraints, more_constraints}
 use Rattle.e_simplex.proofs.Deciding.{forms_push}
 use Rattle.e_simplex.proofs.Refutes.{no_solution}
-use Rattle.e_simplex.proofs.Places.{term_at, lines_continued}
+use Rattle.e_simplex.proofs.Places.{term_at}
 
--- ---- the lines of one row more
+-- ---- the constraints of one row more
 
-pub main_cons : (ts : List Term) (r : Row) (rs : List Row) → named_lines false ts (r ∷ rs) ≡ cond (keeps true r.says) (named_lines false ts rs) (named_line ts r ∷ named_lines false ts rs)
+pub main_cons : (ts : List Term) (r : Row) (rs : List Row) → named_constraints false ts (r ∷ rs) ≡ cond (keeps true r.says) (named_constraints false ts rs) (named_constraint ts r ∷ named_constraints false ts rs)
 main_cons ts r rs = by r.says
   where
-    by : (s : Says) → cond (keeps false s) (named_line ts r ∷ named_lines false ts rs) (named_lines false ts rs) ≡ cond (keeps true s) (named_lines false ts rs) (named_line ts r ∷ named_lines false ts rs)
+    by : (s : Says) → cond (keeps false s) (named_constraint ts r ∷ named_constraints false ts rs) (named_constraints false ts rs) ≡ cond (keeps true s) (named_constraints false ts rs) (named_constraint ts r ∷ named_constraints false ts rs)
     by Zero = refl
     by AtLeast = refl
     by More = refl
@@ -69,9 +69,9 @@ form_same ts [] values v h f = refl
 form_same ts (p ∷ ps) values v h f =
     ap₂ {A = ℤ} {B = ℤ} (λ a b. a +ℤ b) (ap (λ z. p.0 *ℤ z) (h p.1 f.0)) (form_same ts ps values v h f.1)
 
--- ---- from lines to rows
+-- ---- from constraints to rows
 
-so_of : (s : Says) (z : ℤ) → keeps true s ≡ false → LineHolds (kind_of s) z → IsSo s z
+so_of : (s : Says) (z : ℤ) → keeps true s ≡ false → ConstraintHolds (sense_of s) z → IsSo s z
 so_of Zero z e h = h
 so_of AtLeast z e h = h
 so_of More z e h = h
@@ -79,69 +79,69 @@ so_of Not z e h = absurd (true≢false e)
 
 module _ (ts : List Term) (values : List ℤ) (v : Term → ℕ) (same : Values ts values v) where
   satisfied : (rows : List Row) → AllNamed ts rows
-      → ((i : ℕ) (d : Line) → i < length (named_lines false ts rows) → LineHolds (get_or (named_lines false ts rows) i d).kind (form_value (get_or (named_lines false ts rows) i d).form values))
-      → ((j : ℕ) (d : Line) → j < length (named_lines true ts rows) → form_value (get_or (named_lines true ts rows) j d).form values ≢ pos 0) → Satisfy v rows
+      → ((i : ℕ) (d : Constraint) → i < length (named_constraints false ts rows) → ConstraintHolds (get_or (named_constraints false ts rows) i d).sense (form_value (get_or (named_constraints false ts rows) i d).form values))
+      → ((j : ℕ) (d : Constraint) → j < length (named_constraints true ts rows) → form_value (get_or (named_constraints true ts rows) j d).form values ≢ pos 0) → Satisfy v rows
   satisfied [] a h g = tt
   satisfied (r ∷ rs) a h g =
       by (keeps true r.says) refl
-      (subst (λ ls. (i : ℕ) (d : Line) → i < length ls → LineHolds (get_or ls i d).kind (form_value (get_or ls i d).form values)) (main_cons ts r rs) h) g (λ p q. satisfied rs a.1 p q)
+      (subst (λ ls. (i : ℕ) (d : Constraint) → i < length ls → ConstraintHolds (get_or ls i d).sense (form_value (get_or ls i d).form values)) (main_cons ts r rs) h) g (λ p q. satisfied rs a.1 p q)
     where
       by : (b : Bool) → keeps true r.says ≡ b
-          → ((i : ℕ) (d : Line) → i < length (cond b (named_lines false ts rs) (named_line ts r ∷ named_lines false ts rs))
-          → LineHolds (get_or (cond b (named_lines false ts rs) (named_line ts r ∷ named_lines false ts rs)) i d).kind (form_value (get_or (cond b (named_lines false ts rs) (named_line ts r ∷ named_lines false ts rs)) i d).form values))
-          → ((j : ℕ) (d : Line) → j < length (cond b (named_line ts r ∷ named_lines true ts rs) (named_lines true ts rs)) → form_value (get_or (cond b (named_line ts r ∷ named_lines true ts rs) (named_lines true ts rs)) j d).form values ≢ pos 0)
-          → (((i : ℕ) (d : Line) → i < length (named_lines false ts rs) → LineHolds (get_or (named_lines false ts rs) i d).kind (form_value (get_or (named_lines false ts rs) i d).form values))
-          → ((j : ℕ) (d : Line) → j < length (named_lines true ts rs) → form_value (get_or (named_lines true ts rs) j d).form values ≢ pos 0) → Satisfy v rs)
+          → ((i : ℕ) (d : Constraint) → i < length (cond b (named_constraints false ts rs) (named_constraint ts r ∷ named_constraints false ts rs))
+          → ConstraintHolds (get_or (cond b (named_constraints false ts rs) (named_constraint ts r ∷ named_constraints false ts rs)) i d).sense (form_value (get_or (cond b (named_constraints false ts rs) (named_constraint ts r ∷ named_constraints false ts rs)) i d).form values))
+          → ((j : ℕ) (d : Constraint) → j < length (cond b (named_constraint ts r ∷ named_constraints true ts rs) (named_constraints true ts rs)) → form_value (get_or (cond b (named_constraint ts r ∷ named_constraints true ts rs) (named_constraints true ts rs)) j d).form values ≢ pos 0)
+          → (((i : ℕ) (d : Constraint) → i < length (named_constraints false ts rs) → ConstraintHolds (get_or (named_constraints false ts rs) i d).sense (form_value (get_or (named_constraints false ts rs) i d).form values))
+          → ((j : ℕ) (d : Constraint) → j < length (named_constraints true ts rs) → form_value (get_or (named_constraints true ts rs) j d).form values ≢ pos 0) → Satisfy v rs)
           → Satisfy v (r ∷ rs)
       by true e p q ih = (
-        subst (λ s. IsSo s (Rattle.e_literal.specs.Solution.form_value r.form v)) (sym (kept_not r.says e)) (λ z. q 0 (named_line ts r) (omega arith) (sym (form_same ts r.form values v same a.0) ∙ z)),
+        subst (λ s. IsSo s (Rattle.e_literal.specs.Solution.form_value r.form v)) (sym (kept_not r.says e)) (λ z. q 0 (named_constraint ts r) (omega arith) (sym (form_same ts r.form values v same a.0) ∙ z)),
         ih p (λ j d l. q (suc j) d (omega (arith, l))),
       )
       by false e p q ih = (
         so_of r.says (Rattle.e_literal.specs.Solution.form_value r.form v) e
-            (subst (LineHolds (kind_of r.says)) (sym (form_same ts r.form values v same a.0)) (p 0 (named_line ts r) (omega arith))),
+            (subst (ConstraintHolds (sense_of r.says)) (sym (form_same ts r.form values v same a.0)) (p 0 (named_constraint ts r) (omega arith))),
         ih (λ i d l. p (suc i) d (omega (arith, l))) q,
       )
 
-  -- ---- from rows to lines
+  -- ---- from rows to constraints
 
-  holds_of : (s : Says) (z : ℤ) → keeps true s ≡ false → IsSo s z → LineHolds (kind_of s) z
+  holds_of : (s : Says) (z : ℤ) → keeps true s ≡ false → IsSo s z → ConstraintHolds (sense_of s) z
   holds_of Zero z e h = h
   holds_of AtLeast z e h = h
   holds_of More z e h = h
   holds_of Not z e h = absurd (true≢false e)
 
-  lines_hold : (rows : List Row) → AllNamed ts rows → Satisfy v rows → (i : ℕ) (d : Line) → i < length (named_lines false ts rows)
-      → LineHolds (get_or (named_lines false ts rows) i d).kind (form_value (get_or (named_lines false ts rows) i d).form values)
-  lines_hold [] a s i d l = absurd (omega (arith, l))
-  lines_hold (r ∷ rs) a s i d l =
-      subst (λ ls. (i : ℕ) (d : Line) → i < length ls → LineHolds (get_or ls i d).kind (form_value (get_or ls i d).form values)) (sym (main_cons ts r rs))
-      (by (keeps true r.says) refl (lines_hold rs a.1 s.1)) i d l
+  constraints_hold : (rows : List Row) → AllNamed ts rows → Satisfy v rows → (i : ℕ) (d : Constraint) → i < length (named_constraints false ts rows)
+      → ConstraintHolds (get_or (named_constraints false ts rows) i d).sense (form_value (get_or (named_constraints false ts rows) i d).form values)
+  constraints_hold [] a s i d l = absurd (omega (arith, l))
+  constraints_hold (r ∷ rs) a s i d l =
+      subst (λ ls. (i : ℕ) (d : Constraint) → i < length ls → ConstraintHolds (get_or ls i d).sense (form_value (get_or ls i d).form values)) (sym (main_cons ts r rs))
+      (by (keeps true r.says) refl (constraints_hold rs a.1 s.1)) i d l
     where
       by : (b : Bool) → keeps true r.says ≡ b
-          → ((i : ℕ) (d : Line) → i < length (named_lines false ts rs) → LineHolds (get_or (named_lines false ts rs) i d).kind (form_value (get_or (named_lines false ts rs) i d).form values))
-          → (i : ℕ) (d : Line) → i < length (cond b (named_lines false ts rs) (named_line ts r ∷ named_lines false ts rs))
-          → LineHolds (get_or (cond b (named_lines false ts rs) (named_line ts r ∷ named_lines false ts rs)) i d).kind (form_value (get_or (cond b (named_lines false ts rs) (named_line ts r ∷ named_lines false ts rs)) i d).form values)
+          → ((i : ℕ) (d : Constraint) → i < length (named_constraints false ts rs) → ConstraintHolds (get_or (named_constraints false ts rs) i d).sense (form_value (get_or (named_constraints false ts rs) i d).form values))
+          → (i : ℕ) (d : Constraint) → i < length (cond b (named_constraints false ts rs) (named_constraint ts r ∷ named_constraints false ts rs))
+          → ConstraintHolds (get_or (cond b (named_constraints false ts rs) (named_constraint ts r ∷ named_constraints false ts rs)) i d).sense (form_value (get_or (cond b (named_constraints false ts rs) (named_constraint ts r ∷ named_constraints false ts rs)) i d).form values)
       by true e h i d l = h i d l
-      by false e h zero d l = subst (LineHolds (kind_of r.says)) (form_same ts r.form values v same a.0) (holds_of r.says (Rattle.e_literal.specs.Solution.form_value r.form v) e s.0)
+      by false e h zero d l = subst (ConstraintHolds (sense_of r.says)) (form_same ts r.form values v same a.0) (holds_of r.says (Rattle.e_literal.specs.Solution.form_value r.form v) e s.0)
       by false e h (suc i) d l = h i d (omega (arith, l))
 
-  forms_differ : (rows : List Row) → AllNamed ts rows → Satisfy v rows → (j : ℕ) (d : Line) → j < length (named_lines true ts rows) → form_value (get_or (named_lines true ts rows) j d).form values ≢ pos 0
+  forms_differ : (rows : List Row) → AllNamed ts rows → Satisfy v rows → (j : ℕ) (d : Constraint) → j < length (named_constraints true ts rows) → form_value (get_or (named_constraints true ts rows) j d).form values ≢ pos 0
   forms_differ [] a s j d l = absurd (omega (arith, l))
   forms_differ (r ∷ rs) a s j d l = by (keeps true r.says) refl j l (forms_differ rs a.1 s.1)
     where
-      by : (b : Bool) → keeps true r.says ≡ b → (i : ℕ) → i < length (cond b (named_line ts r ∷ named_lines true ts rs) (named_lines true ts rs))
-          → ((i : ℕ) (d : Line) → i < length (named_lines true ts rs) → form_value (get_or (named_lines true ts rs) i d).form values ≢ pos 0)
-          → form_value (get_or (cond b (named_line ts r ∷ named_lines true ts rs) (named_lines true ts rs)) i d).form values ≢ pos 0
+      by : (b : Bool) → keeps true r.says ≡ b → (i : ℕ) → i < length (cond b (named_constraint ts r ∷ named_constraints true ts rs) (named_constraints true ts rs))
+          → ((i : ℕ) (d : Constraint) → i < length (named_constraints true ts rs) → form_value (get_or (named_constraints true ts rs) i d).form values ≢ pos 0)
+          → form_value (get_or (cond b (named_constraint ts r ∷ named_constraints true ts rs) (named_constraints true ts rs)) i d).form values ≢ pos 0
       by true e zero m h = λ z. (subst (λ u. IsSo u (Rattle.e_literal.specs.Solution.form_value r.form v)) (kept_not r.says e) s.0) (form_same ts r.form values v same a.0 ∙ z)
       by true e (suc i) m h = h i d (omega (arith, m))
       by false e i m h = h i d m
 
 -- ---- the values that are answered
 
-pub values_answered : (ts us : List Term) (rows : List Row) (values : List ℤ) (pairs : List (Term × ℕ)) → AreOnce ts → AllNamed ts rows → Continues ts us
-    → AreApart (length us + 1) (named_lines false us rows) (named_lines true us rows) values → PairedTo (length ts) ts values pairs → AreValuesOf rows pairs
-values_answered ts us rows values pairs o a g k p =
+pub values_answered : (ts : List Term) (rows : List Row) (w : ℕ) (values : List ℤ) (pairs : List (Term × ℕ)) → length ts < w → AreOnce ts → AllNamed ts rows
+    → AreUnequal w (named_constraints false ts rows) (named_constraints true ts rows) values → PairedTo (length ts) ts values pairs → AreValuesOf rows pairs
+values_answered ts rows w values pairs room o a h p =
     (let e : map (λ (q : Term × ℕ). q.0) pairs ≡ ts = firsts ts pairs p.shape p.term in
     record {
       once = subst AreOnce (sym e) o;
@@ -149,17 +149,12 @@ values_answered ts us rows values pairs o a g k p =
       satisfy = satisfied ts values (assigned pairs) same rows a h.solution.holds h.unequal;
     })
   where
-    h : AreApart (length us + 1) (named_lines false ts rows) (named_lines true ts rows) values
-    h =
-        subst (λ ls. AreApart (length us + 1) ls (named_lines true ts rows) values) (lines_continued false ts us rows g a)
-        (subst (λ ls. AreApart (length us + 1) (named_lines false us rows) ls values) (lines_continued true ts us rows g a) k)
-
     whole : (z : ℤ) → pos 0 ≤ℤ z → pos (unsigned_abs z) ≡ z
     whole z h = omega (arith, sums, h, abs_is z)
 
     same : (t : Term) → IsIn ts t → pos (assigned pairs t) ≡ get_or values (suc (place_of ts t)) (pos 0)
     same t i = ap pos (assigned_at ts pairs (λ c. unsigned_abs (get_or values (suc c) (pos 0))) t p.shape p.term p.number i)
-        ∙ whole (get_or values (suc (place_of ts t)) (pos 0)) (h.solution.not_negative (suc (place_of ts t)) (omega (arith, i, g.longer)))
+        ∙ whole (get_or values (suc (place_of ts t)) (pos 0)) (h.solution.not_negative (suc (place_of ts t)) (omega (arith, i, room)))
 
 -- ---- what is refuted has no solution
 
@@ -187,45 +182,45 @@ module _ (ts : List Term) (rows : List Row) (a : AllNamed ts rows) (h : HasSolut
   not_less zero l = omega (arith, sums)
   not_less (suc c) l = subst (λ z. pos 0 ≤ℤ z) (sym (listed_at ts h.values c (omega (arith, l)))) (omega (arith, sums))
 
-  lines_solved : IsSolution (length ts + 1) (named_lines false ts rows) all_values
-  lines_solved = record {
+  constraints_solved : IsSolution (length ts + 1) (named_constraints false ts rows) all_values
+  constraints_solved = record {
     shape = omega (arith, listed_length ts h.values);
     not_negative = not_less;
-    holds = lines_hold ts all_values h.values same_values rows a h.satisfy;
+    holds = constraints_hold ts all_values h.values same_values rows a h.satisfy;
   }
 
-  solved_push : (l : Line) → LineHolds l.kind (form_value l.form all_values) → IsSolution (length ts + 1) (named_lines false ts rows ++ l ∷ []) all_values
+  solved_push : (l : Constraint) → ConstraintHolds l.sense (form_value l.form all_values) → IsSolution (length ts + 1) (named_constraints false ts rows ++ l ∷ []) all_values
   solved_push l g = record {
-    shape = lines_solved.shape;
+    shape = constraints_solved.shape;
     not_negative = not_less;
-    holds = λ i d n. elim (cases_lt i (length (named_lines false ts rows))) [
-      | inl m ↦ subst (λ x. LineHolds x.kind (form_value x.form all_values)) (sym (get_or_append_left (named_lines false ts rows) (l ∷ []) d i m)) (lines_solved.holds i d m)
-      | inr m ↦ subst (λ x. LineHolds x.kind (form_value x.form all_values))
-          (sym (get_or_push (named_lines false ts rows) l d i (omega (arith, n, m, length_push (named_lines false ts rows) l)))) g
+    holds = λ i d n. elim (cases_lt i (length (named_constraints false ts rows))) [
+      | inl m ↦ subst (λ x. ConstraintHolds x.sense (form_value x.form all_values)) (sym (get_or_append_left (named_constraints false ts rows) (l ∷ []) d i m)) (constraints_solved.holds i d m)
+      | inr m ↦ subst (λ x. ConstraintHolds x.sense (form_value x.form all_values))
+          (sym (get_or_push (named_constraints false ts rows) l d i (omega (arith, n, m, length_push (named_constraints false ts rows) l)))) g
     ];
   }
 
-  pub none_one : (ws : List ℤ) → IsAbsurd (length ts + 1) (named_lines false ts rows) ws → ⊥
-  none_one ws b = no_solution (length ts + 1) (named_lines false ts rows) ws all_values (within_lines false ts rows a) b lines_solved
+  pub none_one : (ws : List ℤ) → IsAbsurd (length ts + 1) (named_constraints false ts rows) ws → ⊥
+  none_one ws b = no_solution (length ts + 1) (named_constraints false ts rows) ws all_values (within_constraints false ts rows a) b constraints_solved
 
-  pub none_two : (k : ℕ) (above below : List ℤ) → IsNeither (length ts + 1) (named_lines false ts rows) (named_lines true ts rows) k above below → ⊥
+  pub none_two : (k : ℕ) (above below : List ℤ) → AreBothRefuted (length ts + 1) (named_constraints false ts rows) (named_constraints true ts rows) k above below → ⊥
   none_two k above below b =
-      elim (signs (form_value (get_or (named_lines true ts rows) k dummy).form all_values) (forms_differ ts all_values h.values same_values rows a h.satisfy k dummy b.here)) [
-        | inl p ↦ no_solution (length ts + 1) (named_lines false ts rows ++ get_or (named_lines true ts rows) k dummy ∷ []) above all_values
-            (forms_push (length ts + 1) (named_lines false ts rows) (get_or (named_lines true ts rows) k dummy) (within_lines false ts rows a) (within_lines true ts rows a k dummy b.here))
+      elim (signs (form_value (get_or (named_constraints true ts rows) k dummy).form all_values) (forms_differ ts all_values h.values same_values rows a h.satisfy k dummy b.here)) [
+        | inl p ↦ no_solution (length ts + 1) (named_constraints false ts rows ++ get_or (named_constraints true ts rows) k dummy ∷ []) above all_values
+            (forms_push (length ts + 1) (named_constraints false ts rows) (get_or (named_constraints true ts rows) k dummy) (within_constraints false ts rows a) (within_constraints true ts rows a k dummy b.here))
             (b.above_absurd dummy)
-            (solved_push (get_or (named_lines true ts rows) k dummy)
-            (subst (λ x. LineHolds x (form_value (get_or (named_lines true ts rows) k dummy).form all_values)) (sym (more_lines ts rows k dummy b.here)) p))
-        | inr p ↦ no_solution (length ts + 1) (named_lines false ts rows ++ negative_line (get_or (named_lines true ts rows) k dummy) ∷ []) below all_values
-            (forms_push (length ts + 1) (named_lines false ts rows) (negative_line (get_or (named_lines true ts rows) k dummy)) (within_lines false ts rows a)
-            (negative_within (length ts + 1) (get_or (named_lines true ts rows) k dummy) (within_lines true ts rows a k dummy b.here)))
+            (solved_push (get_or (named_constraints true ts rows) k dummy)
+            (subst (λ x. ConstraintHolds x (form_value (get_or (named_constraints true ts rows) k dummy).form all_values)) (sym (more_constraints ts rows k dummy b.here)) p))
+        | inr p ↦ no_solution (length ts + 1) (named_constraints false ts rows ++ negative_constraint (get_or (named_constraints true ts rows) k dummy) ∷ []) below all_values
+            (forms_push (length ts + 1) (named_constraints false ts rows) (negative_constraint (get_or (named_constraints true ts rows) k dummy)) (within_constraints false ts rows a)
+            (negative_within (length ts + 1) (get_or (named_constraints true ts rows) k dummy) (within_constraints true ts rows a k dummy b.here)))
             (b.below_absurd dummy)
-            (solved_push (negative_line (get_or (named_lines true ts rows) k dummy))
-            (subst (λ z. pos 0 <ℤ z) (sym (negated_value (get_or (named_lines true ts rows) k dummy).form all_values)) (omega (arith, sums, p))))
+            (solved_push (negative_constraint (get_or (named_constraints true ts rows) k dummy))
+            (subst (λ z. pos 0 <ℤ z) (sym (negated_value (get_or (named_constraints true ts rows) k dummy).form all_values)) (omega (arith, sums, p))))
       ]
     where
-      dummy : Line
-      dummy = record { kind = LineMore; form = [] }
+      dummy : Constraint
+      dummy = record { sense = SenseMore; form = [] }
 
       signs : (z : ℤ) → z ≢ pos 0 → (pos 0 <ℤ z) ⊎ (z <ℤ pos 0)
       signs (pos zero) n = absurd (n refl)

@@ -4,11 +4,11 @@ use Rattle.std.proofs.lemmas.List.{length_push, get_or_push, get_or_append_left}
 use Rattle.std.proofs.lemmas.Bool.{cases_eq}
 use lib.IntN.{ℤ, pos, ◌+ℤ◌, ◌*ℤ◌, *ℤ-zero}
 use lib.Signed.{◌≤ℤ◌}
-use Rattle.e_simplex.specs.declared.lines.Monomial.{Monomial}
-use Rattle.e_simplex.specs.declared.lines.Line.{Line}
-use Rattle.e_simplex.specs.declared.lines.Kind.{Kind}
-use Rattle.e_simplex.specs.declared.lines.Kind.TheVariants.{Zero, AtLeast, More}
-use Rattle.e_simplex.specs.Lines.{form_value, LineHolds, IsSolution, AllFormsWithin}
+use Rattle.e_simplex.specs.declared.constraints.Monomial.{Monomial}
+use Rattle.e_simplex.specs.declared.constraints.Constraint.{Constraint}
+use Rattle.e_simplex.specs.declared.constraints.Sense.{Sense}
+use Rattle.e_simplex.specs.declared.constraints.Sense.TheVariants.{Zero, AtLeast, More}
+use Rattle.e_simplex.specs.Constraints.{form_value, ConstraintHolds, IsSolution, AllFormsWithin}
 use Rattle.e_simplex.specs.inner.Multiple.{AddedTo}
 use Rattle.e_simplex.specs.inner.Tried.{AreValues}
 use Rattle.e_literal.proofs.Arith.{sums, mul_add, mul_swap, mul-not_negative}
@@ -27,24 +27,24 @@ combined_form (x ∷ xs) w a b c t h s =
       combined_form xs w a b c t (λ k d l. h (suc k) d (omega (arith, l))) s,
     )
 
-pub combined_line : (k : Kind) (x y : ℤ) (t : ℕ) → LineHolds k x → LineHolds k y → LineHolds k (x +ℤ pos t *ℤ y)
-combined_line Zero x y t h g = omega (arith, sums, h, ap (λ v. pos t *ℤ v) g, *ℤ-zero (pos t))
-combined_line AtLeast x y t h g = omega (arith, sums, h, mul-not_negative (pos t) y (omega (arith, sums)) g)
-combined_line More x y t h g = omega (arith, sums, h, mul-not_negative (pos t) y (omega (arith, sums)) (omega (arith, sums, g)))
+pub combined_constraint : (k : Sense) (x y : ℤ) (t : ℕ) → ConstraintHolds k x → ConstraintHolds k y → ConstraintHolds k (x +ℤ pos t *ℤ y)
+combined_constraint Zero x y t h g = omega (arith, sums, h, ap (λ v. pos t *ℤ v) g, *ℤ-zero (pos t))
+combined_constraint AtLeast x y t h g = omega (arith, sums, h, mul-not_negative (pos t) y (omega (arith, sums)) g)
+combined_constraint More x y t h g = omega (arith, sums, h, mul-not_negative (pos t) y (omega (arith, sums)) (omega (arith, sums, g)))
 
 -- a solution and a multiple of another are a solution
-pub combined_solution : (w : ℕ) (lines : List Line) (a b c : List ℤ) (t : ℕ) → AllFormsWithin w lines → IsSolution w lines a → IsSolution w lines b → AddedTo w a b t c
-    → IsSolution w lines c
-combined_solution w lines a b c t h p q s = record {
+pub combined_solution : (w : ℕ) (constraints : List Constraint) (a b c : List ℤ) (t : ℕ) → AllFormsWithin w constraints → IsSolution w constraints a → IsSolution w constraints b → AddedTo w a b t c
+    → IsSolution w constraints c
+combined_solution w constraints a b c t h p q s = record {
   shape = s.shape;
   not_negative = λ i l. subst (λ v. pos 0 ≤ℤ v) (sym (s.each i l))
       (omega (arith, sums, p.not_negative i l, mul-not_negative (pos t) (get_or b i (pos 0)) (omega (arith, sums)) (q.not_negative i l)));
-  holds = λ i d l. subst (LineHolds (get_or lines i d).kind) (sym (combined_form (get_or lines i d).form w a b c t (λ k e m. (h i d l k e m).1) s))
-      (combined_line (get_or lines i d).kind (form_value (get_or lines i d).form a) (form_value (get_or lines i d).form b) t (p.holds i d l) (q.holds i d l));
+  holds = λ i d l. subst (ConstraintHolds (get_or constraints i d).sense) (sym (combined_form (get_or constraints i d).form w a b c t (λ k e m. (h i d l k e m).1) s))
+      (combined_constraint (get_or constraints i d).sense (form_value (get_or constraints i d).form a) (form_value (get_or constraints i d).form b) t (p.holds i d l) (q.holds i d l));
 }
 
 -- the values of forms go with them
-pub combined_values : (w : ℕ) (forms : List Line) (a b c : List ℤ) (t : ℕ) (x y z : List ℤ) → AllFormsWithin w forms → AddedTo w a b t c
+pub combined_values : (w : ℕ) (forms : List Constraint) (a b c : List ℤ) (t : ℕ) (x y z : List ℤ) → AllFormsWithin w forms → AddedTo w a b t c
     → AreValues (length forms) forms a x → AreValues (length forms) forms b y → AddedTo (length forms) x y t z → AreValues (length forms) forms c z
 combined_values w forms a b c t x y z h s p q r = record {
   shape = r.shape;
@@ -58,8 +58,8 @@ combined_values w forms a b c t x y z h s p q r = record {
   );
 }
 
-pub values_more : (n : ℕ) (forms : List Line) (values : List ℤ) (xs ys : List ℤ) (v : ℤ) → ys ≡ xs ++ v ∷ [] → AreValues n forms values xs
-    → ((d : Line) → v ≡ form_value (get_or forms n d).form values) → AreValues (n + 1) forms values ys
+pub values_more : (n : ℕ) (forms : List Constraint) (values : List ℤ) (xs ys : List ℤ) (v : ℤ) → ys ≡ xs ++ v ∷ [] → AreValues n forms values xs
+    → ((d : Constraint) → v ≡ form_value (get_or forms n d).form values) → AreValues (n + 1) forms values ys
 values_more n forms values xs ys v g h e = subst (AreValues (n + 1) forms values) (sym g) (record {
   shape = omega (arith, length_push xs v, h.shape);
   each = λ j d l. elim (cases_eq j n) [

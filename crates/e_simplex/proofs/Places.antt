@@ -1,4 +1,4 @@
--- Terms and their columns: places of terms, and lines of one row more.
+-- Terms and their columns: places of terms, and constraints of one row more.
 use Rattle.std.proofs.Common.{◌≡◌, ◌≢◌, ℕ, zero, suc, ◌+◌, ◌<◌, ◌≤◌, List, [], ◌∷◌, ◌++◌, refl, ap, ap₂, arith, sym, ◌∙◌, subst, length, get_or, take, cond, Bool, true, false, true≢false, inl, inr}
 use Rattle.std.proofs.lemmas.List.{take_more, length_push, get_or_push, get_or_append_left}
 use Rattle.std.proofs.lemmas.Bool.{cases_eq, cases_Bool}
@@ -9,10 +9,10 @@ use Rattle.e_literal.specs.Same.{term_eq}
 use Rattle.e_literal.specs.Rows.{Row, Summands}
 use Rattle.e_fraction.specs.declared.row.Row.{Row as GivenRow}
 use Rattle.e_fraction.specs.Views.{seen, all_seen}
-use Rattle.e_simplex.specs.declared.lines.Monomial.{Monomial}
-use Rattle.e_simplex.specs.declared.lines.Line.{Line}
-use Rattle.e_simplex.specs.declared.lines.Kind.{Kind}
-use Rattle.e_simplex.specs.Naming.{place_of, IsIn, AreOnce, Continues, FormNamed, AllNamed, named_form, named_line, named_lines, kind_of, keeps}
+use Rattle.e_simplex.specs.declared.constraints.Monomial.{Monomial}
+use Rattle.e_simplex.specs.declared.constraints.Constraint.{Constraint}
+use Rattle.e_simplex.specs.declared.constraints.Sense.{Sense}
+use Rattle.e_simplex.specs.Naming.{place_of, IsIn, AreOnce, Continues, FormNamed, AllNamed, named_form, named_constraint, named_constraints, sense_of, keeps}
 use Rattle.e_literal.proofs.Terms.{term_eq_is, term_eq_same, equal_terms}
 
 -- ---- places
@@ -159,33 +159,33 @@ named_more ts form k d old new x n l e f a b =
     f ∙ ap₂ {A = List Monomial} {B = Monomial} (λ u v. u ++ v ∷ []) e (ap₂ {A = ℤ} {B = ℕ} (λ u v. let m : Monomial = record { coefficient = u; column = v } in m) a b)
     ∙ sym (named_push ts (take k form) (get_or form k d)) ∙ ap (named_form ts) (sym (take_more form k d l))
 
-lines_push : (b : Bool) (ts : List Term) (rows : List GivenRow) (r : GivenRow)
-    → named_lines b ts (all_seen (rows ++ r ∷ [])) ≡ named_lines b ts (all_seen rows) ++ cond (keeps b (seen r).says) (named_line ts (seen r) ∷ []) []
-lines_push b ts [] r = refl
-lines_push b ts (q ∷ qs) r = by (keeps b (seen q).says) (lines_push b ts qs r)
+constraints_push : (b : Bool) (ts : List Term) (rows : List GivenRow) (r : GivenRow)
+    → named_constraints b ts (all_seen (rows ++ r ∷ [])) ≡ named_constraints b ts (all_seen rows) ++ cond (keeps b (seen r).says) (named_constraint ts (seen r) ∷ []) []
+constraints_push b ts [] r = refl
+constraints_push b ts (q ∷ qs) r = by (keeps b (seen q).says) (constraints_push b ts qs r)
   where
-    by : (k : Bool) → named_lines b ts (all_seen (qs ++ r ∷ [])) ≡ named_lines b ts (all_seen qs) ++ cond (keeps b (seen r).says) (named_line ts (seen r) ∷ []) []
-        → cond k (named_line ts (seen q) ∷ named_lines b ts (all_seen (qs ++ r ∷ []))) (named_lines b ts (all_seen (qs ++ r ∷ [])))
-        ≡ cond k (named_line ts (seen q) ∷ named_lines b ts (all_seen qs)) (named_lines b ts (all_seen qs)) ++ cond (keeps b (seen r).says) (named_line ts (seen r) ∷ []) []
-    by true e = ap (λ v. named_line ts (seen q) ∷ v) e
+    by : (k : Bool) → named_constraints b ts (all_seen (qs ++ r ∷ [])) ≡ named_constraints b ts (all_seen qs) ++ cond (keeps b (seen r).says) (named_constraint ts (seen r) ∷ []) []
+        → cond k (named_constraint ts (seen q) ∷ named_constraints b ts (all_seen (qs ++ r ∷ []))) (named_constraints b ts (all_seen (qs ++ r ∷ [])))
+        ≡ cond k (named_constraint ts (seen q) ∷ named_constraints b ts (all_seen qs)) (named_constraints b ts (all_seen qs)) ++ cond (keeps b (seen r).says) (named_constraint ts (seen r) ∷ []) []
+    by true e = ap (λ v. named_constraint ts (seen q) ∷ v) e
     by false e = e
 
-pub lines_more : (b : Bool) (ts : List Term) (rows : List GivenRow) (i : ℕ) (d : GivenRow) (old new : List Line) (l : Line) → i < length rows → old ≡ named_lines b ts (all_seen (take i rows))
-    → new ≡ old ++ l ∷ [] → keeps b (seen (get_or rows i d)).says ≡ true → l.kind ≡ kind_of (seen (get_or rows i d)).says → l.form ≡ named_form ts (get_or rows i d).form
-    → new ≡ named_lines b ts (all_seen (take (i + 1) rows))
-lines_more b ts rows i d old new l here e f k g h =
-    f ∙ ap₂ {A = List Line} {B = Line} (λ u v. u ++ v ∷ []) e (ap₂ {A = Kind} {B = List Monomial} (λ u v. let m : Line = record { kind = u; form = v } in m) g h)
-    ∙ ap (λ v. named_lines b ts (all_seen (take i rows)) ++ cond v (named_line ts (seen (get_or rows i d)) ∷ []) []) (sym k)
-    ∙ sym (lines_push b ts (take i rows) (get_or rows i d)) ∙ ap (λ v. named_lines b ts (all_seen v)) (sym (take_more rows i d here))
+pub constraints_more : (b : Bool) (ts : List Term) (rows : List GivenRow) (i : ℕ) (d : GivenRow) (old new : List Constraint) (l : Constraint) → i < length rows → old ≡ named_constraints b ts (all_seen (take i rows))
+    → new ≡ old ++ l ∷ [] → keeps b (seen (get_or rows i d)).says ≡ true → l.sense ≡ sense_of (seen (get_or rows i d)).says → l.form ≡ named_form ts (get_or rows i d).form
+    → new ≡ named_constraints b ts (all_seen (take (i + 1) rows))
+constraints_more b ts rows i d old new l here e f k g h =
+    f ∙ ap₂ {A = List Constraint} {B = Constraint} (λ u v. u ++ v ∷ []) e (ap₂ {A = Sense} {B = List Monomial} (λ u v. let m : Constraint = record { sense = u; form = v } in m) g h)
+    ∙ ap (λ v. named_constraints b ts (all_seen (take i rows)) ++ cond v (named_constraint ts (seen (get_or rows i d)) ∷ []) []) (sym k)
+    ∙ sym (constraints_push b ts (take i rows) (get_or rows i d)) ∙ ap (λ v. named_constraints b ts (all_seen v)) (sym (take_more rows i d here))
 
-pub lines_same : (b : Bool) (ts : List Term) (rows : List GivenRow) (i : ℕ) (d : GivenRow) (old : List Line) → i < length rows → old ≡ named_lines b ts (all_seen (take i rows))
-    → keeps b (seen (get_or rows i d)).says ≡ false → old ≡ named_lines b ts (all_seen (take (i + 1) rows))
-lines_same b ts rows i d old here e k =
-    e ∙ sym (no_more (named_lines b ts (all_seen (take i rows))))
-    ∙ ap (λ v. named_lines b ts (all_seen (take i rows)) ++ cond v (named_line ts (seen (get_or rows i d)) ∷ []) []) (sym k)
-    ∙ sym (lines_push b ts (take i rows) (get_or rows i d)) ∙ ap (λ v. named_lines b ts (all_seen v)) (sym (take_more rows i d here))
+pub constraints_same : (b : Bool) (ts : List Term) (rows : List GivenRow) (i : ℕ) (d : GivenRow) (old : List Constraint) → i < length rows → old ≡ named_constraints b ts (all_seen (take i rows))
+    → keeps b (seen (get_or rows i d)).says ≡ false → old ≡ named_constraints b ts (all_seen (take (i + 1) rows))
+constraints_same b ts rows i d old here e k =
+    e ∙ sym (no_more (named_constraints b ts (all_seen (take i rows))))
+    ∙ ap (λ v. named_constraints b ts (all_seen (take i rows)) ++ cond v (named_constraint ts (seen (get_or rows i d)) ∷ []) []) (sym k)
+    ∙ sym (constraints_push b ts (take i rows) (get_or rows i d)) ∙ ap (λ v. named_constraints b ts (all_seen v)) (sym (take_more rows i d here))
   where
-    no_more : (vs : List Line) → vs ++ [] ≡ vs
+    no_more : (vs : List Constraint) → vs ++ [] ≡ vs
     no_more [] = refl
     no_more (v ∷ vs) = ap (λ ws. v ∷ ws) (no_more vs)
 
@@ -216,18 +216,18 @@ terms_old ts new rows form k d l e n o a f =
     subst (λ v. AreOnce v × (AllNamed v rows × FormNamed v (take (k + 1) form))) (sym e)
     (o, (a, form_more ts form k d l f (omega (arith, n, place_most ts (get_or form k d).1))))
 
--- ---- the same lines by the first terms and by all
+-- ---- the same constraints by the first terms and by all
 
 form_continued : (ts us : List Term) (form : Summands) → Continues ts us → FormNamed ts form → named_form us form ≡ named_form ts form
 form_continued ts us [] c h = refl
 form_continued ts us (p ∷ ps) c h =
     ap₂ {A = ℕ} {B = List Monomial} (λ n v. let m : Monomial = record { coefficient = p.0; column = suc n } in m ∷ v) (c.places p.1 h.0) (form_continued ts us ps c h.1)
 
-pub lines_continued : (b : Bool) (ts us : List Term) (rows : List Row) → Continues ts us → AllNamed ts rows → named_lines b us rows ≡ named_lines b ts rows
-lines_continued b ts us [] c h = refl
-lines_continued b ts us (r ∷ rs) c h =
-    ap₂ {A = Line} {B = List Line} (λ l ls. cond (keeps b r.says) (l ∷ ls) ls)
-    (ap (λ v. let m : Line = record { kind = kind_of r.says; form = v } in m) (form_continued ts us r.form c h.0)) (lines_continued b ts us rs c h.1)
+pub constraints_continued : (b : Bool) (ts us : List Term) (rows : List Row) → Continues ts us → AllNamed ts rows → named_constraints b us rows ≡ named_constraints b ts rows
+constraints_continued b ts us [] c h = refl
+constraints_continued b ts us (r ∷ rs) c h =
+    ap₂ {A = Constraint} {B = List Constraint} (λ l ls. cond (keeps b r.says) (l ∷ ls) ls)
+    (ap (λ v. let m : Constraint = record { sense = sense_of r.says; form = v } in m) (form_continued ts us r.form c h.0)) (constraints_continued b ts us rs c h.1)
 
 pub all_continued : (ts us : List Term) (rows : List Row) → Continues ts us → AllNamed ts rows → AllNamed us rows
 all_continued ts us rows c h = all_grown ts us rows (continues_in ts us c) h
@@ -238,11 +238,11 @@ pub all_named_append : (ts : List Term) (xs ys : List Row) → AllNamed ts xs �
 all_named_append ts [] ys h g = g
 all_named_append ts (x ∷ xs) ys h g = (h.0, all_named_append ts xs ys h.1 g)
 
-pub lines_append : (b : Bool) (ts : List Term) (xs ys : List Row) → named_lines b ts (xs ++ ys) ≡ named_lines b ts xs ++ named_lines b ts ys
-lines_append b ts [] ys = refl
-lines_append b ts (x ∷ xs) ys = by (keeps b x.says) (lines_append b ts xs ys)
+pub constraints_append : (b : Bool) (ts : List Term) (xs ys : List Row) → named_constraints b ts (xs ++ ys) ≡ named_constraints b ts xs ++ named_constraints b ts ys
+constraints_append b ts [] ys = refl
+constraints_append b ts (x ∷ xs) ys = by (keeps b x.says) (constraints_append b ts xs ys)
   where
-    by : (k : Bool) → named_lines b ts (xs ++ ys) ≡ named_lines b ts xs ++ named_lines b ts ys
-        → cond k (named_line ts x ∷ named_lines b ts (xs ++ ys)) (named_lines b ts (xs ++ ys)) ≡ cond k (named_line ts x ∷ named_lines b ts xs) (named_lines b ts xs) ++ named_lines b ts ys
-    by true e = ap (λ v. named_line ts x ∷ v) e
+    by : (k : Bool) → named_constraints b ts (xs ++ ys) ≡ named_constraints b ts xs ++ named_constraints b ts ys
+        → cond k (named_constraint ts x ∷ named_constraints b ts (xs ++ ys)) (named_constraints b ts (xs ++ ys)) ≡ cond k (named_constraint ts x ∷ named_constraints b ts xs) (named_constraints b ts xs) ++ named_constraints b ts ys
+    by true e = ap (λ v. named_constraint ts x ∷ v) e
     by false e = e

@@ -3,12 +3,12 @@ use Rattle.std.proofs.Common.{◌≡◌, ℕ, zero, suc, ◌<◌, ◌≤◌, Lis
 use Rattle.std.proofs.lemmas.Bool.{cases_eq}
 use lib.IntN.{ℤ, pos, negsuc, ◌+ℤ◌, ◌*ℤ◌, *ℤ-zero, zero-*ℤ}
 use lib.Signed.{◌<ℤ◌, ◌≤ℤ◌}
-use Rattle.e_simplex.specs.declared.lines.Monomial.{Monomial}
-use Rattle.e_simplex.specs.declared.lines.Line.{Line}
-use Rattle.e_simplex.specs.declared.lines.Kind.{Kind}
-use Rattle.e_simplex.specs.declared.lines.Kind.TheVariants.{Zero, AtLeast, More}
+use Rattle.e_simplex.specs.declared.constraints.Monomial.{Monomial}
+use Rattle.e_simplex.specs.declared.constraints.Constraint.{Constraint}
+use Rattle.e_simplex.specs.declared.constraints.Sense.{Sense}
+use Rattle.e_simplex.specs.declared.constraints.Sense.TheVariants.{Zero, AtLeast, More}
 use Rattle.e_fraction.specs.Tableau.{unit}
-use Rattle.e_simplex.specs.Lines.{form_at, form_value, LineHolds, weighed_at, MayWeigh, IsSolution, IsAbsurd, FormWithin, AllFormsWithin}
+use Rattle.e_simplex.specs.Constraints.{form_at, form_value, ConstraintHolds, weighed_at, MayWeigh, IsSolution, IsAbsurd, FormWithin, AllFormsWithin}
 use Rattle.e_literal.proofs.Arith.{sums, one_mul, mul_add, add_mul, mul_assoc, mul-not_negative, mul-positive}
 use Rattle.e_fraction.proofs.Minors.{unit-same, unit-other}
 
@@ -61,12 +61,12 @@ over-form w (x ∷ xs) v h =
     )
 
 -- the sum of the lines' values, each times its weight
-abbrev lines_total : List Line → List ℤ → List ℤ → ℤ
-lines_total [] ms v = pos 0
-lines_total (l ∷ ls) [] v = pos 0
-lines_total (l ∷ ls) (m ∷ ms) v = m *ℤ form_value l.form v +ℤ lines_total ls ms v
+abbrev constraints_total : List Constraint → List ℤ → List ℤ → ℤ
+constraints_total [] ms v = pos 0
+constraints_total (l ∷ ls) [] v = pos 0
+constraints_total (l ∷ ls) (m ∷ ms) v = m *ℤ form_value l.form v +ℤ constraints_total ls ms v
 
-over-weighed : (w : ℕ) (lines : List Line) (ms v : List ℤ) → AllFormsWithin w lines → over w (weighed_at lines ms) v ≡ lines_total lines ms v
+over-weighed : (w : ℕ) (constraints : List Constraint) (ms v : List ℤ) → AllFormsWithin w constraints → over w (weighed_at constraints ms) v ≡ constraints_total constraints ms v
 over-weighed w [] ms v h = over-none w v
 over-weighed w (l ∷ ls) [] v h = over-none w v
 over-weighed w (l ∷ ls) (m ∷ ms) v h =
@@ -90,7 +90,7 @@ form_at_constant w (x ∷ xs) h =
       form_at_constant w xs (λ k d l. h (suc k) d (omega (arith, l))),
     )
 
-weighed_constant : (w : ℕ) (lines : List Line) (ms : List ℤ) → AllFormsWithin w lines → weighed_at lines ms 0 ≡ pos 0
+weighed_constant : (w : ℕ) (constraints : List Constraint) (ms : List ℤ) → AllFormsWithin w constraints → weighed_at constraints ms 0 ≡ pos 0
 weighed_constant w [] ms h = refl
 weighed_constant w (l ∷ ls) [] h = refl
 weighed_constant w (l ∷ ls) (m ∷ ms) h =
@@ -119,57 +119,57 @@ over-not_positive (suc n) f v h g =
       over-not_positive n f v (λ c l. h c (omega (arith, l))) (λ c l. g c (omega (arith, l))),
     )
 
-one_line : (k : Kind) (m z : ℤ) → MayWeigh k m → LineHolds k z → pos 0 ≤ℤ (m *ℤ z)
-one_line Zero m z a b = omega (arith, sums, ap (λ v. m *ℤ v) b, *ℤ-zero m)
-one_line AtLeast m z a b = mul-not_negative m z a b
-one_line More m z a b = mul-not_negative m z a (omega (arith, sums, b))
+one_constraint : (k : Sense) (m z : ℤ) → MayWeigh k m → ConstraintHolds k z → pos 0 ≤ℤ (m *ℤ z)
+one_constraint Zero m z a b = omega (arith, sums, ap (λ v. m *ℤ v) b, *ℤ-zero m)
+one_constraint AtLeast m z a b = mul-not_negative m z a b
+one_constraint More m z a b = mul-not_negative m z a (omega (arith, sums, b))
 
-total-not_negative : (lines : List Line) (ms v : List ℤ) → ((i : ℕ) (d : Line) → i < length lines → MayWeigh (get_or lines i d).kind (get_or ms i (pos 0)))
-    → ((i : ℕ) (d : Line) → i < length lines → LineHolds (get_or lines i d).kind (form_value (get_or lines i d).form v)) → pos 0 ≤ℤ lines_total lines ms v
+total-not_negative : (constraints : List Constraint) (ms v : List ℤ) → ((i : ℕ) (d : Constraint) → i < length constraints → MayWeigh (get_or constraints i d).sense (get_or ms i (pos 0)))
+    → ((i : ℕ) (d : Constraint) → i < length constraints → ConstraintHolds (get_or constraints i d).sense (form_value (get_or constraints i d).form v)) → pos 0 ≤ℤ constraints_total constraints ms v
 total-not_negative [] ms v a b = omega (arith, sums)
 total-not_negative (l ∷ ls) [] v a b = omega (arith, sums)
 total-not_negative (l ∷ ls) (m ∷ ms) v a b =
     omega (
       arith,
       sums,
-      one_line l.kind m (form_value l.form v) (a 0 l (omega arith)) (b 0 l (omega arith)),
+      one_constraint l.sense m (form_value l.form v) (a 0 l (omega arith)) (b 0 l (omega arith)),
       total-not_negative ls ms v (λ i d n. a (suc i) d (omega (arith, n))) (λ i d n. b (suc i) d (omega (arith, n))),
     )
 
-more_holds : (k : Kind) (z : ℤ) → k ≡ More → LineHolds k z → pos 0 <ℤ z
-more_holds k z e h = subst (λ x. LineHolds x z) e h
+more_holds : (k : Sense) (z : ℤ) → k ≡ More → ConstraintHolds k z → pos 0 <ℤ z
+more_holds k z e h = subst (λ x. ConstraintHolds x z) e h
 
-total-positive : (lines : List Line) (ms v : List ℤ) → length ms ≡ length lines
-    → ((i : ℕ) (d : Line) → i < length lines → MayWeigh (get_or lines i d).kind (get_or ms i (pos 0)))
-    → ((i : ℕ) (d : Line) → i < length lines → LineHolds (get_or lines i d).kind (form_value (get_or lines i d).form v))
-    → (p : ℕ) → p < length lines → ((d : Line) → (get_or lines p d).kind ≡ More) → pos 0 <ℤ get_or ms p (pos 0) → pos 0 <ℤ lines_total lines ms v
+total-positive : (constraints : List Constraint) (ms v : List ℤ) → length ms ≡ length constraints
+    → ((i : ℕ) (d : Constraint) → i < length constraints → MayWeigh (get_or constraints i d).sense (get_or ms i (pos 0)))
+    → ((i : ℕ) (d : Constraint) → i < length constraints → ConstraintHolds (get_or constraints i d).sense (form_value (get_or constraints i d).form v))
+    → (p : ℕ) → p < length constraints → ((d : Constraint) → (get_or constraints p d).sense ≡ More) → pos 0 <ℤ get_or ms p (pos 0) → pos 0 <ℤ constraints_total constraints ms v
 total-positive [] ms v e a b p l k h = absurd (omega (arith, l))
 total-positive (x ∷ ls) [] v e a b p l k h = absurd (omega (arith, e))
 total-positive (x ∷ ls) (m ∷ ms) v e a b zero l k h =
     omega (
       arith,
       sums,
-      mul-positive m (form_value x.form v) h (more_holds x.kind (form_value x.form v) (k x) (b 0 x (omega arith))),
+      mul-positive m (form_value x.form v) h (more_holds x.sense (form_value x.form v) (k x) (b 0 x (omega arith))),
       total-not_negative ls ms v (λ i d n. a (suc i) d (omega (arith, n))) (λ i d n. b (suc i) d (omega (arith, n))),
     )
 total-positive (x ∷ ls) (m ∷ ms) v e a b (suc p) l k h =
     omega (
       arith,
       sums,
-      one_line x.kind m (form_value x.form v) (a 0 x (omega arith)) (b 0 x (omega arith)),
+      one_constraint x.sense m (form_value x.form v) (a 0 x (omega arith)) (b 0 x (omega arith)),
       total-positive ls ms v (omega (arith, e)) (λ i d n. a (suc i) d (omega (arith, n))) (λ i d n. b (suc i) d (omega (arith, n))) p (omega (arith, l)) k h,
     )
 
-pub no_solution : (w : ℕ) (lines : List Line) (ms v : List ℤ) → AllFormsWithin w lines → IsAbsurd w lines ms → IsSolution w lines v → ⊥
-no_solution w lines ms v h a s =
+pub no_solution : (w : ℕ) (constraints : List Constraint) (ms v : List ℤ) → AllFormsWithin w constraints → IsAbsurd w constraints ms → IsSolution w constraints v → ⊥
+no_solution w constraints ms v h a s =
     omega (
       arith,
       sums,
-      over-weighed w lines ms v h,
-      over-not_positive w (weighed_at lines ms) v
+      over-weighed w constraints ms v h,
+      over-not_positive w (weighed_at constraints ms) v
           (λ c l. elim (cases_eq c 0) [
-            | inl e ↦ omega (arith, sums, ap (weighed_at lines ms) e, weighed_constant w lines ms h)
+            | inl e ↦ omega (arith, sums, ap (weighed_at constraints ms) e, weighed_constant w constraints ms h)
             | inr d ↦ a.no_positive c (omega (arith, d)) l
           ]) s.not_negative,
-      total-positive lines ms v a.shape a.signs s.holds a.some_more.0 a.some_more.1 a.some_more.2 a.some_more.3,
+      total-positive constraints ms v a.shape a.signs s.holds a.some_more.0 a.some_more.1 a.some_more.2 a.some_more.3,
     )

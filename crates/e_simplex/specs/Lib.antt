@@ -1,11 +1,12 @@
 pub mod Entries
 pub mod Sound
 pub mod Least
+pub mod Table
 pub mod Ends
-pub mod Lines
+pub mod Constraints
 pub mod Solved
 pub mod Naming
 pub mod Answer
-pub mod Standing
-pub mod Settling
+pub mod SolvedRows
+pub mod Preparing
 pub mod inner

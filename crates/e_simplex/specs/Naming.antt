@@ -1,13 +1,13 @@
--- Rows over terms as lines over numbered columns: column 0 has the constants, and the terms follow in order.
+-- Rows over terms as constraints over numbered columns: column 0 has the constants, and the terms follow in order.
 use Rattle.std.specs.Prelude.{◌≡◌, ℕ, suc, ◌<◌, ◌≤◌, cond, not, Bool, List, [], ◌∷◌, length, get_or}
 use Rattle.e_literal.specs.declared.object.Term.{Term}
 use Rattle.e_literal.specs.declared.object.Term.TheVariants.{Right}
 use Rattle.e_literal.specs.Same.{term_eq}
 use Rattle.e_literal.specs.Rows.{Row, Says, Zero, AtLeast, More, Not, Summands}
-use Rattle.e_simplex.specs.declared.lines.Monomial.{Monomial}
-use Rattle.e_simplex.specs.declared.lines.Line.{Line}
-use Rattle.e_simplex.specs.declared.lines.Kind.{Kind}
-use Rattle.e_simplex.specs.declared.lines.Kind.TheVariants.{Zero as LineZero, AtLeast as LineAtLeast, More as LineMore}
+use Rattle.e_simplex.specs.declared.constraints.Monomial.{Monomial}
+use Rattle.e_simplex.specs.declared.constraints.Constraint.{Constraint}
+use Rattle.e_simplex.specs.declared.constraints.Sense.{Sense}
+use Rattle.e_simplex.specs.declared.constraints.Sense.TheVariants.{Zero as SenseZero, AtLeast as SenseAtLeast, More as SenseMore}
 
 -- where the term stands first, or the length of the list
 abbrev pub place_of : List Term → Term → ℕ
@@ -39,22 +39,22 @@ abbrev pub named_form : List Term → Summands → List Monomial
 named_form ts [] = []
 named_form ts (p ∷ ps) = record { coefficient = p.0; column = suc (place_of ts p.1) } ∷ named_form ts ps
 
--- a row that says `not 0` becomes a line that says `more`
-abbrev pub kind_of : Says → Kind
-kind_of Zero = LineZero
-kind_of AtLeast = LineAtLeast
-kind_of More = LineMore
-kind_of Not = LineMore
+-- a row that says `not 0` becomes a constraint that says `more`
+abbrev pub sense_of : Says → Sense
+sense_of Zero = SenseZero
+sense_of AtLeast = SenseAtLeast
+sense_of More = SenseMore
+sense_of Not = SenseMore
 
-abbrev pub named_line : List Term → Row → Line
-named_line ts r = record { kind = kind_of r.says; form = named_form ts r.form }
+abbrev pub named_constraint : List Term → Row → Constraint
+named_constraint ts r = record { sense = sense_of r.says; form = named_form ts r.form }
 
 -- whether a row is wanted: those that say `not 0`, or the others
 abbrev pub keeps : Bool → Says → Bool
 keeps b Not = b
 keeps b _ = not b
 
--- the lines of the rows that say `not 0`, or of the others
-abbrev pub named_lines : Bool → List Term → List Row → List Line
-named_lines b ts [] = []
-named_lines b ts (r ∷ rs) = cond (keeps b r.says) (named_line ts r ∷ named_lines b ts rs) (named_lines b ts rs)
+-- the constraints of the rows that say `not 0`, or of the others
+abbrev pub named_constraints : Bool → List Term → List Row → List Constraint
+named_constraints b ts [] = []
+named_constraints b ts (r ∷ rs) = cond (keeps b r.says) (named_constraint ts r ∷ named_constraints b ts rs) (named_constraints b ts rs)

@@ -3,7 +3,8 @@ pub mod Readings
 pub mod Multiple
 pub mod Further
 pub mod Tried
-pub mod Kept
-pub mod Apart
-pub mod Spread
+pub mod Points
+pub mod Disequalities
+pub mod RowMultipliers
 pub mod Paired
+pub mod Weights

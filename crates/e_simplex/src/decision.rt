@@ -1,27 +1,28 @@
 //! Decides rows over terms.
 
-ghost use Rattle.std.specs.Prelude.{◌≡◌, ◌≢◌, ℕ, ◌+◌, ◌<◌, ◌≤◌, ◌^◌, pos, length, get_or, IfOk, IsTrue};
+ghost use Rattle.std.specs.Prelude.{◌≡◌, ℕ, ◌+◌, ◌<◌, ◌≤◌, ◌^◌, length, IfOk, IsTrue, false};
 ghost use Rattle.e_literal.specs.Minor.{IsWide};
-ghost use Rattle.e_fraction.specs.Limits.{all_small};
 ghost use Rattle.e_literal.specs.Solution.{HasSolution};
+ghost use Rattle.e_fraction.specs.Limits.{all_small};
 ghost use Rattle.e_fraction.specs.Views.{all_seen};
-ghost use Rattle.e_simplex.specs.Naming.{AreOnce, AllNamed, Continues, named_lines};
-ghost use Rattle.e_simplex.specs.Solved.{IsSolved, IsOutcome, columns_of, lines_of};
-ghost use Rattle.e_simplex.specs.inner.Apart.{IsNeither};
-ghost use Rattle.e_simplex.specs.Lines;
+ghost use Rattle.e_simplex.specs.Answer.{IsVerdict, IsRefuted, IsHolds, IsAbsurd};
+ghost use Rattle.e_simplex.specs.Naming.{AreOnce, AllNamed, named_constraints};
+ghost use Rattle.e_simplex.specs.Solved.{IsSolved, IsOutcome, columns_of};
 ghost use Rattle.e_simplex.specs.inner.Paired.{PairedTo};
-ghost use Rattle.e_simplex.specs.Answer.{IsAbsurdity, IsVerdict, IsRefuted, IsHolds, IsAbsurd};
+ghost use Rattle.e_simplex.specs.inner.Weights.{AreWeightsFor, AreWeightsForBoth};
 
-use crate::apart::{Apart, keep_apart};
-use crate::naming::{lines_where, terms_of};
-use crate::solved::{Outcome, Solved, solve_lines};
-use crate::spread::{place_of_not, spread};
+use crate::disequalities::{Satisfaction, satisfy_all};
+use crate::multipliers::{multipliers_of_rows, place_of_not};
+use crate::naming::{constraints_where, terms_of};
+use crate::solved::{Outcome, solve_constraints};
+use crate::table::Table;
 use e_fraction::Row;
 use e_literal::{Term, Values};
 use std::alloc::{AllocError, Global};
 
-/// Multipliers of the rows that show that no values satisfy them: one list, or, for the row at `row`, which says
-/// `not 0`, one list that counts it as more than 0 and one that counts it as less.
+/// Multipliers of the rows that show that no values satisfy them: one list, or, for the row at
+/// `row`, which says `not 0`, one list that counts it as more than 0 and one that counts it as
+/// less.
 #[derive(Drop)]
 pub enum Absurdity {
     One(Vec<i128>),
@@ -52,140 +53,116 @@ fn named_values(alloc: Global, terms: &[Term], values: &[i128]) -> Result<Values
     Ok(Values::new(pairs))
 }
 
-/// What comes of rows whose lines are refuted.
-pub fn refuted_once(
-    alloc: Global,
-    rows: &[Row],
-    terms: &[Term],
-    weights: &[i128],
-) -> Result<Absurdity, AllocError>
+/// What comes of rows whose constraints are refuted.
+pub fn refuted_once(alloc: Global, rows: &[Row], weights: &[i128]) -> Result<Absurdity, AllocError>
     requires few { length rows.now ≤ 4096 }
-    requires once { AreOnce terms.now }
-    requires named { AllNamed terms.now (all_seen rows.now) }
-    requires absurd { Lines.IsAbsurd (length terms.now + 1) (named_lines Rattle.std.specs.Prelude.false terms.now (all_seen rows.now)) weights.now }
+    requires weights { AreWeightsFor (all_seen rows.now) weights.now }
     ensures { IfOk result (IsRefuted (all_seen rows.now)) }
 {
-    let multipliers = spread(alloc, rows, weights, 0, 0)?;
+    let multipliers = multipliers_of_rows(alloc, rows, weights, 0, 0)?;
     Ok(Absurdity::One(multipliers))
 }
 
-/// What comes of the row at the place `k` among those that say `not 0`, both of whose signs are refuted.
+/// What comes of the row at the place `k` among those that say `not 0`, both of whose signs are
+/// refuted.
 fn refuted_both(
     alloc: Global,
     rows: &[Row],
-    terms: &[Term],
     k: usize,
     above: &[i128],
     below: &[i128],
 ) -> Result<Absurdity, AllocError>
     requires few { length rows.now ≤ 4096 }
-    requires once { AreOnce terms.now }
-    requires named { AllNamed terms.now (all_seen rows.now) }
-    requires neither { IsNeither (length terms.now + 1) (named_lines Rattle.std.specs.Prelude.false terms.now (all_seen rows.now)) (named_lines Rattle.std.specs.Prelude.true terms.now (all_seen rows.now)) k above.now below.now }
+    requires weights { AreWeightsForBoth (all_seen rows.now) k above.now below.now }
     ensures { IfOk result (IsRefuted (all_seen rows.now)) }
 {
     let row = place_of_not(rows, k);
     let last = above[above.len() - 1];
-    let above = spread(alloc, rows, above, k + 1, last)?;
+    let above = multipliers_of_rows(alloc, rows, above, k + 1, last)?;
     let last = below[below.len() - 1];
-    let below = spread(alloc, rows, below, k + 1, last)?;
+    let below = multipliers_of_rows(alloc, rows, below, k + 1, last)?;
     Ok(Absurdity::Two { row, above, below })
 }
 
-/// What comes of the solved lines and the rows that say `not 0`. The rows have the terms, and the columns further ones.
-pub fn told_apart(
+/// What comes of solved constraints and the rows that say `not 0`. The table has a column for each
+/// term of the rows, and maybe more.
+pub fn verdict_of_solved(
     alloc: Global,
     rows: &[Row],
     terms: &[Term],
-    columns: &[Term],
-    solved: &Solved,
-    pivots: &mut u64,
+    solved: &Table,
 ) -> Result<Verdict, AllocError>
     requires few { length rows.now ≤ 4096 }
     requires coefficients { IsTrue (all_small rows.now) }
     requires once { AreOnce terms.now }
     requires named { AllNamed terms.now (all_seen rows.now) }
-    requires columns { AreOnce columns.now }
-    requires continues { Continues terms.now columns.now }
-    requires counted { length columns.now < 2 ^ 63 }
-    requires solved { IsSolved (length columns.now + 1) (named_lines Rattle.std.specs.Prelude.false columns.now (all_seen rows.now)) solved.now }
+    requires room { length terms.now < columns_of solved.now }
+    requires counted { columns_of solved.now ≤ 2 ^ 63 + 8 }
+    requires solved { IsSolved (columns_of solved.now)
+        (named_constraints false terms.now (all_seen rows.now)) solved.now }
     ensures { IfOk result (IsVerdict (all_seen rows.now)) }
 {
-    let forms = lines_where(alloc, true, columns, rows)?;
-    match keep_apart(alloc, solved, &forms, pivots)? {
-        Apart::TooWide => Ok(Verdict::TooWide),
-        Apart::Found(values) => {
+    let forms = constraints_where(alloc, true, terms, rows)?;
+    match satisfy_all(alloc, solved, &forms)? {
+        Satisfaction::TooWide => Ok(Verdict::TooWide),
+        Satisfaction::Found(values) => {
             let values = named_values(alloc, terms, &values)?;
             Ok(Verdict::Holds(values))
         }
-        Apart::Neither(k, above, below) => {
-            let both = refuted_both(alloc, rows, columns, k, &above, &below)?;
+        Satisfaction::BothRefuted(k, above, below) => {
+            let both = refuted_both(alloc, rows, k, &above, &below)?;
             Ok(Verdict::Absurd(both))
         }
     }
 }
 
-/// What comes of rows whose lines have this outcome.
-pub fn told(
+/// What comes of rows whose constraints have this outcome.
+pub fn verdict_of(
     alloc: Global,
     rows: &[Row],
     terms: &[Term],
-    columns: &[Term],
     outcome: &Outcome,
-    pivots: &mut u64,
 ) -> Result<Verdict, AllocError>
     requires few { length rows.now ≤ 4096 }
     requires coefficients { IsTrue (all_small rows.now) }
     requires once { AreOnce terms.now }
     requires named { AllNamed terms.now (all_seen rows.now) }
-    requires columns { AreOnce columns.now }
-    requires continues { Continues terms.now columns.now }
-    requires counted { length columns.now < 2 ^ 63 }
-    requires outcome { IsOutcome (length columns.now + 1) (named_lines Rattle.std.specs.Prelude.false columns.now (all_seen rows.now)) outcome.now }
+    requires outcome { (w : ℕ) × (length terms.now < w) × (w ≤ 2 ^ 63 + 8)
+        × IsOutcome w (named_constraints false terms.now (all_seen rows.now)) outcome.now }
     ensures { IfOk result (IsVerdict (all_seen rows.now)) }
 {
     match outcome {
         Outcome::TooWide => Ok(Verdict::TooWide),
         Outcome::Absurd(weights) => {
-            let once = refuted_once(alloc, rows, columns, weights)?;
+            let once = refuted_once(alloc, rows, weights)?;
             Ok(Verdict::Absurd(once))
         }
         Outcome::Holds(solved) => {
-            let apart = told_apart(alloc, rows, terms, columns, solved, pivots)?;
-            Ok(apart)
+            let verdict = verdict_of_solved(alloc, rows, terms, solved)?;
+            Ok(verdict)
         }
     }
 }
 
-/// Whether values of the terms, whole numbers of at least 0, satisfy the rows. [`have_small_coefficients`] tests the
-/// condition. The answer is `Holds` with values that satisfy every row, or `Absurd` with multipliers that refute the
-/// rows, or `TooWide`, which comes only where some minor of the rows has size at least 2^63, and the width with it. A
-/// form of more than 2^32 terms is out of memory.
+/// Whether values of the terms, whole numbers of at least 0, satisfy the rows.
+/// [`have_small_coefficients`] tests the condition. The answer is `Holds` with values that satisfy
+/// every row, or `Absurd` with multipliers that refute the rows, or `TooWide`, which comes only
+/// where some minor of the rows has size at least 2^63, and the width with it. A form of more than
+/// 2^32 terms is out of memory.
 ///
 /// [`have_small_coefficients`]: e_fraction::have_small_coefficients
 pub fn decide(alloc: Global, rows: &[Row]) -> Result<Verdict, AllocError>
     requires few { length rows.now ≤ 4096 }
     requires coefficients { IsTrue (all_small rows.now) }
     ensures verdict { IfOk result (IsVerdict (all_seen rows.now)) }
-    ensures holds { IfOk result (λ v. ¬ IsWide (all_seen rows.now) → HasSolution (all_seen rows.now) → IsHolds v) }
-    ensures absurd { IfOk result (λ v. ¬ IsWide (all_seen rows.now) → ¬ HasSolution (all_seen rows.now) → IsAbsurd v) }
-{
-    let mut pivots = 0;
-    let verdict = decide_counting(alloc, rows, &mut pivots)?;
-    Ok(verdict)
-}
-
-/// [`decide`], which adds the pivots that it takes to `pivots`: a measure of the work, of which no clause speaks.
-pub fn decide_counting(alloc: Global, rows: &[Row], pivots: &mut u64) -> Result<Verdict, AllocError>
-    requires few { length rows.now ≤ 4096 }
-    requires coefficients { IsTrue (all_small rows.now) }
-    ensures verdict { IfOk result (IsVerdict (all_seen rows.now)) }
-    ensures holds { IfOk result (λ v. ¬ IsWide (all_seen rows.now) → HasSolution (all_seen rows.now) → IsHolds v) }
-    ensures absurd { IfOk result (λ v. ¬ IsWide (all_seen rows.now) → ¬ HasSolution (all_seen rows.now) → IsAbsurd v) }
+    ensures holds { IfOk result (λ v. ¬ IsWide (all_seen rows.now)
+        → HasSolution (all_seen rows.now) → IsHolds v) }
+    ensures absurd { IfOk result (λ v. ¬ IsWide (all_seen rows.now)
+        → ¬ HasSolution (all_seen rows.now) → IsAbsurd v) }
 {
     let terms = terms_of(alloc, rows)?;
-    let lines = lines_where(alloc, false, &terms, rows)?;
-    let outcome = solve_lines(alloc, lines, terms.len() + 1, pivots)?;
-    let verdict = told(alloc, rows, &terms, &terms, &outcome, pivots)?;
+    let constraints = constraints_where(alloc, false, &terms, rows)?;
+    let outcome = solve_constraints(alloc, constraints, terms.len() + 1)?;
+    let verdict = verdict_of(alloc, rows, &terms, &outcome)?;
     Ok(verdict)
 }

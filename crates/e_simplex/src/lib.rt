@@ -1,26 +1,28 @@
-//! Decides systems of linear rows over whole numbers of at least 0: values that satisfy them, or multipliers that
-//! show that there are none, or the proved excuse that some minor of the rows is large.
+//! Decides systems of linear rows over whole numbers of at least 0: values that satisfy them, or
+//! multipliers that show that there are none, or the proved excuse that some minor of the rows is
+//! large.
 #![tactic(auto)]
 
-mod apart;
 mod choose;
+mod constraints;
 mod decision;
+mod disequalities;
 mod exchange;
 mod freeing;
 mod further;
-mod hasten;
-mod lines;
+mod greedy;
 mod multiple;
+mod multipliers;
 mod naming;
 mod number;
 mod pivot;
 mod readings;
-mod settled;
 mod solve;
 mod solved;
-mod spread;
+mod solved_rows;
+mod table;
 mod unequal;
 
-pub use decision::{Absurdity, Verdict, decide, decide_counting};
+pub use decision::{Absurdity, Verdict, decide};
 pub use e_fraction::width;
-pub use settled::{Settled, Settling, settle};
+pub use solved_rows::{Prepared, SolvedRows, prepare};

@@ -1,9 +1,12 @@
-ghost use Rattle.std.specs.Prelude.{◌≡◌, ◌≢◌, ℕ, ◌+◌, ◌^◌, ◌<◌, ◌≤◌, pos, length, get_or, unsigned_abs, MatchOption, IfOk};
+//! A multiple of one list of numbers that, added to another, leaves no 0.
+
+ghost use Rattle.std.specs.Prelude.{◌≡◌, ◌≢◌, ℕ, ◌+◌, ◌^◌, ◌<◌, ◌≤◌, pos, length, get_or};
+ghost use Rattle.std.specs.Prelude.{unsigned_abs, MatchOption, IfOk};
 ghost use Rattle.e_simplex.specs.inner.Multiple.{IsBad, IsGood, added, AddedTo};
 
 use std::alloc::{AllocError, Global};
 
-// first[j] + t * second[j]
+/// The number at the place `j`, and `t` times that of the second list.
 fn added_at(first: &[i128], second: &[i128], t: usize, j: usize) -> i128
     requires here { j < length first.now }
     requires there { j < length second.now }
@@ -15,14 +18,15 @@ fn added_at(first: &[i128], second: &[i128], t: usize, j: usize) -> i128
     first[j] + t as i128 * second[j]
 }
 
-// A place, of the first k, where t times the second list leaves 0.
+/// A place, of the first `k`, where `t` times the second list leaves 0.
 fn bad_place(first: &[i128], second: &[i128], k: usize, t: usize) -> Option<usize>
     requires here { k ≤ length first.now }
     requires there { k ≤ length second.now }
     requires few { t < 2 ^ 13 }
     requires small_first { (j : ℕ) → j < k → unsigned_abs (get_or first.now j (pos 0)) < 2 ^ 90 }
     requires small_second { (j : ℕ) → j < k → unsigned_abs (get_or second.now j (pos 0)) < 2 ^ 65 }
-    ensures { MatchOption result (IsGood first.now second.now k t) (IsBad first.now second.now k t) }
+    ensures { MatchOption result
+        (IsGood first.now second.now k t) (IsBad first.now second.now k t) }
 {
     for j in 0..k {
         if added_at(first, second, t, j) == 0 {
@@ -32,7 +36,8 @@ fn bad_place(first: &[i128], second: &[i128], k: usize, t: usize) -> Option<usiz
     None
 }
 
-// The least multiple from 1 on that leaves no 0 among the first k.
+/// The least multiple from 1 on that leaves no 0 among the first `k`. Each place excludes at most
+/// one multiple, so one of `k + 1` is left.
 pub fn least_multiple(first: &[i128], second: &[i128], k: usize) -> usize
     requires here { k ≤ length first.now }
     requires there { k ≤ length second.now }
@@ -62,8 +67,10 @@ pub fn combined(
 ) -> Result<Vec<i128>, AllocError>
     requires lengths { length first.now ≡ length second.now }
     requires few { t < 2 ^ 13 }
-    requires small_first { (j : ℕ) → j < length first.now → unsigned_abs (get_or first.now j (pos 0)) < 2 ^ 90 }
-    requires small_second { (j : ℕ) → j < length second.now → unsigned_abs (get_or second.now j (pos 0)) < 2 ^ 65 }
+    requires small_first { (j : ℕ) → j < length first.now
+        → unsigned_abs (get_or first.now j (pos 0)) < 2 ^ 90 }
+    requires small_second { (j : ℕ) → j < length second.now
+        → unsigned_abs (get_or second.now j (pos 0)) < 2 ^ 65 }
     ensures { IfOk result (λ v. AddedTo (length first.now) first.now second.now t v.items) }
 {
     let mut all = Vec::new(alloc);

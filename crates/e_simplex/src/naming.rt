@@ -4,10 +4,11 @@ ghost use Rattle.std.specs.Prelude.{◌≡◌, ◌+◌, ◌<◌, ◌^◌, IfOk, 
 ghost use Rattle.e_literal.specs.declared.object.Term.{Term};
 ghost use Rattle.e_fraction.specs.Views.{says_of, all_seen};
 ghost use Rattle.e_fraction.specs.Limits.{has_small_coefficients, all_small};
-ghost use Rattle.e_simplex.specs.Lines.{IsSmallLine, AllSmallLines};
-ghost use Rattle.e_simplex.specs.Naming.{place_of, IsIn, AreOnce, Continues, FormNamed, AllNamed, named_form, named_lines};
+ghost use Rattle.e_simplex.specs.Constraints.{IsSmallConstraint, AllSmallConstraints};
+ghost use Rattle.e_simplex.specs.Naming.{place_of, IsIn, AreOnce, Continues, FormNamed, AllNamed};
+ghost use Rattle.e_simplex.specs.Naming.{named_form, named_constraints, sense_of, keeps};
 
-use crate::lines::{Kind, Line, Monomial};
+use crate::constraints::{Constraint, Monomial, Sense};
 use e_fraction::{Row, RowKind};
 use e_literal::{Items, Term};
 use std::alloc::{AllocError, Global};
@@ -47,7 +48,8 @@ fn with_terms(mut terms: Vec<Term>, rows: &[Row], i: usize) -> Result<Vec<Term>,
     Ok(terms)
 }
 
-/// The terms, and behind them those of the rows that are not among them, in the order in which they stand first.
+/// The terms, and after them those of the rows that are not among them, in the order in which they
+/// stand first.
 pub fn terms_with(alloc: Global, terms: &[Term], rows: &[Row]) -> Result<Vec<Term>, AllocError>
     requires { AreOnce terms.now }
     ensures once { IfOk result (λ v. AreOnce v.items) }
@@ -69,51 +71,23 @@ pub fn terms_of(alloc: Global, rows: &[Row]) -> Result<Vec<Term>, AllocError>
     terms_with(alloc, &[], rows)
 }
 
-/// The terms, and the one behind them where it is not among them.
-fn with_term(mut terms: Vec<Term>, term: Term) -> Result<Vec<Term>, AllocError>
-    requires { AreOnce terms.items }
-    ensures once { IfOk result (λ v. AreOnce v.items) }
-    ensures continues { IfOk result (λ v. Continues terms.items v.items) }
-{
-    if place(&terms, term) == terms.len() {
-        terms.push(term)?;
-    }
-    Ok(terms)
-}
-
-/// The terms, and terms behind them that stand for spare columns, until there are `count`. There may be fewer.
-pub fn padded(alloc: Global, terms: &[Term], count: usize) -> Result<Vec<Term>, AllocError>
-    requires { AreOnce terms.now }
-    ensures once { IfOk result (λ v. AreOnce v.items) }
-    ensures continues { IfOk result (λ v. Continues terms.now v.items) }
-{
-    let mut all = Vec::from_slice(alloc, terms)?;
-    for p in 0..u16::MAX {
-        if count <= all.len() {
-            return Ok(all);
-        }
-        all = with_term(all, Term::Seg(p, p))?;
-    }
-    Ok(all)
-}
-
-fn kind_of(kind: RowKind) -> Kind
-    ensures { result ≡ Rattle.e_simplex.specs.Naming.kind_of (says_of kind) }
+fn sense(kind: RowKind) -> Sense
+    ensures { result ≡ sense_of (says_of kind) }
 {
     match kind {
-        RowKind::Zero => Kind::Zero,
-        RowKind::AtLeast => Kind::AtLeast,
-        RowKind::More | RowKind::Not => Kind::More,
+        RowKind::Zero => Sense::Zero,
+        RowKind::AtLeast => Sense::AtLeast,
+        RowKind::More | RowKind::Not => Sense::More,
     }
 }
 
-/// The line of a row. One with too many terms is out of memory.
-fn named_line(alloc: Global, row: &Row, terms: &[Term]) -> Result<Line, AllocError>
+/// The constraint of a row. One with too many terms is out of memory.
+fn named_constraint(alloc: Global, row: &Row, terms: &[Term]) -> Result<Constraint, AllocError>
     requires once { AreOnce terms.now }
     requires named { FormNamed terms.now row.now.form }
     requires coefficients { IsTrue (has_small_coefficients row.now.form) }
-    ensures small { IfOk result IsSmallLine }
-    ensures kind { IfOk result (λ l. l.kind ≡ Rattle.e_simplex.specs.Naming.kind_of (says_of row.now.kind)) }
+    ensures small { IfOk result IsSmallConstraint }
+    ensures sense { IfOk result (λ l. l.sense ≡ sense_of (says_of row.now.kind)) }
     ensures form { IfOk result (λ l. l.form ≡ named_form terms.now row.now.form) }
 {
     let summands = row.form.summands();
@@ -127,15 +101,15 @@ fn named_line(alloc: Global, row: &Row, terms: &[Term]) -> Result<Line, AllocErr
             column: place(terms, summands[k].1) + 1,
         })?;
     }
-    Ok(Line {
-        kind: kind_of(row.kind),
+    Ok(Constraint {
+        sense: sense(row.kind),
         form: Items::new(form),
     })
 }
 
 /// Whether the row is wanted: one that says `not 0`, or another.
-pub fn keeps(not: bool, kind: RowKind) -> bool
-    ensures { result ≡ Rattle.e_simplex.specs.Naming.keeps not (says_of kind) }
+pub fn is_kept(not: bool, kind: RowKind) -> bool
+    ensures { result ≡ keeps not (says_of kind) }
 {
     match kind {
         RowKind::Not => not,
@@ -143,24 +117,25 @@ pub fn keeps(not: bool, kind: RowKind) -> bool
     }
 }
 
-/// The lines of the rows that say `not 0`, or of the others.
-pub fn lines_where(
+/// The constraints of the rows that say `not 0`, or of the others.
+pub fn constraints_where(
     alloc: Global,
     not: bool,
     terms: &[Term],
     rows: &[Row],
-) -> Result<Vec<Line>, AllocError>
+) -> Result<Vec<Constraint>, AllocError>
     requires once { AreOnce terms.now }
     requires named { AllNamed terms.now (all_seen rows.now) }
     requires coefficients { IsTrue (all_small rows.now) }
-    ensures value { IfOk result (λ v. v.items ≡ named_lines not terms.now (all_seen rows.now)) }
-    ensures small { IfOk result (λ v. AllSmallLines v.items) }
+    ensures value { IfOk result (λ v.
+        v.items ≡ named_constraints not terms.now (all_seen rows.now)) }
+    ensures small { IfOk result (λ v. AllSmallConstraints v.items) }
 {
-    let mut lines = Vec::new(alloc);
+    let mut constraints = Vec::new(alloc);
     for i in 0..rows.len() {
-        if keeps(not, rows[i].kind) {
-            lines.push(named_line(alloc, &rows[i], terms)?)?;
+        if is_kept(not, rows[i].kind) {
+            constraints.push(named_constraint(alloc, &rows[i], terms)?)?;
         }
     }
-    Ok(lines)
+    Ok(constraints)
 }

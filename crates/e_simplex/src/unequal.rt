@@ -1,26 +1,31 @@
 //! Values at which a form is not 0: it is tried as more than 0, and as less than 0.
 
-ghost use Rattle.std.specs.Prelude.{◌≡◌, ◌^◌, ◌≤◌, ◌++◌, ◌∷◌, [], neg_ℤ, length, unsigned_abs, true, false, ◌<◌, IfOk, MatchOption};
-ghost use Rattle.e_simplex.specs.declared.lines.Kind.TheVariants.{More};
+ghost use Rattle.std.specs.Prelude.{◌≡◌, ◌^◌, ◌≤◌, ◌++◌, ◌∷◌, [], neg_ℤ, length, unsigned_abs};
+ghost use Rattle.std.specs.Prelude.{true, false, ◌<◌, IfOk, MatchOption};
+ghost use Rattle.e_simplex.specs.declared.constraints.Sense.TheVariants.{More};
 ghost use Rattle.e_simplex.specs.Entries.{AllSmall};
-ghost use Rattle.e_simplex.specs.Lines.{IsSmallLine, AllSmallLines, AllFormsWithin};
-ghost use Rattle.e_simplex.specs.Solved.{IsSolved, IsFit, columns_of, lines_of};
-ghost use Rattle.e_simplex.specs.inner.Tried.{negated, IsTried, AreValues, AreBelowBut, IsLargeAt};
+ghost use Rattle.e_simplex.specs.Constraints.{IsSmallConstraint, AllSmallConstraints};
+ghost use Rattle.e_simplex.specs.Constraints.{AllFormsWithin};
+ghost use Rattle.e_simplex.specs.Solved.{IsSolved, IsFit, columns_of, constraints_of};
+ghost use Rattle.e_simplex.specs.inner.Tried.{negated, IsTried, AreValues, AreBelowBut};
+ghost use Rattle.e_simplex.specs.inner.Tried.{IsLargeAt};
 
-use crate::lines::{Kind, Line, Monomial, value_of};
-use crate::solved::{Outcome, Solved};
+use crate::constraints::{Constraint, Monomial, Sense, value_of};
+use crate::solved::Outcome;
+use crate::table::Table;
 use e_literal::Items;
 use std::alloc::{AllocError, Global};
 
-/// Values at which the form is not 0, or multipliers that refute that it is more, and that it is less.
+/// Values at which the form is not 0, or multipliers that refute that it is more, and that it is
+/// less.
 #[derive(Drop)]
 pub enum Tried {
     Found(Vec<i128>),
-    Neither(Vec<i128>, Vec<i128>),
+    BothRefuted(Vec<i128>, Vec<i128>),
     TooWide,
 }
 
-fn turned_round(x: &Monomial) -> Monomial
+fn negated_monomial(x: &Monomial) -> Monomial
     requires { unsigned_abs x.now.coefficient ≤ 2 ^ 30 }
     ensures coefficient { result.coefficient ≡ neg_ℤ x.now.coefficient }
     ensures column { result.column ≡ x.now.column }
@@ -31,57 +36,59 @@ fn turned_round(x: &Monomial) -> Monomial
     }
 }
 
-/// The line that says that the form is less than 0.
-fn negative(alloc: Global, line: &Line) -> Result<Line, AllocError>
-    requires { IsSmallLine line.now }
-    ensures kind { IfOk result (λ l. l.kind ≡ More) }
-    ensures form { IfOk result (λ l. l.form ≡ negated line.now.form) }
+/// The constraint that says that the form is less than 0.
+fn negative(alloc: Global, constraint: &Constraint) -> Result<Constraint, AllocError>
+    requires { IsSmallConstraint constraint.now }
+    ensures sense { IfOk result (λ l. l.sense ≡ More) }
+    ensures form { IfOk result (λ l. l.form ≡ negated constraint.now.form) }
 {
     let mut form = Vec::new(alloc);
-    for x in line.form.items() {
-        form.push(turned_round(x))?;
+    for x in constraint.form.items() {
+        form.push(negated_monomial(x))?;
     }
-    Ok(Line {
-        kind: Kind::More,
+    Ok(Constraint {
+        sense: Sense::More,
         form: Items::new(form),
     })
 }
 
-/// Tries the form of a line that says `more` as more than 0, and then as less, beside the solved lines.
-pub fn try_both(
-    alloc: Global,
-    solved: &Solved,
-    line: &Line,
-    pivots: &mut u64,
-) -> Result<Tried, AllocError>
-    requires solved { IsSolved (columns_of solved.now) (lines_of solved.now) solved.now }
-    requires fit { IsFit (columns_of solved.now) (lines_of solved.now ++ line.now ∷ []) }
-    requires more { line.now.kind ≡ More }
-    ensures { IfOk result (IsTried (columns_of solved.now) (lines_of solved.now) line.now) }
+/// Tries the form of a constraint that says `more` as more than 0, and then as less, beside the
+/// solved constraints.
+pub fn try_both(alloc: Global, solved: &Table, constraint: &Constraint) -> Result<Tried, AllocError>
+    requires solved { IsSolved (columns_of solved.now) (constraints_of solved.now) solved.now }
+    requires fit { IsFit (columns_of solved.now)
+        (constraints_of solved.now ++ constraint.now ∷ []) }
+    requires more { constraint.now.sense ≡ More }
+    ensures { IfOk result
+        (IsTried (columns_of solved.now) (constraints_of solved.now) constraint.now) }
 {
-    match solved.with(alloc, line, pivots)? {
+    match solved.with(alloc, constraint)? {
         Outcome::Holds(more) => {
             let found = more.values(alloc)?;
             Ok(Tried::Found(found))
         }
         Outcome::TooWide => Ok(Tried::TooWide),
         Outcome::Absurd(above) => {
-            let turned = negative(alloc, line)?;
-            match solved.with(alloc, &turned, pivots)? {
+            let negated = negative(alloc, constraint)?;
+            match solved.with(alloc, &negated)? {
                 Outcome::Holds(more) => {
                     let found = more.values(alloc)?;
                     Ok(Tried::Found(found))
                 }
                 Outcome::TooWide => Ok(Tried::TooWide),
-                Outcome::Absurd(below) => Ok(Tried::Neither(above, below)),
+                Outcome::Absurd(below) => Ok(Tried::BothRefuted(above, below)),
             }
         }
     }
 }
 
 /// The values of the lines' forms.
-pub fn values_at(alloc: Global, forms: &[Line], values: &[i128]) -> Result<Vec<i128>, AllocError>
-    requires small { AllSmallLines forms.now }
+pub fn values_at(
+    alloc: Global,
+    forms: &[Constraint],
+    values: &[i128],
+) -> Result<Vec<i128>, AllocError>
+    requires small { AllSmallConstraints forms.now }
     requires within { AllFormsWithin (length values.now) forms.now }
     requires values { AllSmall values.now }
     ensures { IfOk result (λ v. AreValues (length forms.now) forms.now values.now v.items) }

@@ -11,8 +11,8 @@ mod licensing;
 #[cfg(test)]
 mod literals;
 #[cfg(test)]
-mod rows;
+mod preparing;
 #[cfg(test)]
-mod settling;
+mod rows;
 #[cfg(test)]
 mod transferring;

@@ -3,7 +3,7 @@
 use crate::answer::Answer;
 use crate::rows::two;
 use e_fraction::{
-    Row, RowKind, Signed, are_distinct, are_good_multipliers, check_sum, cross,
+    Row, RowKind, Signed, are_distinct, are_small_multipliers, check_sum, cross,
     have_small_coefficients, width,
 };
 use e_literal::Term;
@@ -67,7 +67,7 @@ fn put_sum(alloc: Global, out: &mut Answer, on: &str) -> Result<(), AllocError> 
     let (first, second) = two(on, " ");
     let rows = opposite_rows(alloc, kind(word))?;
     let multipliers = [multiplier(first), multiplier(second)];
-    if rows.len() == 2 && have_small_coefficients(&rows) && are_good_multipliers(&multipliers) {
+    if rows.len() == 2 && have_small_coefficients(&rows) && are_small_multipliers(&multipliers) {
         out.show(&check_sum(&rows, &multipliers));
     }
     Ok(())

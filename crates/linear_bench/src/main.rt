@@ -8,7 +8,7 @@ ghost use Rattle.std.specs.Prelude.{◌<◌};
 
 use e_fraction::{Row, RowKind, Signed, are_distinct, have_small_coefficients};
 use e_literal::Term;
-use e_simplex::{Absurdity, Verdict, decide_counting};
+use e_simplex::{Absurdity, Verdict, decide};
 use std::alloc::{AllocError, Global};
 use std::{env, io};
 
@@ -99,12 +99,12 @@ fn system(alloc: Global, size: Size) -> Result<Vec<Row>, AllocError> {
     Ok(rows)
 }
 
-/// How the rows come out, in a word. The pivots that it takes are added to `pivots`.
-fn word(alloc: Global, rows: &[Row], pivots: &mut u64) -> Result<&'static str, AllocError> {
+/// How the rows come out, in a word.
+fn word(alloc: Global, rows: &[Row]) -> Result<&'static str, AllocError> {
     if rows.len() > 4096 || !have_small_coefficients(rows) {
         return Ok("not asked");
     }
-    match decide_counting(alloc, rows, pivots)? {
+    match decide(alloc, rows)? {
         Verdict::Holds(_) => Ok("holds"),
         Verdict::Absurd(Absurdity::One(_)) => Ok("absurd"),
         Verdict::Absurd(Absurdity::Two { .. }) => Ok("absurd, by two sums"),
@@ -132,7 +132,6 @@ fn main(rt: HostRuntime) -> io::Result<()> {
     };
     let rows = system(alloc, size)?;
     let count = rows.len();
-    let mut pivots = 0;
-    let answer = word(alloc, &rows, &mut pivots)?;
-    println!(rt; "{count} rows: {answer}, {pivots} pivots")
+    let answer = word(alloc, &rows)?;
+    println!(rt; "{count} rows: {answer}")
 }

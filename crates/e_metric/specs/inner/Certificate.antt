@@ -9,7 +9,7 @@ use Rattle.e_clause.specs.declared.cert.RowName.TheVariants.{Goal, Least, Above,
 use Rattle.e_clause.specs.declared.cert.Sums.{Sums}
 use Rattle.e_clause.specs.declared.cert.Sums.TheVariants.{One as OneSum, Two as TwoSums}
 use Rattle.e_fraction.specs.declared.row.Row.{Row as GivenRow}
-use Rattle.e_fraction.specs.Limits.{all_small, are_good_multipliers}
+use Rattle.e_fraction.specs.Limits.{all_small, small_multipliers}
 use Rattle.e_fraction.specs.Views.{weighed}
 use Rattle.e_simplex.specs.declared.decision.Absurdity.{Absurdity}
 use Rattle.e_simplex.specs.declared.decision.Absurdity.TheVariants.{One, Two}
@@ -19,7 +19,7 @@ pub record IsWeighable (rows : List GivenRow) (weights : List ℤ) : Type 0 wher
   pub lengths : length weights ≡ length rows
   pub few : length rows ≤ 4096
   pub coefficients : IsTrue (all_small rows)
-  pub good : IsTrue (are_good_multipliers weights)
+  pub good : IsTrue (small_multipliers weights)
   pub left : (t : Term) → unsigned_abs (total (weighed rows weights) t) ≤ 2 ^ 80
 
 -- the rows whose multiplier is not 0

@@ -6,7 +6,7 @@ use Rattle.e_clause.specs.System.{rows_of_term, system}
 use Rattle.e_fraction.specs.Limits.{all_small}
 use Rattle.e_fraction.specs.Views.{all_seen}
 use Rattle.e_simplex.specs.Answer.{IsRefuted}
-use Rattle.e_simplex.specs.Settling.{IsSettling}
+use Rattle.e_simplex.specs.Preparing.{IsPrepared}
 use Rattle.e_literal.specs.declared.object.Term.TheVariants.{Right}
 use Rattle.e_metric.specs.SolvedSystems.{AreNamed}
 use Rattle.e_metric.specs.ListedTerms.{listed, terms_of_kind}
@@ -16,11 +16,11 @@ use Rattle.e_metric.proofs.RowOrder.{same_order}
 use Rattle.e_metric.proofs.KindAnswers.{system_width, has_width}
 use Rattle.e_metric.proofs.kind_system.solve_kind.Goals as goal
 
-pub settle-requires-clause-few : goal.settle-requires-clause-few
-settle-requires-clause-few c = few_named c.args.which c.args.facts.now None (system c.args.which c.args.facts.now None) (same_order (system c.args.which c.args.facts.now None)) c.in_ok-names.names.items c.in_ok-names.rows.items (named_of (system c.args.which c.args.facts.now None) c.in_ok-named.named.items c.in_ok-names.names.items c.in_ok-names.rows.items c.in_ok-named.ensures.rows c.in_ok-named.ensures.limited c.in_ok-names.ensures.names c.in_ok-names.ensures.rows) c.requires.facts c.requires.few refl
+pub prepare-requires-clause-few : goal.prepare-requires-clause-few
+prepare-requires-clause-few c = few_named c.args.which c.args.facts.now None (system c.args.which c.args.facts.now None) (same_order (system c.args.which c.args.facts.now None)) c.in_ok-names.names.items c.in_ok-names.rows.items (named_of (system c.args.which c.args.facts.now None) c.in_ok-named.named.items c.in_ok-names.names.items c.in_ok-names.rows.items c.in_ok-named.ensures.rows c.in_ok-named.ensures.limited c.in_ok-names.ensures.names c.in_ok-names.ensures.rows) c.requires.facts c.requires.few refl
 
-pub settle-requires-clause-coefficients : goal.settle-requires-clause-coefficients
-settle-requires-clause-coefficients c = small_named c.args.which c.args.facts.now None (system c.args.which c.args.facts.now None) (same_order (system c.args.which c.args.facts.now None)) c.in_ok-names.names.items c.in_ok-names.rows.items (named_of (system c.args.which c.args.facts.now None) c.in_ok-named.named.items c.in_ok-names.names.items c.in_ok-names.rows.items c.in_ok-named.ensures.rows c.in_ok-named.ensures.limited c.in_ok-names.ensures.names c.in_ok-names.ensures.rows) c.requires.facts c.requires.few refl
+pub prepare-requires-clause-coefficients : goal.prepare-requires-clause-coefficients
+prepare-requires-clause-coefficients c = small_named c.args.which c.args.facts.now None (system c.args.which c.args.facts.now None) (same_order (system c.args.which c.args.facts.now None)) c.in_ok-names.names.items c.in_ok-names.rows.items (named_of (system c.args.which c.args.facts.now None) c.in_ok-named.named.items c.in_ok-names.names.items c.in_ok-names.rows.items c.in_ok-named.ensures.rows c.in_ok-named.ensures.limited c.in_ok-names.ensures.names c.in_ok-names.ensures.rows) c.requires.facts c.requires.few refl
 
 pub certificate_of-certified-requires-clause-few : goal.certificate_of-certified-requires-clause-few
 certificate_of-certified-requires-clause-few c =
@@ -30,9 +30,9 @@ pub certificate_of-certified-requires-clause-coefficients : goal.certificate_of-
 certificate_of-certified-requires-clause-coefficients c =
     ap all_small (c.deref-in-Absurd.ensures.value ∙ c.in_ok-kept.ensures ∙ c.deref.ensures.value) ∙ small_named c.args.which c.args.facts.now None (system c.args.which c.args.facts.now None) (same_order (system c.args.which c.args.facts.now None)) c.in_ok-names.names.items c.in_ok-names.rows.items (named_of (system c.args.which c.args.facts.now None) c.in_ok-named.named.items c.in_ok-names.names.items c.in_ok-names.rows.items c.in_ok-named.ensures.rows c.in_ok-named.ensures.limited c.in_ok-names.ensures.names c.in_ok-names.ensures.rows) c.requires.facts c.requires.few refl
 
-pub returns-in-Settled : goal.returns-in-Settled
-returns-in-Settled c =
-    let h : c.in-Settled.settled ≡ c.in_ok-names.rows.items = subst (IsSettling c.in_ok-names.rows.items) c.in-Settled.is c.in_ok-settle.ensures in
+pub returns-in-SolvedRows : goal.returns-in-SolvedRows
+returns-in-SolvedRows c =
+    let h : c.in-SolvedRows.settled ≡ c.in_ok-names.rows.items = subst (IsPrepared c.in_ok-names.rows.items) c.in-SolvedRows.is c.in_ok-prepare.ensures in
     let copies : c.in_ok-kept.kept.items ≡ c.in_ok-names.rows.items = c.in_ok-kept.ensures ∙ c.deref.ensures.value in
     record {
       rows = (system c.args.which c.args.facts.now None);
@@ -40,19 +40,19 @@ returns-in-Settled c =
       named = subst (AreNamed (system c.args.which c.args.facts.now None) c.in_ok-names.names.items) (sym copies) (named_of (system c.args.which c.args.facts.now None) c.in_ok-named.named.items c.in_ok-names.names.items c.in_ok-names.rows.items c.in_ok-named.ensures.rows c.in_ok-named.ensures.limited c.in_ok-names.ensures.names c.in_ok-names.ensures.rows);
       settled = h ∙ sym copies;
       terms = c.in_ok-terms.ensures;
-      raised = c.count_term_rows-raised.ensures ∙ ap (λ ts. length (flat_map (rows_of_term c.args.facts.now) ts)) c.deref-in-Settled.ensures.value;
+      raised = c.count_term_rows-raised.ensures ∙ ap (λ ts. length (flat_map (rows_of_term c.args.facts.now) ts)) c.deref-in-SolvedRows.ensures.value;
     }
 
 pub returns-in-TooWide : goal.returns-in-TooWide
 returns-in-TooWide c =
-    let h : IsWide (all_seen c.in_ok-names.rows.items) × (2 ^ 63 ≤ width (all_seen c.in_ok-names.rows.items)) = subst (IsSettling c.in_ok-names.rows.items) c.in-TooWide.is c.in_ok-settle.ensures in
+    let h : IsWide (all_seen c.in_ok-names.rows.items) × (2 ^ 63 ≤ width (all_seen c.in_ok-names.rows.items)) = subst (IsPrepared c.in_ok-names.rows.items) c.in-TooWide.is c.in_ok-prepare.ensures in
     has_width c.args.which c.args.facts.now None (system c.args.which c.args.facts.now None) (same_order (system c.args.which c.args.facts.now None)) c.in_ok-named.named.items c.in_ok-named.ensures.rows c.in_ok-named.ensures.limited c.requires.facts c.requires.few refl c.in_ok-names.rows.items c.in_ok-names.ensures.rows c.width.result
     (c.width.ensures.value ∙ ap (λ rs. width (all_seen rs)) (c.deref-in-TooWide.ensures.value ∙ c.in_ok-kept.ensures ∙ c.deref.ensures.value)
     ∙ system_width c.args.which c.args.facts.now None c.in_ok-named.named.items c.in_ok-named.ensures.rows c.in_ok-names.rows.items c.in_ok-names.ensures.rows) h.0
 
 pub returns-in_ok-certified-in-Absurd : goal.returns-in_ok-certified-in-Absurd
 returns-in_ok-certified-in-Absurd c =
-    let h : IsRefuted (all_seen c.in_ok-names.rows.items) c.in-Absurd.absurdity = subst (IsSettling c.in_ok-names.rows.items) c.in-Absurd.is c.in_ok-settle.ensures in
+    let h : IsRefuted (all_seen c.in_ok-names.rows.items) c.in-Absurd.absurdity = subst (IsPrepared c.in_ok-names.rows.items) c.in-Absurd.is c.in_ok-prepare.ensures in
     refuted_named c.args.which c.args.facts.now None (system c.args.which c.args.facts.now None) (same_order (system c.args.which c.args.facts.now None)) c.in_ok-names.names.items c.in_ok-names.rows.items (named_of (system c.args.which c.args.facts.now None) c.in_ok-named.named.items c.in_ok-names.names.items c.in_ok-names.rows.items c.in_ok-named.ensures.rows c.in_ok-named.ensures.limited c.in_ok-names.ensures.names c.in_ok-names.ensures.rows) c.requires.facts c.requires.few refl
     (listed (terms_of_kind c.args.which c.args.facts.now None) (Right ∷ [])) c.in-Absurd.absurdity c.in_ok-certified-in-Absurd.field-0.sums refl h.refutes
     (c.in_ok-certified-in-Absurd.ensures ∙ ap (λ rs. sums_of c.in_ok-names.names.items rs (listed (terms_of_kind c.args.which c.args.facts.now None) (Right ∷ [])) c.in-Absurd.absurdity) (c.deref-in-Absurd.ensures.value ∙ c.in_ok-kept.ensures ∙ c.deref.ensures.value))

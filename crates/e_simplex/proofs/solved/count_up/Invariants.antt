@@ -1,5 +1,5 @@
 use Rattle.std.proofs.Common.{◌≡◌}
-use Rattle.e_simplex.specs.Lines.{numbers}
+use Rattle.e_simplex.specs.Constraints.{numbers}
 use Rattle.e_simplex.proofs.solved.count_up.Given as goal
 
 abbrev pub invariant-loop-i : goal.invariant-loop-i

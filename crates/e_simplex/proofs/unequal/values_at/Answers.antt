@@ -1,7 +1,7 @@
 use Rattle.std.proofs.Common.{SFits, to_z-of_z, ap, sym, ◌∙◌}
 use Rattle.std.proofs.lemmas.List.{get_or_read}
 use mir.Syntax.{w128}
-use Rattle.e_simplex.specs.Lines.{form_value}
+use Rattle.e_simplex.specs.Constraints.{form_value}
 use Rattle.e_simplex.proofs.Forms.{fits_type}
 use Rattle.e_simplex.proofs.Combining.{values_more}
 use Rattle.e_simplex.proofs.unequal.values_at.Goals as goal

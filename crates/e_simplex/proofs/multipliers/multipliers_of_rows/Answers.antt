@@ -1,0 +1,33 @@
+use Rattle.std.proofs.Common.{◌≡◌, ◌+◌, ◌-◌, SFits, to_z-of_z, arith, ap, sym, ◌∙◌, length, take, get_or}
+use mir.Syntax.{w128}
+use Rattle.e_fraction.specs.Views.{seen, all_seen}
+use Rattle.e_simplex.proofs.Forms.{fits_type}
+use Rattle.e_simplex.specs.inner.RowMultipliers.{count_nots, multiplier_of}
+use Rattle.e_simplex.proofs.RowMultipliers.{row_multipliers_more, nots_more, count_most, take_done, take_length}
+use Rattle.e_simplex.proofs.multipliers.multipliers_of_rows.Goals as goal
+
+pub loop-i-preserved : goal.loop-i-preserved
+loop-i-preserved c =
+    let fm : SFits w128 c.multiplier.result = fits_type c.multiplier.result c.multiplier.type_inv in
+    let fw : SFits w128 c.weight_at-weight.result = fits_type c.weight_at-weight.result c.weight_at-weight.type_inv in
+    let fl : SFits w128 c.args.last = c.ranges.last in
+    let e = simp to_z-of_z at c.in_ok-push.ensures.items in
+    let m = simp to_z-of_z at c.multiplier.ensures in
+    let v = simp to_z-of_z at c.loop-i.invariant.value in
+    let h = c.weight_at-weight.ensures in
+    simp to_z-of_z (record {
+      value = row_multipliers_more c.args.rows.now c.loop-i.i c.index-rows-i.result c.args.weights.now c.args.tried (c.loop-i.i - c.loop-i.seen) c.loop-i.seen c.args.last c.multiplier.result
+          c.loop-i.all.items c.push.new.self.items c.loop-i-test.true (omega (arith, c.loop-i.invariant.most)) c.loop-i.invariant.count
+          (take_length c.args.rows.now c.loop-i.i (omega (arith, c.loop-i-test.true))) v e
+          (m ∙ ap (λ b. multiplier_of b c.loop-i.seen c.args.tried c.args.last c.weight_at-weight.result) c.is_kept-is_not.ensures
+          ∙ ap (λ w. multiplier_of (Rattle.e_simplex.specs.Naming.keeps Rattle.std.proofs.Common.true (seen (get_or c.args.rows.now c.loop-i.i c.index-rows-i.result)).says) c.loop-i.seen c.args.tried c.args.last w) h);
+      count = c.counted-seen.ensures ∙ ap (λ b. Rattle.std.proofs.Common.cond b (Rattle.std.proofs.Common.suc c.loop-i.seen) c.loop-i.seen) c.is_kept-is_not.ensures
+          ∙ nots_more c.args.rows.now c.loop-i.i c.index-rows-i.result c.loop-i.seen c.loop-i-test.true c.loop-i.invariant.count;
+      most = omega (arith, c.counted-seen.ensures, count_most c.is_kept-is_not.result c.loop-i.seen c.loop-i.i c.loop-i.invariant.most);
+    })
+
+pub returns : goal.returns
+returns c =
+    let fl : SFits w128 c.args.last = c.ranges.last in
+    let v = simp to_z-of_z at c.loop-i.invariant.value in
+    v ∙ ap (λ r. Rattle.e_simplex.specs.inner.RowMultipliers.row_multipliers (all_seen r) c.args.weights.now 0 c.args.tried c.args.last) (take_done c.args.rows.now c.loop-i.i c.loop-i-test.false)

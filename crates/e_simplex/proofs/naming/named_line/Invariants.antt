@@ -1,6 +1,0 @@
-use Rattle.std.proofs.Common.{◌≡◌, take}
-use Rattle.e_simplex.specs.Naming.{named_form}
-use Rattle.e_simplex.proofs.naming.named_line.Given as goal
-
-abbrev pub invariant-loop-k : goal.invariant-loop-k
-invariant-loop-k l = l.form.items ≡ named_form l.terms (take l.k l.row.form)

@@ -1,5 +1,0 @@
-use Rattle.e_simplex.specs.Lines.{FixedTo}
-use Rattle.e_simplex.proofs.solved.fixed_columns.Given as goal
-
-abbrev pub invariant-loop-c : goal.invariant-loop-c
-invariant-loop-c l = FixedTo l.c l.lines l.w l.fixed.items

@@ -1,0 +1,72 @@
+use Rattle.std.proofs.Common.{◌≡◌, ◌++◌, ◌+◌, ◌<◌, ◌≤◌, ◌^◌, ap, arith, sym, ◌∙◌, subst, length, false, rules}
+use Rattle.std.proofs.lemmas.List.{nil_from_length}
+use Rattle.e_fraction.specs.Views.{all_seen}
+use Rattle.e_simplex.specs.Constraints.{AllSmallConstraints}
+use Rattle.e_simplex.specs.Naming.{AllNamed, named_constraints}
+use Rattle.e_simplex.specs.Solved.{IsSolved, IsOutcome, columns_of}
+use Rattle.e_simplex.proofs.Extending.{named_both, fit_both, outcome_both, solved_both}
+use Rattle.e_simplex.proofs.solved_rows.decided_with.Goals as goal
+
+pub constraints_where-requires-clause-named : goal.constraints_where-requires-clause-named
+constraints_where-requires-clause-named c = subst (λ v. AllNamed v (all_seen c.args.more.now)) (sym c.deref.ensures.value) c.in_ok-terms.ensures.all
+
+pub with_all-requires-clause-fit : goal.with_all-requires-clause-fit
+with_all-requires-clause-fit c =
+    let ts = c.in_ok-terms.terms.items in
+    let s = c.args.solved.now in
+    let room : length ts < columns_of s = omega (arith, c.if-width-len.false, c.width.ensures, c.len.ensures ∙ c.in_ok-terms.terms.ok.0) in
+    let n : length s.columns.items < 2 ^ 63 = search rules in
+    let e : c.deref-2.result.now ≡ c.in_ok-constraints.constraints.items = c.deref-2.ensures.value in
+    fit_both c.args.rows.now c.args.more.now c.args.terms.now ts s c.requires.table c.in_ok-terms.ensures.continues c.in_ok-terms.ensures.all
+    c.deref-2.result.now (e ∙ c.in_ok-constraints.ensures.value ∙ ap (λ v. named_constraints false v (all_seen c.args.more.now)) c.deref.ensures.value)
+    room (omega (arith, n)) c.requires.few (subst AllSmallConstraints (sym e) c.in_ok-constraints.ensures.small)
+
+pub verdict_of-requires-clause-named : goal.verdict_of-requires-clause-named
+verdict_of-requires-clause-named c =
+    let ts = c.in_ok-terms.terms.items in
+    subst (λ v. AllNamed v (all_seen c.deref-3.result.now)) (sym c.deref-4.ensures.value)
+    (subst (λ v. AllNamed ts (all_seen v)) (sym (c.deref-3.ensures.value ∙ c.in_ok-all.ensures))
+    (named_both c.args.rows.now c.args.more.now c.args.terms.now ts c.args.solved.now c.requires.table c.in_ok-terms.ensures.continues c.in_ok-terms.ensures.all))
+
+pub verdict_of-requires-clause-outcome : goal.verdict_of-requires-clause-outcome
+verdict_of-requires-clause-outcome c =
+    let ts = c.in_ok-terms.terms.items in
+    let s = c.args.solved.now in
+    let room : length ts < columns_of s = omega (arith, c.if-width-len.false, c.width.ensures, c.len.ensures ∙ c.in_ok-terms.terms.ok.0) in
+    let n : length s.columns.items < 2 ^ 63 = search rules in (
+      columns_of s,
+      omega (arith, room, ap length c.deref-4.ensures.value),
+      omega (arith, n),
+      subst (λ v. IsOutcome (columns_of s) (named_constraints false v (all_seen c.deref-3.result.now)) c.in_ok-outcome.outcome) (sym c.deref-4.ensures.value)
+          (subst (λ v. IsOutcome (columns_of s) (named_constraints false ts (all_seen v)) c.in_ok-outcome.outcome) (sym (c.deref-3.ensures.value ∙ c.in_ok-all.ensures))
+          (outcome_both c.args.rows.now c.args.more.now c.args.terms.now ts s c.requires.table c.in_ok-terms.ensures.continues c.in_ok-terms.ensures.all
+          c.deref-2.result.now (c.deref-2.ensures.value ∙ c.in_ok-constraints.ensures.value ∙ ap (λ v. named_constraints false v (all_seen c.args.more.now)) c.deref.ensures.value)
+          c.in_ok-outcome.outcome c.in_ok-outcome.ensures)),
+    )
+
+pub verdict_of_solved-requires-clause-named : goal.verdict_of_solved-requires-clause-named
+verdict_of_solved-requires-clause-named c =
+    let ts = c.in_ok-terms.terms.items in
+    subst (λ v. AllNamed v (all_seen c.deref-then-is_empty.result.now)) (sym c.deref-then-is_empty-2.ensures.value)
+    (subst (λ v. AllNamed ts (all_seen v)) (sym (c.deref-then-is_empty.ensures.value ∙ c.in_ok-all.ensures))
+    (named_both c.args.rows.now c.args.more.now c.args.terms.now ts c.args.solved.now c.requires.table c.in_ok-terms.ensures.continues c.in_ok-terms.ensures.all))
+
+pub verdict_of_solved-requires-clause-room : goal.verdict_of_solved-requires-clause-room
+verdict_of_solved-requires-clause-room c =
+    omega (arith, c.if-width-len.false, c.width.ensures, c.len.ensures ∙ c.in_ok-terms.terms.ok.0, ap length c.deref-then-is_empty-2.ensures.value)
+
+pub verdict_of_solved-requires-clause-counted : goal.verdict_of_solved-requires-clause-counted
+verdict_of_solved-requires-clause-counted c =
+    let n : length c.args.solved.now.columns.items < 2 ^ 63 = search rules in
+    omega (arith, n)
+
+pub verdict_of_solved-requires-clause-solved : goal.verdict_of_solved-requires-clause-solved
+verdict_of_solved-requires-clause-solved c =
+    let ts = c.in_ok-terms.terms.items in
+    let s = c.args.solved.now in
+    let none : length c.in_ok-constraints.constraints.items ≡ 0 = search rules in
+    subst (λ v. IsSolved (columns_of s) (named_constraints false v (all_seen c.deref-then-is_empty.result.now)) s) (sym c.deref-then-is_empty-2.ensures.value)
+    (subst (λ v. IsSolved (columns_of s) (named_constraints false ts (all_seen v)) s) (sym (c.deref-then-is_empty.ensures.value ∙ c.in_ok-all.ensures))
+    (solved_both c.args.rows.now c.args.more.now c.args.terms.now ts s c.requires.table c.in_ok-terms.ensures.continues c.in_ok-terms.ensures.all
+    c.in_ok-constraints.constraints.items (c.in_ok-constraints.ensures.value ∙ ap (λ v. named_constraints false v (all_seen c.args.more.now)) c.deref.ensures.value)
+    (nil_from_length c.in_ok-constraints.constraints.items none)))

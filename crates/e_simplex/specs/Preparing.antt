@@ -1,0 +1,15 @@
+-- What comes of rows that are to be settled.
+use Rattle.std.specs.Prelude.{◌≡◌, ◌≤◌, ◌^◌, List}
+use Rattle.e_literal.specs.Minor.{IsWide}
+use Rattle.e_literal.specs.Width.{width}
+use Rattle.e_fraction.specs.declared.row.Row.{Row as GivenRow}
+use Rattle.e_fraction.specs.Views.{all_seen}
+use Rattle.e_simplex.specs.Answer.{IsRefuted}
+use Rattle.e_simplex.specs.declared.solved_rows.Prepared.{Prepared}
+use Rattle.e_simplex.specs.declared.solved_rows.Prepared.TheVariants.{SolvedRows, Absurd, TooWide}
+
+-- the rows, settled; or multipliers that refute them; or the rows are wide, and so is their width
+abbrev pub IsPrepared : List GivenRow → Prepared → Type 0
+IsPrepared rows (SolvedRows s) = s ≡ rows
+IsPrepared rows (Absurd absurdity) = IsRefuted (all_seen rows) absurdity
+IsPrepared rows TooWide = IsWide (all_seen rows) × (2 ^ 63 ≤ width (all_seen rows))

@@ -1,0 +1,118 @@
+//! Rows over numbered columns: column 0 has the constants, and the others stand for terms.
+
+ghost use Rattle.std.specs.Prelude.{◌≡◌, ℕ, ℤ, pos, List, ◌*◌, ◌<◌, ◌≤◌, ◌^◌, length};
+ghost use Rattle.std.specs.Prelude.{unsigned_abs, get_or, ◌*ℤ◌};
+ghost use Rattle.e_fraction.specs.Tableau.{unit};
+ghost use Rattle.e_simplex.specs.declared.constraints.Monomial.{Monomial};
+ghost use Rattle.e_simplex.specs.Entries.{AllSmall};
+ghost use Rattle.e_simplex.specs.Constraints.{form_at, constraint_row, constant_of};
+ghost use Rattle.e_simplex.specs.Constraints.{is_zero_sense, IsSmallConstraint, form_value};
+
+use crate::number::times;
+use e_literal::Items;
+
+/// A coefficient and its column.
+#[derive(Clone, Copy)]
+pub struct Monomial {
+    pub coefficient: i64,
+    pub column: usize,
+}
+
+/// What a constraint says of its form.
+#[derive(Clone, Copy, PartialEq, Eq)]
+pub enum Sense {
+    Zero,
+    AtLeast,
+    More,
+}
+
+/// A form that is 0, at least 0, or more than 0.
+#[derive(Drop)]
+pub struct Constraint {
+    pub sense: Sense,
+    pub form: Items<Monomial>,
+}
+
+fn coefficient_in(x: &Monomial, column: usize) -> i128
+    requires { unsigned_abs x.now.coefficient ≤ 2 ^ 30 }
+    ensures value { result ≡ x.now.coefficient *ℤ unit x.now.column column }
+    ensures small { unsigned_abs result ≤ 2 ^ 30 }
+{
+    if x.column == column {
+        i128::from(x.coefficient)
+    } else {
+        0
+    }
+}
+
+/// The sum of the coefficients in a column.
+fn coefficient(form: &[Monomial], column: usize) -> i128
+    requires small { (k : ℕ) (d : Monomial) → k < length form.now
+        → unsigned_abs (get_or form.now k d).coefficient ≤ 2 ^ 30 }
+    requires short { length form.now ≤ 2 ^ 32 }
+    ensures value { result ≡ form_at form.now column }
+    ensures small { unsigned_abs result ≤ 2 ^ 62 }
+{
+    let mut sum: i128 = 0;
+    for x in form {
+        let coefficient = coefficient_in(x, column);
+        sum += coefficient;
+    }
+    sum
+}
+
+fn constant(sense: Sense) -> i128
+    ensures { result ≡ constant_of sense }
+{
+    match sense {
+        Sense::Zero | Sense::AtLeast => 0,
+        Sense::More => 1,
+    }
+}
+
+pub fn is_zero(sense: Sense) -> bool
+    ensures { result ≡ is_zero_sense sense }
+{
+    match sense {
+        Sense::Zero => true,
+        Sense::AtLeast | Sense::More => false,
+    }
+}
+
+/// What the row of a constraint has in a column.
+pub fn row_at(constraint: &Constraint, column: usize) -> i128
+    requires { IsSmallConstraint constraint.now }
+    ensures value { result ≡ constraint_row constraint.now column }
+    ensures small { unsigned_abs result ≤ 2 ^ 31 }
+{
+    let sum = coefficient(constraint.form.items(), column);
+    let constant = constant(constraint.sense);
+    if column == 0 { sum + constant } else { sum }
+}
+
+fn part(x: &Monomial, values: &[i128]) -> i128
+    requires small { unsigned_abs x.now.coefficient ≤ 2 ^ 30 }
+    requires within { x.now.column < length values.now }
+    requires values { AllSmall values.now }
+    ensures { result ≡ x.now.coefficient *ℤ get_or values.now x.now.column (pos 0) }
+{
+    times(i128::from(x.coefficient), values[x.column])
+}
+
+/// The value of a form.
+pub fn value_of(form: &[Monomial], values: &[i128]) -> i128
+    requires small { (k : ℕ) (d : Monomial) → k < length form.now
+        → unsigned_abs (get_or form.now k d).coefficient ≤ 2 ^ 30 }
+    requires short { length form.now ≤ 2 ^ 32 }
+    requires within { (k : ℕ) (d : Monomial) → k < length form.now
+        → (get_or form.now k d).column < length values.now }
+    requires values { AllSmall values.now }
+    ensures value { result ≡ form_value form.now values.now }
+{
+    let mut sum: i128 = 0;
+    for x in form {
+        let part = part(x, values);
+        sum += part;
+    }
+    sum
+}

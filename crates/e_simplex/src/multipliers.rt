@@ -1,0 +1,83 @@
+//! The weights of constraints as multipliers of rows.
+
+ghost use Rattle.std.specs.Prelude.{◌≡◌, ◌+◌, ◌<◌, ◌≤◌, ◌^◌, pos, suc, cond, IfOk, length};
+ghost use Rattle.std.specs.Prelude.{get_or, take};
+ghost use Rattle.e_fraction.specs.Views.{all_seen};
+ghost use Rattle.e_simplex.specs.Answer.{IsNotAt};
+ghost use Rattle.e_simplex.specs.inner.RowMultipliers.{row_multipliers, multiplier_of, count_nots};
+
+use crate::naming::is_kept;
+use e_fraction::Row;
+use std::alloc::{AllocError, Global};
+
+/// The weight at a place, or 0 past the end.
+fn weight_at(weights: &[i128], place: usize) -> i128
+    ensures { result ≡ get_or weights.now place (pos 0) }
+{
+    if place < weights.len() {
+        weights[place]
+    } else {
+        0
+    }
+}
+
+/// One more, where the row says `not 0`.
+fn counted(is_not: bool, seen: usize) -> usize
+    requires { seen < 2 ^ 63 }
+    ensures { result ≡ cond is_not (suc seen) seen }
+{
+    if is_not { seen + 1 } else { seen }
+}
+
+fn multiplier(is_not: bool, seen: usize, tried: usize, last: i128, weight: i128) -> i128
+    requires { seen < 2 ^ 63 }
+    ensures { result ≡ multiplier_of is_not seen tried last weight }
+{
+    if is_not {
+        if seen + 1 == tried { last } else { 0 }
+    } else {
+        weight
+    }
+}
+
+/// The multipliers of the rows, from the weights of the constraints: of the rows that say `not 0`
+/// the one that is counted as `tried`, from 1 on, has the multiplier `last`, and the others 0.
+pub fn multipliers_of_rows(
+    alloc: Global,
+    rows: &[Row],
+    weights: &[i128],
+    tried: usize,
+    last: i128,
+) -> Result<Vec<i128>, AllocError>
+    requires { length rows.now ≤ 4096 }
+    ensures { IfOk result (λ v.
+        v.items ≡ row_multipliers (all_seen rows.now) weights.now 0 tried last) }
+{
+    let mut all = Vec::new(alloc);
+    let mut seen = 0;
+    for i in 0..rows.len() {
+        let is_not = is_kept(true, rows[i].kind);
+        let weight = weight_at(weights, i - seen);
+        all.push(multiplier(is_not, seen, tried, last, weight))?;
+        seen = counted(is_not, seen);
+    }
+    Ok(all)
+}
+
+/// The place of the row that has `k` rows that say `not 0` before it, and says that itself.
+pub fn place_of_not(rows: &[Row], k: usize) -> usize
+    requires few { length rows.now ≤ 4096 }
+    requires here { k < count_nots (all_seen rows.now) }
+    ensures is_not { IsNotAt (all_seen rows.now) result }
+    ensures before { count_nots (all_seen (take result rows.now)) ≡ k }
+{
+    let mut seen = 0;
+    for i in 0..rows.len() {
+        let is_not = is_kept(true, rows[i].kind);
+        if is_not && seen == k {
+            return i;
+        }
+        seen = counted(is_not, seen);
+    }
+    rows.len()
+}

@@ -1,0 +1,258 @@
+//! Rows that are solved once, and asked about with further rows.
+
+ghost use Rattle.std.specs.Prelude.{◌≡◌, ℕ, ◌++◌, ◌+◌, ◌<◌, ◌≤◌, ◌^◌, length, IfOk, IsTrue, false};
+ghost use Rattle.e_literal.specs.Minor.{IsWide};
+ghost use Rattle.e_literal.specs.Solution.{HasSolution};
+ghost use Rattle.e_fraction.specs.Limits.{all_small};
+ghost use Rattle.e_fraction.specs.Views.{all_seen};
+ghost use Rattle.e_simplex.specs.Answer.{AreValuesOf, IsVerdict, IsHolds, IsAbsurd};
+ghost use Rattle.e_simplex.specs.Naming.{AreOnce, AllNamed, named_constraints};
+ghost use Rattle.e_simplex.specs.Preparing.{IsPrepared};
+ghost use Rattle.e_simplex.specs.Solved.{IsSolved, columns_of};
+ghost use Rattle.e_simplex.specs.SolvedRows.{IsTableFor};
+
+use crate::decision::{Absurdity, Verdict, decide, refuted_once, verdict_of, verdict_of_solved};
+use crate::naming::{constraints_where, terms_of, terms_with};
+use crate::solved::{Outcome, solve_constraints};
+use crate::table::Table;
+use e_fraction::{Row, Signed};
+use e_literal::{Term, Values};
+use std::alloc::{AllocError, Global};
+use std::marker::Model;
+
+/// How many columns a table has that no term of its rows has, for terms of further rows: a question
+/// with more new terms has all rows solved again.
+const SPARE: usize = 8;
+
+/// Rows that have a solution: their table, solved, and values that satisfy them. Contracts see the
+/// rows.
+#[derive(Drop)]
+pub struct SolvedRows {
+    rows: Vec<Row>,
+    terms: Vec<Term>,
+    solved: Table,
+    values: Values,
+}
+
+impl Model for SolvedRows {
+    ghost use Rattle.std.specs.Prelude.{List};
+    ghost use Rattle.e_fraction.specs.declared.row.Row.{Row};
+    ghost use Rattle.e_simplex.specs.SolvedRows.{AreSolved};
+
+    ghost Value = { List Row };
+
+    ghost view = { λ s. s.rows.items };
+
+    ghost invariant = { λ s. AreSolved s.rows.items s.terms.items s.solved s.values };
+}
+
+/// Rows, solved, or that no values satisfy, or with a large minor.
+#[derive(Drop)]
+pub enum Prepared {
+    SolvedRows(SolvedRows),
+    Absurd(Absurdity),
+    TooWide,
+}
+
+/// An equal row.
+fn copy_of_row(alloc: Global, row: &Row) -> Result<Row, AllocError>
+    ensures { IfOk result (λ r. r ≡ row.now) }
+{
+    Ok(Row {
+        kind: row.kind,
+        form: Signed::new(Vec::from_slice(alloc, row.form.summands())?),
+    })
+}
+
+/// Equal rows.
+fn copies_of_rows(alloc: Global, rows: &[Row]) -> Result<Vec<Row>, AllocError>
+    ensures { IfOk result (λ v. v.items ≡ rows.now) }
+{
+    let mut all = Vec::new(alloc);
+    for row in rows {
+        all.push(copy_of_row(alloc, row)?)?;
+    }
+    Ok(all)
+}
+
+/// The rows, and more.
+fn rows_with(alloc: Global, rows: &[Row], more: &[Row]) -> Result<Vec<Row>, AllocError>
+    ensures { IfOk result (λ v. v.items ≡ rows.now ++ more.now) }
+{
+    let mut all = Vec::new(alloc);
+    for old in rows {
+        all.push(copy_of_row(alloc, old)?)?;
+    }
+    for further in more {
+        all.push(copy_of_row(alloc, further)?)?;
+    }
+    Ok(all)
+}
+
+/// What comes of rows whose table is solved.
+fn with_values(
+    alloc: Global,
+    rows: Vec<Row>,
+    terms: Vec<Term>,
+    solved: Table,
+) -> Result<Prepared, AllocError>
+    requires few { length rows.items ≤ 4096 }
+    requires coefficients { IsTrue (all_small rows.items) }
+    requires once { AreOnce terms.items }
+    requires named { AllNamed terms.items (all_seen rows.items) }
+    requires room { length terms.items < columns_of solved }
+    requires counted { columns_of solved ≤ 2 ^ 63 + 8 }
+    requires solved { IsSolved (columns_of solved)
+        (named_constraints false terms.items (all_seen rows.items)) solved }
+    ensures { IfOk result (IsPrepared rows.items) }
+{
+    match verdict_of_solved(alloc, &rows, &terms, &solved)? {
+        Verdict::TooWide => Ok(Prepared::TooWide),
+        Verdict::Absurd(absurdity) => Ok(Prepared::Absurd(absurdity)),
+        Verdict::Holds(values) => Ok(Prepared::SolvedRows(SolvedRows {
+            rows,
+            terms,
+            solved,
+            values,
+        })),
+    }
+}
+
+/// Solves rows, to be asked about with further rows. The conditions are those of [`decide`]. The
+/// answer is `SolvedRows` where values satisfy every row, or `Absurd` with multipliers that refute
+/// the rows, or `TooWide`, which comes only where some minor of the rows has size at least 2^63,
+/// and the width with it.
+pub fn prepare(alloc: Global, rows: Vec<Row>) -> Result<Prepared, AllocError>
+    requires few { length rows.items ≤ 4096 }
+    requires coefficients { IsTrue (all_small rows.items) }
+    ensures { IfOk result (IsPrepared rows.items) }
+{
+    let terms = terms_of(alloc, &rows)?;
+    let constraints = constraints_where(alloc, false, &terms, &rows)?;
+    match solve_constraints(alloc, constraints, terms.len() + 1 + SPARE)? {
+        Outcome::TooWide => Ok(Prepared::TooWide),
+        Outcome::Absurd(weights) => {
+            let once = refuted_once(alloc, &rows, &weights)?;
+            Ok(Prepared::Absurd(once))
+        }
+        Outcome::Holds(solved) => with_values(alloc, rows, terms, solved),
+    }
+}
+
+/// What comes of rows whose table is solved and further rows, from the solved table. Where those
+/// have more new terms than the table has columns to spare, all rows are decided from nothing.
+fn decided_with(
+    alloc: Global,
+    rows: &[Row],
+    terms: &[Term],
+    solved: &Table,
+    more: &[Row],
+) -> Result<Verdict, AllocError>
+    requires few { length (rows.now ++ more.now) ≤ 4096 }
+    requires coefficients { IsTrue (all_small (rows.now ++ more.now)) }
+    requires table { IsTableFor rows.now terms.now solved.now }
+    ensures { IfOk result (IsVerdict (all_seen (rows.now ++ more.now))) }
+{
+    let all = rows_with(alloc, rows, more)?;
+    let terms = terms_with(alloc, terms, more)?;
+    if solved.width() <= terms.len() {
+        let verdict = decide(alloc, &all)?;
+        return Ok(verdict);
+    }
+    let constraints = constraints_where(alloc, false, &terms, more)?;
+    if constraints.is_empty() {
+        let verdict = verdict_of_solved(alloc, &all, &terms, solved)?;
+        return Ok(verdict);
+    }
+    let outcome = solved.with_all(alloc, &constraints)?;
+    let verdict = verdict_of(alloc, &all, &terms, &outcome)?;
+    Ok(verdict)
+}
+
+/// Solves rows whose table is solved and further rows, from the solved table. Where those have more
+/// new terms than the table has columns to spare, all rows are solved from nothing.
+fn prepared_with(
+    alloc: Global,
+    rows: &[Row],
+    terms: &[Term],
+    solved: &Table,
+    more: &[Row],
+) -> Result<Prepared, AllocError>
+    requires few { length (rows.now ++ more.now) ≤ 4096 }
+    requires coefficients { IsTrue (all_small (rows.now ++ more.now)) }
+    requires table { IsTableFor rows.now terms.now solved.now }
+    ensures { IfOk result (IsPrepared (rows.now ++ more.now)) }
+{
+    let together = rows_with(alloc, rows, more)?;
+    let terms = terms_with(alloc, terms, more)?;
+    if solved.width() <= terms.len() {
+        return prepare(alloc, together);
+    }
+    let constraints = constraints_where(alloc, false, &terms, more)?;
+    match solved.with_all(alloc, &constraints)? {
+        Outcome::TooWide => Ok(Prepared::TooWide),
+        Outcome::Absurd(weights) => {
+            let once = refuted_once(alloc, &together, &weights)?;
+            Ok(Prepared::Absurd(once))
+        }
+        Outcome::Holds(grown) => with_values(alloc, together, terms, grown),
+    }
+}
+
+impl SolvedRows {
+    /// The rows, in order.
+    pub fn rows(&self) -> &[Row]
+        ensures { result.now ≡ self.now }
+    {
+        &self.rows
+    }
+
+    /// Values that satisfy every row.
+    pub fn values(&self) -> &Values
+        ensures { AreValuesOf (all_seen self.now) result.now }
+    {
+        &self.values
+    }
+
+    /// The same rows, solved.
+    pub fn copied(&self, alloc: Global) -> Result<SolvedRows, AllocError>
+        ensures { IfOk result (λ s. s ≡ self.now) }
+    {
+        let terms = Vec::from_slice(alloc, &self.terms)?;
+        let pairs = Vec::from_slice(alloc, self.values.items())?;
+        let rows = copies_of_rows(alloc, &self.rows)?;
+        let solved = self.solved.copied(alloc)?;
+        Ok(SolvedRows {
+            rows,
+            terms,
+            solved,
+            values: Values::new(pairs),
+        })
+    }
+
+    /// [`decide`] of the rows and more behind them, from the solved table; the rows stay as they
+    /// are. Where `more` has over 8 terms that no row here has, all rows are decided from nothing.
+    pub fn decide_with(&self, alloc: Global, more: &[Row]) -> Result<Verdict, AllocError>
+        requires few { length (self.now ++ more.now) ≤ 4096 }
+        requires coefficients { IsTrue (all_small (self.now ++ more.now)) }
+        ensures verdict { IfOk result (IsVerdict (all_seen (self.now ++ more.now))) }
+        ensures holds { IfOk result (λ v. ¬ IsWide (all_seen (self.now ++ more.now))
+            → HasSolution (all_seen (self.now ++ more.now)) → IsHolds v) }
+        ensures absurd { IfOk result (λ v. ¬ IsWide (all_seen (self.now ++ more.now))
+            → ¬ HasSolution (all_seen (self.now ++ more.now)) → IsAbsurd v) }
+    {
+        let verdict = decided_with(alloc, &self.rows, &self.terms, &self.solved, more)?;
+        Ok(verdict)
+    }
+
+    /// [`prepare`] of the rows and more behind them, from the solved table; the rows stay as they
+    /// are. Where `more` has over 8 terms that no row here has, all rows are solved from nothing.
+    pub fn with(&self, alloc: Global, more: &[Row]) -> Result<Prepared, AllocError>
+        requires few { length (self.now ++ more.now) ≤ 4096 }
+        requires coefficients { IsTrue (all_small (self.now ++ more.now)) }
+        ensures { IfOk result (IsPrepared (self.now ++ more.now)) }
+    {
+        let prepared = prepared_with(alloc, &self.rows, &self.terms, &self.solved, more)?;
+        Ok(prepared)
+    }
+}
