@@ -1,4 +1,4 @@
-// States that a context holds.
+//! States that a context holds.
 
 use e_literal::Scope;
 use e_metric::MetricFacts;

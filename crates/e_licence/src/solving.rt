@@ -1,4 +1,4 @@
-// What is known of facts before they are asked about.
+//! What is known of facts before they are asked about.
 
 ghost use Rattle.std.specs.Prelude.{ℕ, List, IfOk, IfSome};
 ghost use Rattle.e_literal.specs.declared.literal.Lit.{Lit};

@@ -1,4 +1,4 @@
-// Values of the terms of a step.
+//! Values of the terms of a step.
 
 ghost use Rattle.std.specs.Prelude.{◌≡◌, ℕ, ◌++◌, [], ◌∷◌, map, option_copied, IsTrue, IfOk, OnOk};
 ghost use Rattle.std.specs.List.{list_all};

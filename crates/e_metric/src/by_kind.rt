@@ -1,4 +1,4 @@
-// One thing for each kind of magnitude.
+//! One thing for each kind of magnitude.
 
 ghost use Rattle.std.specs.Prelude.{◌≡◌};
 ghost use Rattle.e_metric.specs.inner.ByKind.{at_kind};

@@ -1,4 +1,4 @@
-// Certificates from multipliers of the rows of a system.
+//! Certificates from multipliers of the rows of a system.
 
 ghost use Rattle.std.specs.Prelude.{◌≡◌, ℕ, ◌+◌, ◌<◌, ◌≤◌, ◌^◌, ◌++◌, ◌∷◌, [], length, get_or, set, pos, unsigned_abs, IfOk, OnOk, IsTrue};
 ghost use Rattle.e_literal.specs.Absurd;

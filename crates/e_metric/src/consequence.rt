@@ -1,4 +1,4 @@
-// Whether a metric literal follows from the facts of a step, and whether they contradict each other.
+//! Whether a metric literal follows from the facts of a step, and whether they contradict each other.
 
 ghost use Rattle.std.specs.Prelude.{◌≡◌, ◌⊎◌, ◌≤◌, [], ◌∷◌, length, map, option_copied, IsTrue, IfOk, Some, None};
 ghost use Rattle.std.specs.List.{list_all};

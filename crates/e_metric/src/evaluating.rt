@@ -1,4 +1,4 @@
-// Rows under values of their terms.
+//! Rows under values of their terms.
 
 ghost use Rattle.std.specs.Prelude.{◌≡◌, true, IfSome, IfOk};
 ghost use Rattle.e_literal.specs.Solution;

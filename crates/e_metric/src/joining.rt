@@ -1,4 +1,4 @@
-// The difference of two sums, in which each term occurs once.
+//! The difference of two sums, in which each term occurs once.
 
 ghost use Rattle.std.specs.Prelude.{◌≡◌, ◌+◌, ◌<◌, ◌≤◌, ◌^◌, length, pos, OnOk, IfOk};
 ghost use Rattle.e_literal.specs.Same.{one_term, coeff_of};

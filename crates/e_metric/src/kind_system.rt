@@ -1,4 +1,4 @@
-// The system of the facts of one kind.
+//! The system of the facts of one kind.
 
 ghost use Rattle.std.specs.Prelude.{◌≡◌, ◌≤◌, ◌++◌, length, take, flat_map, true, IsTrue, IfOk, MatchOption, Some, None};
 ghost use Rattle.std.specs.List.{list_all};

@@ -1,4 +1,4 @@
-// The limits of facts and goals, as tests.
+//! The limits of facts and goals, as tests.
 
 ghost use Rattle.std.specs.Prelude.{◌≡◌, ◌<◌, ◌≤◌, ◌^◌, ◌&&◌, length, min, nat_le, Some};
 ghost use Rattle.std.specs.List.{list_all};

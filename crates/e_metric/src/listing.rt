@@ -1,4 +1,4 @@
-// The terms of the literals of a kind.
+//! The terms of the literals of a kind.
 
 ghost use Rattle.std.specs.Prelude.{◌≡◌, ◌≤◌, ◌++◌, ◌∷◌, [], length, map, drop, option_copied, OnOk, IfOk};
 ghost use Rattle.e_literal.specs.Rows;

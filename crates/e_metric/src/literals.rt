@@ -1,4 +1,4 @@
-// Rows of metric literals.
+//! Rows of metric literals.
 
 ghost use Rattle.std.specs.Prelude.{◌≡◌, ◌+◌, ◌≤◌, ◌++◌, length, IfOk, IsTrue};
 ghost use Rattle.std.specs.List.{list_all};

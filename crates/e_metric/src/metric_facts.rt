@@ -1,4 +1,4 @@
-// What is solved of the facts of a step, kind by kind, from as many of them as were asked about.
+//! What is solved of the facts of a step, kind by kind, from as many of them as were asked about.
 
 ghost use Rattle.std.specs.Prelude.{◌≡◌, ◌≤◌, [], length, take, true, option_copied, IsTrue, IfOk, IfSome, MatchOption, List, Some, None};
 ghost use Rattle.std.specs.List.{list_all};

@@ -1,4 +1,4 @@
-// The facts of one kind, whose rows have a solution, and the answers on goals from there.
+//! The facts of one kind, whose rows have a solution, and the answers on goals from there.
 
 ghost use Rattle.std.specs.Prelude.{◌≡◌, ◌≤◌, ◌++◌, length, option_copied, IsTrue, IfOk, OnOk, Some};
 ghost use Rattle.std.specs.List.{list_all};

@@ -1,4 +1,4 @@
-// The facts of a step, and what is solved of their magnitudes.
+//! The facts of a step, and what is solved of their magnitudes.
 
 ghost use Rattle.std.specs.Prelude.{◌≡◌};
 ghost use Rattle.e_metric.specs.Fronts.{AreFronts};

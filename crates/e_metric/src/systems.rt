@@ -1,4 +1,4 @@
-// The metric systems.
+//! The metric systems.
 
 ghost use Rattle.std.specs.Prelude.{◌≡◌, ◌≤◌, ◌∷◌, [], true, length, drop, option_copied, flat_map, IfOk, OnOk, IsTrue, Some};
 ghost use Rattle.std.specs.Option.{option_map_or};

@@ -1,4 +1,4 @@
-// The conditions of a search, as tests.
+//! The conditions of a search, as tests.
 
 ghost use Rattle.std.specs.Prelude.{◌≡◌};
 ghost use Rattle.e_clause.specs.Judged;

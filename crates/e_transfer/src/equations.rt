@@ -1,4 +1,4 @@
-// What a goal says of the variables of a rule.
+//! What a goal says of the variables of a rule.
 
 ghost use Rattle.std.specs.Prelude.{◌≡◌, ◌+◌, ◌∷◌, [], IfOk};
 ghost use Rattle.e_clause.specs.Views.{atom_of, row_of};

@@ -1,4 +1,4 @@
-// Whether a literal is a transfer consequence.
+//! Whether a literal is a transfer consequence.
 
 ghost use Rattle.std.specs.Prelude.{IfOk, IsTrue, IsFalse};
 ghost use Rattle.e_literal.specs.Facts.{has};

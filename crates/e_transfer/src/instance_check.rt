@@ -1,4 +1,4 @@
-// Whether one instance gives the goal, and why.
+//! Whether one instance gives the goal, and why.
 
 ghost use Rattle.std.specs.Prelude.{◌≡◌, ◌++◌, ◌∷◌, [], IfOk, OnOk, IsTrue, Some, true};
 ghost use Rattle.std.specs.List.{list_all};

@@ -1,4 +1,4 @@
-// The search at one place of a clause.
+//! The search at one place of a clause.
 
 ghost use Rattle.std.specs.Prelude.{◌≡◌, ◌<◌, List, length, slice_get, true, false, slice_index, IfOk, IsTrue, Some};
 ghost use Rattle.e_clause.specs.RuleKinds.{is_transfer};

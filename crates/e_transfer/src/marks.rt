@@ -1,5 +1,5 @@
-// Which relations occur among the facts, and with which sign: what an instance needs of another relation or sign is no
-// fact.
+//! Which relations occur among the facts, and with which sign: what an instance needs of another relation or sign is no
+//! fact.
 
 ghost use Rattle.std.specs.Prelude.{◌≡◌, ◌≢◌, ◌<◌, length, slice_get, IsTrue, Some, true, false};
 ghost use Rattle.e_literal.specs.Literal.{negation};

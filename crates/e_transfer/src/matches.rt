@@ -1,4 +1,4 @@
-// How a goal may match a place of a clause, and what it says of the variables then.
+//! How a goal may match a place of a clause, and what it says of the variables then.
 
 ghost use Rattle.std.specs.Prelude.{◌≡◌, ◌⊎◌, ◌++◌, map, if◌then◌else◌, option_to_list, IfOk, OnOk, IsTrue, [], ◌∷◌};
 ghost use Rattle.e_literal.specs.Literal.{negation};

@@ -1,4 +1,4 @@
-// In which order the variables of a rule are chosen, and from which numbers.
+//! In which order the variables of a rule are chosen, and from which numbers.
 
 ghost use Rattle.std.specs.Prelude.{◌≡◌, ◌<◌, ◌++◌, map, ◌==◌, IfOk, OnOk, IsTrue, length, slice_index, nat_lt};
 ghost use Rattle.std.specs.List.{list_all};

@@ -1,4 +1,4 @@
-// What is made of the facts of a step once, for all goals that are searched for by sums.
+//! What is made of the facts of a step once, for all goals that are searched for by sums.
 
 ghost use Rattle.std.specs.Prelude.{◌≡◌, ◌≤◌, length, IsTrue, IfOk};
 ghost use Rattle.std.specs.List.{list_all};

@@ -1,4 +1,4 @@
-// What is searched for, and by what.
+//! What is searched for, and by what.
 
 ghost use Rattle.std.specs.Prelude.{◌≡◌, IsTrue, option_copied, not, ◌||◌, true, false};
 ghost use Rattle.std.specs.Option.{ForSome};

@@ -1,4 +1,4 @@
-// The search through all places of all transfer clauses.
+//! The search through all places of all transfer clauses.
 
 ghost use Rattle.std.specs.Prelude.{◌≡◌, ◌<◌, ◌+◌, length, slice_get, IfOk, IsTrue, Some};
 ghost use Rattle.e_clause.specs.Instance.{clause_of};

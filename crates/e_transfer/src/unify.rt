@@ -1,4 +1,4 @@
-// The binding of each variable.
+//! The binding of each variable.
 
 ghost use Rattle.std.specs.Prelude.{◌≡◌, ◌<◌, ℕ, IfOk, slice_set, length};
 ghost use Rattle.e_transfer.specs.inner.Bindings;

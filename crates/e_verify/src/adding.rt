@@ -1,4 +1,4 @@
-// How rows are added up.
+//! How rows are added up.
 
 ghost use Rattle.std.specs.Prelude.{◌≡◌, ◌≤◌, ◌^◌, ◌++◌, IsTrue, OnOk, pos, neg_ℤ, ◌+ℤ◌, ◌*ℤ◌, unsigned_abs, if◌then◌else◌};
 ghost use Rattle.e_literal.specs.Rows;

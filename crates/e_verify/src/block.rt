@@ -1,4 +1,4 @@
-// Checking a block line by line, with the blocks inside it.
+//! Checking a block line by line, with the blocks inside it.
 
 ghost use Rattle.std.specs.Prelude.{◌≡◌, ◌+◌, ◌<◌, ◌^◌, IfOk, IfErr, OnOk, IsTrue, IsFalse, Ok};
 ghost use Rattle.std.specs.List.{list_all};

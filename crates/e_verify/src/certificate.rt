@@ -1,4 +1,4 @@
-// What one certificate certifies.
+//! What one certificate certifies.
 
 ghost use Rattle.std.specs.Prelude.{◌≡◌, IfOk, IsTrue};
 ghost use Rattle.std.specs.List.{list_all};

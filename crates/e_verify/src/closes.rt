@@ -1,4 +1,4 @@
-// Closes without blocks inside: whether one is certified.
+//! Closes without blocks inside: whether one is certified.
 
 ghost use Rattle.std.specs.Prelude.{◌≡◌, List, IfOk, IsTrue, map, true};
 ghost use Rattle.std.specs.List.{list_all};

@@ -1,4 +1,4 @@
-// What is left of an inner block that has its places.
+//! What is left of an inner block that has its places.
 
 ghost use Rattle.std.specs.Prelude.{◌≡◌, IfOk, OnOk};
 ghost use Rattle.e_literal.specs.Facts.{joined_all};

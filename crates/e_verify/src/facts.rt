@@ -1,4 +1,4 @@
-// The facts before a line.
+//! The facts before a line.
 
 ghost use Rattle.std.specs.Prelude.{◌≡◌, ◌≤◌, [], take, length, slice_get, OnOk};
 ghost use Rattle.std.specs.List.{list_any, position};

@@ -1,4 +1,4 @@
-// Terms as numbers, which are compared at once.
+//! Terms as numbers, which are compared at once.
 
 ghost use Rattle.std.specs.Prelude.{◌≡◌, IsTrue};
 ghost use Rattle.e_verify.specs.inner.Fingerprint.{placed};

@@ -1,4 +1,4 @@
-// What a metric certificate shows.
+//! What a metric certificate shows.
 
 ghost use Rattle.std.specs.Prelude.{◌≡◌, IfOk, IfSome, IsTrue, true, option_and_then, if◌then◌else◌, Some, None};
 ghost use Rattle.std.specs.Option.{option_map, option_map_or, option_copied};

@@ -1,4 +1,4 @@
-// Certificates with the places of the facts that they cite, in place of the literals.
+//! Certificates with the places of the facts that they cite, in place of the literals.
 
 ghost use Rattle.std.specs.Prelude.{◌≡◌, ◌<◌, ◌++◌, ◌^◌, IfOk, OnOk, false};
 ghost use Rattle.e_literal.specs.Same.{coeff_of, agree_at, one_term};

@@ -1,4 +1,4 @@
-// Why a derivation is refused.
+//! Why a derivation is refused.
 
 ghost use Rattle.std.specs.Prelude.{◌≡◌};
 ghost use Rattle.e_verify.specs.declared.reject.Reject.TheVariants.{NoMemory};

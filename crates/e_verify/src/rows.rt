@@ -1,4 +1,4 @@
-// The rows that a sum names.
+//! The rows that a sum names.
 
 ghost use Rattle.std.specs.Prelude.{◌≡◌, IfSome, IsTrue, true};
 ghost use Rattle.std.specs.Option.{option_map, option_map_or, option_copied};

@@ -1,4 +1,4 @@
-// What holds before a line, and after it.
+//! What holds before a line, and after it.
 
 ghost use Rattle.std.specs.Prelude.{◌≡◌, OnOk};
 ghost use Rattle.e_literal.specs.Literal.{negation};

@@ -1,4 +1,4 @@
-// Steps without a block inside: whether one is certified, and what holds after it.
+//! Steps without a block inside: whether one is certified, and what holds after it.
 
 ghost use Rattle.std.specs.Prelude.{◌≡◌, ◌&&◌, ℕ, List, IfOk, IsTrue, Some, None, if◌then◌else◌, true};
 ghost use Rattle.std.specs.List.{list_all};

@@ -1,4 +1,4 @@
-// Sums of rows, and when they are absurd.
+//! Sums of rows, and when they are absurd.
 
 ghost use Rattle.std.specs.Prelude.{◌≡◌, IfOk, IsTrue};
 ghost use Rattle.std.specs.List.{list_all};

@@ -1,4 +1,4 @@
-// Sums of forms, term by term. A term is kept as its key, so that two are compared at once.
+//! Sums of forms, term by term. A term is kept as its key, so that two are compared at once.
 
 ghost use Rattle.std.specs.Prelude.{◌≡◌, ◌≤◌, ◌<◌, ◌+◌, ◌^◌, ◌↔◌, IsTrue, OnOk, [], ◌∷◌, pos, ◌+ℤ◌, ◌*ℤ◌, unsigned_abs, length};
 ghost use Rattle.std.specs.List.{list_all};

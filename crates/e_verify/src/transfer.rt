@@ -1,4 +1,4 @@
-// What a transfer certificate certifies.
+//! What a transfer certificate certifies.
 
 ghost use Rattle.std.specs.Prelude.{◌≡◌, IfOk, IsTrue, map};
 ghost use Rattle.std.specs.List.{list_all};
