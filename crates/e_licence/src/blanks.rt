@@ -29,8 +29,8 @@ pub enum Filled {
     Found(Items<Obj>),
     /// No choice is good.
     None,
-    /// Under a choice that is not above the least good one, if there is one, a given literal is wide, and this is the width
-    /// of one of its systems.
+    /// Under a choice that is not above the least good one, if there is one, a given literal is
+    /// wide, and this is the width of one of its systems.
     TooWide(u128),
 }
 
@@ -49,13 +49,16 @@ pub struct Blanks<'a> {
     ghost fits: { IsTrue (is_pattern (stated statement.now) context.now.scope pattern.now) },
 }
 
-/// The least good choice for the blanks of an application of the statement: arguments that agree with the pattern, with
-/// which each given literal is allowed, compared in declared order by the objects' numbers.
+/// The least good choice for the blanks of an application of the statement: arguments that agree
+/// with the pattern, with which each given literal is allowed, compared in declared order by the
+/// objects' numbers.
 ///
-/// The blanks are filled in declared order, the lowest number first, and a choice is given up at the first given literal
-/// that is not allowed, as soon as its objects are known. It fails only out of memory.
+/// The blanks are filled in declared order, the lowest number first, and a choice is given up at
+/// the first given literal that is not allowed, as soon as its objects are known. It fails only out
+/// of memory.
 ///
-/// Questions begin where the context has solved its facts: [`Context::solve`] before it is worth it.
+/// Questions begin where the context has solved its facts: [`Context::solve`] before it is worth
+/// it.
 pub fn match_blanks(
     alloc: Global,
     context: &Context,
@@ -176,7 +179,8 @@ pub fn has_empty(spans: &[Span]) -> bool
     spans.iter().any(|span| span.to == 0)
 }
 
-/// The arguments by the first numbers of a choice; where none is left, objects that are not in scope.
+/// The arguments by the first numbers of a choice; where none is left, objects that are not in
+/// scope.
 #[tactic(auto, using(crate::proofs::BlankChoices::ending))]
 pub fn arguments(
     alloc: Global,
@@ -261,7 +265,8 @@ impl<'a> Blanks<'a> {
         }
     }
 
-    /// Licenses the given literals whose objects are all known now, and were not before, up to the first that is not allowed.
+    /// Licenses the given literals whose objects are all known now, and were not before, up to the
+    /// first that is not allowed.
     fn license_all(
         &self,
         alloc: Global,

@@ -20,10 +20,11 @@ use std::alloc::{AllocError, Global};
 use std::marker::Model;
 use std::mem;
 
-/// The objects in scope and the facts, which are in scope, well formed and not too many; and the states that are held, each
-/// with the objects and the facts of its time, the last one last.
+/// The objects in scope and the facts, which are in scope, well formed and not too many; and the
+/// states that are held, each with the objects and the facts of its time, the last one last.
 ///
-/// What is solved of the facts' magnitudes is kept beside them, and grows with them. Contracts see nothing of it.
+/// What is solved of the facts' magnitudes is kept beside them, and grows with them. Contracts see
+/// nothing of it.
 #[derive(Drop)]
 pub struct Context {
     scope: Scope,
@@ -151,8 +152,8 @@ impl Context {
         Ok(())
     }
 
-    /// The last held state is the present one again, and is held no more: the objects and the facts that came after it are
-    /// gone. It takes no memory.
+    /// The last held state is the present one again, and is held no more: the objects and the facts
+    /// that came after it are gone. It takes no memory.
     pub fn release(&mut self)
         requires { 0 < length self.old.held }
         ensures { IsReleased self.old self.new }
@@ -182,8 +183,8 @@ impl Context {
         brought
     }
 
-    /// Whether the literal is allowed, as [`licence`] answers. Each kind of magnitude is solved where it is first asked, and
-    /// what is solved is kept.
+    /// Whether the literal is allowed, as [`licence`] answers. Each kind of magnitude is solved
+    /// where it is first asked, and what is solved is kept.
     ///
     /// [`licence`]: crate::licensing::licence
     pub fn licence(&mut self, alloc: Global, lit: &Lit) -> Result<Licensed, AllocError>
@@ -201,8 +202,8 @@ impl Context {
         licensed
     }
 
-    /// Whether the facts contradict each other, as [`against`] answers. No more kinds of magnitude are solved than needed, and
-    /// what is solved is kept.
+    /// Whether the facts contradict each other, as [`against`] answers. No more kinds of magnitude
+    /// are solved than needed, and what is solved is kept.
     ///
     /// [`against`]: crate::contradiction::against
     pub fn against(&mut self, alloc: Global) -> Result<Refuted, AllocError>

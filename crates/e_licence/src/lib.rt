@@ -1,5 +1,6 @@
-//! The licence of one step: whether a literal is allowed by the facts in a scope, or the facts contradict each other, and
-//! why, and how the blanks of an application are filled; or that it cannot be decided, since a linear system of the step is wide.
+//! The licence of one step: whether a literal is allowed by the facts in a scope, or the facts
+//! contradict each other, and why, and how the blanks of an application are filled; or that it
+//! cannot be decided, since a linear system of the step is wide.
 #![tactic(auto)]
 
 mod blanks;

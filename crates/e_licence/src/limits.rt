@@ -40,7 +40,8 @@ fn are_in_scope(scope: Scope, facts: &Facts) -> bool
     true
 }
 
-/// Whether the given literals name declared objects alone, the shown ones declared and made ones, and all are well formed.
+/// Whether the given literals name declared objects alone, the shown ones declared and made ones,
+/// and all are well formed.
 pub fn is_statement(statement: &Statement) -> bool
     requires { length statement.now.declared + length statement.now.made < 2 ^ 16 }
     ensures { result ≡ Use.is_statement (stated statement.now) }

@@ -9,8 +9,8 @@ use crate::held::Held;
 use e_metric::MetricFacts;
 use std::alloc::{AllocError, Global};
 
-/// What is known of the first facts: what is solved of them, or else a copy of what was solved where the last state was held,
-/// since that has to be there again when the state is released.
+/// What is known of the first facts: what is solved of them, or else a copy of what was solved
+/// where the last state was held, since that has to be there again when the state is released.
 pub fn metric_facts_before(
     alloc: Global,
     own: Option<MetricFacts>,

@@ -36,9 +36,10 @@ fn found_one(
     Ok(Swept::Done)
 }
 
-/// Finds all choices that begin with `chosen`, go on with one number of each span, and whose parts are all kept, in order,
-/// until there would be more than `most` in all; a wanted choice is always kept. `chosen` is then what it was. Where a part is
-/// too wide, `chosen` is this part. It fails only out of memory.
+/// Finds all choices that begin with `chosen`, go on with one number of each span, and whose parts
+/// are all kept, in order, until there would be more than `most` in all; a wanted choice is always
+/// kept. `chosen` is then what it was. Where a part is too wide, `chosen` is this part. It fails
+/// only out of memory.
 pub fn sweep<T: Task>(
     alloc: Global,
     task: &T,

@@ -126,7 +126,8 @@ fn with_values(alloc: Global, terms: &[Term], values: &ByKind<Values>) -> Result
     Ok(Values::new(pairs))
 }
 
-/// The terms of the step, in their order, with their values, where values of each kind satisfy the rows of its system.
+/// The terms of the step, in their order, with their values, where values of each kind satisfy the
+/// rows of its system.
 pub fn counterexample(
     alloc: Global,
     facts: &Facts,

@@ -85,7 +85,8 @@ fn use_row(
     Ok(())
 }
 
-// The rows whose weight is not 0, and these weights: mostly few of many, and only these count for what is left of a term.
+// The rows whose weight is not 0, and these weights: mostly few of many, and only these count for
+// what is left of a term.
 fn used(alloc: Global, rows: &[Row], weights: &[i128]) -> Result<(Vec<Row>, Vec<i128>), AllocError>
     requires { length weights.now ≡ length rows.now }
     ensures { IfOk result (λ u. (u.0.items ≡ Certificate.used_rows rows.now weights.now) × (u.1.items ≡ Certificate.used_weights rows.now weights.now)) }
@@ -98,7 +99,8 @@ fn used(alloc: Global, rows: &[Row], weights: &[i128]) -> Result<(Vec<Row>, Vec<
     Ok((used, by))
 }
 
-// Where less than nothing is left of a term, adds as many times the row that says that it is at least 0.
+// Where less than nothing is left of a term, adds as many times the row that says that it is at
+// least 0.
 fn add_leasts_of(
     sum: &mut Vec<(i128, RowName)>,
     rows: &[Row],
@@ -132,7 +134,8 @@ fn add_leasts(
     add_leasts_of(sum, &used, &by, terms)
 }
 
-// The sum of the rows with these multipliers, and of what brings each term to 0, where it is weighed by these weights.
+// The sum of the rows with these multipliers, and of what brings each term to 0, where it is
+// weighed by these weights.
 fn sum_of(
     alloc: Global,
     names: &[RowName],

@@ -1,4 +1,5 @@
-//! Whether a metric literal follows from the facts of a step, and whether they contradict each other.
+//! Whether a metric literal follows from the facts of a step, and whether they contradict each
+//! other.
 
 ghost use Rattle.std.specs.Prelude.{◌≡◌, ◌⊎◌, ◌≤◌, [], ◌∷◌, length, map, option_copied, IsTrue, IfOk, Some, None};
 ghost use Rattle.std.specs.List.{list_all};
@@ -31,7 +32,8 @@ use std::mem;
 pub enum Metric {
     /// The literal follows from the facts, or the facts contradict each other, by this certificate.
     Yes(MetricCert),
-    /// It does not: with these values of the terms of the step the facts are true, and the literal is false.
+    /// It does not: with these values of the terms of the step the facts are true, and the literal
+    /// is false.
     No(Values),
     /// One of the systems is wide, and has this width.
     TooWide(u128),
@@ -266,11 +268,12 @@ fn answer(
     }
 }
 
-/// Whether the metric literal follows from the facts: whether each admissible assignment that makes the metric facts true
-/// makes it true. `Yes` with a certificate that names no objects but those of the facts and of the goal; `No` with values
-/// for the terms of the step with which the facts are true and the goal is false; `TooWide` with the width of one of
-/// the systems, only where some minor of its rows has size at least 2^63. Facts that contradict each other in any kind
-/// give every metric literal.
+/// Whether the metric literal follows from the facts: whether each admissible assignment that makes
+/// the metric facts true makes it true. `Yes` with a certificate that names no objects but those of
+/// the facts and of the goal; `No` with values for the terms of the step with which the facts are
+/// true and the goal is false; `TooWide` with the width of one of the systems, only where some
+/// minor of its rows has size at least 2^63. Facts that contradict each other in any kind give
+/// every metric literal.
 ///
 /// [`are_few_facts`] and [`is_good_goal`] test the conditions.
 ///
@@ -288,8 +291,8 @@ pub fn follows(alloc: Global, facts: &Facts, goal: &Lit) -> Result<Metric, Alloc
     answer(alloc, which, facts, Some(goal))
 }
 
-/// Whether the metric facts contradict each other: whether no admissible assignment makes them all true. The answers
-/// are those of [`follows`], with no goal.
+/// Whether the metric facts contradict each other: whether no admissible assignment makes them all
+/// true. The answers are those of [`follows`], with no goal.
 pub fn absurd(alloc: Global, facts: &Facts) -> Result<Metric, AllocError>
     requires facts { IsTrue (list_all is_well_formed facts.now) }
     requires few { length (terms_of_lits facts.now) ≤ 1100 }

@@ -82,7 +82,8 @@ impl KindSystem {
         }
     }
 
-    /// The answer where a literal of this kind is wanted. Facts with a wide system are asked anew, with the literal.
+    /// The answer where a literal of this kind is wanted. Facts with a wide system are asked anew,
+    /// with the literal.
     pub fn ask(
         &self,
         alloc: Global,
@@ -136,8 +137,9 @@ impl KindSystem {
         }
     }
 
-    /// What is solved of the facts, where this is that of the first `from` of them. None: the others change nothing. Facts that
-    /// contradict each other stay so, and facts with a wide system are asked from nothing.
+    /// What is solved of the facts, where this is that of the first `from` of them. None: the
+    /// others change nothing. Facts that contradict each other stay so, and facts with a wide
+    /// system are asked from nothing.
     pub fn grown(
         &self,
         alloc: Global,
@@ -162,8 +164,9 @@ impl KindSystem {
     }
 }
 
-// What is solved of the facts, where the first `from` of them have this solved system. None: the solved system is that of all. Where a term
-// that was there brings a row by a new fact, the rows are settled from nothing: it would occur among the others.
+// What is solved of the facts, where the first `from` of them have this solved system. None: the
+// solved system is that of all. Where a term that was there brings a row by a new fact, the rows
+// are settled from nothing: it would occur among the others.
 fn grown(
     alloc: Global,
     solved_system: &SolvedSystem,
@@ -193,7 +196,8 @@ fn are_none(named: &[(RowName, Row)], terms: &[Term]) -> bool
     named.is_empty() && terms.is_empty()
 }
 
-// The same, where the terms bring no more rows than before: the rows of the other facts come after them.
+// The same, where the terms bring no more rows than before: the rows of the other facts come after
+// them.
 fn with_rest(
     alloc: Global,
     solved_system: &SolvedSystem,

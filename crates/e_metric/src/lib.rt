@@ -1,5 +1,5 @@
-//! Metric consequence: the rows that the facts of a step give for each kind of magnitude, whether a metric literal
-//! follows from them, and why, or values of the terms that show that it does not.
+//! Metric consequence: the rows that the facts of a step give for each kind of magnitude, whether a
+//! metric literal follows from them, and why, or values of the terms that show that it does not.
 #![tactic(auto)]
 
 mod assigning;

@@ -38,8 +38,8 @@ fn are_good_sums(which: Kind, x: &[Mono], y: &[Mono]) -> bool
     1 <= monomials && monomials <= 32 && are_good(which, x) && are_good(which, y)
 }
 
-/// Whether the literal is well formed: a diagram literal, or one with 1 to 32 monomials of one kind with coefficients
-/// from 1 to 1,000,000.
+/// Whether the literal is well formed: a diagram literal, or one with 1 to 32 monomials of one kind
+/// with coefficients from 1 to 1,000,000.
 pub fn is_well_formed(lit: &Lit) -> bool
     ensures { result ≡ WellFormed.is_well_formed lit.now }
 {

@@ -90,7 +90,8 @@ fn terms_of_facts(alloc: Global, which: Kind, facts: &Facts) -> Result<Vec<Term>
     Ok(terms)
 }
 
-/// The terms of the facts of a kind and of the wanted literal, if it is of the kind, each once, as it is written first.
+/// The terms of the facts of a kind and of the wanted literal, if it is of the kind, each once, as
+/// it is written first.
 #[tactic(auto, using(crate::proofs::FirstTerms::all_terms))]
 pub fn terms_of_kind(
     alloc: Global,

@@ -23,7 +23,8 @@ use e_literal::{Kind, Lit, kind};
 use std::alloc::{AllocError, Global};
 use std::mem;
 
-/// What is solved of the first facts of a kind, as many as were there when it was asked; or nothing yet.
+/// What is solved of the first facts of a kind, as many as were there when it was asked; or nothing
+/// yet.
 #[derive(Drop)]
 pub struct Slot {
     kind_system: Option<KindSystem>,
@@ -70,7 +71,8 @@ impl Slot {
         }
     }
 
-    // Brings what is solved up to all facts. No clause says that it does, since what is there is right in any case.
+    // Brings what is solved up to all facts. No clause says that it does, since what is there is
+    // right in any case.
     fn bring(&mut self, alloc: Global, which: Kind, facts: &Facts) -> Result<(), AllocError>
         requires front { IsFront which facts.now self.old }
         requires facts { IsTrue (list_all is_well_formed facts.now) }
@@ -196,9 +198,9 @@ impl Slot {
     }
 }
 
-/// What is solved of the facts of a step. Each kind is solved where it is first asked, and brought up to the facts
-/// that have come since where it is asked again. What a refused call leaves is right for the same facts, and so is what
-/// facts leave that come later.
+/// What is solved of the facts of a step. Each kind is solved where it is first asked, and brought
+/// up to the facts that have come since where it is asked again. What a refused call leaves is
+/// right for the same facts, and so is what facts leave that come later.
 #[derive(Drop)]
 pub struct MetricFacts {
     systems: ByKind<Slot>,
@@ -260,7 +262,8 @@ impl MetricFacts {
         self.bring(alloc, Kind::Area, facts)
     }
 
-    /// Forgets what is solved of more than the first `count` facts, where the others are taken away.
+    /// Forgets what is solved of more than the first `count` facts, where the others are taken
+    /// away.
     pub fn back_to(&mut self, count: usize)
         ensures { (facts : List Lit) → count ≤ length facts → AreFronts facts self.old → AreFronts (take count facts) self.new }
     {
@@ -269,8 +272,8 @@ impl MetricFacts {
         self.systems.areas.back_to(count);
     }
 
-    /// The same of the same facts: where a block of a proof begins, so that what is solved of the facts before it is there again
-    /// after it.
+    /// The same of the same facts: where a block of a proof begins, so that what is solved of the
+    /// facts before it is there again after it.
     pub fn copied(&self, alloc: Global) -> Result<MetricFacts, AllocError>
         ensures { IfOk result (λ m. (facts : List Lit) → AreFronts facts self.now → AreFronts facts m) }
     {
@@ -462,9 +465,10 @@ impl MetricFacts {
         }
     }
 
-    /// Whether the metric literal follows from the facts: the answers are those of [`follows`]. Of the kinds that the goal
-    /// is not of the answer is known, where they were brought up to the facts. The goal's own system is asked only where
-    /// the goal is true with the values that the facts have already, and from there.
+    /// Whether the metric literal follows from the facts: the answers are those of [`follows`]. Of
+    /// the kinds that the goal is not of the answer is known, where they were brought up to the
+    /// facts. The goal's own system is asked only where the goal is true with the values that the
+    /// facts have already, and from there.
     ///
     /// [`follows`]: crate::consequence::follows
     pub fn follows(&self, alloc: Global, facts: &Facts, goal: &Lit) -> Result<Metric, AllocError>
@@ -509,8 +513,8 @@ impl MetricFacts {
         }
     }
 
-    /// The same as [`MetricFacts::follows`], where each kind is first brought up to the facts, but only if it is asked: a
-    /// goal that follows by its own kind asks no other.
+    /// The same as [`MetricFacts::follows`], where each kind is first brought up to the facts, but
+    /// only if it is asked: a goal that follows by its own kind asks no other.
     pub fn follows_in_turn(
         &mut self,
         alloc: Global,
@@ -530,8 +534,8 @@ impl MetricFacts {
         self.follows_in_turn_of(alloc, which, facts, goal)
     }
 
-    /// A certificate of the goal by the facts of its own kind, where they give it. That kind is brought up to the facts, and no
-    /// other is asked.
+    /// A certificate of the goal by the facts of its own kind, where they give it. That kind is
+    /// brought up to the facts, and no other is asked.
     pub fn certificate_by_kind(
         &mut self,
         alloc: Global,
@@ -578,7 +582,8 @@ impl MetricFacts {
         }
     }
 
-    /// Whether the metric facts contradict each other, which is known of the kinds that were brought up to the facts.
+    /// Whether the metric facts contradict each other, which is known of the kinds that were
+    /// brought up to the facts.
     pub fn absurd(&self, alloc: Global, facts: &Facts) -> Result<Metric, AllocError>
         requires fronts { AreFronts facts.now self.now }
         requires facts { IsTrue (list_all is_well_formed facts.now) }
@@ -590,7 +595,8 @@ impl MetricFacts {
         self.answer_of_facts(alloc, facts)
     }
 
-    // Brings a kind up to the facts: the certificate that its facts contradict each other, if they do.
+    // Brings a kind up to the facts: the certificate that its facts contradict each other, if they
+    // do.
     fn contradiction_of(
         &mut self,
         alloc: Global,
@@ -607,7 +613,8 @@ impl MetricFacts {
         self.systems.get(which).contradiction(alloc, which, facts)
     }
 
-    // The certificate that the facts of a kind contradict each other, of the first kind that has one.
+    // The certificate that the facts of a kind contradict each other, of the first kind that has
+    // one.
     fn first_contradiction(
         &mut self,
         alloc: Global,
@@ -646,8 +653,8 @@ impl MetricFacts {
         }
     }
 
-    /// The same as [`MetricFacts::absurd`], where each kind is first brought up to the facts, but only until one
-    /// contradicts itself.
+    /// The same as [`MetricFacts::absurd`], where each kind is first brought up to the facts, but
+    /// only until one contradicts itself.
     pub fn absurd_in_turn(&mut self, alloc: Global, facts: &Facts) -> Result<Metric, AllocError>
         requires fronts { AreFronts facts.now self.old }
         requires facts { IsTrue (list_all is_well_formed facts.now) }

@@ -200,8 +200,8 @@ impl SolvedSystem {
         }
     }
 
-    /// The answer of the system of the facts and the goal. Where the goal is false with the values that the facts have
-    /// already, no linear question is asked.
+    /// The answer of the system of the facts and the goal. Where the goal is false with the values
+    /// that the facts have already, no linear question is asked.
     pub fn ask(
         &self,
         alloc: Global,

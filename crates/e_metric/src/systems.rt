@@ -193,9 +193,10 @@ fn add_goal_row(
     }
 }
 
-/// The rows of the metric system of a kind, each with its name: the facts of the kind and the negation of the goal, if
-/// it is of the kind; then, for each of their terms, that it is more than 0 or at most two right; then, for angles, that
-/// right is more than 0. A row whose terms all cancel stays, with an empty form.
+/// The rows of the metric system of a kind, each with its name: the facts of the kind and the
+/// negation of the goal, if it is of the kind; then, for each of their terms, that it is more than
+/// 0 or at most two right; then, for angles, that right is more than 0. A row whose terms all
+/// cancel stays, with an empty form.
 pub fn system(
     alloc: Global,
     which: Kind,
@@ -216,8 +217,8 @@ pub fn system(
     Ok(rows)
 }
 
-/// The rows that a goal adds to those of the facts of its kind, each with its name: that of its negation, and those of
-/// its terms that are none of the facts'.
+/// The rows that a goal adds to those of the facts of its kind, each with its name: that of its
+/// negation, and those of its terms that are none of the facts'.
 pub fn rows_of_goal(
     alloc: Global,
     which: Kind,
@@ -235,8 +236,8 @@ pub fn rows_of_goal(
     Ok(rows)
 }
 
-/// The rows that the facts from a place on add to those of the facts of their kind before them, each with its name: their
-/// own, and those of their terms that are none of the others'.
+/// The rows that the facts from a place on add to those of the facts of their kind before them,
+/// each with its name: their own, and those of their terms that are none of the others'.
 pub fn rows_of_facts(
     alloc: Global,
     which: Kind,

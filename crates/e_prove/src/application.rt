@@ -39,7 +39,8 @@ pub struct Application<'a> {
     pub names: &'a [Name],
 }
 
-/// An application with all its arguments: a certificate for each given literal there, and the shown literals.
+/// An application with all its arguments: a certificate for each given literal there, and the shown
+/// literals.
 #[derive(Drop)]
 pub struct Use {
     pub args: Items<Obj>,
@@ -47,8 +48,9 @@ pub struct Use {
     pub gives: Items<Lit>,
 }
 
-/// An application: each given literal of the statement is allowed at the arguments, where blanks are filled by the least
-/// good choice. The made objects come into scope, and the shown literals are facts.
+/// An application: each given literal of the statement is allowed at the arguments, where blanks
+/// are filled by the least good choice. The made objects come into scope, and the shown literals
+/// are facts.
 #[tactic(auto, unfolding(e_deriv::specs::Script::step_script))]
 pub fn apply(
     alloc: Global,
@@ -136,7 +138,8 @@ fn filled_by_least(
     }
 }
 
-/// The stop of an application at a good choice for its blanks: what is too wide there is a match that is too wide.
+/// The stop of an application at a good choice for its blanks: what is too wide there is a match
+/// that is too wide.
 fn as_match(step_stop: StepStop) -> StepStop
     ensures { result ≡ StopsOfSteps.as_match step_stop }
 {

@@ -37,7 +37,8 @@ pub struct ProvedClose {
     pub next: u32,
 }
 
-/// Licenses a block in its place, where its first step has this number: each step in order, with the blocks inside it.
+/// Licenses a block in its place, where its first step has this number: each step in order, with
+/// the blocks inside it.
 #[cycle(block)]
 pub fn prove_block(
     alloc: Global,

@@ -22,8 +22,8 @@ pub struct Head<'a> {
     pub certs: Vec<Cert>,
 }
 
-/// The block ends, and what it shows are facts where it was entered; hands out equal literals. It fails only out of
-/// memory; no clause says what holds then.
+/// The block ends, and what it shows are facts where it was entered; hands out equal literals. It
+/// fails only out of memory; no clause says what holds then.
 fn show_after(
     alloc: Global,
     shown: &[Lit],

@@ -32,8 +32,8 @@ pub fn licensed(alloc: Global, context: &mut Context, lit: &Lit) -> Result<Cert,
     to_cert(alloc, context, lit, answer)
 }
 
-/// A certificate of each literal, where each is allowed. They are licensed in order, and the first that is not allowed, or
-/// too wide to be decided, stops it.
+/// A certificate of each literal, where each is allowed. They are licensed in order, and the first
+/// that is not allowed, or too wide to be decided, stops it.
 pub fn licences(alloc: Global, context: &mut Context, lits: &[Lit]) -> Result<Vec<Cert>, StepStop>
     requires { IsTrue (are_good context.old.scope lits.now) }
     ensures ok { IfOk result (λ cs. IsTrue (certify_all context.old.scope context.old.facts lits.now cs.items)) }

@@ -35,8 +35,9 @@ fn lines_of(step: &Step) -> u32
     }
 }
 
-/// Licenses the steps of a block that come before the step with this number, where its first step has that one. What
-/// holds is then what holds before the step: the blocks around it are entered, and not left.
+/// Licenses the steps of a block that come before the step with this number, where its first step
+/// has that one. What holds is then what holds before the step: the blocks around it are entered,
+/// and not left.
 #[cycle(reach)]
 pub fn reach(
     alloc: Global,
@@ -128,7 +129,8 @@ fn enter_step(
     }
 }
 
-/// Enters a block of a split, where the step with this number is in it: the second one after the first is licensed.
+/// Enters a block of a split, where the step with this number is in it: the second one after the
+/// first is licensed.
 #[cycle(reach)]
 fn enter_close(
     alloc: Global,
@@ -165,7 +167,8 @@ fn enter_close(
     }
 }
 
-/// Licenses the first block of a split, and begins the second: the negation of the literal is a fact.
+/// Licenses the first block of a split, and begins the second: the negation of the literal is a
+/// fact.
 fn pass_first(
     alloc: Global,
     before: &[Statement],

@@ -67,7 +67,8 @@ pub fn hence(alloc: Global, lit: &Lit, state: &mut StepState) -> Result<Step, St
     }
 }
 
-/// The literal is a fact; hands out an equal one. It fails only out of memory; no clause says what holds then.
+/// The literal is a fact; hands out an equal one. It fails only out of memory; no clause says what
+/// holds then.
 fn assumed(alloc: Global, lit: &Lit, state: &mut StepState) -> Result<Lit, AllocError>
     requires { IsTrue (are_good_facts state.old.context.scope (joined state.old.context.facts lit.now)) }
     ensures lit { IfOk result (λ l. l ≡ lit.now) }
@@ -106,8 +107,8 @@ pub fn make(
     })
 }
 
-/// A superposition before its block: each literal that it needs is allowed. The copied points come into scope, and what it
-/// gives are facts.
+/// A superposition before its block: each literal that it needs is allowed. The copied points come
+/// into scope, and what it gives are facts.
 pub fn superpose(
     alloc: Global,
     form: &Superpose,

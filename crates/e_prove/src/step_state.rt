@@ -27,7 +27,8 @@ pub struct StepState {
 }
 
 impl StepState {
-    /// What holds before the first step of a statement's proof: the declared objects have the first of the names.
+    /// What holds before the first step of a statement's proof: the declared objects have the first
+    /// of the names.
     pub fn first(
         alloc: Global,
         statement: &Statement,
@@ -55,9 +56,9 @@ impl StepState {
         }
     }
 
-    /// A block inside begins: the present state is held, and the names are handed out, which [`StepState::release`] takes back.
-    /// The facts are solved before, since each block inside would have to solve them else. It fails only out of
-    /// memory; no clause says what holds then.
+    /// A block inside begins: the present state is held, and the names are handed out, which
+    /// [`StepState::release`] takes back. The facts are solved before, since each block inside
+    /// would have to solve them else. It fails only out of memory; no clause says what holds then.
     pub fn hold(&mut self, alloc: Global) -> Result<Names, AllocError>
         ensures names { IfOk result (λ names. names ≡ self.old.names) }
         ensures held { OnOk result (self.new ≡ held_at self.old) }
@@ -77,7 +78,8 @@ impl StepState {
         self.names = names;
     }
 
-    /// The block inside ends, and what it shows are facts. It fails only out of memory; no clause says what holds then.
+    /// The block inside ends, and what it shows are facts. It fails only out of memory; no clause
+    /// says what holds then.
     pub fn release_with(
         &mut self,
         alloc: Global,
@@ -101,7 +103,8 @@ impl StepState {
         Ok(())
     }
 
-    /// The negation of the literal is a fact. It fails only out of memory; no clause says what holds then.
+    /// The negation of the literal is a fact. It fails only out of memory; no clause says what
+    /// holds then.
     pub fn assume_not(&mut self, alloc: Global, lit: &Lit) -> Result<(), AllocError>
         requires { IsTrue (are_good_facts self.old.context.scope (joined self.old.context.facts (negation lit.now))) }
         ensures { OnOk result (self.new ≡ after_literal (negation lit.now) self.old) }
@@ -110,8 +113,8 @@ impl StepState {
         Ok(())
     }
 
-    /// New objects of these sorts come into scope, with these names. It fails only out of memory; no clause speaks of
-    /// what holds then.
+    /// New objects of these sorts come into scope, with these names. It fails only out of memory;
+    /// no clause speaks of what holds then.
     pub fn grow(&mut self, sorts: &[Sort], names: &[Name]) -> Result<(), AllocError>
         requires points { self.old.context.scope.points + length sorts.now < 2 ^ 16 }
         requires lines { self.old.context.scope.lines + length sorts.now < 2 ^ 16 }
@@ -124,7 +127,8 @@ impl StepState {
         name_all(&mut self.names, sorts, names)
     }
 
-    /// The literals join the facts, one after the other. It fails only out of memory; no clause says what holds then.
+    /// The literals join the facts, one after the other. It fails only out of memory; no clause
+    /// says what holds then.
     pub fn join(&mut self, lits: Vec<Lit>) -> Result<(), AllocError>
         requires { IsTrue (are_good_facts self.old.context.scope (joined_all self.old.context.facts lits.items)) }
         ensures { OnOk result (self.new ≡ record self.old { context = record self.old.context { facts = joined_all self.old.context.facts lits.items } }) }
@@ -132,8 +136,8 @@ impl StepState {
         join_all(&mut self.context, lits)
     }
 
-    /// Equal literals join the facts, one after the other. It fails only out of memory; no clause says what holds
-    /// then.
+    /// Equal literals join the facts, one after the other. It fails only out of memory; no clause
+    /// says what holds then.
     pub fn join_equal(&mut self, alloc: Global, lits: &[Lit]) -> Result<(), AllocError>
         requires { IsTrue (are_good_facts self.old.context.scope (joined_all self.old.context.facts lits.now)) }
         ensures { OnOk result (self.new ≡ record self.old { context = record self.old.context { facts = joined_all self.old.context.facts lits.now } }) }

@@ -1,4 +1,5 @@
-//! Areas that no fact names: such an area may be of any size, so that it differs from another does not follow.
+//! Areas that no fact names: such an area may be of any size, so that it differs from another does
+//! not follow.
 
 ghost use Rattle.std.specs.Prelude.{◌≡◌, [], ◌∷◌, IfOk, OnOk, IsTrue, MatchOption, map};
 ghost use Rattle.e_clause.specs.Assignment.{terms_of_atom};

@@ -1,4 +1,5 @@
-//! The literals of a clause by their places: the negations of the premises come first, and then the conclusions.
+//! The literals of a clause by their places: the negations of the premises come first, and then the
+//! conclusions.
 
 ghost use Rattle.std.specs.Prelude.{◌≡◌, ◌<◌, length, map, IfOk, slice_get, Some};
 ghost use Rattle.e_clause.specs.Instance.{clause_of, lit_at};

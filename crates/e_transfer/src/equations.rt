@@ -9,7 +9,8 @@ use e_clause::{Row, Shape};
 use e_literal::{Atom, Items, Term};
 use std::alloc::{AllocError, Global};
 
-/// What is known of one variable, or of two. Variables are named by their places among the rule's arguments.
+/// What is known of one variable, or of two. Variables are named by their places among the rule's
+/// arguments.
 #[derive(Clone, Copy, PartialEq, Eq)]
 pub enum Equation {
     /// The variable represents the object with this number.
@@ -69,7 +70,8 @@ fn circle(row: &Row, at: u16, number: u16) -> Equation
     )
 }
 
-/// What a diagram atom says of the variables of a shape, or none where they are of different relations.
+/// What a diagram atom says of the variables of a shape, or none where they are of different
+/// relations.
 pub fn equations_of_atom(
     alloc: Global,
     row: &Row,
@@ -106,7 +108,8 @@ pub fn equations_of_atom(
     Ok(Some(equations?))
 }
 
-/// What a term of points says of the variables of a term, place by place, or none where they are of different kinds.
+/// What a term of points says of the variables of a term, place by place, or none where they are of
+/// different kinds.
 pub fn equations_of_term(
     alloc: Global,
     term: Term,
@@ -131,8 +134,8 @@ fn same(x: u16, y: u16) -> Equation
     Equation::Same(x as usize, y as usize)
 }
 
-/// What it says of the variables of two terms that they are one, place by place, or none where they are of different
-/// kinds.
+/// What it says of the variables of two terms that they are one, place by place, or none where they
+/// are of different kinds.
 pub fn equations_of_terms(
     alloc: Global,
     term: Term,

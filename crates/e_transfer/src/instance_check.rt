@@ -23,7 +23,8 @@ use e_metric::{Metric, follows};
 use std::alloc::{AllocError, Global};
 use std::mem;
 
-/// What is answered on a literal that has a wide system: where only narrow ones are searched for it is passed over.
+/// What is answered on a literal that has a wide system: where only narrow ones are searched for it
+/// is passed over.
 fn too_wide(strength: Strength, width: u128) -> Verdict<Part>
     ensures { result ≡ passed_over strength width }
 {
@@ -54,7 +55,8 @@ fn answer(alloc: Global, query: &Query, need: &Lit) -> Result<Metric, AllocError
     }
 }
 
-/// Why a needed literal holds, or that it does not, or that one of its systems is too wide. A fact holds by itself.
+/// Why a needed literal holds, or that it does not, or that one of its systems is too wide. A fact
+/// holds by itself.
 fn part_of(alloc: Global, query: &Query, need: &Lit) -> Result<Verdict<Part>, AllocError>
     requires well_formed { IsTrue (is_well_formed need.now) }
     requires in_scope { IsTrue (all_in_scope query.now.scope need.now) }
@@ -76,7 +78,8 @@ fn part_of(alloc: Global, query: &Query, need: &Lit) -> Result<Verdict<Part>, Al
     }
 }
 
-/// Why each of the needed literals holds, or that one does not, or that a system of one is too wide.
+/// Why each of the needed literals holds, or that one does not, or that a system of one is too
+/// wide.
 fn parts_of(alloc: Global, query: &Query, needs: &[Lit]) -> Result<Verdict<Items<Part>>, AllocError>
     requires well_formed { IsTrue (list_all is_well_formed needs.now) }
     requires in_scope { IsTrue (list_all (all_in_scope query.now.scope) needs.now) }
@@ -138,8 +141,8 @@ fn are_in_scope(scope: Scope, objects: &[Obj]) -> bool
     objects.iter().all(|o| o.num < count_of(scope, o.sort))
 }
 
-/// Whether the instance at these arguments gives the goal. Metric questions are asked only where all diagram literals
-/// hold.
+/// Whether the instance at these arguments gives the goal. Metric questions are asked only where
+/// all diagram literals hold.
 pub fn check_instance(
     alloc: Global,
     query: &Query,

@@ -26,14 +26,16 @@ use e_literal::{Items, Lit, Obj, Term, is_degenerate, kind, negate, same};
 use std::alloc::{AllocError, Global};
 use std::mem;
 
-/// The instances of a transfer clause that have the goal at one place, with the variables chosen by a plan.
+/// The instances of a transfer clause that have the goal at one place, with the variables chosen by
+/// a plan.
 #[derive(Drop)]
 pub struct InstanceSearch<'a> {
     pub query: Query<'a>,
     pub rule: Rule,
     pub place: usize,
     pub plan: &'a Plan,
-    /// Where the clause says of two areas alone that they are equal, if it does. That is a matter of speed alone.
+    /// Where the clause says of two areas alone that they are equal, if it does. That is a matter
+    /// of speed alone.
     pub areas: Option<usize>,
     ghost transfer: { IsTrue (is_transfer rule) },
 }
@@ -86,7 +88,8 @@ fn is_last(place: usize, length: usize) -> bool
     place < length && place == length - 1
 }
 
-/// Whether what an instance needs may hold: a fact, or a metric literal that is not seen to be false beside true facts.
+/// Whether what an instance needs may hold: a fact, or a metric literal that is not seen to be
+/// false beside true facts.
 fn may_suffice(query: &Query, need: &Lit) -> bool
     ensures { result ≡ false → Suffices query.now.strength query.now.facts.now need.now → ⊥ }
 {
@@ -96,8 +99,8 @@ fn may_suffice(query: &Query, need: &Lit) -> bool
     !is_refuted(query, need)
 }
 
-/// Whether a literal of an instance may be what it has to be: at the goal's place the goal, elsewhere the goal or one whose
-/// negation may hold.
+/// Whether a literal of an instance may be what it has to be: at the goal's place the goal,
+/// elsewhere the goal or one whose negation may hold.
 fn may_hold(query: &Query, here: bool, lit: Lit) -> bool
     ensures { result ≡ false → IsFitting query.now.strength query.now.facts.now query.now.goal.now here lit → ⊥ }
 {
@@ -141,8 +144,8 @@ fn area_at(args: &[Obj], area: Term) -> Term
     }
 }
 
-/// Whether no need holds that says that the area differs from another: there are values with which all facts are true,
-/// and no fact names the area.
+/// Whether no need holds that says that the area differs from another: there are values with which
+/// all facts are true, and no fact names the area.
 fn is_free(query: &Query, area: Term) -> bool
     requires { IsTrue (is_area area) }
     ensures { result ≡ true → Areas.IsFree query.now.facts.now area }
@@ -154,8 +157,9 @@ fn is_free(query: &Query, area: Term) -> bool
 }
 
 impl<'a> InstanceSearch<'a> {
-    /// Whether the last number of the part completes the first of two areas that the clause says to be equal at this
-    /// place, and the area is free: then the two do not differ, whatever the other is.
+    /// Whether the last number of the part completes the first of two areas that the clause says to
+    /// be equal at this place, and the area is free: then the two do not differ, whatever the other
+    /// is.
     fn has_free_area(&self, row: &Row, part: &[u16], args: &[Obj], at: usize) -> bool
         requires of_table { slice_get table self.now.rule ≡ Some (row_of row.now) }
         requires arguments { args.now ≡ PartsOfChoices.arguments (row_of row.now) self.now.plan.now.positions.items part.now }
@@ -174,7 +178,8 @@ impl<'a> InstanceSearch<'a> {
         is_free(&self.query, area_at(args, area))
     }
 
-    /// Whether the last number of the part completes the literal at a place of the clause, and the literal is excluded.
+    /// Whether the last number of the part completes the literal at a place of the clause, and the
+    /// literal is excluded.
     fn is_excluded(
         &self,
         alloc: Global,

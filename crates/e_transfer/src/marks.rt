@@ -1,5 +1,5 @@
-//! Which relations occur among the facts, and with which sign: what an instance needs of another relation or sign is no
-//! fact.
+//! Which relations occur among the facts, and with which sign: what an instance needs of another
+//! relation or sign is no fact.
 
 ghost use Rattle.std.specs.Prelude.{◌≡◌, ◌≢◌, ◌<◌, length, slice_get, IsTrue, Some, true, false};
 ghost use Rattle.e_literal.specs.Literal.{negation};
@@ -116,7 +116,8 @@ fn are_areas(sum: &[Mono]) -> bool
     sum.iter().all(|m| is_area(m.term))
 }
 
-/// Whether the literal says that areas differ, or that one is less: it is false where all areas are 0.
+/// Whether the literal says that areas differ, or that one is less: it is false where all areas are
+/// 0.
 fn is_strict_of_areas(neg: bool, shape: &Shape) -> bool
     ensures { result ≡ Marks.is_strict_of_areas neg (atom_of shape.now) }
 {
@@ -136,8 +137,9 @@ fn parts(pattern: &Pattern, negated: bool) -> (Shape, bool)
     }
 }
 
-/// The same, where a metric literal may also follow from the facts: it does not where it says that areas differ, or that
-/// one is less, and there are values with which the facts are true and all areas are 0.
+/// The same, where a metric literal may also follow from the facts: it does not where it says that
+/// areas differ, or that one is less, and there are values with which the facts are true and all
+/// areas are 0.
 fn may_follow(query: &Query, neg: bool, shape: &Shape) -> bool
     ensures { result ≡ false → Marks.NoneSuffices query.now.strength query.now.facts.now (record { neg = neg; atom = atom_of shape.now }) }
 {
@@ -161,7 +163,8 @@ fn may_suffice(query: &Query, neg: bool, shape: &Shape) -> bool
     }
 }
 
-/// Whether an instance may have at this place of the clause the goal, or a literal whose negation holds.
+/// Whether an instance may have at this place of the clause the goal, or a literal whose negation
+/// holds.
 fn may_hold(query: &Query, row: &Row, at: usize) -> bool
     requires { at < length (clause_of (row_of row.now)) }
     ensures { result ≡ false → NoneHolds query.now.strength query.now.facts.now query.now.goal.now (row_of row.now) at }

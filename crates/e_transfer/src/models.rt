@@ -1,4 +1,5 @@
-//! Values of all terms, with which a metric literal that does not follow is mostly seen to be false, at no great cost.
+//! Values of all terms, with which a metric literal that does not follow is mostly seen to be
+//! false, at no great cost.
 
 ghost use Rattle.std.specs.Prelude.{◌≡◌, map, IfSome, IsTrue, true, false};
 ghost use Rattle.e_literal.specs.Facts.{are_apart};

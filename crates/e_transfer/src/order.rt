@@ -1,6 +1,8 @@
-//! The order in which the variables of a transfer clause are best chosen. It is a matter of speed alone.
+//! The order in which the variables of a transfer clause are best chosen. It is a matter of speed
+//! alone.
 
-/// The variables of each transfer clause, in the order of the table: each early where the facts then bind it.
+/// The variables of each transfer clause, in the order of the table: each early where the facts
+/// then bind it.
 static ORDERS: [&'static [u8]; 29] = [
     &[0, 1],
     &[0, 1],

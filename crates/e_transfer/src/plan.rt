@@ -82,7 +82,8 @@ fn add_preferred(
     Ok(())
 }
 
-/// The variables that represent all: those with a known number, then the preferred ones in their order, then the rest.
+/// The variables that represent all: those with a known number, then the preferred ones in their
+/// order, then the rest.
 fn order_of(
     alloc: Global,
     bindings: &[Binding],
@@ -292,8 +293,8 @@ fn add_ready_at(
     Ok(())
 }
 
-/// The plan for a rule in a scope, where some variables are bound, with the preferred variables early. Which are preferred
-/// is a matter of speed alone.
+/// The plan for a rule in a scope, where some variables are bound, with the preferred variables
+/// early. Which are preferred is a matter of speed alone.
 pub fn make_plan(
     alloc: Global,
     row: &Row,

@@ -24,7 +24,8 @@ pub enum Strength {
     NarrowSums,
 }
 
-/// The goal, and the facts of a step, which are in scope and well formed, and not too many for a metric question.
+/// The goal, and the facts of a step, which are in scope and well formed, and not too many for a
+/// metric question.
 #[derive(Clone, Copy)]
 pub struct Query<'a> {
     pub scope: Scope,
@@ -43,7 +44,8 @@ pub struct Query<'a> {
     pub flat_model: bool,
     /// Which relations the facts have, and with which sign.
     pub marks: [bool; MARKS],
-    /// The areas that the facts name, each in the one way of writing it, where metric questions may be asked.
+    /// The areas that the facts name, each in the one way of writing it, where metric questions may
+    /// be asked.
     pub areas: &'a [Term],
     ghost step_facts_of: { ForSome (option_copied step_facts) (λ k. k ≡ facts.now) },
     ghost good: { IsTrue (are_good_facts scope facts.now) },

@@ -141,8 +141,8 @@ fn search_rule(
     Ok(Verdict::No)
 }
 
-/// The instances of all transfer clauses that have the goal: one that gives it, or none, or one that needs a literal
-/// with a wide system, if such are not passed over.
+/// The instances of all transfer clauses that have the goal: one that gives it, or none, or one
+/// that needs a literal with a wide system, if such are not passed over.
 pub fn search_rules(alloc: Global, query: &Query) -> Result<Verdict<TransferCert>, AllocError>
     ensures { IfOk result (RuleSearchIs query.now.strength query.now.scope query.now.facts.now query.now.goal.now (NoneGives query.now.strength query.now.scope query.now.facts.now query.now.goal.now)) }
 {

@@ -45,10 +45,11 @@ pub trait Task {
         ensures { IfOk result (VerdictIs (kept self.now) (shown self.now) (wide self.now) (wanted self.now) part.now) };
 }
 
-/// The least choice that begins with `chosen`, goes on with one number of each span, and whose parts are all kept, with
-/// what the check hands out for the whole; no choice before it is wanted. `chosen` is then this choice. `No` where no
-/// choice is wanted. `TooWide` at the first part that is too wide, where no choice before it is wanted; `chosen` is then this
-/// part. It fails only out of memory; `chosen` then is what it was, with some numbers after it.
+/// The least choice that begins with `chosen`, goes on with one number of each span, and whose
+/// parts are all kept, with what the check hands out for the whole; no choice before it is wanted.
+/// `chosen` is then this choice. `No` where no choice is wanted. `TooWide` at the first part that
+/// is too wide, where no choice before it is wanted; `chosen` is then this part. It fails only out
+/// of memory; `chosen` then is what it was, with some numbers after it.
 pub fn search<T: Task>(
     alloc: Global,
     task: &T,

@@ -19,8 +19,8 @@ use e_literal::in_scope;
 use e_theorem::Statement;
 use std::alloc::Global;
 
-/// Checks the lines of a block in order, with the blocks inside it, where its first line has this number. The answer is the
-/// number of the line behind it.
+/// Checks the lines of a block in order, with the blocks inside it, where its first line has this
+/// number. The answer is the number of the line behind it.
 #[cycle(block)]
 pub fn verify_block(
     alloc: Global,

@@ -17,7 +17,8 @@ use e_literal::{Lit, Scope, copy, in_scope, kind, negate};
 use std::alloc::{AllocError, Global};
 use std::mem;
 
-/// Whether there are as many certificates as literals, and each certifies its literal in this scope, by these facts.
+/// Whether there are as many certificates as literals, and each certifies its literal in this
+/// scope, by these facts.
 #[tactic(auto, using(crate::proofs::Paired::literals))]
 pub fn certify_all(
     alloc: Global,
@@ -96,7 +97,8 @@ pub fn certifies_against(
     }
 }
 
-/// Whether the literal is among the facts, or at the place among them, or its sums show that it follows from them.
+/// Whether the literal is among the facts, or at the place among them, or its sums show that it
+/// follows from them.
 pub fn part_certifies(
     alloc: Global,
     facts: &Facts,

@@ -16,7 +16,8 @@ use std::alloc::{AllocError, Global};
 use std::marker::Model;
 use std::mem;
 
-/// A fact with its fingerprint, by which most literals that are not the same are told from it at once. Contracts see the literal.
+/// A fact with its fingerprint, by which most literals that are not the same are told from it at
+/// once. Contracts see the literal.
 #[derive(Drop)]
 struct Fact {
     lit: Lit,
@@ -175,7 +176,8 @@ impl Facts {
     }
 }
 
-/// Whether one the same as the literal, which has this fingerprint, is among the facts. Most that are asked for are late ones.
+/// Whether one the same as the literal, which has this fingerprint, is among the facts. Most that
+/// are asked for are late ones.
 fn has_same(facts: &[Fact], lit: &Lit, fingerprint: u128) -> bool
     requires { fingerprint ≡ fingerprint_of lit.now.atom }
     ensures { result ≡ has facts.now lit.now }

@@ -1,4 +1,5 @@
-//! Fingerprints of literals: numbers by which most literals that are not the same are told apart at once.
+//! Fingerprints of literals: numbers by which most literals that are not the same are told apart at
+//! once.
 
 ghost use Rattle.std.specs.Prelude.{◌≡◌, ◌*◌, ◌<◌, ◌≤◌, ◌^◌};
 ghost use Rattle.e_literal.specs.Solution.{carried};

@@ -17,7 +17,8 @@ use e_clause::{RowName, Sums};
 use e_literal::Lit;
 use std::alloc::{AllocError, Global};
 
-/// Whether the facts and the negation of the wanted literal, where one is wanted, cannot all be true, by these sums.
+/// Whether the facts and the negation of the wanted literal, where one is wanted, cannot all be
+/// true, by these sums.
 pub fn sums_refute<'a>(
     alloc: Global,
     facts: &'a Facts,

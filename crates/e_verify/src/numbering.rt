@@ -41,8 +41,9 @@ const MOST_OBJECTS: u16 = 1_000;
 /// The first number that is no place.
 const PLACES: usize = 1 << 32;
 
-/// The derivation where each certificate cites a fact by its place among the facts before its line, and none by a literal. It has the
-/// same lines, and what is certified stays so. One that has places already is itself.
+/// The derivation where each certificate cites a fact by its place among the facts before its line,
+/// and none by a literal. It has the same lines, and what is certified stays so. One that has
+/// places already is itself.
 ///
 /// A certified derivation fails only out of memory.
 pub fn numbered(
@@ -329,7 +330,8 @@ fn apply(
     })
 }
 
-/// The certificates of a superposition; then the copied points are in scope, and what it gives are facts.
+/// The certificates of a superposition; then the copied points are in scope, and what it gives are
+/// facts.
 fn superpose(
     alloc: Global,
     form: &Superpose,
@@ -384,7 +386,8 @@ fn contradiction(
     Ok(Close::Contradiction { against })
 }
 
-/// Whether at most 1,000 objects of each sort are in scope, as before each line of a derivation that can be checked.
+/// Whether at most 1,000 objects of each sort are in scope, as before each line of a derivation
+/// that can be checked.
 fn has_room(scope: Scope) -> bool
     ensures { result ≡ is_small scope }
 {

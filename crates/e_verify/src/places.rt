@@ -17,7 +17,8 @@ struct Placed {
     turned: bool,
 }
 
-/// The place of the fact that is the same as the literal; an error where none is, or it is past 32 bits.
+/// The place of the fact that is the same as the literal; an error where none is, or it is past 32
+/// bits.
 fn place_among(facts: &Facts, lit: &Lit) -> Result<u32, AllocError>
     ensures { IfOk result (λ k. k ≡ Numbered.place_among facts.now lit.now) }
 {

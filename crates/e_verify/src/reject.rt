@@ -9,7 +9,8 @@ use thiserror::Error;
 /// Why a derivation is refused.
 #[derive(Debug, Drop, PartialEq, Eq, Error)]
 pub enum Reject {
-    /// The line with this number, counted from 1 among the step and close lines, is the first that is not certified.
+    /// The line with this number, counted from 1 among the step and close lines, is the first that
+    /// is not certified.
     #[error("line {step} is not certified")]
     Bad { step: u32 },
     /// Want of memory.

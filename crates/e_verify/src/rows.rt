@@ -54,8 +54,8 @@ pub struct Comparison<'a> {
     pub minus: &'a [Mono],
 }
 
-/// What the names of rows are read at: the facts, the literal that is wanted, none where a contradiction is, and the rows
-/// that `above` and `below` name.
+/// What the names of rows are read at: the facts, the literal that is wanted, none where a
+/// contradiction is, and the rows that `above` and `below` name.
 #[derive(Clone, Copy)]
 pub struct Place<'a> {
     pub facts: &'a Facts,

@@ -109,7 +109,8 @@ pub fn make(
     Ok(true)
 }
 
-/// Whether an application is certified; then the made objects are in scope, and what the theorem shows are facts.
+/// Whether an application is certified; then the made objects are in scope, and what the theorem
+/// shows are facts.
 pub fn apply(
     alloc: Global,
     before: &[Statement],
@@ -144,7 +145,8 @@ pub fn apply(
     Ok(true)
 }
 
-/// Whether a superposition is certified; then the copied points are in scope, and what it gives are facts.
+/// Whether a superposition is certified; then the copied points are in scope, and what it gives are
+/// facts.
 pub fn superpose(
     alloc: Global,
     form: &Superpose,

@@ -14,8 +14,8 @@ use crate::totals::Totals;
 use e_clause::RowName;
 use std::alloc::{AllocError, Global};
 
-/// Whether the sum is of good size, each of its rows may be used here, and it is absurd: all terms cancel, no row that says at
-/// least or more is taken away, and one that says more is added.
+/// Whether the sum is of good size, each of its rows may be used here, and it is absurd: all terms
+/// cancel, no row that says at least or more is taken away, and one that says more is added.
 pub fn refutes(alloc: Global, place: &Place, sum: &[(i128, RowName)]) -> Result<bool, AllocError>
     requires place { IsTrue (is_good_place place.now) }
     requires sum { IsTrue (is_good_sum sum.now) }

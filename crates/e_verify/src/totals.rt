@@ -53,7 +53,8 @@ impl Totals {
         are_all_zero(&self.of)
     }
 
-    /// Adds a term with its coefficient, as a row has it: in its normal order, and dropped where it is 0.
+    /// Adds a term with its coefficient, as a row has it: in its normal order, and dropped where it
+    /// is 0.
     pub fn add(&mut self, term: Term, n: i128) -> Result<(), AllocError>
         requires { unsigned_abs (at self.old (Same.canonical term)) + unsigned_abs n < 2 ^ 127 }
         ensures { OnOk result ((t : ATerm) → at self.new t ≡ at self.old t +ℤ coefficient (normal_summands (times n term ∷ [])) t) }

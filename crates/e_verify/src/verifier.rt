@@ -25,7 +25,8 @@ pub(crate) const NOTHING: Scope = Scope {
     circles: 0,
 };
 
-/// Checks the derivation of a statement from those before it, certificate by certificate, in text order.
+/// Checks the derivation of a statement from those before it, certificate by certificate, in text
+/// order.
 ///
 /// It is refused exactly at the first line that is not certified. What is verified is a proof.
 pub fn verify(
@@ -55,7 +56,8 @@ pub fn verify(
     }
 }
 
-/// What holds before the first line: the declared objects are in scope, and the given literals are facts.
+/// What holds before the first line: the declared objects are in scope, and the given literals are
+/// facts.
 pub(crate) fn begin(
     alloc: Global,
     scope: Scope,
