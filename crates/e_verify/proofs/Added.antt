@@ -14,7 +14,7 @@ use Rattle.e_literal.proofs.Arith.{sums, mul_add, mul_neg, neg_mul, mul_one, siz
 use Rattle.e_literal.proofs.Booleans.{and_left, and_right}
 use Rattle.e_literal.proofs.Valued.{coefficient_negative}
 use Rattle.e_verify.specs.inner.Small.{are_small, is_small}
-use Rattle.e_verify.specs.inner.Views.{row_said}
+use Rattle.e_verify.specs.inner.Views.{row_view}
 use Rattle.e_verify.specs.declared.rows.Row.{Row}
 use Rattle.e_verify.specs.declared.rows.Row.TheVariants.{Sums, Pos, Top, Right as RightRow, Least}
 use Rattle.e_verify.specs.declared.rows.Says.{Says}
@@ -146,15 +146,15 @@ on_ok (Err e) h f = h
 pub once : (m : ℤ) (u t : Term) → single m u t ≡ m *ℤ single (pos 1) u t
 once m u t = sym (scaled_one m (pos 1) u t ∙ ap (λ n. single n u t) (mul_one m))
 
-pub added_pos : (row : Row) (u t : Term) (a m y : ℤ) → row ≡ Pos u → y ≡ a +ℤ single m u t → y ≡ a +ℤ m *ℤ coefficient (row_said row).form t
-added_pos row u t a m y is e = e ∙ ap (λ z. a +ℤ z) (once m u t) ∙ ap (λ r. a +ℤ m *ℤ coefficient (row_said r).form t) (sym is)
+pub added_pos : (row : Row) (u t : Term) (a m y : ℤ) → row ≡ Pos u → y ≡ a +ℤ single m u t → y ≡ a +ℤ m *ℤ coefficient (row_view row).form t
+added_pos row u t a m y is e = e ∙ ap (λ z. a +ℤ z) (once m u t) ∙ ap (λ r. a +ℤ m *ℤ coefficient (row_view r).form t) (sym is)
 
-pub added_least : (row : Row) (u t : Term) (a m y : ℤ) → row ≡ Least u → y ≡ a +ℤ single m u t → y ≡ a +ℤ m *ℤ coefficient (row_said row).form t
-added_least row u t a m y is e = e ∙ ap (λ z. a +ℤ z) (once m u t) ∙ ap (λ r. a +ℤ m *ℤ coefficient (row_said r).form t) (sym is)
+pub added_least : (row : Row) (u t : Term) (a m y : ℤ) → row ≡ Least u → y ≡ a +ℤ single m u t → y ≡ a +ℤ m *ℤ coefficient (row_view row).form t
+added_least row u t a m y is e = e ∙ ap (λ z. a +ℤ z) (once m u t) ∙ ap (λ r. a +ℤ m *ℤ coefficient (row_view r).form t) (sym is)
 
-pub added_top : (row : Row) (u t : Term) (a m x y : ℤ) → row ≡ Top u → x ≡ a +ℤ single (m *ℤ pos 2) Right t → y ≡ x +ℤ single (neg_ℤ m) u t → y ≡ a +ℤ m *ℤ coefficient (row_said row).form t
+pub added_top : (row : Row) (u t : Term) (a m x y : ℤ) → row ≡ Top u → x ≡ a +ℤ single (m *ℤ pos 2) Right t → y ≡ x +ℤ single (neg_ℤ m) u t → y ≡ a +ℤ m *ℤ coefficient (row_view row).form t
 added_top row u t a m x y is e f =
-    here ∙ ap (λ r. a +ℤ m *ℤ coefficient (row_said r).form t) (sym is)
+    here ∙ ap (λ r. a +ℤ m *ℤ coefficient (row_view r).form t) (sym is)
   where
     two : single (m *ℤ pos 2) Right t ≡ m *ℤ single (pos 2) Right t
     two = sym (scaled_one m (pos 2) Right t)
@@ -176,13 +176,13 @@ added_top row u t a m x y is e f =
         )
 
 pub added_sums : (row : Row) (says : Says) (x y : Bor (List Mono)) (turned : Bool) (t : Term) (a m n z : ℤ) → row ≡ Sums says x y turned → n ≡ (if turned then neg_ℤ m else m)
-    → z ≡ a +ℤ n *ℤ coefficient (normal_summands (plus x.now ++ minus y.now)) t → z ≡ a +ℤ m *ℤ coefficient (row_said row).form t
-added_sums row says x y turned t a m n z is e f = by turned e ∙ ap (λ r. a +ℤ m *ℤ coefficient (row_said r).form t) (sym is)
+    → z ≡ a +ℤ n *ℤ coefficient (normal_summands (plus x.now ++ minus y.now)) t → z ≡ a +ℤ m *ℤ coefficient (row_view row).form t
+added_sums row says x y turned t a m n z is e f = by turned e ∙ ap (λ r. a +ℤ m *ℤ coefficient (row_view r).form t) (sym is)
   where
     form : Summands
     form = normal_summands (plus x.now ++ minus y.now)
 
-    by : (b : Bool) → n ≡ (if b then neg_ℤ m else m) → z ≡ a +ℤ m *ℤ coefficient (row_said (Sums says x y b)).form t
+    by : (b : Bool) → n ≡ (if b then neg_ℤ m else m) → z ≡ a +ℤ m *ℤ coefficient (row_view (Sums says x y b)).form t
     by true e = f ∙ ap (λ k. a +ℤ k *ℤ coefficient form t) e ∙ ap (λ k. a +ℤ k) (neg_mul m (coefficient form t) ∙ sym (mul_neg m (coefficient form t)) ∙ ap (λ k. m *ℤ k) (sym (coefficient_negative form t)))
     by false e = f ∙ ap (λ k. a +ℤ k *ℤ coefficient form t) e
 
@@ -191,7 +191,7 @@ sum_bound ms t h =
     let few = leb-true (length ms) 32 (and_left (nat_le (length ms) 32) (has_low ms) h) in
     omega (arith, few, sum_size ms t (and_right (nat_le (length ms) 32) (has_low ms) h))
 
-pub row_size : (row : Row) (t : Term) → is_small row ≡ true → unsigned_abs (coefficient (row_said row).form t) ≤ 64000000
+pub row_size : (row : Row) (t : Term) → is_small row ≡ true → unsigned_abs (coefficient (row_view row).form t) ≤ 64000000
 row_size (Sums says x y turned) t h = by turned
   where
     form : Summands
@@ -210,7 +210,7 @@ row_size (Sums says x y turned) t h = by turned
           sum_bound y.now t (and_right (are_small x.now) (are_small y.now) h),
         )
 
-    by : (b : Bool) → unsigned_abs (coefficient (row_said (Sums says x y b)).form t) ≤ 64000000
+    by : (b : Bool) → unsigned_abs (coefficient (row_view (Sums says x y b)).form t) ≤ 64000000
     by true = omega (arith, ap unsigned_abs (coefficient_negative form t), size_negative (coefficient form t), inside)
     by false = inside
 row_size (Pos u) t h = omega (arith, single_size 1 u t)

@@ -18,7 +18,7 @@ use Rattle.e_clause.specs.Certify.{certify_all}
 use Rattle.e_deriv.specs.Script.{Qed}
 use Rattle.e_deriv.specs.Goal.{Goal, are_for, goal_with}
 use Rattle.e_deriv.specs.Certified.{is_certified}
-use Rattle.e_verify.specs.declared.standing.Standing.{Standing}
+use Rattle.e_verify.specs.declared.step_state.StepState.{StepState}
 use Rattle.e_verify.specs.Checking.{line_at}
 use Rattle.e_construct.proofs.Images.{no_objects}
 
@@ -40,7 +40,7 @@ each_formed f e (l ∷ ls) h =
 pub goal_formed : (goal : Goal) (objects : List Obj) → list_all is_well_formed goal.shown ≡ true → list_all is_well_formed (goal_with goal objects) ≡ true
 goal_formed goal objects h = each_formed (renamed (image_in (paired goal.made objects))) (renamed_well_formed (image_in (paired goal.made objects))) goal.shown h
 
-pub qed_certified : (objects : List Obj) (certs : List Cert) (goal : Goal) (x : Standing) → are_for goal x.scope objects ≡ true → (before : List Stated)
+pub qed_certified : (objects : List Obj) (certs : List Cert) (goal : Goal) (x : StepState) → are_for goal x.scope objects ≡ true → (before : List Stated)
     → certify_all x.scope x.facts (goal_with goal objects) certs ≡ is_certified before (line_at (Qed objects certs) x goal)
 qed_certified objects certs goal x h before =
     sym (ap (λ b. b && (certify_all x.scope x.facts (goal_with goal objects) certs && true)) h ∙ and-true (certify_all x.scope x.facts (goal_with goal objects) certs))

@@ -57,8 +57,8 @@ not_same f l e = by (same_lit f l) refl
         sym (eqb_self (fingerprint_of l.atom)) ∙ ap (λ n. eqb n (fingerprint_of l.atom)) (sym one) ∙ e
 
 -- a fact whose fingerprint is another is not the same
-pub told_apart : (fact inside l : Lit) (m n : ℕ) → inside ≡ fact → m ≡ fingerprint_of inside.atom → n ≡ fingerprint_of l.atom → (m ≡ n → ⊥) → eqb m n ≡ same_lit fact l
-told_apart fact inside l m n is one other apart = by (eqb m n) refl
+pub apart_by_number : (fact inside l : Lit) (m n : ℕ) → inside ≡ fact → m ≡ fingerprint_of inside.atom → n ≡ fingerprint_of l.atom → (m ≡ n → ⊥) → eqb m n ≡ same_lit fact l
+apart_by_number fact inside l m n is one other apart = by (eqb m n) refl
   where
     by : (equal : Bool) → eqb m n ≡ equal → eqb m n ≡ same_lit fact l
     by true e = absurd (apart (eqb-true m n e))

@@ -29,36 +29,36 @@ use Rattle.e_deriv.proofs.Scripts.{steps_at, step_script-Cite, step_script-Hence
 use Rattle.e_deriv.proofs.Stops.{lines_length}
 use Rattle.e_verify.specs.declared.reject.Reject.{Reject}
 use Rattle.e_verify.specs.declared.reject.Reject.TheVariants.{Bad}
-use Rattle.e_verify.specs.declared.standing.Standing.{Standing}
-use Rattle.e_verify.specs.declared.standing.Outer.{Outer}
-use Rattle.e_verify.specs.inner.Standing.{with_facts, after_superposed, outer_of, left_for}
+use Rattle.e_verify.specs.declared.step_state.StepState.{StepState}
+use Rattle.e_verify.specs.declared.step_state.Checkpoint.{Checkpoint}
+use Rattle.e_verify.specs.inner.StepStates.{with_facts, after_superposed, checkpoint_of, restored}
 use Rattle.e_clause.specs.Written.{is_good_cert, is_good_against}
 use Rattle.e_verify.specs.Checking.{line_at, verdict_at, RejectIs, IsReadyFor, IsReadyStep, KeepsFacts, IsPassed, StepRejects}
 use Rattle.e_verify.proofs.FirstLines.{some_lines, qed_lines, contradiction_lines}
 use Rattle.e_deriv.proofs.Keeping.{stay_on, stay_joined, stay_all}
 use Rattle.e_verify.proofs.Certified.{superposed_fits}
-use Rattle.e_verify.proofs.Passing.{told_closed, told_open, reject_as, scope_small, cite_written, hence_written, make_written, apply_written, superposed_written, qed_written, contradiction_written, claim_inner, passed_claim, claim_rejected, claim_bad, superposed_inner, IsHead, passed_superposed, superposed_rejected, bad_line, cases_first, cases_second, cases_same, cases_rejected, cases_bad}
+use Rattle.e_verify.proofs.Passing.{close_certified, close_rejected, reject_as, scope_small, cite_written, hence_written, make_written, apply_written, superposed_written, qed_written, contradiction_written, claim_inner, passed_claim, claim_rejected, claim_bad, superposed_inner, IsHead, passed_superposed, superposed_rejected, bad_line, cases_first, cases_second, cases_same, cases_rejected, cases_bad}
 
 -- ---- the steps of a block
 
-pub step_ready : (before : List Stated) (items seen : List Step) (close : Script) (i : ℕ) (s : Step) (y : Standing) (goal : Goal) (n : ℕ) → seen ≡ items → i < length seen → s ≡ get_or seen i s
+pub step_ready : (before : List Stated) (items seen : List Step) (close : Script) (i : ℕ) (s : Step) (y : StepState) (goal : Goal) (n : ℕ) → seen ≡ items → i < length seen → s ≡ get_or seen i s
     → IsReadyFor before (steps_script (drop i items) close) y goal n → IsReadyStep before s y n
 step_ready before items seen close i s y goal n same lt is r =
     record { rest = steps_script (drop (i + 1) items) close; goal = goal; ready = subst (λ d. IsReadyFor before d y goal n) (steps_at items seen close i s same lt is) r }
 
-pub step_rejects : (before : List Stated) (items seen : List Step) (close : Script) (i : ℕ) (s : Step) (y : Standing) (goal : Goal) (n : ℕ) (v : Result ℕ ℕ) (e : Reject) → seen ≡ items → i < length seen → s ≡ get_or seen i s
+pub step_rejects : (before : List Stated) (items seen : List Step) (close : Script) (i : ℕ) (s : Step) (y : StepState) (goal : Goal) (n : ℕ) (v : Result ℕ ℕ) (e : Reject) → seen ≡ items → i < length seen → s ≡ get_or seen i s
     → verdict_at before (steps_script (drop i items) close) y goal n ≡ v → StepRejects before s y n e → RejectIs v e
 step_rejects before items seen close i s y goal n v e same lt is h k =
     let rest = steps_script (drop (i + 1) items) close in
     reject_as v (verdict_at before (step_script s rest) y goal n) e (sym h ∙ ap (λ d. verdict_at before d y goal n) (steps_at items seen close i s same lt is)) (k rest goal)
 
-pub step_same : (before : List Stated) (items seen : List Step) (close : Script) (i : ℕ) (s : Step) (y z : Standing) (goal : Goal) (n m : ℕ) (v : Result ℕ ℕ) → seen ≡ items → i < length seen → s ≡ get_or seen i s
+pub step_same : (before : List Stated) (items seen : List Step) (close : Script) (i : ℕ) (s : Step) (y z : StepState) (goal : Goal) (n m : ℕ) (v : Result ℕ ℕ) → seen ≡ items → i < length seen → s ≡ get_or seen i s
     → verdict_at before (steps_script (drop i items) close) y goal n ≡ v → IsPassed before (step_script s) y n z m → verdict_at before (steps_script (drop (i + 1) items) close) z goal m ≡ v
 step_same before items seen close i s y z goal n m v same lt is h p =
     let rest = steps_script (drop (i + 1) items) close in
     sym (p.same rest goal) ∙ sym (ap (λ d. verdict_at before d y goal n) (steps_at items seen close i s same lt is)) ∙ h
 
-pub step_next : (before : List Stated) (items seen : List Step) (close : Script) (i : ℕ) (s : Step) (y z : Standing) (goal : Goal) (n m : ℕ) → seen ≡ items → i < length seen → s ≡ get_or seen i s
+pub step_next : (before : List Stated) (items seen : List Step) (close : Script) (i : ℕ) (s : Step) (y z : StepState) (goal : Goal) (n m : ℕ) → seen ≡ items → i < length seen → s ≡ get_or seen i s
     → IsReadyFor before (steps_script (drop i items) close) y goal n → IsPassed before (step_script s) y n z m → IsReadyFor before (steps_script (drop (i + 1) items) close) z goal m
 step_next before items seen close i s y z goal n m same lt is r p =
     p.ready (steps_script (drop (i + 1) items) close) goal (subst (λ d. IsReadyFor before d y goal n) (steps_at items seen close i s same lt is) r)
@@ -72,7 +72,7 @@ none_left (x ∷ xs) (suc i) h = none_left xs i (omega (arith, h))
 pub steps_end : (items seen : List Step) (close : Script) (i : ℕ) → seen ≡ items → length seen ≤ i → steps_script (drop i items) close ≡ close
 steps_end items seen close i same le = ap (λ xs. steps_script xs close) (none_left items i (subst (λ xs. length xs ≤ i) same le))
 
-pub kept_on : (x y z : Standing) → KeepsFacts x y → KeepsFacts y z → KeepsFacts x z
+pub kept_on : (x y z : StepState) → KeepsFacts x y → KeepsFacts y z → KeepsFacts x z
 kept_on x y z h k = stay_on x.facts y.facts z.facts h k
 
 pub ok_as : (r : Result ℕ Reject) (v w : Result ℕ ℕ) → v ≡ w → IfOk r (λ n. w ≡ Ok n) → IfOk r (λ n. v ≡ Ok n)
@@ -85,13 +85,13 @@ err_as (Err k) v w e h = reject_as v w k e h
 
 -- ---- numbers
 
-pub few_one : (before : List Stated) (d : Script) (x : Standing) (goal : Goal) (n : ℕ) → IsReadyFor before d x goal n → n + 1 < 2 ^ 32
+pub few_one : (before : List Stated) (d : Script) (x : StepState) (goal : Goal) (n : ℕ) → IsReadyFor before d x goal n → n + 1 < 2 ^ 32
 few_one before d x goal n r = let l = some_lines before d x goal in omega (arith, r.few, sym (ap length l.1) ∙ lines_length before d d x.scope x.facts goal)
 
-pub few_step : (before : List Stated) (s : Step) (x : Standing) (n : ℕ) → IsReadyStep before s x n → n + 1 < 2 ^ 32
+pub few_step : (before : List Stated) (s : Step) (x : StepState) (n : ℕ) → IsReadyStep before s x n → n + 1 < 2 ^ 32
 few_step before s x n r = few_one before (step_script s r.rest) x r.goal n r.ready
 
-pub small_step : (before : List Stated) (s : Step) (x : Standing) (n : ℕ) → IsReadyStep before s x n → is_small x.scope ≡ true
+pub small_step : (before : List Stated) (s : Step) (x : StepState) (n : ℕ) → IsReadyStep before s x n → is_small x.scope ≡ true
 small_step before s x n r = scope_small before (step_script s r.rest) x r.goal n r.ready
 
 -- ---- a step that is one line, as the code has it
@@ -108,36 +108,36 @@ make_is s form names certs is rest = ap (λ t. step_script t rest) is ∙ step_s
 pub apply_is : (s : Step) (theorem : ℕ) (args : List (Option Obj)) (names : List (List ℕ)) (certs : List Cert) → s ≡ ApplyStep theorem args names certs → (rest : Script) → step_script s rest ≡ Apply theorem args names certs rest
 apply_is s theorem args names certs is rest = ap (λ t. step_script t rest) is ∙ step_script-Apply theorem args names certs rest
 
-pub formed_step : (before : List Stated) (s : Step) (x : Standing) (n : ℕ) → IsReadyStep before s x n → list_all is_well_formed x.facts ≡ true
+pub formed_step : (before : List Stated) (s : Step) (x : StepState) (n : ℕ) → IsReadyStep before s x n → list_all is_well_formed x.facts ≡ true
 formed_step before s x n r = r.ready.facts
 
-pub cite_parts : (before : List Stated) (s : Step) (by : By) (x : Standing) (n : ℕ) → s ≡ CiteStep by → IsReadyStep before s x n → is_well_formed by.lit ≡ true
+pub cite_parts : (before : List Stated) (s : Step) (by : By) (x : StepState) (n : ℕ) → s ≡ CiteStep by → IsReadyStep before s x n → is_well_formed by.lit ≡ true
 cite_parts before s by x n is r = (cite_written by r.rest (subst (λ d. IsReadyFor before d x r.goal n) (cite_is s by is r.rest) r.ready).written).0
 
-pub hence_parts : (before : List Stated) (s : Step) (lit : Lit) (cert : Option Cert) (x : Standing) (n : ℕ) → s ≡ HenceStep lit cert → IsReadyStep before s x n → (is_well_formed lit ≡ true) × (option_map_or is_good_cert cert true ≡ true)
+pub hence_parts : (before : List Stated) (s : Step) (lit : Lit) (cert : Option Cert) (x : StepState) (n : ℕ) → s ≡ HenceStep lit cert → IsReadyStep before s x n → (is_well_formed lit ≡ true) × (option_map_or is_good_cert cert true ≡ true)
 hence_parts before s lit cert x n is r =
     let w = hence_written lit cert r.rest (subst (λ d. IsReadyFor before d x r.goal n) (hence_is s lit cert is r.rest) r.ready).written in (w.0, w.1)
 
-pub make_parts : (before : List Stated) (s : Step) (form : Construction) (names : List (List ℕ)) (certs seen : List Cert) (x : Standing) (n : ℕ) → s ≡ MakeStep form names certs → seen ≡ certs → IsReadyStep before s x n → list_all is_good_cert seen ≡ true
+pub make_parts : (before : List Stated) (s : Step) (form : Construction) (names : List (List ℕ)) (certs seen : List Cert) (x : StepState) (n : ℕ) → s ≡ MakeStep form names certs → seen ≡ certs → IsReadyStep before s x n → list_all is_good_cert seen ≡ true
 make_parts before s form names certs seen x n is same r =
     ap (list_all is_good_cert) same ∙ (make_written form names certs r.rest (subst (λ d. IsReadyFor before d x r.goal n) (make_is s form names certs is r.rest) r.ready).written).0
 
-pub apply_parts : (before : List Stated) (s : Step) (theorem : ℕ) (args : List (Option Obj)) (names : List (List ℕ)) (certs seen : List Cert) (x : Standing) (n : ℕ) → s ≡ ApplyStep theorem args names certs → seen ≡ certs → IsReadyStep before s x n
+pub apply_parts : (before : List Stated) (s : Step) (theorem : ℕ) (args : List (Option Obj)) (names : List (List ℕ)) (certs seen : List Cert) (x : StepState) (n : ℕ) → s ≡ ApplyStep theorem args names certs → seen ≡ certs → IsReadyStep before s x n
     → list_all is_good_cert seen ≡ true
 apply_parts before s theorem args names certs seen x n is same r =
     ap (list_all is_good_cert) same ∙ (apply_written theorem args names certs r.rest (subst (λ d. IsReadyFor before d x r.goal n) (apply_is s theorem args names certs is r.rest) r.ready).written).0
 
 -- ---- blocks that are left
 
-pub left_is : (o : Outer) (x z y : Standing) → o ≡ outer_of x → KeepsFacts x z → y ≡ left_for o z → y ≡ x
-left_is o x z y e k is = is ∙ ap (λ m. left_for m z) e ∙ ap (λ fs. with_facts fs x) k
+pub restored_is : (o : Checkpoint) (x z y : StepState) → o ≡ checkpoint_of x → KeepsFacts x z → y ≡ restored o z → y ≡ x
+restored_is o x z y e k is = is ∙ ap (λ m. restored m z) e ∙ ap (λ fs. with_facts fs x) k
 
 -- ---- a claim
 
 claim_is : (s : Step) (shown : List Lit) (inner : Box Block Global) → s ≡ ClaimStep shown inner → (rest : Script) → step_script s rest ≡ Claim shown (script_of inner.value) rest
 claim_is s shown inner is rest = ap (λ t. step_script t rest) is ∙ step_script-Claim shown inner rest
 
-passed_as : (before : List Stated) (f g : Script → Script) (x y : Standing) (n m : ℕ) → ((d : Script) → g d ≡ f d) → IsPassed before f x n y m → IsPassed before g x n y m
+passed_as : (before : List Stated) (f g : Script → Script) (x y : StepState) (n m : ℕ) → ((d : Script) → g d ≡ f d) → IsPassed before f x n y m → IsPassed before g x n y m
 passed_as before f g x y n m e p =
     record {
       ready = λ rest goal r. p.ready rest goal (subst (λ d. IsReadyFor before d x goal n) (e rest) r);
@@ -145,30 +145,30 @@ passed_as before f g x y n m e p =
       kept = p.kept;
     }
 
-pub claim_ready : (before : List Stated) (s : Step) (shown seen : List Lit) (inner : Box Block Global) (block : Block) (x : Standing) (n : ℕ) → s ≡ ClaimStep shown inner → seen ≡ shown → block ≡ inner.value → IsReadyStep before s x n
+pub claim_ready : (before : List Stated) (s : Step) (shown seen : List Lit) (inner : Box Block Global) (block : Block) (x : StepState) (n : ℕ) → s ≡ ClaimStep shown inner → seen ≡ shown → block ≡ inner.value → IsReadyStep before s x n
     → IsReadyFor before (script_of block) x (goal_of seen) (n + 1)
 claim_ready before s shown seen inner block x n is same at r =
     let q = claim_inner before shown (script_of inner.value) r.rest x r.goal n (subst (λ d. IsReadyFor before d x r.goal n) (claim_is s shown inner is r.rest) r.ready) in
     subst (λ b. IsReadyFor before (script_of b) x (goal_of seen) (n + 1)) (sym at) (subst (λ ls. IsReadyFor before (script_of inner.value) x (goal_of ls) (n + 1)) (sym same) q)
 
-pub claim_fails : (before : List Stated) (s : Step) (shown seen : List Lit) (inner : Box Block Global) (x : Standing) (n : ℕ) → s ≡ ClaimStep shown inner → seen ≡ shown → are_over x.scope seen ≡ false → StepRejects before s x n (Bad n)
+pub claim_fails : (before : List Stated) (s : Step) (shown seen : List Lit) (inner : Box Block Global) (x : StepState) (n : ℕ) → s ≡ ClaimStep shown inner → seen ≡ shown → are_over x.scope seen ≡ false → StepRejects before s x n (Bad n)
 claim_fails before s shown seen inner x n is same h rest goal =
     ap (λ d. verdict_at before d x goal n) (claim_is s shown inner is rest) ∙ claim_bad before shown (script_of inner.value) rest x goal n (ap (are_over x.scope) (sym same) ∙ h)
 
-pub claim_stops : (before : List Stated) (s : Step) (shown seen over : List Lit) (inner : Box Block Global) (block : Block) (x : Standing) (n : ℕ) (e : Reject) → s ≡ ClaimStep shown inner → seen ≡ shown → over ≡ shown → block ≡ inner.value
+pub claim_stops : (before : List Stated) (s : Step) (shown seen over : List Lit) (inner : Box Block Global) (block : Block) (x : StepState) (n : ℕ) (e : Reject) → s ≡ ClaimStep shown inner → seen ≡ shown → over ≡ shown → block ≡ inner.value
     → are_over x.scope over ≡ true → RejectIs (verdict_at before (script_of block) x (goal_of seen) (n + 1)) e → StepRejects before s x n e
 claim_stops before s shown seen over inner block x n e is same like at h k rest goal =
     reject_as (verdict_at before (step_script s rest) x goal n) (verdict_at before (Claim shown (script_of inner.value) rest) x goal n) e (ap (λ d. verdict_at before d x goal n) (claim_is s shown inner is rest))
     (claim_rejected before shown (script_of inner.value) rest x goal n e (ap (are_over x.scope) (sym like) ∙ h)
     (subst (λ ls. RejectIs (verdict_at before (script_of inner.value) x (goal_of ls) (n + 1)) e) same (subst (λ b. RejectIs (verdict_at before (script_of b) x (goal_of seen) (n + 1)) e) at k)))
 
-pub claim_done : (before : List Stated) (s : Step) (shown seen over again : List Lit) (inner : Box Block Global) (block : Block) (x z y after : Standing) (o : Outer) (n m : ℕ) → s ≡ ClaimStep shown inner → seen ≡ shown → over ≡ shown → again ≡ shown
-    → block ≡ inner.value → are_over x.scope over ≡ true → verdict_at before (script_of block) x (goal_of seen) (n + 1) ≡ Ok m → o ≡ outer_of x → KeepsFacts x z → y ≡ left_for o z → after ≡ with_facts (joined_all y.facts again) y
+pub claim_done : (before : List Stated) (s : Step) (shown seen over again : List Lit) (inner : Box Block Global) (block : Block) (x z y after : StepState) (o : Checkpoint) (n m : ℕ) → s ≡ ClaimStep shown inner → seen ≡ shown → over ≡ shown → again ≡ shown
+    → block ≡ inner.value → are_over x.scope over ≡ true → verdict_at before (script_of block) x (goal_of seen) (n + 1) ≡ Ok m → o ≡ checkpoint_of x → KeepsFacts x z → y ≡ restored o z → after ≡ with_facts (joined_all y.facts again) y
     → IsPassed before (step_script s) x n after m
 claim_done before s shown seen over again inner block x z y after o n m is same like twice at h v e k left end =
     let v' = ap (λ ls. verdict_at before (script_of inner.value) x (goal_of ls) (n + 1)) (sym same) ∙ ap (λ b. verdict_at before (script_of b) x (goal_of seen) (n + 1)) (sym at) ∙ v in
     let p = passed_claim before shown (script_of inner.value) x n m (ap (are_over x.scope) (sym like) ∙ h) v' in
-    let back = end ∙ ap (λ w. with_facts (joined_all w.facts again) w) (left_is o x z y e k left) ∙ ap (λ ls. with_facts (joined_all x.facts ls) x) twice in
+    let back = end ∙ ap (λ w. with_facts (joined_all w.facts again) w) (restored_is o x z y e k left) ∙ ap (λ ls. with_facts (joined_all x.facts ls) x) twice in
     passed_as before (Claim shown (script_of inner.value)) (step_script s) x after n m (claim_is s shown inner is) (subst (λ w. IsPassed before (Claim shown (script_of inner.value)) x n w m) (sym back) p)
 
 -- ---- a superposition
@@ -177,13 +177,13 @@ superposed_is : (s : Step) (form : Superpose) (names : List (List ℕ)) (shown :
     → step_script s rest ≡ Superposed form names shown certs (script_of inner.value) rest
 superposed_is s form names shown certs inner is rest = ap (λ t. step_script t rest) is ∙ step_script-Superposed form names shown certs inner rest
 
-pub superposed_parts : (before : List Stated) (s : Step) (form : Superpose) (names : List (List ℕ)) (shown : List Lit) (certs seen : List Cert) (inner : Box Block Global) (x : Standing) (n : ℕ) → s ≡ SuperposedStep form names shown certs inner → seen ≡ certs
+pub superposed_parts : (before : List Stated) (s : Step) (form : Superpose) (names : List (List ℕ)) (shown : List Lit) (certs seen : List Cert) (inner : Box Block Global) (x : StepState) (n : ℕ) → s ≡ SuperposedStep form names shown certs inner → seen ≡ certs
     → IsReadyStep before s x n → list_all is_good_cert seen ≡ true
 superposed_parts before s form names shown certs seen inner x n is same r =
     ap (list_all is_good_cert) same
     ∙ (superposed_written form names shown certs (script_of inner.value) r.rest (subst (λ d. IsReadyFor before d x r.goal n) (superposed_is s form names shown certs inner is r.rest) r.ready).written).1
 
-pub superposed_ready : (before : List Stated) (s : Step) (form : Superpose) (names : List (List ℕ)) (shown seen : List Lit) (certs : List Cert) (inner : Box Block Global) (block : Block) (x z : Standing) (n : ℕ)
+pub superposed_ready : (before : List Stated) (s : Step) (form : Superpose) (names : List (List ℕ)) (shown seen : List Lit) (certs : List Cert) (inner : Box Block Global) (block : Block) (x z : StepState) (n : ℕ)
     → s ≡ SuperposedStep form names shown certs inner → seen ≡ shown → block ≡ inner.value → z ≡ after_superposed form x → superposing.fits form x.scope ≡ true → IsReadyStep before s x n → IsReadyFor before (script_of block) z (goal_of seen) (n + 1)
 superposed_ready before s form names shown seen certs inner block x z n is same at begun fit r =
     let q = superposed_inner before form names shown certs (script_of inner.value) r.rest x r.goal n fit (subst (λ d. IsReadyFor before d x r.goal n) (superposed_is s form names shown certs inner is r.rest) r.ready) in
@@ -191,26 +191,26 @@ superposed_ready before s form names shown seen certs inner block x z n is same 
     (subst (λ ls. IsReadyFor before (script_of inner.value) z (goal_of ls) (n + 1)) (sym same) (subst (λ w. IsReadyFor before (script_of inner.value) w (goal_of shown) (n + 1)) (sym begun) q))
 
 -- what the code tests before the block of a superposition
-abbrev pub IsTested : List Stated → Superpose → List Lit → List Cert → Standing → Bool → Type 0
+abbrev pub IsTested : List Stated → Superpose → List Lit → List Cert → StepState → Bool → Type 0
 IsTested before form shown certs x b = (names : List (List ℕ)) (inner rest : Script) (goal : Goal) → b ≡ is_certified before (line_at (Superposed form names shown certs inner rest) x goal)
 
-head_as : (before : List Stated) (form : Superpose) (names : List (List ℕ)) (shown over : List Lit) (certs seen : List Cert) (x : Standing) (b c : Bool) → over ≡ shown → seen ≡ certs → b ≡ c → IsTested before form over seen x b → IsHead before form names shown certs x c
+head_as : (before : List Stated) (form : Superpose) (names : List (List ℕ)) (shown over : List Lit) (certs seen : List Cert) (x : StepState) (b c : Bool) → over ≡ shown → seen ≡ certs → b ≡ c → IsTested before form over seen x b → IsHead before form names shown certs x c
 head_as before form names shown over certs seen x b c like same is h inner rest goal =
     sym is ∙ h names inner rest goal ∙ ap (λ ls. is_certified before (line_at (Superposed form names ls seen inner rest) x goal)) like
     ∙ ap (λ cs. is_certified before (line_at (Superposed form names shown cs inner rest) x goal)) same
 
 -- what is tested and certified fits
-pub tested_fits : (before : List Stated) (form : Superpose) (shown : List Lit) (certs : List Cert) (x : Standing) (b : Bool) → b ≡ true → IsTested before form shown certs x b → superposing.fits form x.scope ≡ true
+pub tested_fits : (before : List Stated) (form : Superpose) (shown : List Lit) (certs : List Cert) (x : StepState) (b : Bool) → b ≡ true → IsTested before form shown certs x b → superposing.fits form x.scope ≡ true
 tested_fits before form shown certs x b is h =
     superposed_fits before form [] shown certs (Qed [] []) (Qed [] []) x (goal_of []) (sym is ∙ h [] (Qed [] []) (Qed [] []) (goal_of []))
 
-pub superposed_fails : (before : List Stated) (s : Step) (form : Superpose) (names : List (List ℕ)) (shown over : List Lit) (certs seen : List Cert) (inner : Box Block Global) (x : Standing) (n : ℕ) (b : Bool)
+pub superposed_fails : (before : List Stated) (s : Step) (form : Superpose) (names : List (List ℕ)) (shown over : List Lit) (certs seen : List Cert) (inner : Box Block Global) (x : StepState) (n : ℕ) (b : Bool)
     → s ≡ SuperposedStep form names shown certs inner → over ≡ shown → seen ≡ certs → b ≡ false → IsTested before form over seen x b → StepRejects before s x n (Bad n)
 superposed_fails before s form names shown over certs seen inner x n b is like same f h rest goal =
     ap (λ d. verdict_at before d x goal n) (superposed_is s form names shown certs inner is rest)
     ∙ bad_line before (Superposed form names shown certs (script_of inner.value) rest) x goal n (sym (head_as before form names shown over certs seen x b false like same f h (script_of inner.value) rest goal))
 
-pub superposed_stops : (before : List Stated) (s : Step) (form : Superpose) (names : List (List ℕ)) (shown over seen : List Lit) (certs given : List Cert) (inner : Box Block Global) (block : Block) (x z : Standing) (n : ℕ) (b : Bool) (e : Reject)
+pub superposed_stops : (before : List Stated) (s : Step) (form : Superpose) (names : List (List ℕ)) (shown over seen : List Lit) (certs given : List Cert) (inner : Box Block Global) (block : Block) (x z : StepState) (n : ℕ) (b : Bool) (e : Reject)
     → s ≡ SuperposedStep form names shown certs inner → over ≡ shown → seen ≡ shown → given ≡ certs → block ≡ inner.value → z ≡ after_superposed form x → b ≡ true → IsTested before form over given x b
     → RejectIs (verdict_at before (script_of block) z (goal_of seen) (n + 1)) e → StepRejects before s x n e
 superposed_stops before s form names shown over seen certs given inner block x z n b e is like same cs at begun t h k rest goal =
@@ -220,15 +220,15 @@ superposed_stops before s form names shown over seen certs given inner block x z
     (subst (λ w. RejectIs (verdict_at before (script_of inner.value) w (goal_of shown) (n + 1)) e) begun
     (subst (λ ls. RejectIs (verdict_at before (script_of inner.value) z (goal_of ls) (n + 1)) e) same (subst (λ q. RejectIs (verdict_at before (script_of q) z (goal_of seen) (n + 1)) e) at k))))
 
-pub superposed_done : (before : List Stated) (s : Step) (form : Superpose) (names : List (List ℕ)) (shown over seen again : List Lit) (certs given : List Cert) (inner : Box Block Global) (block : Block) (x z w y after : Standing) (o : Outer) (n m : ℕ) (b : Bool)
+pub superposed_done : (before : List Stated) (s : Step) (form : Superpose) (names : List (List ℕ)) (shown over seen again : List Lit) (certs given : List Cert) (inner : Box Block Global) (block : Block) (x z w y after : StepState) (o : Checkpoint) (n m : ℕ) (b : Bool)
     → s ≡ SuperposedStep form names shown certs inner → over ≡ shown → seen ≡ shown → again ≡ shown → given ≡ certs → block ≡ inner.value → z ≡ after_superposed form x → b ≡ true → IsTested before form over given x b
-    → verdict_at before (script_of block) z (goal_of seen) (n + 1) ≡ Ok m → o ≡ outer_of x → KeepsFacts z w → y ≡ left_for o w → after ≡ with_facts (joined_all y.facts again) y → IsPassed before (step_script s) x n after m
+    → verdict_at before (script_of block) z (goal_of seen) (n + 1) ≡ Ok m → o ≡ checkpoint_of x → KeepsFacts z w → y ≡ restored o w → after ≡ with_facts (joined_all y.facts again) y → IsPassed before (step_script s) x n after m
 superposed_done before s form names shown over seen again certs given inner block x z w y after o n m b is like same twice cs at begun t h v e k left end =
     let S = script_of inner.value in
     let v' = ap (λ q. verdict_at before S q (goal_of shown) (n + 1)) (sym begun) ∙ ap (λ ls. verdict_at before S z (goal_of ls) (n + 1)) (sym same) ∙ ap (λ q. verdict_at before (script_of q) z (goal_of seen) (n + 1)) (sym at) ∙ v in
     let p = passed_superposed before form names shown certs S x n m (head_as before form names shown over certs given x b true like cs t h) v' in
     let kept = kept_on x z w (subst (KeepsFacts x) (sym begun) (stay_all x.facts (superposing.gives form x.scope))) k in
-    let back = end ∙ ap (λ q. with_facts (joined_all q.facts again) q) (left_is o x w y e kept left) ∙ ap (λ ls. with_facts (joined_all x.facts ls) x) twice in
+    let back = end ∙ ap (λ q. with_facts (joined_all q.facts again) q) (restored_is o x w y e kept left) ∙ ap (λ ls. with_facts (joined_all x.facts ls) x) twice in
     passed_as before (Superposed form names shown certs S) (step_script s) x after n m (superposed_is s form names shown certs inner is) (subst (λ q. IsPassed before (Superposed form names shown certs S) x n q m) (sym back) p)
 
 -- ---- closes that are one line, as the code has them
@@ -239,90 +239,90 @@ qed_is c objects certs is = ap close_script is ∙ close_script-Qed objects cert
 contradiction_is : (c : Close) (against : Option Against) → c ≡ ContradictionClose against → close_script c ≡ Contradiction against
 contradiction_is c against is = ap close_script is ∙ close_script-Contradiction against
 
-pub qed_parts : (before : List Stated) (c : Close) (objects : List Obj) (certs seen : List Cert) (x : Standing) (goal : Goal) (n : ℕ) → c ≡ QedClose objects certs → seen ≡ certs → IsReadyFor before (close_script c) x goal n
+pub qed_parts : (before : List Stated) (c : Close) (objects : List Obj) (certs seen : List Cert) (x : StepState) (goal : Goal) (n : ℕ) → c ≡ QedClose objects certs → seen ≡ certs → IsReadyFor before (close_script c) x goal n
     → list_all is_good_cert seen ≡ true
 qed_parts before c objects certs seen x goal n is same r =
     ap (list_all is_good_cert) same ∙ qed_written objects certs (subst (λ d. IsReadyFor before d x goal n) (qed_is c objects certs is) r).written
 
-pub contradiction_parts : (before : List Stated) (c : Close) (against : Option Against) (x : Standing) (goal : Goal) (n : ℕ) → c ≡ ContradictionClose against → IsReadyFor before (close_script c) x goal n
+pub contradiction_parts : (before : List Stated) (c : Close) (against : Option Against) (x : StepState) (goal : Goal) (n : ℕ) → c ≡ ContradictionClose against → IsReadyFor before (close_script c) x goal n
     → option_map_or is_good_against against true ≡ true
 contradiction_parts before c against x goal n is r = contradiction_written against (subst (λ d. IsReadyFor before d x goal n) (contradiction_is c against is) r).written
 
-pub qed_ok : (before : List Stated) (c : Close) (objects os : List Obj) (certs cs : List Cert) (x : Standing) (goal : Goal) (n : ℕ) (b : Bool) (r : Result ℕ Reject) → c ≡ QedClose objects certs → os ≡ objects → cs ≡ certs
+pub qed_ok : (before : List Stated) (c : Close) (objects os : List Obj) (certs cs : List Cert) (x : StepState) (goal : Goal) (n : ℕ) (b : Bool) (r : Result ℕ Reject) → c ≡ QedClose objects certs → os ≡ objects → cs ≡ certs
     → b ≡ is_certified before (line_at (Qed os cs) x goal) → IfOk r (λ next. IsTrue b × (next ≡ n + 1)) → IfOk r (λ next. verdict_at before (close_script c) x goal n ≡ Ok next)
 qed_ok before c objects os certs cs x goal n b r is o k t h =
     ok_as r (verdict_at before (close_script c) x goal n) (verdict_at before (Qed objects certs) x goal n) (ap (λ d. verdict_at before d x goal n) (qed_is c objects certs is))
-    (told_closed before (Qed objects certs) x goal n b r (qed_lines before objects certs x goal)
+    (close_certified before (Qed objects certs) x goal n b r (qed_lines before objects certs x goal)
     (t ∙ ap (λ q. is_certified before (line_at (Qed q cs) x goal)) o ∙ ap (λ q. is_certified before (line_at (Qed objects q) x goal)) k) h)
 
-pub qed_bad : (before : List Stated) (c : Close) (objects os : List Obj) (certs cs : List Cert) (x : Standing) (goal : Goal) (n : ℕ) (b : Bool) (r : Result ℕ Reject) → c ≡ QedClose objects certs → os ≡ objects → cs ≡ certs
+pub qed_bad : (before : List Stated) (c : Close) (objects os : List Obj) (certs cs : List Cert) (x : StepState) (goal : Goal) (n : ℕ) (b : Bool) (r : Result ℕ Reject) → c ≡ QedClose objects certs → os ≡ objects → cs ≡ certs
     → b ≡ is_certified before (line_at (Qed os cs) x goal) → IfErr r (λ e. IsFalse b × (e ≡ Bad n)) → IfErr r (RejectIs (verdict_at before (close_script c) x goal n))
 qed_bad before c objects os certs cs x goal n b r is o k t h =
     err_as r (verdict_at before (close_script c) x goal n) (verdict_at before (Qed objects certs) x goal n) (ap (λ d. verdict_at before d x goal n) (qed_is c objects certs is))
-    (told_open before (Qed objects certs) x goal n b r
+    (close_rejected before (Qed objects certs) x goal n b r
     (t ∙ ap (λ q. is_certified before (line_at (Qed q cs) x goal)) o ∙ ap (λ q. is_certified before (line_at (Qed objects q) x goal)) k) h)
 
-pub contradiction_ok : (before : List Stated) (c : Close) (against : Option Against) (x : Standing) (goal : Goal) (n : ℕ) (b : Bool) (r : Result ℕ Reject) → c ≡ ContradictionClose against
+pub contradiction_ok : (before : List Stated) (c : Close) (against : Option Against) (x : StepState) (goal : Goal) (n : ℕ) (b : Bool) (r : Result ℕ Reject) → c ≡ ContradictionClose against
     → b ≡ is_certified before (line_at (Contradiction against) x goal) → IfOk r (λ next. IsTrue b × (next ≡ n + 1)) → IfOk r (λ next. verdict_at before (close_script c) x goal n ≡ Ok next)
 contradiction_ok before c against x goal n b r is t h =
     ok_as r (verdict_at before (close_script c) x goal n) (verdict_at before (Contradiction against) x goal n) (ap (λ d. verdict_at before d x goal n) (contradiction_is c against is))
-    (told_closed before (Contradiction against) x goal n b r (contradiction_lines before against x goal) t h)
+    (close_certified before (Contradiction against) x goal n b r (contradiction_lines before against x goal) t h)
 
-pub contradiction_bad : (before : List Stated) (c : Close) (against : Option Against) (x : Standing) (goal : Goal) (n : ℕ) (b : Bool) (r : Result ℕ Reject) → c ≡ ContradictionClose against
+pub contradiction_bad : (before : List Stated) (c : Close) (against : Option Against) (x : StepState) (goal : Goal) (n : ℕ) (b : Bool) (r : Result ℕ Reject) → c ≡ ContradictionClose against
     → b ≡ is_certified before (line_at (Contradiction against) x goal) → IfErr r (λ e. IsFalse b × (e ≡ Bad n)) → IfErr r (RejectIs (verdict_at before (close_script c) x goal n))
 contradiction_bad before c against x goal n b r is t h =
     err_as r (verdict_at before (close_script c) x goal n) (verdict_at before (Contradiction against) x goal n) (ap (λ d. verdict_at before d x goal n) (contradiction_is c against is))
-    (told_open before (Contradiction against) x goal n b r t h)
+    (close_rejected before (Contradiction against) x goal n b r t h)
 
 -- ---- a split
 
 cases_is : (c : Close) (lit : Lit) (first second : Box Block Global) → c ≡ CasesClose lit first second → close_script c ≡ Cases lit (script_of first.value) (script_of second.value)
 cases_is c lit first second is = ap close_script is ∙ close_script-Cases lit first second
 
-pub split_fails : (before : List Stated) (c : Close) (lit : Lit) (first second : Box Block Global) (x : Standing) (goal : Goal) (n : ℕ) → c ≡ CasesClose lit first second → all_in_scope x.scope lit ≡ false → verdict_at before (close_script c) x goal n ≡ Err n
+pub split_fails : (before : List Stated) (c : Close) (lit : Lit) (first second : Box Block Global) (x : StepState) (goal : Goal) (n : ℕ) → c ≡ CasesClose lit first second → all_in_scope x.scope lit ≡ false → verdict_at before (close_script c) x goal n ≡ Err n
 split_fails before c lit first second x goal n is h =
     ap (λ d. verdict_at before d x goal n) (cases_is c lit first second is) ∙ cases_bad before lit (script_of first.value) (script_of second.value) x goal n h
 
-pub first_ready : (before : List Stated) (c : Close) (lit : Lit) (first second : Box Block Global) (block : Block) (x z : Standing) (goal : Goal) (n : ℕ) → c ≡ CasesClose lit first second → block ≡ first.value
+pub first_ready : (before : List Stated) (c : Close) (lit : Lit) (first second : Box Block Global) (block : Block) (x z : StepState) (goal : Goal) (n : ℕ) → c ≡ CasesClose lit first second → block ≡ first.value
     → z ≡ with_facts (joined x.facts lit) x → IsReadyFor before (close_script c) x goal n → IsReadyFor before (script_of block) z goal (n + 1)
 first_ready before c lit first second block x z goal n is at begun r =
     let q = cases_first before lit (script_of first.value) (script_of second.value) x goal n (subst (λ d. IsReadyFor before d x goal n) (cases_is c lit first second is) r) in
     subst (λ b. IsReadyFor before (script_of b) z goal (n + 1)) (sym at) (subst (λ w. IsReadyFor before (script_of first.value) w goal (n + 1)) (sym begun) q)
 
-pub first_stops : (before : List Stated) (c : Close) (lit : Lit) (first second : Box Block Global) (block : Block) (x z : Standing) (goal : Goal) (n : ℕ) (e : Reject) → c ≡ CasesClose lit first second → block ≡ first.value
+pub first_stops : (before : List Stated) (c : Close) (lit : Lit) (first second : Box Block Global) (block : Block) (x z : StepState) (goal : Goal) (n : ℕ) (e : Reject) → c ≡ CasesClose lit first second → block ≡ first.value
     → z ≡ with_facts (joined x.facts lit) x → all_in_scope x.scope lit ≡ true → RejectIs (verdict_at before (script_of block) z goal (n + 1)) e → RejectIs (verdict_at before (close_script c) x goal n) e
 first_stops before c lit first second block x z goal n e is at begun h k =
     reject_as (verdict_at before (close_script c) x goal n) (verdict_at before (Cases lit (script_of first.value) (script_of second.value)) x goal n) e (ap (λ d. verdict_at before d x goal n) (cases_is c lit first second is))
     (cases_rejected before lit (script_of first.value) (script_of second.value) x goal n e h
     (subst (λ w. RejectIs (verdict_at before (script_of first.value) w goal (n + 1)) e) begun (subst (λ b. RejectIs (verdict_at before (script_of b) z goal (n + 1)) e) at k)))
 
--- what holds behind the first block
-pub record Behind (before : List Stated) (lit : Lit) (first : Script) (x : Standing) (goal : Goal) (n m : ℕ) (after : Standing) : Type 0 where
+-- what holds after the first block
+pub record IsAfterFirst (before : List Stated) (lit : Lit) (first : Script) (x : StepState) (goal : Goal) (n m : ℕ) (after : StepState) : Type 0 where
   pub passed : verdict_at before first (with_facts (joined x.facts lit) x) goal (n + 1) ≡ Ok m
   pub begun : after ≡ with_facts (joined x.facts (negation lit)) x
 
-pub behind_first : (before : List Stated) (lit : Lit) (first : Box Block Global) (block : Block) (x z w y after : Standing) (o : Outer) (goal : Goal) (n m : ℕ) → block ≡ first.value → z ≡ with_facts (joined x.facts lit) x
-    → verdict_at before (script_of block) z goal (n + 1) ≡ Ok m → o ≡ outer_of x → KeepsFacts z w → y ≡ left_for o w → after ≡ with_facts (joined y.facts (negation lit)) y → Behind before lit (script_of first.value) x goal n m after
-behind_first before lit first block x z w y after o goal n m at begun v e k left end =
+pub after_first : (before : List Stated) (lit : Lit) (first : Box Block Global) (block : Block) (x z w y after : StepState) (o : Checkpoint) (goal : Goal) (n m : ℕ) → block ≡ first.value → z ≡ with_facts (joined x.facts lit) x
+    → verdict_at before (script_of block) z goal (n + 1) ≡ Ok m → o ≡ checkpoint_of x → KeepsFacts z w → y ≡ restored o w → after ≡ with_facts (joined y.facts (negation lit)) y → IsAfterFirst before lit (script_of first.value) x goal n m after
+after_first before lit first block x z w y after o goal n m at begun v e k left end =
     let kept = kept_on x z w (subst (KeepsFacts x) (sym begun) (stay_joined x.facts lit)) k in
     record {
       passed = ap (λ q. verdict_at before (script_of first.value) q goal (n + 1)) (sym begun) ∙ ap (λ b. verdict_at before (script_of b) z goal (n + 1)) (sym at) ∙ v;
-      begun = end ∙ ap (λ q. with_facts (joined q.facts (negation lit)) q) (left_is o x w y e kept left);
+      begun = end ∙ ap (λ q. with_facts (joined q.facts (negation lit)) q) (restored_is o x w y e kept left);
     }
 
-pub second_ready : (before : List Stated) (c : Close) (lit : Lit) (first second : Box Block Global) (block : Block) (x after : Standing) (goal : Goal) (n m : ℕ) → c ≡ CasesClose lit first second → block ≡ second.value
-    → Behind before lit (script_of first.value) x goal n m after → IsReadyFor before (close_script c) x goal n → IsReadyFor before (script_of block) after goal m
+pub second_ready : (before : List Stated) (c : Close) (lit : Lit) (first second : Box Block Global) (block : Block) (x after : StepState) (goal : Goal) (n m : ℕ) → c ≡ CasesClose lit first second → block ≡ second.value
+    → IsAfterFirst before lit (script_of first.value) x goal n m after → IsReadyFor before (close_script c) x goal n → IsReadyFor before (script_of block) after goal m
 second_ready before c lit first second block x after goal n m is at b r =
     let q = cases_second before lit (script_of first.value) (script_of second.value) x goal n m (subst (λ d. IsReadyFor before d x goal n) (cases_is c lit first second is) r) b.passed in
     subst (λ q. IsReadyFor before (script_of q) after goal m) (sym at) (subst (λ w. IsReadyFor before (script_of second.value) w goal m) (sym b.begun) q)
 
-pub split_same : (before : List Stated) (c : Close) (lit : Lit) (first second : Box Block Global) (block : Block) (x after : Standing) (goal : Goal) (n m : ℕ) → c ≡ CasesClose lit first second → block ≡ second.value
-    → all_in_scope x.scope lit ≡ true → Behind before lit (script_of first.value) x goal n m after → verdict_at before (close_script c) x goal n ≡ verdict_at before (script_of block) after goal m
+pub split_same : (before : List Stated) (c : Close) (lit : Lit) (first second : Box Block Global) (block : Block) (x after : StepState) (goal : Goal) (n m : ℕ) → c ≡ CasesClose lit first second → block ≡ second.value
+    → all_in_scope x.scope lit ≡ true → IsAfterFirst before lit (script_of first.value) x goal n m after → verdict_at before (close_script c) x goal n ≡ verdict_at before (script_of block) after goal m
 split_same before c lit first second block x after goal n m is at h b =
     ap (λ d. verdict_at before d x goal n) (cases_is c lit first second is)
     ∙ cases_same before lit (script_of first.value) (script_of second.value) x goal n m h b.passed
     ∙ ap (λ w. verdict_at before (script_of second.value) w goal m) (sym b.begun)
     ∙ ap (λ q. verdict_at before (script_of q) after goal m) (sym at)
 
-pub kept_behind : (before : List Stated) (lit : Lit) (first : Script) (x after z : Standing) (goal : Goal) (n m : ℕ) → Behind before lit first x goal n m after → KeepsFacts after z → KeepsFacts x z
-kept_behind before lit first x after z goal n m b k = kept_on x after z (subst (KeepsFacts x) (sym b.begun) (stay_joined x.facts (negation lit))) k
+pub kept_after_first : (before : List Stated) (lit : Lit) (first : Script) (x after z : StepState) (goal : Goal) (n m : ℕ) → IsAfterFirst before lit first x goal n m after → KeepsFacts after z → KeepsFacts x z
+kept_after_first before lit first x after z goal n m b k = kept_on x after z (subst (KeepsFacts x) (sym b.begun) (stay_joined x.facts (negation lit))) k

@@ -91,21 +91,21 @@ numbered_certified before (Claim shown inner rest) s facts goal h =
     let first : Bool = is_certified before (line (Claim shown inner rest) (Claim shown inner rest) s facts goal) in
     let within : List Line = lines before inner inner s facts (goal_of shown) in
     let next : List Line = lines before rest rest s (joined_all facts shown) goal in
-    let behind = and_right first (are_certified before (within ++ next)) h in
+    let later = and_right first (are_certified before (within ++ next)) h in
     both_true _ _ (and_left first (are_certified before (within ++ next)) h)
     (all_both (is_certified before) (lines_of before (with_places before inner s facts (goal_of shown)) s facts (goal_of shown)) (lines_of before (with_places before rest s (joined_all facts shown) goal) s (joined_all facts shown) goal)
-    (numbered_certified before inner s facts (goal_of shown) (all_left (is_certified before) within next behind))
-    (numbered_certified before rest s (joined_all facts shown) goal (all_right (is_certified before) within next behind)))
+    (numbered_certified before inner s facts (goal_of shown) (all_left (is_certified before) within next later))
+    (numbered_certified before rest s (joined_all facts shown) goal (all_right (is_certified before) within next later)))
 numbered_certified before (Superposed form names shown certs inner rest) s facts goal h =
     let first : Bool = is_certified before (line (Superposed form names shown certs inner rest) (Superposed form names shown certs inner rest) s facts goal) in
     let within : List Line = lines before inner inner (grown s superposing.made) (joined_all facts (superposing.gives form s)) (goal_of shown) in
     let next : List Line = lines before rest rest s (joined_all facts shown) goal in
-    let behind = and_right first (are_certified before (within ++ next)) h in
+    let later = and_right first (are_certified before (within ++ next)) h in
     both_true _ _ (with_certs (superposing.fits form s && are_over s shown) _ _ true (certs_certified s facts (superposing.needs form) certs) (and_left first (are_certified before (within ++ next)) h))
     (all_both (is_certified before) (lines_of before (with_places before inner (grown s superposing.made) (joined_all facts (superposing.gives form s)) (goal_of shown)) (grown s superposing.made) (joined_all facts (superposing.gives form s)) (goal_of shown))
     (lines_of before (with_places before rest s (joined_all facts shown) goal) s (joined_all facts shown) goal)
-    (numbered_certified before inner (grown s superposing.made) (joined_all facts (superposing.gives form s)) (goal_of shown) (all_left (is_certified before) within next behind))
-    (numbered_certified before rest s (joined_all facts shown) goal (all_right (is_certified before) within next behind)))
+    (numbered_certified before inner (grown s superposing.made) (joined_all facts (superposing.gives form s)) (goal_of shown) (all_left (is_certified before) within next later))
+    (numbered_certified before rest s (joined_all facts shown) goal (all_right (is_certified before) within next later)))
 numbered_certified before (Qed objects certs) s facts goal h =
     let first : Bool = is_certified before (line (Qed objects certs) (Qed objects certs) s facts goal) in
     both_true _ _ (with_certs (are_for goal s objects) _ _ true (certs_certified s facts (needs before (line (Qed objects certs) (Qed objects certs) s facts goal)) certs) (and_left first true h)) refl
@@ -117,11 +117,11 @@ numbered_certified before (Cases lit one two) s facts goal h =
     let first : Bool = is_certified before (line (Cases lit one two) (Cases lit one two) s facts goal) in
     let within : List Line = lines before one one s (joined facts lit) goal in
     let next : List Line = lines before two two s (joined facts (negation lit)) goal in
-    let behind = and_right first (are_certified before (within ++ next)) h in
+    let later = and_right first (are_certified before (within ++ next)) h in
     both_true _ _ (and_left first (are_certified before (within ++ next)) h)
     (all_both (is_certified before) (lines_of before (with_places before one s (joined facts lit) goal) s (joined facts lit) goal) (lines_of before (with_places before two s (joined facts (negation lit)) goal) s (joined facts (negation lit)) goal)
-    (numbered_certified before one s (joined facts lit) goal (all_left (is_certified before) within next behind))
-    (numbered_certified before two s (joined facts (negation lit)) goal (all_right (is_certified before) within next behind)))
+    (numbered_certified before one s (joined facts lit) goal (all_left (is_certified before) within next later))
+    (numbered_certified before two s (joined facts (negation lit)) goal (all_right (is_certified before) within next later)))
 
 -- ---- the script is the same
 
@@ -260,18 +260,18 @@ numbered_of_second before (Apply theorem args names certs rest) s facts goal w h
 numbered_of_second before (Claim shown inner rest) s facts goal w h =
     let within : List Line = lines before inner inner s facts (goal_of shown) in
     let next : List Line = lines before rest rest s (joined_all facts shown) goal in
-    let behind = and_right (nat_lt (length facts) (2 ^ 32)) (list_all has_few (within ++ next)) h in
+    let later = and_right (nat_lt (length facts) (2 ^ 32)) (list_all has_few (within ++ next)) h in
     let k = claim_written shown inner rest w in
-    both_true _ _ (numbered_of_second before inner s facts (goal_of shown) k.1 (all_left has_few within next behind))
-    (numbered_of_second before rest s (joined_all facts shown) goal k.2 (all_right has_few within next behind))
+    both_true _ _ (numbered_of_second before inner s facts (goal_of shown) k.1 (all_left has_few within next later))
+    (numbered_of_second before rest s (joined_all facts shown) goal k.2 (all_right has_few within next later))
 numbered_of_second before (Superposed form names shown certs inner rest) s facts goal w h =
     let within : List Line = lines before inner inner (grown s superposing.made) (joined_all facts (superposing.gives form s)) (goal_of shown) in
     let next : List Line = lines before rest rest s (joined_all facts shown) goal in
-    let behind = and_right (nat_lt (length facts) (2 ^ 32)) (list_all has_few (within ++ next)) h in
+    let later = and_right (nat_lt (length facts) (2 ^ 32)) (list_all has_few (within ++ next)) h in
     let k = superposed_written form names shown certs inner rest w in
     both_true _ _ (certs_of_second facts (few_of facts _ h) (superposing.needs form) certs k.1)
-    (both_true _ _ (numbered_of_second before inner (grown s superposing.made) (joined_all facts (superposing.gives form s)) (goal_of shown) k.2 (all_left has_few within next behind))
-    (numbered_of_second before rest s (joined_all facts shown) goal k.3 (all_right has_few within next behind)))
+    (both_true _ _ (numbered_of_second before inner (grown s superposing.made) (joined_all facts (superposing.gives form s)) (goal_of shown) k.2 (all_left has_few within next later))
+    (numbered_of_second before rest s (joined_all facts shown) goal k.3 (all_right has_few within next later)))
 numbered_of_second before (Qed objects certs) s facts goal w h =
     certs_of_second facts (few_of facts _ h) (needs before (line (Qed objects certs) (Qed objects certs) s facts goal)) certs (qed_written objects certs w)
 numbered_of_second before (Contradiction None) s facts goal w h = refl
@@ -279,7 +279,7 @@ numbered_of_second before (Contradiction (Some against)) s facts goal w h = agai
 numbered_of_second before (Cases lit one two) s facts goal w h =
     let within : List Line = lines before one one s (joined facts lit) goal in
     let next : List Line = lines before two two s (joined facts (negation lit)) goal in
-    let behind = and_right (nat_lt (length facts) (2 ^ 32)) (list_all has_few (within ++ next)) h in
+    let later = and_right (nat_lt (length facts) (2 ^ 32)) (list_all has_few (within ++ next)) h in
     let k = cases_written lit one two w in
-    both_true _ _ (numbered_of_second before one s (joined facts lit) goal k.1 (all_left has_few within next behind))
-    (numbered_of_second before two s (joined facts (negation lit)) goal k.2 (all_right has_few within next behind))
+    both_true _ _ (numbered_of_second before one s (joined facts lit) goal k.1 (all_left has_few within next later))
+    (numbered_of_second before two s (joined facts (negation lit)) goal k.2 (all_right has_few within next later))

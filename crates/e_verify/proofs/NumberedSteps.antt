@@ -28,98 +28,98 @@ use Rattle.e_deriv.specs.Lines.{theorem_at}
 use Rattle.e_deriv.specs.Parts.{written}
 use Rattle.e_deriv.proofs.Scripts.{steps_at, steps_script-append, step_script-Cite, step_script-Hence, step_script-Make, step_script-Apply, step_script-Claim, step_script-Superposed, close_script-Qed, close_script-Contradiction, close_script-Cases}
 use Rattle.e_deriv.proofs.Keeping.{stay_joined, stay_all}
-use Rattle.e_verify.specs.declared.standing.Standing.{Standing}
-use Rattle.e_verify.specs.declared.standing.Outer.{Outer}
-use Rattle.e_verify.specs.inner.Standing.{with_facts, after_superposed, outer_of, left_for}
+use Rattle.e_verify.specs.declared.step_state.StepState.{StepState}
+use Rattle.e_verify.specs.declared.step_state.Checkpoint.{Checkpoint}
+use Rattle.e_verify.specs.inner.StepStates.{with_facts, after_superposed, checkpoint_of, restored}
 use Rattle.e_verify.specs.inner.Numbering.{has_few, HaveFew, IsNumberedStep, places_at}
 use Rattle.e_verify.specs.Checking.{line_at, lines_at, KeepsFacts}
 use Rattle.e_verify.specs.Numbered.{placed_cert, placed_certs, placed_against, with_places}
 use Rattle.e_verify.proofs.FirstLines.{cite_lines, hence_lines, make_lines, apply_lines, qed_lines, contradiction_lines, cases_lines, claim_lines, superposed_lines, after_make, after_apply}
-use Rattle.e_verify.proofs.Inside.{kept_on, left_is}
+use Rattle.e_verify.proofs.Inside.{kept_on, restored_is}
 
 -- ---- what is put at one line
 
-cite_places : (before : List Stated) (by : By) (x : Standing) (rest : Script) (goal : Goal) → places_at before (Cite by rest) x goal ≡ Cite by (places_at before rest (with_facts (joined x.facts by.lit) x) goal)
+cite_places : (before : List Stated) (by : By) (x : StepState) (rest : Script) (goal : Goal) → places_at before (Cite by rest) x goal ≡ Cite by (places_at before rest (with_facts (joined x.facts by.lit) x) goal)
 unfolding with_places
 cite_places before by x rest goal = refl
 
-hence_places : (before : List Stated) (lit : Lit) (cert : Option Cert) (x : Standing) (rest : Script) (goal : Goal)
+hence_places : (before : List Stated) (lit : Lit) (cert : Option Cert) (x : StepState) (rest : Script) (goal : Goal)
     → places_at before (Hence lit cert rest) x goal ≡ Hence lit (option_map (placed_cert x.facts lit) cert) (places_at before rest (with_facts (joined x.facts lit) x) goal)
 unfolding with_places
 hence_places before lit cert x rest goal = refl
 
-make_places : (before : List Stated) (form : Construction) (names : List (List ℕ)) (certs : List Cert) (x : Standing) (rest : Script) (goal : Goal)
+make_places : (before : List Stated) (form : Construction) (names : List (List ℕ)) (certs : List Cert) (x : StepState) (rest : Script) (goal : Goal)
     → places_at before (Make form names certs rest) x goal ≡ Make form names (placed_certs x.facts (construct.needs form) certs) (places_at before rest (after_make form x) goal)
 unfolding with_places
 make_places before form names certs x rest goal = refl
 
-apply_places : (before : List Stated) (theorem : ℕ) (args : List (Option Obj)) (names : List (List ℕ)) (certs : List Cert) (x : Standing) (rest : Script) (goal : Goal)
+apply_places : (before : List Stated) (theorem : ℕ) (args : List (Option Obj)) (names : List (List ℕ)) (certs : List Cert) (x : StepState) (rest : Script) (goal : Goal)
     → places_at before (Apply theorem args names certs rest) x goal
     ≡ Apply theorem args names (placed_certs x.facts (needs_of_use (theorem_at before theorem) (written args) x.scope) certs) (places_at before rest (after_apply (theorem_at before theorem) (written args) x) goal)
 unfolding with_places
 apply_places before theorem args names certs x rest goal = refl
 
-claim_places : (before : List Stated) (shown : List Lit) (inner : Script) (x : Standing) (rest : Script) (goal : Goal)
+claim_places : (before : List Stated) (shown : List Lit) (inner : Script) (x : StepState) (rest : Script) (goal : Goal)
     → places_at before (Claim shown inner rest) x goal ≡ Claim shown (places_at before inner x (goal_of shown)) (places_at before rest (with_facts (joined_all x.facts shown) x) goal)
 unfolding with_places
 claim_places before shown inner x rest goal = refl
 
-superposed_places : (before : List Stated) (form : Superpose) (names : List (List ℕ)) (shown : List Lit) (certs : List Cert) (inner : Script) (x : Standing) (rest : Script) (goal : Goal)
+superposed_places : (before : List Stated) (form : Superpose) (names : List (List ℕ)) (shown : List Lit) (certs : List Cert) (inner : Script) (x : StepState) (rest : Script) (goal : Goal)
     → places_at before (Superposed form names shown certs inner rest) x goal
     ≡ Superposed form names shown (placed_certs x.facts (superposing.needs form) certs) (places_at before inner (after_superposed form x) (goal_of shown)) (places_at before rest (with_facts (joined_all x.facts shown) x) goal)
 unfolding with_places
 superposed_places before form names shown certs inner x rest goal = refl
 
-pub qed_places : (before : List Stated) (objects : List Obj) (certs : List Cert) (x : Standing) (goal : Goal) → places_at before (Qed objects certs) x goal ≡ Qed objects (placed_certs x.facts (goal_with goal objects) certs)
+pub qed_places : (before : List Stated) (objects : List Obj) (certs : List Cert) (x : StepState) (goal : Goal) → places_at before (Qed objects certs) x goal ≡ Qed objects (placed_certs x.facts (goal_with goal objects) certs)
 unfolding with_places
 qed_places before objects certs x goal = refl
 
-pub contradiction_places : (before : List Stated) (against : Option Against) (x : Standing) (goal : Goal) → places_at before (Contradiction against) x goal ≡ Contradiction (option_map (placed_against x.facts) against)
+pub contradiction_places : (before : List Stated) (against : Option Against) (x : StepState) (goal : Goal) → places_at before (Contradiction against) x goal ≡ Contradiction (option_map (placed_against x.facts) against)
 unfolding with_places
 contradiction_places before against x goal = refl
 
-cases_places : (before : List Stated) (lit : Lit) (first second : Script) (x : Standing) (goal : Goal)
+cases_places : (before : List Stated) (lit : Lit) (first second : Script) (x : StepState) (goal : Goal)
     → places_at before (Cases lit first second) x goal ≡ Cases lit (places_at before first (with_facts (joined x.facts lit) x) goal) (places_at before second (with_facts (joined x.facts (negation lit)) x) goal)
 unfolding with_places
 cases_places before lit first second x goal = refl
 
 -- ---- few facts before each line
 
-few_first : (x : Standing) → length x.facts < 2 ^ 32 → nat_lt (length x.facts) (2 ^ 32) ≡ true
+few_first : (x : StepState) → length x.facts < 2 ^ 32 → nat_lt (length x.facts) (2 ^ 32) ≡ true
 few_first x few = lt-ltb (length x.facts) (2 ^ 32) few
 
-few_line : (before : List Stated) (d : Script) (x : Standing) (goal : Goal) (rest : Script) (after : Standing) → length x.facts < 2 ^ 32 → lines_at before d x goal ≡ line_at d x goal ∷ lines_at before rest after goal
+few_line : (before : List Stated) (d : Script) (x : StepState) (goal : Goal) (rest : Script) (after : StepState) → length x.facts < 2 ^ 32 → lines_at before d x goal ≡ line_at d x goal ∷ lines_at before rest after goal
     → HaveFew before rest after goal → HaveFew before d x goal
 few_line before d x goal rest after few is h = ap (list_all has_few) is ∙ ap₂ {A = Bool} {B = Bool} (λ a b. a && b) (few_first x few) h
 
-pub few_close : (before : List Stated) (d : Script) (x : Standing) (goal : Goal) → length x.facts < 2 ^ 32 → lines_at before d x goal ≡ line_at d x goal ∷ [] → HaveFew before d x goal
+pub few_close : (before : List Stated) (d : Script) (x : StepState) (goal : Goal) → length x.facts < 2 ^ 32 → lines_at before d x goal ≡ line_at d x goal ∷ [] → HaveFew before d x goal
 few_close before d x goal few is = ap (list_all has_few) is ∙ ap₂ {A = Bool} {B = Bool} (λ a b. a && b) (few_first x few) refl
 
 -- ---- steps of one line
 
-pub cite_numbered : (before : List Stated) (by : By) (x after : Standing) (s : Step) → s ≡ CiteStep by → after ≡ with_facts (joined x.facts by.lit) x → IsNumberedStep before (Cite by) x (step_script s) after
+pub cite_numbered : (before : List Stated) (by : By) (x after : StepState) (s : Step) → s ≡ CiteStep by → after ≡ with_facts (joined x.facts by.lit) x → IsNumberedStep before (Cite by) x (step_script s) after
 cite_numbered before by x after s is end =
-    subst (λ (y : Standing). IsNumberedStep before (Cite by) x (step_script s) y) (sym end)
+    subst (λ (y : StepState). IsNumberedStep before (Cite by) x (step_script s) y) (sym end)
     (record {
       same = λ rest goal. cite_places before by x rest goal ∙ sym (ap (λ t. step_script t (places_at before rest (with_facts (joined x.facts by.lit) x) goal)) is ∙ step_script-Cite by _);
       few = λ few rest goal h. few_line before (Cite by rest) x goal rest (with_facts (joined x.facts by.lit) x) few (cite_lines before by x rest goal) h;
       kept = stay_joined x.facts by.lit;
     })
 
-pub hence_numbered : (before : List Stated) (lit : Lit) (cert : Option Cert) (x after : Standing) (s : Step) → s ≡ HenceStep lit (option_map (placed_cert x.facts lit) cert) → after ≡ with_facts (joined x.facts lit) x
+pub hence_numbered : (before : List Stated) (lit : Lit) (cert : Option Cert) (x after : StepState) (s : Step) → s ≡ HenceStep lit (option_map (placed_cert x.facts lit) cert) → after ≡ with_facts (joined x.facts lit) x
     → IsNumberedStep before (Hence lit cert) x (step_script s) after
 hence_numbered before lit cert x after s is end =
-    subst (λ (y : Standing). IsNumberedStep before (Hence lit cert) x (step_script s) y) (sym end)
+    subst (λ (y : StepState). IsNumberedStep before (Hence lit cert) x (step_script s) y) (sym end)
     (record {
       same = λ rest goal. hence_places before lit cert x rest goal ∙ sym (ap (λ t. step_script t (places_at before rest (with_facts (joined x.facts lit) x) goal)) is ∙ step_script-Hence lit (option_map (placed_cert x.facts lit) cert) _);
       few = λ few rest goal h. few_line before (Hence lit cert rest) x goal rest (with_facts (joined x.facts lit) x) few (hence_lines before lit cert x rest goal) h;
       kept = stay_joined x.facts lit;
     })
 
-pub make_numbered : (before : List Stated) (form : Construction) (names : List (List ℕ)) (certs : List Cert) (x after : Standing) (s : Step) → s ≡ MakeStep form names (placed_certs x.facts (construct.needs form) certs) → after ≡ after_make form x
+pub make_numbered : (before : List Stated) (form : Construction) (names : List (List ℕ)) (certs : List Cert) (x after : StepState) (s : Step) → s ≡ MakeStep form names (placed_certs x.facts (construct.needs form) certs) → after ≡ after_make form x
     → IsNumberedStep before (Make form names certs) x (step_script s) after
 make_numbered before form names certs x after s is end =
-    subst (λ (y : Standing). IsNumberedStep before (Make form names certs) x (step_script s) y) (sym end)
+    subst (λ (y : StepState). IsNumberedStep before (Make form names certs) x (step_script s) y) (sym end)
     (record {
       same = λ rest goal. make_places before form names certs x rest goal
           ∙ sym (ap (λ t. step_script t (places_at before rest (after_make form x) goal)) is ∙ step_script-Make form names (placed_certs x.facts (construct.needs form) certs) _);
@@ -127,23 +127,23 @@ make_numbered before form names certs x after s is end =
       kept = stay_all x.facts (construct.gives form x.scope);
     })
 
-pub apply_numbered : (before : List Stated) (theorem : ℕ) (args : List (Option Obj)) (names : List (List ℕ)) (certs : List Cert) (x after : Standing) (s : Step)
+pub apply_numbered : (before : List Stated) (theorem : ℕ) (args : List (Option Obj)) (names : List (List ℕ)) (certs : List Cert) (x after : StepState) (s : Step)
     → s ≡ ApplyStep theorem args names (placed_certs x.facts (needs_of_use (theorem_at before theorem) (written args) x.scope) certs) → after ≡ after_apply (theorem_at before theorem) (written args) x
     → IsNumberedStep before (Apply theorem args names certs) x (step_script s) after
 apply_numbered before theorem args names certs x after s is end =
     let t = theorem_at before theorem in
     let placed = placed_certs x.facts (needs_of_use t (written args) x.scope) certs in
-    subst (λ (y : Standing). IsNumberedStep before (Apply theorem args names certs) x (step_script s) y) (sym end)
+    subst (λ (y : StepState). IsNumberedStep before (Apply theorem args names certs) x (step_script s) y) (sym end)
     (record {
       same = λ rest goal. apply_places before theorem args names certs x rest goal ∙ sym (ap (λ u. step_script u (places_at before rest (after_apply t (written args) x) goal)) is ∙ step_script-Apply theorem args names placed _);
       few = λ few rest goal h. few_line before (Apply theorem args names certs rest) x goal rest (after_apply t (written args) x) few (apply_lines before theorem args names certs x rest goal) h;
       kept = stay_all x.facts (gives_of_use t (written args) x.scope);
     })
 
-pub qed_numbered : (before : List Stated) (objects : List Obj) (certs : List Cert) (x : Standing) (goal : Goal) (c : Close) → c ≡ QedClose objects (placed_certs x.facts (goal_with goal objects) certs) → close_script c ≡ places_at before (Qed objects certs) x goal
+pub qed_numbered : (before : List Stated) (objects : List Obj) (certs : List Cert) (x : StepState) (goal : Goal) (c : Close) → c ≡ QedClose objects (placed_certs x.facts (goal_with goal objects) certs) → close_script c ≡ places_at before (Qed objects certs) x goal
 qed_numbered before objects certs x goal c is = ap close_script is ∙ close_script-Qed objects (placed_certs x.facts (goal_with goal objects) certs) ∙ sym (qed_places before objects certs x goal)
 
-pub contradiction_numbered : (before : List Stated) (against : Option Against) (x : Standing) (goal : Goal) (c : Close) → c ≡ ContradictionClose (option_map (placed_against x.facts) against) → close_script c ≡ places_at before (Contradiction against) x goal
+pub contradiction_numbered : (before : List Stated) (against : Option Against) (x : StepState) (goal : Goal) (c : Close) → c ≡ ContradictionClose (option_map (placed_against x.facts) against) → close_script c ≡ places_at before (Contradiction against) x goal
 contradiction_numbered before against x goal c is = ap close_script is ∙ close_script-Contradiction (option_map (placed_against x.facts) against) ∙ sym (contradiction_places before against x goal)
 
 pub ruleset placing = (common_steps, cite_numbered, hence_numbered, make_numbered, apply_numbered, qed_numbered, contradiction_numbered)
@@ -151,61 +151,61 @@ pub ruleset placing = (common_steps, cite_numbered, hence_numbered, make_numbere
 -- ---- steps with a block inside
 
 -- back where the block was entered, with what it shows
-back_is : (o : Outer) (x z after : Standing) (again shown : List Lit) → o ≡ outer_of x → KeepsFacts x z → again ≡ shown → after ≡ with_facts (joined_all (left_for o z).facts again) (left_for o z) → after ≡ with_facts (joined_all x.facts shown) x
+back_is : (o : Checkpoint) (x z after : StepState) (again shown : List Lit) → o ≡ checkpoint_of x → KeepsFacts x z → again ≡ shown → after ≡ with_facts (joined_all (restored o z).facts again) (restored o z) → after ≡ with_facts (joined_all x.facts shown) x
 back_is o x z after again shown e k twice end =
-    end ∙ ap (λ w. with_facts (joined_all w.facts again) w) (left_is o x z (left_for o z) e k refl) ∙ ap (λ ls. with_facts (joined_all x.facts ls) x) twice
+    end ∙ ap (λ w. with_facts (joined_all w.facts again) w) (restored_is o x z (restored o z) e k refl) ∙ ap (λ ls. with_facts (joined_all x.facts ls) x) twice
 
-pub claim_numbered : (before : List Stated) (step : Step) (shown seen again : List Lit) (inner : Box Block Global) (block numbered : Block) (x z after : Standing) (o : Outer) (s : Step)
+pub claim_numbered : (before : List Stated) (step : Step) (shown seen again : List Lit) (inner : Box Block Global) (block numbered : Block) (x z after : StepState) (o : Checkpoint) (s : Step)
     → step ≡ ClaimStep shown inner → seen ≡ shown → again ≡ shown → block ≡ inner.value
-    → script_of numbered ≡ places_at before (script_of block) x (goal_of seen) → HaveFew before (script_of block) x (goal_of seen) → o ≡ outer_of x → KeepsFacts x z
-    → ((rest : Script) → step_script s rest ≡ Claim again (script_of numbered) rest) → after ≡ with_facts (joined_all (left_for o z).facts again) (left_for o z) → IsNumberedStep before (step_script step) x (step_script s) after
+    → script_of numbered ≡ places_at before (script_of block) x (goal_of seen) → HaveFew before (script_of block) x (goal_of seen) → o ≡ checkpoint_of x → KeepsFacts x z
+    → ((rest : Script) → step_script s rest ≡ Claim again (script_of numbered) rest) → after ≡ with_facts (joined_all (restored o z).facts again) (restored o z) → IsNumberedStep before (step_script step) x (step_script s) after
 claim_numbered before step shown seen again inner block numbered x z after o s is same twice at placed few e k made end =
     let inside : Script = script_of inner.value in
-    let behind : Standing = with_facts (joined_all x.facts shown) x in
+    let later : StepState = with_facts (joined_all x.facts shown) x in
     let block_placed : script_of numbered ≡ places_at before inside x (goal_of shown) =
     placed ∙ ap (λ b. places_at before (script_of b) x (goal_of seen)) at ∙ ap (λ ls. places_at before inside x (goal_of ls)) same in
     let block_few : HaveFew before inside x (goal_of shown) = subst (λ ls. HaveFew before inside x (goal_of ls)) same (subst (λ b. HaveFew before (script_of b) x (goal_of seen)) at few) in
-    subst (λ (w : Standing). IsNumberedStep before (step_script step) x (step_script s) w) (sym (back_is o x z after again shown e k twice end))
+    subst (λ (w : StepState). IsNumberedStep before (step_script step) x (step_script s) w) (sym (back_is o x z after again shown e k twice end))
     (record {
       same = λ rest goal.
           ap (λ t. places_at before (step_script t rest) x goal) is ∙ ap (λ d. places_at before d x goal) (step_script-Claim shown inner rest) ∙ claim_places before shown inside x rest goal
-          ∙ ap₂ {A = List Lit} {B = Script} (λ ls d. Claim ls d (places_at before rest behind goal)) (sym twice) (sym block_placed)
-          ∙ sym (made (places_at before rest behind goal));
+          ∙ ap₂ {A = List Lit} {B = Script} (λ ls d. Claim ls d (places_at before rest later goal)) (sym twice) (sym block_placed)
+          ∙ sym (made (places_at before rest later goal));
       few = λ all rest goal h.
           ap (λ t. list_all has_few (lines_at before (step_script t rest) x goal)) is ∙ ap (λ d. list_all has_few (lines_at before d x goal)) (step_script-Claim shown inner rest)
           ∙ ap (list_all has_few) (claim_lines before shown inside x rest goal)
-          ∙ ap₂ {A = Bool} {B = Bool} (λ a b. a && b) (few_first x all) (all_both has_few (lines_at before inside x (goal_of shown)) (lines_at before rest behind goal) block_few h);
+          ∙ ap₂ {A = Bool} {B = Bool} (λ a b. a && b) (few_first x all) (all_both has_few (lines_at before inside x (goal_of shown)) (lines_at before rest later goal) block_few h);
       kept = stay_all x.facts shown;
     })
 
-pub superposed_numbered : (before : List Stated) (step : Step) (form : Superpose) (names copies : List (List ℕ)) (shown seen again : List Lit) (certs given placed : List Cert) (inner : Box Block Global) (block numbered : Block) (x z w after : Standing) (o : Outer) (s : Step)
+pub superposed_numbered : (before : List Stated) (step : Step) (form : Superpose) (names copies : List (List ℕ)) (shown seen again : List Lit) (certs given placed : List Cert) (inner : Box Block Global) (block numbered : Block) (x z w after : StepState) (o : Checkpoint) (s : Step)
     → step ≡ SuperposedStep form names shown certs inner → seen ≡ shown → again ≡ shown → copies ≡ names → given ≡ certs → block ≡ inner.value
     → placed ≡ placed_certs x.facts (superposing.needs form) given → z ≡ after_superposed form x
-    → script_of numbered ≡ places_at before (script_of block) z (goal_of seen) → HaveFew before (script_of block) z (goal_of seen) → o ≡ outer_of x → KeepsFacts z w
-    → ((rest : Script) → step_script s rest ≡ Superposed form copies again placed (script_of numbered) rest) → after ≡ with_facts (joined_all (left_for o w).facts again) (left_for o w)
+    → script_of numbered ≡ places_at before (script_of block) z (goal_of seen) → HaveFew before (script_of block) z (goal_of seen) → o ≡ checkpoint_of x → KeepsFacts z w
+    → ((rest : Script) → step_script s rest ≡ Superposed form copies again placed (script_of numbered) rest) → after ≡ with_facts (joined_all (restored o w).facts again) (restored o w)
     → IsNumberedStep before (step_script step) x (step_script s) after
 superposed_numbered before step form names copies shown seen again certs given placed inner block numbered x z w after o s is same twice named cs at put begun block_is few e k made end =
     let kept = kept_on x z w (subst (KeepsFacts x) (sym begun) (stay_all x.facts (superposing.gives form x.scope))) k in
     let inside : Script = script_of inner.value in
-    let begin : Standing = after_superposed form x in
-    let behind : Standing = with_facts (joined_all x.facts shown) x in
+    let begin : StepState = after_superposed form x in
+    let later : StepState = with_facts (joined_all x.facts shown) x in
     let block_placed : script_of numbered ≡ places_at before inside begin (goal_of shown) =
     block_is ∙ ap (λ q. places_at before (script_of block) q (goal_of seen)) begun ∙ ap (λ b. places_at before (script_of b) begin (goal_of seen)) at ∙ ap (λ ls. places_at before inside begin (goal_of ls)) same in
     let block_few : HaveFew before inside begin (goal_of shown) =
     subst (λ ls. HaveFew before inside begin (goal_of ls)) same (subst (λ b. HaveFew before (script_of b) begin (goal_of seen)) at (subst (λ q. HaveFew before (script_of block) q (goal_of seen)) begun few)) in
     let certs_placed : placed ≡ placed_certs x.facts (superposing.needs form) certs = put ∙ ap (placed_certs x.facts (superposing.needs form)) cs in
-    subst (λ (q : Standing). IsNumberedStep before (step_script step) x (step_script s) q) (sym (back_is o x w after again shown e kept twice end))
+    subst (λ (q : StepState). IsNumberedStep before (step_script step) x (step_script s) q) (sym (back_is o x w after again shown e kept twice end))
     (record {
       same = λ rest goal.
           ap (λ t. places_at before (step_script t rest) x goal) is ∙ ap (λ d. places_at before d x goal) (step_script-Superposed form names shown certs inner rest) ∙ superposed_places before form names shown certs inside x rest goal
-          ∙ sym (made (places_at before rest behind goal)
-          ∙ ap (λ ns. Superposed form ns again placed (script_of numbered) (places_at before rest behind goal)) named
-          ∙ ap (λ ls. Superposed form names ls placed (script_of numbered) (places_at before rest behind goal)) twice
-          ∙ ap₂ {A = List Cert} {B = Script} (λ ps d. Superposed form names shown ps d (places_at before rest behind goal)) certs_placed block_placed);
+          ∙ sym (made (places_at before rest later goal)
+          ∙ ap (λ ns. Superposed form ns again placed (script_of numbered) (places_at before rest later goal)) named
+          ∙ ap (λ ls. Superposed form names ls placed (script_of numbered) (places_at before rest later goal)) twice
+          ∙ ap₂ {A = List Cert} {B = Script} (λ ps d. Superposed form names shown ps d (places_at before rest later goal)) certs_placed block_placed);
       few = λ all rest goal h.
           ap (λ t. list_all has_few (lines_at before (step_script t rest) x goal)) is ∙ ap (λ d. list_all has_few (lines_at before d x goal)) (step_script-Superposed form names shown certs inner rest)
           ∙ ap (list_all has_few) (superposed_lines before form names shown certs inside x rest goal)
-          ∙ ap₂ {A = Bool} {B = Bool} (λ a b. a && b) (few_first x all) (all_both has_few (lines_at before inside begin (goal_of shown)) (lines_at before rest behind goal) block_few h);
+          ∙ ap₂ {A = Bool} {B = Bool} (λ a b. a && b) (few_first x all) (all_both has_few (lines_at before inside begin (goal_of shown)) (lines_at before rest later goal) block_few h);
       kept = stay_all x.facts shown;
     })
 
@@ -224,7 +224,7 @@ where_ok (Ok x) a = a
 where_ok (Err e) a = tt
 
 -- a step as the code has it
-pub step_as : (before : List Stated) (step : Step) (f g : Script → Script) (x after : Standing) → ((rest : Script) → step_script step rest ≡ f rest) → IsNumberedStep before f x g after → IsNumberedStep before (step_script step) x g after
+pub step_as : (before : List Stated) (step : Step) (f g : Script → Script) (x after : StepState) → ((rest : Script) → step_script step rest ≡ f rest) → IsNumberedStep before f x g after → IsNumberedStep before (step_script step) x g after
 step_as before step f g x after e h = record {
   same = λ rest goal. ap (λ d. places_at before d x goal) (e rest) ∙ h.same rest goal;
   few = λ all rest goal k. subst (λ d. HaveFew before d x goal) (sym (e rest)) (h.few all rest goal k);
@@ -232,13 +232,13 @@ step_as before step f g x after e h = record {
 }
 
 -- the same of what a call gave
-pub step_ok : {E : Type 0} (before : List Stated) (step : Step) (f : Script → Script) (x after : Standing) (r : Result Step E) → ((rest : Script) → step_script step rest ≡ f rest)
+pub step_ok : {E : Type 0} (before : List Stated) (step : Step) (f : Script → Script) (x after : StepState) (r : Result Step E) → ((rest : Script) → step_script step rest ≡ f rest)
     → IfOk r (λ s. IsNumberedStep before f x (step_script s) after) → IfOk r (λ s. IsNumberedStep before (step_script step) x (step_script s) after)
 step_ok before step f x after (Ok s) e h = step_as before step f (step_script s) x after e h
 step_ok before step f x after (Err k) e h = h
 
 -- what holds whatever came before holds with this before
-pub all_before : {E : Type 0} (before : List Stated) (f : Script → Script) (x after : Standing) (r : Result Step E)
+pub all_before : {E : Type 0} (before : List Stated) (f : Script → Script) (x after : StepState) (r : Result Step E)
     → IfOk r (λ s. (bs : List Stated) → IsNumberedStep bs f x (step_script s) after) → IfOk r (λ s. IsNumberedStep before f x (step_script s) after)
 all_before before f x after (Ok s) h = h before
 all_before before f x after (Err k) h = h
@@ -248,36 +248,36 @@ all_before before f x after (Err k) h = h
 qed_is : (c : Close) (objects : List Obj) (certs : List Cert) → c ≡ QedClose objects certs → close_script c ≡ Qed objects certs
 qed_is c objects certs is = ap close_script is ∙ close_script-Qed objects certs
 
-pub qed_same : (before : List Stated) (c k : Close) (objects seen : List Obj) (certs like : List Cert) (x : Standing) (goal : Goal) → c ≡ QedClose objects certs → seen ≡ objects → like ≡ certs
+pub qed_same : (before : List Stated) (c k : Close) (objects seen : List Obj) (certs like : List Cert) (x : StepState) (goal : Goal) → c ≡ QedClose objects certs → seen ≡ objects → like ≡ certs
     → close_script k ≡ places_at before (Qed seen like) x goal → close_script k ≡ places_at before (close_script c) x goal
 qed_same before c k objects seen certs like x goal is same also e =
     e ∙ ap (λ os. places_at before (Qed os like) x goal) same ∙ ap (λ cs. places_at before (Qed objects cs) x goal) also ∙ sym (ap (λ d. places_at before d x goal) (qed_is c objects certs is))
 
-pub qed_few : (before : List Stated) (c : Close) (objects : List Obj) (certs : List Cert) (x : Standing) (goal : Goal) → c ≡ QedClose objects certs → length x.facts < 2 ^ 32 → HaveFew before (close_script c) x goal
+pub qed_few : (before : List Stated) (c : Close) (objects : List Obj) (certs : List Cert) (x : StepState) (goal : Goal) → c ≡ QedClose objects certs → length x.facts < 2 ^ 32 → HaveFew before (close_script c) x goal
 qed_few before c objects certs x goal is few =
     ap (λ d. list_all has_few (lines_at before d x goal)) (qed_is c objects certs is) ∙ few_close before (Qed objects certs) x goal few (qed_lines before objects certs x goal)
 
 contradiction_is : (c : Close) (against : Option Against) → c ≡ ContradictionClose against → close_script c ≡ Contradiction against
 contradiction_is c against is = ap close_script is ∙ close_script-Contradiction against
 
-pub contradiction_same : (before : List Stated) (c k : Close) (against : Option Against) (x : Standing) (goal : Goal) → c ≡ ContradictionClose against → k ≡ ContradictionClose (option_map (placed_against x.facts) against)
+pub contradiction_same : (before : List Stated) (c k : Close) (against : Option Against) (x : StepState) (goal : Goal) → c ≡ ContradictionClose against → k ≡ ContradictionClose (option_map (placed_against x.facts) against)
     → close_script k ≡ places_at before (close_script c) x goal
 contradiction_same before c k against x goal is e = contradiction_numbered before against x goal k e ∙ sym (ap (λ d. places_at before d x goal) (contradiction_is c against is))
 
-pub contradiction_few : (before : List Stated) (c : Close) (against : Option Against) (x : Standing) (goal : Goal) → c ≡ ContradictionClose against → length x.facts < 2 ^ 32 → HaveFew before (close_script c) x goal
+pub contradiction_few : (before : List Stated) (c : Close) (against : Option Against) (x : StepState) (goal : Goal) → c ≡ ContradictionClose against → length x.facts < 2 ^ 32 → HaveFew before (close_script c) x goal
 contradiction_few before c against x goal is few =
     ap (λ d. list_all has_few (lines_at before d x goal)) (contradiction_is c against is) ∙ few_close before (Contradiction against) x goal few (contradiction_lines before against x goal)
 
 -- ---- a split
 
--- what holds behind the first block
-pub behind_cases : (x z w y after : Standing) (lit : Lit) (o : Outer) → z ≡ with_facts (joined x.facts lit) x → o ≡ outer_of x → KeepsFacts z w → y ≡ left_for o w → after ≡ with_facts (joined y.facts (negation lit)) y
+-- what holds after the first block
+pub after_cases : (x z w y after : StepState) (lit : Lit) (o : Checkpoint) → z ≡ with_facts (joined x.facts lit) x → o ≡ checkpoint_of x → KeepsFacts z w → y ≡ restored o w → after ≡ with_facts (joined y.facts (negation lit)) y
     → after ≡ with_facts (joined x.facts (negation lit)) x
-behind_cases x z w y after lit o begun e k left end =
+after_cases x z w y after lit o begun e k left end =
     let kept = kept_on x z w (subst (KeepsFacts x) (sym begun) (stay_joined x.facts lit)) k in
-    end ∙ ap (λ q. with_facts (joined q.facts (negation lit)) q) (left_is o x w y e kept left)
+    end ∙ ap (λ q. with_facts (joined q.facts (negation lit)) q) (restored_is o x w y e kept left)
 
-pub cases_numbered : (before : List Stated) (c : Close) (lit : Lit) (first second : Box Block Global) (b1 b2 n1 n2 : Block) (x z after : Standing) (goal : Goal)
+pub cases_numbered : (before : List Stated) (c : Close) (lit : Lit) (first second : Box Block Global) (b1 b2 n1 n2 : Block) (x z after : StepState) (goal : Goal)
     → c ≡ CasesClose lit first second → b1 ≡ first.value → b2 ≡ second.value → z ≡ with_facts (joined x.facts lit) x → script_of n1 ≡ places_at before (script_of b1) z goal → after ≡ with_facts (joined x.facts (negation lit)) x
     → script_of n2 ≡ places_at before (script_of b2) after goal → Cases lit (script_of n1) (script_of n2) ≡ places_at before (close_script c) x goal
 cases_numbered before c lit first second b1 b2 n1 n2 x z after goal is at1 at2 begun placed1 back placed2 =
@@ -288,7 +288,7 @@ cases_numbered before c lit first second b1 b2 n1 n2 x z after goal is at1 at2 b
     ap₂ {A = Script} {B = Script} (Cases lit) p1 p2 ∙ sym (cases_places before lit (script_of first.value) (script_of second.value) x goal)
     ∙ sym (ap (λ d. places_at before d x goal) (ap close_script is ∙ close_script-Cases lit first second))
 
-pub cases_few : (before : List Stated) (c : Close) (lit : Lit) (first second : Box Block Global) (b1 b2 : Block) (x z after : Standing) (goal : Goal) → length x.facts < 2 ^ 32
+pub cases_few : (before : List Stated) (c : Close) (lit : Lit) (first second : Box Block Global) (b1 b2 : Block) (x z after : StepState) (goal : Goal) → length x.facts < 2 ^ 32
     → c ≡ CasesClose lit first second → b1 ≡ first.value → b2 ≡ second.value → z ≡ with_facts (joined x.facts lit) x → HaveFew before (script_of b1) z goal → after ≡ with_facts (joined x.facts (negation lit)) x → HaveFew before (script_of b2) after goal
     → HaveFew before (close_script c) x goal
 cases_few before c lit first second b1 b2 x z after goal all is at1 at2 begun few1 back few2 =
@@ -302,7 +302,7 @@ cases_few before c lit first second b1 b2 x z after goal all is at1 at2 begun fe
 
 -- ---- the steps of a block
 
-pub steps_go_on : (before : List Stated) (items seen : List Step) (close whole : Script) (i : ℕ) (step s : Step) (done pushed : List Step) (y z : Standing) (goal : Goal) → seen ≡ items → i < length seen → step ≡ get_or seen i step
+pub steps_go_on : (before : List Stated) (items seen : List Step) (close whole : Script) (i : ℕ) (step s : Step) (done pushed : List Step) (y z : StepState) (goal : Goal) → seen ≡ items → i < length seen → step ≡ get_or seen i step
     → IsNumberedStep before (step_script step) y (step_script s) z → pushed ≡ done ++ s ∷ [] → steps_script done (places_at before (steps_script (drop i items) close) y goal) ≡ whole
     → steps_script pushed (places_at before (steps_script (drop (i + 1) items) close) z goal) ≡ whole
 steps_go_on before items seen close whole i step s done pushed y z goal same lt is h push e =
@@ -312,7 +312,7 @@ steps_go_on before items seen close whole i step s done pushed y z goal same lt 
     ∙ ap (steps_script done) (sym (h.same rest goal) ∙ sym (ap (λ d. places_at before d y goal) (steps_at items seen close i step same lt is)))
     ∙ e
 
-pub few_go_on : (before : List Stated) (items seen : List Step) (close whole : Script) (i : ℕ) (step s : Step) (x y z : Standing) (goal : Goal) → seen ≡ items → i < length seen → step ≡ get_or seen i step → length y.facts < 2 ^ 32
+pub few_go_on : (before : List Stated) (items seen : List Step) (close whole : Script) (i : ℕ) (step s : Step) (x y z : StepState) (goal : Goal) → seen ≡ items → i < length seen → step ≡ get_or seen i step → length y.facts < 2 ^ 32
     → IsNumberedStep before (step_script step) y (step_script s) z → (HaveFew before (steps_script (drop i items) close) y goal → HaveFew before whole x goal)
     → HaveFew before (steps_script (drop (i + 1) items) close) z goal → HaveFew before whole x goal
 few_go_on before items seen close whole i step s x y z goal same lt is all h e k =

@@ -1,4 +1,4 @@
--- Where a term stands in a literal, and in a list of them.
+-- Where a term occurs in a literal, and in a list of them.
 use Rattle.std.proofs.Common.{◌≡◌, List, [], ◌∷◌, ◌++◌, map, refl, ap, ◌∙◌, Bool, ◌||◌}
 use Rattle.std.specs.List.{list_any}
 use Rattle.std.proofs.lemmas.List.Folds.{list_any-append}
@@ -21,7 +21,7 @@ pub in_lits : (t : Term) (ls : List Lit) → list_any (term_eq t) (terms_of_lits
 in_lits t [] = refl
 in_lits t (l ∷ ls) = list_any-append (term_eq t) (terms_of_atom l.atom) (terms_of_lits ls) ∙ ap (λ b. list_any (term_eq t) (terms_of_atom l.atom) || b) (in_lits t ls)
 
-pub ruleset standing = (common_steps, in_sums, in_lits)
+pub ruleset occurring = (common_steps, in_sums, in_lits)
 
 pub of_wanted : (t : Term) (facts : List Lit) (wanted : List Term) (b : Bool) → list_any (term_eq t) (terms_of_lits facts) ≡ b → list_any (term_eq t) (Right ∷ (terms_of_lits facts ++ wanted)) ≡ (term_eq t Right || (b || list_any (term_eq t) wanted))
 of_wanted t facts wanted b e = ap (λ c. term_eq t Right || c) (list_any-append (term_eq t) (terms_of_lits facts) wanted ∙ ap (λ c. c || list_any (term_eq t) wanted) e)

@@ -19,7 +19,7 @@ use Rattle.e_clause.specs.declared.cert.RowName.{RowName}
 use Rattle.e_clause.specs.Sum.{Place, row_named, weighed_rows, is_good_multiplier, is_good_size, refutes}
 use Rattle.e_verify.specs.inner.Totals.{at}
 use Rattle.e_verify.specs.inner.Small.{is_small}
-use Rattle.e_verify.specs.inner.Views.{row_said}
+use Rattle.e_verify.specs.inner.Views.{row_view}
 use Rattle.e_verify.specs.declared.rows.Row.{Row as CodeRow}
 use Rattle.e_verify.proofs.Added.{abs_sum, times_none, row_size}
 
@@ -120,7 +120,7 @@ cancelled ws h = all_hold (λ t. int_eq (total ws t) (pos 0)) (terms_of ws) (λ 
 
 -- ---- rows that are added up
 
--- the rows of these names, so many, are added up here
+-- the rows of these names, `n` of them, are added up here
 pub record IsAdded (p : Place) (xs : List (ℤ × RowName)) (n : ℕ) (es : List (ℕ × ℤ)) (strict : Bool) : Type 0 where
   pub rows : List Weighed
   pub named : weighed_rows p xs ≡ Some rows
@@ -134,10 +134,10 @@ total_more [] w t = omega (arith, sums)
 total_more (v ∷ ws) w t = omega (arith, sums, total_more ws w t)
 
 pub one_added : (p : Place) (xs : List (ℤ × RowName)) (i : ℕ) (x : ℤ × RowName) (es after : List (ℕ × ℤ)) (strict now new : Bool) (row : CodeRow) → i < length xs → x ≡ get_or xs i x → IsAdded p (take i xs) i es strict
-    → row_named p x.1 ≡ Some (row_said row) → ((t : Term) → at after t ≡ at es t +ℤ x.0 *ℤ coefficient (row_said row).form t) → is_good_sign (row_said row).says x.0 ≡ true
-    → now ≡ is_strict (row_said row).says x.0 → new ≡ (strict || now) → is_small row ≡ true → unsigned_abs x.0 ≤ 2 ^ 80 → IsAdded p (take (i + 1) xs) (i + 1) after new
+    → row_named p x.1 ≡ Some (row_view row) → ((t : Term) → at after t ≡ at es t +ℤ x.0 *ℤ coefficient (row_view row).form t) → is_good_sign (row_view row).says x.0 ≡ true
+    → now ≡ is_strict (row_view row).says x.0 → new ≡ (strict || now) → is_small row ≡ true → unsigned_abs x.0 ≤ 2 ^ 80 → IsAdded p (take (i + 1) xs) (i + 1) after new
 one_added p xs i x es after strict now new row h is a e f g k n small m =
-    let r = row_said row in
+    let r = row_view row in
     record {
       rows = a.rows ++ weigh x.0 r ∷ [];
       named = ap (weighed_rows p) (take_more xs i x h ∙ ap (λ y. take i xs ++ y ∷ []) (sym is)) ∙ named_more p (take i xs) x r e ∙ ap (option_map (λ ws. ws ++ weigh x.0 r ∷ [])) a.named;

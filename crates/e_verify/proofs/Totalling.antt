@@ -100,7 +100,7 @@ at_ordered es term ordered key k = ap (at_key es) k.value ∙ sym (at_narrow es 
 fits_wide : (a b : ℤ) → unsigned_abs a + unsigned_abs b < 2 ^ 127 → SFits w128 (a +ℤ b)
 fits_wide a b h = fits_signed_from_abs w128 (a +ℤ b) (omega (arith, sums, abs_is a, abs_is b, abs_is (a +ℤ b), h))
 
--- what stands with the key, where something does
+-- the entry with the key, where there is one
 stands : (m : BTreeMap ℕ ℤ) (es : List (ℕ × ℤ)) (key : ℕ) (o : Option ℤ) → m.entries ≡ es → o ≡ get nat_cmp m key → unwrap_or o (pos 0) ≡ at_key es key
 stands m es key o is e = ap (λ x. unwrap_or x (pos 0)) e ∙ ap (λ xs. at_key xs key) is
 

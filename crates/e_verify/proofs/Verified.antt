@@ -14,14 +14,14 @@ use Rattle.e_deriv.specs.Goal.{Goal, goal_of_statement, facts_of_statement}
 use Rattle.e_deriv.specs.Certified.{Certified, derivation_lines, is_certified, verdict}
 use Rattle.e_deriv.specs.Fitting.{is_small, is_small_statement, all_objects}
 use Rattle.e_deriv.proofs.Smallness.{few_objects}
-use Rattle.e_verify.specs.declared.standing.Standing.{Standing}
-use Rattle.e_verify.specs.inner.Standing.{start_of}
+use Rattle.e_verify.specs.declared.step_state.StepState.{StepState}
+use Rattle.e_verify.specs.inner.StepStates.{start_of}
 use Rattle.e_verify.specs.Checking.{verdict_at, IsReadyFor}
 use Rattle.e_verify.specs.Verdicts.{IsVerifiable}
 use Rattle.e_verify.proofs.FormedFacts.{all_joined_formed}
 use Rattle.e_verify.proofs.Passing.{all_pass}
 
-pub same_verdict : (before : List Stated) (t : Stated) (d : Script) (x : Standing) (g : Goal) → x ≡ start_of t → g ≡ goal_of_statement t → verdict before t d ≡ verdict_at before d x g 1
+pub same_verdict : (before : List Stated) (t : Stated) (d : Script) (x : StepState) (g : Goal) → x ≡ start_of t → g ≡ goal_of_statement t → verdict before t d ≡ verdict_at before d x g 1
 same_verdict before t d x g is same = sym (ap (λ y. verdict_at before d y g 1) is ∙ ap (λ h. verdict_at before d (start_of t) h 1) same)
 
 each_formed : (q : Lit → Bool) (ls : List Lit) → list_all (λ l. is_well_formed l && q l) ls ≡ true → list_all is_well_formed ls ≡ true
@@ -44,7 +44,7 @@ facts_formed t h =
     (each_formed (all_in_scope s) t.given
     (and_left (list_all (λ l. is_well_formed l && all_in_scope s l) t.given) (list_all (λ l. is_well_formed l && all_in_scope (grown s t.made) l) t.shown) h))
 
-pub start_ready : (before : List Stated) (t : Stated) (d : Script) (x : Standing) (g : Goal) → IsVerifiable before t d → x ≡ start_of t → g ≡ goal_of_statement t → IsReadyFor before d x g 1
+pub start_ready : (before : List Stated) (t : Stated) (d : Script) (x : StepState) (g : Goal) → IsVerifiable before t d → x ≡ start_of t → g ≡ goal_of_statement t → IsReadyFor before d x g 1
 start_ready before t d x g v is same =
     subst (λ y. IsReadyFor before d y g 1) (sym is) (subst (λ h. IsReadyFor before d (start_of t) h 1) (sym same)
     (record {

@@ -6,19 +6,19 @@ ghost use Rattle.e_literal.specs.declared.object.Term.{Term as ATerm};
 ghost use Rattle.e_literal.specs.Rows.{coefficient, normal_summands};
 ghost use Rattle.e_verify.specs.inner.Totals.{at};
 ghost use Rattle.e_verify.specs.inner.Small.{are_small, is_small};
-ghost use Rattle.e_verify.specs.inner.Views.{row_said};
+ghost use Rattle.e_verify.specs.inner.Views.{row_view};
 
 use crate::rows::Row;
 use crate::totals::Totals;
 use e_literal::{Mono, Term};
 use std::alloc::AllocError;
 
-/// Adds the row so many times.
+/// Adds the row `multiplier` times.
 pub fn add_row(totals: &mut Totals, row: Row, multiplier: i128) -> Result<(), AllocError>
     requires row { IsTrue (is_small row) }
     requires multiplier { unsigned_abs multiplier ≤ 2 ^ 80 }
     requires room { (t : ATerm) → unsigned_abs (at totals.old t) ≤ 2 ^ 120 }
-    ensures { OnOk result ((t : ATerm) → at totals.new t ≡ at totals.old t +ℤ multiplier *ℤ coefficient (row_said row.entry).form t) }
+    ensures { OnOk result ((t : ATerm) → at totals.new t ≡ at totals.old t +ℤ multiplier *ℤ coefficient (row_view row.entry).form t) }
 {
     match row {
         Row::Sums {
@@ -45,7 +45,7 @@ fn turned_by(turned: bool, multiplier: i128) -> i128
     if turned { -multiplier } else { multiplier }
 }
 
-/// Adds the one sum less the other so many times.
+/// Adds the one sum less the other `multiplier` times.
 fn add_difference(
     totals: &mut Totals,
     plus: &[Mono],
@@ -62,7 +62,7 @@ fn add_difference(
     add_sum(totals, minus, turned_by(true, multiplier))
 }
 
-/// Adds the sum so many times.
+/// Adds the sum `multiplier` times.
 fn add_sum(totals: &mut Totals, sum: &[Mono], multiplier: i128) -> Result<(), AllocError>
     requires sum { IsTrue (are_small sum.now) }
     requires multiplier { unsigned_abs multiplier ≤ 2 ^ 80 }

@@ -1,4 +1,4 @@
-//! Literals that are written alike: most that are the same are told at once by it.
+//! Literals that are written alike: most that are the same are found so at once.
 
 ghost use Rattle.std.specs.Prelude.{◌≡◌, IsTrue};
 ghost use Rattle.e_literal.specs.Same.{same_lit};

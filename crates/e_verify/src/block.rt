@@ -7,12 +7,12 @@ ghost use Rattle.e_deriv.specs.Fitting.{is_small_statement};
 ghost use Rattle.e_deriv.specs.Script.{script_of, step_script, close_script};
 ghost use Rattle.e_verify.specs.declared.reject.Reject.TheVariants.{Bad as IsBad};
 ghost use Rattle.e_verify.specs.Checking.{IsReadyFor, IsReadyStep, IsPassed, KeepsFacts, RejectIs, StepRejects, verdict_at};
-ghost use Rattle.e_verify.specs.inner.Standing.{goal_said};
+ghost use Rattle.e_verify.specs.inner.StepStates.{block_goal};
 
 use crate::closes::{contradiction, qed};
 use crate::reject::Reject;
 use crate::scope::are_over;
-use crate::standing::{Goal, Standing};
+use crate::step_state::{Goal, StepState};
 use crate::steps::{apply, cite, hence, make, superpose};
 use e_deriv::{Block, Close, Step};
 use e_literal::in_scope;
@@ -20,30 +20,30 @@ use e_theorem::Statement;
 use std::alloc::Global;
 
 /// Checks the lines of a block in order, with the blocks inside it, where its first line has this
-/// number. The answer is the number of the line behind it.
+/// number. The answer is the number of the line after it.
 #[cycle(block)]
 pub fn verify_block(
     alloc: Global,
     before: &[Statement],
     block: &Block,
     goal: &Goal,
-    standing: &mut Standing,
+    state: &mut StepState,
     first: u32,
 ) -> Result<u32, Reject>
-    requires ready { IsReadyFor (all_stated before.now) (script_of block.now) standing.old (goal_said goal.now) first }
+    requires ready { IsReadyFor (all_stated before.now) (script_of block.now) state.old (block_goal goal.now) first }
     requires statements { IsTrue (list_all is_small_statement (all_stated before.now)) }
-    ensures ok { IfOk result (λ next. verdict_at (all_stated before.now) (script_of block.now) standing.old (goal_said goal.now) first ≡ Ok next) }
-    ensures kept { OnOk result (KeepsFacts standing.old standing.new) }
-    ensures err { IfErr result (RejectIs (verdict_at (all_stated before.now) (script_of block.now) standing.old (goal_said goal.now) first)) }
+    ensures ok { IfOk result (λ next. verdict_at (all_stated before.now) (script_of block.now) state.old (block_goal goal.now) first ≡ Ok next) }
+    ensures kept { OnOk result (KeepsFacts state.old state.new) }
+    ensures err { IfErr result (RejectIs (verdict_at (all_stated before.now) (script_of block.now) state.old (block_goal goal.now) first)) }
 {
     let mut number = first;
     for step in &block.steps {
-        match verify_step(alloc, before, step, standing, number) {
+        match verify_step(alloc, before, step, state, number) {
             Ok(next) => number = next,
             Err(reject) => return Err(reject),
         }
     }
-    verify_close(alloc, before, &block.close, goal, standing, number)
+    verify_close(alloc, before, &block.close, goal, state, number)
 }
 
 /// Checks a step, with the block inside it.
@@ -52,19 +52,19 @@ fn verify_step(
     alloc: Global,
     before: &[Statement],
     step: &Step,
-    standing: &mut Standing,
+    state: &mut StepState,
     number: u32,
 ) -> Result<u32, Reject>
-    requires ready { IsReadyStep (all_stated before.now) step.now standing.old number }
+    requires ready { IsReadyStep (all_stated before.now) step.now state.old number }
     requires statements { IsTrue (list_all is_small_statement (all_stated before.now)) }
-    ensures ok { IfOk result (λ next. IsPassed (all_stated before.now) (step_script step.now) standing.old number standing.new next) }
-    ensures err { IfErr result (StepRejects (all_stated before.now) step.now standing.old number) }
+    ensures ok { IfOk result (λ next. IsPassed (all_stated before.now) (step_script step.now) state.old number state.new next) }
+    ensures err { IfErr result (StepRejects (all_stated before.now) step.now state.old number) }
 {
     match step {
-        Step::Cite(by) => told(cite(alloc, by, standing)?, number),
-        Step::Hence { lit, cert } => told(hence(alloc, lit, cert, standing)?, number),
+        Step::Cite(by) => verdict_of(cite(alloc, by, state)?, number),
+        Step::Hence { lit, cert } => verdict_of(hence(alloc, lit, cert, state)?, number),
         Step::Make { form, certs, .. } => {
-            told(make(alloc, form, certs.items(), standing)?, number)
+            verdict_of(make(alloc, form, certs.items(), state)?, number)
         }
         Step::Apply {
             theorem,
@@ -73,24 +73,24 @@ fn verify_step(
             ..
         } => {
             let args = args.items();
-            told(
-                apply(alloc, before, *theorem, args, certs.items(), standing)?,
+            verdict_of(
+                apply(alloc, before, *theorem, args, certs.items(), state)?,
                 number,
             )
         }
         Step::Claim { shown, inner } => {
-            if !are_over(standing.scope, shown.items()) {
+            if !are_over(state.scope, shown.items()) {
                 return Err(Reject::Bad { step: number });
             }
-            let outer = standing.enter();
+            let outer = state.checkpoint();
             let goal = Goal {
                 made: &[],
                 shown: shown.items(),
             };
-            match verify_block(alloc, before, inner, &goal, standing, number + 1) {
+            match verify_block(alloc, before, inner, &goal, state, number + 1) {
                 Ok(next) => {
-                    standing.leave(outer);
-                    standing.suppose_all(alloc, shown.items())?;
+                    state.restore(outer);
+                    state.assume_all(alloc, shown.items())?;
                     Ok(next)
                 }
                 Err(reject) => Err(reject),
@@ -103,18 +103,18 @@ fn verify_step(
             inner,
             ..
         } => {
-            let outer = standing.enter();
-            if !superpose(alloc, form, shown.items(), certs.items(), standing)? {
+            let outer = state.checkpoint();
+            if !superpose(alloc, form, shown.items(), certs.items(), state)? {
                 return Err(Reject::Bad { step: number });
             }
             let goal = Goal {
                 made: &[],
                 shown: shown.items(),
             };
-            match verify_block(alloc, before, inner, &goal, standing, number + 1) {
+            match verify_block(alloc, before, inner, &goal, state, number + 1) {
                 Ok(next) => {
-                    standing.leave(outer);
-                    standing.suppose_all(alloc, shown.items())?;
+                    state.restore(outer);
+                    state.assume_all(alloc, shown.items())?;
                     Ok(next)
                 }
                 Err(reject) => Err(reject),
@@ -130,40 +130,43 @@ fn verify_close(
     before: &[Statement],
     close: &Close,
     goal: &Goal,
-    standing: &mut Standing,
+    state: &mut StepState,
     number: u32,
 ) -> Result<u32, Reject>
-    requires ready { IsReadyFor (all_stated before.now) (close_script close.now) standing.old (goal_said goal.now) number }
+    requires ready { IsReadyFor (all_stated before.now) (close_script close.now) state.old (block_goal goal.now) number }
     requires statements { IsTrue (list_all is_small_statement (all_stated before.now)) }
-    ensures ok { IfOk result (λ next. verdict_at (all_stated before.now) (close_script close.now) standing.old (goal_said goal.now) number ≡ Ok next) }
-    ensures kept { OnOk result (KeepsFacts standing.old standing.new) }
-    ensures err { IfErr result (RejectIs (verdict_at (all_stated before.now) (close_script close.now) standing.old (goal_said goal.now) number)) }
+    ensures ok { IfOk result (λ next. verdict_at (all_stated before.now) (close_script close.now) state.old (block_goal goal.now) number ≡ Ok next) }
+    ensures kept { OnOk result (KeepsFacts state.old state.new) }
+    ensures err { IfErr result (RejectIs (verdict_at (all_stated before.now) (close_script close.now) state.old (block_goal goal.now) number)) }
 {
     match close {
         Close::Qed { objects, certs } => {
             let objects = objects.items();
-            told(qed(alloc, objects, certs.items(), goal, standing)?, number)
+            verdict_of(qed(alloc, objects, certs.items(), goal, state)?, number)
         }
-        Close::Contradiction { against } => told(contradiction(alloc, against, standing)?, number),
+        Close::Contradiction { against } => verdict_of(
+            contradiction(alloc, against, state)?,
+            number,
+        ),
         Close::Cases { lit, first, second } => {
-            if !in_scope(lit, standing.scope) {
+            if !in_scope(lit, state.scope) {
                 return Err(Reject::Bad { step: number });
             }
-            let outer = standing.enter();
-            standing.suppose(alloc, lit)?;
-            let next = match verify_block(alloc, before, first, goal, standing, number + 1) {
+            let outer = state.checkpoint();
+            state.assume(alloc, lit)?;
+            let next = match verify_block(alloc, before, first, goal, state, number + 1) {
                 Ok(next) => next,
                 Err(reject) => return Err(reject),
             };
-            standing.leave(outer);
-            standing.suppose_not(alloc, lit)?;
-            verify_block(alloc, before, second, goal, standing, next)
+            state.restore(outer);
+            state.assume_not(alloc, lit)?;
+            verify_block(alloc, before, second, goal, state, next)
         }
     }
 }
 
-/// What is told of a line with this number: the number of the next where it is certified.
-fn told(certified: bool, number: u32) -> Result<u32, Reject>
+/// The verdict on a line with this number: the number of the next where it is certified.
+fn verdict_of(certified: bool, number: u32) -> Result<u32, Reject>
     requires { number + 1 < 2 ^ 32 }
     ensures ok { IfOk result (λ next. IsTrue certified × (next ≡ number + 1)) }
     ensures err { IfErr result (λ e. IsFalse certified × (e ≡ IsBad number)) }

@@ -126,7 +126,7 @@ pub fn part_certifies(
 fn is_fact_at(facts: &Facts, lit: &Lit, place: u32) -> bool
     ensures { result ≡ PartCertificate.is_fact_at facts.now lit.now place }
 {
-    match facts.at(place) {
+    match facts.get(place) {
         Some(fact) => are_same(fact, lit),
         None => false,
     }

@@ -10,11 +10,11 @@ ghost use Rattle.e_deriv.specs.Certified.{is_certified};
 ghost use Rattle.e_deriv.specs.Goal.{Goal as BlockGoal};
 ghost use Rattle.e_deriv.specs.Script.{Qed, Contradiction};
 ghost use Rattle.e_verify.specs.Checking.{line_at};
-ghost use Rattle.e_verify.specs.inner.Standing.{goal_said};
+ghost use Rattle.e_verify.specs.inner.StepStates.{block_goal};
 ghost use Rattle.e_clause.specs.Written.{is_good_cert, is_good_against};
 
 use crate::certificate::{certifies_against, certify_all};
-use crate::standing::{Goal, Standing};
+use crate::step_state::{Goal, StepState};
 use e_clause::{Against, Cert};
 use e_literal::{Lit, Map, Obj, Scope, count};
 use e_theorem::all_renamed;
@@ -26,32 +26,32 @@ pub fn qed(
     objects: &[Obj],
     certs: &[Cert],
     goal: &Goal,
-    standing: &Standing,
+    state: &StepState,
 ) -> Result<bool, AllocError>
-    requires facts { IsTrue (list_all is_well_formed standing.now.facts) }
+    requires facts { IsTrue (list_all is_well_formed state.now.facts) }
     requires shown { IsTrue (list_all is_well_formed goal.now.shown.now) }
     requires certs { IsTrue (list_all is_good_cert certs.now) }
-    ensures { IfOk result (λ b. (before : List Stated) → b ≡ is_certified before (line_at (Qed objects.now certs.now) standing.now (goal_said goal.now))) }
+    ensures { IfOk result (λ b. (before : List Stated) → b ≡ is_certified before (line_at (Qed objects.now certs.now) state.now (block_goal goal.now))) }
 {
-    if !are_of_sorts(standing.scope, goal.made, objects) {
+    if !are_of_sorts(state.scope, goal.made, objects) {
         return Ok(false);
     }
     let wanted = goal_with(alloc, goal, objects)?;
-    certify_all(alloc, standing.scope, &standing.facts, &wanted, certs)
+    certify_all(alloc, state.scope, &state.facts, &wanted, certs)
 }
 
 /// Whether a contradiction is certified.
 pub fn contradiction(
     alloc: Global,
     against: &Option<Against>,
-    standing: &Standing,
+    state: &StepState,
 ) -> Result<bool, AllocError>
-    requires facts { IsTrue (list_all is_well_formed standing.now.facts) }
+    requires facts { IsTrue (list_all is_well_formed state.now.facts) }
     requires against { IsTrue (option_map_or is_good_against against.now true) }
-    ensures { IfOk result (λ b. (before : List Stated) (goal : BlockGoal) → b ≡ is_certified before (line_at (Contradiction against.now) standing.now goal)) }
+    ensures { IfOk result (λ b. (before : List Stated) (goal : BlockGoal) → b ≡ is_certified before (line_at (Contradiction against.now) state.now goal)) }
 {
     match against {
-        Some(against) => certifies_against(alloc, standing.scope, &standing.facts, against),
+        Some(against) => certifies_against(alloc, state.scope, &state.facts, against),
         None => Ok(false),
     }
 }
@@ -76,7 +76,7 @@ pub(crate) fn are_of_sorts(scope: Scope, made: &[Obj], objects: &[Obj]) -> bool
 /// The literals of the goal with these objects for its made ones.
 pub(crate) fn goal_with(alloc: Global, goal: &Goal, objects: &[Obj]) -> Result<Vec<Lit>, AllocError>
     requires one_sort { map (λ o. o.sort) goal.now.made.now ≡ map (λ o. o.sort) objects.now }
-    ensures { IfOk result (λ lits. lits.items ≡ Rattle.e_deriv.specs.Goal.goal_with (goal_said goal.now) objects.now) }
+    ensures { IfOk result (λ lits. lits.items ≡ Rattle.e_deriv.specs.Goal.goal_with (block_goal goal.now) objects.now) }
 {
     let images = Map::paired(alloc, goal.made, objects)?;
     all_renamed(alloc, goal.shown, &images)

@@ -16,8 +16,8 @@ use std::alloc::{AllocError, Global};
 use std::marker::Model;
 use std::mem;
 
-/// A fact with its fingerprint, by which most literals that are not the same are told from it at
-/// once. Contracts see the literal.
+/// A fact with its fingerprint, by which most literals that are not the same are found different
+/// at once. Contracts see the literal.
 #[derive(Drop)]
 struct Fact {
     lit: Lit,
@@ -45,7 +45,7 @@ impl Fact {
         self.fingerprint == fingerprint && are_same(&self.lit, lit)
     }
 
-    /// Whether the term stands in it, as it is written.
+    /// Whether the term occurs in it, as it is written.
     fn has_term(&self, term: Term) -> bool
         ensures { result ≡ list_any (term_eq term) (terms_of_atom self.now.atom) }
     {
@@ -86,7 +86,7 @@ impl Facts {
     }
 
     /// The fact at this place, counted from 0.
-    pub fn at(&self, place: u32) -> Option<&Lit>
+    pub fn get(&self, place: u32) -> Option<&Lit>
         ensures { option_copied result ≡ slice_get self.now place }
     {
         match self.lits.get(place as usize) {
@@ -129,8 +129,8 @@ impl Facts {
         is_there
     }
 
-    /// Whether the term stands in a fact, as it is written.
-    #[tactic(auto, using(crate::proofs::StepTerms::standing))]
+    /// Whether the term occurs in a fact, as it is written.
+    #[tactic(auto, using(crate::proofs::StepTerms::occurring))]
     pub fn has_term(&self, term: Term) -> bool
         ensures { result ≡ list_any (term_eq term) (terms_of_lits self.now) }
     {
@@ -161,18 +161,18 @@ impl Facts {
         Ok(())
     }
 
-    /// The place after the last fact, to come back to.
-    pub fn mark(&self) -> usize
+    /// How many facts there are.
+    pub fn len(&self) -> usize
         ensures { result ≡ length self.now }
     {
         self.lits.len()
     }
 
-    /// Takes away all facts from the place on.
-    pub fn back_to(&mut self, mark: usize)
-        ensures { self.new ≡ take mark self.old }
+    /// Takes away all facts but the first `count`.
+    pub fn back_to(&mut self, count: usize)
+        ensures { self.new ≡ take count self.old }
     {
-        self.lits.truncate(mark);
+        self.lits.truncate(count);
     }
 }
 
@@ -197,8 +197,8 @@ fn differ(a: u16, b: u16) -> Lit
     }
 }
 
-/// Whether the term stands in the literal, as it is written.
-#[tactic(auto, using(crate::proofs::StepTerms::standing))]
+/// Whether the term occurs in the literal, as it is written.
+#[tactic(auto, using(crate::proofs::StepTerms::occurring))]
 pub fn stands_in(lit: &Lit, term: Term) -> bool
     ensures { result ≡ list_any (term_eq term) (terms_of_atom lit.now.atom) }
 {

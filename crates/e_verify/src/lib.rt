@@ -18,7 +18,7 @@ mod places;
 mod reject;
 mod rows;
 mod scope;
-mod standing;
+mod step_state;
 mod steps;
 mod sums;
 mod totals;

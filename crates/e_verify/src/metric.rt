@@ -7,11 +7,11 @@ ghost use Rattle.e_literal.specs.WellFormed.{is_well_formed};
 ghost use Rattle.e_clause.specs.Sum.{says_differ};
 ghost use Rattle.e_clause.specs.MetricCertificate;
 ghost use Rattle.e_verify.specs.inner.Small.{is_small, is_short};
-ghost use Rattle.e_verify.specs.inner.Views.{row_said, comparison_said};
+ghost use Rattle.e_verify.specs.inner.Views.{row_view, comparison_view};
 ghost use Rattle.e_clause.specs.Written.{is_good_name, is_good_sum, is_good_sums};
 
 use crate::facts::Facts;
-use crate::rows::{Comparison, Place, Row, Says, fact_row, goal_row, row_at};
+use crate::rows::{Comparison, Row, RowScope, Says, fact_row, goal_row, row_at};
 use crate::sums::refutes;
 use e_clause::{RowName, Sums};
 use e_literal::Lit;
@@ -32,13 +32,13 @@ pub fn sums_refute<'a>(
 {
     match sums {
         Sums::One(sum) => {
-            let place = Place {
+            let row_scope = RowScope {
                 facts,
                 wanted,
                 above: None,
                 below: None,
             };
-            refutes(alloc, &place, sum.rows())
+            refutes(alloc, &row_scope, sum.rows())
         }
         Sums::Two {
             differs,
@@ -65,24 +65,24 @@ fn both_refute<'a>(
     requires row { IsTrue (is_short row) }
     requires above { IsTrue (is_good_sum above.now) }
     requires below { IsTrue (is_good_sum below.now) }
-    ensures { IfOk result (λ b. b ≡ MetricCertificate.both_refute facts.now (option_copied wanted.entry) (comparison_said row.entry) above.now below.now) }
+    ensures { IfOk result (λ b. b ≡ MetricCertificate.both_refute facts.now (option_copied wanted.entry) (comparison_view row.entry) above.now below.now) }
 {
-    let place = Place {
+    let row_scope = RowScope {
         facts,
         wanted,
         above: Some(above_row(row)),
         below: None,
     };
-    if !refutes(alloc, &place, above)? {
+    if !refutes(alloc, &row_scope, above)? {
         return Ok(false);
     }
-    let place = Place {
+    let row_scope = RowScope {
         facts,
         wanted,
         above: None,
         below: Some(below_row(row)),
     };
-    refutes(alloc, &place, below)
+    refutes(alloc, &row_scope, below)
 }
 
 /// The row that says that its form is not 0, or none where the name may not be used here.
@@ -94,7 +94,7 @@ fn differing<'a>(
     requires facts { IsTrue (list_all is_well_formed facts.now) }
     requires wanted { IsTrue (option_map_or is_well_formed (option_copied wanted) true) }
     requires name { IsTrue (is_good_name name.now) }
-    ensures row { option_map comparison_said result ≡ MetricCertificate.differing facts.now (option_copied wanted.entry) name.now }
+    ensures row { option_map comparison_view result ≡ MetricCertificate.differing facts.now (option_copied wanted.entry) name.now }
     ensures small { IfSome result (λ c. IsTrue (is_short c)) }
 {
     match name {
@@ -108,7 +108,7 @@ fn differing<'a>(
 /// No row but where it says that its form is not 0.
 fn if_not<'a>(row: Option<Comparison<'a>>) -> Option<Comparison<'a>>
     requires { IfSome row (λ c. IsTrue (is_short c)) }
-    ensures row { option_map comparison_said result ≡ option_and_then (λ r. if says_differ r.says then Some r else None) (option_map comparison_said row.entry) }
+    ensures row { option_map comparison_view result ≡ option_and_then (λ r. if says_differ r.says then Some r else None) (option_map comparison_view row.entry) }
     ensures small { IfSome result (λ c. IsTrue (is_short c)) }
 {
     match row {
@@ -120,7 +120,7 @@ fn if_not<'a>(row: Option<Comparison<'a>>) -> Option<Comparison<'a>>
 /// The row that says that the form is more than 0.
 fn above_row<'a>(row: Comparison<'a>) -> Row<'a>
     requires { IsTrue (is_short row) }
-    ensures row { row_said result ≡ MetricCertificate.above_row (comparison_said row.entry) }
+    ensures row { row_view result ≡ MetricCertificate.above_row (comparison_view row.entry) }
     ensures small { IsTrue (is_small result) }
 {
     Row::Sums {
@@ -134,7 +134,7 @@ fn above_row<'a>(row: Comparison<'a>) -> Row<'a>
 /// The row that says that the form is less than 0.
 fn below_row<'a>(row: Comparison<'a>) -> Row<'a>
     requires { IsTrue (is_short row) }
-    ensures row { row_said result ≡ MetricCertificate.below_row (comparison_said row.entry) }
+    ensures row { row_view result ≡ MetricCertificate.below_row (comparison_view row.entry) }
     ensures small { IsTrue (is_small result) }
 {
     Row::Sums {

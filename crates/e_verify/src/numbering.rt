@@ -17,13 +17,13 @@ ghost use Rattle.e_verify.specs.Numbered.{derivation_with_places};
 ghost use Rattle.e_verify.specs.Verdicts.{IsVerifiable};
 ghost use Rattle.e_verify.specs.Checking.{KeepsFacts};
 ghost use Rattle.e_verify.specs.inner.Numbering.{HaveFew, IsNumberedStep, places_at};
-ghost use Rattle.e_verify.specs.inner.Standing.{after_superposed, goal_said};
+ghost use Rattle.e_verify.specs.inner.StepStates.{after_superposed, block_goal};
 
 use crate::closes::{are_of_sorts, goal_with};
 use crate::ending::{Head, claimed, split, superposed};
 use crate::facts::Facts;
 use crate::places::{placed_against, placed_cert, placed_certs};
-use crate::standing::{Goal, Standing};
+use crate::step_state::{Goal, StepState};
 use crate::steps::all_written;
 use crate::verifier::{NOTHING, begin};
 use e_clause::{Against, By, Cert};
@@ -61,12 +61,12 @@ pub fn numbered(
 {
     let scope = grown(NOTHING, statement.declared.items());
     let made = next_objects(alloc, scope, statement.made.items())?;
-    let mut standing = begin(alloc, scope, statement)?;
+    let mut state = begin(alloc, scope, statement)?;
     let goal = Goal {
         made: &made,
         shown: statement.shown.items(),
     };
-    number_block(alloc, before, deriv, &goal, &mut standing)
+    number_block(alloc, before, deriv, &goal, &mut state)
 }
 
 /// The block with places, where this holds before it.
@@ -76,21 +76,21 @@ fn number_block(
     before: &[Statement],
     block: &Block,
     goal: &Goal,
-    standing: &mut Standing,
+    state: &mut StepState,
 ) -> Result<Block, AllocError>
     requires { IsTrue (list_all is_small_statement (all_stated before.now)) }
-    ensures same { IfOk result (λ b. script_of b ≡ places_at (all_stated before.now) (script_of block.now) standing.old (goal_said goal.now)) }
-    ensures few { OnOk result (HaveFew (all_stated before.now) (script_of block.now) standing.old (goal_said goal.now)) }
-    ensures kept { OnOk result (KeepsFacts standing.old standing.new) }
+    ensures same { IfOk result (λ b. script_of b ≡ places_at (all_stated before.now) (script_of block.now) state.old (block_goal goal.now)) }
+    ensures few { OnOk result (HaveFew (all_stated before.now) (script_of block.now) state.old (block_goal goal.now)) }
+    ensures kept { OnOk result (KeepsFacts state.old state.new) }
 {
     let mut steps = Vec::new(alloc);
     for step in &block.steps {
-        match number_step(alloc, before, step, standing) {
+        match number_step(alloc, before, step, state) {
             Ok(numbered) => steps.push(numbered)?,
             Err(_) => return Err(AllocError),
         }
     }
-    match number_close(alloc, before, &block.close, goal, standing) {
+    match number_close(alloc, before, &block.close, goal, state) {
         Ok(close) => Ok(Block { steps, close }),
         Err(_) => Err(AllocError),
     }
@@ -102,20 +102,20 @@ fn number_step(
     alloc: Global,
     before: &[Statement],
     step: &Step,
-    standing: &mut Standing,
+    state: &mut StepState,
 ) -> Result<Step, AllocError>
     requires { IsTrue (list_all is_small_statement (all_stated before.now)) }
-    ensures step { IfOk result (λ s. IsNumberedStep (all_stated before.now) (step_script step.now) standing.old (step_script s) standing.new) }
-    ensures few { OnOk result (length standing.old.facts < 2 ^ 32) }
+    ensures step { IfOk result (λ s. IsNumberedStep (all_stated before.now) (step_script step.now) state.old (step_script s) state.new) }
+    ensures few { OnOk result (length state.old.facts < 2 ^ 32) }
 {
-    if standing.facts.mark() >= PLACES {
+    if state.facts.len() >= PLACES {
         return Err(AllocError);
     }
     match step {
-        Step::Cite(by) => cite(alloc, by, standing),
-        Step::Hence { lit, cert } => hence(alloc, lit, cert, standing),
+        Step::Cite(by) => cite(alloc, by, state),
+        Step::Hence { lit, cert } => hence(alloc, lit, cert, state),
         Step::Make { form, names, certs } => {
-            make(alloc, form, names.items(), certs.items(), standing)
+            make(alloc, form, names.items(), certs.items(), state)
         }
         Step::Apply {
             theorem,
@@ -129,16 +129,16 @@ fn number_step(
                 names: names.items(),
                 certs: certs.items(),
             };
-            apply(alloc, before, &line, standing)
+            apply(alloc, before, &line, state)
         }
         Step::Claim { shown, inner } => {
-            let outer = standing.enter();
+            let outer = state.checkpoint();
             let goal = Goal {
                 made: &[],
                 shown: shown.items(),
             };
-            match number_block(alloc, before, inner, &goal, standing) {
-                Ok(numbered) => claimed(alloc, shown.items(), numbered, outer, standing),
+            match number_block(alloc, before, inner, &goal, state) {
+                Ok(numbered) => claimed(alloc, shown.items(), numbered, outer, state),
                 Err(_) => Err(AllocError),
             }
         }
@@ -149,8 +149,8 @@ fn number_step(
             certs,
             inner,
         } => {
-            let outer = standing.enter();
-            let certs = match superpose(alloc, form, certs.items(), standing) {
+            let outer = state.checkpoint();
+            let certs = match superpose(alloc, form, certs.items(), state) {
                 Ok(certs) => certs,
                 Err(_) => return Err(AllocError),
             };
@@ -158,14 +158,14 @@ fn number_step(
                 made: &[],
                 shown: shown.items(),
             };
-            match number_block(alloc, before, inner, &goal, standing) {
+            match number_block(alloc, before, inner, &goal, state) {
                 Ok(numbered) => {
                     let head = Head {
                         form,
                         names: names.items(),
                         certs,
                     };
-                    superposed(alloc, head, shown.items(), numbered, outer, standing)
+                    superposed(alloc, head, shown.items(), numbered, outer, state)
                 }
                 Err(_) => Err(AllocError),
             }
@@ -180,37 +180,35 @@ fn number_close(
     before: &[Statement],
     close: &Close,
     goal: &Goal,
-    standing: &mut Standing,
+    state: &mut StepState,
 ) -> Result<Close, AllocError>
     requires { IsTrue (list_all is_small_statement (all_stated before.now)) }
-    ensures same { IfOk result (λ c. close_script c ≡ places_at (all_stated before.now) (close_script close.now) standing.old (goal_said goal.now)) }
-    ensures few { OnOk result (HaveFew (all_stated before.now) (close_script close.now) standing.old (goal_said goal.now)) }
-    ensures kept { OnOk result (KeepsFacts standing.old standing.new) }
+    ensures same { IfOk result (λ c. close_script c ≡ places_at (all_stated before.now) (close_script close.now) state.old (block_goal goal.now)) }
+    ensures few { OnOk result (HaveFew (all_stated before.now) (close_script close.now) state.old (block_goal goal.now)) }
+    ensures kept { OnOk result (KeepsFacts state.old state.new) }
 {
-    if standing.facts.mark() >= PLACES {
+    if state.facts.len() >= PLACES {
         return Err(AllocError);
     }
     match close {
-        Close::Qed { objects, certs } => {
-            qed(alloc, objects.items(), certs.items(), goal, standing)
-        }
-        Close::Contradiction { against } => contradiction(alloc, against, &standing.facts),
+        Close::Qed { objects, certs } => { qed(alloc, objects.items(), certs.items(), goal, state) }
+        Close::Contradiction { against } => contradiction(alloc, against, &state.facts),
         Close::Cases { lit, first, second } => {
-            let outer = standing.enter();
-            standing.suppose(alloc, lit)?;
-            let one = match number_block(alloc, before, first, goal, standing) {
+            let outer = state.checkpoint();
+            state.assume(alloc, lit)?;
+            let one = match number_block(alloc, before, first, goal, state) {
                 Ok(one) => one,
                 Err(_) => return Err(AllocError),
             };
-            standing.leave(outer);
-            match standing.suppose_not(alloc, lit) {
+            state.restore(outer);
+            match state.assume_not(alloc, lit) {
                 Ok(()) => {}
                 Err(_) => {
                     mem::drop(one);
                     return Err(AllocError);
                 }
             }
-            match number_block(alloc, before, second, goal, standing) {
+            match number_block(alloc, before, second, goal, state) {
                 Ok(other) => split(alloc, lit, one, other),
                 Err(_) => {
                     mem::drop(one);
@@ -222,10 +220,10 @@ fn number_close(
 }
 
 #[tactic(auto, using(crate::proofs::NumberedSteps::placing))]
-fn cite(alloc: Global, by: &By, standing: &mut Standing) -> Result<Step, AllocError>
-    ensures { IfOk result (λ s. (before : List Stated) → IsNumberedStep before (Cite by.now) standing.old (step_script s) standing.new) }
+fn cite(alloc: Global, by: &By, state: &mut StepState) -> Result<Step, AllocError>
+    ensures { IfOk result (λ s. (before : List Stated) → IsNumberedStep before (Cite by.now) state.old (step_script s) state.new) }
 {
-    standing.suppose(alloc, &by.lit)?;
+    state.assume(alloc, &by.lit)?;
     let by = copy_by(alloc, by)?;
     Ok(Step::Cite(by))
 }
@@ -235,12 +233,12 @@ fn hence(
     alloc: Global,
     lit: &Lit,
     cert: &Option<Cert>,
-    standing: &mut Standing,
+    state: &mut StepState,
 ) -> Result<Step, AllocError>
-    ensures { IfOk result (λ s. (before : List Stated) → IsNumberedStep before (Hence lit.now cert.now) standing.old (step_script s) standing.new) }
+    ensures { IfOk result (λ s. (before : List Stated) → IsNumberedStep before (Hence lit.now cert.now) state.old (step_script s) state.new) }
 {
-    let cert = placed_option(alloc, &standing.facts, lit, cert)?;
-    standing.suppose(alloc, lit)?;
+    let cert = placed_option(alloc, &state.facts, lit, cert)?;
+    state.assume(alloc, lit)?;
     let lit = copy(alloc, lit)?;
     Ok(Step::Hence { lit, cert })
 }
@@ -266,19 +264,19 @@ fn make(
     form: &Construction,
     names: &[Name],
     certs: &[Cert],
-    standing: &mut Standing,
+    state: &mut StepState,
 ) -> Result<Step, AllocError>
-    ensures { IfOk result (λ s. (before : List Stated) → IsNumberedStep before (Make form.now names.now certs.now) standing.old (step_script s) standing.new) }
+    ensures { IfOk result (λ s. (before : List Stated) → IsNumberedStep before (Make form.now names.now certs.now) state.old (step_script s) state.new) }
 {
-    let scope = standing.scope;
+    let scope = state.scope;
     if !has_room(scope) || !form.fits(scope) {
         return Err(AllocError);
     }
     let needs = form.needs(alloc)?;
-    let certs = placed_certs(alloc, &standing.facts, &needs, certs)?;
+    let certs = placed_certs(alloc, &state.facts, &needs, certs)?;
     let given = form.gives(alloc, scope)?;
-    standing.scope = grown(scope, form.made());
-    standing.facts.join(given)?;
+    state.scope = grown(scope, form.made());
+    state.facts.join(given)?;
     let names = Items::new(Vec::from_slice(alloc, names)?);
     let form = copy_construction(alloc, form)?;
     Ok(Step::Make { form, names, certs })
@@ -298,12 +296,12 @@ fn apply(
     alloc: Global,
     before: &[Statement],
     line: &Application,
-    standing: &mut Standing,
+    state: &mut StepState,
 ) -> Result<Step, AllocError>
     requires { IsTrue (list_all is_small_statement (all_stated before.now)) }
-    ensures { IfOk result (λ s. IsNumberedStep (all_stated before.now) (Apply line.now.theorem line.now.args.now line.now.names.now line.now.certs.now) standing.old (step_script s) standing.new) }
+    ensures { IfOk result (λ s. IsNumberedStep (all_stated before.now) (Apply line.now.theorem line.now.args.now line.now.names.now line.now.certs.now) state.old (step_script s) state.new) }
 {
-    let scope = standing.scope;
+    let scope = state.scope;
     let Some(statement) = before.get(line.theorem as usize) else {
         return Err(AllocError);
     };
@@ -317,9 +315,9 @@ fn apply(
         Ok(applied) => applied,
         Err(UseFault::BadArgs | UseFault::NoMemory) => return Err(AllocError),
     };
-    let certs = placed_certs(alloc, &standing.facts, applied.needs.items(), line.certs)?;
-    standing.scope = grown(scope, statement.made.items());
-    standing.suppose_all(alloc, applied.gives.items())?;
+    let certs = placed_certs(alloc, &state.facts, applied.needs.items(), line.certs)?;
+    state.scope = grown(scope, statement.made.items());
+    state.assume_all(alloc, applied.gives.items())?;
     let args = Items::new(Vec::from_slice(alloc, line.args)?);
     let names = Items::new(Vec::from_slice(alloc, line.names)?);
     Ok(Step::Apply {
@@ -336,20 +334,20 @@ fn superpose(
     alloc: Global,
     form: &Superpose,
     certs: &[Cert],
-    standing: &mut Standing,
+    state: &mut StepState,
 ) -> Result<Items<Cert>, AllocError>
-    ensures certs { IfOk result (λ cs. cs ≡ Numbered.placed_certs standing.old.facts (superposing.needs form.now) certs.now) }
-    ensures after { OnOk result (standing.new ≡ after_superposed form.now standing.old) }
+    ensures certs { IfOk result (λ cs. cs ≡ Numbered.placed_certs state.old.facts (superposing.needs form.now) certs.now) }
+    ensures after { OnOk result (state.new ≡ after_superposed form.now state.old) }
 {
-    let scope = standing.scope;
+    let scope = state.scope;
     if !has_room(scope) {
         return Err(AllocError);
     }
     let needs = form.needs(alloc)?;
-    let certs = placed_certs(alloc, &standing.facts, &needs, certs)?;
+    let certs = placed_certs(alloc, &state.facts, &needs, certs)?;
     let given = form.gives(alloc, scope)?;
-    standing.scope = grown(scope, form.made());
-    standing.facts.join(given)?;
+    state.scope = grown(scope, form.made());
+    state.facts.join(given)?;
     Ok(certs)
 }
 
@@ -359,15 +357,15 @@ fn qed(
     objects: &[Obj],
     certs: &[Cert],
     goal: &Goal,
-    standing: &Standing,
+    state: &StepState,
 ) -> Result<Close, AllocError>
-    ensures { IfOk result (λ c. (before : List Stated) → close_script c ≡ places_at before (Qed objects.now certs.now) standing.now (goal_said goal.now)) }
+    ensures { IfOk result (λ c. (before : List Stated) → close_script c ≡ places_at before (Qed objects.now certs.now) state.now (block_goal goal.now)) }
 {
-    if !are_of_sorts(standing.scope, goal.made, objects) {
+    if !are_of_sorts(state.scope, goal.made, objects) {
         return Err(AllocError);
     }
     let wanted = goal_with(alloc, goal, objects)?;
-    let certs = placed_certs(alloc, &standing.facts, &wanted, certs)?;
+    let certs = placed_certs(alloc, &state.facts, &wanted, certs)?;
     let objects = Items::new(Vec::from_slice(alloc, objects)?);
     Ok(Close::Qed { objects, certs })
 }

@@ -33,7 +33,7 @@ fn is_turned(facts: &Facts, place: u32, lit: &Lit) -> Result<bool, AllocError>
     requires { place ≡ Numbered.place_among facts.now lit.now }
     ensures { IfOk result (λ b. b ≡ Numbered.is_turned facts.now lit.now) }
 {
-    match facts.at(place) {
+    match facts.get(place) {
         Some(fact) => Ok(are_turned(&lit.atom, &fact.atom)),
         None => Err(AllocError),
     }

@@ -13,7 +13,7 @@ pub enum Reject {
     /// is not certified.
     #[error("line {step} is not certified")]
     Bad { step: u32 },
-    /// Want of memory.
+    /// Out of memory.
     #[error("out of memory")]
     NoMemory,
 }

@@ -8,12 +8,12 @@ ghost use Rattle.e_deriv.specs.Proves.{IsProof};
 ghost use Rattle.e_deriv.specs.Script.{script_of};
 ghost use Rattle.e_verify.specs.Checking.{RejectIs};
 ghost use Rattle.e_verify.specs.Verdicts.{IsVerifiable};
-ghost use Rattle.e_verify.specs.inner.Standing.{start_of};
+ghost use Rattle.e_verify.specs.inner.StepStates.{start_of};
 
 use crate::block::verify_block;
 use crate::facts::Facts;
 use crate::reject::Reject;
-use crate::standing::{Goal, Standing};
+use crate::step_state::{Goal, StepState};
 use e_deriv::{Block, certified_proves};
 use e_literal::{Scope, grown, next_objects};
 use e_theorem::Statement;
@@ -42,12 +42,12 @@ pub fn verify(
 {
     let scope = grown(NOTHING, statement.declared.items());
     let made = next_objects(alloc, scope, statement.made.items())?;
-    let mut standing = begin(alloc, scope, statement)?;
+    let mut state = begin(alloc, scope, statement)?;
     let goal = Goal {
         made: &made,
         shown: statement.shown.items(),
     };
-    match verify_block(alloc, before, deriv, &goal, &mut standing, 1) {
+    match verify_block(alloc, before, deriv, &goal, &mut state, 1) {
         Ok(_) => {
             certified_proves();
             Ok(())
@@ -62,14 +62,14 @@ pub(crate) fn begin(
     alloc: Global,
     scope: Scope,
     statement: &Statement,
-) -> Result<Standing, AllocError>
+) -> Result<StepState, AllocError>
     requires { scope ≡ scope_of (stated statement.now) }
     ensures { IfOk result (λ x. x ≡ start_of (stated statement.now)) }
 {
-    let mut standing = Standing {
+    let mut state = StepState {
         scope,
         facts: Facts::new(alloc),
     };
-    standing.suppose_all(alloc, statement.given.items())?;
-    Ok(standing)
+    state.assume_all(alloc, statement.given.items())?;
+    Ok(state)
 }

@@ -1,7 +1,7 @@
 use Rattle.std.proofs.Common.{◌≡◌, drop}
 use Rattle.e_theorem.specs.Statements.{all_stated}
 use Rattle.e_deriv.specs.Script.{script_of, steps_script, close_script}
-use Rattle.e_verify.specs.inner.Standing.{goal_said}
+use Rattle.e_verify.specs.inner.StepStates.{block_goal}
 use Rattle.e_verify.specs.Checking.{verdict_at, IsReadyFor, KeepsFacts}
 use Rattle.e_verify.proofs.block.+block.Given as goal
 
@@ -17,8 +17,8 @@ decreases-verify_step l = goal.size-verify_step l
 abbrev pub invariant-verify_block-loop-step : goal.invariant-verify_block-loop-step
 invariant-verify_block-loop-step l =
     record {
-      same : verdict_at (all_stated l.before) (steps_script (drop l.step-index l.block.steps.items) (close_script l.block.close)) l.standing (goal_said l.goal) l.number
-          ≡ verdict_at (all_stated l.before) (script_of l.block) l.initial.standing (goal_said l.goal) l.first;
-      ready : IsReadyFor (all_stated l.before) (steps_script (drop l.step-index l.block.steps.items) (close_script l.block.close)) l.standing (goal_said l.goal) l.number;
-      kept : KeepsFacts l.initial.standing l.standing;
+      same : verdict_at (all_stated l.before) (steps_script (drop l.step-index l.block.steps.items) (close_script l.block.close)) l.state (block_goal l.goal) l.number
+          ≡ verdict_at (all_stated l.before) (script_of l.block) l.initial.state (block_goal l.goal) l.first;
+      ready : IsReadyFor (all_stated l.before) (steps_script (drop l.step-index l.block.steps.items) (close_script l.block.close)) l.state (block_goal l.goal) l.number;
+      kept : KeepsFacts l.initial.state l.state;
     }

@@ -4,4 +4,4 @@ use Rattle.e_verify.proofs.NumberedSteps.{cite_numbered}
 use Rattle.e_verify.proofs.numbering.cite.Goals as goal
 
 pub returns : goal.returns
-returns c before = cite_numbered before c.args.by.now c.args.standing.now c.suppose.new.self _ (ap CiteStep c.in_ok-by.ensures) c.in_ok-suppose.ensures
+returns c before = cite_numbered before c.args.by.now c.args.state.now c.assume.new.self _ (ap CiteStep c.in_ok-by.ensures) c.in_ok-assume.ensures

@@ -3,22 +3,22 @@
 ghost use Rattle.std.specs.Prelude.{◌≡◌, OnOk};
 ghost use Rattle.e_literal.specs.Literal.{negation};
 ghost use Rattle.e_literal.specs.Facts.{joined, joined_all};
-ghost use Rattle.e_verify.specs.inner.Standing.{outer_of, left_for, with_facts};
+ghost use Rattle.e_verify.specs.inner.StepStates.{checkpoint_of, restored, with_facts};
 
 use crate::facts::Facts;
 use e_literal::{Lit, Obj, Scope, copy, negate};
 use std::alloc::{AllocError, Global};
 
-/// The scope and the facts before a line.
+/// The objects in scope and the facts before a line.
 #[derive(Drop)]
-pub struct Standing {
+pub struct StepState {
     pub scope: Scope,
     pub facts: Facts,
 }
 
-/// What an inner block is entered from.
+/// Where an inner block is entered: the objects in scope, and how many facts there are.
 #[derive(Clone, Copy)]
-pub struct Outer {
+pub struct Checkpoint {
     pub scope: Scope,
     pub facts: usize,
 }
@@ -30,41 +30,41 @@ pub struct Goal<'a> {
     pub shown: &'a [Lit],
 }
 
-impl Standing {
-    /// What an inner block is entered from.
-    pub fn enter(&self) -> Outer
-        ensures { result ≡ outer_of self.now }
+impl StepState {
+    /// Where an inner block is entered, for [`StepState::restore`] after it.
+    pub fn checkpoint(&self) -> Checkpoint
+        ensures { result ≡ checkpoint_of self.now }
     {
-        Outer {
+        Checkpoint {
             scope: self.scope,
-            facts: self.facts.mark(),
+            facts: self.facts.len(),
         }
     }
 
-    /// Back to where an inner block was entered: its objects and facts are gone.
-    pub fn leave(&mut self, outer: Outer)
-        ensures { self.new ≡ left_for outer self.old }
+    /// What held where an inner block was entered holds again: its objects and facts are gone.
+    pub fn restore(&mut self, outer: Checkpoint)
+        ensures { self.new ≡ restored outer self.old }
     {
         self.scope = outer.scope;
         self.facts.back_to(outer.facts);
     }
 
     /// The literal is a fact.
-    pub fn suppose(&mut self, alloc: Global, lit: &Lit) -> Result<(), AllocError>
+    pub fn assume(&mut self, alloc: Global, lit: &Lit) -> Result<(), AllocError>
         ensures { OnOk result (self.new ≡ with_facts (joined self.old.facts lit.now) self.old) }
     {
         self.facts.add(copy(alloc, lit)?)
     }
 
     /// The negation of the literal is a fact.
-    pub fn suppose_not(&mut self, alloc: Global, lit: &Lit) -> Result<(), AllocError>
+    pub fn assume_not(&mut self, alloc: Global, lit: &Lit) -> Result<(), AllocError>
         ensures { OnOk result (self.new ≡ with_facts (joined self.old.facts (negation lit.now)) self.old) }
     {
         self.facts.add(negate(copy(alloc, lit)?))
     }
 
     /// The literals are facts.
-    pub fn suppose_all(&mut self, alloc: Global, lits: &[Lit]) -> Result<(), AllocError>
+    pub fn assume_all(&mut self, alloc: Global, lits: &[Lit]) -> Result<(), AllocError>
         ensures { OnOk result (self.new ≡ with_facts (joined_all self.old.facts lits.now) self.old) }
     {
         join_copies(alloc, &mut self.facts, lits)
