@@ -36,7 +36,7 @@ fn are_alike_atoms(a: &Atom, b: &Atom) -> bool
 }
 
 /// Whether both compare magnitudes and are written alike, term by term; then they are the same.
-#[tactic(auto, using(crate::proofs::WrittenAlike::alike_is_same))]
+#[tactic(auto, using(crate::proofs::comparing::WrittenAlike::alike_is_same))]
 fn are_alike(a: &Lit, b: &Lit) -> bool
     ensures value { result ≡ are_alike a.now b.now }
     ensures same { IsTrue result → IsTrue (same_lit a.now b.now) }

@@ -19,7 +19,7 @@ use std::mem;
 
 /// Whether there are as many certificates as literals, and each certifies its literal in this
 /// scope, by these facts.
-#[tactic(auto, using(crate::proofs::Paired::literals))]
+#[tactic(auto, using(crate::proofs::checking::PairedCertificates::literals))]
 pub fn certify_all(
     alloc: Global,
     scope: Scope,

@@ -57,7 +57,7 @@ pub fn contradiction(
 }
 
 /// Whether the objects are one for each of the made ones, of its sort, and in scope.
-#[tactic(auto, using(crate::proofs::Closing::objects))]
+#[tactic(auto, using(crate::proofs::checking::QedGoals::objects))]
 pub(crate) fn are_of_sorts(scope: Scope, made: &[Obj], objects: &[Obj]) -> bool
     ensures { result ≡ Scopes.are_of_sorts scope (map (λ o. o.sort) made.now) objects.now }
 {

@@ -130,7 +130,7 @@ impl Facts {
     }
 
     /// Whether the term occurs in a fact, as it is written.
-    #[tactic(auto, using(crate::proofs::StepTerms::occurring))]
+    #[tactic(auto, using(crate::proofs::arithmetic::StepTerms::occurring))]
     pub fn has_term(&self, term: Term) -> bool
         ensures { result ≡ list_any (term_eq term) (terms_of_lits self.now) }
     {
@@ -198,7 +198,7 @@ fn differ(a: u16, b: u16) -> Lit
 }
 
 /// Whether the term occurs in the literal, as it is written.
-#[tactic(auto, using(crate::proofs::StepTerms::occurring))]
+#[tactic(auto, using(crate::proofs::arithmetic::StepTerms::occurring))]
 pub fn stands_in(lit: &Lit, term: Term) -> bool
     ensures { result ≡ list_any (term_eq term) (terms_of_atom lit.now.atom) }
 {

@@ -219,7 +219,7 @@ fn number_close(
     }
 }
 
-#[tactic(auto, using(crate::proofs::NumberedSteps::placing))]
+#[tactic(auto, using(crate::proofs::placing::NumberedSteps::placing))]
 fn cite(alloc: Global, by: &By, state: &mut StepState) -> Result<Step, AllocError>
     ensures { IfOk result (λ s. (before : List Stated) → IsNumberedStep before (Cite by.now) state.old (step_script s) state.new) }
 {
@@ -228,7 +228,7 @@ fn cite(alloc: Global, by: &By, state: &mut StepState) -> Result<Step, AllocErro
     Ok(Step::Cite(by))
 }
 
-#[tactic(auto, using(crate::proofs::NumberedSteps::placing))]
+#[tactic(auto, using(crate::proofs::placing::NumberedSteps::placing))]
 fn hence(
     alloc: Global,
     lit: &Lit,
@@ -258,7 +258,7 @@ fn placed_option(
     }
 }
 
-#[tactic(auto, using(crate::proofs::NumberedSteps::placing))]
+#[tactic(auto, using(crate::proofs::placing::NumberedSteps::placing))]
 fn make(
     alloc: Global,
     form: &Construction,
@@ -291,7 +291,7 @@ struct Application<'a> {
     certs: &'a [Cert],
 }
 
-#[tactic(auto, using(crate::proofs::NumberedSteps::placing))]
+#[tactic(auto, using(crate::proofs::placing::NumberedSteps::placing))]
 fn apply(
     alloc: Global,
     before: &[Statement],
@@ -351,7 +351,7 @@ fn superpose(
     Ok(certs)
 }
 
-#[tactic(auto, using(crate::proofs::NumberedSteps::placing))]
+#[tactic(auto, using(crate::proofs::placing::NumberedSteps::placing))]
 fn qed(
     alloc: Global,
     objects: &[Obj],

@@ -236,7 +236,7 @@ fn placed_part(alloc: Global, facts: &Facts, lit: &Lit, part: &Part) -> Result<P
 }
 
 /// Puts the parts last, each for its literal.
-#[tactic(auto, using(crate::proofs::PairedPlaces::parts))]
+#[tactic(auto, using(crate::proofs::placing::PairedPlaces::parts))]
 fn put_parts(
     alloc: Global,
     facts: &Facts,
@@ -307,7 +307,7 @@ pub fn placed_certs(
 }
 
 /// Puts the certificates last, each for its literal.
-#[tactic(auto, using(crate::proofs::PairedPlaces::certs))]
+#[tactic(auto, using(crate::proofs::placing::PairedPlaces::certs))]
 fn put_certs(
     alloc: Global,
     facts: &Facts,

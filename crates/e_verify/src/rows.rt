@@ -135,7 +135,7 @@ pub fn goal_row<'a>(wanted: Option<&'a Lit>) -> Option<Comparison<'a>>
 }
 
 /// The row of an atom or of its negation; none where it does not compare magnitudes.
-#[tactic(auto, using(crate::proofs::Smallness::good_sums))]
+#[tactic(auto, using(crate::proofs::arithmetic::SmallSums::good_sums))]
 fn row_of<'a>(atom: &'a Atom, neg: bool) -> Option<Comparison<'a>>
     requires { IsTrue (is_good_atom atom.now) }
     ensures row { option_map comparison_view result ≡ row_of_atom atom.now neg }
@@ -223,7 +223,7 @@ fn least_row<'a>(row_scope: &RowScope<'a>, term: Term) -> Option<Row<'a>>
 }
 
 /// Whether the term is one of the step, as it is written there.
-#[tactic(auto, using(crate::proofs::StepTerms::of_step))]
+#[tactic(auto, using(crate::proofs::arithmetic::StepTerms::of_step))]
 fn is_step_term(row_scope: &RowScope, term: Term) -> bool
     ensures { result ≡ Sum.is_step_term (row_scope_view row_scope.now) term }
 {

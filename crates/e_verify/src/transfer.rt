@@ -39,7 +39,7 @@ pub fn transfer_certifies(
 }
 
 /// Whether there are as many parts as literals, and each certifies its literal.
-#[tactic(auto, using(crate::proofs::Paired::parts))]
+#[tactic(auto, using(crate::proofs::checking::PairedCertificates::parts))]
 fn parts_certify(
     alloc: Global,
     facts: &Facts,

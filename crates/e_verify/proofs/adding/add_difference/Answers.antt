@@ -2,7 +2,7 @@ use Rattle.std.proofs.Common.{◌+ℤ◌, ◌*ℤ◌, ◌∙◌, ap, SFits, to_z
 use mir.Syntax.{w128}
 use Rattle.e_literal.specs.Rows.{coefficient, normal_summands, plus}
 use Rattle.e_verify.specs.inner.Totals.{at}
-use Rattle.e_verify.proofs.Added.{sum_bound, room_after, added_both, on_ok}
+use Rattle.e_verify.proofs.arithmetic.Coefficients.{sum_bound, room_after, added_both, on_ok}
 use Rattle.e_verify.proofs.adding.add_difference.Goals as goal
 
 pub add_sum-requires-2-clause-room : goal.add_sum-requires-2-clause-room

@@ -2,7 +2,7 @@ use Rattle.std.proofs.Common.{◌+ℤ◌, ◌∙◌, ap, SFits, to_z-of_z, rules
 use mir.Syntax.{w128}
 use Rattle.e_verify.specs.inner.Totals.{at}
 use Rattle.e_literal.specs.declared.object.Term.TheVariants.{Right}
-use Rattle.e_verify.proofs.Added.{single, added_pos, added_least, added_top, added_sums, on_ok}
+use Rattle.e_verify.proofs.arithmetic.Coefficients.{single, added_pos, added_least, added_top, added_sums, on_ok}
 use Rattle.e_verify.proofs.adding.add_row.Goals as goal
 
 pub returns-in-Sums : goal.returns-in-Sums

@@ -5,7 +5,7 @@ use Rattle.e_literal.specs.declared.object.Mono.{Mono}
 use Rattle.e_literal.specs.Same.{canonical}
 use Rattle.e_literal.specs.Rows.{coefficient, normal_summands, plus}
 use Rattle.e_verify.specs.inner.Totals.{at}
-use Rattle.e_verify.proofs.Added.{single, front_size, room_for_one, added_one}
+use Rattle.e_verify.proofs.arithmetic.Coefficients.{single, front_size, room_for_one, added_one}
 use Rattle.e_verify.proofs.adding.add_sum.Goals as goal
 
 abbrev none : Mono

@@ -5,10 +5,10 @@ use Rattle.e_deriv.specs.Script.{script_of, close_script, Cite, Hence, Make, App
 use Rattle.e_verify.specs.inner.StepStates.{block_goal}
 use Rattle.e_verify.specs.Checking.{verdict_at, IsReadyFor, IsChecked}
 use Rattle.e_deriv.proofs.Keeping.{all_stay}
-use Rattle.e_verify.proofs.Passing.{cite_line, hence_line, make_line, apply_line, line_passed, line_rejected}
-use Rattle.e_verify.proofs.Inside.{step_ready, step_rejects, step_same, step_next, steps_end, kept_on, ok_as, err_as, few_one, few_step, small_step, formed_step, cite_parts, tested_fits, cite_is, hence_is, make_is, apply_is, hence_parts, make_parts, apply_parts, claim_ready, claim_fails, claim_stops, claim_done, superposed_parts, superposed_ready, superposed_fails, superposed_stops, superposed_done, qed_parts, contradiction_parts, qed_ok, qed_bad, contradiction_ok, contradiction_bad, split_fails, first_ready, first_stops, after_first, second_ready, split_same, kept_after_first}
+use Rattle.e_verify.proofs.checking.PassedLines.{cite_line, hence_line, make_line, apply_line, line_passed, line_rejected}
+use Rattle.e_verify.proofs.checking.InnerBlocks.{step_ready, step_rejects, step_same, step_next, steps_end, kept_on, ok_as, err_as, few_one, few_step, small_step, formed_step, cite_parts, tested_fits, cite_is, hence_is, make_is, apply_is, hence_parts, make_parts, apply_parts, claim_ready, claim_fails, claim_stops, claim_done, superposed_parts, superposed_ready, superposed_fails, superposed_stops, superposed_done, qed_parts, contradiction_parts, qed_ok, qed_bad, contradiction_ok, contradiction_bad, split_fails, first_ready, first_stops, after_first, second_ready, split_same, kept_after_first}
 use Rattle.e_verify.proofs.block.+block.Goals as goal
-use Rattle.e_verify.proofs.Added.{on_ok}
+use Rattle.e_verify.proofs.arithmetic.Coefficients.{on_ok}
 
 -- ---- a block
 

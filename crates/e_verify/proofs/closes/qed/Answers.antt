@@ -5,7 +5,7 @@ use Rattle.e_literal.specs.WellFormed.{is_well_formed}
 use Rattle.e_clause.specs.Certify.{certify_all}
 use Rattle.e_verify.specs.inner.StepStates.{block_goal}
 use Rattle.e_deriv.proofs.Sorts.{sorts_agree}
-use Rattle.e_verify.proofs.Closing.{goal_formed, qed_certified}
+use Rattle.e_verify.proofs.checking.QedGoals.{goal_formed, qed_certified}
 use Rattle.e_verify.proofs.closes.qed.Goals as goal
 
 if_ok : {E : Type 0} {P : Bool → Type 0} (r : Result Bool E) (x : Bool) → IfOk r (λ b. b ≡ x) → ((b : Bool) → b ≡ x → P b) → IfOk r P

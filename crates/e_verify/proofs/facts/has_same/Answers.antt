@@ -2,7 +2,7 @@ use Rattle.std.proofs.Common.{◌∙◌, rules, tests}
 use Rattle.std.proofs.lemmas.Iterator.Adapters.{YieldsList-from_rev_slice}
 use Rattle.std.proofs.lemmas.Iterator.Search.{any_from_yields_List}
 use Rattle.e_literal.specs.Same.{same_lit}
-use Rattle.e_verify.proofs.Behind.{any_from_back}
+use Rattle.e_verify.proofs.comparing.ReversedLists.{any_from_back}
 use Rattle.e_verify.proofs.facts.has_same.Goals as goal
 
 pub returns : goal.returns

@@ -7,8 +7,8 @@ use Rattle.e_verify.specs.inner.StepStates.{block_goal}
 use Rattle.e_verify.specs.Checking.{KeepsFacts}
 use Rattle.e_verify.specs.inner.Numbering.{HaveFew, IsNumberedStep, places_at}
 use Rattle.e_deriv.proofs.Keeping.{all_stay, stay_joined}
-use Rattle.e_verify.proofs.Inside.{cite_is, hence_is, make_is, apply_is, kept_on, steps_end}
-use Rattle.e_verify.proofs.NumberedSteps.{steps_go_on, few_go_on, step_ok, all_before, ok_with, if_ok, where_ok, claim_numbered, superposed_numbered, qed_same, qed_few, contradiction_same, contradiction_few, after_cases, cases_numbered, cases_few}
+use Rattle.e_verify.proofs.checking.InnerBlocks.{cite_is, hence_is, make_is, apply_is, kept_on, steps_end}
+use Rattle.e_verify.proofs.placing.NumberedSteps.{steps_go_on, few_go_on, step_ok, all_before, ok_with, if_ok, where_ok, claim_numbered, superposed_numbered, qed_same, qed_few, contradiction_same, contradiction_few, after_cases, cases_numbered, cases_few}
 use Rattle.e_verify.proofs.numbering.+number.Goals as goal
 
 -- ---- a block

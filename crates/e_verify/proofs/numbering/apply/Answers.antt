@@ -12,9 +12,9 @@ use Rattle.e_deriv.specs.Lines.{no_statement}
 use Rattle.e_deriv.specs.Parts.{has_no_blank, written}
 use Rattle.e_verify.specs.declared.step_state.StepState.{StepState}
 use Rattle.e_verify.specs.Numbered.{placed_certs}
-use Rattle.e_verify.proofs.FirstLines.{after_apply}
-use Rattle.e_verify.proofs.Certified.{fits_of, all_are_written, few_new_of, theorem_there}
-use Rattle.e_verify.proofs.NumberedSteps.{apply_numbered}
+use Rattle.e_verify.proofs.checking.FirstLines.{after_apply}
+use Rattle.e_verify.proofs.checking.CertifiedLines.{fits_of, all_are_written, few_new_of, theorem_there}
+use Rattle.e_verify.proofs.placing.NumberedSteps.{apply_numbered}
 use Rattle.e_verify.proofs.numbering.apply.Goals as goal
 
 abbrev as_state : Scope → List Lit → StepState

@@ -1,6 +1,6 @@
 use Rattle.std.proofs.Common.{ap}
 use Rattle.e_deriv.specs.declared.block.Step.TheVariants.{Cite as CiteStep}
-use Rattle.e_verify.proofs.NumberedSteps.{cite_numbered}
+use Rattle.e_verify.proofs.placing.NumberedSteps.{cite_numbered}
 use Rattle.e_verify.proofs.numbering.cite.Goals as goal
 
 pub returns : goal.returns

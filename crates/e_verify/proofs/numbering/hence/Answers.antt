@@ -1,6 +1,6 @@
 use Rattle.std.proofs.Common.{ap, ◌∙◌}
 use Rattle.e_deriv.specs.declared.block.Step.TheVariants.{Hence as HenceStep}
-use Rattle.e_verify.proofs.NumberedSteps.{hence_numbered}
+use Rattle.e_verify.proofs.placing.NumberedSteps.{hence_numbered}
 use Rattle.e_verify.proofs.numbering.hence.Goals as goal
 
 pub returns : goal.returns

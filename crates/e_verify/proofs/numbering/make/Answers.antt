@@ -8,8 +8,8 @@ use Rattle.e_construct.specs.Construct.{made}
 use Rattle.e_deriv.specs.declared.block.Step.TheVariants.{Make as MakeStep}
 use Rattle.e_verify.specs.Numbered.{placed_certs}
 use Rattle.e_verify.specs.declared.step_state.StepState.{StepState}
-use Rattle.e_verify.proofs.Certified.{few_new}
-use Rattle.e_verify.proofs.NumberedSteps.{make_numbered}
+use Rattle.e_verify.proofs.checking.CertifiedLines.{few_new}
+use Rattle.e_verify.proofs.placing.NumberedSteps.{make_numbered}
 use Rattle.e_verify.proofs.numbering.make.Goals as goal
 
 abbrev as_state : Scope → List Lit → StepState

@@ -1,6 +1,6 @@
 use Rattle.std.proofs.Common.{ap, sym, ◌∙◌}
 use Rattle.std.specs.Option.{option_copied}
-use Rattle.e_verify.proofs.FormedFacts.{formed_at}
+use Rattle.e_verify.proofs.checking.FormedFacts.{formed_at}
 use Rattle.e_verify.proofs.rows.row_at.Goals as goal
 
 pub row_of-requires : goal.row_of-requires

@@ -4,7 +4,7 @@ use Rattle.e_literal.specs.WellFormed.{is_well_formed}
 use Rattle.std.specs.List.{list_all}
 use Rattle.e_literal.proofs.Booleans.{and_left, and_right}
 use Rattle.e_verify.specs.inner.Small.{is_small}
-use Rattle.e_verify.proofs.Smallness.{if_some}
+use Rattle.e_verify.proofs.arithmetic.SmallSums.{if_some}
 use Rattle.e_verify.proofs.rows.row_named.Goals as goal
 
 pub returns-in-Below-clause-small : goal.returns-in-Below-clause-small

@@ -13,7 +13,7 @@ use Rattle.e_theorem.specs.Faults.{FaultIs}
 use Rattle.e_theorem.specs.Statements.{stated, all_stated}
 use Rattle.e_deriv.specs.Parts.{has_no_blank, written}
 use Rattle.e_verify.specs.declared.step_state.StepState.{StepState}
-use Rattle.e_verify.proofs.Certified.{checked_apply, no_arguments, not_certified, fits_of, all_are_written, few_new_of, use_formed, theorem_there}
+use Rattle.e_verify.proofs.checking.CertifiedLines.{checked_apply, no_arguments, not_certified, fits_of, all_are_written, few_new_of, use_formed, theorem_there}
 use Rattle.e_verify.proofs.steps.apply.Goals as goal
 
 abbrev as_state : Scope → List Lit → StepState

@@ -1,5 +1,5 @@
 use Rattle.std.proofs.Common.{sym, ◌∙◌}
-use Rattle.e_verify.proofs.Certified.{checked_cite}
+use Rattle.e_verify.proofs.checking.CertifiedLines.{checked_cite}
 use Rattle.e_verify.proofs.steps.cite.Goals as goal
 
 pub returns : goal.returns

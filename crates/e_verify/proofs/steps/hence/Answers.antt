@@ -1,5 +1,5 @@
 use Rattle.std.proofs.Common.{sym, ◌∙◌}
-use Rattle.e_verify.proofs.Certified.{checked_hence}
+use Rattle.e_verify.proofs.checking.CertifiedLines.{checked_hence}
 use Rattle.e_verify.proofs.steps.hence.Goals as goal
 
 pub returns : goal.returns

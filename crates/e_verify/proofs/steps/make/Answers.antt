@@ -9,7 +9,7 @@ use Rattle.e_literal.specs.Scopes.{grown}
 use Rattle.e_literal.specs.WellFormed.{is_well_formed}
 use Rattle.e_clause.specs.Certify.{certify_all}
 use Rattle.e_verify.specs.declared.step_state.StepState.{StepState}
-use Rattle.e_verify.proofs.Certified.{checked_make, make_formed, few_new}
+use Rattle.e_verify.proofs.checking.CertifiedLines.{checked_make, make_formed, few_new}
 use Rattle.e_verify.proofs.steps.make.Goals as goal
 
 abbrev as_state : Scope → List Lit → StepState

@@ -9,7 +9,7 @@ use Rattle.e_literal.specs.WellFormed.{is_well_formed}
 use Rattle.e_clause.specs.Certify.{certify_all}
 use Rattle.e_construct.specs.Superposing as superposing
 use Rattle.e_verify.specs.declared.step_state.StepState.{StepState}
-use Rattle.e_verify.proofs.Certified.{superposed_formed, superposed_certified, few_copies}
+use Rattle.e_verify.proofs.checking.CertifiedLines.{superposed_formed, superposed_certified, few_copies}
 use Rattle.e_verify.proofs.steps.superpose.Goals as goal
 
 abbrev as_state : Scope → List Lit → StepState

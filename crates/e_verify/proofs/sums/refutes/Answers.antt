@@ -3,7 +3,7 @@ use Rattle.std.specs.Option.{option_map}
 use mir.Syntax.{w128}
 use Rattle.e_literal.specs.Absurd.{is_good_sign, is_strict}
 use Rattle.e_verify.specs.inner.Views.{row_scope_view, row_view}
-use Rattle.e_verify.proofs.Summing.{not_named, bad_sign, one_added, good_multiplier, whole, all_taken}
+use Rattle.e_verify.proofs.arithmetic.AddedRows.{not_named, bad_sign, one_added, good_multiplier, whole, all_taken}
 use Rattle.e_verify.proofs.sums.refutes.Goals as goal
 use Rattle.e_verify.proofs.sums.refutes.Goals.{then-strict, else-strict, then-strict-2, else-strict-2}
 

@@ -1,6 +1,6 @@
 use Rattle.std.proofs.Common.{take}
 use Rattle.e_verify.specs.inner.Views.{row_scope_view}
-use Rattle.e_verify.proofs.Summing.{IsAdded}
+use Rattle.e_verify.proofs.arithmetic.AddedRows.{IsAdded}
 use Rattle.e_verify.proofs.sums.refutes.Given as goal
 
 abbrev pub invariant-loop-multiplier : goal.invariant-loop-multiplier

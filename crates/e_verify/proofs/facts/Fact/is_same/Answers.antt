@@ -1,4 +1,4 @@
-use Rattle.e_verify.proofs.Fingerprints.{apart_by_number}
+use Rattle.e_verify.proofs.comparing.Fingerprints.{apart_by_number}
 use Rattle.e_verify.proofs.facts.Fact.is_same.Goals as goal
 
 pub returns-else-self-fingerprint : goal.returns-else-self-fingerprint

@@ -2,7 +2,7 @@ use Rattle.std.proofs.Common.{◌≡◌, ◌↔◌, subst}
 use Rattle.std.specs.Prelude.{pos, IsTrue}
 use Rattle.e_literal.specs.declared.object.Term.{Term}
 use Rattle.e_verify.specs.inner.Totals.{at}
-use Rattle.e_verify.proofs.Totalling.{zero_everywhere}
+use Rattle.e_verify.proofs.arithmetic.KeyedTotals.{zero_everywhere}
 use Rattle.e_verify.proofs.totals.Totals.are_zero.Goals as goal
 
 pub returns : goal.returns

@@ -32,10 +32,10 @@ use Rattle.e_verify.specs.inner.StepStates.{with_facts, after_superposed}
 use Rattle.e_clause.specs.Written.{is_good_cert, is_good_against}
 use Rattle.e_deriv.specs.Written.{is_written_well}
 use Rattle.e_verify.specs.Checking.{line_at, lines_at, verdict_at, RejectIs, IsReadyFor, IsChecked, IsPassed, StepRejects}
-use Rattle.e_verify.proofs.FirstLines.{some_lines, claim_lines, superposed_lines, cases_lines}
+use Rattle.e_verify.proofs.checking.FirstLines.{some_lines, claim_lines, superposed_lines, cases_lines}
 use Rattle.e_deriv.proofs.Keeping.{stay_all}
 use Rattle.e_construct.specs.Superposing as superposing
-use Rattle.e_verify.proofs.FormedFacts.{joined_formed, all_joined_formed, superposed_gives_formed}
+use Rattle.e_verify.proofs.checking.FormedFacts.{joined_formed, all_joined_formed, superposed_gives_formed}
 
 -- ---- the first failure
 

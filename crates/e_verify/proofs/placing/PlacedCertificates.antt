@@ -27,8 +27,8 @@ use Rattle.e_clause.specs.TransferCertificate.{parts_certify, instance_certifies
 use Rattle.e_clause.specs.RuleKinds.{is_transfer}
 use Rattle.e_clause.specs.Certify.{certifies, certify_all, cert_in, cert_holds, certifies_against}
 use Rattle.e_verify.specs.Numbered.{placed_name, turns, placed_sum, other_side, swapped, two_placed, placed_sums, placed_part, placed_parts, placed_for, placed_transfer, placed_cert, placed_certs, placed_against}
-use Rattle.e_verify.proofs.AlikeRows.{placed_fact}
-use Rattle.e_verify.proofs.PlacedSums.{placed_refute}
+use Rattle.e_verify.proofs.placing.AlikeRows.{placed_fact}
+use Rattle.e_verify.proofs.placing.PlacedSums.{placed_refute}
 
 -- ---- what they name is in scope
 

@@ -34,10 +34,10 @@ use Rattle.e_verify.specs.declared.step_state.Checkpoint.{Checkpoint}
 use Rattle.e_verify.specs.inner.StepStates.{with_facts, after_superposed, checkpoint_of, restored}
 use Rattle.e_clause.specs.Written.{is_good_cert, is_good_against}
 use Rattle.e_verify.specs.Checking.{line_at, verdict_at, RejectIs, IsReadyFor, IsReadyStep, KeepsFacts, IsPassed, StepRejects}
-use Rattle.e_verify.proofs.FirstLines.{some_lines, qed_lines, contradiction_lines}
+use Rattle.e_verify.proofs.checking.FirstLines.{some_lines, qed_lines, contradiction_lines}
 use Rattle.e_deriv.proofs.Keeping.{stay_on, stay_joined, stay_all}
-use Rattle.e_verify.proofs.Certified.{superposed_fits}
-use Rattle.e_verify.proofs.Passing.{close_certified, close_rejected, reject_as, scope_small, cite_written, hence_written, make_written, apply_written, superposed_written, qed_written, contradiction_written, claim_inner, passed_claim, claim_rejected, claim_bad, superposed_inner, IsHead, passed_superposed, superposed_rejected, bad_line, cases_first, cases_second, cases_same, cases_rejected, cases_bad}
+use Rattle.e_verify.proofs.checking.CertifiedLines.{superposed_fits}
+use Rattle.e_verify.proofs.checking.PassedLines.{close_certified, close_rejected, reject_as, scope_small, cite_written, hence_written, make_written, apply_written, superposed_written, qed_written, contradiction_written, claim_inner, passed_claim, claim_rejected, claim_bad, superposed_inner, IsHead, passed_superposed, superposed_rejected, bad_line, cases_first, cases_second, cases_same, cases_rejected, cases_bad}
 
 -- ---- the steps of a block
 

@@ -21,7 +21,7 @@ use Rattle.e_verify.specs.inner.Totals.{at}
 use Rattle.e_verify.specs.inner.Small.{is_small}
 use Rattle.e_verify.specs.inner.Views.{row_view}
 use Rattle.e_verify.specs.declared.rows.Row.{Row as CodeRow}
-use Rattle.e_verify.proofs.Added.{abs_sum, times_none, row_size}
+use Rattle.e_verify.proofs.arithmetic.Coefficients.{abs_sum, times_none, row_size}
 
 abbrev pub weigh : ℤ → Row → Weighed
 weigh m r = record { multiplier = m; row = r }

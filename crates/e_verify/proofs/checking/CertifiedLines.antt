@@ -53,8 +53,8 @@ use Rattle.e_deriv.specs.Certified.{is_certified}
 use Rattle.e_verify.specs.Checking.{line_at}
 use Rattle.e_deriv.proofs.Keeping.{stay_joined, stay_all}
 use Rattle.e_deriv.proofs.Smallness.{few_of_small, few_objects}
-use Rattle.e_verify.proofs.FormedFacts.{all_formed, joined_formed, all_joined_formed, make_gives_formed, use_gives_formed}
-use Rattle.e_verify.proofs.FirstLines.{checked, cite_lines, hence_lines, make_lines, after_make, apply_lines, after_apply}
+use Rattle.e_verify.proofs.checking.FormedFacts.{all_formed, joined_formed, all_joined_formed, make_gives_formed, use_gives_formed}
+use Rattle.e_verify.proofs.checking.FirstLines.{checked, cite_lines, hence_lines, make_lines, after_make, apply_lines, after_apply}
 
 -- ---- a citation
 

@@ -23,8 +23,8 @@ use Rattle.e_clause.specs.Sum.{Place, fact_row, row_at, says_differ, unless_not,
 use Rattle.e_clause.specs.MetricCertificate.{differing_of, differing, above_row, below_row, both_refute, sums_refute}
 use Rattle.e_clause.proofs.Refuted.{option_split, found}
 use Rattle.e_verify.specs.Numbered.{place_among, are_turned, is_turned, placed_name, turns, placed_sum, other_side, swapped, two_placed, placed_sums}
-use Rattle.e_verify.proofs.AlikeRows.{placed_fact, AreAlike, alike_rows}
-use Rattle.e_verify.proofs.AlikeSums.{HaveOneShare, AllHaveOneShare, absurd_together}
+use Rattle.e_verify.proofs.placing.AlikeRows.{placed_fact, AreAlike, alike_rows}
+use Rattle.e_verify.proofs.placing.AlikeSums.{HaveOneShare, AllHaveOneShare, absurd_together}
 
 cond_some : {A : Type 0} (b : Bool) (o : Option A) (a : A) → cond b o None ≡ Some a → (b ≡ true) × (o ≡ Some a)
 cond_some true o a e = (refl, e)

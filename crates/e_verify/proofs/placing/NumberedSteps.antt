@@ -34,8 +34,8 @@ use Rattle.e_verify.specs.inner.StepStates.{with_facts, after_superposed, checkp
 use Rattle.e_verify.specs.inner.Numbering.{has_few, HaveFew, IsNumberedStep, places_at}
 use Rattle.e_verify.specs.Checking.{line_at, lines_at, KeepsFacts}
 use Rattle.e_verify.specs.Numbered.{placed_cert, placed_certs, placed_against, with_places}
-use Rattle.e_verify.proofs.FirstLines.{cite_lines, hence_lines, make_lines, apply_lines, qed_lines, contradiction_lines, cases_lines, claim_lines, superposed_lines, after_make, after_apply}
-use Rattle.e_verify.proofs.Inside.{kept_on, restored_is}
+use Rattle.e_verify.proofs.checking.FirstLines.{cite_lines, hence_lines, make_lines, apply_lines, qed_lines, contradiction_lines, cases_lines, claim_lines, superposed_lines, after_make, after_apply}
+use Rattle.e_verify.proofs.checking.InnerBlocks.{kept_on, restored_is}
 
 -- ---- what is put at one line
 

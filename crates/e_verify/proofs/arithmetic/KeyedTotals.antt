@@ -18,7 +18,7 @@ use Rattle.e_literal.proofs.Terms.{term_eq_is}
 use Rattle.e_literal.proofs.Arith.{sums, zero_is, is_zero}
 use Rattle.e_literal.proofs.Booleans.{and_left, and_right}
 use Rattle.e_verify.specs.inner.Totals.{key_of, is_narrow, IsKey, at_key, at}
-use Rattle.e_verify.proofs.Keys.{same_keys}
+use Rattle.e_verify.proofs.arithmetic.TermKeys.{same_keys}
 
 -- ---- what is read
 

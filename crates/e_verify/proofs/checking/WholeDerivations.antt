@@ -18,8 +18,8 @@ use Rattle.e_verify.specs.declared.step_state.StepState.{StepState}
 use Rattle.e_verify.specs.inner.StepStates.{start_of}
 use Rattle.e_verify.specs.Checking.{verdict_at, IsReadyFor}
 use Rattle.e_verify.specs.Verdicts.{IsVerifiable}
-use Rattle.e_verify.proofs.FormedFacts.{all_joined_formed}
-use Rattle.e_verify.proofs.Passing.{all_pass}
+use Rattle.e_verify.proofs.checking.FormedFacts.{all_joined_formed}
+use Rattle.e_verify.proofs.checking.PassedLines.{all_pass}
 
 pub same_verdict : (before : List Stated) (t : Stated) (d : Script) (x : StepState) (g : Goal) → x ≡ start_of t → g ≡ goal_of_statement t → verdict before t d ≡ verdict_at before d x g 1
 same_verdict before t d x g is same = sym (ap (λ y. verdict_at before d y g 1) is ∙ ap (λ h. verdict_at before d (start_of t) h 1) same)

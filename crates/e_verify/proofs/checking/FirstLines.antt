@@ -20,7 +20,7 @@ use Rattle.e_deriv.specs.Certified.{is_certified}
 use Rattle.e_verify.specs.declared.step_state.StepState.{StepState}
 use Rattle.e_verify.specs.inner.StepStates.{with_facts, after_superposed}
 use Rattle.e_verify.specs.Checking.{line_at, lines_at, IsChecked, KeepsFacts}
-use Rattle.e_verify.proofs.FormedFacts.{all_formed}
+use Rattle.e_verify.proofs.checking.FormedFacts.{all_formed}
 
 pub cite_lines : (before : List Stated) (by : By) (x : StepState) (rest : Script) (goal : Goal)
     → lines_at before (Cite by rest) x goal ≡ line_at (Cite by rest) x goal ∷ lines_at before rest (with_facts (joined x.facts by.lit) x) goal

@@ -37,8 +37,8 @@ use Rattle.e_deriv.specs.Written.{is_written_well}
 use Rattle.e_deriv.specs.Versions.{has_certs_of}
 use Rattle.e_verify.specs.Numbered.{place_among, placed_name, turns, placed_sum, other_side, swapped, two_placed, placed_sums, placed_part, placed_parts, placed_for, placed_cert, placed_certs, placed_against, with_places}
 use Rattle.e_verify.specs.inner.Numbering.{has_few}
-use Rattle.e_verify.proofs.Passing.{hence_written, make_written, apply_written, claim_written, superposed_written, qed_written, contradiction_written, cases_written, cite_written}
-use Rattle.e_verify.proofs.PlacedCertificates.{certs_certified, against_certified}
+use Rattle.e_verify.proofs.checking.PassedLines.{hence_written, make_written, apply_written, claim_written, superposed_written, qed_written, contradiction_written, cases_written, cite_written}
+use Rattle.e_verify.proofs.placing.PlacedCertificates.{certs_certified, against_certified}
 
 abbrev are_certified : List Stated → List Line → Bool
 are_certified before xs = list_all (is_certified before) xs
