@@ -15,8 +15,8 @@ use Rattle.e_clause.specs.Clash.{clash, clashes_at}
 use Rattle.e_clause.specs.Judged.{are_good_facts}
 use Rattle.e_clause.specs.MetricCertificate.{sums_in, metric_contradicts}
 use Rattle.e_clause.specs.Wide.{IsTooWideContradiction}
-use Rattle.e_metric.proofs.FirstTerms.{take_one}
-use Rattle.e_metric.proofs.SystemRows.{all_at}
+use Rattle.e_metric.proofs.terms.FirstTerms.{take_one}
+use Rattle.e_metric.proofs.rows.SystemRows.{all_at}
 use Rattle.e_metric.specs.MetricAnswers.{IsCertified, IsTooWide}
 use Rattle.e_licence.specs.Contexts.{Basis}
 use Rattle.e_licence.specs.inner.Clashes.{IsClashing}

@@ -29,7 +29,7 @@ fn are_good(which: Kind, sum: &[Mono]) -> bool
     sum.iter().all(|m| is_of(which, m.term) && 1 <= m.coeff && m.coeff <= 1_000_000)
 }
 
-#[tactic(auto, using(crate::proofs::GoodSums::parts))]
+#[tactic(auto, using(crate::proofs::terms::WellFormedSums::parts))]
 fn are_good_sums(which: Kind, x: &[Mono], y: &[Mono]) -> bool
     requires { which ≡ kind_of_sums x.now y.now }
     ensures { result ≡ WellFormed.are_good_sums x.now y.now }

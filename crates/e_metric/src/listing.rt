@@ -40,7 +40,7 @@ fn add_sum(terms: &mut Vec<Term>, sum: &[Mono]) -> Result<(), AllocError>
 }
 
 // Puts the terms of an atom last that are none of those before.
-#[tactic(auto, using(crate::proofs::FirstTerms::atom_terms))]
+#[tactic(auto, using(crate::proofs::terms::FirstTerms::atom_terms))]
 fn add_atom(terms: &mut Vec<Term>, atom: &Atom) -> Result<(), AllocError>
     ensures { OnOk result (terms.new.items ≡ listed terms.old.items (terms_of_atom atom.now)) }
 {
@@ -54,7 +54,7 @@ fn add_atom(terms: &mut Vec<Term>, atom: &Atom) -> Result<(), AllocError>
 }
 
 // Puts the terms of a literal last that are none of those before, if it is of the kind.
-#[tactic(auto, using(crate::proofs::FirstTerms::literal_terms))]
+#[tactic(auto, using(crate::proofs::terms::FirstTerms::literal_terms))]
 fn add_literal(terms: &mut Vec<Term>, which: Kind, lit: &Lit) -> Result<(), AllocError>
     ensures { OnOk result (terms.new.items ≡ listed terms.old.items (terms_of_lits (of_kind which (lit.now ∷ [])))) }
 {
@@ -92,7 +92,7 @@ fn terms_of_facts(alloc: Global, which: Kind, facts: &Facts) -> Result<Vec<Term>
 
 /// The terms of the facts of a kind and of the wanted literal, if it is of the kind, each once, as
 /// it is written first.
-#[tactic(auto, using(crate::proofs::FirstTerms::all_terms))]
+#[tactic(auto, using(crate::proofs::terms::FirstTerms::all_terms))]
 pub fn terms_of_kind(
     alloc: Global,
     which: Kind,
@@ -109,7 +109,7 @@ pub fn terms_of_kind(
 }
 
 /// The terms of a literal, if it is of the kind, that are none of these, each once.
-#[tactic(auto, using(crate::proofs::GoalRows::as_long_one))]
+#[tactic(auto, using(crate::proofs::rows::GoalRows::as_long_one))]
 pub fn fresh_terms(
     alloc: Global,
     which: Kind,
@@ -125,7 +125,7 @@ pub fn fresh_terms(
 }
 
 /// The terms of the facts of the kind from a place on that are none of these, each once.
-#[tactic(auto, using(crate::proofs::GoalRows::as_long))]
+#[tactic(auto, using(crate::proofs::rows::GoalRows::as_long))]
 pub fn fresh_terms_of_facts(
     alloc: Global,
     which: Kind,

@@ -269,7 +269,7 @@ fn count_rows_of(facts: &Facts, term: Term) -> usize
 }
 
 /// How many rows the terms bring.
-#[tactic(auto, using(crate::proofs::RowsOfMoreFacts::raised_more))]
+#[tactic(auto, using(crate::proofs::rows::RowsOfMoreFacts::raised_more))]
 pub fn count_term_rows(facts: &Facts, terms: &[Term]) -> usize
     ensures { result ≡ length (flat_map (rows_of_term facts.now) terms.now) }
 {

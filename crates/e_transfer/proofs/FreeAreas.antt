@@ -23,7 +23,7 @@ use Rattle.e_clause.specs.Instance.{number, lit_at, clause_of}
 use Rattle.e_clause.specs.Rows.{Row}
 use Rattle.e_clause.specs.Table.{table}
 use Rattle.e_clause.proofs.Spread.{Agree, all_hold_agrees, all_among}
-use Rattle.e_metric.proofs.FirstTerms.{take_one, lits_append}
+use Rattle.e_metric.proofs.terms.FirstTerms.{take_one, lits_append}
 use Rattle.e_transfer.specs.declared.models.Filling.{Filling}
 use Rattle.e_transfer.specs.declared.plan.Plan.{Plan}
 use Rattle.e_transfer.specs.declared.query.Strength.{Strength}

@@ -24,7 +24,7 @@ use Rattle.e_clause.specs.Metric.{MetricConsequence}
 use Rattle.e_clause.specs.Rows.{Row}
 use Rattle.e_clause.specs.Table.{table}
 use Rattle.e_clause.proofs.Following.{metric_fact}
-use Rattle.e_metric.proofs.GoodSums.{all_more}
+use Rattle.e_metric.proofs.terms.WellFormedSums.{all_more}
 use Rattle.e_transfer.specs.declared.models.Filling.TheVariants.{Flat}
 use Rattle.e_transfer.specs.declared.query.Strength.{Strength}
 use Rattle.e_transfer.specs.declared.query.Strength.TheVariants as strength

@@ -5,7 +5,7 @@ use Rattle.e_fraction.specs.Views.{all_seen}
 use Rattle.e_simplex.specs.Answer.{Refutes, RefutesBoth, IsAbsurdity}
 use Rattle.e_simplex.specs.declared.decision.Absurdity.{Absurdity}
 use Rattle.e_metric.specs.inner.Certificate.{negated_at, IsWeighable}
-use Rattle.e_metric.proofs.Multipliers.{one_length, one_weighable, both_here, above_length, below_length, above_weighable, below_weighable}
+use Rattle.e_metric.proofs.sums.Multipliers.{one_length, one_weighable, both_here, above_length, below_length, above_weighable, below_weighable}
 use Rattle.e_metric.proofs.certificates.sums_of.Goals as goal
 
 pub sum_of-requires-clause-names : goal.sum_of-requires-clause-names

@@ -4,7 +4,7 @@ use lib.IntN.{ℤ}
 use Rattle.e_clause.specs.declared.cert.RowName.{RowName}
 use Rattle.e_clause.specs.declared.cert.RowName.TheVariants.{Goal, Above, Below}
 use Rattle.e_metric.specs.inner.Certificate.{sum_of, negated_at}
-use Rattle.e_metric.proofs.Multipliers.{set_twice}
+use Rattle.e_metric.proofs.sums.Multipliers.{set_twice}
 use Rattle.e_metric.proofs.certificates.two_sums.Goals as goal
 
 pub returns-in-Ok-sum_of : goal.returns-in-Ok-sum_of

@@ -8,8 +8,8 @@ use Rattle.std.specs.Prelude.{option_copied}
 use Rattle.e_fraction.specs.Views.{all_seen}
 use Rattle.e_simplex.specs.Answer.{IsVerdict, AreValuesOf, IsRefuted, assigned}
 use Rattle.e_clause.specs.System.{system}
-use Rattle.e_metric.proofs.RowOrder.{same_order}
-use Rattle.e_metric.proofs.KindAnswers.{few_rows, small_rows, solved, too_wide, refuted, system_width}
+use Rattle.e_metric.proofs.rows.RowOrder.{same_order}
+use Rattle.e_metric.proofs.answers.KindAnswers.{few_rows, small_rows, solved, too_wide, refuted, system_width}
 use Rattle.e_metric.proofs.consequence.answer_of_kind.Goals as goal
 
 pub decide-requires-clause-few : goal.decide-requires-clause-few

@@ -11,9 +11,9 @@ use Rattle.e_literal.specs.declared.object.Term.TheVariants.{Right}
 use Rattle.e_metric.specs.SolvedSystems.{AreNamed}
 use Rattle.e_metric.specs.ListedTerms.{listed, terms_of_kind}
 use Rattle.e_metric.specs.inner.Certificate.{sums_of}
-use Rattle.e_metric.proofs.SolvedSystems.{named_of, few_named, small_named, refuted_named}
-use Rattle.e_metric.proofs.RowOrder.{same_order}
-use Rattle.e_metric.proofs.KindAnswers.{system_width, has_width}
+use Rattle.e_metric.proofs.answers.SolvedSystems.{named_of, few_named, small_named, refuted_named}
+use Rattle.e_metric.proofs.rows.RowOrder.{same_order}
+use Rattle.e_metric.proofs.answers.KindAnswers.{system_width, has_width}
 use Rattle.e_metric.proofs.kind_system.solve_kind.Goals as goal
 
 pub settle-requires-clause-few : goal.settle-requires-clause-few

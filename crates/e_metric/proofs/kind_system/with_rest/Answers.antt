@@ -5,8 +5,8 @@ use Rattle.e_clause.specs.declared.cert.RowName.{RowName}
 use Rattle.e_fraction.specs.declared.row.Row.{Row as GivenRow}
 use Rattle.e_metric.specs.AgreeingRows.{AreRows}
 use Rattle.e_metric.specs.inner.FurtherRows.{fresh_terms, joining}
-use Rattle.e_metric.proofs.SolvedSystems.{named_of}
-use Rattle.e_metric.proofs.GrownSystems.{no_rows, joined_rows, joined_terms, unchanged, facts_together}
+use Rattle.e_metric.proofs.answers.SolvedSystems.{named_of}
+use Rattle.e_metric.proofs.answers.GrownSystems.{no_rows, joined_rows, joined_terms, unchanged, facts_together}
 use Rattle.e_metric.proofs.kind_system.with_rest.Goals as goal
 
 pub returns-then-are_none : goal.returns-then-are_none

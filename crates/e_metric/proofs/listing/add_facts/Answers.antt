@@ -2,7 +2,7 @@ use Rattle.std.proofs.Common.{arith, ap, ◌∙◌}
 use Rattle.e_clause.specs.Assignment.{terms_of_lits}
 use Rattle.e_clause.specs.System.{of_kind}
 use Rattle.e_metric.specs.ListedTerms.{listed}
-use Rattle.e_metric.proofs.FirstTerms.{more_terms, whole_rest}
+use Rattle.e_metric.proofs.terms.FirstTerms.{more_terms, whole_rest}
 use Rattle.e_metric.proofs.listing.add_facts.Goals as goal
 
 pub loop-k-preserved : goal.loop-k-preserved

@@ -2,7 +2,7 @@ use Rattle.std.proofs.Common.{drop, ap, ◌∙◌}
 use Rattle.e_clause.specs.Assignment.{terms_of_lits}
 use Rattle.e_clause.specs.System.{of_kind}
 use Rattle.e_metric.specs.ListedTerms.{listed}
-use Rattle.e_metric.proofs.GoalRows.{last_after}
+use Rattle.e_metric.proofs.rows.GoalRows.{last_after}
 use Rattle.e_metric.proofs.listing.fresh_terms_of_facts.Goals as goal
 
 pub returns : goal.returns

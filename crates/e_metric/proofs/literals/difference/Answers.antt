@@ -4,7 +4,7 @@ use Rattle.e_fraction.specs.Distinct.{have_distinct_terms}
 use Rattle.e_fraction.specs.Limits.{has_small_coefficients}
 use Rattle.e_metric.specs.AgreeingRows.{has_no_zero}
 use Rattle.e_metric.specs.inner.Differences.{joined}
-use Rattle.e_metric.proofs.Forms.{is_joined, joined_coefficient, joined_length, no_zero, all_small}
+use Rattle.e_metric.proofs.rows.Forms.{is_joined, joined_coefficient, joined_length, no_zero, all_small}
 use Rattle.e_metric.proofs.literals.difference.Goals as goal
 
 pub new-requires : goal.new-requires

@@ -1,6 +1,6 @@
 use Rattle.std.proofs.Common.{sym, ◌∙◌}
 use Rattle.e_clause.specs.Judged.{is_good}
-use Rattle.e_metric.proofs.GoodSums.{not_all, all_more}
+use Rattle.e_metric.proofs.terms.WellFormedSums.{not_all, all_more}
 use Rattle.e_transfer.proofs.conditions.are_good.Goals as goal
 
 pub returns-then-not-is_good_literal : goal.returns-then-not-is_good_literal

@@ -1,6 +1,6 @@
 use Rattle.e_literal.specs.declared.object.Kind.TheVariants.{Segment, Angle, Area}
 use Rattle.std.proofs.Common.{◌∙◌, ap, Some, refl}
-use Rattle.e_metric.proofs.OtherKinds.{other_kind}
+use Rattle.e_metric.proofs.answers.OtherKinds.{other_kind}
 use Rattle.e_metric.proofs.metric_facts.MetricFacts.answers_by_kind.Goals as goal
 
 pub both_alone-requires-clause-one : goal.both_alone-requires-clause-one

@@ -5,7 +5,7 @@ use Rattle.e_fraction.specs.Views.{all_seen}
 use Rattle.e_simplex.specs.Answer.{assigned}
 use Rattle.e_metric.specs.AgreeingRows.{AreRows}
 use Rattle.e_metric.specs.inner.FurtherRows.{fresh_terms, further, default_value, extended}
-use Rattle.e_metric.proofs.SolvedSystems.{named_of, asked, goal_together, false_already}
+use Rattle.e_metric.proofs.answers.SolvedSystems.{named_of, asked, goal_together, false_already}
 use Rattle.e_metric.proofs.solved_system.SolvedSystem.ask.Goals as goal
 
 pub returns-then-are_so : goal.returns-then-are_so

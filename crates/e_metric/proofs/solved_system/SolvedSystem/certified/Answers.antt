@@ -7,7 +7,7 @@ use Rattle.e_fraction.specs.Limits.{all_small}
 use Rattle.e_fraction.specs.Views.{all_seen}
 use Rattle.e_simplex.specs.Answer.{IsAbsurdity}
 use Rattle.e_metric.specs.ListedTerms.{listed, terms_of_kind}
-use Rattle.e_metric.proofs.SolvedSystems.{few_together, small_together, same_rows, as_many, refuted_together}
+use Rattle.e_metric.proofs.answers.SolvedSystems.{few_together, small_together, same_rows, as_many, refuted_together}
 use Rattle.e_metric.proofs.solved_system.SolvedSystem.certified.Goals as goal
 
 pub certificate_of-requires-clause-names : goal.certificate_of-requires-clause-names

@@ -34,10 +34,10 @@ use Rattle.e_simplex.specs.declared.decision.Absurdity.{Absurdity}
 use Rattle.e_metric.specs.ListedTerms.{listed, terms_of_kind}
 use Rattle.e_metric.specs.inner.Certificate.{sums_of}
 use Rattle.e_metric.specs.MetricAnswers.{wanted_in}
-use Rattle.e_metric.proofs.FirstTerms.{with_right}
-use Rattle.e_metric.proofs.RowNames.{each_of, each_name, sums_have}
+use Rattle.e_metric.proofs.terms.FirstTerms.{with_right}
+use Rattle.e_metric.proofs.sums.RowNames.{each_of, each_name, sums_have}
 use Rattle.e_metric.specs.RowOrder.{AreReordered}
-use Rattle.e_metric.proofs.RowOrder.{each_reordered}
+use Rattle.e_metric.proofs.rows.RowOrder.{each_reordered}
 
 -- a diagram atom has no terms
 no_terms : (a : Atom) → kind_of_atom a ≡ None → terms_of_atom a ≡ []

@@ -32,10 +32,10 @@ use Rattle.e_metric.specs.inner.FurtherRows.{fresh_terms, rows_of_goal, further}
 use Rattle.e_metric.specs.SolvedSystems.{AreNamed, IsSolvedSystem, AreTogether}
 use Rattle.e_metric.specs.ListedTerms.{listed, terms_of_kind}
 use Rattle.e_metric.specs.MetricAnswers.{IsCertified, IsTooWide}
-use Rattle.e_metric.proofs.GoalRows.{with_further}
-use Rattle.e_metric.proofs.RowOrder.{one_order, reordered_more}
+use Rattle.e_metric.proofs.rows.GoalRows.{with_further}
+use Rattle.e_metric.proofs.rows.RowOrder.{one_order, reordered_more}
 use Rattle.e_metric.specs.RowOrder.{AreReordered}
-use Rattle.e_metric.proofs.KindAnswers
+use Rattle.e_metric.proofs.answers.KindAnswers
 
 -- ---- rows with their names, one list after the other
 

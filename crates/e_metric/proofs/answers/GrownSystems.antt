@@ -13,10 +13,10 @@ use Rattle.e_metric.specs.inner.FurtherRows.{fresh_terms, rows_of_facts, joining
 use Rattle.e_metric.specs.SolvedSystems.{AreNamed, IsSolvedSystem, AreTogether}
 use Rattle.e_metric.specs.ListedTerms.{terms_of_kind}
 use Rattle.e_metric.specs.RowOrder.{AreReordered}
-use Rattle.e_metric.proofs.Forms.{none_more}
-use Rattle.e_metric.proofs.RowsOfMoreFacts.{terms_at, same_raised_at, with_joining}
-use Rattle.e_metric.proofs.SolvedSystems.{named_append}
-use Rattle.e_metric.proofs.RowOrder.{one_order, reordered_more}
+use Rattle.e_metric.proofs.rows.Forms.{none_more}
+use Rattle.e_metric.proofs.rows.RowsOfMoreFacts.{terms_at, same_raised_at, with_joining}
+use Rattle.e_metric.proofs.answers.SolvedSystems.{named_append}
+use Rattle.e_metric.proofs.rows.RowOrder.{one_order, reordered_more}
 
 pub no_rows : (ns : List NamedRow) (ps : List (RowName × GivenRow)) → AreRows ns ps → ps ≡ [] → ns ≡ []
 no_rows [] ps h e = refl

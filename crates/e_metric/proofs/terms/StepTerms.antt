@@ -23,8 +23,8 @@ use Rattle.e_clause.specs.Counterexample.{value_in, are_in_order, listed_terms, 
 use Rattle.e_clause.proofs.Carried.{counterexample_of}
 use Rattle.e_metric.specs.declared.by_kind.ByKind.{ByKind}
 use Rattle.e_metric.specs.inner.AssignedValues.{values_of, step_value}
-use Rattle.e_metric.proofs.Forms.{none_more}
-use Rattle.e_metric.proofs.FirstTerms.{take_one, lits_append}
+use Rattle.e_metric.proofs.rows.Forms.{none_more}
+use Rattle.e_metric.proofs.terms.FirstTerms.{take_one, lits_append}
 
 canonical_sum : (ms : List Mono) → map canonical (map (λ (m : Mono). m.term) ms) ≡ map (λ (m : Mono). canonical m.term) ms
 canonical_sum [] = refl

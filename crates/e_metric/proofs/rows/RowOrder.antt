@@ -10,7 +10,7 @@ use Rattle.e_literal.proofs.Arith.{sums}
 use Rattle.e_clause.specs.System.{NamedRow}
 use Rattle.e_clause.proofs.Named.{Each, each-append}
 use Rattle.e_metric.specs.RowOrder.{IsOne, AreReordered}
-use Rattle.e_metric.proofs.Forms.{none_more}
+use Rattle.e_metric.proofs.rows.Forms.{none_more}
 use Rattle.e_fraction.specs.Det.{det}
 use Rattle.e_fraction.proofs.Expand.{expand_twice}
 use Rattle.e_fraction.proofs.Named.{numbered, det_named}

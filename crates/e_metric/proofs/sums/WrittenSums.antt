@@ -20,9 +20,9 @@ use Rattle.e_simplex.specs.declared.decision.Absurdity.{Absurdity}
 use Rattle.e_metric.specs.inner.Certificate.{sums_of}
 use Rattle.e_clause.specs.declared.cert.Version.TheVariants as version
 use Rattle.e_clause.specs.Versions.{is_name_of, are_sums_of}
-use Rattle.e_metric.proofs.RowNames.{each_of, each_name, sums_have}
+use Rattle.e_metric.proofs.sums.RowNames.{each_of, each_name, sums_have}
 use Rattle.e_metric.specs.RowOrder.{AreReordered}
-use Rattle.e_metric.proofs.RowOrder.{each_reordered}
+use Rattle.e_metric.proofs.rows.RowOrder.{each_reordered}
 
 abbrev IsGood : NamedRow → Type 0
 IsGood n = is_name_of version.One n.name ≡ true

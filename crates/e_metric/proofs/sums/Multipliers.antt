@@ -12,7 +12,7 @@ use Rattle.e_fraction.specs.Limits.{all_small, are_good_multipliers}
 use Rattle.e_fraction.specs.Views.{seen, all_seen}
 use Rattle.e_simplex.specs.Answer.{AreTaken, Refutes, IsNotAt, as_more, as_less, RefutesBoth}
 use Rattle.e_metric.specs.inner.Certificate.{negated_at, IsWeighable}
-use Rattle.e_metric.proofs.SystemCertificates.{length_more, length_less, left_given, left_more, left_less}
+use Rattle.e_metric.proofs.sums.SystemCertificates.{length_more, length_less, left_given, left_more, left_less}
 
 taken_length : (rs : List Row) (ms : List ℤ) → AreTaken rs ms → length ms ≡ length rs
 taken_length [] [] h = refl

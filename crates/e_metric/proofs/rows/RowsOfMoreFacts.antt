@@ -17,11 +17,11 @@ use Rattle.e_clause.specs.Assignment.{terms_of_lits}
 use Rattle.e_clause.specs.System.{NamedRow, named, pos_row, of_kind, rows_named, rows_of_term, rows_of_kind, system}
 use Rattle.e_metric.specs.inner.FurtherRows.{fresh_terms, rows_of_facts, joining}
 use Rattle.e_metric.specs.ListedTerms.{listed, terms_of_kind}
-use Rattle.e_metric.proofs.FirstTerms.{listed_append, listed_first, none_wanted, kind_append, lits_append}
-use Rattle.e_metric.proofs.Forms.{none_more}
-use Rattle.e_metric.proofs.SystemRows.{flat_append}
+use Rattle.e_metric.proofs.terms.FirstTerms.{listed_append, listed_first, none_wanted, kind_append, lits_append}
+use Rattle.e_metric.proofs.rows.Forms.{none_more}
+use Rattle.e_metric.proofs.rows.SystemRows.{flat_append}
 use Rattle.e_metric.specs.RowOrder.{AreReordered}
-use Rattle.e_metric.proofs.RowOrder.{two_after}
+use Rattle.e_metric.proofs.rows.RowOrder.{two_after}
 
 -- ---- terms that were there bring what they brought
 

@@ -35,11 +35,11 @@ use Rattle.e_simplex.specs.Answer.{each_weighed, MayTake, AreTaken, TakesMore, R
 use Rattle.e_metric.specs.AgreeingRows.{AreRows}
 use Rattle.e_metric.specs.ListedTerms.{listed, terms_of_kind}
 use Rattle.e_metric.specs.inner.Certificate.{sum_of, negated_at, sums_of}
-use Rattle.e_metric.proofs.SameCoefficients.{Alike}
+use Rattle.e_metric.proofs.rows.SameCoefficients.{Alike}
 use Rattle.e_metric.specs.RowOrder.{AreReordered}
-use Rattle.e_metric.proofs.RowOrder.{each_reordered}
-use Rattle.e_metric.proofs.FirstTerms.{Once, first_once, first_has, with_right}
-use Rattle.e_metric.proofs.RefutingSums.{NamedWhere, AllStepTerms, sum_refutes}
+use Rattle.e_metric.proofs.rows.RowOrder.{each_reordered}
+use Rattle.e_metric.proofs.terms.FirstTerms.{Once, first_once, first_has, with_right}
+use Rattle.e_metric.proofs.sums.RefutingSums.{NamedWhere, AllStepTerms, sum_refutes}
 
 -- ---- the rows of the program and of the definitions
 

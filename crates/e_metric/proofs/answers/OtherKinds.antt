@@ -20,9 +20,9 @@ use Rattle.e_metric.specs.declared.consequence.Metric.TheVariants.{Yes, No, TooW
 use Rattle.e_metric.specs.declared.solved_system.SolvedSystem.{SolvedSystem}
 use Rattle.e_metric.specs.declared.kind_system.KindSystem.TheVariants as kind_system
 use Rattle.e_metric.specs.SolvedSystems.{IsAnswerAlone}
-use Rattle.e_metric.proofs.FirstTerms.{kind_one}
-use Rattle.e_metric.proofs.KindAnswers.{satisfied, one_system}
-use Rattle.e_metric.proofs.CertificatesOfFronts.{certified_wider}
+use Rattle.e_metric.proofs.terms.FirstTerms.{kind_one}
+use Rattle.e_metric.proofs.answers.KindAnswers.{satisfied, one_system}
+use Rattle.e_metric.proofs.answers.CertificatesOfFronts.{certified_wider}
 
 abbrev row_of : NamedRow → Row
 row_of n = n.row

@@ -10,9 +10,9 @@ use Rattle.e_literal.specs.declared.literal.Lit.{Lit}
 use Rattle.e_literal.specs.Literal.{kind_of_term, kind_of_sums}
 use Rattle.e_literal.specs.WellFormed.{same_kind, is_good_coefficient, are_good_sums}
 use Rattle.e_clause.specs.Assignment.{terms_of_atom, terms_of_lits}
-use Rattle.e_metric.proofs.Forms.{none_more}
-use Rattle.e_metric.proofs.FirstTerms.{take_one, lits_append}
-use Rattle.e_metric.proofs.SystemRows.{all_at}
+use Rattle.e_metric.proofs.rows.Forms.{none_more}
+use Rattle.e_metric.proofs.terms.FirstTerms.{take_one, lits_append}
+use Rattle.e_metric.proofs.rows.SystemRows.{all_at}
 
 abbrev good_of : Kind → Mono → Bool
 good_of which m = same_kind (kind_of_term m.term) which && is_good_coefficient m.coeff

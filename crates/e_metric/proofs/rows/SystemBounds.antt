@@ -23,7 +23,7 @@ use Rattle.e_clause.specs.Laws.{is_good_wanted}
 use Rattle.e_clause.specs.System.{NamedRow, named, is_of_kind, of_kind, against_goal, rows_named, rows_of_term, rows_of_kind, pos_row, system}
 use Rattle.e_clause.proofs.Carried.{good_against}
 use Rattle.e_metric.specs.ListedTerms.{listed, terms_of_kind}
-use Rattle.e_metric.proofs.FirstTerms.{with_right}
+use Rattle.e_metric.proofs.terms.FirstTerms.{with_right}
 
 -- ---- one literal
 

@@ -17,7 +17,7 @@ use Rattle.e_literal.proofs.CanonicalTerms.{one_term_is, one_term_of}
 use Rattle.e_clause.specs.Assignment.{terms_of_atom, terms_of_lits}
 use Rattle.e_clause.specs.System.{is_of_kind, of_kind, against_goal}
 use Rattle.e_metric.specs.ListedTerms.{listed, terms_of_kind}
-use Rattle.e_metric.proofs.Forms.{none_more}
+use Rattle.e_metric.proofs.rows.Forms.{none_more}
 
 -- ---- one list after the other
 

@@ -18,7 +18,7 @@ use Rattle.e_clause.specs.System.{NamedRow, named, is_of_kind, of_kind, against_
 use Rattle.e_fraction.specs.declared.row.Row.{Row as GivenRow}
 use Rattle.e_metric.specs.AgreeingRows.{IsRow, IsRowOrNone, IsLimited, IsLimitedOrNone, AreRows, AllLimited, GrowBy}
 use Rattle.e_metric.specs.ListedTerms.{terms_of_kind}
-use Rattle.e_metric.proofs.FirstTerms.{kind_one, kind_more}
+use Rattle.e_metric.proofs.terms.FirstTerms.{kind_one, kind_more}
 
 -- ---- growing
 

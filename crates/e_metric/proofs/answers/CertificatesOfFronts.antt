@@ -32,9 +32,9 @@ use Rattle.e_metric.specs.declared.kind_system.KindSystem.{KindSystem}
 use Rattle.e_metric.specs.declared.kind_system.KindSystem.TheVariants.{Absurd}
 use Rattle.e_metric.specs.SolvedSystems.{IsKindSystem}
 use Rattle.e_metric.specs.MetricAnswers.{IsCertified}
-use Rattle.e_metric.proofs.FirstTerms.{lits_append}
-use Rattle.e_metric.proofs.Forms.{none_more}
-use Rattle.e_metric.proofs.RowsOfMoreFacts.{more_apart}
+use Rattle.e_metric.proofs.terms.FirstTerms.{lits_append}
+use Rattle.e_metric.proofs.rows.Forms.{none_more}
+use Rattle.e_metric.proofs.rows.RowsOfMoreFacts.{more_apart}
 
 no_rows : (ws : List Weighed) → None ≡ Some ws → ⊥
 no_rows ws h = absurd (cc)

@@ -26,7 +26,7 @@ use Rattle.e_clause.specs.System.{least_row}
 use Rattle.e_clause.specs.Sum.{Place, is_step_term, row_named, weighed_rows, is_good_multiplier, is_good_size, refutes}
 use Rattle.e_simplex.specs.Answer.{each_weighed, MayTake, AreTaken, TakesMore, Refutes}
 use Rattle.e_metric.specs.inner.Certificate.{kept, leasts}
-use Rattle.e_metric.proofs.FirstTerms.{Once, has_same}
+use Rattle.e_metric.proofs.terms.FirstTerms.{Once, has_same}
 
 -- ---- numbers
 

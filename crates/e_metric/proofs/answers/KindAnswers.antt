@@ -34,13 +34,13 @@ use Rattle.e_metric.specs.inner.Certificate.{sums_of}
 use Rattle.e_metric.specs.MetricAnswers.{IsCertified, IsTooWide}
 use Rattle.e_clause.specs.declared.cert.Version.TheVariants as version
 use Rattle.e_clause.specs.Versions.{are_sums_of}
-use Rattle.e_metric.proofs.SameCoefficients.{satisfy_alike, wide_alike, width_alike}
-use Rattle.e_metric.proofs.SystemBounds.{system_length}
-use Rattle.e_metric.proofs.SystemCertificates.{names_are, rows_alike, length_rows, certified, names_given, rows_given}
+use Rattle.e_metric.proofs.rows.SameCoefficients.{satisfy_alike, wide_alike, width_alike}
+use Rattle.e_metric.proofs.rows.SystemBounds.{system_length}
+use Rattle.e_metric.proofs.sums.SystemCertificates.{names_are, rows_alike, length_rows, certified, names_given, rows_given}
 use Rattle.e_metric.specs.RowOrder.{AreReordered}
-use Rattle.e_metric.proofs.RowOrder.{back_reordered, wide_reordered}
-use Rattle.e_metric.proofs.ScopeOfSums.{in_scope}
-use Rattle.e_metric.proofs.WrittenSums.{written_well}
+use Rattle.e_metric.proofs.rows.RowOrder.{back_reordered, wide_reordered}
+use Rattle.e_metric.proofs.sums.ScopeOfSums.{in_scope}
+use Rattle.e_metric.proofs.sums.WrittenSums.{written_well}
 
 abbrev row_of : NamedRow → Row
 row_of n = n.row

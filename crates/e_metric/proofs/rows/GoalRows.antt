@@ -12,9 +12,9 @@ use Rattle.e_clause.specs.System.{of_kind, against_goal, rows_named, rows_of_ter
 use Rattle.e_metric.specs.ListedTerms.{listed, terms_of_kind}
 use Rattle.e_metric.specs.inner.FurtherRows.{fresh_terms, further}
 use Rattle.e_metric.specs.RowOrder.{AreReordered}
-use Rattle.e_metric.proofs.FirstTerms.{listed_first, some_wanted, none_wanted}
-use Rattle.e_metric.proofs.SystemRows.{flat_append}
-use Rattle.e_metric.proofs.RowOrder.{two_after}
+use Rattle.e_metric.proofs.terms.FirstTerms.{listed_first, some_wanted, none_wanted}
+use Rattle.e_metric.proofs.rows.SystemRows.{flat_append}
+use Rattle.e_metric.proofs.rows.RowOrder.{two_after}
 use Rattle.e_simplex.proofs.Spreading.{take_done}
 
 -- ---- terms of more literals

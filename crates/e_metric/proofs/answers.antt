@@ -1,0 +1,8 @@
+-- Answers of systems, and what is solved of facts.
+pub mod KindAnswers
+pub mod CertificatesOfFronts
+pub mod SolvedSystems
+pub mod GrownSystems
+pub mod OtherKinds
+pub mod Fronts
+pub mod Consequences
