@@ -4,5 +4,6 @@ pub mod CertificatesOfFronts
 pub mod SolvedSystems
 pub mod GrownSystems
 pub mod OtherKinds
+pub mod EachKind
 pub mod Fronts
 pub mod Consequences

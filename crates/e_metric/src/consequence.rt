@@ -15,7 +15,7 @@ ghost use Rattle.e_metric.specs.ListedTerms.{listed};
 ghost use Rattle.e_metric.specs.MetricAnswers.{IsMetricAnswer, IsKindAnswer, IsYes, IfYes, IfNo};
 
 use crate::assigning::counterexample;
-use crate::by_kind::ByKind;
+use crate::by_kind::{ByKind, other_kinds};
 use crate::certificates::sums_of;
 use crate::listing::{has_term, terms_of_kind};
 use crate::systems::system;
@@ -158,40 +158,13 @@ fn answers_by_kind(
     ensures angles { IfOk result (λ b. IsKindAnswer Kind.Angle facts.now (option_copied wanted.entry) b.angles) }
     ensures areas { IfOk result (λ b. IsKindAnswer Kind.Area facts.now (option_copied wanted.entry) b.areas) }
 {
-    match which {
-        Kind::Segment => match answers_of_both(alloc, Kind::Angle, Kind::Area, facts, wanted) {
-            Ok((angles, areas)) => Ok(ByKind {
-                segments: own_answer,
-                angles,
-                areas,
-            }),
-            Err(error) => {
-                mem::drop(own_answer);
-                Err(error)
-            }
-        },
-        Kind::Angle => match answers_of_both(alloc, Kind::Segment, Kind::Area, facts, wanted) {
-            Ok((segments, areas)) => Ok(ByKind {
-                segments,
-                angles: own_answer,
-                areas,
-            }),
-            Err(error) => {
-                mem::drop(own_answer);
-                Err(error)
-            }
-        },
-        Kind::Area => match answers_of_both(alloc, Kind::Segment, Kind::Angle, facts, wanted) {
-            Ok((segments, angles)) => Ok(ByKind {
-                segments,
-                angles,
-                areas: own_answer,
-            }),
-            Err(error) => {
-                mem::drop(own_answer);
-                Err(error)
-            }
-        },
+    let (first, second) = other_kinds(which);
+    match answers_of_both(alloc, first, second, facts, wanted) {
+        Ok((first, second)) => Ok(ByKind::arrange(which, own_answer, first, second)),
+        Err(error) => {
+            mem::drop(own_answer);
+            Err(error)
+        }
     }
 }
 

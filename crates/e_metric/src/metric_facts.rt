@@ -14,7 +14,7 @@ ghost use Rattle.e_metric.specs.Fronts.{IsFront, IsFrontAs, AreFronts};
 ghost use Rattle.e_metric.specs.SolvedSystems.{IsKindSystem};
 ghost use Rattle.e_metric.specs.MetricAnswers.{IsCertified, IsMetricAnswer, IsKindAnswer, IfYes, IfNo};
 
-use crate::by_kind::ByKind;
+use crate::by_kind::{ByKind, other_kinds};
 use crate::consequence::{Metric, answer_of_kind, joined_answer};
 use crate::kind_system::{KindSystem, solve_kind};
 use e_clause::MetricCert;
@@ -386,40 +386,13 @@ impl MetricFacts {
         ensures areas { IfOk result (λ b. IsKindAnswer Kind.Area facts.now (Some goal.now) b.areas) }
     {
         let wanted = Some(goal);
-        match which {
-            Kind::Segment => match self.both_alone(alloc, Kind::Angle, Kind::Area, facts, wanted) {
-                Ok((angles, areas)) => Ok(ByKind {
-                    segments: own_answer,
-                    angles,
-                    areas,
-                }),
-                Err(error) => {
-                    mem::drop(own_answer);
-                    Err(error)
-                }
-            },
-            Kind::Angle => match self.both_alone(alloc, Kind::Segment, Kind::Area, facts, wanted) {
-                Ok((segments, areas)) => Ok(ByKind {
-                    segments,
-                    angles: own_answer,
-                    areas,
-                }),
-                Err(error) => {
-                    mem::drop(own_answer);
-                    Err(error)
-                }
-            },
-            Kind::Area => match self.both_alone(alloc, Kind::Segment, Kind::Angle, facts, wanted) {
-                Ok((segments, angles)) => Ok(ByKind {
-                    segments,
-                    angles,
-                    areas: own_answer,
-                }),
-                Err(error) => {
-                    mem::drop(own_answer);
-                    Err(error)
-                }
-            },
+        let (first, second) = other_kinds(which);
+        match self.both_alone(alloc, first, second, facts, wanted) {
+            Ok((first, second)) => Ok(ByKind::arrange(which, own_answer, first, second)),
+            Err(error) => {
+                mem::drop(own_answer);
+                Err(error)
+            }
         }
     }
 
