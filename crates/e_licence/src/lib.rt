@@ -17,5 +17,6 @@ pub use blanks::{Filled, match_blanks};
 pub use choices::{FirstChoices, first_choices};
 pub use context::Context;
 pub use contradiction::{Refuted, against};
+pub use e_transfer::{are_good_facts, is_good};
 pub use licensing::{Licensed, licence};
-pub use limits::{are_good_facts, is_good, is_statement};
+pub use limits::is_statement;

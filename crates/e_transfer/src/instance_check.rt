@@ -13,12 +13,11 @@ ghost use Rattle.e_transfer.specs.GivenGoals;
 ghost use Rattle.e_transfer.specs.GivenGoals.{PartIs, PartsAre, InstanceIs, passed_over};
 
 use crate::models::{Filling, refutes};
-use crate::plan::count_of;
 use crate::query::{Query, Strength};
 use crate::walk::Verdict;
 use e_clause::{InstanceFault, Part, Rule, TransferCert, instance};
 use e_facts::Facts;
-use e_literal::{Items, Lit, Obj, Scope, kind, negate, same};
+use e_literal::{Items, Lit, Obj, Scope, count, kind, negate, same};
 use e_metric::{Metric, follows};
 use std::alloc::{AllocError, Global};
 use std::mem;
@@ -138,7 +137,7 @@ fn has_goal(lits: &[Lit], goal: &Lit) -> bool
 fn are_in_scope(scope: Scope, objects: &[Obj]) -> bool
     ensures { result ≡ list_all (is_in_scope scope) objects.now }
 {
-    objects.iter().all(|o| o.num < count_of(scope, o.sort))
+    objects.iter().all(|o| o.num < count(scope, o.sort))
 }
 
 /// Whether the instance at these arguments gives the goal. Metric questions are asked only where

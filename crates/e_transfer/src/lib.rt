@@ -25,7 +25,7 @@ mod rule_search;
 mod unify;
 mod walk;
 
-pub use conditions::{are_good_facts, is_good_literal};
+pub use conditions::{are_good_facts, is_good};
 pub use finding::{Found, find, find_by_facts, find_prepared};
 pub use prepared::{Prepared, prepare};
 pub use walk::{Span, Task, Verdict, search};

@@ -2,7 +2,6 @@
 
 ghost use Rattle.std.specs.Prelude.{◌≡◌, ◌<◌, ◌++◌, map, ◌==◌, IfOk, OnOk, IsTrue, length, slice_index, nat_lt};
 ghost use Rattle.std.specs.List.{list_all};
-ghost use Rattle.e_literal.specs.Literal;
 ghost use Rattle.e_clause.specs.Views.{atom_of, lit_of, row_of};
 ghost use Rattle.e_transfer.specs.inner.Equations;
 ghost use Rattle.e_transfer.specs.inner.PartsOfChoices;
@@ -14,7 +13,7 @@ ghost use Rattle.e_transfer.specs.inner.Plans.{total_of, has, Grows, Representat
 use crate::unify::{Binding, binding_of, representative};
 use crate::walk::Span;
 use e_clause::{Pattern, Row, Shape};
-use e_literal::{Mono, Scope, Sort, Term};
+use e_literal::{Mono, Scope, Sort, Term, count};
 use std::alloc::{AllocError, Global};
 
 /// The order of a search.
@@ -147,17 +146,6 @@ pub fn sort_of(row: &Row, variable: usize) -> Sort
     }
 }
 
-/// How many objects of a sort are in scope.
-pub fn count_of(scope: Scope, sort: Sort) -> u16
-    ensures { result ≡ Literal.count_of scope sort }
-{
-    match sort {
-        Sort::Point => scope.points,
-        Sort::Line => scope.lines,
-        Sort::Circle => scope.circles,
-    }
-}
-
 /// The numbers for a variable: the known one, if an object has it, or those of all objects.
 fn span_for(count: u16, binding: Binding) -> Span
     ensures { result ≡ Plans.span_for count binding }
@@ -183,7 +171,7 @@ fn spans_of(
 {
     let mut spans = Vec::new(alloc);
     for v in order {
-        let count = count_of(scope, sort_of(row, *v));
+        let count = count(scope, sort_of(row, *v));
         spans.push(span_for(count, binding_of(bindings, *v)))?;
     }
     Ok(spans)

@@ -1,7 +1,7 @@
 use Rattle.std.proofs.Common.{sym, ◌∙◌}
 use Rattle.e_literal.specs.Literal.{all_in_scope}
 use Rattle.e_metric.proofs.terms.WellFormedSums.{not_all, all_more}
-use Rattle.e_licence.proofs.limits.are_in_scope.Goals as goal
+use Rattle.e_transfer.proofs.conditions.are_in_scope.Goals as goal
 
 pub returns-then-not-in_scope : goal.returns-then-not-in_scope
 returns-then-not-in_scope c =
