@@ -7,7 +7,7 @@ ghost use Rattle.e_literal.specs.Scopes;
 ghost use Rattle.e_literal.specs.Use.{Stated};
 ghost use Rattle.e_literal.specs.WellFormed.{is_well_formed};
 ghost use Rattle.e_deriv.specs.Certified.{is_certified};
-ghost use Rattle.e_deriv.specs.Goal.{Goal as BlockGoal};
+ghost use Rattle.e_deriv.specs.Goal.{Goal as BlockGoal, goal_with as goal_at};
 ghost use Rattle.e_deriv.specs.Script.{Qed, Contradiction};
 ghost use Rattle.e_verify.specs.Checking.{line_at};
 ghost use Rattle.e_verify.specs.inner.StepStates.{block_goal};
@@ -76,7 +76,7 @@ pub(crate) fn are_of_sorts(scope: Scope, made: &[Obj], objects: &[Obj]) -> bool
 /// The literals of the goal with these objects for its made ones.
 pub(crate) fn goal_with(alloc: Global, goal: &Goal, objects: &[Obj]) -> Result<Vec<Lit>, AllocError>
     requires one_sort { map (λ o. o.sort) goal.now.made.now ≡ map (λ o. o.sort) objects.now }
-    ensures { IfOk result (λ lits. lits.items ≡ Rattle.e_deriv.specs.Goal.goal_with (block_goal goal.now) objects.now) }
+    ensures { IfOk result (λ lits. lits.items ≡ goal_at (block_goal goal.now) objects.now) }
 {
     let images = Map::paired(alloc, goal.made, objects)?;
     all_renamed(alloc, goal.shown, &images)

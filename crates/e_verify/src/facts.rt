@@ -3,10 +3,10 @@
 ghost use Rattle.std.specs.Prelude.{◌≡◌, ◌≤◌, [], take, length, slice_get, OnOk};
 ghost use Rattle.std.specs.List.{list_any, position};
 ghost use Rattle.std.specs.Option.{option_copied};
-ghost use Rattle.e_literal.specs.Facts.{has, has_all, joined, joined_all, are_equal_points};
+ghost use Rattle.e_literal.specs.Facts.{has as is_fact, has_all, joined, joined_all, are_apart as say_apart, are_equal_points};
 ghost use Rattle.e_literal.specs.Literal.{negation};
 ghost use Rattle.e_literal.specs.Same.{same_lit, term_eq};
-ghost use Rattle.e_verify.specs.inner.Fingerprint.{fingerprint_of};
+ghost use Rattle.e_verify.specs.inner.Fingerprint.{atom_fingerprint};
 ghost use Rattle.e_clause.specs.Assignment.{terms_of_atom, terms_of_lits};
 
 use crate::alike::are_same;
@@ -27,19 +27,19 @@ struct Fact {
 impl Model for Fact {
     ghost use Rattle.std.specs.Prelude.{◌≡◌};
     ghost use Rattle.e_literal.specs.declared.literal.Lit.{Lit};
-    ghost use Rattle.e_verify.specs.inner.Fingerprint.{fingerprint_of};
+    ghost use Rattle.e_verify.specs.inner.Fingerprint.{atom_fingerprint};
 
     ghost Value = { Lit };
 
     ghost view = { λ f. f.lit };
 
-    ghost invariant = { λ f. f.fingerprint ≡ fingerprint_of f.lit.atom };
+    ghost invariant = { λ f. f.fingerprint ≡ atom_fingerprint f.lit.atom };
 }
 
 impl Fact {
     /// Whether the literal, which has this fingerprint, is the same.
     fn is_same(&self, lit: &Lit, fingerprint: u128) -> bool
-        requires { fingerprint ≡ fingerprint_of lit.now.atom }
+        requires { fingerprint ≡ atom_fingerprint lit.now.atom }
         ensures { result ≡ same_lit self.now lit.now }
     {
         self.fingerprint == fingerprint && are_same(&self.lit, lit)
@@ -80,7 +80,7 @@ impl Facts {
 
     /// Whether one the same is there.
     pub fn has(&self, lit: &Lit) -> bool
-        ensures { result ≡ Rattle.e_literal.specs.Facts.has self.now lit.now }
+        ensures { result ≡ is_fact self.now lit.now }
     {
         has_same(&self.lits, lit, fingerprint_of(lit))
     }
@@ -114,14 +114,14 @@ impl Facts {
 
     /// Whether the facts say that two points differ, in one order or the other.
     pub fn are_apart(&self, a: u16, b: u16) -> bool
-        ensures { result ≡ Rattle.e_literal.specs.Facts.are_apart self.now a b }
+        ensures { result ≡ say_apart self.now a b }
     {
         self.say_differ(a, b) || self.say_differ(b, a)
     }
 
     /// Whether the facts say that two points differ, in this order.
     fn say_differ(&self, a: u16, b: u16) -> bool
-        ensures { result ≡ Rattle.e_literal.specs.Facts.has self.now (negation (are_equal_points a b)) }
+        ensures { result ≡ is_fact self.now (negation (are_equal_points a b)) }
     {
         let lit = differ(a, b);
         let is_there = self.has(&lit);
@@ -179,8 +179,8 @@ impl Facts {
 /// Whether one the same as the literal, which has this fingerprint, is among the facts. Most that
 /// are asked for are late ones.
 fn has_same(facts: &[Fact], lit: &Lit, fingerprint: u128) -> bool
-    requires { fingerprint ≡ fingerprint_of lit.now.atom }
-    ensures { result ≡ has facts.now lit.now }
+    requires { fingerprint ≡ atom_fingerprint lit.now.atom }
+    ensures { result ≡ is_fact facts.now lit.now }
 {
     facts
         .iter()

@@ -250,7 +250,7 @@ fn placed_option(
     lit: &Lit,
     cert: &Option<Cert>,
 ) -> Result<Option<Cert>, AllocError>
-    ensures { IfOk result (λ c. c ≡ option_map (Numbered.placed_cert facts.now lit.now) cert.now) }
+    ensures { IfOk result (λ c. c ≡ option_map (Numbered.cert_with_places facts.now lit.now) cert.now) }
 {
     match cert {
         Some(cert) => Ok(Some(placed_cert(alloc, facts, lit, cert)?)),
@@ -336,7 +336,7 @@ fn superpose(
     certs: &[Cert],
     state: &mut StepState,
 ) -> Result<Items<Cert>, AllocError>
-    ensures certs { IfOk result (λ cs. cs ≡ Numbered.placed_certs state.old.facts (superposing.needs form.now) certs.now) }
+    ensures certs { IfOk result (λ cs. cs ≡ Numbered.certs_with_places state.old.facts (superposing.needs form.now) certs.now) }
     ensures after { OnOk result (state.new ≡ after_superposed form.now state.old) }
 {
     let scope = state.scope;
@@ -375,7 +375,7 @@ fn contradiction(
     against: &Option<Against>,
     facts: &Facts,
 ) -> Result<Close, AllocError>
-    ensures { IfOk result (λ c. c ≡ ContradictionClose (option_map (Numbered.placed_against facts.now) against.now)) }
+    ensures { IfOk result (λ c. c ≡ ContradictionClose (option_map (Numbered.against_with_places facts.now) against.now)) }
 {
     let against = match against {
         Some(against) => Some(placed_against(alloc, facts, against)?),

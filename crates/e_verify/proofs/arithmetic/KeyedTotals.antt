@@ -17,14 +17,14 @@ use Rattle.e_literal.specs.Rows.{coefficient, normal_summands, times, is_degener
 use Rattle.e_literal.proofs.Terms.{term_eq_is}
 use Rattle.e_literal.proofs.Arith.{sums, zero_is, is_zero}
 use Rattle.e_literal.proofs.Booleans.{and_left, and_right}
-use Rattle.e_verify.specs.inner.Totals.{key_of, is_narrow, IsKey, at_key, at}
+use Rattle.e_verify.specs.inner.Totals.{term_key, is_narrow, IsKey, at_key, at}
 use Rattle.e_verify.proofs.arithmetic.TermKeys.{same_keys}
 
 -- ---- what is read
 
 -- a term with a key has the coefficient that is kept with it
-pub at_narrow : (es : List (ℕ × ℤ)) (t : Term) → is_narrow t ≡ true → at es t ≡ at_key es (key_of t)
-at_narrow es t h = ap (λ b. cond b (at_key es (key_of t)) (pos 0)) h
+pub at_narrow : (es : List (ℕ × ℤ)) (t : Term) → is_narrow t ≡ true → at es t ≡ at_key es (term_key t)
+at_narrow es t h = ap (λ b. cond b (at_key es (term_key t)) (pos 0)) h
 
 -- ---- what is zero
 
@@ -42,8 +42,8 @@ zero_at_key (e ∷ es) key h = by (is_eq (nat_cmp key e.0)) (zero_at_key es key 
 zero_at : (es : List (ℕ × ℤ)) (t : Term) → are_zero (values_of es) ≡ true → at es t ≡ pos 0
 zero_at es t h = by (is_narrow t)
   where
-    by : (b : Bool) → cond b (at_key es (key_of t)) (pos 0) ≡ pos 0
-    by true = zero_at_key es (key_of t) h
+    by : (b : Bool) → cond b (at_key es (term_key t)) (pos 0) ≡ pos 0
+    by true = zero_at_key es (term_key t) h
     by false = refl
 
 abbrev IsFound : BTreeMap ℕ ℤ → ℕ × ℤ → Type 0
@@ -66,21 +66,21 @@ zero_everywhere m r keys sorted e = (
 
 -- ---- what is added
 
-put_at : (old new : List (ℕ × ℤ)) (added t : Term) (n w : ℤ) → is_narrow added ≡ true → w ≡ at_key old (key_of added) +ℤ n
-    → lookup (λ k. is_eq (nat_cmp (key_of t) k)) new ≡ cond (is_eq (nat_cmp (key_of added) (key_of t))) (Some w) (lookup (λ k. is_eq (nat_cmp (key_of t) k)) old) → at new t ≡ at old t +ℤ coefficient (times n added ∷ []) t
+put_at : (old new : List (ℕ × ℤ)) (added t : Term) (n w : ℤ) → is_narrow added ≡ true → w ≡ at_key old (term_key added) +ℤ n
+    → lookup (λ k. is_eq (nat_cmp (term_key t) k)) new ≡ cond (is_eq (nat_cmp (term_key added) (term_key t))) (Some w) (lookup (λ k. is_eq (nat_cmp (term_key t) k)) old) → at new t ≡ at old t +ℤ coefficient (times n added ∷ []) t
 put_at old new added t n w low e h = by (is_narrow t) refl
   where
-    found : (b : Bool) → term_eq added t ≡ b → unwrap_or (cond b (Some w) (lookup (λ k. is_eq (nat_cmp (key_of t) k)) old)) (pos 0) ≡ at_key old (key_of t) +ℤ (cond b n (pos 0) +ℤ pos 0)
-    found true same = e ∙ ap (λ s. at_key old (key_of s) +ℤ n) (term_eq_is added t same) ∙ omega (arith, sums)
+    found : (b : Bool) → term_eq added t ≡ b → unwrap_or (cond b (Some w) (lookup (λ k. is_eq (nat_cmp (term_key t) k)) old)) (pos 0) ≡ at_key old (term_key t) +ℤ (cond b n (pos 0) +ℤ pos 0)
+    found true same = e ∙ ap (λ s. at_key old (term_key s) +ℤ n) (term_eq_is added t same) ∙ omega (arith, sums)
     found false same = omega (arith, sums)
 
     wide : (b : Bool) → term_eq added t ≡ b → is_narrow t ≡ false → pos 0 ≡ pos 0 +ℤ (cond b n (pos 0) +ℤ pos 0)
     wide true same k = absurd (true≢false (sym low ∙ ap is_narrow (term_eq_is added t same) ∙ k))
     wide false same k = refl
 
-    by : (b : Bool) → is_narrow t ≡ b → cond b (at_key new (key_of t)) (pos 0) ≡ cond b (at_key old (key_of t)) (pos 0) +ℤ coefficient (times n added ∷ []) t
+    by : (b : Bool) → is_narrow t ≡ b → cond b (at_key new (term_key t)) (pos 0) ≡ cond b (at_key old (term_key t)) (pos 0) +ℤ coefficient (times n added ∷ []) t
     by true k =
-        ap (λ o. unwrap_or o (pos 0)) h ∙ ap (λ b. unwrap_or (cond b (Some w) (lookup (λ k. is_eq (nat_cmp (key_of t) k)) old)) (pos 0)) (same_keys added t low k)
+        ap (λ o. unwrap_or o (pos 0)) h ∙ ap (λ b. unwrap_or (cond b (Some w) (lookup (λ k. is_eq (nat_cmp (term_key t) k)) old)) (pos 0)) (same_keys added t low k)
         ∙ found (term_eq added t) refl
     by false k = wide (term_eq added t) refl k
 
@@ -91,7 +91,7 @@ dropped es term t n d =
 -- the key that the code makes of a term in its normal order
 pub record IsKeyFor (term ordered : Term) (key : ℕ) : Type 0 where
   pub order : ordered ≡ canonical term
-  pub value : key ≡ key_of ordered
+  pub value : key ≡ term_key ordered
   pub narrow : is_narrow ordered ≡ true
 
 at_ordered : (es : List (ℕ × ℤ)) (term ordered : Term) (key : ℕ) → IsKeyFor term ordered key → at_key es key ≡ at es (canonical term)
@@ -117,7 +117,7 @@ IsPut es new key w = (q : ℕ) → lookup (λ x. is_eq (nat_cmp q x)) new ≡ co
 put_for : (es new : List (ℕ × ℤ)) (term ordered : Term) (key : ℕ) (n w : ℤ) → IsKeyFor term ordered key → w ≡ at_key es key +ℤ n → is_degenerate term ≡ false → IsPut es new key w
     → (t : Term) → at new t ≡ at es t +ℤ coefficient (normal_summands (times n term ∷ [])) t
 put_for es new term ordered key n w k e d put t =
-    put_at es new ordered t n w k.narrow (e ∙ ap (λ x. at_key es x +ℤ n) k.value) (put (key_of t) ∙ ap (λ x. cond (is_eq (nat_cmp x (key_of t))) (Some w) (lookup (λ x. is_eq (nat_cmp (key_of t) x)) es)) k.value)
+    put_at es new ordered t n w k.narrow (e ∙ ap (λ x. at_key es x +ℤ n) k.value) (put (term_key t) ∙ ap (λ x. cond (is_eq (nat_cmp x (term_key t))) (Some w) (lookup (λ x. is_eq (nat_cmp (term_key t) x)) es)) k.value)
     ∙ ap (λ u. at es t +ℤ coefficient (times n u ∷ []) t) k.order
     ∙ ap (λ form. at es t +ℤ coefficient form t) (sym (kept d))
   where

@@ -10,8 +10,8 @@ use Rattle.e_literal.specs.declared.object.Term.TheVariants.{Seg, Ang, Area, Rig
 use Rattle.e_literal.specs.Same.{term_eq}
 use Rattle.e_literal.proofs.Booleans.{and_left, and_right, same_bool}
 use Rattle.e_literal.proofs.Terms.{term_eq_is, equal_terms}
-use Rattle.e_verify.specs.inner.Fingerprint.{placed}
-use Rattle.e_verify.specs.inner.Totals.{key_of, is_narrow}
+use Rattle.e_verify.specs.inner.Fingerprint.{packed}
+use Rattle.e_verify.specs.inner.Totals.{term_key, is_narrow}
 
 abbrev is_low : ℕ → Bool
 is_low n = nat_lt n 65536
@@ -31,7 +31,7 @@ record IsSameNumbers (k l a b c d e f : ℕ) : Type 0 where
   second : b ≡ e
   third : c ≡ f
 
-four : (k l a b c d e f : ℕ) → a < 65536 → b < 65536 → c < 65536 → d < 65536 → e < 65536 → f < 65536 → placed k a b c ≡ placed l d e f → IsSameNumbers k l a b c d e f
+four : (k l a b c d e f : ℕ) → a < 65536 → b < 65536 → c < 65536 → d < 65536 → e < 65536 → f < 65536 → packed k a b c ≡ packed l d e f → IsSameNumbers k l a b c d e f
 four k l a b c d e f ha hb hc hd he hf is =
     let last = one_more ((k * 65536 + a) * 65536 + b) ((l * 65536 + d) * 65536 + e) c f hc hf is in
     let middle = one_more (k * 65536 + a) (l * 65536 + d) b e hb he last.0 in
@@ -76,7 +76,7 @@ back (Ang a b c) = refl
 back (Area a b c) = refl
 back Right = refl
 
-key_is : (t : Term) → key_of t ≡ placed (kind_of t) (first_of t) (second_of t) (third_of t)
+key_is : (t : Term) → term_key t ≡ packed (kind_of t) (first_of t) (second_of t) (third_of t)
 key_is (Seg a b) = refl
 key_is (Ang a b c) = refl
 key_is (Area a b c) = refl
@@ -122,7 +122,7 @@ narrow_area t a b c is h k l = ap is_narrow is ∙ three a b c h k l
 -- ---- what a key tells
 
 -- a key is that of one term
-pub key_exact : (s t : Term) → is_narrow s ≡ true → is_narrow t ≡ true → key_of s ≡ key_of t → s ≡ t
+pub key_exact : (s t : Term) → is_narrow s ≡ true → is_narrow t ≡ true → term_key s ≡ term_key t → s ≡ t
 key_exact s t m n e =
     let l = are_low s m in
     let r = are_low t n in
@@ -134,8 +134,8 @@ key_exact s t m n e =
     ∙ ap (term_at (kind_of t) (first_of t) (second_of t)) q.third
     ∙ back t
 
-pub same_keys : (s t : Term) → is_narrow s ≡ true → is_narrow t ≡ true → is_eq (nat_cmp (key_of s) (key_of t)) ≡ term_eq s t
+pub same_keys : (s t : Term) → is_narrow s ≡ true → is_narrow t ≡ true → is_eq (nat_cmp (term_key s) (term_key t)) ≡ term_eq s t
 same_keys s t m n =
-    same_bool (is_eq (nat_cmp (key_of s) (key_of t))) (term_eq s t)
-    (λ h. equal_terms s t (key_exact s t m n (nat_cmp-IsAntisymmetric (key_of s) (key_of t) ((Equal-is (nat_cmp (key_of s) (key_of t))).0 h))))
-    (λ h. ap (λ u. is_eq (nat_cmp (key_of s) (key_of u))) (sym (term_eq_is s t h)) ∙ ap is_eq (tied_itself nat_cmp_total (key_of s)))
+    same_bool (is_eq (nat_cmp (term_key s) (term_key t))) (term_eq s t)
+    (λ h. equal_terms s t (key_exact s t m n (nat_cmp-IsAntisymmetric (term_key s) (term_key t) ((Equal-is (nat_cmp (term_key s) (term_key t))).0 h))))
+    (λ h. ap (λ u. is_eq (nat_cmp (term_key s) (term_key u))) (sym (term_eq_is s t h)) ∙ ap is_eq (tied_itself nat_cmp_total (term_key s)))

@@ -16,60 +16,60 @@ use Rattle.e_literal.proofs.Agreeing.{coeff_same, equal_of_agree}
 use Rattle.e_literal.proofs.Booleans.{and_left, and_right, same_neg_is}
 use Rattle.e_literal.proofs.CanonicalTerms.{one_term_is, same_degenerate}
 use Rattle.e_literal.proofs.Valued.{IsMagEq, IsMagLt, IsDiagram, split, is_normal, normal_coefficient, same_form}
-use Rattle.e_verify.specs.Numbered.{place_among, count_alike_at, count_alike, are_turned}
+use Rattle.e_verify.specs.Numbered.{place_of_same, have_one_form_at, have_one_form, have_opposite_rows}
 
 -- ---- the fact at its place
 
 one_more : (n : ℕ) → 1 + n ≡ suc n
 one_more n = omega arith
 
-pub placed_fact : (facts : List Lit) (l : Lit) → has facts l ≡ true → (f : Lit) × (slice_get facts (place_among facts l) ≡ Some f) × (same_lit f l ≡ true)
+pub placed_fact : (facts : List Lit) (l : Lit) → has facts l ≡ true → (f : Lit) × (slice_get facts (place_of_same facts l) ≡ Some f) × (same_lit f l ≡ true)
 placed_fact [] l h = absurd (true≢false (sym h))
 placed_fact (f ∷ facts) l h = by (same_lit f l) refl h (λ k. placed_fact facts l k)
   where
-    by : (b : Bool) → same_lit f l ≡ b → (b || has facts l) ≡ true → (has facts l ≡ true → (g : Lit) × (slice_get facts (place_among facts l) ≡ Some g) × (same_lit g l ≡ true))
-        → (g : Lit) × (slice_get (f ∷ facts) (cond (not b) (1 + place_among facts l) 0) ≡ Some g) × (same_lit g l ≡ true)
+    by : (b : Bool) → same_lit f l ≡ b → (b || has facts l) ≡ true → (has facts l ≡ true → (g : Lit) × (slice_get facts (place_of_same facts l) ≡ Some g) × (same_lit g l ≡ true))
+        → (g : Lit) × (slice_get (f ∷ facts) (cond (not b) (1 + place_of_same facts l) 0) ≡ Some g) × (same_lit g l ≡ true)
     by true e k later = (f, refl, e)
-    by false e k later = let r = later k in (r.0, ap (slice_get (f ∷ facts)) (one_more (place_among facts l)) ∙ r.1, r.2)
+    by false e k later = let r = later k in (r.0, ap (slice_get (f ∷ facts)) (one_more (place_of_same facts l)) ∙ r.1, r.2)
 
 -- ---- forms that count alike
 
 -- either some monomial of the list has the term, or its coefficient is 0
-found_by : (b : Bool) (x y z w ms : List Mono) (m : Mono) (t : Term) → one_term m.term t ≡ b → is_degenerate t ≡ false → count_alike_at x y z w (m ∷ ms) ≡ true
+found_by : (b : Bool) (x y z w ms : List Mono) (m : Mono) (t : Term) → one_term m.term t ≡ b → is_degenerate t ≡ false → have_one_form_at x y z w (m ∷ ms) ≡ true
     → (coeff_of x t + coeff_of w t ≡ coeff_of z t + coeff_of y t) ⊎ (cond b m.coeff 0 ≡ 0)
 found_by true x y z w ms m t is d h =
     let same : canonical m.term ≡ canonical t = one_term_is m.term t is in
-    let first : (is_degenerate m.term || agree_at x y z w m.term) ≡ true = and_left (is_degenerate m.term || agree_at x y z w m.term) (count_alike_at x y z w ms) h in
+    let first : (is_degenerate m.term || agree_at x y z w m.term) ≡ true = and_left (is_degenerate m.term || agree_at x y z w m.term) (have_one_form_at x y z w ms) h in
     let agrees : agree_at x y z w m.term ≡ true = sym (ap (λ b. b || agree_at x y z w m.term) (same_degenerate m.term t same ∙ d)) ∙ first in
     let here = eqb-true (coeff_of x m.term + coeff_of w m.term) (coeff_of z m.term + coeff_of y m.term) agrees in
     inl (omega (arith, here, coeff_same x m.term t same, coeff_same w m.term t same, coeff_same z m.term t same, coeff_same y m.term t same))
 found_by false x y z w ms m t is d h = inr refl
 
-found : (x y z w ms : List Mono) (t : Term) → is_degenerate t ≡ false → count_alike_at x y z w ms ≡ true → (coeff_of x t + coeff_of w t ≡ coeff_of z t + coeff_of y t) ⊎ (coeff_of ms t ≡ 0)
+found : (x y z w ms : List Mono) (t : Term) → is_degenerate t ≡ false → have_one_form_at x y z w ms ≡ true → (coeff_of x t + coeff_of w t ≡ coeff_of z t + coeff_of y t) ⊎ (coeff_of ms t ≡ 0)
 found x y z w [] t d h = inr refl
 found x y z w (m ∷ ms) t d h =
     elim (found_by (one_term m.term t) x y z w ms m t refl d h) [
       | inl e ↦ inl e
-      | inr here ↦ elim (found x y z w ms t d (and_right (is_degenerate m.term || agree_at x y z w m.term) (count_alike_at x y z w ms) h)) [ inl e ↦ inl e | inr later ↦ inr (omega (arith, here, later)) ]
+      | inr here ↦ elim (found x y z w ms t d (and_right (is_degenerate m.term || agree_at x y z w m.term) (have_one_form_at x y z w ms) h)) [ inl e ↦ inl e | inr later ↦ inr (omega (arith, here, later)) ]
     ]
 
-alike_at : (x y z w : List Mono) (t : Term) → is_degenerate t ≡ false → count_alike x y z w ≡ true → coeff_of x t + coeff_of w t ≡ coeff_of z t + coeff_of y t
+alike_at : (x y z w : List Mono) (t : Term) → is_degenerate t ≡ false → have_one_form x y z w ≡ true → coeff_of x t + coeff_of w t ≡ coeff_of z t + coeff_of y t
 alike_at x y z w t d h =
-    let after_x = and_right (count_alike_at x y z w x) (count_alike_at x y z w y && (count_alike_at x y z w z && count_alike_at x y z w w)) h in
-    let after_y = and_right (count_alike_at x y z w y) (count_alike_at x y z w z && count_alike_at x y z w w) after_x in
-    let after_z = and_right (count_alike_at x y z w z) (count_alike_at x y z w w) after_y in
-    elim (found x y z w x t d (and_left (count_alike_at x y z w x) (count_alike_at x y z w y && (count_alike_at x y z w z && count_alike_at x y z w w)) h)) [
+    let after_x = and_right (have_one_form_at x y z w x) (have_one_form_at x y z w y && (have_one_form_at x y z w z && have_one_form_at x y z w w)) h in
+    let after_y = and_right (have_one_form_at x y z w y) (have_one_form_at x y z w z && have_one_form_at x y z w w) after_x in
+    let after_z = and_right (have_one_form_at x y z w z) (have_one_form_at x y z w w) after_y in
+    elim (found x y z w x t d (and_left (have_one_form_at x y z w x) (have_one_form_at x y z w y && (have_one_form_at x y z w z && have_one_form_at x y z w w)) h)) [
       | inl e ↦ e
-      | inr a ↦ elim (found x y z w y t d (and_left (count_alike_at x y z w y) (count_alike_at x y z w z && count_alike_at x y z w w) after_x)) [
+      | inr a ↦ elim (found x y z w y t d (and_left (have_one_form_at x y z w y) (have_one_form_at x y z w z && have_one_form_at x y z w w) after_x)) [
         | inl e ↦ e
-        | inr b ↦ elim (found x y z w z t d (and_left (count_alike_at x y z w z) (count_alike_at x y z w w) after_y)) [
+        | inr b ↦ elim (found x y z w z t d (and_left (have_one_form_at x y z w z) (have_one_form_at x y z w w) after_y)) [
           | inl e ↦ e
           | inr c ↦ elim (found x y z w w t d after_z) [ inl e ↦ e | inr k ↦ omega (arith, a, b, c, k) ]
         ]
       ]
     ]
 
-alike_of_equal : (x y z w ms : List Mono) → EqualNormal x y z w → count_alike_at x y z w ms ≡ true
+alike_of_equal : (x y z w ms : List Mono) → EqualNormal x y z w → have_one_form_at x y z w ms ≡ true
 alike_of_equal x y z w [] h = refl
 alike_of_equal x y z w (m ∷ ms) h = ap₂ {A = Bool} {B = Bool} (λ a b. a && b) (by (is_degenerate m.term) (eq-eqb (coeff_of x m.term + coeff_of w m.term) (coeff_of z m.term + coeff_of y m.term) (h m.term))) (alike_of_equal x y z w ms h)
   where
@@ -77,7 +77,7 @@ alike_of_equal x y z w (m ∷ ms) h = ap₂ {A = Bool} {B = Bool} (λ a b. a && 
     by true e = refl
     by false e = e
 
-all_alike_of_equal : (x y z w : List Mono) → EqualNormal x y z w → count_alike x y z w ≡ true
+all_alike_of_equal : (x y z w : List Mono) → EqualNormal x y z w → have_one_form x y z w ≡ true
 all_alike_of_equal x y z w h =
     let a = alike_of_equal x y z w x h in
     let b = alike_of_equal x y z w y h in
@@ -86,7 +86,7 @@ all_alike_of_equal x y z w h =
     rw (a, b, c, d)
 
 -- rows that count alike have one form
-alike_forms : (x y z w : List Mono) → count_alike x y z w ≡ true → (t : Term) → coefficient (normal_summands (plus x ++ minus y)) t ≡ coefficient (normal_summands (plus z ++ minus w)) t
+alike_forms : (x y z w : List Mono) → have_one_form x y z w ≡ true → (t : Term) → coefficient (normal_summands (plus x ++ minus y)) t ≡ coefficient (normal_summands (plus z ++ minus w)) t
 alike_forms x y z w h t = normal_coefficient x y t ∙ by (cases_Bool (is_normal t)) ∙ sym (normal_coefficient z w t)
   where
     inside : is_normal t ≡ true → is_degenerate t ≡ false
@@ -118,14 +118,14 @@ pub record AreAlike (turned : Bool) (r s : Row) : Type 0 where
 
 -- the rows of two equations that are the same
 equation_rows : (neg : Bool) (x y z w : List Mono) → (agree x y z w || agree x y w z) ≡ true
-    → AreAlike (not (count_alike z w x y)) (row (cond neg Not Zero) (plus z ++ minus w)) (row (cond neg Not Zero) (plus x ++ minus y))
-equation_rows neg x y z w h = by (count_alike z w x y) refl
+    → AreAlike (not (have_one_form z w x y)) (row (cond neg Not Zero) (plus z ++ minus w)) (row (cond neg Not Zero) (plus x ++ minus y))
+equation_rows neg x y z w h = by (have_one_form z w x y) refl
   where
     says_so : (b : Bool) → (cond b Not Zero ≡ Zero) ⊎ (cond b Not Zero ≡ Not)
     says_so true = inr refl
     says_so false = inl refl
 
-    by : (b : Bool) → count_alike z w x y ≡ b → AreAlike (not b) (row (cond neg Not Zero) (plus z ++ minus w)) (row (cond neg Not Zero) (plus x ++ minus y))
+    by : (b : Bool) → have_one_form z w x y ≡ b → AreAlike (not b) (row (cond neg Not Zero) (plus z ++ minus w)) (row (cond neg Not Zero) (plus x ++ minus y))
     by true e = record { says = refl; form = λ t. sym (alike_forms z w x y e t); sign = λ k. absurd (true≢false (sym k)) }
     by false e = record {
       says = refl;
@@ -146,7 +146,7 @@ order (MagLt x y) z w h = (x, y, refl, h)
 order _ z w h = absurd (true≢false (sym h))
 
 -- the fact that is the same as a metric literal has a row too, which is alike
-pub alike_rows : (f l : Lit) (r : Row) → same_lit f l ≡ true → row_of_lit l ≡ Some r → (s : Row) × (row_of_lit f ≡ Some s) × AreAlike (are_turned l.atom f.atom) r s
+pub alike_rows : (f l : Lit) (r : Row) → same_lit f l ≡ true → row_of_lit l ≡ Some r → (s : Row) × (row_of_lit f ≡ Some s) × AreAlike (have_opposite_rows l.atom f.atom) r s
 alike_rows f l r h e =
     atoms (split l.atom) (and_right (same_neg f.neg l.neg) (same_atom f.atom l.atom) h)
   where
@@ -154,9 +154,9 @@ alike_rows f l r h e =
     sign = same_neg_is f.neg l.neg (and_left (same_neg f.neg l.neg) (same_atom f.atom l.atom) h)
 
     -- with these atoms
-    with_atoms : (a b : Atom) (s : Row) → f.atom ≡ a → l.atom ≡ b → row_of_atom a l.neg ≡ Some s → AreAlike (are_turned b a) r s → (s : Row) × (row_of_lit f ≡ Some s) × AreAlike (are_turned l.atom f.atom) r s
+    with_atoms : (a b : Atom) (s : Row) → f.atom ≡ a → l.atom ≡ b → row_of_atom a l.neg ≡ Some s → AreAlike (have_opposite_rows b a) r s → (s : Row) × (row_of_lit f ≡ Some s) × AreAlike (have_opposite_rows l.atom f.atom) r s
     with_atoms a b s p q k alike =
-        (s, ap₂ {A = Atom} {B = Bool} row_of_atom p sign ∙ k, subst (λ c. AreAlike (are_turned c f.atom) r s) (sym q) (subst (λ c. AreAlike (are_turned b c) r s) (sym p) alike))
+        (s, ap₂ {A = Atom} {B = Bool} row_of_atom p sign ∙ k, subst (λ c. AreAlike (have_opposite_rows c f.atom) r s) (sym q) (subst (λ c. AreAlike (have_opposite_rows b c) r s) (sym p) alike))
 
     orders : (neg : Bool) (x y z w : List Mono) → agree x y z w ≡ true → (t : Row) → row_of_atom (MagLt z w) neg ≡ Some t → (s : Row) × (row_of_atom (MagLt x y) neg ≡ Some s) × AreAlike false t s
     orders true x y z w c t k =
@@ -173,12 +173,12 @@ alike_rows f l r h e =
           }),
         )
 
-    atoms : (IsMagEq l.atom ⊎ IsMagLt l.atom) ⊎ IsDiagram l.atom → same_atom f.atom l.atom ≡ true → (s : Row) × (row_of_lit f ≡ Some s) × AreAlike (are_turned l.atom f.atom) r s
+    atoms : (IsMagEq l.atom ⊎ IsMagLt l.atom) ⊎ IsDiagram l.atom → same_atom f.atom l.atom ≡ true → (s : Row) × (row_of_lit f ≡ Some s) × AreAlike (have_opposite_rows l.atom f.atom) r s
     atoms (inl (inl p)) k =
         let q = equation f.atom p.0 p.1 (ap (same_atom f.atom) (sym p.2) ∙ k) in
         let is : row (cond l.neg Not Zero) (plus p.0 ++ minus p.1) ≡ r = same_Some (row (cond l.neg Not Zero) (plus p.0 ++ minus p.1)) r (sym (ap (λ a. row_of_atom a l.neg) p.2) ∙ e) in
         with_atoms (MagEq q.0 q.1) (MagEq p.0 p.1) (row (cond l.neg Not Zero) (plus q.0 ++ minus q.1)) q.2 p.2 refl
-        (subst (λ u. AreAlike (not (count_alike p.0 p.1 q.0 q.1)) u (row (cond l.neg Not Zero) (plus q.0 ++ minus q.1))) is (equation_rows l.neg q.0 q.1 p.0 p.1 q.3))
+        (subst (λ u. AreAlike (not (have_one_form p.0 p.1 q.0 q.1)) u (row (cond l.neg Not Zero) (plus q.0 ++ minus q.1))) is (equation_rows l.neg q.0 q.1 p.0 p.1 q.3))
     atoms (inl (inr p)) k =
         let q = order f.atom p.0 p.1 (ap (same_atom f.atom) (sym p.2) ∙ k) in
         let o = orders l.neg q.0 q.1 p.0 p.1 q.3 r (sym (ap (λ a. row_of_atom a l.neg) p.2) ∙ e) in

@@ -35,7 +35,7 @@ use Rattle.e_deriv.specs.Steps.{are_over, is_applied, needs}
 use Rattle.e_deriv.specs.Certified.{is_certified}
 use Rattle.e_deriv.specs.Written.{is_written_well}
 use Rattle.e_deriv.specs.Versions.{has_certs_of}
-use Rattle.e_verify.specs.Numbered.{place_among, placed_name, turns, placed_sum, other_side, swapped, two_placed, placed_sums, placed_part, placed_parts, placed_for, placed_cert, placed_certs, placed_against, with_places}
+use Rattle.e_verify.specs.Numbered.{place_of_same, name_with_place, turns, sum_with_places, opposite_side, sides_swapped, two_placed, sums_with_places, part_with_places, parts_with_places, placed_for, cert_with_places, certs_with_places, against_with_places, with_places}
 use Rattle.e_verify.specs.inner.Numbering.{has_few}
 use Rattle.e_verify.proofs.checking.PassedLines.{hence_written, make_written, apply_written, claim_written, superposed_written, qed_written, contradiction_written, cases_written, cite_written}
 use Rattle.e_verify.proofs.placing.PlacedCertificates.{certs_certified, against_certified}
@@ -73,7 +73,7 @@ numbered_certified before (Hence lit cert rest) s facts goal h =
     placed = with_places before rest s (joined facts lit) goal
 
     by : (c : Option Cert) → is_certified before (line (Hence lit c rest) (Hence lit c rest) s facts goal) ≡ true
-        → is_certified before (line (Hence lit (option_map (placed_cert facts lit) c) placed) (Hence lit (option_map (placed_cert facts lit) c) placed) s facts goal) ≡ true
+        → is_certified before (line (Hence lit (option_map (cert_with_places facts lit) c) placed) (Hence lit (option_map (cert_with_places facts lit) c) placed) s facts goal) ≡ true
     by None k = k
     by (Some c) k = with_certs (all_in_scope s lit) _ _ true (certs_certified s facts (lit ∷ []) (c ∷ [])) k
 numbered_certified before (Make form names certs rest) s facts goal h =
@@ -144,20 +144,20 @@ numbered_erased before (Cases lit one two) s facts goal =
 
 -- ---- the version
 
-place_within : (facts : List Lit) (l : Lit) → place_among facts l ≤ length facts
+place_within : (facts : List Lit) (l : Lit) → place_of_same facts l ≤ length facts
 place_within [] l = omega arith
 place_within (f ∷ facts) l = by (not (same_lit f l)) (place_within facts l)
   where
-    by : (b : Bool) → place_among facts l ≤ length facts → cond b (1 + place_among facts l) 0 ≤ suc (length facts)
+    by : (b : Bool) → place_of_same facts l ≤ length facts → cond b (1 + place_of_same facts l) 0 ≤ suc (length facts)
     by true h = omega (arith, h)
     by false h = omega arith
 
 -- what is named is named by its place
 module _ (facts : List Lit) (few : length facts < 2 ^ 32) where
-  small : (l : Lit) → nat_lt (place_among facts l) (2 ^ 32) ≡ true
-  small l = lt-ltb (place_among facts l) (2 ^ 32) (omega (arith, few, place_within facts l))
+  small : (l : Lit) → nat_lt (place_of_same facts l) (2 ^ 32) ≡ true
+  small l = lt-ltb (place_of_same facts l) (2 ^ 32) (omega (arith, few, place_within facts l))
 
-  name_of_second : (name : RowName) → is_good_name name ≡ true → is_name_of version.Two (placed_name facts name) ≡ true
+  name_of_second : (name : RowName) → is_good_name name ≡ true → is_name_of version.Two (name_with_place facts name) ≡ true
   name_of_second (Fact l) h = small l
   name_of_second GoalRow h = refl
   name_of_second (Pos t) h = refl
@@ -168,11 +168,11 @@ module _ (facts : List Lit) (few : length facts < 2 ^ 32) where
   name_of_second Below h = refl
   name_of_second (FactAt k) h = h
 
-  sum_of_second : (xs : List (ℤ × RowName)) → is_good_sum xs ≡ true → is_sum_of version.Two (placed_sum facts xs) ≡ true
+  sum_of_second : (xs : List (ℤ × RowName)) → is_good_sum xs ≡ true → is_sum_of version.Two (sum_with_places facts xs) ≡ true
   sum_of_second [] h = refl
   sum_of_second (x ∷ xs) h = both_true _ _ (name_of_second x.1 (and_left (is_good_name x.1) (is_good_sum xs) h)) (sum_of_second xs (and_right (is_good_name x.1) (is_good_sum xs) h))
 
-  other_of_second : (name : RowName) → is_name_of version.Two name ≡ true → is_name_of version.Two (other_side name) ≡ true
+  other_of_second : (name : RowName) → is_name_of version.Two name ≡ true → is_name_of version.Two (opposite_side name) ≡ true
   other_of_second (Fact l) h = h
   other_of_second GoalRow h = h
   other_of_second (Pos t) h = h
@@ -183,37 +183,37 @@ module _ (facts : List Lit) (few : length facts < 2 ^ 32) where
   other_of_second Below h = refl
   other_of_second (FactAt k) h = h
 
-  swapped_of_second : (xs : List (ℤ × RowName)) → is_sum_of version.Two xs ≡ true → is_sum_of version.Two (swapped xs) ≡ true
+  swapped_of_second : (xs : List (ℤ × RowName)) → is_sum_of version.Two xs ≡ true → is_sum_of version.Two (sides_swapped xs) ≡ true
   swapped_of_second [] h = refl
   swapped_of_second (x ∷ xs) h =
       both_true _ _ (other_of_second x.1 (and_left (is_name_of version.Two x.1) (is_sum_of version.Two xs) h)) (swapped_of_second xs (and_right (is_name_of version.Two x.1) (is_sum_of version.Two xs) h))
 
-  sums_of_second : (m : Sums) → is_good_sums m ≡ true → are_sums_of version.Two (placed_sums facts m) ≡ true
+  sums_of_second : (m : Sums) → is_good_sums m ≡ true → are_sums_of version.Two (sums_with_places facts m) ≡ true
   sums_of_second (One sum) h = sum_of_second sum h
   sums_of_second (Two differs first second) h = by (turns facts differs)
     where
       both : (is_good_sum first && is_good_sum second) ≡ true
       both = and_right (is_good_name differs) (is_good_sum first && is_good_sum second) h
 
-      one : is_sum_of version.Two (placed_sum facts first) ≡ true
+      one : is_sum_of version.Two (sum_with_places facts first) ≡ true
       one = sum_of_second first (and_left (is_good_sum first) (is_good_sum second) both)
 
-      two : is_sum_of version.Two (placed_sum facts second) ≡ true
+      two : is_sum_of version.Two (sum_with_places facts second) ≡ true
       two = sum_of_second second (and_right (is_good_sum first) (is_good_sum second) both)
 
-      name : is_name_of version.Two (placed_name facts differs) ≡ true
+      name : is_name_of version.Two (name_with_place facts differs) ≡ true
       name = name_of_second differs (and_left (is_good_name differs) (is_good_sum first && is_good_sum second) h)
 
-      by : (b : Bool) → are_sums_of version.Two (two_placed b (placed_name facts differs) (placed_sum facts first) (placed_sum facts second)) ≡ true
-      by true = both_true _ _ name (both_true _ _ (swapped_of_second (placed_sum facts second) two) (swapped_of_second (placed_sum facts first) one))
+      by : (b : Bool) → are_sums_of version.Two (two_placed b (name_with_place facts differs) (sum_with_places facts first) (sum_with_places facts second)) ≡ true
+      by true = both_true _ _ name (both_true _ _ (swapped_of_second (sum_with_places facts second) two) (swapped_of_second (sum_with_places facts first) one))
       by false = both_true _ _ name (both_true _ _ one two)
 
-  part_of_second : (l : Lit) (p : Part) → is_good_part p ≡ true → is_part_of version.Two (placed_part facts l p) ≡ true
+  part_of_second : (l : Lit) (p : Part) → is_good_part p ≡ true → is_part_of version.Two (part_with_places facts l p) ≡ true
   part_of_second l FactPart h = small l
   part_of_second l (Metric m) h = sums_of_second m.sums h
   part_of_second l (FactPartAt k) h = h
 
-  parts_of_second : (ls : List Lit) (ps : List Part) → list_all is_good_part ps ≡ true → list_all (is_part_of version.Two) (placed_parts facts ls ps) ≡ true
+  parts_of_second : (ls : List Lit) (ps : List Part) → list_all is_good_part ps ≡ true → list_all (is_part_of version.Two) (parts_with_places facts ls ps) ≡ true
   parts_of_second [] ps h = refl
   parts_of_second (l ∷ ls) [] h = refl
   parts_of_second (l ∷ ls) (p ∷ ps) h = both_true _ _ (part_of_second l p (and_left (is_good_part p) (list_all is_good_part ps) h)) (parts_of_second ls ps (and_right (is_good_part p) (list_all is_good_part ps) h))
@@ -222,16 +222,16 @@ module _ (facts : List Lit) (few : length facts < 2 ^ 32) where
   for_of_second l ps (Some lits) h = parts_of_second (map negation (others lits l)) ps h
   for_of_second l ps None h = refl
 
-  cert_of_second : (l : Lit) (c : Cert) → is_good_cert c ≡ true → is_cert_of version.Two (placed_cert facts l c) ≡ true
+  cert_of_second : (l : Lit) (c : Cert) → is_good_cert c ≡ true → is_cert_of version.Two (cert_with_places facts l c) ≡ true
   cert_of_second l (Plain p) h = part_of_second l p h
   cert_of_second l (Transfer t) h = for_of_second l t.parts (Inst t.rule t.args) h
 
-  certs_of_second : (ls : List Lit) (cs : List Cert) → list_all is_good_cert cs ≡ true → list_all (is_cert_of version.Two) (placed_certs facts ls cs) ≡ true
+  certs_of_second : (ls : List Lit) (cs : List Cert) → list_all is_good_cert cs ≡ true → list_all (is_cert_of version.Two) (certs_with_places facts ls cs) ≡ true
   certs_of_second [] cs h = refl
   certs_of_second (l ∷ ls) [] h = refl
   certs_of_second (l ∷ ls) (c ∷ cs) h = both_true _ _ (cert_of_second l c (and_left (is_good_cert c) (list_all is_good_cert cs) h)) (certs_of_second ls cs (and_right (is_good_cert c) (list_all is_good_cert cs) h))
 
-  against_of_second : (a : Against) → is_good_against a ≡ true → is_against_of version.Two (placed_against facts a) ≡ true
+  against_of_second : (a : Against) → is_good_against a ≡ true → is_against_of version.Two (against_with_places facts a) ≡ true
   against_of_second (Clash l) h = refl
   against_of_second (MetricAgainst m) h = sums_of_second m.sums h
 
@@ -246,7 +246,7 @@ numbered_of_second before (Hence lit cert rest) s facts goal w h =
     let k = hence_written lit cert rest w in
     both_true _ _ (by cert k.1) (numbered_of_second before rest s (joined facts lit) goal k.2 (and_right _ _ h))
   where
-    by : (c : Option Cert) → option_map_or is_good_cert c true ≡ true → option_map_or (is_cert_of version.Two) (option_map (placed_cert facts lit) c) true ≡ true
+    by : (c : Option Cert) → option_map_or is_good_cert c true ≡ true → option_map_or (is_cert_of version.Two) (option_map (cert_with_places facts lit) c) true ≡ true
     by None k = refl
     by (Some c) k = cert_of_second facts (few_of facts _ h) lit c k
 numbered_of_second before (Make form names certs rest) s facts goal w h =

@@ -33,7 +33,7 @@ use Rattle.e_verify.specs.declared.step_state.Checkpoint.{Checkpoint}
 use Rattle.e_verify.specs.inner.StepStates.{with_facts, after_superposed, checkpoint_of, restored}
 use Rattle.e_verify.specs.inner.Numbering.{has_few, HaveFew, IsNumberedStep, places_at}
 use Rattle.e_verify.specs.Checking.{line_at, lines_at, KeepsFacts}
-use Rattle.e_verify.specs.Numbered.{placed_cert, placed_certs, placed_against, with_places}
+use Rattle.e_verify.specs.Numbered.{cert_with_places, certs_with_places, against_with_places, with_places}
 use Rattle.e_verify.proofs.checking.FirstLines.{cite_lines, hence_lines, make_lines, apply_lines, qed_lines, contradiction_lines, cases_lines, claim_lines, superposed_lines, after_make, after_apply}
 use Rattle.e_verify.proofs.checking.InnerBlocks.{kept_on, restored_is}
 
@@ -44,18 +44,18 @@ unfolding with_places
 cite_places before by x rest goal = refl
 
 hence_places : (before : List Stated) (lit : Lit) (cert : Option Cert) (x : StepState) (rest : Script) (goal : Goal)
-    → places_at before (Hence lit cert rest) x goal ≡ Hence lit (option_map (placed_cert x.facts lit) cert) (places_at before rest (with_facts (joined x.facts lit) x) goal)
+    → places_at before (Hence lit cert rest) x goal ≡ Hence lit (option_map (cert_with_places x.facts lit) cert) (places_at before rest (with_facts (joined x.facts lit) x) goal)
 unfolding with_places
 hence_places before lit cert x rest goal = refl
 
 make_places : (before : List Stated) (form : Construction) (names : List (List ℕ)) (certs : List Cert) (x : StepState) (rest : Script) (goal : Goal)
-    → places_at before (Make form names certs rest) x goal ≡ Make form names (placed_certs x.facts (construct.needs form) certs) (places_at before rest (after_make form x) goal)
+    → places_at before (Make form names certs rest) x goal ≡ Make form names (certs_with_places x.facts (construct.needs form) certs) (places_at before rest (after_make form x) goal)
 unfolding with_places
 make_places before form names certs x rest goal = refl
 
 apply_places : (before : List Stated) (theorem : ℕ) (args : List (Option Obj)) (names : List (List ℕ)) (certs : List Cert) (x : StepState) (rest : Script) (goal : Goal)
     → places_at before (Apply theorem args names certs rest) x goal
-    ≡ Apply theorem args names (placed_certs x.facts (needs_of_use (theorem_at before theorem) (written args) x.scope) certs) (places_at before rest (after_apply (theorem_at before theorem) (written args) x) goal)
+    ≡ Apply theorem args names (certs_with_places x.facts (needs_of_use (theorem_at before theorem) (written args) x.scope) certs) (places_at before rest (after_apply (theorem_at before theorem) (written args) x) goal)
 unfolding with_places
 apply_places before theorem args names certs x rest goal = refl
 
@@ -66,15 +66,15 @@ claim_places before shown inner x rest goal = refl
 
 superposed_places : (before : List Stated) (form : Superpose) (names : List (List ℕ)) (shown : List Lit) (certs : List Cert) (inner : Script) (x : StepState) (rest : Script) (goal : Goal)
     → places_at before (Superposed form names shown certs inner rest) x goal
-    ≡ Superposed form names shown (placed_certs x.facts (superposing.needs form) certs) (places_at before inner (after_superposed form x) (goal_of shown)) (places_at before rest (with_facts (joined_all x.facts shown) x) goal)
+    ≡ Superposed form names shown (certs_with_places x.facts (superposing.needs form) certs) (places_at before inner (after_superposed form x) (goal_of shown)) (places_at before rest (with_facts (joined_all x.facts shown) x) goal)
 unfolding with_places
 superposed_places before form names shown certs inner x rest goal = refl
 
-pub qed_places : (before : List Stated) (objects : List Obj) (certs : List Cert) (x : StepState) (goal : Goal) → places_at before (Qed objects certs) x goal ≡ Qed objects (placed_certs x.facts (goal_with goal objects) certs)
+pub qed_places : (before : List Stated) (objects : List Obj) (certs : List Cert) (x : StepState) (goal : Goal) → places_at before (Qed objects certs) x goal ≡ Qed objects (certs_with_places x.facts (goal_with goal objects) certs)
 unfolding with_places
 qed_places before objects certs x goal = refl
 
-pub contradiction_places : (before : List Stated) (against : Option Against) (x : StepState) (goal : Goal) → places_at before (Contradiction against) x goal ≡ Contradiction (option_map (placed_against x.facts) against)
+pub contradiction_places : (before : List Stated) (against : Option Against) (x : StepState) (goal : Goal) → places_at before (Contradiction against) x goal ≡ Contradiction (option_map (against_with_places x.facts) against)
 unfolding with_places
 contradiction_places before against x goal = refl
 
@@ -106,33 +106,33 @@ cite_numbered before by x after s is end =
       kept = stay_joined x.facts by.lit;
     })
 
-pub hence_numbered : (before : List Stated) (lit : Lit) (cert : Option Cert) (x after : StepState) (s : Step) → s ≡ HenceStep lit (option_map (placed_cert x.facts lit) cert) → after ≡ with_facts (joined x.facts lit) x
+pub hence_numbered : (before : List Stated) (lit : Lit) (cert : Option Cert) (x after : StepState) (s : Step) → s ≡ HenceStep lit (option_map (cert_with_places x.facts lit) cert) → after ≡ with_facts (joined x.facts lit) x
     → IsNumberedStep before (Hence lit cert) x (step_script s) after
 hence_numbered before lit cert x after s is end =
     subst (λ (y : StepState). IsNumberedStep before (Hence lit cert) x (step_script s) y) (sym end)
     (record {
-      same = λ rest goal. hence_places before lit cert x rest goal ∙ sym (ap (λ t. step_script t (places_at before rest (with_facts (joined x.facts lit) x) goal)) is ∙ step_script-Hence lit (option_map (placed_cert x.facts lit) cert) _);
+      same = λ rest goal. hence_places before lit cert x rest goal ∙ sym (ap (λ t. step_script t (places_at before rest (with_facts (joined x.facts lit) x) goal)) is ∙ step_script-Hence lit (option_map (cert_with_places x.facts lit) cert) _);
       few = λ few rest goal h. few_line before (Hence lit cert rest) x goal rest (with_facts (joined x.facts lit) x) few (hence_lines before lit cert x rest goal) h;
       kept = stay_joined x.facts lit;
     })
 
-pub make_numbered : (before : List Stated) (form : Construction) (names : List (List ℕ)) (certs : List Cert) (x after : StepState) (s : Step) → s ≡ MakeStep form names (placed_certs x.facts (construct.needs form) certs) → after ≡ after_make form x
+pub make_numbered : (before : List Stated) (form : Construction) (names : List (List ℕ)) (certs : List Cert) (x after : StepState) (s : Step) → s ≡ MakeStep form names (certs_with_places x.facts (construct.needs form) certs) → after ≡ after_make form x
     → IsNumberedStep before (Make form names certs) x (step_script s) after
 make_numbered before form names certs x after s is end =
     subst (λ (y : StepState). IsNumberedStep before (Make form names certs) x (step_script s) y) (sym end)
     (record {
       same = λ rest goal. make_places before form names certs x rest goal
-          ∙ sym (ap (λ t. step_script t (places_at before rest (after_make form x) goal)) is ∙ step_script-Make form names (placed_certs x.facts (construct.needs form) certs) _);
+          ∙ sym (ap (λ t. step_script t (places_at before rest (after_make form x) goal)) is ∙ step_script-Make form names (certs_with_places x.facts (construct.needs form) certs) _);
       few = λ few rest goal h. few_line before (Make form names certs rest) x goal rest (after_make form x) few (make_lines before form names certs x rest goal) h;
       kept = stay_all x.facts (construct.gives form x.scope);
     })
 
 pub apply_numbered : (before : List Stated) (theorem : ℕ) (args : List (Option Obj)) (names : List (List ℕ)) (certs : List Cert) (x after : StepState) (s : Step)
-    → s ≡ ApplyStep theorem args names (placed_certs x.facts (needs_of_use (theorem_at before theorem) (written args) x.scope) certs) → after ≡ after_apply (theorem_at before theorem) (written args) x
+    → s ≡ ApplyStep theorem args names (certs_with_places x.facts (needs_of_use (theorem_at before theorem) (written args) x.scope) certs) → after ≡ after_apply (theorem_at before theorem) (written args) x
     → IsNumberedStep before (Apply theorem args names certs) x (step_script s) after
 apply_numbered before theorem args names certs x after s is end =
     let t = theorem_at before theorem in
-    let placed = placed_certs x.facts (needs_of_use t (written args) x.scope) certs in
+    let placed = certs_with_places x.facts (needs_of_use t (written args) x.scope) certs in
     subst (λ (y : StepState). IsNumberedStep before (Apply theorem args names certs) x (step_script s) y) (sym end)
     (record {
       same = λ rest goal. apply_places before theorem args names certs x rest goal ∙ sym (ap (λ u. step_script u (places_at before rest (after_apply t (written args) x) goal)) is ∙ step_script-Apply theorem args names placed _);
@@ -140,11 +140,11 @@ apply_numbered before theorem args names certs x after s is end =
       kept = stay_all x.facts (gives_of_use t (written args) x.scope);
     })
 
-pub qed_numbered : (before : List Stated) (objects : List Obj) (certs : List Cert) (x : StepState) (goal : Goal) (c : Close) → c ≡ QedClose objects (placed_certs x.facts (goal_with goal objects) certs) → close_script c ≡ places_at before (Qed objects certs) x goal
-qed_numbered before objects certs x goal c is = ap close_script is ∙ close_script-Qed objects (placed_certs x.facts (goal_with goal objects) certs) ∙ sym (qed_places before objects certs x goal)
+pub qed_numbered : (before : List Stated) (objects : List Obj) (certs : List Cert) (x : StepState) (goal : Goal) (c : Close) → c ≡ QedClose objects (certs_with_places x.facts (goal_with goal objects) certs) → close_script c ≡ places_at before (Qed objects certs) x goal
+qed_numbered before objects certs x goal c is = ap close_script is ∙ close_script-Qed objects (certs_with_places x.facts (goal_with goal objects) certs) ∙ sym (qed_places before objects certs x goal)
 
-pub contradiction_numbered : (before : List Stated) (against : Option Against) (x : StepState) (goal : Goal) (c : Close) → c ≡ ContradictionClose (option_map (placed_against x.facts) against) → close_script c ≡ places_at before (Contradiction against) x goal
-contradiction_numbered before against x goal c is = ap close_script is ∙ close_script-Contradiction (option_map (placed_against x.facts) against) ∙ sym (contradiction_places before against x goal)
+pub contradiction_numbered : (before : List Stated) (against : Option Against) (x : StepState) (goal : Goal) (c : Close) → c ≡ ContradictionClose (option_map (against_with_places x.facts) against) → close_script c ≡ places_at before (Contradiction against) x goal
+contradiction_numbered before against x goal c is = ap close_script is ∙ close_script-Contradiction (option_map (against_with_places x.facts) against) ∙ sym (contradiction_places before against x goal)
 
 pub ruleset placing = (common_steps, cite_numbered, hence_numbered, make_numbered, apply_numbered, qed_numbered, contradiction_numbered)
 
@@ -180,7 +180,7 @@ claim_numbered before step shown seen again inner block numbered x z after o s i
 
 pub superposed_numbered : (before : List Stated) (step : Step) (form : Superpose) (names copies : List (List ℕ)) (shown seen again : List Lit) (certs given placed : List Cert) (inner : Box Block Global) (block numbered : Block) (x z w after : StepState) (o : Checkpoint) (s : Step)
     → step ≡ SuperposedStep form names shown certs inner → seen ≡ shown → again ≡ shown → copies ≡ names → given ≡ certs → block ≡ inner.value
-    → placed ≡ placed_certs x.facts (superposing.needs form) given → z ≡ after_superposed form x
+    → placed ≡ certs_with_places x.facts (superposing.needs form) given → z ≡ after_superposed form x
     → script_of numbered ≡ places_at before (script_of block) z (goal_of seen) → HaveFew before (script_of block) z (goal_of seen) → o ≡ checkpoint_of x → KeepsFacts z w
     → ((rest : Script) → step_script s rest ≡ Superposed form copies again placed (script_of numbered) rest) → after ≡ with_facts (joined_all (restored o w).facts again) (restored o w)
     → IsNumberedStep before (step_script step) x (step_script s) after
@@ -193,7 +193,7 @@ superposed_numbered before step form names copies shown seen again certs given p
     block_is ∙ ap (λ q. places_at before (script_of block) q (goal_of seen)) begun ∙ ap (λ b. places_at before (script_of b) begin (goal_of seen)) at ∙ ap (λ ls. places_at before inside begin (goal_of ls)) same in
     let block_few : HaveFew before inside begin (goal_of shown) =
     subst (λ ls. HaveFew before inside begin (goal_of ls)) same (subst (λ b. HaveFew before (script_of b) begin (goal_of seen)) at (subst (λ q. HaveFew before (script_of block) q (goal_of seen)) begun few)) in
-    let certs_placed : placed ≡ placed_certs x.facts (superposing.needs form) certs = put ∙ ap (placed_certs x.facts (superposing.needs form)) cs in
+    let certs_placed : placed ≡ certs_with_places x.facts (superposing.needs form) certs = put ∙ ap (certs_with_places x.facts (superposing.needs form)) cs in
     subst (λ (q : StepState). IsNumberedStep before (step_script step) x (step_script s) q) (sym (back_is o x w after again shown e kept twice end))
     (record {
       same = λ rest goal.
@@ -260,7 +260,7 @@ qed_few before c objects certs x goal is few =
 contradiction_is : (c : Close) (against : Option Against) → c ≡ ContradictionClose against → close_script c ≡ Contradiction against
 contradiction_is c against is = ap close_script is ∙ close_script-Contradiction against
 
-pub contradiction_same : (before : List Stated) (c k : Close) (against : Option Against) (x : StepState) (goal : Goal) → c ≡ ContradictionClose against → k ≡ ContradictionClose (option_map (placed_against x.facts) against)
+pub contradiction_same : (before : List Stated) (c k : Close) (against : Option Against) (x : StepState) (goal : Goal) → c ≡ ContradictionClose against → k ≡ ContradictionClose (option_map (against_with_places x.facts) against)
     → close_script k ≡ places_at before (close_script c) x goal
 contradiction_same before c k against x goal is e = contradiction_numbered before against x goal k e ∙ sym (ap (λ d. places_at before d x goal) (contradiction_is c against is))
 

@@ -26,13 +26,13 @@ use Rattle.e_clause.specs.PartCertificate.{part_certifies, part_in}
 use Rattle.e_clause.specs.TransferCertificate.{parts_certify, instance_certifies, transfer_certifies, args_in}
 use Rattle.e_clause.specs.RuleKinds.{is_transfer}
 use Rattle.e_clause.specs.Certify.{certifies, certify_all, cert_in, cert_holds, certifies_against}
-use Rattle.e_verify.specs.Numbered.{placed_name, turns, placed_sum, other_side, swapped, two_placed, placed_sums, placed_part, placed_parts, placed_for, placed_transfer, placed_cert, placed_certs, placed_against}
+use Rattle.e_verify.specs.Numbered.{name_with_place, turns, sum_with_places, opposite_side, sides_swapped, two_placed, sums_with_places, part_with_places, parts_with_places, placed_for, transfer_with_places, cert_with_places, certs_with_places, against_with_places}
 use Rattle.e_verify.proofs.placing.AlikeRows.{placed_fact}
 use Rattle.e_verify.proofs.placing.PlacedSums.{placed_refute}
 
 -- ---- what they name is in scope
 
-name_in_scope : (s : Scope) (facts : List Lit) (name : RowName) → row_name_in s name ≡ true → row_name_in s (placed_name facts name) ≡ true
+name_in_scope : (s : Scope) (facts : List Lit) (name : RowName) → row_name_in s name ≡ true → row_name_in s (name_with_place facts name) ≡ true
 name_in_scope s facts (Fact l) h = refl
 name_in_scope s facts Goal h = h
 name_in_scope s facts (Pos t) h = h
@@ -43,12 +43,12 @@ name_in_scope s facts Above h = h
 name_in_scope s facts Below h = h
 name_in_scope s facts (FactAt k) h = h
 
-sum_in_scope : (s : Scope) (facts : List Lit) (xs : List (ℤ × RowName)) → sum_in s xs ≡ true → sum_in s (placed_sum facts xs) ≡ true
+sum_in_scope : (s : Scope) (facts : List Lit) (xs : List (ℤ × RowName)) → sum_in s xs ≡ true → sum_in s (sum_with_places facts xs) ≡ true
 sum_in_scope s facts [] h = refl
 sum_in_scope s facts (x ∷ xs) h =
     ap₂ {A = Bool} {B = Bool} (λ a b. a && b) (name_in_scope s facts x.1 (and_left (row_name_in s x.1) (sum_in s xs) h)) (sum_in_scope s facts xs (and_right (row_name_in s x.1) (sum_in s xs) h))
 
-other_in_scope : (s : Scope) (name : RowName) → row_name_in s name ≡ true → row_name_in s (other_side name) ≡ true
+other_in_scope : (s : Scope) (name : RowName) → row_name_in s name ≡ true → row_name_in s (opposite_side name) ≡ true
 other_in_scope s (Fact l) h = h
 other_in_scope s Goal h = h
 other_in_scope s (Pos t) h = h
@@ -59,7 +59,7 @@ other_in_scope s Above h = refl
 other_in_scope s Below h = refl
 other_in_scope s (FactAt k) h = h
 
-swapped_in_scope : (s : Scope) (xs : List (ℤ × RowName)) → sum_in s xs ≡ true → sum_in s (swapped xs) ≡ true
+swapped_in_scope : (s : Scope) (xs : List (ℤ × RowName)) → sum_in s xs ≡ true → sum_in s (sides_swapped xs) ≡ true
 swapped_in_scope s [] h = refl
 swapped_in_scope s (x ∷ xs) h =
     ap₂ {A = Bool} {B = Bool} (λ a b. a && b) (other_in_scope s x.1 (and_left (row_name_in s x.1) (sum_in s xs) h)) (swapped_in_scope s xs (and_right (row_name_in s x.1) (sum_in s xs) h))
@@ -67,32 +67,32 @@ swapped_in_scope s (x ∷ xs) h =
 all_three : (a b c : Bool) → a ≡ true → b ≡ true → c ≡ true → (a && (b && c)) ≡ true
 all_three a b c x y z = rw (x, y, z)
 
-sums_in_scope : (s : Scope) (facts : List Lit) (m : Sums) → sums_in s m ≡ true → sums_in s (placed_sums facts m) ≡ true
+sums_in_scope : (s : Scope) (facts : List Lit) (m : Sums) → sums_in s m ≡ true → sums_in s (sums_with_places facts m) ≡ true
 sums_in_scope s facts (One sum) h = sum_in_scope s facts sum h
 sums_in_scope s facts (Two differs first second) h = by (turns facts differs)
   where
-    name : row_name_in s (placed_name facts differs) ≡ true
+    name : row_name_in s (name_with_place facts differs) ≡ true
     name = name_in_scope s facts differs (and_left (row_name_in s differs) (sum_in s first && sum_in s second) h)
 
     both : (sum_in s first && sum_in s second) ≡ true
     both = and_right (row_name_in s differs) (sum_in s first && sum_in s second) h
 
-    one : sum_in s (placed_sum facts first) ≡ true
+    one : sum_in s (sum_with_places facts first) ≡ true
     one = sum_in_scope s facts first (and_left (sum_in s first) (sum_in s second) both)
 
-    two : sum_in s (placed_sum facts second) ≡ true
+    two : sum_in s (sum_with_places facts second) ≡ true
     two = sum_in_scope s facts second (and_right (sum_in s first) (sum_in s second) both)
 
-    by : (b : Bool) → sums_in s (two_placed b (placed_name facts differs) (placed_sum facts first) (placed_sum facts second)) ≡ true
-    by true = all_three _ _ _ name (swapped_in_scope s (placed_sum facts second) two) (swapped_in_scope s (placed_sum facts first) one)
+    by : (b : Bool) → sums_in s (two_placed b (name_with_place facts differs) (sum_with_places facts first) (sum_with_places facts second)) ≡ true
+    by true = all_three _ _ _ name (swapped_in_scope s (sum_with_places facts second) two) (swapped_in_scope s (sum_with_places facts first) one)
     by false = all_three _ _ _ name one two
 
-part_in_scope : (s : Scope) (facts : List Lit) (l : Lit) (p : Part) → part_in s p ≡ true → part_in s (placed_part facts l p) ≡ true
+part_in_scope : (s : Scope) (facts : List Lit) (l : Lit) (p : Part) → part_in s p ≡ true → part_in s (part_with_places facts l p) ≡ true
 part_in_scope s facts l FactPart h = refl
 part_in_scope s facts l (Metric m) h = sums_in_scope s facts m.sums h
 part_in_scope s facts l (FactPartAt k) h = refl
 
-parts_in_scope : (s : Scope) (facts ls : List Lit) (ps : List Part) → list_all (part_in s) ps ≡ true → list_all (part_in s) (placed_parts facts ls ps) ≡ true
+parts_in_scope : (s : Scope) (facts ls : List Lit) (ps : List Part) → list_all (part_in s) ps ≡ true → list_all (part_in s) (parts_with_places facts ls ps) ≡ true
 parts_in_scope s facts [] ps h = refl
 parts_in_scope s facts (l ∷ ls) [] h = refl
 parts_in_scope s facts (l ∷ ls) (p ∷ ps) h =
@@ -102,20 +102,20 @@ for_in_scope : (s : Scope) (facts : List Lit) (l : Lit) (ps : List Part) (o : Op
 for_in_scope s facts l ps (Some lits) h = parts_in_scope s facts (map negation (others lits l)) ps h
 for_in_scope s facts l ps None h = refl
 
-cert_in_scope : (s : Scope) (facts : List Lit) (l : Lit) (c : Cert) → cert_in s c ≡ true → cert_in s (placed_cert facts l c) ≡ true
+cert_in_scope : (s : Scope) (facts : List Lit) (l : Lit) (c : Cert) → cert_in s c ≡ true → cert_in s (cert_with_places facts l c) ≡ true
 cert_in_scope s facts l (Plain p) h = part_in_scope s facts l p h
 cert_in_scope s facts l (Transfer t) h =
     ap₂ {A = Bool} {B = Bool} (λ a b. a && b) (and_left (args_in s t) (list_all (part_in s) t.parts) h) (for_in_scope s facts l t.parts (Inst t.rule t.args) (and_right (args_in s t) (list_all (part_in s) t.parts) h))
 
 -- ---- what they certify
 
-part_certified : (facts : List Lit) (l : Lit) (p : Part) → part_certifies facts l p ≡ true → part_certifies facts l (placed_part facts l p) ≡ true
+part_certified : (facts : List Lit) (l : Lit) (p : Part) → part_certifies facts l p ≡ true → part_certifies facts l (part_with_places facts l p) ≡ true
 part_certified facts l FactPart h = let f = placed_fact facts l h in ap (λ (o : Option Lit). option_map_or (λ m. same_lit m l) o false) f.1 ∙ f.2
 part_certified facts l (Metric m) h =
     ap₂ {A = Bool} {B = Bool} (λ a b. a && b) (and_left (is_metric l) (sums_refute facts (Some l) m.sums) h) (placed_refute facts (Some l) m.sums (and_right (is_metric l) (sums_refute facts (Some l) m.sums) h))
 part_certified facts l (FactPartAt k) h = h
 
-parts_certified : (facts ls : List Lit) (ps : List Part) → parts_certify facts ls ps ≡ true → parts_certify facts ls (placed_parts facts (map negation ls) ps) ≡ true
+parts_certified : (facts ls : List Lit) (ps : List Part) → parts_certify facts ls ps ≡ true → parts_certify facts ls (parts_with_places facts (map negation ls) ps) ≡ true
 parts_certified facts [] [] h = refl
 parts_certified facts [] (p ∷ ps) h = absurd (true≢false (sym h))
 parts_certified facts (l ∷ ls) [] h = absurd (true≢false (sym h))
@@ -124,13 +124,13 @@ parts_certified facts (l ∷ ls) (p ∷ ps) h =
     let rest : Bool = parts_certify facts ls ps in
     ap₂ {A = Bool} {B = Bool} (λ a b. a && b) (part_certified facts (negation l) p (and_left first rest h)) (parts_certified facts ls ps (and_right first rest h))
 
-transfer_certified : (facts : List Lit) (l : Lit) (t : TransferCert) → transfer_certifies facts l t ≡ true → transfer_certifies facts l (placed_transfer facts l t) ≡ true
+transfer_certified : (facts : List Lit) (l : Lit) (t : TransferCert) → transfer_certifies facts l t ≡ true → transfer_certifies facts l (transfer_with_places facts l t) ≡ true
 transfer_certified facts l t h = by (Inst t.rule t.args) refl (and_right (is_transfer t.rule) (option_map_or (instance_certifies facts l t.parts) (Inst t.rule t.args) false) h)
   where
     rule : is_transfer t.rule ≡ true
     rule = and_left (is_transfer t.rule) (option_map_or (instance_certifies facts l t.parts) (Inst t.rule t.args) false) h
 
-    by : (o : Option (List Lit)) → Inst t.rule t.args ≡ o → option_map_or (instance_certifies facts l t.parts) o false ≡ true → transfer_certifies facts l (placed_transfer facts l t) ≡ true
+    by : (o : Option (List Lit)) → Inst t.rule t.args ≡ o → option_map_or (instance_certifies facts l t.parts) o false ≡ true → transfer_certifies facts l (transfer_with_places facts l t) ≡ true
     by None e k = absurd (true≢false (sym k))
     by (Some lits) e k =
         let parts = parts_certified facts (others lits l) t.parts (and_right (has lits l) (parts_certify facts (others lits l) t.parts) k) in
@@ -138,14 +138,14 @@ transfer_certified facts l t h = by (Inst t.rule t.args) refl (and_right (is_tra
         ap₂ {A = Bool} {B = Bool} (λ a b. a && b) rule
         (ap (λ o. option_map_or (instance_certifies facts l (placed_for facts l t.parts o)) o false) e ∙ instance)
 
-pub cert_certified : (s : Scope) (facts : List Lit) (l : Lit) (c : Cert) → certifies s facts l c ≡ true → certifies s facts l (placed_cert facts l c) ≡ true
+pub cert_certified : (s : Scope) (facts : List Lit) (l : Lit) (c : Cert) → certifies s facts l c ≡ true → certifies s facts l (cert_with_places facts l c) ≡ true
 cert_certified s facts l c h = ap₂ {A = Bool} {B = Bool} (λ a b. a && b) (cert_in_scope s facts l c (and_left (cert_in s c) (cert_holds facts l c) h)) (by c (and_right (cert_in s c) (cert_holds facts l c) h))
   where
-    by : (c : Cert) → cert_holds facts l c ≡ true → cert_holds facts l (placed_cert facts l c) ≡ true
+    by : (c : Cert) → cert_holds facts l c ≡ true → cert_holds facts l (cert_with_places facts l c) ≡ true
     by (Plain p) k = part_certified facts l p k
     by (Transfer t) k = transfer_certified facts l t k
 
-pub certs_certified : (s : Scope) (facts ls : List Lit) (cs : List Cert) → certify_all s facts ls cs ≡ true → certify_all s facts ls (placed_certs facts ls cs) ≡ true
+pub certs_certified : (s : Scope) (facts ls : List Lit) (cs : List Cert) → certify_all s facts ls cs ≡ true → certify_all s facts ls (certs_with_places facts ls cs) ≡ true
 certs_certified s facts [] [] h = refl
 certs_certified s facts [] (c ∷ cs) h = absurd (true≢false (sym h))
 certs_certified s facts (l ∷ ls) [] h = absurd (true≢false (sym h))
@@ -154,7 +154,7 @@ certs_certified s facts (l ∷ ls) (c ∷ cs) h =
     let rest : Bool = certify_all s facts ls cs in
     ap₂ {A = Bool} {B = Bool} (λ a b. a && b) (cert_certified s facts l c (and_left first rest h)) (certs_certified s facts ls cs (and_right first rest h))
 
-pub against_certified : (s : Scope) (facts : List Lit) (a : Against) → certifies_against s facts a ≡ true → certifies_against s facts (placed_against facts a) ≡ true
+pub against_certified : (s : Scope) (facts : List Lit) (a : Against) → certifies_against s facts a ≡ true → certifies_against s facts (against_with_places facts a) ≡ true
 against_certified s facts (Clash l) h = h
 against_certified s facts (MetricAgainst m) h =
     let inside : Bool = sums_in s m.sums in

@@ -22,7 +22,7 @@ use Rattle.e_clause.specs.declared.cert.Sums.TheVariants.{One, Two}
 use Rattle.e_clause.specs.Sum.{Place, fact_row, row_at, says_differ, unless_not, pos_of, top_of, row_named, weighed_rows, is_good_multiplier, is_good_size, refutes}
 use Rattle.e_clause.specs.MetricCertificate.{differing_of, differing, above_row, below_row, both_refute, sums_refute}
 use Rattle.e_clause.proofs.Refuted.{option_split, found}
-use Rattle.e_verify.specs.Numbered.{place_among, are_turned, is_turned, placed_name, turns, placed_sum, other_side, swapped, two_placed, placed_sums}
+use Rattle.e_verify.specs.Numbered.{place_of_same, have_opposite_rows, has_opposite_row, name_with_place, turns, sum_with_places, opposite_side, sides_swapped, two_placed, sums_with_places}
 use Rattle.e_verify.proofs.placing.AlikeRows.{placed_fact, AreAlike, alike_rows}
 use Rattle.e_verify.proofs.placing.AlikeSums.{HaveOneShare, AllHaveOneShare, absurd_together}
 
@@ -42,12 +42,12 @@ kept_row (Some x) r e = by (says_differ x.says) refl e
 -- ---- one fact
 
 -- the row of a literal that is a fact, and of the fact at its place
-pub fact_placed : (facts : List Lit) (l : Lit) (r : Row) → fact_row facts l ≡ Some r → (s : Row) × (row_at facts (place_among facts l) ≡ Some s) × AreAlike (is_turned facts l) r s
+pub fact_placed : (facts : List Lit) (l : Lit) (r : Row) → fact_row facts l ≡ Some r → (s : Row) × (row_at facts (place_of_same facts l) ≡ Some s) × AreAlike (has_opposite_row facts l) r s
 fact_placed facts l r e =
     let k = cond_some (has facts l) (row_of_lit l) r e in
     let f = placed_fact facts l k.0 in
     let s = alike_rows f.0 l r f.2 k.1 in
-    (s.0, ap (option_and_then row_of_lit) f.1 ∙ s.1, subst (λ b. AreAlike b r s.0) (sym (ap (λ (o : Option Lit). are_turned l.atom (unwrap_or o l).atom) f.1)) s.2)
+    (s.0, ap (option_and_then row_of_lit) f.1 ∙ s.1, subst (λ b. AreAlike b r s.0) (sym (ap (λ (o : Option Lit). have_opposite_rows l.atom (unwrap_or o l).atom) f.1)) s.2)
 
 alike_self : (r : Row) → AreAlike false r r
 alike_self r = record { says = refl; form = λ t. refl; sign = λ k. absurd (true≢false (sym k)) }
@@ -76,7 +76,7 @@ one_share true n r s h = record {
 -- ---- sums, whose names change sides or do not
 
 abbrev side : Bool → RowName → RowName
-side swap name = cond swap (other_side name) name
+side swap name = cond swap (opposite_side name) name
 
 abbrev sided : Bool → List (ℤ × RowName) → List (ℤ × RowName)
 sided swap xs = map (λ (x : ℤ × RowName). (x.0, side swap x.1)) xs
@@ -92,7 +92,7 @@ good_negative n = ap₂ {A = Bool} {B = Bool} (λ a b. not a && b)
 
 module _ (facts : List Lit) (swap : Bool) where
   abbrev renamed : List (ℤ × RowName) → List (ℤ × RowName)
-  renamed xs = sided swap (placed_sum facts xs)
+  renamed xs = sided swap (sum_with_places facts xs)
 
   all_good : (xs : List (ℤ × RowName)) → list_all (λ x. is_good_multiplier x.0) (renamed xs) ≡ list_all (λ x. is_good_multiplier x.0) xs
   all_good [] = refl
@@ -118,7 +118,7 @@ module _ (facts : List Lit) (swap : Bool) where
 
     -- the name has a row alike
     abbrev Named : RowName → Row → Type 0
-    Named name r = (s : Row) × (row_named new (side swap (placed_name facts name)) ≡ Some s) × AreAlike (turns facts name) r s
+    Named name r = (s : Row) × (row_named new (side swap (name_with_place facts name)) ≡ Some s) × AreAlike (turns facts name) r s
 
     same_pos : (t : Term) → pos_of new t ≡ pos_of old t
     same_pos (Seg a b) = refl
@@ -133,10 +133,10 @@ module _ (facts : List Lit) (swap : Bool) where
     same_top Right = refl
 
     -- a name that has no side stays
-    stays : (name : RowName) (r : Row) → other_side (placed_name facts name) ≡ placed_name facts name → turns facts name ≡ false → row_named new (placed_name facts name) ≡ Some r → Named name r
+    stays : (name : RowName) (r : Row) → opposite_side (name_with_place facts name) ≡ name_with_place facts name → turns facts name ≡ false → row_named new (name_with_place facts name) ≡ Some r → Named name r
     stays name r o t e = (r, ap (row_named new) (by swap) ∙ e, subst (λ b. AreAlike b r r) (sym t) (alike_self r))
       where
-        by : (b : Bool) → side b (placed_name facts name) ≡ placed_name facts name
+        by : (b : Bool) → side b (name_with_place facts name) ≡ name_with_place facts name
         by true = o
         by false = refl
 
@@ -148,7 +148,7 @@ module _ (facts : List Lit) (swap : Bool) where
           let may : says_differ s.0.says ≡ false = ap says_differ s.2.says ∙ k.1 in
           (s.0, ap (row_named new) (by swap) ∙ ap unless_not s.1 ∙ ap (λ b. cond b None (Some s.0)) may, s.2)
         where
-          by : (b : Bool) → side b (FactAt (place_among facts l)) ≡ FactAt (place_among facts l)
+          by : (b : Bool) → side b (FactAt (place_of_same facts l)) ≡ FactAt (place_of_same facts l)
           by true = refl
           by false = refl
       named Goal r e = stays Goal r refl refl e
@@ -195,13 +195,13 @@ module _ (facts : List Lit) (swap : Bool) where
 
 -- the row that is said not to be 0, and its place
 differing_placed : (facts : List Lit) (wanted : Option Lit) (name : RowName) (r : Row) → differing facts wanted name ≡ Some r
-    → (s : Row) × (differing facts wanted (placed_name facts name) ≡ Some s) × AreAlike (turns facts name) r s
+    → (s : Row) × (differing facts wanted (name_with_place facts name) ≡ Some s) × AreAlike (turns facts name) r s
 differing_placed facts wanted name r e = by (option_split (differing_of facts wanted name))
   where
     test : Row → Option Row
     test x = cond (says_differ x.says) (Some x) None
 
-    at : (name : RowName) (x : Row) → differing_of facts wanted name ≡ Some x → (s : Row) × (differing_of facts wanted (placed_name facts name) ≡ Some s) × AreAlike (turns facts name) x s
+    at : (name : RowName) (x : Row) → differing_of facts wanted name ≡ Some x → (s : Row) × (differing_of facts wanted (name_with_place facts name) ≡ Some s) × AreAlike (turns facts name) x s
     at (Fact l) x k = fact_placed facts l x k
     at Goal x k = (x, k, alike_self x)
     at (Pos t) x k = absurd (none-some x k)
@@ -212,7 +212,7 @@ differing_placed facts wanted name r e = by (option_split (differing_of facts wa
     at Below x k = absurd (none-some x k)
     at (FactAt n) x k = (x, k, alike_self x)
 
-    by : (differing_of facts wanted name ≡ None) ⊎ (x : Row) × (differing_of facts wanted name ≡ Some x) → (s : Row) × (differing facts wanted (placed_name facts name) ≡ Some s) × AreAlike (turns facts name) r s
+    by : (differing_of facts wanted name ≡ None) ⊎ (x : Row) × (differing_of facts wanted name ≡ Some x) → (s : Row) × (differing facts wanted (name_with_place facts name) ≡ Some s) × AreAlike (turns facts name) r s
     by (inl n) = absurd (none-some r (sym (ap (option_and_then test) n) ∙ e))
     by (inr m) =
         let k = cond_some (says_differ m.0.says) (Some m.0) r (sym (ap (option_and_then test) m.1) ∙ e) in
@@ -237,17 +237,17 @@ turned_below : (r s : Row) → AreAlike true r s → AreAlike false (below_row r
 turned_below r s h = record { says = refl; form = λ t. h.form t ∙ sym (coefficient_negative r.form t); sign = λ k. absurd (true≢false (sym k)) }
 
 -- what the sums refute is refuted by them where they have places
-pub placed_refute : (facts : List Lit) (wanted : Option Lit) (s : Sums) → sums_refute facts wanted s ≡ true → sums_refute facts wanted (placed_sums facts s) ≡ true
+pub placed_refute : (facts : List Lit) (wanted : Option Lit) (s : Sums) → sums_refute facts wanted s ≡ true → sums_refute facts wanted (sums_with_places facts s) ≡ true
 placed_refute facts wanted (One sum) h =
-    subst (λ xs. refutes (record { facts = facts; wanted = wanted; above = None; below = None }) xs ≡ true) (not_sided (placed_sum facts sum))
+    subst (λ xs. refutes (record { facts = facts; wanted = wanted; above = None; below = None }) xs ≡ true) (not_sided (sum_with_places facts sum))
     (refutes_on facts false wanted None None None None (λ r e. absurd (none-some r e)) (λ r e. absurd (none-some r e)) sum h)
 placed_refute facts wanted (Two differs first second) h =
     let k = found (λ r. both_refute facts wanted r first second) (differing facts wanted differs) h in
     let s = differing_placed facts wanted differs k.0 k.1 in
     by (turns facts differs) k.0 s.0 s.1 s.2 k.2
   where
-    by : (b : Bool) (r s : Row) → differing facts wanted (placed_name facts differs) ≡ Some s → AreAlike b r s → both_refute facts wanted r first second ≡ true
-        → sums_refute facts wanted (two_placed b (placed_name facts differs) (placed_sum facts first) (placed_sum facts second)) ≡ true
+    by : (b : Bool) (r s : Row) → differing facts wanted (name_with_place facts differs) ≡ Some s → AreAlike b r s → both_refute facts wanted r first second ≡ true
+        → sums_refute facts wanted (two_placed b (name_with_place facts differs) (sum_with_places facts first) (sum_with_places facts second)) ≡ true
     by false r s e h both =
         let high : Place = record { facts = facts; wanted = wanted; above = Some (above_row r); below = None } in
         let low : Place = record { facts = facts; wanted = wanted; above = None; below = Some (below_row r) } in
@@ -257,10 +257,10 @@ placed_refute facts wanted (Two differs first second) h =
         let two = refutes_on facts false wanted None (Some (below_row r)) None (Some (below_row s))
         (λ x k. absurd (none-some x k)) (λ x k. (below_row s, refl, subst (λ y. AreAlike false y (below_row s)) (same_Some (below_row r) x k) (below_alike r s h)))
         second (and_right (refutes high first) (refutes low second) both) in
-        ap (λ o. option_map_or (λ x. both_refute facts wanted x (placed_sum facts first) (placed_sum facts second)) o false) e
+        ap (λ o. option_map_or (λ x. both_refute facts wanted x (sum_with_places facts first) (sum_with_places facts second)) o false) e
         ∙ ap₂ {A = Bool} {B = Bool} (λ a b. a && b)
-        (subst (λ xs. refutes (record { facts = facts; wanted = wanted; above = Some (above_row s); below = None }) xs ≡ true) (not_sided (placed_sum facts first)) one)
-        (subst (λ xs. refutes (record { facts = facts; wanted = wanted; above = None; below = Some (below_row s) }) xs ≡ true) (not_sided (placed_sum facts second)) two)
+        (subst (λ xs. refutes (record { facts = facts; wanted = wanted; above = Some (above_row s); below = None }) xs ≡ true) (not_sided (sum_with_places facts first)) one)
+        (subst (λ xs. refutes (record { facts = facts; wanted = wanted; above = None; below = Some (below_row s) }) xs ≡ true) (not_sided (sum_with_places facts second)) two)
     by true r s e h both =
         let high : Place = record { facts = facts; wanted = wanted; above = Some (above_row r); below = None } in
         let low : Place = record { facts = facts; wanted = wanted; above = None; below = Some (below_row r) } in
@@ -270,5 +270,5 @@ placed_refute facts wanted (Two differs first second) h =
         let two = refutes_on facts true wanted (Some (above_row r)) None None (Some (below_row s))
         (λ x k. (below_row s, refl, subst (λ y. AreAlike false y (below_row s)) (same_Some (above_row r) x k) (turned_above r s h))) (λ x k. absurd (none-some x k))
         first (and_left (refutes high first) (refutes low second) both) in
-        ap (λ o. option_map_or (λ x. both_refute facts wanted x (swapped (placed_sum facts second)) (swapped (placed_sum facts first))) o false) e
+        ap (λ o. option_map_or (λ x. both_refute facts wanted x (sides_swapped (sum_with_places facts second)) (sides_swapped (sum_with_places facts first))) o false) e
         ∙ ap₂ {A = Bool} {B = Bool} (λ a b. a && b) one two

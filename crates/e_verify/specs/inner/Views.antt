@@ -19,12 +19,12 @@ says_of More = says.More
 says_of Not = says.Not
 
 -- the form, or minus the form
-abbrev pub turned_by : Bool → Summands → Summands
-turned_by true form = negative form
-turned_by false form = form
+abbrev pub form_turned : Bool → Summands → Summands
+form_turned true form = negative form
+form_turned false form = form
 
 abbrev pub row_view : CodeRow → Row
-row_view (Sums said x y turned) = record { says = says_of said; form = turned_by turned (normal_summands (plus x.now ++ minus y.now)) }
+row_view (Sums said x y turned) = record { says = says_of said; form = form_turned turned (normal_summands (plus x.now ++ minus y.now)) }
 row_view (Pos t) = pos_row t
 row_view (Top t) = top_row t
 row_view Right = right_row

@@ -11,7 +11,7 @@ use Rattle.e_deriv.specs.declared.block.Step.TheVariants.{Apply as ApplyStep}
 use Rattle.e_deriv.specs.Lines.{no_statement}
 use Rattle.e_deriv.specs.Parts.{has_no_blank, written}
 use Rattle.e_verify.specs.declared.step_state.StepState.{StepState}
-use Rattle.e_verify.specs.Numbered.{placed_certs}
+use Rattle.e_verify.specs.Numbered.{certs_with_places}
 use Rattle.e_verify.proofs.checking.FirstLines.{after_apply}
 use Rattle.e_verify.proofs.checking.CertifiedLines.{fits_of, all_are_written, few_new_of, theorem_there}
 use Rattle.e_verify.proofs.placing.NumberedSteps.{apply_numbered}
@@ -91,6 +91,6 @@ returns c =
     apply_numbered before y.theorem args names y.certs.now x c.assume_all.new.self _
     (ap (λ as1. ApplyStep y.theorem as1 c.new-names.result placed) (c.new-args.ensures ∙ c.in_ok-from_slice.ensures.items)
     ∙ ap (λ ns. ApplyStep y.theorem args ns placed) (c.new-names.ensures ∙ c.in_ok-from_slice-2.ensures.items)
-    ∙ ap (ApplyStep y.theorem args names) (c.in_ok-certs.ensures ∙ ap (λ ls. placed_certs x.facts ls y.certs.now) needs))
+    ∙ ap (ApplyStep y.theorem args names) (c.in_ok-certs.ensures ∙ ap (λ ls. certs_with_places x.facts ls y.certs.now) needs))
     (c.in_ok-assume_all.ensures ∙ ap (λ (s : Scope). as_state s (joined_all x.facts c.items-3.result.now)) scope ∙ ap (λ ls. as_state (grown x.scope t.made) (joined_all x.facts ls)) gives
     ∙ ap (λ u. after_apply u (written args) x) (sym there))

@@ -6,7 +6,7 @@ use Rattle.e_literal.specs.Facts.{joined_all}
 use Rattle.e_literal.specs.Scopes.{grown}
 use Rattle.e_construct.specs.Construct.{made}
 use Rattle.e_deriv.specs.declared.block.Step.TheVariants.{Make as MakeStep}
-use Rattle.e_verify.specs.Numbered.{placed_certs}
+use Rattle.e_verify.specs.Numbered.{certs_with_places}
 use Rattle.e_verify.specs.declared.step_state.StepState.{StepState}
 use Rattle.e_verify.proofs.checking.CertifiedLines.{few_new}
 use Rattle.e_verify.proofs.placing.NumberedSteps.{make_numbered}
@@ -39,5 +39,5 @@ returns c before =
     make_numbered before form names c.args.certs.now x (as_state c.grown-state.result c.join.new.self) _
     (ap (λ f. MakeStep f c.new-names.result placed) c.in_ok-form.ensures
     ∙ ap (λ ns. MakeStep form ns placed) (c.new-names.ensures ∙ c.in_ok-from_slice.ensures.items)
-    ∙ ap (MakeStep form names) (c.in_ok-certs.ensures ∙ ap (λ ls. placed_certs x.facts ls c.args.certs.now) wanted))
+    ∙ ap (MakeStep form names) (c.in_ok-certs.ensures ∙ ap (λ ls. certs_with_places x.facts ls c.args.certs.now) wanted))
     (ap (λ (s : Scope). as_state s c.join.new.self) scope ∙ ap (as_state (grown x.scope (made form))) facts)
