@@ -21,7 +21,7 @@ use Rattle.e_transfer.specs.declared.walk.Verdict.TheVariants as verdict
 use Rattle.e_transfer.specs.Choice.{Fits, Starts, EachKept, NoneWanted, NoneBelow}
 use Rattle.e_transfer.specs.Verdicts.{SearchIs}
 use Rattle.e_licence.specs.Contexts.{Basis}
-use Rattle.e_licence.specs.inner.BlankChoices.{filled, spans_of, images, IsKept, IsWanted, SomeIsWideAt}
+use Rattle.e_licence.specs.inner.BlankChoices.{filled, spans_of, images_of_choice, IsKept, IsWanted, SomeIsWideAt}
 use Rattle.e_licence.proofs.BlankChoices.{has_empty, start_is_of_sorts, filled_fills, whole, fits_starts, none_fits, chosen, chosen_fit, chosen_filled, below}
 use Rattle.e_licence.proofs.CompletedLiterals.{KeptAt, ShownAt, WideAt, at, stays, all_bound, allowed_all, contains_at}
 
@@ -40,7 +40,7 @@ abbrev pub Kept : Basis → Stated → List (Option Obj) → List ℕ → Type 0
 Kept b t pattern part = IsKept b (objects t) pattern t.given part
 
 abbrev pub Wide : Basis → Stated → List (Option Obj) → List ℕ → ℕ → Type 0
-Wide b t pattern part w = SomeIsWideAt b (images b.scope (objects t) pattern part) t.given w
+Wide b t pattern part w = SomeIsWideAt b (images_of_choice b.scope (objects t) pattern part) t.given w
 
 -- what match_blanks asks for
 pub record IsAsked (b : Basis) (t : Stated) (pattern : List (Option Obj)) : Type 0 where
@@ -100,7 +100,7 @@ pub kept_allowed : (b : Basis) (t : Stated) (pattern : List (Option Obj)) (c : L
 kept_allowed b t pattern c args states is fit kept =
     subst (λ (ls : List Lit). AllAllowed b.scope b.facts ls) (sym (needs_declared t args b.scope states fit))
     (subst (λ (os : List Obj). AllAllowed b.scope b.facts (map (at (paired (objects t) os)) t.given)) is
-    (allowed_all b (images b.scope (objects t) pattern c) t.given (all_bound b t.declared pattern t.given c kept)
+    (allowed_all b (images_of_choice b.scope (objects t) pattern c) t.given (all_bound b t.declared pattern t.given c kept)
     (ap (λ os. are_good b.scope (map (at (paired (objects t) os)) t.given)) is ∙ declared_good t args b.scope states fit)))
 
 least_at : (b : Basis) (t : Stated) (pattern : List (Option Obj)) (c : List ℕ) → IsAsked b t pattern → has_empty (spans b t pattern) ≡ false → Fits (spans b t pattern) c

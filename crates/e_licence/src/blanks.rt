@@ -196,7 +196,7 @@ pub fn arguments(
 
 /// The argument for a declared object.
 fn argument(scope: Scope, declared: Obj, entry: Option<Obj>, rest: &[u16]) -> Obj
-    ensures { result ≡ BlankChoices.argument scope declared entry rest.now }
+    ensures { result ≡ BlankChoices.argument_for scope declared entry rest.now }
 {
     match (entry, rest) {
         (Some(object), _) => object,
@@ -213,7 +213,7 @@ fn argument(scope: Scope, declared: Obj, entry: Option<Obj>, rest: &[u16]) -> Ob
 
 /// The numbers that are left after it.
 fn left(entry: Option<Obj>, rest: &[u16]) -> &[u16]
-    ensures { result.now ≡ BlankChoices.left entry rest.now }
+    ensures { result.now ≡ BlankChoices.numbers_left entry rest.now }
 {
     match (entry, rest) {
         (None, [_, left @ ..]) => left,
@@ -224,7 +224,7 @@ fn left(entry: Option<Obj>, rest: &[u16]) -> &[u16]
 impl<'a> Blanks<'a> {
     /// The images of the declared objects by the first numbers of a choice.
     fn images(&self, alloc: Global, part: &[u16]) -> Result<Map, AllocError>
-        ensures { IfOk result (λ map. map ≡ BlankChoices.images self.now.context.now.scope self.now.declared.items self.now.pattern.now part.now) }
+        ensures { IfOk result (λ map. map ≡ BlankChoices.images_of_choice self.now.context.now.scope self.now.declared.items self.now.pattern.now part.now) }
     {
         let scope = self.context.scope();
         let args = arguments(alloc, scope, &self.declared, self.pattern, part)?;
@@ -300,7 +300,7 @@ impl<'a> Task for Blanks<'a> {
 
     ghost shown = { λ s part p. Unit {0} };
 
-    ghost wide = { λ s part w. SomeIsWideAt s.context.now (BlankChoices.images s.context.now.scope s.declared.items s.pattern.now part) s.statement.now.given w };
+    ghost wide = { λ s part w. SomeIsWideAt s.context.now (BlankChoices.images_of_choice s.context.now.scope s.declared.items s.pattern.now part) s.statement.now.given w };
 
     fn check(&self, alloc: Global, part: &[u16]) -> Result<Verdict<()>, AllocError> {
         let images = self.images(alloc, part)?;

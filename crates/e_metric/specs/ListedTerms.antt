@@ -13,5 +13,5 @@ listed seen [] = seen
 listed seen (t ∷ ts) = listed (if has_term seen t then seen else seen ++ t ∷ []) ts
 
 -- the terms of the facts of a kind and of the wanted literal, if it is of the kind, each once, as it is written first
-abbrev pub terms_of_kind : Kind → List Lit → Option Lit → List Term
-terms_of_kind which facts wanted = first_terms [] (terms_of_lits (of_kind which facts) ++ terms_of_lits (of_kind which (against_goal wanted)))
+abbrev pub distinct_terms : Kind → List Lit → Option Lit → List Term
+distinct_terms which facts wanted = first_terms [] (terms_of_lits (of_kind which facts) ++ terms_of_lits (of_kind which (against_goal wanted)))

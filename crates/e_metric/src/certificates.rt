@@ -42,7 +42,7 @@ fn keep(
     name: &RowName,
     multiplier: i128,
 ) -> Result<(), AllocError>
-    ensures { OnOk result (sum.new.items ≡ sum.old.items ++ Certificate.kept (name.now ∷ []) (multiplier ∷ [])) }
+    ensures { OnOk result (sum.new.items ≡ sum.old.items ++ Certificate.named_multipliers (name.now ∷ []) (multiplier ∷ [])) }
 {
     if multiplier != 0 {
         sum.push((multiplier, copied(alloc, name)?))?;
@@ -57,7 +57,7 @@ fn kept(
     multipliers: &[i128],
 ) -> Result<Vec<(i128, RowName)>, AllocError>
     requires { length multipliers.now ≡ length names.now }
-    ensures { IfOk result (λ v. v.items ≡ Certificate.kept names.now multipliers.now) }
+    ensures { IfOk result (λ v. v.items ≡ Certificate.named_multipliers names.now multipliers.now) }
 {
     let mut sum = Vec::new(alloc);
     for i in 0..names.len() {
@@ -146,7 +146,7 @@ fn sum_of(
 ) -> Result<Sum, AllocError>
     requires names { length multipliers.now ≡ length names.now }
     requires rows { IsWeighable rows.now weights.now }
-    ensures { IfOk result (λ s. s ≡ Certificate.sum_of names.now rows.now multipliers.now weights.now terms.now) }
+    ensures { IfOk result (λ s. s ≡ Certificate.certificate_sum names.now rows.now multipliers.now weights.now terms.now) }
 {
     let mut sum = kept(alloc, names, multipliers)?;
     add_leasts(&mut sum, alloc, rows, weights, terms)?;
@@ -157,7 +157,7 @@ fn sum_of(
 fn negated_at(alloc: Global, multipliers: &[i128], place: usize) -> Result<Vec<i128>, AllocError>
     requires here { place < length multipliers.now }
     requires small { unsigned_abs (get_or multipliers.now place (pos 0)) ≤ 2 ^ 80 }
-    ensures { IfOk result (λ v. v.items ≡ Certificate.negated_at multipliers.now place) }
+    ensures { IfOk result (λ v. v.items ≡ Certificate.negated_place multipliers.now place) }
 {
     let mut weights = Vec::from_slice(alloc, multipliers)?;
     weights[place] = -multipliers[place];
@@ -188,8 +188,8 @@ fn two_sums(
     requires below_length { length below.now ≡ length names.items }
     requires below_small { unsigned_abs (get_or below.now row (pos 0)) ≤ 2 ^ 80 }
     requires first { IsWeighable rows.now above.now }
-    requires second { IsWeighable rows.now (Certificate.negated_at below.now row) }
-    ensures { IfOk result (λ s. s ≡ TwoSums (get_or names.items row name.Goal) (Certificate.sum_of (set names.items row name.Above) rows.now above.now above.now terms.now) (Certificate.sum_of (set names.items row name.Below) rows.now below.now (Certificate.negated_at below.now row) terms.now)) }
+    requires second { IsWeighable rows.now (Certificate.negated_place below.now row) }
+    ensures { IfOk result (λ s. s ≡ TwoSums (get_or names.items row name.Goal) (Certificate.certificate_sum (set names.items row name.Above) rows.now above.now above.now terms.now) (Certificate.certificate_sum (set names.items row name.Below) rows.now below.now (Certificate.negated_place below.now row) terms.now)) }
 {
     let weights = negated_at(alloc, below, row)?;
     let differs = name_row(&mut names, row, RowName::Above);
@@ -272,7 +272,7 @@ pub fn sums_of(
     requires few { length rows.now ≤ 4096 }
     requires coefficients { IsTrue (all_small rows.now) }
     requires refuted { IsAbsurdity (all_seen rows.now) absurdity.now }
-    ensures { IfOk result (λ s. s ≡ Certificate.sums_of names.items rows.now terms.now absurdity.now) }
+    ensures { IfOk result (λ s. s ≡ Certificate.certificate_sums names.items rows.now terms.now absurdity.now) }
 {
     match absurdity {
         Absurdity::One(multipliers) => {

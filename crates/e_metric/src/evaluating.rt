@@ -59,7 +59,7 @@ pub fn are_so(values: &[(Term, u128)], rows: &[Row]) -> bool
 // A value that a term may have of which no fact speaks: 1 where it is a segment whose ends differ,
 // and else 0.
 fn default_value(facts: &Facts, term: Term) -> u128
-    ensures { result ≡ FurtherRows.default_value facts.now term }
+    ensures { result ≡ FurtherRows.value_of_fresh facts.now term }
 {
     match term {
         Term::Seg(a, b) => u128::from(are_apart(facts, a, b)),
@@ -74,7 +74,7 @@ pub fn extended(
     values: &[(Term, u128)],
     fresh: &[Term],
 ) -> Result<Values, AllocError>
-    ensures { IfOk result (λ v. v ≡ FurtherRows.extended facts.now values.now fresh.now) }
+    ensures { IfOk result (λ v. v ≡ FurtherRows.values_extended facts.now values.now fresh.now) }
 {
     let mut pairs = Vec::from_slice(alloc, values)?;
     for term in fresh {

@@ -281,7 +281,7 @@ fn joined_system(
     requires facts { IsTrue (list_all is_well_formed facts.now) }
     requires few { length (terms_of_lits facts.now) ≤ 1100 }
     requires together { AreTogether which facts.now None solved_system.now names.now rows.now }
-    requires terms { solved_system.now.terms.items ++ fresh.now ≡ ListedTerms.terms_of_kind which facts.now None }
+    requires terms { solved_system.now.terms.items ++ fresh.now ≡ ListedTerms.distinct_terms which facts.now None }
     ensures { IfOk result (IsKindSystem which facts.now) }
 {
     match solved_system.settled.with(alloc, rows)? {

@@ -5,7 +5,7 @@ ghost use Rattle.e_literal.specs.Rows;
 ghost use Rattle.e_clause.specs.Assignment.{terms_of_atom, terms_of_lits};
 ghost use Rattle.e_clause.specs.System;
 ghost use Rattle.e_clause.specs.System.{of_kind};
-ghost use Rattle.e_metric.specs.ListedTerms.{listed};
+ghost use Rattle.e_metric.specs.ListedTerms.{distinct_terms, listed};
 ghost use Rattle.e_metric.specs.inner.FurtherRows;
 
 use e_facts::Facts;
@@ -99,7 +99,7 @@ pub fn terms_of_kind(
     facts: &Facts,
     wanted: Option<&Lit>,
 ) -> Result<Vec<Term>, AllocError>
-    ensures { IfOk result (λ v. v.items ≡ Rattle.e_metric.specs.ListedTerms.terms_of_kind which facts.now (option_copied wanted.entry)) }
+    ensures { IfOk result (λ v. v.items ≡ distinct_terms which facts.now (option_copied wanted.entry)) }
 {
     let mut terms = terms_of_facts(alloc, which, facts)?;
     if let Some(lit) = wanted {
@@ -116,7 +116,7 @@ pub fn fresh_terms(
     terms: &[Term],
     lit: &Lit,
 ) -> Result<Vec<Term>, AllocError>
-    ensures { IfOk result (λ v. v.items ≡ FurtherRows.fresh_terms which terms.now (lit.now ∷ [])) }
+    ensures { IfOk result (λ v. v.items ≡ FurtherRows.terms_added which terms.now (lit.now ∷ [])) }
 {
     let mut all = Vec::from_slice(alloc, terms)?;
     add_literal(&mut all, which, lit)?;
@@ -134,7 +134,7 @@ pub fn fresh_terms_of_facts(
     from: usize,
 ) -> Result<Vec<Term>, AllocError>
     requires { from ≤ length facts.now }
-    ensures { IfOk result (λ v. v.items ≡ FurtherRows.fresh_terms which terms.now (drop from facts.now)) }
+    ensures { IfOk result (λ v. v.items ≡ FurtherRows.terms_added which terms.now (drop from facts.now)) }
 {
     let mut all = Vec::from_slice(alloc, terms)?;
     add_facts(&mut all, which, facts, from)?;

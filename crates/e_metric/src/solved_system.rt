@@ -10,7 +10,7 @@ ghost use Rattle.e_clause.specs.System;
 ghost use Rattle.e_clause.specs.System.{system, rows_of_system};
 ghost use Rattle.e_fraction.specs.Views.{all_seen};
 ghost use Rattle.e_simplex.specs.Answer.{AreValuesOf, IsRefuted};
-ghost use Rattle.e_metric.specs.inner.FurtherRows.{extended};
+ghost use Rattle.e_metric.specs.inner.FurtherRows.{values_extended};
 ghost use Rattle.e_metric.specs.SolvedSystems.{AreTogether, IsSolvedSystem};
 ghost use Rattle.e_metric.specs.ListedTerms;
 ghost use Rattle.e_metric.specs.MetricAnswers.{IsCertified, IsKindAnswer};

@@ -22,7 +22,7 @@ use std::alloc::{AllocError, Global};
 
 /// Whether the facts say that the two points differ, in one order or the other.
 pub fn are_apart(facts: &Facts, a: u16, b: u16) -> bool
-    ensures { result ≡ Rattle.e_literal.specs.Facts.are_apart facts.now a b }
+    ensures { result ≡ Facts.are_apart facts.now a b }
 {
     let one = Lit {
         neg: true,
@@ -227,7 +227,7 @@ pub fn rows_of_goal(
     goal: &Lit,
 ) -> Result<Vec<(RowName, Row)>, AllocError>
     requires { IsTrue (is_well_formed goal.now) }
-    ensures rows { IfOk result (λ v. AreRows (FurtherRows.rows_of_goal which facts.now fresh.now goal.now) v.items) }
+    ensures rows { IfOk result (λ v. AreRows (FurtherRows.rows_added_by_goal which facts.now fresh.now goal.now) v.items) }
     ensures limited { IfOk result (λ v. AllLimited v.items) }
 {
     let mut rows = Vec::new(alloc);
@@ -247,7 +247,7 @@ pub fn rows_of_facts(
 ) -> Result<Vec<(RowName, Row)>, AllocError>
     requires facts { IsTrue (list_all is_well_formed facts.now) }
     requires within { from ≤ length facts.now }
-    ensures rows { IfOk result (λ v. AreRows (FurtherRows.rows_of_facts which facts.now (drop from facts.now) fresh.now) v.items) }
+    ensures rows { IfOk result (λ v. AreRows (FurtherRows.rows_added_by_facts which facts.now (drop from facts.now) fresh.now) v.items) }
     ensures limited { IfOk result (λ v. AllLimited v.items) }
 {
     let mut rows = Vec::new(alloc);

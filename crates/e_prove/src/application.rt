@@ -141,7 +141,7 @@ fn filled_by_least(
 /// The stop of an application at a good choice for its blanks: what is too wide there is a match
 /// that is too wide.
 fn as_match(step_stop: StepStop) -> StepStop
-    ensures { result ≡ StopsOfSteps.as_match step_stop }
+    ensures { result ≡ StopsOfSteps.match_stop step_stop }
 {
     match step_stop {
         StepStop::TooWide { wanted, width } => {

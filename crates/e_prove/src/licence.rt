@@ -5,7 +5,7 @@ ghost use Rattle.e_literal.specs.Facts.{has, has_all, others};
 ghost use Rattle.e_literal.specs.Literal.{negation};
 ghost use Rattle.e_clause.specs.Certify.{certifies, certify_all};
 ghost use Rattle.e_clause.specs.Judged.{is_good, are_good};
-ghost use Rattle.e_deriv.specs.Steps.{instance_gives};
+ghost use Rattle.e_deriv.specs.Steps.{instance_gives, is_cited as gives_cited};
 ghost use Rattle.e_clause.specs.declared.cert.Version.TheVariants as version;
 ghost use Rattle.e_clause.specs.Versions.{is_cert_of};
 ghost use Rattle.e_licence.specs.Licences.{IsLicence};
@@ -71,7 +71,7 @@ fn to_cert(alloc: Global, context: &Context, lit: &Lit, answer: Licensed) -> Res
 
 /// Whether the cited instance gives the literal.
 pub fn is_cited(alloc: Global, by: &By, facts: &Facts) -> Result<bool, AllocError>
-    ensures { IfOk result (λ b. b ≡ Rattle.e_deriv.specs.Steps.is_cited facts.now by.now) }
+    ensures { IfOk result (λ b. b ≡ gives_cited facts.now by.now) }
 {
     match instance(alloc, by.rule, by.args.items()) {
         Ok(lits) => gives(alloc, facts, &by.lit, &lits),

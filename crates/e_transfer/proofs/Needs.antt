@@ -35,7 +35,7 @@ use Rattle.e_transfer.specs.declared.query.Strength.{Strength}
 use Rattle.e_transfer.specs.declared.query.Strength.TheVariants as strength
 use Rattle.e_transfer.specs.declared.walk.Verdict.{Verdict}
 use Rattle.e_transfer.specs.declared.walk.Verdict.TheVariants as verdict
-use Rattle.e_transfer.specs.GivenGoals.{PartIs, PartsAre, needs, Suffices, is_at, Gives, IsFitting, IsWideNeed, IsGoodPart, AreGoodParts, diagrams_hold, IsGood, IsWideTransfer}
+use Rattle.e_transfer.specs.GivenGoals.{PartIs, PartsAre, needs, Suffices, is_at, Gives, IsFitting, IsWideNeed, IsGoodPart, AreGoodParts, all_diagrams_hold, IsGood, IsWideTransfer}
 
 -- ---- the literal at a place
 
@@ -110,10 +110,10 @@ diagram_holds strength.NarrowSums facts l enough = elim enough [
   | inr (follows, narrow) ↦ or_left (is_metric l) (has facts l) follows.is_metric
 ]
 
-pub diagrams_of : (m : Strength) (facts ls : List Lit) → All (Suffices m facts) ls → diagrams_hold facts ls ≡ true
+pub diagrams_of : (m : Strength) (facts ls : List Lit) → All (Suffices m facts) ls → all_diagrams_hold facts ls ≡ true
 diagrams_of m facts [] all = refl
 diagrams_of m facts (l ∷ ls) all =
-    and_from (is_metric l || has facts l) (diagrams_hold facts ls) (diagram_holds m facts l (All-head (Suffices m facts) l ls all))
+    and_from (is_metric l || has facts l) (all_diagrams_hold facts ls) (diagram_holds m facts l (All-head (Suffices m facts) l ls all))
     (diagrams_of m facts ls (All-tail (Suffices m facts) l ls all))
 
 with_diagram : (b : Bool) (facts : List Lit) (l : Lit) (rest : List Lit) → (b || has facts (negation l)) ≡ true → has_all facts (map negation rest) ≡ true
@@ -121,12 +121,12 @@ with_diagram : (b : Bool) (facts : List Lit) (l : Lit) (rest : List Lit) → (b 
 with_diagram true facts l rest holds all = all
 with_diagram false facts l rest holds all = and_from (has facts (negation l)) (has_all facts (map negation rest)) holds all
 
-diagrams_among : (facts ls : List Lit) → diagrams_hold facts (map negation ls) ≡ true
+diagrams_among : (facts ls : List Lit) → all_diagrams_hold facts (map negation ls) ≡ true
     → has_all facts (map negation (filter (λ l. not (is_metric l)) ls)) ≡ true
 diagrams_among facts [] all = refl
 diagrams_among facts (l ∷ ls) all =
     let a = is_metric (negation l) || has facts (negation l) in
-    let b = diagrams_hold facts (map negation ls) in
+    let b = all_diagrams_hold facts (map negation ls) in
     with_diagram (is_metric l) facts l (filter (λ k. not (is_metric k)) ls) (and_left a b all) (diagrams_among facts ls (and_right a b all))
 
 -- ---- a wide need
@@ -141,7 +141,7 @@ negated_at (l ∷ ls) (suc k) need less is =
     (found.0, (suc at.0, (let below = at.1 in omega (arith, below)), at.2), found.2)
 
 pub wide_transfer : (scope : Scope) (facts lits : List Lit) (goal : Lit) (rule w : ℕ) (args : List Obj) → is_transfer rule ≡ true → list_all (is_in_scope scope) args ≡ true
-    → Inst rule args ≡ Some lits → has lits goal ≡ true → diagrams_hold facts (needs lits goal) ≡ true → IsWideNeed facts (needs lits goal) w
+    → Inst rule args ≡ Some lits → has lits goal ≡ true → all_diagrams_hold facts (needs lits goal) ≡ true → IsWideNeed facts (needs lits goal) w
     → IsWideTransfer scope facts goal w
 wide_transfer scope facts lits goal rule w args transfer over instance one hold wide =
     let at = wide.is_one in
@@ -197,10 +197,10 @@ refused_not_one m scope facts goal rule args lits instance not_one place gives =
     true≢false (sym (one_at gives.lits place goal gives.here) ∙ ap (λ ls. has ls goal) (same_lits rule args gives.lits lits gives.instance instance) ∙ not_one)
 
 pub refused_diagram : (m : Strength) (scope : Scope) (facts : List Lit) (goal : Lit) (rule : ℕ) (args : List Obj) (lits : List Lit) → Inst rule args ≡ Some lits
-    → diagrams_hold facts (needs lits goal) ≡ false → (place : ℕ) → Gives m scope facts goal rule place args → ⊥
+    → all_diagrams_hold facts (needs lits goal) ≡ false → (place : ℕ) → Gives m scope facts goal rule place args → ⊥
 refused_diagram m scope facts goal rule args lits instance fails place gives =
     true≢false (sym (diagrams_of m facts (needs gives.lits goal) gives.suffice)
-    ∙ ap (λ ls. diagrams_hold facts (needs ls goal)) (same_lits rule args gives.lits lits gives.instance instance) ∙ fails)
+    ∙ ap (λ ls. all_diagrams_hold facts (needs ls goal)) (same_lits rule args gives.lits lits gives.instance instance) ∙ fails)
 
 -- ---- the needs, literal by literal
 

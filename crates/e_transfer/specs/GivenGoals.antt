@@ -107,8 +107,8 @@ PartsAre m scope facts ls verdict.No = All (Suffices m facts) ls → ⊥
 PartsAre m scope facts ls (verdict.TooWide w) = (m ≡ strength.Sums) × IsWideNeed facts ls w
 
 -- the diagram literals are facts
-abbrev pub diagrams_hold : List Lit → List Lit → Bool
-diagrams_hold facts ls = list_all (λ l. is_metric l || has facts l) ls
+abbrev pub all_diagrams_hold : List Lit → List Lit → Bool
+all_diagrams_hold facts ls = list_all (λ l. is_metric l || has facts l) ls
 
 -- ---- whether instances give the goal
 

@@ -54,7 +54,7 @@ pub fn areas_of(alloc: Global, facts: &Facts) -> Result<Vec<Term>, AllocError>
 
 /// Whether the term is one of these.
 pub fn is_one_of(areas: &[Term], term: Term) -> bool
-    ensures { result ≡ Areas.is_one_of areas.now term }
+    ensures { result ≡ Areas.is_among_areas areas.now term }
 {
     let term = canonical(term);
     areas.iter().any(|area| term == *area)

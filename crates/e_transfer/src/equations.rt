@@ -56,13 +56,13 @@ fn point(at: u16, number: u16) -> Equation
 }
 
 fn line(row: &Row, at: u16, number: u16) -> Equation
-    ensures { result ≡ bound.Is (Equations.line (row_of row.now) at) number }
+    ensures { result ≡ bound.Is (Equations.line_variable (row_of row.now) at) number }
 {
     Equation::Is(row.points as usize + at as usize, number)
 }
 
 fn circle(row: &Row, at: u16, number: u16) -> Equation
-    ensures { result ≡ bound.Is (Equations.circle (row_of row.now) at) number }
+    ensures { result ≡ bound.Is (Equations.circle_variable (row_of row.now) at) number }
 {
     Equation::Is(
         row.points as usize + row.lines as usize + at as usize,
@@ -78,7 +78,7 @@ pub fn equations_of_atom(
     shape: &Shape,
     goal: &Atom,
 ) -> Result<Option<Items<Equation>>, AllocError>
-    ensures { IfOk result (λ o. o ≡ Equations.equations_of_atom (row_of row.now) (atom_of shape.now) goal.now) }
+    ensures { IfOk result (λ o. o ≡ Equations.equations_from_atom (row_of row.now) (atom_of shape.now) goal.now) }
 {
     let equations = match (shape, goal) {
         (Shape::On(x, l), Atom::On(a, b)) => two(alloc, point(*x, *a), line(row, *l, *b)),
@@ -115,7 +115,7 @@ pub fn equations_of_term(
     term: Term,
     goal: Term,
 ) -> Result<Option<Items<Equation>>, AllocError>
-    ensures { IfOk result (λ o. o ≡ Equations.equations_of_term term goal) }
+    ensures { IfOk result (λ o. o ≡ Equations.equations_from_term term goal) }
 {
     let equations = match (term, goal) {
         (Term::Seg(x, y), Term::Seg(a, b)) => two(alloc, point(x, a), point(y, b))?,
@@ -141,7 +141,7 @@ pub fn equations_of_terms(
     term: Term,
     other: Term,
 ) -> Result<Option<Items<Equation>>, AllocError>
-    ensures { IfOk result (λ o. o ≡ Equations.equations_of_terms term other) }
+    ensures { IfOk result (λ o. o ≡ Equations.equations_from_terms term other) }
 {
     let equations = match (term, other) {
         (Term::Seg(x, y), Term::Seg(a, b)) => two(alloc, same(x, a), same(y, b))?,

@@ -97,7 +97,7 @@ fn parts_of(alloc: Global, query: &Query, needs: &[Lit]) -> Result<Verdict<Items
 
 /// Whether the diagram literals are facts.
 fn diagrams_hold(facts: &Facts, needs: &[Lit]) -> bool
-    ensures { result ≡ GivenGoals.diagrams_hold facts.now needs.now }
+    ensures { result ≡ GivenGoals.all_diagrams_hold facts.now needs.now }
 {
     needs
         .iter()

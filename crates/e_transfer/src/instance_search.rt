@@ -10,7 +10,7 @@ ghost use Rattle.e_transfer.specs.declared.query.Strength.TheVariants as strengt
 ghost use Rattle.e_literal.specs.Rename.{term_at};
 ghost use Rattle.e_clause.specs.Instance;
 ghost use Rattle.e_transfer.specs.Areas;
-ghost use Rattle.e_transfer.specs.Marks.{is_area};
+ghost use Rattle.e_transfer.specs.Marks.{is_area_term};
 ghost use Rattle.e_transfer.specs.inner.PartsOfChoices;
 ghost use Rattle.e_transfer.specs.inner.SearchedPlaces.{Wanted, NoneFrom, Shown};
 
@@ -61,7 +61,7 @@ fn arguments(
     positions: &[usize],
     part: &[u16],
 ) -> Result<Items<Obj>, AllocError>
-    ensures { IfOk result (λ a. a ≡ PartsOfChoices.arguments (row_of row.now) positions.now part.now) }
+    ensures { IfOk result (λ a. a ≡ PartsOfChoices.chosen_arguments (row_of row.now) positions.now part.now) }
 {
     let mut args = Vec::with_capacity(alloc, positions.len())?;
     for v in 0..positions.len() {
@@ -147,7 +147,7 @@ fn area_at(args: &[Obj], area: Term) -> Term
 /// Whether no need holds that says that the area differs from another: there are values with which
 /// all facts are true, and no fact names the area.
 fn is_free(query: &Query, area: Term) -> bool
-    requires { IsTrue (is_area area) }
+    requires { IsTrue (is_area_term area) }
     ensures { result ≡ true → Areas.IsFree query.now.facts.now area }
 {
     if is_degenerate(area) || is_one_of(query.areas, area) {
@@ -162,7 +162,7 @@ impl<'a> InstanceSearch<'a> {
     /// is.
     fn has_free_area(&self, row: &Row, part: &[u16], args: &[Obj], at: usize) -> bool
         requires of_table { slice_get table self.now.rule ≡ Some (row_of row.now) }
-        requires arguments { args.now ≡ PartsOfChoices.arguments (row_of row.now) self.now.plan.now.positions.items part.now }
+        requires arguments { args.now ≡ PartsOfChoices.chosen_arguments (row_of row.now) self.now.plan.now.positions.items part.now }
         ensures { result ≡ true → NoneFrom self.now.query.strength self.now.query.scope self.now.query.facts.now self.now.query.goal.now self.now.rule self.now.place self.now.plan.now part.now }
     {
         if at >= clause_len(row) || at == self.place || is_equation(self.query.goal) {
@@ -189,7 +189,7 @@ impl<'a> InstanceSearch<'a> {
         j: usize,
     ) -> Result<bool, AllocError>
         requires of_table { slice_get table self.now.rule ≡ Some (row_of row.now) }
-        requires arguments { args.now ≡ PartsOfChoices.arguments (row_of row.now) self.now.plan.now.positions.items part.now }
+        requires arguments { args.now ≡ PartsOfChoices.chosen_arguments (row_of row.now) self.now.plan.now.positions.items part.now }
         requires in_clause { j < length (clause_of (row_of row.now)) }
         ensures { IfOk result (λ b. b ≡ true → NoneFrom self.now.query.strength self.now.query.scope self.now.query.facts.now self.now.query.goal.now self.now.rule self.now.place self.now.plan.now part.now) }
     {
@@ -209,7 +209,7 @@ impl<'a> InstanceSearch<'a> {
         args: &[Obj],
     ) -> Result<bool, AllocError>
         requires of_table { slice_get table self.now.rule ≡ Some (row_of row.now) }
-        requires arguments { args.now ≡ PartsOfChoices.arguments (row_of row.now) self.now.plan.now.positions.items part.now }
+        requires arguments { args.now ≡ PartsOfChoices.chosen_arguments (row_of row.now) self.now.plan.now.positions.items part.now }
         ensures { IfOk result (λ b. b ≡ false → NoneFrom self.now.query.strength self.now.query.scope self.now.query.facts.now self.now.query.goal.now self.now.rule self.now.place self.now.plan.now part.now) }
     {
         for j in 0..clause_len(row) {

@@ -24,7 +24,7 @@ pub const MARKS: usize = 28;
 
 /// The number of the atom's relation.
 fn relation(atom: &Atom) -> usize
-    ensures is { result ≡ Marks.relation atom.now }
+    ensures is { result ≡ Marks.relation_number atom.now }
     ensures below { result < 14 }
 {
     match atom {
@@ -47,7 +47,7 @@ fn relation(atom: &Atom) -> usize
 
 /// The number of the relation of an atom over variables.
 fn relation_of(shape: &Shape) -> usize
-    ensures is { result ≡ Marks.relation (atom_of shape.now) }
+    ensures is { result ≡ Marks.relation_number (atom_of shape.now) }
     ensures below { result < 14 }
 {
     match shape {
@@ -71,7 +71,7 @@ fn relation_of(shape: &Shape) -> usize
 /// The mark of a relation, or of its negation.
 fn mark(relation: usize, neg: bool) -> usize
     requires { relation < 14 }
-    ensures is { result ≡ Marks.mark relation neg }
+    ensures is { result ≡ Marks.mark_number relation neg }
     ensures below { result < 28 }
 {
     if neg { 2 * relation + 1 } else { 2 * relation }
@@ -79,7 +79,7 @@ fn mark(relation: usize, neg: bool) -> usize
 
 /// The mark of the literal's relation and sign.
 fn mark_of(lit: &Lit) -> usize
-    ensures is { result ≡ Marks.mark_of lit.now }
+    ensures is { result ≡ Marks.lit_mark lit.now }
     ensures below { result < 28 }
 {
     mark(relation(&lit.atom), lit.neg)
@@ -87,7 +87,7 @@ fn mark_of(lit: &Lit) -> usize
 
 /// Whether the literal says that two sums are equal.
 pub fn is_equation(lit: &Lit) -> bool
-    ensures { result ≡ false → Marks.mark_of lit.now ≢ Marks.mark 12 false }
+    ensures { result ≡ false → Marks.lit_mark lit.now ≢ Marks.mark_number 12 false }
 {
     mark_of(lit) == 24
 }
@@ -105,13 +105,13 @@ pub fn marks_of(facts: &Facts) -> [bool; MARKS]
 
 /// Whether the term is an area.
 pub fn is_area(term: Term) -> bool
-    ensures { result ≡ Marks.is_area term }
+    ensures { result ≡ Marks.is_area_term term }
 {
     matches!(term, Term::Area(_, _, _))
 }
 
 fn are_areas(sum: &[Mono]) -> bool
-    ensures { result ≡ Marks.are_areas sum.now }
+    ensures { result ≡ Marks.all_are_areas sum.now }
 {
     sum.iter().all(|m| is_area(m.term))
 }
@@ -119,7 +119,7 @@ fn are_areas(sum: &[Mono]) -> bool
 /// Whether the literal says that areas differ, or that one is less: it is false where all areas are
 /// 0.
 fn is_strict_of_areas(neg: bool, shape: &Shape) -> bool
-    ensures { result ≡ Marks.is_strict_of_areas neg (atom_of shape.now) }
+    ensures { result ≡ Marks.is_strict_on_areas neg (atom_of shape.now) }
 {
     match (neg, shape) {
         (true, Shape::MagEq(x, y)) | (false, Shape::MagLt(x, y)) => are_areas(x) && are_areas(y),

@@ -17,7 +17,7 @@ pub type MatchList = Vec<Items<Equation>>;
 
 /// The orders in which a term may be written.
 fn orders(alloc: Global, term: Term) -> Result<Vec<Term>, AllocError>
-    ensures { IfOk result (λ v. v.items ≡ Matches.orders term) }
+    ensures { IfOk result (λ v. v.items ≡ Matches.term_orders term) }
 {
     match term {
         Term::Seg(a, b) => Vec::from_slice(alloc, &[Term::Seg(a, b), Term::Seg(b, a)]),
@@ -98,7 +98,7 @@ fn add_cancellations(
 
 /// The ways in which two sums may cancel: the first term of the one is a term of the other.
 fn cancellations(alloc: Global, x: &[Mono], y: &[Mono]) -> Result<MatchList, AllocError>
-    ensures { IfOk result (λ v. v.items ≡ Matches.cancellations x.now y.now) }
+    ensures { IfOk result (λ v. v.items ≡ Matches.cancelling_matches x.now y.now) }
 {
     match x {
         [first, ..] if first.coeff != 0 => cancellations_with(alloc, first.term, y),
@@ -142,7 +142,7 @@ fn joined(
 
 /// Each match of the first with each of the second.
 fn product(alloc: Global, first: &MatchList, second: &MatchList) -> Result<MatchList, AllocError>
-    ensures { IfOk result (λ v. v.items ≡ Matches.product first.now.items second.now.items) }
+    ensures { IfOk result (λ v. v.items ≡ Matches.match_product first.now.items second.now.items) }
 {
     let mut matches = Vec::new(alloc);
     for a in first {

@@ -25,7 +25,7 @@ pub enum Filling {
 
 /// What a term has that is not listed.
 fn default_value(filling: Filling, term: Term) -> u128
-    ensures { result ≡ Models.default_value filling term }
+    ensures { result ≡ Models.filling_value filling term }
 {
     match filling {
         Filling::Ones | Filling::Flat => 1,
@@ -34,7 +34,7 @@ fn default_value(filling: Filling, term: Term) -> u128
 }
 
 fn spread_value(term: Term) -> u128
-    ensures { result ≡ Models.spread_value term }
+    ensures { result ≡ Models.spread_number term }
 {
     match term {
         Term::Seg(a, b) => 1 + u128::from(a) + 64 * u128::from(b),
@@ -46,7 +46,7 @@ fn spread_value(term: Term) -> u128
 
 /// The value that is listed, or else the default one.
 fn listed_value(filling: Filling, values: &[(Term, u128)], term: Term) -> u128
-    ensures { result ≡ Models.listed_value filling values.now term }
+    ensures { result ≡ Models.value_in_list filling values.now term }
 {
     match values {
         [] => default_value(filling, term),
@@ -62,14 +62,14 @@ fn listed_value(filling: Filling, values: &[(Term, u128)], term: Term) -> u128
 
 /// Whether the term is an area, and all areas are to be 0.
 fn is_flat(filling: Filling, term: Term) -> bool
-    ensures { result ≡ Models.is_flat filling term }
+    ensures { result ≡ Models.is_flattened filling term }
 {
     matches!((filling, term), (Filling::Flat, Term::Area(_, _, _)))
 }
 
 /// The value of a term that is written the one way.
 fn canonical_value(filling: Filling, values: &[(Term, u128)], term: Term) -> u128
-    ensures { result ≡ Models.canonical_value filling values.now term }
+    ensures { result ≡ Models.value_when_canonical filling values.now term }
 {
     if is_flat(filling, term) {
         0

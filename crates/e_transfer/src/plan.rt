@@ -5,7 +5,7 @@ ghost use Rattle.std.specs.List.{list_all};
 ghost use Rattle.e_clause.specs.Views.{atom_of, lit_of, row_of};
 ghost use Rattle.e_transfer.specs.inner.Equations;
 ghost use Rattle.e_transfer.specs.inner.PartsOfChoices;
-ghost use Rattle.e_transfer.specs.inner.PartsOfChoices.{last_of_sum, last_of_term, last_of_atom};
+ghost use Rattle.e_transfer.specs.inner.PartsOfChoices.{sum_last, term_last, atom_last};
 ghost use Rattle.e_transfer.specs.inner.Bindings;
 ghost use Rattle.e_transfer.specs.inner.Plans;
 ghost use Rattle.e_transfer.specs.inner.Plans.{total_of, has, Grows, RepresentativesAre, OrderIs, PositionsAre, PlanIs};
@@ -133,7 +133,7 @@ fn positions_of(
 
 /// The sort of a variable: points come first, then lines, then circles.
 pub fn sort_of(row: &Row, variable: usize) -> Sort
-    ensures { result ≡ PartsOfChoices.sort_of (row_of row.now) variable }
+    ensures { result ≡ PartsOfChoices.variable_sort (row_of row.now) variable }
 {
     let points = row.points as usize;
     let lines = row.lines as usize;
@@ -148,7 +148,7 @@ pub fn sort_of(row: &Row, variable: usize) -> Sort
 
 /// The numbers for a variable: the known one, if an object has it, or those of all objects.
 fn span_for(count: u16, binding: Binding) -> Span
-    ensures { result ≡ Plans.span_for count binding }
+    ensures { result ≡ Plans.variable_span count binding }
 {
     match binding {
         Binding::Is(number) if number < count => Span {
@@ -167,7 +167,7 @@ fn spans_of(
     bindings: &[Binding],
     order: &[usize],
 ) -> Result<Vec<Span>, AllocError>
-    ensures { IfOk result (λ v. v.items ≡ Plans.spans_of (row_of row.now) scope bindings.now order.now) }
+    ensures { IfOk result (λ v. v.items ≡ Plans.plan_spans (row_of row.now) scope bindings.now order.now) }
 {
     let mut spans = Vec::new(alloc);
     for v in order {
@@ -194,13 +194,13 @@ fn point(positions: &[usize], at: u16) -> usize
 }
 
 fn line(row: &Row, positions: &[usize], at: u16) -> usize
-    ensures { result ≡ slice_index positions.now (Equations.line (row_of row.now) at) }
+    ensures { result ≡ slice_index positions.now (Equations.line_variable (row_of row.now) at) }
 {
     place(positions, row.points as usize + at as usize)
 }
 
 fn circle(row: &Row, positions: &[usize], at: u16) -> usize
-    ensures { result ≡ slice_index positions.now (Equations.circle (row_of row.now) at) }
+    ensures { result ≡ slice_index positions.now (Equations.circle_variable (row_of row.now) at) }
 {
     place(
         positions,
@@ -210,7 +210,7 @@ fn circle(row: &Row, positions: &[usize], at: u16) -> usize
 
 /// The last of the places of a term's variables.
 pub fn last_of_term(positions: &[usize], term: Term) -> usize
-    ensures { result ≡ PartsOfChoices.last_of_term positions.now term }
+    ensures { result ≡ PartsOfChoices.term_last positions.now term }
 {
     match term {
         Term::Seg(x, y) => point(positions, x).max(point(positions, y)),
@@ -222,7 +222,7 @@ pub fn last_of_term(positions: &[usize], term: Term) -> usize
 }
 
 fn last_of_sum(positions: &[usize], sum: &[Mono]) -> usize
-    ensures { result ≡ PartsOfChoices.last_of_sum positions.now sum.now }
+    ensures { result ≡ PartsOfChoices.sum_last positions.now sum.now }
 {
     match sum {
         [] => 0,
@@ -232,7 +232,7 @@ fn last_of_sum(positions: &[usize], sum: &[Mono]) -> usize
 
 /// The last of the places of a shape's variables.
 fn last_of_shape(row: &Row, positions: &[usize], shape: &Shape) -> usize
-    ensures { result ≡ last_of_atom (row_of row.now) positions.now (atom_of shape.now) }
+    ensures { result ≡ atom_last (row_of row.now) positions.now (atom_of shape.now) }
 {
     match shape {
         Shape::On(x, l) => point(positions, *x).max(line(row, positions, *l)),
@@ -260,7 +260,7 @@ fn last_of_shape(row: &Row, positions: &[usize], shape: &Shape) -> usize
 }
 
 fn last_of_pattern(row: &Row, positions: &[usize], pattern: &Pattern) -> usize
-    ensures { result ≡ last_of_atom (row_of row.now) positions.now (lit_of pattern.now).atom }
+    ensures { result ≡ atom_last (row_of row.now) positions.now (lit_of pattern.now).atom }
 {
     match pattern {
         Pattern::Is(shape) | Pattern::Not(shape) => last_of_shape(row, positions, shape),
@@ -273,7 +273,7 @@ fn add_ready_at(
     positions: &[usize],
     patterns: &[Pattern],
 ) -> Result<(), AllocError>
-    ensures { OnOk result (ready_at.new.items ≡ ready_at.old.items ++ map (λ l. last_of_atom (row_of row.now) positions.now l.atom) (map lit_of patterns.now)) }
+    ensures { OnOk result (ready_at.new.items ≡ ready_at.old.items ++ map (λ l. atom_last (row_of row.now) positions.now l.atom) (map lit_of patterns.now)) }
 {
     for p in patterns {
         ready_at.push(last_of_pattern(row, positions, p))?;

@@ -22,7 +22,7 @@ pub enum Binding {
 
 /// The binding of a variable; one that has none is free.
 pub fn binding_of(bindings: &[Binding], variable: usize) -> Binding
-    ensures { result ≡ Bindings.binding_of bindings.now variable }
+    ensures { result ≡ Bindings.binding_at bindings.now variable }
 {
     match bindings.get(variable) {
         Some(binding) => *binding,

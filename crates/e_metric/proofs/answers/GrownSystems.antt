@@ -9,9 +9,9 @@ use Rattle.e_clause.specs.System.{NamedRow, rows_of_term, system}
 use Rattle.e_fraction.specs.declared.row.Row.{Row as GivenRow}
 use Rattle.e_metric.specs.declared.solved_system.SolvedSystem.{SolvedSystem}
 use Rattle.e_metric.specs.AgreeingRows.{AreRows}
-use Rattle.e_metric.specs.inner.FurtherRows.{fresh_terms, rows_of_facts, joining}
+use Rattle.e_metric.specs.inner.FurtherRows.{terms_added, rows_added_by_facts, joining}
 use Rattle.e_metric.specs.SolvedSystems.{AreNamed, IsSolvedSystem, AreTogether}
-use Rattle.e_metric.specs.ListedTerms.{terms_of_kind}
+use Rattle.e_metric.specs.ListedTerms.{distinct_terms}
 use Rattle.e_metric.specs.RowOrder.{AreReordered}
 use Rattle.e_metric.proofs.rows.Forms.{none_more}
 use Rattle.e_metric.proofs.rows.RowsOfMoreFacts.{terms_at, same_raised_at, with_joining}
@@ -28,9 +28,9 @@ module _ (which : Kind) (facts : List Lit) (from : ℕ) (g : SolvedSystem) (solv
   abbrev all : List NamedRow
   all = solved_system.rows ++ joining which facts from
 
-  same_terms : flat_map (rows_of_term facts) (terms_of_kind which (take from facts) None) ≡ flat_map (rows_of_term (take from facts)) (terms_of_kind which (take from facts) None)
+  same_terms : flat_map (rows_of_term facts) (distinct_terms which (take from facts) None) ≡ flat_map (rows_of_term (take from facts)) (distinct_terms which (take from facts) None)
   same_terms =
-      same_raised_at which facts from (terms_of_kind which (take from facts) None)
+      same_raised_at which facts from (distinct_terms which (take from facts) None)
       (subst (λ ts. length (flat_map (rows_of_term facts) ts) ≡ length (flat_map (rows_of_term (take from facts)) ts)) solved_system.terms (sym raised ∙ solved_system.raised))
 
   order : AreReordered all (system which facts None)
@@ -38,17 +38,17 @@ module _ (which : Kind) (facts : List Lit) (from : ℕ) (g : SolvedSystem) (solv
       (reordered_more solved_system.rows (system which (take from facts) None) (joining which facts from) solved_system.order) (with_joining which facts from same_terms)
 
   -- the terms that are none of those that are kept
-  fresh_is : (fresh : List Term) → fresh ≡ fresh_terms which g.terms.items (drop from facts) → fresh ≡ fresh_terms which (terms_of_kind which (take from facts) None) (drop from facts)
-  fresh_is fresh e = e ∙ ap (λ ts. fresh_terms which ts (drop from facts)) solved_system.terms
+  fresh_is : (fresh : List Term) → fresh ≡ terms_added which g.terms.items (drop from facts) → fresh ≡ terms_added which (distinct_terms which (take from facts) None) (drop from facts)
+  fresh_is fresh e = e ∙ ap (λ ts. terms_added which ts (drop from facts)) solved_system.terms
 
-  pub joined_rows : (fresh : List Term) → fresh ≡ fresh_terms which g.terms.items (drop from facts) → rows_of_facts which facts (drop from facts) fresh ≡ joining which facts from
-  joined_rows fresh e = ap (rows_of_facts which facts (drop from facts)) (fresh_is fresh e)
+  pub joined_rows : (fresh : List Term) → fresh ≡ terms_added which g.terms.items (drop from facts) → rows_added_by_facts which facts (drop from facts) fresh ≡ joining which facts from
+  joined_rows fresh e = ap (rows_added_by_facts which facts (drop from facts)) (fresh_is fresh e)
 
-  pub joined_terms : (fresh : List Term) → fresh ≡ fresh_terms which g.terms.items (drop from facts) → g.terms.items ++ fresh ≡ terms_of_kind which facts None
+  pub joined_terms : (fresh : List Term) → fresh ≡ terms_added which g.terms.items (drop from facts) → g.terms.items ++ fresh ≡ distinct_terms which facts None
   joined_terms fresh e = ap₂ {A = List Term} {B = List Term} (λ x y. x ++ y) solved_system.terms (fresh_is fresh e) ∙ sym (terms_at which facts from)
 
   -- where the facts from the place on bring nothing, the solved system is that of all
-  pub unchanged : (fresh : List Term) → fresh ≡ fresh_terms which g.terms.items (drop from facts) → fresh ≡ [] → joining which facts from ≡ [] → IsSolvedSystem which facts g
+  pub unchanged : (fresh : List Term) → fresh ≡ terms_added which g.terms.items (drop from facts) → fresh ≡ [] → joining which facts from ≡ [] → IsSolvedSystem which facts g
   unchanged fresh e n j = record {
     rows = solved_system.rows;
     order = subst (λ v. AreReordered v (system which facts None)) (ap (λ v. solved_system.rows ++ v) j ∙ none_more solved_system.rows) order;
@@ -68,7 +68,7 @@ module _ (which : Kind) (facts : List Lit) (from : ℕ) (g : SolvedSystem) (solv
 
 -- the solved system of rows and terms that are put together
 pub joined_solved : (which : Kind) (facts : List Lit) (g : SolvedSystem) (names : List RowName) (rows : List GivenRow) (fresh : List Term) (n : SolvedSystem) → AreTogether which facts None g names rows
-    → g.terms.items ++ fresh ≡ terms_of_kind which facts None → n.names.items ≡ g.names.items ++ names → n.rows.items ≡ g.rows.items ++ rows → n.terms.items ≡ g.terms.items ++ fresh
+    → g.terms.items ++ fresh ≡ distinct_terms which facts None → n.names.items ≡ g.names.items ++ names → n.rows.items ≡ g.rows.items ++ rows → n.terms.items ≡ g.terms.items ++ fresh
     → n.settled ≡ g.settled ++ rows → n.raised ≡ length (flat_map (rows_of_term facts) n.terms.items) → IsSolvedSystem which facts n
 joined_solved which facts g names rows fresh n t e names_are rows_are terms_are settled raised = record {
   rows = t.all;

@@ -27,10 +27,10 @@ use Rattle.e_simplex.specs.Answer.{assigned, AreValuesOf, IsAbsurdity}
 use Rattle.e_simplex.specs.Naming.{place_of, IsIn, FormNamed, AllNamed}
 use Rattle.e_metric.specs.declared.solved_system.SolvedSystem.{SolvedSystem}
 use Rattle.e_metric.specs.AgreeingRows.{AreRows, AllLimited}
-use Rattle.e_metric.specs.inner.Certificate.{sums_of}
-use Rattle.e_metric.specs.inner.FurtherRows.{fresh_terms, rows_of_goal, further}
+use Rattle.e_metric.specs.inner.Certificate.{certificate_sums}
+use Rattle.e_metric.specs.inner.FurtherRows.{terms_added, rows_added_by_goal, further}
 use Rattle.e_metric.specs.SolvedSystems.{AreNamed, IsSolvedSystem, AreTogether}
-use Rattle.e_metric.specs.ListedTerms.{listed, terms_of_kind}
+use Rattle.e_metric.specs.ListedTerms.{listed, distinct_terms}
 use Rattle.e_metric.specs.MetricAnswers.{IsCertified, IsTooWide}
 use Rattle.e_metric.proofs.rows.GoalRows.{with_further}
 use Rattle.e_metric.proofs.rows.RowOrder.{one_order, reordered_more}
@@ -83,8 +83,8 @@ module _ (which : Kind) (facts : List Lit) (wanted : Option Lit) (ns : List Name
   pub wide_named : (w : ℕ) → w ≡ width (rows_of_system which facts wanted) → IsWide (all_seen rows) → IsTooWide facts wanted w
   wide_named = KindAnswers.too_wide which facts wanted ns order named.pairs named.are named.limited good few good_wanted rows named.rows_are
 
-  pub refuted_named : (terms : List Term) (a : Absurdity) (sums : Sums) → terms ≡ listed (terms_of_kind which facts wanted) (Right ∷ [])
-      → IsAbsurdity (all_seen rows) a → sums ≡ sums_of names rows terms a → IsCertified facts wanted (record { sums = sums })
+  pub refuted_named : (terms : List Term) (a : Absurdity) (sums : Sums) → terms ≡ listed (distinct_terms which facts wanted) (Right ∷ [])
+      → IsAbsurdity (all_seen rows) a → sums ≡ certificate_sums names rows terms a → IsCertified facts wanted (record { sums = sums })
   refuted_named terms a sums t h e = KindAnswers.refuted which facts wanted ns order named.pairs named.are named.limited good few good_wanted rows named.rows_are names terms a sums named.names_are t h e
 
 -- ---- values, and those of more terms
@@ -168,10 +168,10 @@ module _ (which : Kind) (facts : List Lit) (wanted : Option Lit) (g : SolvedSyst
   )
 
   pub refuted_together : (all : List RowName) (rs : List GivenRow) (terms : List Term) (a : Absurdity) (sums : Sums) → all ≡ g.names.items ++ names → rs ≡ g.rows.items ++ rows
-      → terms ≡ listed (terms_of_kind which facts wanted) (Right ∷ []) → IsAbsurdity (all_seen both) a → sums ≡ sums_of all rs terms a → IsCertified facts wanted (record { sums = sums })
+      → terms ≡ listed (distinct_terms which facts wanted) (Right ∷ []) → IsAbsurdity (all_seen both) a → sums ≡ certificate_sums all rs terms a → IsCertified facts wanted (record { sums = sums })
   refuted_together all rs terms a sums n r same h e =
       refuted_named which facts wanted t.all t.order (g.names.items ++ names) both named_both good few good_wanted terms a sums same h
-      (e ∙ ap₂ {A = List RowName} {B = List GivenRow} (λ x y. sums_of x y terms a) n (same_rows rs r))
+      (e ∙ ap₂ {A = List RowName} {B = List GivenRow} (λ x y. certificate_sums x y terms a) n (same_rows rs r))
 
   -- the values of the kept rows, and those of more terms, solve the system where they solve the rows after them
   pub false_already : (values fresh : List (Term × ℕ)) (vs : List (Term × ℕ)) → vs ≡ values ++ fresh → AreValuesOf (all_seen g.settled) values → Satisfy (assigned vs) (all_seen rows)
@@ -184,8 +184,8 @@ module _ (which : Kind) (facts : List Lit) (wanted : Option Lit) (g : SolvedSyst
 -- ---- the rows of a goal
 
 -- where its terms are set beside those that are kept
-pub asked : (which : Kind) (facts : List Lit) (l : Lit) (g : SolvedSystem) (fresh : List Term) → IsSolvedSystem which facts g → fresh ≡ fresh_terms which g.terms.items (l ∷ []) → rows_of_goal which facts fresh l ≡ further which facts l
-asked which facts l g fresh solved_system e = ap (λ ts. rows_of_goal which facts ts l) (e ∙ ap (λ ts. fresh_terms which ts (l ∷ [])) solved_system.terms)
+pub asked : (which : Kind) (facts : List Lit) (l : Lit) (g : SolvedSystem) (fresh : List Term) → IsSolvedSystem which facts g → fresh ≡ terms_added which g.terms.items (l ∷ []) → rows_added_by_goal which facts fresh l ≡ further which facts l
+asked which facts l g fresh solved_system e = ap (λ ts. rows_added_by_goal which facts ts l) (e ∙ ap (λ ts. terms_added which ts (l ∷ [])) solved_system.terms)
 
 pub goal_together : (which : Kind) (facts : List Lit) (l : Lit) (g : SolvedSystem) (names : List RowName) (rows : List GivenRow) → IsSolvedSystem which facts g → AreNamed (further which facts l) names rows → AreTogether which facts (Some l) g names rows
 goal_together which facts l g names rows solved_system more = record {

@@ -24,7 +24,7 @@ use Rattle.e_literal.proofs.Terms.{term_eq_is, term_eq_same, equal_terms, term_e
 use Rattle.e_literal.proofs.CanonicalTerms.{canonical_twice}
 use Rattle.e_literal.proofs.Valued.{is_normal, normal_coefficient}
 use Rattle.e_literal.proofs.Booleans.{and_left, and_right}
-use Rattle.e_metric.specs.inner.Differences.{difference, occurs_in, is_passed, with_term, with_terms, joined}
+use Rattle.e_metric.specs.inner.Differences.{coefficient_in_difference, occurs_in, is_passed, with_term, with_terms, difference_form}
 use Rattle.e_metric.specs.AgreeingRows.{has_no_zero}
 
 -- ---- lists
@@ -52,7 +52,7 @@ if_normal t z = cond (is_normal t) z (pos 0)
 
 -- a summand has the coefficient of its term in x - y, which is not 0, and its term is normal
 pub record IsSummand (x y : List Mono) (p : ℤ × Term) : Type 0 where
-  pub coefficient : p.0 ≡ difference x y p.1
+  pub coefficient : p.0 ≡ coefficient_in_difference x y p.1
   pub some : p.0 ≢ pos 0
   pub normal : is_normal p.1 ≡ true
 
@@ -87,20 +87,20 @@ distinct_push (p ∷ ps) n t h k =
 joined_term : (x y : List Mono) (form : Summands) (t : Term) → canonical t ≡ t → IsJoined x y form → IsJoined x y (with_term x y form t)
 joined_term x y form t c h = by (is_passed x y form t) refl
   where
-    by : (b : Bool) → is_passed x y form t ≡ b → IsJoined x y (cond b form (form ++ (difference x y t, t) ∷ []))
+    by : (b : Bool) → is_passed x y form t ≡ b → IsJoined x y (cond b form (form ++ (coefficient_in_difference x y t, t) ∷ []))
     by true e = h
-    by false e = (let w = or_parts (is_degenerate t) (occurs_in form t || int_eq (difference x y t) (pos 0)) e in
-        let v = or_parts (occurs_in form t) (int_eq (difference x y t) (pos 0)) w.1 in
+    by false e = (let w = or_parts (is_degenerate t) (occurs_in form t || int_eq (coefficient_in_difference x y t) (pos 0)) e in
+        let v = or_parts (occurs_in form t) (int_eq (coefficient_in_difference x y t) (pos 0)) w.1 in
         record {
-          distinct = distinct_push form (difference x y t) t h.distinct v.0;
-          are_summands = summands_push x y form (difference x y t, t) h.are_summands (record { coefficient = refl; some = not_zero (difference x y t) v.1; normal = is_normal_of t c w.0 });
+          distinct = distinct_push form (coefficient_in_difference x y t) t h.distinct v.0;
+          are_summands = summands_push x y form (coefficient_in_difference x y t, t) h.are_summands (record { coefficient = refl; some = not_zero (coefficient_in_difference x y t) v.1; normal = is_normal_of t c w.0 });
         })
 
 joined_terms : (x y : List Mono) (form : Summands) (ms : List Mono) → IsJoined x y form → IsJoined x y (with_terms x y form ms)
 joined_terms x y form [] h = h
 joined_terms x y form (m ∷ ms) h = joined_terms x y (with_term x y form (canonical m.term)) ms (joined_term x y form (canonical m.term) (canonical_twice m.term) h)
 
-pub is_joined : (x y : List Mono) → IsJoined x y (joined x y)
+pub is_joined : (x y : List Mono) → IsJoined x y (difference_form x y)
 is_joined x y = joined_terms x y (with_terms x y [] x) y (joined_terms x y [] x (record { distinct = refl; are_summands = tt }))
 
 -- ---- each term that does not cancel is there
@@ -108,26 +108,26 @@ is_joined x y = joined_terms x y (with_terms x y [] x) y (joined_terms x y [] x 
 occurs_keep : (x y : List Mono) (form : Summands) (u t : Term) → occurs_in form t ≡ true → occurs_in (with_term x y form u) t ≡ true
 occurs_keep x y form u t h = by (is_passed x y form u)
   where
-    by : (b : Bool) → occurs_in (cond b form (form ++ (difference x y u, u) ∷ [])) t ≡ true
+    by : (b : Bool) → occurs_in (cond b form (form ++ (coefficient_in_difference x y u, u) ∷ [])) t ≡ true
     by true = h
-    by false = occurs_append form ((difference x y u, u) ∷ []) t ∙ or_left (occurs_in form t) (occurs_in ((difference x y u, u) ∷ []) t) h
+    by false = occurs_append form ((coefficient_in_difference x y u, u) ∷ []) t ∙ or_left (occurs_in form t) (occurs_in ((coefficient_in_difference x y u, u) ∷ []) t) h
 
 occurs_keeps : (x y : List Mono) (form : Summands) (ms : List Mono) (t : Term) → occurs_in form t ≡ true → occurs_in (with_terms x y form ms) t ≡ true
 occurs_keeps x y form [] t h = h
 occurs_keeps x y form (m ∷ ms) t h = occurs_keeps x y (with_term x y form (canonical m.term)) ms t (occurs_keep x y form (canonical m.term) t h)
 
-occurs_here : (x y : List Mono) (form : Summands) (t : Term) → is_degenerate t ≡ false → difference x y t ≢ pos 0 → occurs_in (with_term x y form t) t ≡ true
-occurs_here x y form t d n = by (occurs_in form t) (int_eq (difference x y t) (pos 0)) refl refl
+occurs_here : (x y : List Mono) (form : Summands) (t : Term) → is_degenerate t ≡ false → coefficient_in_difference x y t ≢ pos 0 → occurs_in (with_term x y form t) t ≡ true
+occurs_here x y form t d n = by (occurs_in form t) (int_eq (coefficient_in_difference x y t) (pos 0)) refl refl
   where
-    by : (a b : Bool) → occurs_in form t ≡ a → int_eq (difference x y t) (pos 0) ≡ b → occurs_in (with_term x y form t) t ≡ true
+    by : (a b : Bool) → occurs_in form t ≡ a → int_eq (coefficient_in_difference x y t) (pos 0) ≡ b → occurs_in (with_term x y form t) t ≡ true
     by true b e f = occurs_keep x y form t t e
-    by false true e f = absurd (n (zero_is (difference x y t) f))
+    by false true e f = absurd (n (zero_is (coefficient_in_difference x y t) f))
     by false false e f =
-        ap (λ k. occurs_in (cond k form (form ++ (difference x y t, t) ∷ [])) t) (nor (is_degenerate t) (occurs_in form t || int_eq (difference x y t) (pos 0)) d (nor (occurs_in form t) (int_eq (difference x y t) (pos 0)) e f))
-        ∙ occurs_append form ((difference x y t, t) ∷ []) t
+        ap (λ k. occurs_in (cond k form (form ++ (coefficient_in_difference x y t, t) ∷ [])) t) (nor (is_degenerate t) (occurs_in form t || int_eq (coefficient_in_difference x y t) (pos 0)) d (nor (occurs_in form t) (int_eq (coefficient_in_difference x y t) (pos 0)) e f))
+        ∙ occurs_append form ((coefficient_in_difference x y t, t) ∷ []) t
         ∙ or_right (occurs_in form t) (term_eq t t || false) (or_left (term_eq t t) false (term_eq_same t))
 
-occurs_met : (x y : List Mono) (form : Summands) (ms : List Mono) (t : Term) → is_normal t ≡ true → difference x y t ≢ pos 0 → coeff_of ms t ≢ 0 → occurs_in (with_terms x y form ms) t ≡ true
+occurs_met : (x y : List Mono) (form : Summands) (ms : List Mono) (t : Term) → is_normal t ≡ true → coefficient_in_difference x y t ≢ pos 0 → coeff_of ms t ≢ 0 → occurs_in (with_terms x y form ms) t ≡ true
 occurs_met x y form [] t n d c = absurd (c refl)
 occurs_met x y form (m ∷ ms) t n d c = by (one_term m.term t) refl (λ k. occurs_met x y (with_term x y form (canonical m.term)) ms t n d k)
   where
@@ -143,24 +143,24 @@ coefficient_absent [] t h = refl
 coefficient_absent (p ∷ ps) t h = (let w = or_parts (term_eq p.1 t) (occurs_in ps t) h in
     ap (λ b. cond b p.0 (pos 0) +ℤ coefficient ps t) w.0 ∙ omega (arith, sums, coefficient_absent ps t w.1))
 
-coefficient_present : (x y : List Mono) (form : Summands) (t : Term) → have_distinct_terms form ≡ true → AreSummands x y form → occurs_in form t ≡ true → coefficient form t ≡ if_normal t (difference x y t)
+coefficient_present : (x y : List Mono) (form : Summands) (t : Term) → have_distinct_terms form ≡ true → AreSummands x y form → occurs_in form t ≡ true → coefficient form t ≡ if_normal t (coefficient_in_difference x y t)
 coefficient_present x y [] t d h s = absurd (true≢false (sym s))
 coefficient_present x y (p ∷ ps) t d h s = by (term_eq p.1 t) refl (λ k. coefficient_present x y ps t (and_right (not (occurs_in ps p.1)) (have_distinct_terms ps) d) h.1 k)
   where
-    by : (b : Bool) → term_eq p.1 t ≡ b → (occurs_in ps t ≡ true → coefficient ps t ≡ if_normal t (difference x y t)) → cond b p.0 (pos 0) +ℤ coefficient ps t ≡ if_normal t (difference x y t)
+    by : (b : Bool) → term_eq p.1 t ≡ b → (occurs_in ps t ≡ true → coefficient ps t ≡ if_normal t (coefficient_in_difference x y t)) → cond b p.0 (pos 0) +ℤ coefficient ps t ≡ if_normal t (coefficient_in_difference x y t)
     by true e ih = (let same : p.1 ≡ t = term_eq_is p.1 t e in
         let absent : occurs_in ps t ≡ false = ap (occurs_in ps) (sym same) ∙ not-true (occurs_in ps p.1) (and_left (not (occurs_in ps p.1)) (have_distinct_terms ps) d) in
-        let value : if_normal t (difference x y t) ≡ p.0 = ap (λ u. if_normal u (difference x y u)) (sym same) ∙ ap (λ b. cond b (difference x y p.1) (pos 0)) h.0.normal ∙ sym h.0.coefficient in
+        let value : if_normal t (coefficient_in_difference x y t) ≡ p.0 = ap (λ u. if_normal u (coefficient_in_difference x y u)) (sym same) ∙ ap (λ b. cond b (coefficient_in_difference x y p.1) (pos 0)) h.0.normal ∙ sym h.0.coefficient in
         omega (arith, sums, coefficient_absent ps t absent) ∙ sym value)
     by false e ih = omega (arith, sums) ∙ ih (ap (λ k. k || occurs_in ps t) (sym e) ∙ s)
 
-pub joined_coefficient : (x y : List Mono) (t : Term) → coefficient (joined x y) t ≡ coefficient (normal_summands (plus x ++ minus y)) t
-joined_coefficient x y t = by (occurs_in (joined x y) t) refl ∙ sym (normal_coefficient x y t)
+pub joined_coefficient : (x y : List Mono) (t : Term) → coefficient (difference_form x y) t ≡ coefficient (normal_summands (plus x ++ minus y)) t
+joined_coefficient x y t = by (occurs_in (difference_form x y) t) refl ∙ sym (normal_coefficient x y t)
   where
-    none : (n d : Bool) → occurs_in (joined x y) t ≡ false → is_normal t ≡ n → int_eq (difference x y t) (pos 0) ≡ d → pos 0 ≡ cond n (difference x y t) (pos 0)
+    none : (n d : Bool) → occurs_in (difference_form x y) t ≡ false → is_normal t ≡ n → int_eq (coefficient_in_difference x y t) (pos 0) ≡ d → pos 0 ≡ cond n (coefficient_in_difference x y t) (pos 0)
     none false d s e f = refl
-    none true true s e f = sym (zero_is (difference x y t) f)
-    none true false s e f = (let n = not_zero (difference x y t) f in
+    none true true s e f = sym (zero_is (coefficient_in_difference x y t) f)
+    none true false s e f = (let n = not_zero (coefficient_in_difference x y t) f in
         absurd (true≢false (sym (elim (either (coeff_of x t) (coeff_of y t) n) [
           | inl c ↦ occurs_keeps x y (with_terms x y [] x) y t (occurs_met x y [] x t e n c)
           | inr c ↦ occurs_met x y (with_terms x y [] x) y t e n c
@@ -171,9 +171,9 @@ joined_coefficient x y t = by (occurs_in (joined x y) t) refl ∙ sym (normal_co
         either zero (suc b) h = inr (λ e. omega (arith, e))
         either (suc a) b h = inl (λ e. omega (arith, e))
 
-    by : (b : Bool) → occurs_in (joined x y) t ≡ b → coefficient (joined x y) t ≡ if_normal t (difference x y t)
-    by true e = coefficient_present x y (joined x y) t (is_joined x y).distinct (is_joined x y).are_summands e
-    by false e = coefficient_absent (joined x y) t e ∙ none (is_normal t) (int_eq (difference x y t) (pos 0)) e refl refl
+    by : (b : Bool) → occurs_in (difference_form x y) t ≡ b → coefficient (difference_form x y) t ≡ if_normal t (coefficient_in_difference x y t)
+    by true e = coefficient_present x y (difference_form x y) t (is_joined x y).distinct (is_joined x y).are_summands e
+    by false e = coefficient_absent (difference_form x y) t e ∙ none (is_normal t) (int_eq (coefficient_in_difference x y t) (pos 0)) e refl refl
 
 -- ---- sizes
 
@@ -222,11 +222,11 @@ terms_length x y form (m ∷ ms) = by (is_passed x y form (canonical m.term)) (t
         → length (with_terms x y (with_term x y form (canonical m.term)) ms) ≤ length form + suc (length ms)
     by b h = omega (arith, h, one (is_passed x y form (canonical m.term)))
       where
-        one : (b : Bool) → length (cond b form (form ++ (difference x y (canonical m.term), canonical m.term) ∷ [])) ≤ suc (length form)
+        one : (b : Bool) → length (cond b form (form ++ (coefficient_in_difference x y (canonical m.term), canonical m.term) ∷ [])) ≤ suc (length form)
         one true = omega arith
-        one false = omega (arith, length-append form ((difference x y (canonical m.term), canonical m.term) ∷ []))
+        one false = omega (arith, length-append form ((coefficient_in_difference x y (canonical m.term), canonical m.term) ∷ []))
 
-pub joined_length : (x y : List Mono) → length (joined x y) ≤ length x + length y
+pub joined_length : (x y : List Mono) → length (difference_form x y) ≤ length x + length y
 joined_length x y = omega (arith, terms_length x y (with_terms x y [] x) y, terms_length x y [] x)
 
 -- ---- sums that are well formed

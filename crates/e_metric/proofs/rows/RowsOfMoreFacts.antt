@@ -15,8 +15,8 @@ use Rattle.e_literal.specs.Rows.{row_of_lit}
 use Rattle.e_clause.specs.declared.cert.RowName.TheVariants.{Fact, Pos}
 use Rattle.e_clause.specs.Assignment.{terms_of_lits}
 use Rattle.e_clause.specs.System.{NamedRow, named, pos_row, of_kind, rows_named, rows_of_term, rows_of_kind, system}
-use Rattle.e_metric.specs.inner.FurtherRows.{fresh_terms, rows_of_facts, joining}
-use Rattle.e_metric.specs.ListedTerms.{listed, terms_of_kind}
+use Rattle.e_metric.specs.inner.FurtherRows.{terms_added, rows_added_by_facts, joining}
+use Rattle.e_metric.specs.ListedTerms.{listed, distinct_terms}
 use Rattle.e_metric.proofs.terms.FirstTerms.{listed_append, listed_first, none_wanted, kind_append, lits_append}
 use Rattle.e_metric.proofs.rows.Forms.{none_more}
 use Rattle.e_metric.proofs.rows.SystemRows.{flat_append}
@@ -83,9 +83,9 @@ same_raised facts more (t ∷ ts) h =
 
 -- ---- the whole system
 
-all_terms : (which : Kind) (facts more : List Lit) → terms_of_kind which (facts ++ more) None ≡ terms_of_kind which facts None ++ fresh_terms which (terms_of_kind which facts None) more
+all_terms : (which : Kind) (facts more : List Lit) → distinct_terms which (facts ++ more) None ≡ distinct_terms which facts None ++ terms_added which (distinct_terms which facts None) more
 all_terms which facts more =
-    let known = terms_of_kind which facts None in
+    let known = distinct_terms which facts None in
     let old = terms_of_lits (of_kind which facts) in
     let new = terms_of_lits (of_kind which more) in
     none_wanted which (facts ++ more)
@@ -96,14 +96,14 @@ all_terms which facts more =
 
 -- the rows that further facts bring
 abbrev brought : Kind → List Lit → List Lit → List Lit → List NamedRow
-brought which facts more all = rows_of_facts which all more (fresh_terms which (terms_of_kind which facts None) more)
+brought which facts more all = rows_added_by_facts which all more (terms_added which (distinct_terms which facts None) more)
 
 -- the rows of the facts and what further facts bring are the rows of all, in another order
-with_brought : (which : Kind) (facts more : List Lit) → flat_map (rows_of_term (facts ++ more)) (terms_of_kind which facts None) ≡ flat_map (rows_of_term facts) (terms_of_kind which facts None)
+with_brought : (which : Kind) (facts more : List Lit) → flat_map (rows_of_term (facts ++ more)) (distinct_terms which facts None) ≡ flat_map (rows_of_term facts) (distinct_terms which facts None)
     → AreReordered (system which facts None ++ brought which facts more (facts ++ more)) (system which (facts ++ more) None)
 with_brought which facts more same =
-    let known = terms_of_kind which facts None in
-    let fresh = fresh_terms which known more in
+    let known = distinct_terms which facts None in
+    let fresh = terms_added which known more in
     let f = rows_of_term (facts ++ more) in
     let a = rows_named Fact (of_kind which facts) in
     let g = rows_named Fact (of_kind which more) in
@@ -112,10 +112,10 @@ with_brought which facts more same =
     let r = rows_of_kind which in
     let names : rows_named Fact (of_kind which (facts ++ more)) ≡ a ++ g =
     ap (rows_named Fact) (kind_append which facts more) ∙ filter_map-append (λ l. option_map (named (Fact l)) (row_of_lit l)) (of_kind which facts) (of_kind which more) in
-    let terms : flat_map f (terms_of_kind which (facts ++ more) None) ≡ t ++ n =
+    let terms : flat_map f (distinct_terms which (facts ++ more) None) ≡ t ++ n =
     ap (flat_map f) (all_terms which facts more) ∙ flat_append f known fresh ∙ ap (λ v. v ++ n) same in
     subst (AreReordered (system which facts None ++ brought which facts more (facts ++ more)))
-    (sym (ap (λ v. v ++ (flat_map f (terms_of_kind which (facts ++ more) None) ++ r)) names ∙ ap (λ v. (a ++ g) ++ (v ++ r)) terms))
+    (sym (ap (λ v. v ++ (flat_map f (distinct_terms which (facts ++ more) None) ++ r)) names ∙ ap (λ v. (a ++ g) ++ (v ++ r)) terms))
     (two_after a t r g n)
 
 -- ---- facts from a place on
@@ -127,8 +127,8 @@ module _ (which : Kind) (facts : List Lit) (from : ℕ) where
   abbrev more : List Lit
   more = drop from facts
 
-  pub terms_at : terms_of_kind which facts None ≡ terms_of_kind which old None ++ fresh_terms which (terms_of_kind which old None) more
-  terms_at = subst (λ v. terms_of_kind which v None ≡ terms_of_kind which old None ++ fresh_terms which (terms_of_kind which old None) more) (take-append-drop from facts) (all_terms which old more)
+  pub terms_at : distinct_terms which facts None ≡ distinct_terms which old None ++ terms_added which (distinct_terms which old None) more
+  terms_at = subst (λ v. distinct_terms which v None ≡ distinct_terms which old None ++ terms_added which (distinct_terms which old None) more) (take-append-drop from facts) (all_terms which old more)
 
   -- terms that bring as many rows as before bring those
   pub same_raised_at : (ts : List Term) → length (flat_map (rows_of_term facts) ts) ≡ length (flat_map (rows_of_term old) ts) → flat_map (rows_of_term facts) ts ≡ flat_map (rows_of_term old) ts
@@ -136,9 +136,9 @@ module _ (which : Kind) (facts : List Lit) (from : ℕ) where
       subst (λ v. length (flat_map (rows_of_term v) ts) ≡ length (flat_map (rows_of_term old) ts) → flat_map (rows_of_term v) ts ≡ flat_map (rows_of_term old) ts) (take-append-drop from facts)
       (same_raised old more ts)
 
-  pub with_joining : flat_map (rows_of_term facts) (terms_of_kind which old None) ≡ flat_map (rows_of_term old) (terms_of_kind which old None) → AreReordered (system which old None ++ joining which facts from) (system which facts None)
+  pub with_joining : flat_map (rows_of_term facts) (distinct_terms which old None) ≡ flat_map (rows_of_term old) (distinct_terms which old None) → AreReordered (system which old None ++ joining which facts from) (system which facts None)
   with_joining =
-      subst (λ v. flat_map (rows_of_term v) (terms_of_kind which old None) ≡ flat_map (rows_of_term old) (terms_of_kind which old None) → AreReordered (system which old None ++ brought which old more v) (system which v None)) (take-append-drop from facts)
+      subst (λ v. flat_map (rows_of_term v) (distinct_terms which old None) ≡ flat_map (rows_of_term old) (distinct_terms which old None) → AreReordered (system which old None ++ brought which old more v) (system which v None)) (take-append-drop from facts)
       (with_brought which old more)
 
 -- ---- counting

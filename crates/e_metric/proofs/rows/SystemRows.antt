@@ -17,7 +17,7 @@ use Rattle.e_clause.specs.declared.cert.RowName.TheVariants.{Fact, Goal, Pos, To
 use Rattle.e_clause.specs.System.{NamedRow, named, is_of_kind, of_kind, against_goal, system, rows_named, rows_of_term, rows_of_kind, pos_row, top_row, right_row}
 use Rattle.e_fraction.specs.declared.row.Row.{Row as GivenRow}
 use Rattle.e_metric.specs.AgreeingRows.{IsRow, IsRowOrNone, IsLimited, IsLimitedOrNone, AreRows, AllLimited, GrowBy}
-use Rattle.e_metric.specs.ListedTerms.{terms_of_kind}
+use Rattle.e_metric.specs.ListedTerms.{distinct_terms}
 use Rattle.e_metric.proofs.terms.FirstTerms.{kind_one, kind_more}
 
 -- ---- growing
@@ -112,13 +112,13 @@ flat_append f (x ∷ xs) ys = ap (λ zs. f x ++ zs) (flat_append f xs ys) ∙ sy
 
 -- ---- the whole system
 
-pub all_rows : (which : Kind) (facts : List Lit) (goal : Option Lit) (terms : List Term) (start first second third last : List (RowName × GivenRow)) → start ≡ [] → terms ≡ terms_of_kind which facts goal
+pub all_rows : (which : Kind) (facts : List Lit) (goal : Option Lit) (terms : List Term) (start first second third last : List (RowName × GivenRow)) → start ≡ [] → terms ≡ distinct_terms which facts goal
     → GrowBy (rows_named (λ l. Fact l) (of_kind which facts)) start first → GrowBy (rows_named (λ l. Goal) (of_kind which (against_goal goal))) first second
     → GrowBy (flat_map (rows_of_term facts) terms) second third → GrowBy (rows_of_kind which) third last → AreRows (system which facts goal) last
 all_rows which facts goal terms start first second third last e t a b c d =
     let known = rows_named (λ l. Fact l) (of_kind which facts) in
     let negated_at = rows_named (λ l. Goal) (of_kind which (against_goal goal)) in
-    let of_terms = flat_map (rows_of_term facts) (terms_of_kind which facts goal) in
+    let of_terms = flat_map (rows_of_term facts) (distinct_terms which facts goal) in
     let whole = grow_more known (negated_at ++ (of_terms ++ rows_of_kind which)) start first last a
     (grow_more negated_at (of_terms ++ rows_of_kind which) first second last b
     (grow_more of_terms (rows_of_kind which) second third last (subst (λ ts. GrowBy (flat_map (rows_of_term facts) ts) second third) t c) d)) in

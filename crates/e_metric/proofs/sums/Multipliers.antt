@@ -11,7 +11,7 @@ use Rattle.e_fraction.specs.declared.row.Row.{Row as GivenRow}
 use Rattle.e_fraction.specs.Limits.{all_small, are_good_multipliers}
 use Rattle.e_fraction.specs.Views.{seen, all_seen}
 use Rattle.e_simplex.specs.Answer.{AreTaken, Refutes, IsNotAt, as_more, as_less, RefutesBoth}
-use Rattle.e_metric.specs.inner.Certificate.{negated_at, IsWeighable}
+use Rattle.e_metric.specs.inner.Certificate.{negated_place, IsWeighable}
 use Rattle.e_metric.proofs.sums.SystemCertificates.{length_more, length_less, left_given, left_more, left_less}
 
 taken_length : (rs : List Row) (ms : List ℤ) → AreTaken rs ms → length ms ≡ length rs
@@ -25,15 +25,15 @@ good_given [] h = refl
 good_given (m ∷ ms) h =
     and_from (nat_le (unsigned_abs m) (2 ^ 80)) (are_good_multipliers ms) (le-leb (unsigned_abs m) (2 ^ 80) (h 0 (omega arith))) (good_given ms (λ i l. h (suc i) (omega (arith, l))))
 
-good_negated : (ms : List ℤ) (k : ℕ) → ((i : ℕ) → i < length ms → unsigned_abs (get_or ms i (pos 0)) ≤ 2 ^ 80) → are_good_multipliers (negated_at ms k) ≡ true
+good_negated : (ms : List ℤ) (k : ℕ) → ((i : ℕ) → i < length ms → unsigned_abs (get_or ms i (pos 0)) ≤ 2 ^ 80) → are_good_multipliers (negated_place ms k) ≡ true
 good_negated [] zero h = refl
 good_negated [] (suc k) h = refl
 good_negated (m ∷ ms) zero h =
     and_from (nat_le (unsigned_abs (neg_ℤ m)) (2 ^ 80)) (are_good_multipliers ms) (le-leb (unsigned_abs (neg_ℤ m)) (2 ^ 80) (omega (arith, sums, abs_is m, abs_is (neg_ℤ m), h 0 (omega arith)))) (good_given ms (λ i l. h (suc i) (omega (arith, l))))
 good_negated (m ∷ ms) (suc k) h =
-    and_from (nat_le (unsigned_abs m) (2 ^ 80)) (are_good_multipliers (negated_at ms k)) (le-leb (unsigned_abs m) (2 ^ 80) (h 0 (omega arith))) (good_negated ms k (λ i l. h (suc i) (omega (arith, l))))
+    and_from (nat_le (unsigned_abs m) (2 ^ 80)) (are_good_multipliers (negated_place ms k)) (le-leb (unsigned_abs m) (2 ^ 80) (h 0 (omega arith))) (good_negated ms k (λ i l. h (suc i) (omega (arith, l))))
 
-length_negated : (ms : List ℤ) (k : ℕ) → length (negated_at ms k) ≡ length ms
+length_negated : (ms : List ℤ) (k : ℕ) → length (negated_place ms k) ≡ length ms
 length_negated [] zero = refl
 length_negated [] (suc k) = refl
 length_negated (m ∷ ms) zero = refl
@@ -89,11 +89,11 @@ module _ (rows : List GivenRow) (few : length rows ≤ 4096) (small : all_small 
       left = λ t. subst (λ z. unsigned_abs z ≤ 2 ^ 80) (sym (left_given rows above t ∙ left_more (all_seen rows) above k t)) (h.above_refutes.small_sums t);
     }
 
-    pub below_weighable : IsWeighable rows (negated_at below k)
+    pub below_weighable : IsWeighable rows (negated_place below k)
     below_weighable = record {
       lengths = length_negated below k ∙ below_length;
       few = few;
       coefficients = small;
       good = good_negated below k h.below_refutes.small;
-      left = λ t. subst (λ z. unsigned_abs z ≤ 2 ^ 80) (sym (left_given rows (negated_at below k) t ∙ left_less (all_seen rows) below k t)) (h.below_refutes.small_sums t);
+      left = λ t. subst (λ z. unsigned_abs z ≤ 2 ^ 80) (sym (left_given rows (negated_place below k) t ∙ left_less (all_seen rows) below k t)) (h.below_refutes.small_sums t);
     }

@@ -25,7 +25,7 @@ use Rattle.e_clause.specs.declared.cert.RowName.TheVariants.{Least}
 use Rattle.e_clause.specs.System.{least_row}
 use Rattle.e_clause.specs.Sum.{Place, is_step_term, row_named, weighed_rows, is_good_multiplier, is_good_size, refutes}
 use Rattle.e_simplex.specs.Answer.{each_weighed, MayTake, AreTaken, TakesMore, Refutes}
-use Rattle.e_metric.specs.inner.Certificate.{kept, leasts}
+use Rattle.e_metric.specs.inner.Certificate.{named_multipliers, leasts}
 use Rattle.e_metric.proofs.terms.FirstTerms.{Once, has_same}
 
 -- ---- numbers
@@ -176,7 +176,7 @@ NamedWhere p (n ∷ ns) (r ∷ rs) (m ∷ ms) = ((m ≢ pos 0) → row_named p n
 NamedWhere p [] [] [] = Unit {0}
 NamedWhere p _ _ _ = ⊥
 
-kept_named : (p : Place) (ns : List RowName) (rs : List Row) (ms : List ℤ) → NamedWhere p ns rs ms → weighed_rows p (kept ns ms) ≡ Some (kept_rows rs ms)
+kept_named : (p : Place) (ns : List RowName) (rs : List Row) (ms : List ℤ) → NamedWhere p ns rs ms → weighed_rows p (named_multipliers ns ms) ≡ Some (kept_rows rs ms)
 kept_named p [] [] [] h = refl
 kept_named p [] [] (m ∷ ms) h = absurd h
 kept_named p [] (r ∷ rs) ms h = absurd h
@@ -184,10 +184,10 @@ kept_named p (n ∷ ns) [] ms h = absurd h
 kept_named p (n ∷ ns) (r ∷ rs) [] h = absurd h
 kept_named p (n ∷ ns) (r ∷ rs) (m ∷ ms) h = by (int_eq m (pos 0)) refl (kept_named p ns rs ms h.1)
   where
-    by : (b : Bool) → int_eq m (pos 0) ≡ b → weighed_rows p (kept ns ms) ≡ Some (kept_rows rs ms)
-        → weighed_rows p (cond b (kept ns ms) ((m, n) ∷ kept ns ms)) ≡ Some (cond b (kept_rows rs ms) (record { multiplier = m; row = r } ∷ kept_rows rs ms))
+    by : (b : Bool) → int_eq m (pos 0) ≡ b → weighed_rows p (named_multipliers ns ms) ≡ Some (kept_rows rs ms)
+        → weighed_rows p (cond b (named_multipliers ns ms) ((m, n) ∷ named_multipliers ns ms)) ≡ Some (cond b (kept_rows rs ms) (record { multiplier = m; row = r } ∷ kept_rows rs ms))
     by true e ih = ih
-    by false e ih = named_one p m n (kept ns ms) r (kept_rows rs ms) (h.0 (not_zero m e)) ih
+    by false e ih = named_one p m n (named_multipliers ns ms) r (kept_rows rs ms) (h.0 (not_zero m e)) ih
 
 kept_total : (rs : List Row) (ms : List ℤ) (u : Term) → total (kept_rows rs ms) u ≡ total (each_weighed rs ms) u
 kept_total [] ms u = refl
@@ -227,35 +227,35 @@ kept_strict (r ∷ rs) (m ∷ ms) h = by (int_eq m (pos 0)) refl h (λ k. kept_s
     by false e (inl k) ih = or_left (is_strict r.says m) (list_any (λ (w : Weighed). is_strict w.row.says w.multiplier) (kept_rows rs ms)) (ap (λ s. is_strict s m) k.0 ∙ one_is m k.1)
     by false e (inr k) ih = or_right (is_strict r.says m) (list_any (λ (w : Weighed). is_strict w.row.says w.multiplier) (kept_rows rs ms)) (ih k)
 
-kept_some : (ns : List RowName) (rs : List Row) (ms : List ℤ) → length ns ≡ length rs → TakesMore rs ms → 1 ≤ length (kept ns ms)
+kept_some : (ns : List RowName) (rs : List Row) (ms : List ℤ) → length ns ≡ length rs → TakesMore rs ms → 1 ≤ length (named_multipliers ns ms)
 kept_some ns [] ms l h = absurd h
 kept_some ns (r ∷ rs) [] l h = absurd h
 kept_some [] (r ∷ rs) (m ∷ ms) l h = absurd (omega (arith, l))
 kept_some (n ∷ ns) (r ∷ rs) (m ∷ ms) l h = by (int_eq m (pos 0)) refl h (λ k. kept_some ns rs ms (omega (arith, l)) k)
   where
-    by : (b : Bool) → int_eq m (pos 0) ≡ b → ((r.says ≡ More) × (pos 1 ≤ℤ m)) ⊎ TakesMore rs ms → (TakesMore rs ms → 1 ≤ length (kept ns ms)) → 1 ≤ length (cond b (kept ns ms) ((m, n) ∷ kept ns ms))
+    by : (b : Bool) → int_eq m (pos 0) ≡ b → ((r.says ≡ More) × (pos 1 ≤ℤ m)) ⊎ TakesMore rs ms → (TakesMore rs ms → 1 ≤ length (named_multipliers ns ms)) → 1 ≤ length (cond b (named_multipliers ns ms) ((m, n) ∷ named_multipliers ns ms))
     by true e (inl k) ih = absurd (omega (arith, sums, zero_is m e, k.1))
     by true e (inr k) ih = ih k
     by false e k ih = omega arith
 
-kept_length : (ns : List RowName) (ms : List ℤ) → length (kept ns ms) ≤ length ns
+kept_length : (ns : List RowName) (ms : List ℤ) → length (named_multipliers ns ms) ≤ length ns
 kept_length [] ms = omega arith
 kept_length (n ∷ ns) [] = omega arith
 kept_length (n ∷ ns) (m ∷ ms) = by (int_eq m (pos 0)) (kept_length ns ms)
   where
-    by : (b : Bool) → length (kept ns ms) ≤ length ns → length (cond b (kept ns ms) ((m, n) ∷ kept ns ms)) ≤ suc (length ns)
+    by : (b : Bool) → length (named_multipliers ns ms) ≤ length ns → length (cond b (named_multipliers ns ms) ((m, n) ∷ named_multipliers ns ms)) ≤ suc (length ns)
     by true ih = omega (arith, ih)
     by false ih = omega (arith, ih)
 
-kept_good : (ns : List RowName) (ms : List ℤ) → ((i : ℕ) → i < length ms → unsigned_abs (get_or ms i (pos 0)) ≤ 2 ^ 80) → list_all (λ (x : ℤ × RowName). is_good_multiplier x.0) (kept ns ms) ≡ true
+kept_good : (ns : List RowName) (ms : List ℤ) → ((i : ℕ) → i < length ms → unsigned_abs (get_or ms i (pos 0)) ≤ 2 ^ 80) → list_all (λ (x : ℤ × RowName). is_good_multiplier x.0) (named_multipliers ns ms) ≡ true
 kept_good [] ms h = refl
 kept_good (n ∷ ns) [] h = refl
 kept_good (n ∷ ns) (m ∷ ms) h = by (int_eq m (pos 0)) refl (kept_good ns ms (λ i l. h (suc i) (omega (arith, l))))
   where
-    by : (b : Bool) → int_eq m (pos 0) ≡ b → list_all (λ (x : ℤ × RowName). is_good_multiplier x.0) (kept ns ms) ≡ true
-        → list_all (λ (x : ℤ × RowName). is_good_multiplier x.0) (cond b (kept ns ms) ((m, n) ∷ kept ns ms)) ≡ true
+    by : (b : Bool) → int_eq m (pos 0) ≡ b → list_all (λ (x : ℤ × RowName). is_good_multiplier x.0) (named_multipliers ns ms) ≡ true
+        → list_all (λ (x : ℤ × RowName). is_good_multiplier x.0) (cond b (named_multipliers ns ms) ((m, n) ∷ named_multipliers ns ms)) ≡ true
     by true e ih = ih
-    by false e ih = and_from (is_good_multiplier m) (list_all (λ (x : ℤ × RowName). is_good_multiplier x.0) (kept ns ms)) (good_of m (not_zero m e) (h 0 (omega arith))) ih
+    by false e ih = and_from (is_good_multiplier m) (list_all (λ (x : ℤ × RowName). is_good_multiplier x.0) (named_multipliers ns ms)) (good_of m (not_zero m e) (h 0 (omega arith))) ih
 
 -- ---- both together
 
@@ -287,10 +287,10 @@ pub record IsMade (p : Place) (names : List RowName) (rows : List Row) (ms : Lis
   pub steps : AllStepTerms p terms
   pub covers : (u : Term) → (is_normal u && has_term terms u) ≡ false → total (each_weighed rows ms) u ≡ pos 0
 
-pub sum_refutes : (p : Place) (names : List RowName) (rows : List Row) (ms : List ℤ) (left : Term → ℤ) (terms : List Term) → IsMade p names rows ms left terms → refutes p (kept names ms ++ leasts left terms) ≡ true
+pub sum_refutes : (p : Place) (names : List RowName) (rows : List Row) (ms : List ℤ) (left : Term → ℤ) (terms : List Term) → IsMade p names rows ms left terms → refutes p (named_multipliers names ms ++ leasts left terms) ≡ true
 sum_refutes p names rows ms left terms h =
-    and_from (is_good_size (kept names ms ++ leasts left terms)) (option_map_or is_absurd (weighed_rows p (kept names ms ++ leasts left terms)) false) size
-    (ap (λ (o : Option (List Weighed)). option_map_or is_absurd o false) (weighed_append p (kept names ms) (leasts left terms) (kept_rows rows ms) (least_rows left terms) (kept_named p names rows ms h.named) (least_named p left terms h.steps))
+    and_from (is_good_size (named_multipliers names ms ++ leasts left terms)) (option_map_or is_absurd (weighed_rows p (named_multipliers names ms ++ leasts left terms)) false) size
+    (ap (λ (o : Option (List Weighed)). option_map_or is_absurd o false) (weighed_append p (named_multipliers names ms) (leasts left terms) (kept_rows rows ms) (least_rows left terms) (kept_named p names rows ms h.named) (least_named p left terms h.steps))
     ∙ and_from (list_all (λ t. int_eq (total ws t) (pos 0)) (terms_of_rows (map (λ (w : Weighed). w.row) ws))) (list_all (λ (w : Weighed). is_good_sign w.row.says w.multiplier) ws && list_any (λ (w : Weighed). is_strict w.row.says w.multiplier) ws)
     (all_hold (λ t. int_eq (total ws t) (pos 0)) (terms_of_rows (map (λ (w : Weighed). w.row) ws)) (λ t. is_zero (total ws t) (cancels t)))
     (and_from (list_all (λ (w : Weighed). is_good_sign w.row.says w.multiplier) ws) (list_any (λ (w : Weighed). is_strict w.row.says w.multiplier) ws) signs strict))
@@ -298,9 +298,9 @@ sum_refutes p names rows ms left terms h =
     ws : List Weighed
     ws = kept_rows rows ms ++ least_rows left terms
 
-    size : is_good_size (kept names ms ++ leasts left terms) ≡ true
+    size : is_good_size (named_multipliers names ms ++ leasts left terms) ≡ true
     size =
-        (let xs = kept names ms in
+        (let xs = named_multipliers names ms in
         let ys = leasts left terms in
         and_from (nat_le 1 (length (xs ++ ys))) (nat_le (length (xs ++ ys)) 4096 && list_all (λ (x : ℤ × RowName). is_good_multiplier x.0) (xs ++ ys))
         (le-leb 1 (length (xs ++ ys)) (omega (arith, length-append xs ys, kept_some names rows ms h.as_many h.refutes.more)))

@@ -20,7 +20,7 @@ use Rattle.e_fraction.specs.declared.row.Row.{Row as GivenRow}
 use Rattle.e_fraction.specs.Views.{weighed}
 use Rattle.e_simplex.specs.declared.decision.Absurdity.{Absurdity}
 use Rattle.e_simplex.specs.declared.decision.Absurdity.TheVariants.{One, Two}
-use Rattle.e_metric.specs.inner.Certificate.{kept, leasts, negated_at, sum_of, sums_of}
+use Rattle.e_metric.specs.inner.Certificate.{named_multipliers, leasts, negated_place, certificate_sum, certificate_sums}
 
 -- the goal has it, and so have the names that only sums have
 pub record HaveOthers (p : RowName → Bool) : Type 0 where
@@ -41,14 +41,14 @@ module _ (p : RowName → Bool) where
   each_name [] h = refl
   each_name (n ∷ ns) h = and_from (p n.name) (list_all p (map (λ (m : NamedRow). m.name) ns)) h.0 (each_name ns h.1)
 
-  kept_in : (ns : List RowName) (ms : List ℤ) → list_all p ns ≡ true → each_in (kept ns ms) ≡ true
+  kept_in : (ns : List RowName) (ms : List ℤ) → list_all p ns ≡ true → each_in (named_multipliers ns ms) ≡ true
   kept_in [] ms h = refl
   kept_in (n ∷ ns) [] h = refl
   kept_in (n ∷ ns) (m ∷ ms) h = by (int_eq m (pos 0)) (kept_in ns ms (and_right (p n) (list_all p ns) h))
     where
-      by : (b : Bool) → each_in (kept ns ms) ≡ true → each_in (cond b (kept ns ms) ((m, n) ∷ kept ns ms)) ≡ true
+      by : (b : Bool) → each_in (named_multipliers ns ms) ≡ true → each_in (cond b (named_multipliers ns ms) ((m, n) ∷ named_multipliers ns ms)) ≡ true
       by true ih = ih
-      by false ih = and_from (p n) (each_in (kept ns ms)) (and_left (p n) (list_all p ns) h) ih
+      by false ih = and_from (p n) (each_in (named_multipliers ns ms)) (and_left (p n) (list_all p ns) h) ih
 
   leasts_in : (left : Term → ℤ) (ts : List Term) → list_all (λ t. p (Least t)) ts ≡ true → each_in (leasts left ts) ≡ true
   leasts_in left [] h = refl
@@ -58,10 +58,10 @@ module _ (p : RowName → Bool) where
       by true ih = and_from (p (Least t)) (each_in (leasts left ts)) (and_left (p (Least t)) (list_all (λ u. p (Least u)) ts) h) ih
       by false ih = ih
 
-  sum_has : (ns : List RowName) (gs : List GivenRow) (ms ws : List ℤ) (ts : List Term) → list_all p ns ≡ true → list_all (λ t. p (Least t)) ts ≡ true → each_in (sum_of ns gs ms ws ts) ≡ true
+  sum_has : (ns : List RowName) (gs : List GivenRow) (ms ws : List ℤ) (ts : List Term) → list_all p ns ≡ true → list_all (λ t. p (Least t)) ts ≡ true → each_in (certificate_sum ns gs ms ws ts) ≡ true
   sum_has ns gs ms ws ts h k =
-      list_all-append (λ (x : ℤ × RowName). p x.1) (kept ns ms) (leasts (total (weighed gs ws)) ts)
-      ∙ and_from (each_in (kept ns ms)) (each_in (leasts (total (weighed gs ws)) ts)) (kept_in ns ms h) (leasts_in (total (weighed gs ws)) ts k)
+      list_all-append (λ (x : ℤ × RowName). p x.1) (named_multipliers ns ms) (leasts (total (weighed gs ws)) ts)
+      ∙ and_from (each_in (named_multipliers ns ms)) (each_in (leasts (total (weighed gs ws)) ts)) (kept_in ns ms h) (leasts_in (total (weighed gs ws)) ts k)
 
   set_in : (ns : List RowName) (k : ℕ) (n : RowName) → p n ≡ true → list_all p ns ≡ true → list_all p (set ns k n) ≡ true
   set_in [] zero n e h = refl
@@ -75,12 +75,12 @@ module _ (p : RowName → Bool) where
   get_in (m ∷ ms) zero g h = and_left (p m) (list_all p ms) h
   get_in (m ∷ ms) (suc k) g h = get_in ms k g (and_right (p m) (list_all p ms) h)
 
-  pub sums_have : (ns : List RowName) (gs : List GivenRow) (ts : List Term) (a : Absurdity) → HaveOthers p → list_all p ns ≡ true → list_all (λ t. p (Least t)) ts ≡ true → each_of (sums_of ns gs ts a) ≡ true
+  pub sums_have : (ns : List RowName) (gs : List GivenRow) (ts : List Term) (a : Absurdity) → HaveOthers p → list_all p ns ≡ true → list_all (λ t. p (Least t)) ts ≡ true → each_of (certificate_sums ns gs ts a) ≡ true
   sums_have ns gs ts (One ms) o h k = sum_has ns gs ms.items ms.items ts h k
   sums_have ns gs ts (Two row above below) o h k =
-      (let first = sum_of (set ns row Above) gs above.items above.items ts in
-      let second = sum_of (set ns row Below) gs below.items (negated_at below.items row) ts in
+      (let first = certificate_sum (set ns row Above) gs above.items above.items ts in
+      let second = certificate_sum (set ns row Below) gs below.items (negated_place below.items row) ts in
       and_from (p (get_or ns row Goal)) (each_in first && each_in second) (get_in ns row o.goal h)
       (and_from (each_in first) (each_in second)
       (sum_has (set ns row Above) gs above.items above.items ts (set_in ns row Above o.above h) k)
-      (sum_has (set ns row Below) gs below.items (negated_at below.items row) ts (set_in ns row Below o.below h) k)))
+      (sum_has (set ns row Below) gs below.items (negated_place below.items row) ts (set_in ns row Below o.below h) k)))

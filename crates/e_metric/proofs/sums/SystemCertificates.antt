@@ -33,8 +33,8 @@ use Rattle.e_simplex.specs.declared.decision.Absurdity.{Absurdity}
 use Rattle.e_simplex.specs.declared.decision.Absurdity.TheVariants.{One, Two}
 use Rattle.e_simplex.specs.Answer.{each_weighed, MayTake, AreTaken, TakesMore, Refutes, IsNotAt, as_more, as_less, RefutesBoth, IsAbsurdity}
 use Rattle.e_metric.specs.AgreeingRows.{AreRows}
-use Rattle.e_metric.specs.ListedTerms.{listed, terms_of_kind}
-use Rattle.e_metric.specs.inner.Certificate.{sum_of, negated_at, sums_of}
+use Rattle.e_metric.specs.ListedTerms.{listed, distinct_terms}
+use Rattle.e_metric.specs.inner.Certificate.{certificate_sum, negated_place, certificate_sums}
 use Rattle.e_metric.proofs.rows.SameCoefficients.{Alike}
 use Rattle.e_metric.specs.RowOrder.{AreReordered}
 use Rattle.e_metric.proofs.rows.RowOrder.{each_reordered}
@@ -142,7 +142,7 @@ left_more (r ∷ rs) [] (suc k) u = refl
 left_more (r ∷ rs) (m ∷ ms) zero u = refl
 left_more (r ∷ rs) (m ∷ ms) (suc k) u = ap (λ z. m *ℤ coefficient r.form u +ℤ z) (left_more rs ms k u)
 
-pub left_less : (rs : List Row) (ms : List ℤ) (k : ℕ) (u : Term) → total (each_weighed rs (negated_at ms k)) u ≡ total (each_weighed (as_less rs k) ms) u
+pub left_less : (rs : List Row) (ms : List ℤ) (k : ℕ) (u : Term) → total (each_weighed rs (negated_place ms k)) u ≡ total (each_weighed (as_less rs k) ms) u
 left_less [] ms k u = refl
 left_less (r ∷ rs) [] zero u = refl
 left_less (r ∷ rs) [] (suc k) u = refl
@@ -253,7 +253,7 @@ module _ (which : Kind) (facts : List Lit) (wanted : Option Lit) where
   written = terms_of_system which facts wanted
 
   abbrev pub summed : List Term
-  summed = listed (terms_of_kind which facts wanted) (Right ∷ [])
+  summed = listed (distinct_terms which facts wanted) (Right ∷ [])
 
   summed_is : summed ≡ first_terms [] (written ++ Right ∷ [])
   summed_is = with_right written
@@ -314,7 +314,7 @@ module _ (which : Kind) (facts : List Lit) (wanted : Option Lit) where
     few_names : length (map name_of ns) + length summed ≤ 4096
     few_names = omega (arith, length-map ns name_of, length_rows ns pairs are, few)
 
-    one_sum : (ms : List ℤ) → Refutes (all_seen (rows_given pairs)) ms → refutes (place None None) (sum_of (map name_of ns) (rows_given pairs) ms ms summed) ≡ true
+    one_sum : (ms : List ℤ) → Refutes (all_seen (rows_given pairs)) ms → refutes (place None None) (certificate_sum (map name_of ns) (rows_given pairs) ms ms summed) ≡ true
     one_sum ms r =
         (let rr = refutes_alike (all_seen (rows_given pairs)) rows ms alike r in
         sum_refutes (place None None) (map name_of ns) rows ms (total (weighed (rows_given pairs) ms)) summed (record {
@@ -329,7 +329,7 @@ module _ (which : Kind) (facts : List Lit) (wanted : Option Lit) where
         }))
 
     above_sum : (k : ℕ) (ms : List ℤ) (q : NamedRow) → RowAt ns k q → Refutes (as_more (all_seen (rows_given pairs)) k) ms
-        → refutes (place (Some (above_row q.row)) None) (sum_of (set (map name_of ns) k Above) (rows_given pairs) ms ms summed) ≡ true
+        → refutes (place (Some (above_row q.row)) None) (certificate_sum (set (map name_of ns) k Above) (rows_given pairs) ms ms summed) ≡ true
     above_sum k ms q here r =
         (let p = place (Some (above_row q.row)) None in
         let rr = refutes_alike (as_more (all_seen (rows_given pairs)) k) (as_more rows k) ms (more_of_alike (all_seen (rows_given pairs)) rows k alike) r in
@@ -345,34 +345,34 @@ module _ (which : Kind) (facts : List Lit) (wanted : Option Lit) where
         }))
 
     below_sum : (k : ℕ) (ms : List ℤ) (q : NamedRow) → RowAt ns k q → Refutes (as_less (all_seen (rows_given pairs)) k) ms
-        → refutes (place None (Some (below_row q.row))) (sum_of (set (map name_of ns) k Below) (rows_given pairs) ms (negated_at ms k) summed) ≡ true
+        → refutes (place None (Some (below_row q.row))) (certificate_sum (set (map name_of ns) k Below) (rows_given pairs) ms (negated_place ms k) summed) ≡ true
     below_sum k ms q here r =
         (let p = place None (Some (below_row q.row)) in
         let rr = refutes_alike (as_less (all_seen (rows_given pairs)) k) (as_less rows k) ms (less_of_alike (all_seen (rows_given pairs)) rows k alike) r in
-        sum_refutes p (set (map name_of ns) k Below) (as_less rows k) ms (total (weighed (rows_given pairs) (negated_at ms k))) summed (record {
+        sum_refutes p (set (map name_of ns) k Below) (as_less rows k) ms (total (weighed (rows_given pairs) (negated_place ms k))) summed (record {
           refutes = rr;
           named = named_below p ns ms k q (all_named p refl refl) here refl rr.taken;
           as_many = length_set (map name_of ns) k Below ∙ length_names ∙ sym (length_less rows k);
           few = omega (arith, length_set (map name_of ns) k Below, few_names);
-          left_is = λ u. left_given (rows_given pairs) (negated_at ms k) u ∙ total_alike (all_seen (rows_given pairs)) rows (negated_at ms k) u alike ∙ left_less rows ms k u;
+          left_is = λ u. left_given (rows_given pairs) (negated_place ms k) u ∙ total_alike (all_seen (rows_given pairs)) rows (negated_place ms k) u alike ∙ left_less rows ms k u;
           once = subst Once (sym summed_is) (first_once [] (written ++ Right ∷ []));
           steps = steps p refl refl;
           covers = λ u h. none_total u (as_less rows k) ms (none_less u rows k (covered u h));
         }))
 
     two_sums : (k : ℕ) (above below : List ℤ) → RefutesBoth (all_seen (rows_given pairs)) k above below
-        → sums_refute facts wanted (TwoSums (get_or (map name_of ns) k Goal) (sum_of (set (map name_of ns) k Above) (rows_given pairs) above above summed) (sum_of (set (map name_of ns) k Below) (rows_given pairs) below (negated_at below k) summed)) ≡ true
+        → sums_refute facts wanted (TwoSums (get_or (map name_of ns) k Goal) (certificate_sum (set (map name_of ns) k Above) (rows_given pairs) above above summed) (certificate_sum (set (map name_of ns) k Below) (rows_given pairs) below (negated_place below k) summed)) ≡ true
     two_sums k above below h =
         (let w = the_not ns k (not_alike (all_seen (rows_given pairs)) rows k alike h.is_not) in
-        let first = sum_of (set (map name_of ns) k Above) (rows_given pairs) above above summed in
-        let second = sum_of (set (map name_of ns) k Below) (rows_given pairs) below (negated_at below k) summed in
+        let first = certificate_sum (set (map name_of ns) k Above) (rows_given pairs) above above summed in
+        let second = certificate_sum (set (map name_of ns) k Below) (rows_given pairs) below (negated_place below k) summed in
         let named = each_at (IsNamed (place None None)) ns k w.row (all_named (place None None) refl refl) w.here in
         ap (λ (o : Option Row). option_map_or (λ r. both_refute facts wanted r first second) o false) (ap (differing facts wanted) w.name ∙ named.differs (ap says_differ w.is_not))
         ∙ and_from (refutes (place (Some (above_row w.row.row)) None) first) (refutes (place None (Some (below_row w.row.row))) second)
         (above_sum k above w.row w.here h.above_refutes) (below_sum k below w.row w.here h.below_refutes))
 
     -- what the multipliers make is a certificate
-    pub certified : (a : Absurdity) → IsAbsurdity (all_seen (rows_given pairs)) a → sums_refute facts wanted (sums_of (names_given pairs) (rows_given pairs) summed a) ≡ true
-    certified (One ms) h = subst (λ (xs : List RowName). sums_refute facts wanted (sums_of xs (rows_given pairs) summed (One ms)) ≡ true) (sym (names_are ns pairs are)) (one_sum ms.items h)
+    pub certified : (a : Absurdity) → IsAbsurdity (all_seen (rows_given pairs)) a → sums_refute facts wanted (certificate_sums (names_given pairs) (rows_given pairs) summed a) ≡ true
+    certified (One ms) h = subst (λ (xs : List RowName). sums_refute facts wanted (certificate_sums xs (rows_given pairs) summed (One ms)) ≡ true) (sym (names_are ns pairs are)) (one_sum ms.items h)
     certified (Two k above below) h =
-        subst (λ (xs : List RowName). sums_refute facts wanted (sums_of xs (rows_given pairs) summed (Two k above below)) ≡ true) (sym (names_are ns pairs are)) (two_sums k above.items below.items h)
+        subst (λ (xs : List RowName). sums_refute facts wanted (certificate_sums xs (rows_given pairs) summed (Two k above below)) ≡ true) (sym (names_are ns pairs are)) (two_sums k above.items below.items h)

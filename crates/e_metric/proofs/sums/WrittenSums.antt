@@ -17,7 +17,7 @@ use Rattle.e_clause.specs.System.{NamedRow, named, against_goal, rows_of_term, r
 use Rattle.e_clause.proofs.Named.{Each, EachLit, each_literal, each_system}
 use Rattle.e_fraction.specs.declared.row.Row.{Row as GivenRow}
 use Rattle.e_simplex.specs.declared.decision.Absurdity.{Absurdity}
-use Rattle.e_metric.specs.inner.Certificate.{sums_of}
+use Rattle.e_metric.specs.inner.Certificate.{certificate_sums}
 use Rattle.e_clause.specs.declared.cert.Version.TheVariants as version
 use Rattle.e_clause.specs.Versions.{is_name_of, are_sums_of}
 use Rattle.e_metric.proofs.sums.RowNames.{each_of, each_name, sums_have}
@@ -67,9 +67,9 @@ one_of (TwoSums differs above below) = refl
 
 -- the sums of a system of well-formed facts, in some order
 pub written_well : (which : Kind) (facts : List Lit) (wanted : Option Lit) (ns : List NamedRow) (order : AreReordered ns (system which facts wanted)) (names : List RowName) (gs : List GivenRow) (ts : List Term) (a : Absurdity)
-    → names ≡ map (λ (n : NamedRow). n.name) ns → list_all is_well_formed facts ≡ true → are_sums_of version.One (sums_of names gs ts a) ≡ true
+    → names ≡ map (λ (n : NamedRow). n.name) ns → list_all is_well_formed facts ≡ true → are_sums_of version.One (certificate_sums names gs ts a) ≡ true
 written_well which facts wanted ns order names gs ts a e good =
-    one_of (sums_of names gs ts a)
+    one_of (certificate_sums names gs ts a)
     ∙ sums_have (is_name_of version.One) names gs ts a (record { goal = refl; above = refl; below = refl })
     (ap (list_all (is_name_of version.One)) e ∙ each_name (is_name_of version.One) ns (each_reordered ns (system which facts wanted) order IsGood (system_good which facts wanted good)))
     (no_literal ts)

@@ -16,7 +16,7 @@ use Rattle.e_literal.specs.Rows.{has_term, first_terms}
 use Rattle.e_literal.proofs.CanonicalTerms.{one_term_is, one_term_of}
 use Rattle.e_clause.specs.Assignment.{terms_of_atom, terms_of_lits}
 use Rattle.e_clause.specs.System.{is_of_kind, of_kind, against_goal}
-use Rattle.e_metric.specs.ListedTerms.{listed, terms_of_kind}
+use Rattle.e_metric.specs.ListedTerms.{listed, distinct_terms}
 use Rattle.e_metric.proofs.rows.Forms.{none_more}
 
 -- ---- one list after the other
@@ -136,15 +136,15 @@ turned_terms which l = by (is_of_kind which l)
     by true = refl
     by false = refl
 
-after_facts : (which : Kind) (facts : List Lit) (wanted : Option Lit) → terms_of_kind which facts wanted ≡ listed (listed [] (terms_of_lits (of_kind which facts))) (terms_of_lits (of_kind which (against_goal wanted)))
+after_facts : (which : Kind) (facts : List Lit) (wanted : Option Lit) → distinct_terms which facts wanted ≡ listed (listed [] (terms_of_lits (of_kind which facts))) (terms_of_lits (of_kind which (against_goal wanted)))
 after_facts which facts wanted =
     sym (listed_first [] [] (terms_of_lits (of_kind which facts) ++ terms_of_lits (of_kind which (against_goal wanted))) (λ t. refl))
     ∙ listed_append [] (terms_of_lits (of_kind which facts)) (terms_of_lits (of_kind which (against_goal wanted)))
 
-pub some_wanted : (which : Kind) (facts : List Lit) (l : Lit) → terms_of_kind which facts (Some l) ≡ listed (listed [] (terms_of_lits (of_kind which facts))) (terms_of_lits (of_kind which (l ∷ [])))
+pub some_wanted : (which : Kind) (facts : List Lit) (l : Lit) → distinct_terms which facts (Some l) ≡ listed (listed [] (terms_of_lits (of_kind which facts))) (terms_of_lits (of_kind which (l ∷ [])))
 some_wanted which facts l = after_facts which facts (Some l) ∙ ap (listed (listed [] (terms_of_lits (of_kind which facts)))) (turned_terms which l)
 
-pub none_wanted : (which : Kind) (facts : List Lit) → terms_of_kind which facts None ≡ listed [] (terms_of_lits (of_kind which facts))
+pub none_wanted : (which : Kind) (facts : List Lit) → distinct_terms which facts None ≡ listed [] (terms_of_lits (of_kind which facts))
 none_wanted which facts = after_facts which facts None
 
 pub ruleset all_terms = (some_wanted, none_wanted)
