@@ -39,11 +39,15 @@ pub record IsReadyFor (before : List Stated) (d : Script) (x : StepState) (goal 
   pub shown : IsTrue (list_all is_well_formed goal.shown)
   pub few : first + size d < 2 ^ 32
 
--- before something the step is ready
-pub record IsReadyStep (before : List Stated) (step : Step) (x : StepState) (first : ℕ) : Type 0 where
+-- before something the lines are ready
+pub record AreReadyLines (before : List Stated) (whole : Script → Script) (x : StepState) (first : ℕ) : Type 0 where
   pub rest : Script
   pub goal : Goal
-  pub ready : IsReadyFor before (step_script step rest) x goal first
+  pub ready : IsReadyFor before (whole rest) x goal first
+
+-- and so is the step
+abbrev pub IsReadyStep : List Stated → Step → StepState → ℕ → Type 0
+IsReadyStep before step x first = AreReadyLines before (step_script step) x first
 
 -- the facts from before are the first ones still
 abbrev pub KeepsFacts : StepState → StepState → Type 0
@@ -62,6 +66,10 @@ pub record IsPassed (before : List Stated) (whole : Script → Script) (x : Step
   pub same : (rest : Script) (goal : Goal) → verdict_at before (whole rest) x goal first ≡ verdict_at before rest after goal next
   pub kept : KeepsFacts x after
 
--- the step is refused so, whatever comes after it
+-- the lines are refused so, whatever comes after them
+abbrev pub LinesReject : List Stated → (Script → Script) → StepState → ℕ → Reject → Type 0
+LinesReject before whole x first e = (rest : Script) (goal : Goal) → RejectIs (verdict_at before (whole rest) x goal first) e
+
+-- and so is the step
 abbrev pub StepRejects : List Stated → Step → StepState → ℕ → Reject → Type 0
-StepRejects before step x first e = (rest : Script) (goal : Goal) → RejectIs (verdict_at before (step_script step rest) x goal first) e
+StepRejects before step x first e = LinesReject before (step_script step) x first e

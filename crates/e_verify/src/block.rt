@@ -1,12 +1,12 @@
 //! Checking a block line by line, with the blocks inside it.
 
-ghost use Rattle.std.specs.Prelude.{◌≡◌, ◌+◌, ◌<◌, ◌^◌, IfOk, IfErr, OnOk, IsTrue, IsFalse, Ok};
+ghost use Rattle.std.specs.Prelude.{◌≡◌, ◌+◌, ◌<◌, ◌^◌, ℕ, List, IfOk, IfErr, OnOk, IsTrue, IsFalse, Ok};
 ghost use Rattle.std.specs.List.{list_all};
 ghost use Rattle.e_theorem.specs.Statements.{all_stated};
 ghost use Rattle.e_deriv.specs.Fitting.{is_small_statement};
-ghost use Rattle.e_deriv.specs.Script.{script_of, step_script, close_script};
+ghost use Rattle.e_deriv.specs.Script.{Claim, Superposed, script_of, step_script, close_script};
 ghost use Rattle.e_verify.specs.declared.reject.Reject.TheVariants.{Bad as IsBad};
-ghost use Rattle.e_verify.specs.Checking.{IsReadyFor, IsReadyStep, IsPassed, KeepsFacts, RejectIs, StepRejects, verdict_at};
+ghost use Rattle.e_verify.specs.Checking.{AreReadyLines, IsReadyFor, IsReadyStep, IsPassed, KeepsFacts, LinesReject, RejectIs, StepRejects, verdict_at};
 ghost use Rattle.e_verify.specs.inner.StepStates.{block_goal};
 
 use crate::closes::{contradiction, qed};
@@ -14,8 +14,10 @@ use crate::reject::Reject;
 use crate::scope::are_over;
 use crate::step_state::{Goal, StepState};
 use crate::steps::{apply, cite, hence, make, superpose};
+use e_clause::Cert;
+use e_construct::Superpose;
 use e_deriv::{Block, Close, Step};
-use e_literal::in_scope;
+use e_literal::{Lit, in_scope};
 use e_theorem::Statement;
 use std::alloc::Global;
 
@@ -79,22 +81,7 @@ fn verify_step(
             )
         }
         Step::Claim { shown, inner } => {
-            if !are_over(state.scope, shown.items()) {
-                return Err(Reject::Bad { step: number });
-            }
-            let outer = state.checkpoint();
-            let goal = Goal {
-                made: &[],
-                shown: shown.items(),
-            };
-            match verify_block(alloc, before, inner, &goal, state, number + 1) {
-                Ok(next) => {
-                    state.restore(outer);
-                    state.assume_all(alloc, shown.items())?;
-                    Ok(next)
-                }
-                Err(reject) => Err(reject),
-            }
+            verify_claim(alloc, before, shown.items(), inner, state, number)
         }
         Step::Superposed {
             form,
@@ -103,23 +90,82 @@ fn verify_step(
             inner,
             ..
         } => {
-            let outer = state.checkpoint();
-            if !superpose(alloc, form, shown.items(), certs.items(), state)? {
-                return Err(Reject::Bad { step: number });
-            }
-            let goal = Goal {
-                made: &[],
+            let superposition = Superposition {
+                form,
                 shown: shown.items(),
+                certs: certs.items(),
             };
-            match verify_block(alloc, before, inner, &goal, state, number + 1) {
-                Ok(next) => {
-                    state.restore(outer);
-                    state.assume_all(alloc, shown.items())?;
-                    Ok(next)
-                }
-                Err(reject) => Err(reject),
-            }
+            verify_superposed(alloc, before, &superposition, inner, state, number)
         }
+    }
+}
+
+/// Checks a claim with its block; after it what it shows are facts.
+#[cycle(block)]
+fn verify_claim(
+    alloc: Global,
+    before: &[Statement],
+    shown: &[Lit],
+    inner: &Block,
+    state: &mut StepState,
+    number: u32,
+) -> Result<u32, Reject>
+    requires ready { AreReadyLines (all_stated before.now) (Claim shown.now (script_of inner.now)) state.old number }
+    requires statements { IsTrue (list_all is_small_statement (all_stated before.now)) }
+    ensures ok { IfOk result (λ next. IsPassed (all_stated before.now) (Claim shown.now (script_of inner.now)) state.old number state.new next) }
+    ensures err { IfErr result (LinesReject (all_stated before.now) (Claim shown.now (script_of inner.now)) state.old number) }
+{
+    if !are_over(state.scope, shown) {
+        return Err(Reject::Bad { step: number });
+    }
+    let outer = state.checkpoint();
+    let goal = Goal { made: &[], shown };
+    match verify_block(alloc, before, inner, &goal, state, number + 1) {
+        Ok(next) => {
+            state.restore(outer);
+            state.assume_all(alloc, shown)?;
+            Ok(next)
+        }
+        Err(reject) => Err(reject),
+    }
+}
+
+/// A superposition without its names and its block.
+#[derive(Clone, Copy)]
+struct Superposition<'a> {
+    form: &'a Superpose,
+    shown: &'a [Lit],
+    certs: &'a [Cert],
+}
+
+/// Checks a superposition with its block; after it what it shows are facts.
+#[cycle(block)]
+fn verify_superposed(
+    alloc: Global,
+    before: &[Statement],
+    superposition: &Superposition,
+    inner: &Block,
+    state: &mut StepState,
+    number: u32,
+) -> Result<u32, Reject>
+    requires ready { (names : List (List ℕ)) × AreReadyLines (all_stated before.now) (Superposed superposition.now.form.now names superposition.now.shown.now superposition.now.certs.now (script_of inner.now)) state.old number }
+    requires statements { IsTrue (list_all is_small_statement (all_stated before.now)) }
+    ensures ok { IfOk result (λ next. (names : List (List ℕ)) → IsPassed (all_stated before.now) (Superposed superposition.now.form.now names superposition.now.shown.now superposition.now.certs.now (script_of inner.now)) state.old number state.new next) }
+    ensures err { IfErr result (λ e. (names : List (List ℕ)) → LinesReject (all_stated before.now) (Superposed superposition.now.form.now names superposition.now.shown.now superposition.now.certs.now (script_of inner.now)) state.old number e) }
+{
+    let Superposition { form, shown, certs } = *superposition;
+    let outer = state.checkpoint();
+    if !superpose(alloc, form, shown, certs, state)? {
+        return Err(Reject::Bad { step: number });
+    }
+    let goal = Goal { made: &[], shown };
+    match verify_block(alloc, before, inner, &goal, state, number + 1) {
+        Ok(next) => {
+            state.restore(outer);
+            state.assume_all(alloc, shown)?;
+            Ok(next)
+        }
+        Err(reject) => Err(reject),
     }
 }
 

@@ -33,7 +33,7 @@ use Rattle.e_verify.specs.declared.step_state.StepState.{StepState}
 use Rattle.e_verify.specs.declared.step_state.Checkpoint.{Checkpoint}
 use Rattle.e_verify.specs.inner.StepStates.{with_facts, after_superposed, checkpoint_of, restored}
 use Rattle.e_clause.specs.Written.{is_good_cert, is_good_against}
-use Rattle.e_verify.specs.Checking.{line_at, verdict_at, RejectIs, IsReadyFor, IsReadyStep, KeepsFacts, IsPassed, StepRejects}
+use Rattle.e_verify.specs.Checking.{line_at, verdict_at, RejectIs, IsReadyFor, IsReadyStep, AreReadyLines, KeepsFacts, IsPassed, LinesReject, StepRejects}
 use Rattle.e_verify.proofs.checking.FirstLines.{some_lines, qed_lines, contradiction_lines}
 use Rattle.e_deriv.proofs.Keeping.{stay_on, stay_joined, stay_all}
 use Rattle.e_verify.proofs.checking.CertifiedLines.{superposed_fits}
@@ -132,10 +132,7 @@ apply_parts before s theorem args names certs seen x n is same r =
 pub restored_is : (o : Checkpoint) (x z y : StepState) → o ≡ checkpoint_of x → KeepsFacts x z → y ≡ restored o z → y ≡ x
 restored_is o x z y e k is = is ∙ ap (λ m. restored m z) e ∙ ap (λ fs. with_facts fs x) k
 
--- ---- a claim
-
-claim_is : (s : Step) (shown : List Lit) (inner : Box Block Global) → s ≡ ClaimStep shown inner → (rest : Script) → step_script s rest ≡ Claim shown (script_of inner.value) rest
-claim_is s shown inner is rest = ap (λ t. step_script t rest) is ∙ step_script-Claim shown inner rest
+-- ---- lines as the code has them
 
 passed_as : (before : List Stated) (f g : Script → Script) (x y : StepState) (n m : ℕ) → ((d : Script) → g d ≡ f d) → IsPassed before f x n y m → IsPassed before g x n y m
 passed_as before f g x y n m e p =
@@ -145,91 +142,107 @@ passed_as before f g x y n m e p =
       kept = p.kept;
     }
 
-pub claim_ready : (before : List Stated) (s : Step) (shown seen : List Lit) (inner : Box Block Global) (block : Block) (x : StepState) (n : ℕ) → s ≡ ClaimStep shown inner → seen ≡ shown → block ≡ inner.value → IsReadyStep before s x n
-    → IsReadyFor before (script_of block) x (goal_of seen) (n + 1)
-claim_ready before s shown seen inner block x n is same at r =
-    let q = claim_inner before shown (script_of inner.value) r.rest x r.goal n (subst (λ d. IsReadyFor before d x r.goal n) (claim_is s shown inner is r.rest) r.ready) in
-    subst (λ b. IsReadyFor before (script_of b) x (goal_of seen) (n + 1)) (sym at) (subst (λ ls. IsReadyFor before (script_of inner.value) x (goal_of ls) (n + 1)) (sym same) q)
+pub ready_as : (before : List Stated) (f g : Script → Script) (x : StepState) (n : ℕ) → ((d : Script) → g d ≡ f d) → AreReadyLines before g x n → AreReadyLines before f x n
+ready_as before f g x n e r = record { rest = r.rest; goal = r.goal; ready = subst (λ d. IsReadyFor before d x r.goal n) (e r.rest) r.ready }
 
-pub claim_fails : (before : List Stated) (s : Step) (shown seen : List Lit) (inner : Box Block Global) (x : StepState) (n : ℕ) → s ≡ ClaimStep shown inner → seen ≡ shown → are_over x.scope seen ≡ false → StepRejects before s x n (Bad n)
-claim_fails before s shown seen inner x n is same h rest goal =
-    ap (λ d. verdict_at before d x goal n) (claim_is s shown inner is rest) ∙ claim_bad before shown (script_of inner.value) rest x goal n (ap (are_over x.scope) (sym same) ∙ h)
+pub all_passed_as : (before : List Stated) (f g : Script → Script) (x y : StepState) (n : ℕ) (r : Result ℕ Reject) → ((d : Script) → g d ≡ f d) → IfOk r (λ m. IsPassed before f x n y m) → IfOk r (λ m. IsPassed before g x n y m)
+all_passed_as before f g x y n (Ok m) e p = passed_as before f g x y n m e p
+all_passed_as before f g x y n (Err k) e p = tt
 
-pub claim_stops : (before : List Stated) (s : Step) (shown seen over : List Lit) (inner : Box Block Global) (block : Block) (x : StepState) (n : ℕ) (e : Reject) → s ≡ ClaimStep shown inner → seen ≡ shown → over ≡ shown → block ≡ inner.value
-    → are_over x.scope over ≡ true → RejectIs (verdict_at before (script_of block) x (goal_of seen) (n + 1)) e → StepRejects before s x n e
-claim_stops before s shown seen over inner block x n e is same like at h k rest goal =
-    reject_as (verdict_at before (step_script s rest) x goal n) (verdict_at before (Claim shown (script_of inner.value) rest) x goal n) e (ap (λ d. verdict_at before d x goal n) (claim_is s shown inner is rest))
-    (claim_rejected before shown (script_of inner.value) rest x goal n e (ap (are_over x.scope) (sym like) ∙ h)
-    (subst (λ ls. RejectIs (verdict_at before (script_of inner.value) x (goal_of ls) (n + 1)) e) same (subst (λ b. RejectIs (verdict_at before (script_of b) x (goal_of seen) (n + 1)) e) at k)))
+pub all_rejected_as : (before : List Stated) (f g : Script → Script) (x : StepState) (n : ℕ) (r : Result ℕ Reject) → ((d : Script) → g d ≡ f d) → IfErr r (LinesReject before f x n) → IfErr r (LinesReject before g x n)
+all_rejected_as before f g x n (Ok m) e h = tt
+all_rejected_as before f g x n (Err k) e h = λ rest goal. reject_as (verdict_at before (g rest) x goal n) (verdict_at before (f rest) x goal n) k (ap (λ d. verdict_at before d x goal n) (e rest)) (h rest goal)
 
-pub claim_done : (before : List Stated) (s : Step) (shown seen over again : List Lit) (inner : Box Block Global) (block : Block) (x z y after : StepState) (o : Checkpoint) (n m : ℕ) → s ≡ ClaimStep shown inner → seen ≡ shown → over ≡ shown → again ≡ shown
-    → block ≡ inner.value → are_over x.scope over ≡ true → verdict_at before (script_of block) x (goal_of seen) (n + 1) ≡ Ok m → o ≡ checkpoint_of x → KeepsFacts x z → y ≡ restored o z → after ≡ with_facts (joined_all y.facts again) y
-    → IsPassed before (step_script s) x n after m
-claim_done before s shown seen over again inner block x z y after o n m is same like twice at h v e k left end =
-    let v' = ap (λ ls. verdict_at before (script_of inner.value) x (goal_of ls) (n + 1)) (sym same) ∙ ap (λ b. verdict_at before (script_of b) x (goal_of seen) (n + 1)) (sym at) ∙ v in
-    let p = passed_claim before shown (script_of inner.value) x n m (ap (are_over x.scope) (sym like) ∙ h) v' in
-    let back = end ∙ ap (λ w. with_facts (joined_all w.facts again) w) (restored_is o x z y e k left) ∙ ap (λ ls. with_facts (joined_all x.facts ls) x) twice in
-    passed_as before (Claim shown (script_of inner.value)) (step_script s) x after n m (claim_is s shown inner is) (subst (λ w. IsPassed before (Claim shown (script_of inner.value)) x n w m) (sym back) p)
+-- what holds whatever the names are holds with these
+pub ok_with : {N : Type 0} (r : Result ℕ Reject) (P : ℕ → N → Type 0) (names : N) → IfOk r (λ m. (ns : N) → P m ns) → IfOk r (λ m. P m names)
+ok_with (Ok m) P names h = h names
+ok_with (Err k) P names h = tt
+
+pub err_with : {N : Type 0} (r : Result ℕ Reject) (P : Reject → N → Type 0) (names : N) → IfErr r (λ e. (ns : N) → P e ns) → IfErr r (λ e. P e names)
+err_with (Ok m) P names h = tt
+err_with (Err k) P names h = h names
+
+pub few_lines : (before : List Stated) (whole : Script → Script) (x : StepState) (n : ℕ) → AreReadyLines before whole x n → n + 1 < 2 ^ 32
+few_lines before whole x n r = few_one before (whole r.rest) x r.goal n r.ready
+
+pub formed_lines : (before : List Stated) (whole : Script → Script) (x : StepState) (n : ℕ) → AreReadyLines before whole x n → list_all is_well_formed x.facts ≡ true
+formed_lines before whole x n r = r.ready.facts
+
+pub small_lines : (before : List Stated) (whole : Script → Script) (x : StepState) (n : ℕ) → AreReadyLines before whole x n → is_small x.scope ≡ true
+small_lines before whole x n r = scope_small before (whole r.rest) x r.goal n r.ready
+
+-- ---- a claim
+
+pub claim_is : (s : Step) (shown seen : List Lit) (inner : Box Block Global) (block : Block) → s ≡ ClaimStep shown inner → seen ≡ shown → block ≡ inner.value → (rest : Script) → step_script s rest ≡ Claim seen (script_of block) rest
+claim_is s shown seen inner block is same at rest =
+    ap (λ t. step_script t rest) is ∙ step_script-Claim shown inner rest ∙ ap (λ ls. Claim ls (script_of inner.value) rest) (sym same) ∙ ap (λ b. Claim seen (script_of b) rest) (sym at)
+
+pub claim_ready : (before : List Stated) (shown : List Lit) (inner : Script) (x : StepState) (n : ℕ) → AreReadyLines before (Claim shown inner) x n → IsReadyFor before inner x (goal_of shown) (n + 1)
+claim_ready before shown inner x n r = claim_inner before shown inner r.rest x r.goal n r.ready
+
+pub claim_fails : (before : List Stated) (shown : List Lit) (inner : Script) (x : StepState) (n : ℕ) → are_over x.scope shown ≡ false → LinesReject before (Claim shown inner) x n (Bad n)
+claim_fails before shown inner x n h rest goal = claim_bad before shown inner rest x goal n h
+
+pub claim_stops : (before : List Stated) (shown : List Lit) (inner : Script) (x : StepState) (n : ℕ) (e : Reject) → are_over x.scope shown ≡ true → RejectIs (verdict_at before inner x (goal_of shown) (n + 1)) e
+    → LinesReject before (Claim shown inner) x n e
+claim_stops before shown inner x n e h k rest goal = claim_rejected before shown inner rest x goal n e h k
+
+pub claim_done : (before : List Stated) (shown : List Lit) (inner : Script) (x z y after : StepState) (o : Checkpoint) (n m : ℕ) → are_over x.scope shown ≡ true → verdict_at before inner x (goal_of shown) (n + 1) ≡ Ok m
+    → o ≡ checkpoint_of x → KeepsFacts x z → y ≡ restored o z → after ≡ with_facts (joined_all y.facts shown) y → IsPassed before (Claim shown inner) x n after m
+claim_done before shown inner x z y after o n m h v e k left end =
+    let p = passed_claim before shown inner x n m h v in
+    let back = end ∙ ap (λ w. with_facts (joined_all w.facts shown) w) (restored_is o x z y e k left) in
+    subst (λ w. IsPassed before (Claim shown inner) x n w m) (sym back) p
 
 -- ---- a superposition
 
-superposed_is : (s : Step) (form : Superpose) (names : List (List ℕ)) (shown : List Lit) (certs : List Cert) (inner : Box Block Global) → s ≡ SuperposedStep form names shown certs inner → (rest : Script)
-    → step_script s rest ≡ Superposed form names shown certs (script_of inner.value) rest
-superposed_is s form names shown certs inner is rest = ap (λ t. step_script t rest) is ∙ step_script-Superposed form names shown certs inner rest
+pub superposed_is : (s : Step) (form : Superpose) (names : List (List ℕ)) (shown over : List Lit) (certs seen : List Cert) (inner : Box Block Global) (block : Block) → s ≡ SuperposedStep form names shown certs inner
+    → over ≡ shown → seen ≡ certs → block ≡ inner.value → (rest : Script) → step_script s rest ≡ Superposed form names over seen (script_of block) rest
+superposed_is s form names shown over certs seen inner block is like same at rest =
+    ap (λ t. step_script t rest) is ∙ step_script-Superposed form names shown certs inner rest ∙ ap (λ ls. Superposed form names ls certs (script_of inner.value) rest) (sym like)
+    ∙ ap (λ cs. Superposed form names over cs (script_of inner.value) rest) (sym same) ∙ ap (λ b. Superposed form names over seen (script_of b) rest) (sym at)
 
-pub superposed_parts : (before : List Stated) (s : Step) (form : Superpose) (names : List (List ℕ)) (shown : List Lit) (certs seen : List Cert) (inner : Box Block Global) (x : StepState) (n : ℕ) → s ≡ SuperposedStep form names shown certs inner → seen ≡ certs
-    → IsReadyStep before s x n → list_all is_good_cert seen ≡ true
-superposed_parts before s form names shown certs seen inner x n is same r =
-    ap (list_all is_good_cert) same
-    ∙ (superposed_written form names shown certs (script_of inner.value) r.rest (subst (λ d. IsReadyFor before d x r.goal n) (superposed_is s form names shown certs inner is r.rest) r.ready).written).1
+pub superposed_parts : (before : List Stated) (form : Superpose) (names : List (List ℕ)) (shown : List Lit) (certs : List Cert) (inner : Script) (x : StepState) (n : ℕ) → AreReadyLines before (Superposed form names shown certs inner) x n
+    → list_all is_good_cert certs ≡ true
+superposed_parts before form names shown certs inner x n r = (superposed_written form names shown certs inner r.rest r.ready.written).1
 
-pub superposed_ready : (before : List Stated) (s : Step) (form : Superpose) (names : List (List ℕ)) (shown seen : List Lit) (certs : List Cert) (inner : Box Block Global) (block : Block) (x z : StepState) (n : ℕ)
-    → s ≡ SuperposedStep form names shown certs inner → seen ≡ shown → block ≡ inner.value → z ≡ after_superposed form x → superposing.fits form x.scope ≡ true → IsReadyStep before s x n → IsReadyFor before (script_of block) z (goal_of seen) (n + 1)
-superposed_ready before s form names shown seen certs inner block x z n is same at begun fit r =
-    let q = superposed_inner before form names shown certs (script_of inner.value) r.rest x r.goal n fit (subst (λ d. IsReadyFor before d x r.goal n) (superposed_is s form names shown certs inner is r.rest) r.ready) in
-    subst (λ b. IsReadyFor before (script_of b) z (goal_of seen) (n + 1)) (sym at)
-    (subst (λ ls. IsReadyFor before (script_of inner.value) z (goal_of ls) (n + 1)) (sym same) (subst (λ w. IsReadyFor before (script_of inner.value) w (goal_of shown) (n + 1)) (sym begun) q))
+pub superposed_ready : (before : List Stated) (form : Superpose) (names : List (List ℕ)) (shown : List Lit) (certs : List Cert) (inner : Script) (x z : StepState) (n : ℕ) → z ≡ after_superposed form x → superposing.fits form x.scope ≡ true
+    → AreReadyLines before (Superposed form names shown certs inner) x n → IsReadyFor before inner z (goal_of shown) (n + 1)
+superposed_ready before form names shown certs inner x z n begun fit r =
+    subst (λ w. IsReadyFor before inner w (goal_of shown) (n + 1)) (sym begun) (superposed_inner before form names shown certs inner r.rest x r.goal n fit r.ready)
 
 -- what the code tests before the block of a superposition
 abbrev pub IsTested : List Stated → Superpose → List Lit → List Cert → StepState → Bool → Type 0
 IsTested before form shown certs x b = (names : List (List ℕ)) (inner rest : Script) (goal : Goal) → b ≡ is_certified before (line_at (Superposed form names shown certs inner rest) x goal)
 
-head_as : (before : List Stated) (form : Superpose) (names : List (List ℕ)) (shown over : List Lit) (certs seen : List Cert) (x : StepState) (b c : Bool) → over ≡ shown → seen ≡ certs → b ≡ c → IsTested before form over seen x b → IsHead before form names shown certs x c
-head_as before form names shown over certs seen x b c like same is h inner rest goal =
-    sym is ∙ h names inner rest goal ∙ ap (λ ls. is_certified before (line_at (Superposed form names ls seen inner rest) x goal)) like
-    ∙ ap (λ cs. is_certified before (line_at (Superposed form names shown cs inner rest) x goal)) same
+head_as : (before : List Stated) (form : Superpose) (names : List (List ℕ)) (shown : List Lit) (certs : List Cert) (x : StepState) (b c : Bool) → b ≡ c → IsTested before form shown certs x b → IsHead before form names shown certs x c
+head_as before form names shown certs x b c is h inner rest goal = sym is ∙ h names inner rest goal
 
 -- what is tested and certified fits
 pub tested_fits : (before : List Stated) (form : Superpose) (shown : List Lit) (certs : List Cert) (x : StepState) (b : Bool) → b ≡ true → IsTested before form shown certs x b → superposing.fits form x.scope ≡ true
 tested_fits before form shown certs x b is h =
     superposed_fits before form [] shown certs (Qed [] []) (Qed [] []) x (goal_of []) (sym is ∙ h [] (Qed [] []) (Qed [] []) (goal_of []))
 
-pub superposed_fails : (before : List Stated) (s : Step) (form : Superpose) (names : List (List ℕ)) (shown over : List Lit) (certs seen : List Cert) (inner : Box Block Global) (x : StepState) (n : ℕ) (b : Bool)
-    → s ≡ SuperposedStep form names shown certs inner → over ≡ shown → seen ≡ certs → b ≡ false → IsTested before form over seen x b → StepRejects before s x n (Bad n)
-superposed_fails before s form names shown over certs seen inner x n b is like same f h rest goal =
-    ap (λ d. verdict_at before d x goal n) (superposed_is s form names shown certs inner is rest)
-    ∙ bad_line before (Superposed form names shown certs (script_of inner.value) rest) x goal n (sym (head_as before form names shown over certs seen x b false like same f h (script_of inner.value) rest goal))
+pub superposed_fails : (before : List Stated) (form : Superpose) (shown : List Lit) (certs : List Cert) (inner : Script) (x : StepState) (n : ℕ) (b : Bool) → b ≡ false → IsTested before form shown certs x b
+    → (names : List (List ℕ)) → LinesReject before (Superposed form names shown certs inner) x n (Bad n)
+superposed_fails before form shown certs inner x n b f h names rest goal =
+    bad_line before (Superposed form names shown certs inner rest) x goal n (sym (head_as before form names shown certs x b false f h inner rest goal))
 
-pub superposed_stops : (before : List Stated) (s : Step) (form : Superpose) (names : List (List ℕ)) (shown over seen : List Lit) (certs given : List Cert) (inner : Box Block Global) (block : Block) (x z : StepState) (n : ℕ) (b : Bool) (e : Reject)
-    → s ≡ SuperposedStep form names shown certs inner → over ≡ shown → seen ≡ shown → given ≡ certs → block ≡ inner.value → z ≡ after_superposed form x → b ≡ true → IsTested before form over given x b
-    → RejectIs (verdict_at before (script_of block) z (goal_of seen) (n + 1)) e → StepRejects before s x n e
-superposed_stops before s form names shown over seen certs given inner block x z n b e is like same cs at begun t h k rest goal =
-    let d = Superposed form names shown certs (script_of inner.value) rest in
-    reject_as (verdict_at before (step_script s rest) x goal n) (verdict_at before d x goal n) e (ap (λ w. verdict_at before w x goal n) (superposed_is s form names shown certs inner is rest))
-    (superposed_rejected before form names shown certs (script_of inner.value) rest x goal n e (head_as before form names shown over certs given x b true like cs t h)
-    (subst (λ w. RejectIs (verdict_at before (script_of inner.value) w (goal_of shown) (n + 1)) e) begun
-    (subst (λ ls. RejectIs (verdict_at before (script_of inner.value) z (goal_of ls) (n + 1)) e) same (subst (λ q. RejectIs (verdict_at before (script_of q) z (goal_of seen) (n + 1)) e) at k))))
+pub superposed_stops : (before : List Stated) (form : Superpose) (shown : List Lit) (certs : List Cert) (inner : Script) (x z : StepState) (n : ℕ) (b : Bool) (e : Reject) → z ≡ after_superposed form x → b ≡ true → IsTested before form shown certs x b
+    → RejectIs (verdict_at before inner z (goal_of shown) (n + 1)) e → (names : List (List ℕ)) → LinesReject before (Superposed form names shown certs inner) x n e
+superposed_stops before form shown certs inner x z n b e begun t h k names rest goal =
+    superposed_rejected before form names shown certs inner rest x goal n e (head_as before form names shown certs x b true t h)
+    (subst (λ w. RejectIs (verdict_at before inner w (goal_of shown) (n + 1)) e) begun k)
 
-pub superposed_done : (before : List Stated) (s : Step) (form : Superpose) (names : List (List ℕ)) (shown over seen again : List Lit) (certs given : List Cert) (inner : Box Block Global) (block : Block) (x z w y after : StepState) (o : Checkpoint) (n m : ℕ) (b : Bool)
-    → s ≡ SuperposedStep form names shown certs inner → over ≡ shown → seen ≡ shown → again ≡ shown → given ≡ certs → block ≡ inner.value → z ≡ after_superposed form x → b ≡ true → IsTested before form over given x b
-    → verdict_at before (script_of block) z (goal_of seen) (n + 1) ≡ Ok m → o ≡ checkpoint_of x → KeepsFacts z w → y ≡ restored o w → after ≡ with_facts (joined_all y.facts again) y → IsPassed before (step_script s) x n after m
-superposed_done before s form names shown over seen again certs given inner block x z w y after o n m b is like same twice cs at begun t h v e k left end =
-    let S = script_of inner.value in
-    let v' = ap (λ q. verdict_at before S q (goal_of shown) (n + 1)) (sym begun) ∙ ap (λ ls. verdict_at before S z (goal_of ls) (n + 1)) (sym same) ∙ ap (λ q. verdict_at before (script_of q) z (goal_of seen) (n + 1)) (sym at) ∙ v in
-    let p = passed_superposed before form names shown certs S x n m (head_as before form names shown over certs given x b true like cs t h) v' in
+pub superposed_done : (before : List Stated) (form : Superpose) (shown : List Lit) (certs : List Cert) (inner : Script) (x z w y after : StepState) (o : Checkpoint) (n m : ℕ) (b : Bool) → z ≡ after_superposed form x → b ≡ true
+    → IsTested before form shown certs x b → verdict_at before inner z (goal_of shown) (n + 1) ≡ Ok m → o ≡ checkpoint_of x → KeepsFacts z w → y ≡ restored o w → after ≡ with_facts (joined_all y.facts shown) y
+    → (names : List (List ℕ)) → IsPassed before (Superposed form names shown certs inner) x n after m
+superposed_done before form shown certs inner x z w y after o n m b begun t h v e k left end names =
+    let v' = ap (λ q. verdict_at before inner q (goal_of shown) (n + 1)) (sym begun) ∙ v in
+    let p = passed_superposed before form names shown certs inner x n m (head_as before form names shown certs x b true t h) v' in
     let kept = kept_on x z w (subst (KeepsFacts x) (sym begun) (stay_all x.facts (superposing.gives form x.scope))) k in
-    let back = end ∙ ap (λ q. with_facts (joined_all q.facts again) q) (restored_is o x w y e kept left) ∙ ap (λ ls. with_facts (joined_all x.facts ls) x) twice in
-    passed_as before (Superposed form names shown certs S) (step_script s) x after n m (superposed_is s form names shown certs inner is) (subst (λ q. IsPassed before (Superposed form names shown certs S) x n q m) (sym back) p)
+    let back = end ∙ ap (λ q. with_facts (joined_all q.facts shown) q) (restored_is o x w y e kept left) in
+    subst (λ q. IsPassed before (Superposed form names shown certs inner) x n q m) (sym back) p
 
 -- ---- closes that are one line, as the code has them
 

@@ -1,12 +1,12 @@
-use Rattle.std.proofs.Common.{rules, arith, refl, sym, ap, ◌∙◌, subst}
+use Rattle.std.proofs.Common.{rules, arith, refl, sym, ap, ◌∙◌, subst, ℕ, List}
 use Rattle.e_theorem.specs.Statements.{all_stated}
 use Rattle.e_deriv.specs.declared.block.Close.TheViews.{the_lemmas}
-use Rattle.e_deriv.specs.Script.{script_of, close_script, Cite, Hence, Make, Apply}
+use Rattle.e_deriv.specs.Script.{script_of, step_script, close_script, Cite, Hence, Make, Apply, Claim, Superposed}
 use Rattle.e_verify.specs.inner.StepStates.{block_goal}
-use Rattle.e_verify.specs.Checking.{verdict_at, IsReadyFor, IsChecked}
+use Rattle.e_verify.specs.Checking.{verdict_at, IsReadyFor, IsChecked, IsPassed, LinesReject}
 use Rattle.e_deriv.proofs.Keeping.{all_stay}
 use Rattle.e_verify.proofs.checking.PassedLines.{cite_line, hence_line, make_line, apply_line, line_passed, line_rejected}
-use Rattle.e_verify.proofs.checking.InnerBlocks.{step_ready, step_rejects, step_same, step_next, steps_end, kept_on, ok_as, err_as, few_one, few_step, small_step, formed_step, cite_parts, tested_fits, cite_is, hence_is, make_is, apply_is, hence_parts, make_parts, apply_parts, claim_ready, claim_fails, claim_stops, claim_done, superposed_parts, superposed_ready, superposed_fails, superposed_stops, superposed_done, qed_parts, contradiction_parts, qed_ok, qed_bad, contradiction_ok, contradiction_bad, split_fails, first_ready, first_stops, after_first, second_ready, split_same, kept_after_first}
+use Rattle.e_verify.proofs.checking.InnerBlocks.{step_ready, step_rejects, step_same, step_next, steps_end, kept_on, ok_as, err_as, few_one, few_step, formed_step, small_step, cite_parts, cite_is, hence_is, make_is, apply_is, hence_parts, make_parts, apply_parts, ready_as, all_passed_as, all_rejected_as, ok_with, err_with, few_lines, formed_lines, small_lines, claim_is, claim_ready, claim_fails, claim_stops, claim_done, superposed_is, superposed_parts, superposed_ready, tested_fits, superposed_fails, superposed_stops, superposed_done, qed_parts, contradiction_parts, qed_ok, qed_bad, contradiction_ok, contradiction_bad, split_fails, first_ready, first_stops, after_first, second_ready, split_same, kept_after_first}
 use Rattle.e_verify.proofs.block.+block.Goals as goal
 use Rattle.e_verify.proofs.arithmetic.Coefficients.{on_ok}
 
@@ -186,36 +186,46 @@ verify_step-returns-in_ok-apply-in-Apply-clause-err t c =
 
 -- ---- a claim
 
-pub verify_step-returns-then-not-are_over-clause-err : goal.verify_step-returns-then-not-are_over-clause-err
-verify_step-returns-then-not-are_over-clause-err t c =
+pub verify_step-verify_claim-requires-clause-ready : goal.verify_step-verify_claim-requires-clause-ready
+verify_step-verify_claim-requires-clause-ready t c =
     let y = c.in-Claim in
-    claim_fails (all_stated c.args.before.now) c.args.step.now y.shown c.items-in-Claim.result.now y.inner c.args.state.now c.args.number y.is c.items-in-Claim.ensures (sym c.are_over.ensures ∙ c.if-not-are_over.true)
+    ready_as (all_stated c.args.before.now) (Claim c.items-in-Claim.result.now (script_of c.deref.result.now)) (step_script c.args.step.now) c.args.state.now c.args.number
+    (claim_is c.args.step.now y.shown c.items-in-Claim.result.now y.inner c.deref.result.now y.is c.items-in-Claim.ensures c.deref.ensures) c.requires.ready
 
-pub verify_step-overflow_add-number : goal.verify_step-overflow_add-number
-verify_step-overflow_add-number t c = omega (arith, few_step (all_stated c.args.before.now) c.args.step.now c.args.state.now c.args.number c.requires.ready)
-
-pub verify_step-verify_block-requires : goal.verify_step-verify_block-requires
-verify_step-verify_block-requires t c =
-    let y = c.in-Claim in (
-      search (rules, the_lemmas),
-      (
-        claim_ready (all_stated c.args.before.now) c.args.step.now y.shown c.items-in-Claim-2.result.now y.inner c.deref.result.now c.args.state.now c.args.number y.is c.items-in-Claim-2.ensures c.deref.ensures c.requires.ready,
-        c.requires.statements,
-      ),
-    )
-
-pub verify_step-returns-in_ok-assume_all-in-Ok-clause-ok : goal.verify_step-returns-in_ok-assume_all-in-Ok-clause-ok
-verify_step-returns-in_ok-assume_all-in-Ok-clause-ok t c =
+pub verify_step-returns-in-Claim-clause-ok : goal.verify_step-returns-in-Claim-clause-ok
+verify_step-returns-in-Claim-clause-ok t c =
     let y = c.in-Claim in
-    claim_done (all_stated c.args.before.now) c.args.step.now y.shown c.items-in-Claim-2.result.now c.items-in-Claim.result.now c.items-in-Ok.result.now y.inner c.deref.result.now c.args.state.now c.verify_block.new.state c.restore.new.self
-    c.assume_all.new.self c.checkpoint-outer.result c.args.number c.in-Ok.next y.is c.items-in-Claim-2.ensures c.items-in-Claim.ensures c.items-in-Ok.ensures c.deref.ensures (sym c.are_over.ensures ∙ c.if-not-are_over.false)
-    c.in-Ok.ensures.ok c.checkpoint-outer.ensures c.in-Ok.ensures.kept c.restore.ensures c.in_ok-assume_all-in-Ok.ensures
+    all_passed_as (all_stated c.args.before.now) (Claim c.items-in-Claim.result.now (script_of c.deref.result.now)) (step_script c.args.step.now) c.args.state.now c.verify_claim.new.state c.args.number c.verify_claim.result
+    (claim_is c.args.step.now y.shown c.items-in-Claim.result.now y.inner c.deref.result.now y.is c.items-in-Claim.ensures c.deref.ensures) c.verify_claim.ensures.ok
 
-pub verify_step-returns-in-Err-clause-err : goal.verify_step-returns-in-Err-clause-err
-verify_step-returns-in-Err-clause-err t c =
+pub verify_step-returns-in-Claim-clause-err : goal.verify_step-returns-in-Claim-clause-err
+verify_step-returns-in-Claim-clause-err t c =
     let y = c.in-Claim in
-    claim_stops (all_stated c.args.before.now) c.args.step.now y.shown c.items-in-Claim-2.result.now c.items-in-Claim.result.now y.inner c.deref.result.now c.args.state.now c.args.number c.in-Err.reject y.is c.items-in-Claim-2.ensures
-    c.items-in-Claim.ensures c.deref.ensures (sym c.are_over.ensures ∙ c.if-not-are_over.false) c.in-Err.ensures.err
+    all_rejected_as (all_stated c.args.before.now) (Claim c.items-in-Claim.result.now (script_of c.deref.result.now)) (step_script c.args.step.now) c.args.state.now c.args.number c.verify_claim.result
+    (claim_is c.args.step.now y.shown c.items-in-Claim.result.now y.inner c.deref.result.now y.is c.items-in-Claim.ensures c.deref.ensures) c.verify_claim.ensures.err
+
+pub verify_claim-returns-then-not-are_over-clause-err : goal.verify_claim-returns-then-not-are_over-clause-err
+verify_claim-returns-then-not-are_over-clause-err t c =
+    claim_fails (all_stated c.args.before.now) c.args.shown.now (script_of c.args.inner.now) c.args.state.now c.args.number (sym c.are_over.ensures ∙ c.if-not-are_over.true)
+
+pub verify_claim-overflow_add-number : goal.verify_claim-overflow_add-number
+verify_claim-overflow_add-number t c =
+    omega (arith, few_lines (all_stated c.args.before.now) (Claim c.args.shown.now (script_of c.args.inner.now)) c.args.state.now c.args.number c.requires.ready)
+
+pub verify_claim-verify_block-requires : goal.verify_claim-verify_block-requires
+verify_claim-verify_block-requires t c = (
+  search (rules, the_lemmas),
+  (claim_ready (all_stated c.args.before.now) c.args.shown.now (script_of c.args.inner.now) c.args.state.now c.args.number c.requires.ready, c.requires.statements),
+)
+
+pub verify_claim-returns-in_ok-assume_all-in-Ok-clause-ok : goal.verify_claim-returns-in_ok-assume_all-in-Ok-clause-ok
+verify_claim-returns-in_ok-assume_all-in-Ok-clause-ok t c =
+    claim_done (all_stated c.args.before.now) c.args.shown.now (script_of c.args.inner.now) c.args.state.now c.verify_block.new.state c.restore.new.self c.assume_all.new.self c.checkpoint-outer.result c.args.number c.in-Ok.next
+    (sym c.are_over.ensures ∙ c.if-not-are_over.false) c.in-Ok.ensures.ok c.checkpoint-outer.ensures c.in-Ok.ensures.kept c.restore.ensures c.in_ok-assume_all-in-Ok.ensures
+
+pub verify_claim-returns-in-Err-clause-err : goal.verify_claim-returns-in-Err-clause-err
+verify_claim-returns-in-Err-clause-err t c =
+    claim_stops (all_stated c.args.before.now) c.args.shown.now (script_of c.args.inner.now) c.args.state.now c.args.number c.in-Err.reject (sym c.are_over.ensures ∙ c.if-not-are_over.false) c.in-Err.ensures.err
 
 -- ---- closes
 
@@ -271,57 +281,87 @@ verify_close-returns-in_ok-contradiction-in-Contradiction-clause-err t c =
 
 -- ---- a superposition
 
-pub verify_step-superpose-requires-clause-facts : goal.verify_step-superpose-requires-clause-facts
-verify_step-superpose-requires-clause-facts t c = formed_step (all_stated c.args.before.now) c.args.step.now c.args.state.now c.args.number c.requires.ready
-
-pub verify_step-superpose-requires-clause-scope : goal.verify_step-superpose-requires-clause-scope
-verify_step-superpose-requires-clause-scope t c = small_step (all_stated c.args.before.now) c.args.step.now c.args.state.now c.args.number c.requires.ready
-
-pub verify_step-superpose-requires-clause-certs : goal.verify_step-superpose-requires-clause-certs
-verify_step-superpose-requires-clause-certs t c =
-    let y = c.in-Superposed in
-    superposed_parts (all_stated c.args.before.now) c.args.step.now y.form y.names y.shown y.certs c.items-in-Superposed-2.result.now y.inner c.args.state.now c.args.number y.is c.items-in-Superposed-2.ensures c.requires.ready
-
-pub verify_step-returns-then-not-branch-clause-err : goal.verify_step-returns-then-not-branch-clause-err
-verify_step-returns-then-not-branch-clause-err t c =
-    let before = all_stated c.args.before.now in
-    let y = c.in-Superposed in
-    superposed_fails before c.args.step.now y.form y.names y.shown c.items-in-Superposed.result.now y.certs c.items-in-Superposed-2.result.now y.inner c.args.state.now c.args.number c.in_ok-superpose-in-Superposed.field-0 y.is
-    c.items-in-Superposed.ensures c.items-in-Superposed-2.ensures c.if-not-branch.true (c.in_ok-superpose-in-Superposed.ensures.test before)
-
-pub verify_step-overflow_add-number-in-Superposed : goal.verify_step-overflow_add-number-in-Superposed
-verify_step-overflow_add-number-in-Superposed t c = omega (arith, few_step (all_stated c.args.before.now) c.args.step.now c.args.state.now c.args.number c.requires.ready)
-
-pub verify_step-verify_block-requires-in-Superposed : goal.verify_step-verify_block-requires-in-Superposed
-verify_step-verify_block-requires-in-Superposed t c =
+pub verify_step-verify_superposed-requires-clause-ready : goal.verify_step-verify_superposed-requires-clause-ready
+verify_step-verify_superposed-requires-clause-ready t c =
     let y = c.in-Superposed in (
+      y.names,
+      ready_as (all_stated c.args.before.now) (Superposed y.form y.names c.items-in-Superposed.result.now c.items-in-Superposed-2.result.now (script_of c.deref-in-Superposed.result.now)) (step_script c.args.step.now) c.args.state.now c.args.number
+          (superposed_is c.args.step.now y.form y.names y.shown c.items-in-Superposed.result.now y.certs c.items-in-Superposed-2.result.now y.inner c.deref-in-Superposed.result.now y.is c.items-in-Superposed.ensures c.items-in-Superposed-2.ensures
+          c.deref-in-Superposed.ensures) c.requires.ready,
+    )
+
+pub verify_step-returns-in-Superposed-clause-ok : goal.verify_step-returns-in-Superposed-clause-ok
+verify_step-returns-in-Superposed-clause-ok t c =
+    let y = c.in-Superposed in
+    let before = all_stated c.args.before.now in
+    let whole = λ (names : List (List ℕ)). Superposed y.form names c.items-in-Superposed.result.now c.items-in-Superposed-2.result.now (script_of c.deref-in-Superposed.result.now) in
+    all_passed_as before (whole y.names) (step_script c.args.step.now) c.args.state.now c.verify_superposed.new.state c.args.number c.verify_superposed.result
+    (superposed_is c.args.step.now y.form y.names y.shown c.items-in-Superposed.result.now y.certs c.items-in-Superposed-2.result.now y.inner c.deref-in-Superposed.result.now y.is c.items-in-Superposed.ensures c.items-in-Superposed-2.ensures
+    c.deref-in-Superposed.ensures)
+    (ok_with c.verify_superposed.result (λ m names. IsPassed before (whole names) c.args.state.now c.args.number c.verify_superposed.new.state m) y.names c.verify_superposed.ensures.ok)
+
+pub verify_step-returns-in-Superposed-clause-err : goal.verify_step-returns-in-Superposed-clause-err
+verify_step-returns-in-Superposed-clause-err t c =
+    let y = c.in-Superposed in
+    let before = all_stated c.args.before.now in
+    let whole = λ (names : List (List ℕ)). Superposed y.form names c.items-in-Superposed.result.now c.items-in-Superposed-2.result.now (script_of c.deref-in-Superposed.result.now) in
+    all_rejected_as before (whole y.names) (step_script c.args.step.now) c.args.state.now c.args.number c.verify_superposed.result
+    (superposed_is c.args.step.now y.form y.names y.shown c.items-in-Superposed.result.now y.certs c.items-in-Superposed-2.result.now y.inner c.deref-in-Superposed.result.now y.is c.items-in-Superposed.ensures c.items-in-Superposed-2.ensures
+    c.deref-in-Superposed.ensures)
+    (err_with c.verify_superposed.result (λ e names. LinesReject before (whole names) c.args.state.now c.args.number e) y.names c.verify_superposed.ensures.err)
+
+pub verify_superposed-superpose-requires-clause-facts : goal.verify_superposed-superpose-requires-clause-facts
+verify_superposed-superpose-requires-clause-facts t c =
+    let h = c.args.superposition.now in
+    formed_lines (all_stated c.args.before.now) (Superposed h.form.now c.requires.ready.0 h.shown.now h.certs.now (script_of c.args.inner.now)) c.args.state.now c.args.number c.requires.ready.1
+
+pub verify_superposed-superpose-requires-clause-scope : goal.verify_superposed-superpose-requires-clause-scope
+verify_superposed-superpose-requires-clause-scope t c =
+    let h = c.args.superposition.now in
+    small_lines (all_stated c.args.before.now) (Superposed h.form.now c.requires.ready.0 h.shown.now h.certs.now (script_of c.args.inner.now)) c.args.state.now c.args.number c.requires.ready.1
+
+pub verify_superposed-superpose-requires-clause-certs : goal.verify_superposed-superpose-requires-clause-certs
+verify_superposed-superpose-requires-clause-certs t c =
+    let h = c.args.superposition.now in
+    superposed_parts (all_stated c.args.before.now) h.form.now c.requires.ready.0 h.shown.now h.certs.now (script_of c.args.inner.now) c.args.state.now c.args.number c.requires.ready.1
+
+pub verify_superposed-returns-then-not-branch-clause-err : goal.verify_superposed-returns-then-not-branch-clause-err
+verify_superposed-returns-then-not-branch-clause-err t c =
+    let before = all_stated c.args.before.now in
+    let h = c.args.superposition.now in
+    superposed_fails before h.form.now h.shown.now h.certs.now (script_of c.args.inner.now) c.args.state.now c.args.number c.in_ok-superpose.field-0 c.if-not-branch.true (c.in_ok-superpose.ensures.test before)
+
+pub verify_superposed-overflow_add-number : goal.verify_superposed-overflow_add-number
+verify_superposed-overflow_add-number t c =
+    let h = c.args.superposition.now in
+    omega (arith, few_lines (all_stated c.args.before.now) (Superposed h.form.now c.requires.ready.0 h.shown.now h.certs.now (script_of c.args.inner.now)) c.args.state.now c.args.number c.requires.ready.1)
+
+pub verify_superposed-verify_block-requires : goal.verify_superposed-verify_block-requires
+verify_superposed-verify_block-requires t c =
+    let before = all_stated c.args.before.now in
+    let h = c.args.superposition.now in (
       search (rules, the_lemmas),
       (
-        superposed_ready (all_stated c.args.before.now) c.args.step.now y.form y.names y.shown c.items-in-Superposed-3.result.now y.certs y.inner c.deref-in-Superposed.result.now c.args.state.now c.superpose.new.state c.args.number y.is
-            c.items-in-Superposed-3.ensures c.deref-in-Superposed.ensures (c.in_ok-superpose-in-Superposed.ensures.after c.if-not-branch.false)
-            (tested_fits (all_stated c.args.before.now) y.form c.items-in-Superposed.result.now c.items-in-Superposed-2.result.now c.args.state.now c.in_ok-superpose-in-Superposed.field-0 c.if-not-branch.false
-            (c.in_ok-superpose-in-Superposed.ensures.test (all_stated c.args.before.now)))
-            c.requires.ready,
+        superposed_ready before h.form.now c.requires.ready.0 h.shown.now h.certs.now (script_of c.args.inner.now) c.args.state.now c.superpose.new.state c.args.number (c.in_ok-superpose.ensures.after c.if-not-branch.false)
+            (tested_fits before h.form.now h.shown.now h.certs.now c.args.state.now c.in_ok-superpose.field-0 c.if-not-branch.false (c.in_ok-superpose.ensures.test before)) c.requires.ready.1,
         c.requires.statements,
       ),
     )
 
-pub verify_step-returns-in_ok-assume_all-in-Ok-verify_block-clause-ok : goal.verify_step-returns-in_ok-assume_all-in-Ok-verify_block-clause-ok
-verify_step-returns-in_ok-assume_all-in-Ok-verify_block-clause-ok t c =
+pub verify_superposed-returns-in_ok-assume_all-in-Ok-clause-ok : goal.verify_superposed-returns-in_ok-assume_all-in-Ok-clause-ok
+verify_superposed-returns-in_ok-assume_all-in-Ok-clause-ok t c =
     let before = all_stated c.args.before.now in
-    let y = c.in-Superposed in
-    superposed_done before c.args.step.now y.form y.names y.shown c.items-in-Superposed.result.now c.items-in-Superposed-3.result.now c.items-in-Ok-verify_block.result.now y.certs c.items-in-Superposed-2.result.now y.inner c.deref-in-Superposed.result.now
-    c.args.state.now c.superpose.new.state c.verify_block-in-Superposed.new.state c.restore-in-Ok-verify_block.new.self c.assume_all-in-Ok-verify_block.new.self c.checkpoint-outer-in-Superposed.result c.args.number c.in-Ok-verify_block.next c.in_ok-superpose-in-Superposed.field-0
-    y.is c.items-in-Superposed.ensures c.items-in-Superposed-3.ensures c.items-in-Ok-verify_block.ensures c.items-in-Superposed-2.ensures c.deref-in-Superposed.ensures (c.in_ok-superpose-in-Superposed.ensures.after c.if-not-branch.false) c.if-not-branch.false
-    (c.in_ok-superpose-in-Superposed.ensures.test before) c.in-Ok-verify_block.ensures.ok c.checkpoint-outer-in-Superposed.ensures c.in-Ok-verify_block.ensures.kept c.restore-in-Ok-verify_block.ensures c.in_ok-assume_all-in-Ok-verify_block.ensures
+    let h = c.args.superposition.now in
+    superposed_done before h.form.now h.shown.now h.certs.now (script_of c.args.inner.now) c.args.state.now c.superpose.new.state c.verify_block.new.state c.restore.new.self c.assume_all.new.self c.checkpoint-outer.result c.args.number c.in-Ok.next
+    c.in_ok-superpose.field-0 (c.in_ok-superpose.ensures.after c.if-not-branch.false) c.if-not-branch.false (c.in_ok-superpose.ensures.test before) c.in-Ok.ensures.ok c.checkpoint-outer.ensures c.in-Ok.ensures.kept c.restore.ensures
+    c.in_ok-assume_all-in-Ok.ensures
 
-pub verify_step-returns-in-Err-verify_block-clause-err : goal.verify_step-returns-in-Err-verify_block-clause-err
-verify_step-returns-in-Err-verify_block-clause-err t c =
+pub verify_superposed-returns-in-Err-clause-err : goal.verify_superposed-returns-in-Err-clause-err
+verify_superposed-returns-in-Err-clause-err t c =
     let before = all_stated c.args.before.now in
-    let y = c.in-Superposed in
-    superposed_stops before c.args.step.now y.form y.names y.shown c.items-in-Superposed.result.now c.items-in-Superposed-3.result.now y.certs c.items-in-Superposed-2.result.now y.inner c.deref-in-Superposed.result.now c.args.state.now
-    c.superpose.new.state c.args.number c.in_ok-superpose-in-Superposed.field-0 c.in-Err-verify_block.reject y.is c.items-in-Superposed.ensures c.items-in-Superposed-3.ensures c.items-in-Superposed-2.ensures c.deref-in-Superposed.ensures
-    (c.in_ok-superpose-in-Superposed.ensures.after c.if-not-branch.false) c.if-not-branch.false (c.in_ok-superpose-in-Superposed.ensures.test before) c.in-Err-verify_block.ensures.err
+    let h = c.args.superposition.now in
+    superposed_stops before h.form.now h.shown.now h.certs.now (script_of c.args.inner.now) c.args.state.now c.superpose.new.state c.args.number c.in_ok-superpose.field-0 c.in-Err.reject (c.in_ok-superpose.ensures.after c.if-not-branch.false)
+    c.if-not-branch.false (c.in_ok-superpose.ensures.test before) c.in-Err.ensures.err
 
 -- ---- a split
 
