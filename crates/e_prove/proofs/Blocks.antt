@@ -134,20 +134,6 @@ kept_literal lit x y z e k = k ∙ ap (λ w. w.context.held) e
 
 -- ---- a claim
 
-pub claim_passed : (before : List Stated) (step : Step) (shown seen : List Lit) (inner : Box Block Global) (x z after : StepState) (n : ℕ) (o : Names) (proved : ProvedBlock) (r : Result ProvedStep Stop) →
-    step ≡ ClaimStep shown inner → seen ≡ shown → ClaimReady before shown (script_of inner.value) x → IsDerived before (script_of inner.value) x (goal_of shown) (script_of proved.block) →
-    proved.next ≡ n + 1 + size (script_of inner.value) → o ≡ x.names → KeepsHeld (held_at x) z → IfOk r (λ p. (rest : Script) → step_script p.step rest ≡ Claim seen (script_of proved.block) rest) →
-    IfOk r (λ p. p.next ≡ proved.next) → OnOk r (IsLeftWith o seen z after) → IfOk r (λ p. IsPassed before (step_script step) x n (step_script p.step) after p.next)
-claim_passed before step shown seen inner x z after n o proved (Err t) is same ready d count e k a b c = tt
-claim_passed before step shown seen inner x z after n o proved (Ok p) is same ready d count e k a b c =
-    let S = script_of inner.value in
-    let D = script_of proved.block in
-    let base = passed_claim before shown S D x n proved.next ready.over d count in
-    let here = subst (λ w. IsPassed before (Claim shown S) x n (Claim shown D) w proved.next) (sym (after_is o x z after shown seen e k same c)) base in
-    passed_as before (Claim shown S) (Claim shown D) (step_script step) (step_script p.step) x after n p.next
-    (λ w. sym (ap (λ s. step_script s w) is ∙ step_script-Claim shown inner w)) (λ w. sym (a w ∙ ap (λ ls. Claim ls D w) same))
-    (subst (λ m. IsPassed before (Claim shown S) x n (Claim shown D) after m) (sym b) here)
-
 pub claim_stopped : (before : List Stated) (step : Step) (shown : List Lit) (inner : Box Block Global) (x : StepState) (n : ℕ) (t : Stop) → step ≡ ClaimStep shown inner → ClaimReady before shown (script_of inner.value) x →
     StopsWithin before (script_of inner.value) x (goal_of shown) (n + 1) t → StepStops before step x n t
 claim_stopped before step shown inner x n t is ready k rest goal r =
@@ -158,22 +144,6 @@ claim_stopped before step shown inner x n t is ready k rest goal r =
     )
 
 -- ---- a superposition
-
-pub superposed_passed : (before : List Stated) (step : Step) (form : Superpose) (names named : List (List ℕ)) (shown seen : List Lit) (written certs : List Cert) (inner : Box Block Global) (x z after : StepState) (n : ℕ) (o : Names) (proved : ProvedBlock)
-    (r : Result ProvedStep Stop) → step ≡ SuperposedStep form names shown written inner → named ≡ names → seen ≡ shown → SuperposedReady before form names shown (script_of inner.value) x → Certifies form x certs →
-    IsDerived before (script_of inner.value) (after_superposed form names x) (goal_of shown) (script_of proved.block) → proved.next ≡ n + 1 + size (script_of inner.value) → o ≡ x.names → KeepsHeld (held_at x) z →
-    IfOk r (λ p. (rest : Script) → step_script p.step rest ≡ Superposed form named seen certs (script_of proved.block) rest) → IfOk r (λ p. p.next ≡ proved.next) → OnOk r (IsLeftWith o seen z after) →
-    IfOk r (λ p. IsPassed before (step_script step) x n (step_script p.step) after p.next)
-superposed_passed before step form names named shown seen written certs inner x z after n o proved (Err t) is given same ready cs d count e k a b c = tt
-superposed_passed before step form names named shown seen written certs inner x z after n o proved (Ok p) is given same ready cs d count e k a b c =
-    let S = script_of inner.value in
-    let D = script_of proved.block in
-    let base = passed_superposed before form names shown written certs S D x n proved.next ready.fits ready.over cs d count in
-    let here = subst (λ w. IsPassed before (Superposed form names shown written S) x n (Superposed form names shown certs D) w proved.next) (sym (after_is o x z after shown seen e k same c)) base in
-    passed_as before (Superposed form names shown written S) (Superposed form names shown certs D) (step_script step) (step_script p.step) x after n p.next
-    (λ w. sym (ap (λ s. step_script s w) is ∙ step_script-Superposed form names shown written inner w))
-    (λ w. sym (a w ∙ ap (λ ns. Superposed form ns seen certs D w) given ∙ ap (λ ls. Superposed form names ls certs D w) same))
-    (subst (λ m. IsPassed before (Superposed form names shown written S) x n (Superposed form names shown certs D) after m) (sym b) here)
 
 pub superposed_stopped : (before : List Stated) (step : Step) (form : Superpose) (names : List (List ℕ)) (shown : List Lit) (written certs : List Cert) (inner : Box Block Global) (x : StepState) (n : ℕ) (t : Stop) →
     step ≡ SuperposedStep form names shown written inner → SuperposedReady before form names shown (script_of inner.value) x → Certifies form x certs →

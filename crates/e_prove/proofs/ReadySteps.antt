@@ -174,7 +174,7 @@ theorem_is (s ∷ ss) (suc k) t lt e = theorem_is ss k t (omega (arith, lt)) e
 pub block_facts : (before : List Stated) (d : Script) (x : StepState) (goal : Goal) → IsReadyFor before d x goal → are_good_facts x.context.scope x.context.facts ≡ true
 block_facts before d x goal r = first_facts before d d x.context.scope x.context.facts goal (r.lits d)
 
-claim_few : (shown : List Lit) (inner rest : Script) (n : ℕ) → n + size (Claim shown inner rest) < 2 ^ 32 → n + 1 + size inner < 2 ^ 32
+pub claim_few : (shown : List Lit) (inner rest : Script) (n : ℕ) → n + size (Claim shown inner rest) < 2 ^ 32 → n + 1 + size inner < 2 ^ 32
 unfolding size
 claim_few shown inner rest n h = omega (arith, h)
 
@@ -185,13 +185,7 @@ claim_parts before shown inner x n r =
 pub claim_lines : (before : List Stated) (shown : List Lit) (inner : Box Block Global) (x : StepState) (n : ℕ) → IsReadyStep before (ClaimStep shown inner) x n → n + 1 + size (script_of inner.value) < 2 ^ 32
 claim_lines before shown inner x n r = claim_few shown (script_of inner.value) r.rest n (subst (λ d. n + size d < 2 ^ 32) (step_script-Claim shown inner r.rest) r.few)
 
-pub claim_after : (before : List Stated) (shown : List Lit) (inner : Box Block Global) (derived : Script) (x : StepState) (n : ℕ) → IsDerived before (script_of inner.value) x (goal_of shown) derived →
-    IsReadyStep before (ClaimStep shown inner) x n → are_good_facts x.context.scope (joined_all x.context.facts shown) ≡ true
-claim_after before shown inner derived x n d r =
-    let ready = subst (λ w. IsReadyFor before w x r.goal) (step_script-Claim shown inner r.rest) r.ready in
-    block_facts before r.rest (after_block shown x) r.goal (claim_rest before shown (script_of inner.value) derived r.rest x r.goal d ready)
-
-superposed_few : (form : Superpose) (names : List (List ℕ)) (shown : List Lit) (certs : List Cert) (inner rest : Script) (n : ℕ) → n + size (Superposed form names shown certs inner rest) < 2 ^ 32 → n + 1 + size inner < 2 ^ 32
+pub superposed_few : (form : Superpose) (names : List (List ℕ)) (shown : List Lit) (certs : List Cert) (inner rest : Script) (n : ℕ) → n + size (Superposed form names shown certs inner rest) < 2 ^ 32 → n + 1 + size inner < 2 ^ 32
 unfolding size
 superposed_few form names shown certs inner rest n h = omega (arith, h)
 
@@ -204,10 +198,3 @@ pub superposed_lines : (before : List Stated) (form : Superpose) (names : List (
     IsReadyStep before (SuperposedStep form names shown certs inner) x n → n + 1 + size (script_of inner.value) < 2 ^ 32
 superposed_lines before form names shown certs inner x n r =
     superposed_few form names shown certs (script_of inner.value) r.rest n (subst (λ d. n + size d < 2 ^ 32) (step_script-Superposed form names shown certs inner r.rest) r.few)
-
-pub superposed_after : (before : List Stated) (form : Superpose) (names : List (List ℕ)) (shown : List Lit) (certs : List Cert) (inner : Box Block Global) (derived : Script) (x : StepState) (n : ℕ) →
-    IsDerived before (script_of inner.value) (after_superposed form names x) (goal_of shown) derived → IsReadyStep before (SuperposedStep form names shown certs inner) x n →
-    are_good_facts x.context.scope (joined_all x.context.facts shown) ≡ true
-superposed_after before form names shown certs inner derived x n d r =
-    let ready = subst (λ w. IsReadyFor before w x r.goal) (step_script-Superposed form names shown certs inner r.rest) r.ready in
-    block_facts before r.rest (after_block shown x) r.goal (superposed_rest before form names shown certs (script_of inner.value) derived r.rest x r.goal d ready)

@@ -35,12 +35,16 @@ pub record IsReadyFor (before : List Stated) (script : Script) (x : StepState) (
   pub scopes : IsTrue (list_all (λ y. is_small y.scope) (lines_at before script script x.context goal))
   pub statements : IsTrue (list_all is_small_statement before)
 
--- before something the step is ready, and there are numbers for the steps from this one on
-pub record IsReadyStep (before : List Stated) (step : Step) (x : StepState) (first : ℕ) : Type 0 where
+-- before something the steps are ready, and there are numbers for the steps from this one on
+pub record AreReadySteps (before : List Stated) (whole : Script → Script) (x : StepState) (first : ℕ) : Type 0 where
   pub rest : Script
   pub goal : Goal
-  pub ready : IsReadyFor before (step_script step rest) x goal
-  pub few : first + size (step_script step rest) < 2 ^ 32
+  pub ready : IsReadyFor before (whole rest) x goal
+  pub few : first + size (whole rest) < 2 ^ 32
+
+-- and so is the step
+abbrev pub IsReadyStep : List Stated → Step → StepState → ℕ → Type 0
+IsReadyStep before step x first = AreReadySteps before (step_script step) x first
 
 -- the script is licensed, with its blanks filled as in the derived one, and the derived one is certified; without certificates
 -- that is the script with its blanks filled; its certificates name literals that are well formed
@@ -108,11 +112,15 @@ pub record IsPassed (before : List Stated) (whole : Script → Script) (x : Step
   pub number : (rest : Script) → first + size (whole rest) ≡ next + size rest
   pub kept : KeepsHeld x after
 
--- the step stops so, whatever comes after it, and not at what comes after it
+-- the steps stop so, whatever comes after them, and not at what comes after them
+abbrev pub StepsStop : List Stated → (Script → Script) → StepState → ℕ → Stop → Type 0
+StepsStop before whole x first s =
+    (rest : Script) (goal : Goal) → IsReadyFor before (whole rest) x goal
+    → StopsWithin before (whole rest) x goal first s × IsStopBefore (first + size (whole rest) - size rest) s
+
+-- and so does the step
 abbrev pub StepStops : List Stated → Step → StepState → ℕ → Stop → Type 0
-StepStops before step x first s =
-    (rest : Script) (goal : Goal) → IsReadyFor before (step_script step rest) x goal
-    → StopsWithin before (step_script step rest) x goal first s × IsStopBefore (first + size (step_script step rest) - size rest) s
+StepStops before step x first s = StepsStop before (step_script step) x first s
 
 -- at step n of the step's own block this holds, whatever comes after the step
 abbrev pub ReachesInStep : List Stated → Step → StepState → ℕ → ℕ → StepState → Type 0
