@@ -6,3 +6,4 @@ pub mod RowNames
 pub mod ScopeOfSums
 pub mod WrittenSums
 pub mod UsedRows
+pub mod ZippedRows

@@ -51,6 +51,7 @@ fn keep(
 }
 
 // The rows whose multiplier is not 0.
+#[tactic(auto, using(crate::proofs::sums::ZippedRows::ending))]
 fn kept(
     alloc: Global,
     names: &[RowName],
@@ -60,8 +61,8 @@ fn kept(
     ensures { IfOk result (λ v. v.items ≡ Certificate.named_multipliers names.now multipliers.now) }
 {
     let mut sum = Vec::new(alloc);
-    for i in 0..names.len() {
-        keep(&mut sum, alloc, &names[i], multipliers[i])?;
+    for (name, multiplier) in names.iter().zip(multipliers) {
+        keep(&mut sum, alloc, name, *multiplier)?;
     }
     Ok(sum)
 }
@@ -87,14 +88,15 @@ fn use_row(
 
 // The rows whose weight is not 0, and these weights: mostly few of many, and only these count for
 // what is left of a term.
+#[tactic(auto, using(crate::proofs::sums::ZippedRows::ending))]
 fn used(alloc: Global, rows: &[Row], weights: &[i128]) -> Result<(Vec<Row>, Vec<i128>), AllocError>
     requires { length weights.now ≡ length rows.now }
     ensures { IfOk result (λ u. (u.0.items ≡ Certificate.used_rows rows.now weights.now) × (u.1.items ≡ Certificate.used_weights rows.now weights.now)) }
 {
     let mut used = Vec::new(alloc);
     let mut by = Vec::new(alloc);
-    for i in 0..rows.len() {
-        use_row(&mut used, &mut by, alloc, &rows[i], weights[i])?;
+    for (row, weight) in rows.iter().zip(weights) {
+        use_row(&mut used, &mut by, alloc, row, *weight)?;
     }
     Ok((used, by))
 }

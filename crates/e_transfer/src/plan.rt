@@ -95,8 +95,8 @@ fn order_of(
     let mut order = Vec::new(alloc);
     add_bound(&mut order, bindings)?;
     add_preferred(&mut order, representatives, bindings.len(), preferred)?;
-    for v in 0..representatives.len() {
-        add_once(&mut order, bindings.len(), representatives[v])?;
+    for representative in representatives {
+        add_once(&mut order, bindings.len(), *representative)?;
     }
     Ok(order)
 }
@@ -107,12 +107,10 @@ fn position_in(order: &[usize], variable: usize) -> usize
     ensures below { result < length order.now }
     ensures at { slice_index order.now result ≡ variable }
 {
-    for i in 0..order.len() {
-        if order[i] == variable {
-            return i;
-        }
+    match order.iter().position(|v| *v == variable) {
+        Some(position) => position,
+        None => unreachable!(),
     }
-    unreachable!()
 }
 
 fn positions_of(
@@ -125,8 +123,8 @@ fn positions_of(
     ensures { IfOk result (λ v. PositionsAre representatives.now order.now v.items) }
 {
     let mut positions = Vec::new(alloc);
-    for i in 0..representatives.len() {
-        positions.push(position_in(order, representatives[i]))?;
+    for representative in representatives {
+        positions.push(position_in(order, *representative))?;
     }
     Ok(positions)
 }

@@ -102,16 +102,8 @@ fn search_place(
     }
     let (pattern, negated) = pattern_at(row, place);
     let matches = matches(alloc, row, &pattern, negated, query.goal)?;
-    for i in 0..matches.len() {
-        match search_with_equations(
-            alloc,
-            query,
-            rule,
-            row,
-            preferred,
-            place,
-            matches[i].items(),
-        )? {
+    for equations in &matches {
+        match search_with_equations(alloc, query, rule, row, preferred, place, equations.items())? {
             Verdict::No => {}
             Verdict::Yes(cert) => return Ok(Verdict::Yes(cert)),
             Verdict::TooWide(width) => return Ok(Verdict::TooWide(width)),
