@@ -30,7 +30,7 @@ use Rattle.e_licence.specs.declared.licensing.Licensed.{Licensed}
 use Rattle.e_licence.specs.declared.licensing.Licensed.TheVariants as licensed
 use Rattle.e_licence.specs.Licences.{IsLicence}
 use Rattle.e_licence.specs.Contexts.{Basis}
-use Rattle.e_licence.specs.inner.BlankChoices.{numbers_left, filled, images_of_choice, is_completed, AllCompleted, IsKept, IsWanted, IsRefusedAt, SomeIsRefusedAt, SomeIsWideAt, OneIs, AllIs}
+use Rattle.e_licence.specs.inner.BlankChoices.{numbers_left, filled_arguments, images_of_choice, is_completed, AllCompleted, IsKeptChoice, IsWanted, IsRefusedAt, SomeIsRefusedAt, SomeIsWideAt, OneIs, AllIs}
 
 -- ---- one object
 
@@ -51,7 +51,7 @@ not_in_scope s sort o num y is less =
 -- the image of an object that is known stays
 bound_stays : (s m b : Scope) (sorts : List Sort) (entries : List (Option Obj)) (part rest : List ℕ) (o : Obj)
     → ltb (number_of (image_in (images_of_choice s (next_objects b sorts) entries part) o) o.num) (count_of s o.sort) ≡ true
-    → number_of (image_in (images_of_choice s (next_objects b sorts) entries part) o) o.num ≡ number_of (image_in (paired (next_objects b sorts) (filled m (next_objects b sorts) entries (part ++ rest))) o) o.num
+    → number_of (image_in (images_of_choice s (next_objects b sorts) entries part) o) o.num ≡ number_of (image_in (paired (next_objects b sorts) (filled_arguments m (next_objects b sorts) entries (part ++ rest))) o) o.num
 bound_stays s m b [] entries part rest o h = refl
 bound_stays s m b (sort ∷ sorts) [] part rest o h = refl
 bound_stays s m b (sort ∷ sorts) (Some p ∷ entries) part rest o h =
@@ -72,10 +72,10 @@ at es l = renamed (image_in es) l
 
 pub stays : (s m : Scope) (sorts : List Sort) (entries : List (Option Obj)) (part rest : List ℕ) (l : Lit)
     → is_good s (at (images_of_choice s (next_objects nothing sorts) entries part) l) ≡ true
-    → at (images_of_choice s (next_objects nothing sorts) entries part) l ≡ at (paired (next_objects nothing sorts) (filled m (next_objects nothing sorts) entries (part ++ rest))) l
+    → at (images_of_choice s (next_objects nothing sorts) entries part) l ≡ at (paired (next_objects nothing sorts) (filled_arguments m (next_objects nothing sorts) entries (part ++ rest))) l
 stays s m sorts entries part rest l good =
     let f = image_in (images_of_choice s (next_objects nothing sorts) entries part) in
-    let g = image_in (paired (next_objects nothing sorts) (filled m (next_objects nothing sorts) entries (part ++ rest))) in
+    let g = image_in (paired (next_objects nothing sorts) (filled_arguments m (next_objects nothing sorts) entries (part ++ rest))) in
     same_renamed f g (is_moved_in s f) (λ o h. bound_stays s m nothing sorts entries part rest o h) l
     (sym (renamed_scope s f l) ∙ and_left (all_in_scope s (renamed f l)) (is_well_formed (renamed f l)) good)
 
@@ -112,7 +112,7 @@ front part = take (length part - 1) part
 
 bound_now : (b : Basis) (sorts : List Sort) (entries : List (Option Obj)) (given : List Lit) (part : List ℕ)
     → (1 ≤ length part → AllBound b (images_of_choice b.scope (next_objects nothing sorts) entries (front part)) given)
-    → IsKept b (next_objects nothing sorts) entries given part → AllBound b (images_of_choice b.scope (next_objects nothing sorts) entries part) given
+    → IsKeptChoice b (next_objects nothing sorts) entries given part → AllBound b (images_of_choice b.scope (next_objects nothing sorts) entries part) given
 bound_now b sorts entries given [] was kept =
     bound_first b (images_of_choice b.scope (next_objects nothing sorts) entries []) (images_of_choice b.scope (next_objects nothing sorts) entries []) given kept
 bound_now b sorts entries given (v ∷ part) was kept =
@@ -139,7 +139,7 @@ front_of part v =
 -- where each part of a choice is kept, all its literals are allowed
 bound_all : (b : Basis) (sorts : List Sort) (entries : List (Option Obj)) (given : List Lit) (part c : List ℕ)
     → (1 ≤ length part → AllBound b (images_of_choice b.scope (next_objects nothing sorts) entries (front part)) given)
-    → EachKept (IsKept b (next_objects nothing sorts) entries given) part c → AllBound b (images_of_choice b.scope (next_objects nothing sorts) entries (part ++ c)) given
+    → EachKept (IsKeptChoice b (next_objects nothing sorts) entries given) part c → AllBound b (images_of_choice b.scope (next_objects nothing sorts) entries (part ++ c)) given
 bound_all b sorts entries given part [] was kept =
     subst (λ x. AllBound b (images_of_choice b.scope (next_objects nothing sorts) entries x) given) (sym (append-nil part)) (bound_now b sorts entries given part was kept)
 bound_all b sorts entries given part (v ∷ c) was (kept, more) =
@@ -149,7 +149,7 @@ bound_all b sorts entries given part (v ∷ c) was (kept, more) =
     (λ some. subst (λ x. AllBound b (images_of_choice b.scope (next_objects nothing sorts) entries x) given) (sym (front_of part v)) now) more)
 
 pub all_bound : (b : Basis) (sorts : List Sort) (entries : List (Option Obj)) (given : List Lit) (c : List ℕ)
-    → EachKept (IsKept b (next_objects nothing sorts) entries given) [] c → AllBound b (images_of_choice b.scope (next_objects nothing sorts) entries c) given
+    → EachKept (IsKeptChoice b (next_objects nothing sorts) entries given) [] c → AllBound b (images_of_choice b.scope (next_objects nothing sorts) entries c) given
 all_bound b sorts entries given c kept = bound_all b sorts entries given [] c (λ some. absurd (omega (arith, some))) kept
 
 -- and where all objects are in scope, each literal is
@@ -231,7 +231,7 @@ wide_one b now before first ls i l o w less is stop claim =
 -- ---- the verdict on the first numbers of a choice
 
 abbrev pub KeptAt : Basis → List Obj → List (Option Obj) → List Lit → List ℕ → Type 0
-KeptAt b os entries given part = IsKept b os entries given part
+KeptAt b os entries given part = IsKeptChoice b os entries given part
 
 abbrev pub ShownAt : List ℕ → Unit {0} → Type 0
 ShownAt part p = Unit {0}

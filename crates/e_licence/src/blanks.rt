@@ -9,7 +9,7 @@ ghost use Rattle.e_theorem.specs.Pattern.{is_pattern};
 ghost use Rattle.e_theorem.specs.Statements.{stated};
 ghost use Rattle.e_transfer.specs.Prepared.{IsPrepared};
 ghost use Rattle.e_licence.specs.inner.BlankChoices;
-ghost use Rattle.e_licence.specs.inner.BlankChoices.{IsKept, IsWanted, OneIs, AllIs, SomeIsWideAt};
+ghost use Rattle.e_licence.specs.inner.BlankChoices.{IsKeptChoice, IsWanted, OneIs, AllIs, SomeIsWideAt};
 ghost use Rattle.e_licence.specs.FilledBlanks.{FilledIs};
 
 use crate::context::Context;
@@ -183,7 +183,7 @@ pub fn arguments(
     pattern: &[Option<Obj>],
     part: &[u16],
 ) -> Result<Vec<Obj>, AllocError>
-    ensures { IfOk result (λ args. args.items ≡ BlankChoices.filled scope declared.now pattern.now part.now) }
+    ensures { IfOk result (λ args. args.items ≡ BlankChoices.filled_arguments scope declared.now pattern.now part.now) }
 {
     let mut rest = part;
     let mut args = Vec::new(alloc);
@@ -296,7 +296,7 @@ impl<'a> Task for Blanks<'a> {
 
     ghost wanted = { λ s c. IsWanted s.context.now s.declared.items s.pattern.now s.statement.now.given c };
 
-    ghost kept = { λ s part. IsKept s.context.now s.declared.items s.pattern.now s.statement.now.given part };
+    ghost kept = { λ s part. IsKeptChoice s.context.now s.declared.items s.pattern.now s.statement.now.given part };
 
     ghost shown = { λ s part p. Unit {0} };
 

@@ -8,7 +8,7 @@ ghost use Rattle.e_theorem.specs.Statements.{stated};
 ghost use Rattle.e_transfer.specs.Prepared.{IsPrepared};
 ghost use Rattle.e_licence.specs.ChoicesInOrder.{FirstAre};
 ghost use Rattle.e_licence.specs.declared.choices.FirstChoices.TheVariants.{Found};
-ghost use Rattle.e_licence.specs.inner.BlankChoices.{filled};
+ghost use Rattle.e_licence.specs.inner.BlankChoices.{filled_arguments};
 
 use crate::blanks::{Blanks, arguments, has_empty, spans};
 use crate::context::Context;
@@ -153,7 +153,7 @@ fn as_found(
     found: &[Items<u16>],
     more: bool,
 ) -> Result<FirstChoices, AllocError>
-    ensures { IfOk result (λ f. f ≡ Found (map (filled scope declared.now pattern.now) found.now) more) }
+    ensures { IfOk result (λ f. f ≡ Found (map (filled_arguments scope declared.now pattern.now) found.now) more) }
 {
     let choices = all_arguments(alloc, scope, declared, pattern, found)?;
     Ok(FirstChoices::Found { choices, more })
@@ -167,7 +167,7 @@ fn all_arguments(
     pattern: &[Option<Obj>],
     found: &[Items<u16>],
 ) -> Result<Items<Items<Obj>>, AllocError>
-    ensures { IfOk result (λ choices. choices ≡ map (filled scope declared.now pattern.now) found.now) }
+    ensures { IfOk result (λ choices. choices ≡ map (filled_arguments scope declared.now pattern.now) found.now) }
 {
     let mut choices = Items::empty(alloc);
     for part in found {

@@ -8,9 +8,9 @@ use Rattle.e_clause.specs.Assignment.{terms_of_lits}
 use Rattle.e_clause.specs.System.{of_kind, against_goal}
 
 -- the terms, and those of the second list that are none of them, each once
-abbrev pub listed : List Term → List Term → List Term
-listed seen [] = seen
-listed seen (t ∷ ts) = listed (if has_term seen t then seen else seen ++ t ∷ []) ts
+abbrev pub with_listed : List Term → List Term → List Term
+with_listed seen [] = seen
+with_listed seen (t ∷ ts) = with_listed (if has_term seen t then seen else seen ++ t ∷ []) ts
 
 -- the terms of the facts of a kind and of the wanted literal, if it is of the kind, each once, as it is written first
 abbrev pub distinct_terms : Kind → List Lit → Option Lit → List Term

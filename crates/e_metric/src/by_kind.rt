@@ -1,7 +1,7 @@
 //! One thing for each kind of magnitude.
 
 ghost use Rattle.std.specs.Prelude.{◌≡◌};
-ghost use Rattle.e_metric.specs.inner.ByKind.{arranged, at_kind, others};
+ghost use Rattle.e_metric.specs.inner.ByKind.{arranged, at_kind, other_two};
 
 use e_literal::Kind;
 
@@ -15,7 +15,7 @@ pub struct ByKind<T> {
 
 /// The kinds other than this one, in their order.
 pub fn other_kinds(which: Kind) -> (Kind, Kind)
-    ensures { result ≡ others which }
+    ensures { result ≡ other_two which }
 {
     match which {
         Kind::Segment => (Kind::Angle, Kind::Area),

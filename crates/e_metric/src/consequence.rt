@@ -11,7 +11,7 @@ ghost use Rattle.e_fraction.specs.Limits.{all_small};
 ghost use Rattle.e_fraction.specs.Views.{all_seen};
 ghost use Rattle.e_simplex.specs.Answer.{IsAbsurdity};
 ghost use Rattle.e_metric.specs.inner.Certificate;
-ghost use Rattle.e_metric.specs.ListedTerms.{distinct_terms, listed};
+ghost use Rattle.e_metric.specs.ListedTerms.{distinct_terms, with_listed};
 ghost use Rattle.e_metric.specs.MetricAnswers.{IsMetricAnswer, IsKindAnswer, IsYes, IfYes, IfNo};
 
 use crate::assigning::counterexample;
@@ -63,7 +63,7 @@ pub fn summed_terms(
     facts: &Facts,
     wanted: Option<&Lit>,
 ) -> Result<Vec<Term>, AllocError>
-    ensures { IfOk result (λ v. v.items ≡ listed (distinct_terms which facts.now (option_copied wanted.entry)) (Term.Right ∷ [])) }
+    ensures { IfOk result (λ v. v.items ≡ with_listed (distinct_terms which facts.now (option_copied wanted.entry)) (Term.Right ∷ [])) }
 {
     let mut terms = terms_of_kind(alloc, which, facts, wanted)?;
     if !has_term(&terms, Term::Right) {
@@ -86,7 +86,7 @@ pub fn certificate_of(
     requires few { length rows.now ≤ 4096 }
     requires coefficients { IsTrue (all_small rows.now) }
     requires refuted { IsAbsurdity (all_seen rows.now) absurdity.now }
-    ensures { IfOk result (λ m. m.sums ≡ Certificate.certificate_sums names.items rows.now (listed (distinct_terms which facts.now (option_copied wanted.entry)) (Term.Right ∷ [])) absurdity.now) }
+    ensures { IfOk result (λ m. m.sums ≡ Certificate.certificate_sums names.items rows.now (with_listed (distinct_terms which facts.now (option_copied wanted.entry)) (Term.Right ∷ [])) absurdity.now) }
 {
     let terms = summed_terms(alloc, which, facts, wanted)?;
     let sums = sums_of(alloc, names, rows, &terms, absurdity)?;

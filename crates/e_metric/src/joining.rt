@@ -2,7 +2,7 @@
 
 ghost use Rattle.std.specs.Prelude.{◌≡◌, ◌+◌, ◌<◌, ◌≤◌, ◌^◌, length, pos, OnOk, IfOk};
 ghost use Rattle.e_literal.specs.Same.{one_term, coeff_of};
-ghost use Rattle.e_metric.specs.inner.Differences.{coefficient_in_difference, difference_form, with_term, with_terms};
+ghost use Rattle.e_metric.specs.inner.Differences.{coefficient_in_difference, difference_form, with_summand, with_summands};
 
 use e_fraction::stands_in;
 use e_literal::{Mono, Term, canonical, is_degenerate};
@@ -46,7 +46,7 @@ fn add_term(
     term: Term,
 ) -> Result<(), AllocError>
     requires { length x.now + length y.now ≤ 32 }
-    ensures { OnOk result (form.new.items ≡ with_term x.now y.now form.old.items term) }
+    ensures { OnOk result (form.new.items ≡ with_summand x.now y.now form.old.items term) }
 {
     if is_degenerate(term) || stands_in(form, term) {
         return Ok(());
@@ -66,7 +66,7 @@ fn add_terms(
     sum: &[Mono],
 ) -> Result<(), AllocError>
     requires { length x.now + length y.now ≤ 32 }
-    ensures { OnOk result (form.new.items ≡ with_terms x.now y.now form.old.items sum.now) }
+    ensures { OnOk result (form.new.items ≡ with_summands x.now y.now form.old.items sum.now) }
 {
     for m in sum {
         add_term(form, x, y, canonical(m.term))?;

@@ -5,7 +5,7 @@ ghost use Rattle.e_literal.specs.Rows;
 ghost use Rattle.e_clause.specs.Assignment.{terms_of_atom, terms_of_lits};
 ghost use Rattle.e_clause.specs.System;
 ghost use Rattle.e_clause.specs.System.{of_kind};
-ghost use Rattle.e_metric.specs.ListedTerms.{distinct_terms, listed};
+ghost use Rattle.e_metric.specs.ListedTerms.{distinct_terms, with_listed};
 ghost use Rattle.e_metric.specs.inner.FurtherRows;
 
 use e_facts::Facts;
@@ -29,7 +29,7 @@ pub fn has_term(terms: &[Term], term: Term) -> bool
 
 // Puts the terms of a sum last that are none of those before.
 fn add_sum(terms: &mut Vec<Term>, sum: &[Mono]) -> Result<(), AllocError>
-    ensures { OnOk result (terms.new.items ≡ listed terms.old.items (map (λ m. m.term) sum.now)) }
+    ensures { OnOk result (terms.new.items ≡ with_listed terms.old.items (map (λ m. m.term) sum.now)) }
 {
     for m in sum {
         if !has_term(terms, m.term) {
@@ -42,7 +42,7 @@ fn add_sum(terms: &mut Vec<Term>, sum: &[Mono]) -> Result<(), AllocError>
 // Puts the terms of an atom last that are none of those before.
 #[tactic(auto, using(crate::proofs::terms::FirstTerms::atom_terms))]
 fn add_atom(terms: &mut Vec<Term>, atom: &Atom) -> Result<(), AllocError>
-    ensures { OnOk result (terms.new.items ≡ listed terms.old.items (terms_of_atom atom.now)) }
+    ensures { OnOk result (terms.new.items ≡ with_listed terms.old.items (terms_of_atom atom.now)) }
 {
     match atom {
         Atom::MagEq(x, y) | Atom::MagLt(x, y) => {
@@ -56,7 +56,7 @@ fn add_atom(terms: &mut Vec<Term>, atom: &Atom) -> Result<(), AllocError>
 // Puts the terms of a literal last that are none of those before, if it is of the kind.
 #[tactic(auto, using(crate::proofs::terms::FirstTerms::literal_terms))]
 fn add_literal(terms: &mut Vec<Term>, which: Kind, lit: &Lit) -> Result<(), AllocError>
-    ensures { OnOk result (terms.new.items ≡ listed terms.old.items (terms_of_lits (of_kind which (lit.now ∷ [])))) }
+    ensures { OnOk result (terms.new.items ≡ with_listed terms.old.items (terms_of_lits (of_kind which (lit.now ∷ [])))) }
 {
     if is_of_kind(which, lit) {
         add_atom(terms, &lit.atom)?;
@@ -72,7 +72,7 @@ fn add_facts(
     from: usize,
 ) -> Result<(), AllocError>
     requires { from ≤ length facts.now }
-    ensures { OnOk result (terms.new.items ≡ listed terms.old.items (terms_of_lits (of_kind which (drop from facts.now)))) }
+    ensures { OnOk result (terms.new.items ≡ with_listed terms.old.items (terms_of_lits (of_kind which (drop from facts.now)))) }
 {
     let count = facts.len();
     for k in 0..count - from {
@@ -83,7 +83,7 @@ fn add_facts(
 
 // The terms of the facts of a kind.
 fn terms_of_facts(alloc: Global, which: Kind, facts: &Facts) -> Result<Vec<Term>, AllocError>
-    ensures { IfOk result (λ v. v.items ≡ listed [] (terms_of_lits (of_kind which facts.now))) }
+    ensures { IfOk result (λ v. v.items ≡ with_listed [] (terms_of_lits (of_kind which facts.now))) }
 {
     let mut terms = Vec::new(alloc);
     add_facts(&mut terms, which, facts, 0)?;

@@ -29,7 +29,7 @@ use Rattle.e_prove.specs.declared.block.ProvedStep.{ProvedStep}
 use Rattle.e_prove.specs.declared.block.ProvedClose.{ProvedClose}
 use Rattle.e_prove.specs.inner.StepStates.{after_literal, after_superposed, held_at, IsLeftWith}
 use Rattle.e_prove.specs.inner.StopsOfSteps.{StepStopsAmong, UnlessNoMemory, StopOf}
-use Rattle.e_prove.specs.inner.PassedSteps.{IsReadyFor, IsReadyStep, IsDerived, KeepsHeld, StopsWithin, IsPassed, StepStops}
+use Rattle.e_prove.specs.inner.PassedSteps.{IsReadyFor, IsReadyStep, IsDerivedFrom, KeepsHeld, StopsWithin, IsPassed, StepStops}
 use Rattle.e_prove.proofs.HeldStates.{after_is}
 use Rattle.e_prove.proofs.PassedSteps.{passed_none, passed_more, passed_as, stops_first, same_names}
 use Rattle.e_prove.proofs.StopsInLists.{stop_within, before_more, stop_before}
@@ -112,11 +112,11 @@ close_few before items seen done close i x y first n same le p =
     ap (λ d. first + size d) (sym (all_taken items seen i close same le)) ∙ p.number close
 
 pub close_derived : (before : List Stated) (items seen done : List Step) (close derived : Script) (i : ℕ) (x y : StepState) (goal : Goal) (first n : ℕ) → seen ≡ items → length seen ≤ i →
-    IsPassed before (steps_script (take i items)) x first (steps_script done) y n → IsReadyFor before (steps_script items close) x goal → IsDerived before close y goal derived →
-    IsDerived before (steps_script items close) x goal (steps_script done derived)
+    IsPassed before (steps_script (take i items)) x first (steps_script done) y n → IsReadyFor before (steps_script items close) x goal → IsDerivedFrom before close y goal derived →
+    IsDerivedFrom before (steps_script items close) x goal (steps_script done derived)
 close_derived before items seen done close derived i x y goal first n same le p r d =
     let e = all_taken items seen i close same le in
-    subst (λ w. IsDerived before w x goal (steps_script done derived)) e (p.derives close derived goal (subst (λ w. IsReadyFor before w x goal) (sym e) r) d)
+    subst (λ w. IsDerivedFrom before w x goal (steps_script done derived)) e (p.derives close derived goal (subst (λ w. IsReadyFor before w x goal) (sym e) r) d)
 
 pub close_stops : (before : List Stated) (items seen done : List Step) (close : Script) (i : ℕ) (x y : StepState) (goal : Goal) (first n : ℕ) (t : Stop) → seen ≡ items → length seen ≤ i →
     IsPassed before (steps_script (take i items)) x first (steps_script done) y n → IsReadyFor before (steps_script items close) x goal → StopsWithin before close y goal n t → StopsWithin before (steps_script items close) x goal first t
@@ -177,7 +177,7 @@ split_parts before close lit first second x goal is r =
 
 -- the second block, where the first is derived
 pub split_second_ready : (before : List Stated) (close : Close) (lit : Lit) (first second : Box Block Global) (derived : Script) (x : StepState) (goal : Goal) → close ≡ CasesClose lit first second →
-    IsDerived before (script_of first.value) (after_literal lit x) goal derived → IsReadyFor before (close_script close) x goal → IsReadyFor before (script_of second.value) (after_literal (negation lit) x) goal
+    IsDerivedFrom before (script_of first.value) (after_literal lit x) goal derived → IsReadyFor before (close_script close) x goal → IsReadyFor before (script_of second.value) (after_literal (negation lit) x) goal
 split_second_ready before close lit first second derived x goal is d r =
     split_other before lit (script_of first.value) (script_of second.value) derived x goal d (subst (λ w. IsReadyFor before w x goal) (ap close_script is ∙ close_script-Cases lit first second) r)
 
@@ -186,13 +186,13 @@ split_size close lit first second is =
     ap size (ap close_script is ∙ close_script-Cases lit first second) ∙ size_split lit (script_of first.value) (script_of second.value)
 
 pub split_derived : (before : List Stated) (close : Close) (lit : Lit) (first second : Box Block Global) (one other : Block) (x : StepState) (goal : Goal) (r : Result ProvedClose Stop) → close ≡ CasesClose lit first second →
-    SplitReady before lit (script_of first.value) x goal → IsDerived before (script_of first.value) (after_literal lit x) goal (script_of one) →
-    IsDerived before (script_of second.value) (after_literal (negation lit) x) goal (script_of other) → IfOk r (λ p. close_script p.close ≡ Cases lit (script_of one) (script_of other)) →
-    IfOk r (λ p. IsDerived before (close_script close) x goal (close_script p.close))
+    SplitReady before lit (script_of first.value) x goal → IsDerivedFrom before (script_of first.value) (after_literal lit x) goal (script_of one) →
+    IsDerivedFrom before (script_of second.value) (after_literal (negation lit) x) goal (script_of other) → IfOk r (λ p. close_script p.close ≡ Cases lit (script_of one) (script_of other)) →
+    IfOk r (λ p. IsDerivedFrom before (close_script close) x goal (close_script p.close))
 split_derived before close lit first second one other x goal (Err t) is ready d e a = tt
 split_derived before close lit first second one other x goal (Ok p) is ready d e a =
-    subst (λ w. IsDerived before w x goal (close_script p.close)) (sym (ap close_script is ∙ close_script-Cases lit first second))
-    (subst (IsDerived before (Cases lit (script_of first.value) (script_of second.value)) x goal) (sym a)
+    subst (λ w. IsDerivedFrom before w x goal (close_script p.close)) (sym (ap close_script is ∙ close_script-Cases lit first second))
+    (subst (IsDerivedFrom before (Cases lit (script_of first.value) (script_of second.value)) x goal) (sym a)
     (split_derives before lit (script_of first.value) (script_of second.value) (script_of one) (script_of other) x goal ready.over d e))
 
 pub split_stops_first : (before : List Stated) (close : Close) (lit : Lit) (first second : Box Block Global) (x : StepState) (goal : Goal) (n : ℕ) (t : Stop) → close ≡ CasesClose lit first second →
@@ -202,7 +202,7 @@ split_stops_first before close lit first second x goal n t is ready k =
     (split_first before lit (script_of first.value) (script_of second.value) x goal n t ready.over k)
 
 pub split_stops_second : (before : List Stated) (close : Close) (lit : Lit) (first second : Box Block Global) (one : Block) (x : StepState) (goal : Goal) (n next : ℕ) (t : Stop) → close ≡ CasesClose lit first second →
-    SplitReady before lit (script_of first.value) x goal → IsDerived before (script_of first.value) (after_literal lit x) goal (script_of one) → next ≡ n + 1 + size (script_of first.value) →
+    SplitReady before lit (script_of first.value) x goal → IsDerivedFrom before (script_of first.value) (after_literal lit x) goal (script_of one) → next ≡ n + 1 + size (script_of first.value) →
     StopsWithin before (script_of second.value) (after_literal (negation lit) x) goal next t → StopsWithin before (close_script close) x goal n t
 split_stops_second before close lit first second one x goal n next t is ready d count k =
     subst (λ w. StopsWithin before w x goal n t) (sym (ap close_script is ∙ close_script-Cases lit first second))

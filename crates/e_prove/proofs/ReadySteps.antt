@@ -31,9 +31,9 @@ use Rattle.e_deriv.proofs.Choices.{written_again}
 use Rattle.e_deriv.proofs.Scripts.{step_script-Claim, step_script-Superposed}
 use Rattle.e_deriv.proofs.Smallness.{few_of_small}
 use Rattle.e_prove.specs.declared.step_state.StepState.{StepState}
-use Rattle.e_prove.specs.inner.StepStates.{HasRoom, after_make, after_superposed, after_literal, after_block}
+use Rattle.e_prove.specs.inner.StepStates.{HasRoomForMore, after_make, after_superposed, after_literal, after_block}
 use Rattle.e_prove.specs.inner.LicensedSteps.{lines_at, line_at, has_form}
-use Rattle.e_prove.specs.inner.PassedSteps.{IsReadyFor, IsReadyStep, IsDerived}
+use Rattle.e_prove.specs.inner.PassedSteps.{IsReadyFor, IsReadyStep, IsDerivedFrom}
 use Rattle.e_prove.specs.inner.Applications.{LitsFitAt, CanApply}
 use Rattle.e_prove.proofs.PassedSteps.{lines_begin, first_is}
 use Rattle.e_prove.proofs.InnerBlocks.{ClaimReady, claim_ready, claim_rest, SuperposedReady, superposed_ready, superposed_rest}
@@ -50,7 +50,7 @@ first_scope before here x goal r =
     let begun = lines_begin before here here x.context.scope x.context.facts goal in
     first_is (λ y. is_small y.scope) (line_at here here x.context goal) begun.0 (lines_at before here here x.context goal) begun.1 r.scopes
 
-pub room_of_small : (s : Scope) → is_small s ≡ true → HasRoom s
+pub room_of_small : (s : Scope) → is_small s ≡ true → HasRoomForMore s
 room_of_small s h =
     let few = few_of_small s h in
     record { points = omega (arith, few.points); lines = omega (arith, few.lines); circles = omega (arith, few.circles) }
@@ -105,7 +105,7 @@ pub make_good : (before : List Stated) (form : Construction) (names : List (List
 unfolding step_script
 make_good before form names certs x n r = make_lits before form names certs r.rest x r.goal r.ready
 
-pub make_room : (before : List Stated) (form : Construction) (names : List (List ℕ)) (certs : List Cert) (x : StepState) (n : ℕ) → IsReadyStep before (MakeStep form names certs) x n → HasRoom x.context.scope
+pub make_room : (before : List Stated) (form : Construction) (names : List (List ℕ)) (certs : List Cert) (x : StepState) (n : ℕ) → IsReadyStep before (MakeStep form names certs) x n → HasRoomForMore x.context.scope
 make_room before form names certs x n r = room_of_small x.context.scope (first_scope before (step_script (MakeStep form names certs) r.rest) x r.goal r.ready)
 
 -- ---- an application

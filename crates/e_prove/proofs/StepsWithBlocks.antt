@@ -22,7 +22,7 @@ use Rattle.e_prove.specs.declared.block.ProvedBlock.{ProvedBlock}
 use Rattle.e_prove.specs.declared.block.ProvedStep.{ProvedStep}
 use Rattle.e_prove.specs.inner.StepStates.{after_block, after_superposed, held_at, IsLeftWith}
 use Rattle.e_prove.specs.inner.StopsOfSteps.{StepStopsAmong, UnlessNoMemory, StopOf}
-use Rattle.e_prove.specs.inner.PassedSteps.{IsReadyFor, AreReadySteps, IsDerived, KeepsHeld, StopsWithin, IsPassed, StepsStop}
+use Rattle.e_prove.specs.inner.PassedSteps.{IsReadyFor, AreReadySteps, IsDerivedFrom, KeepsHeld, StopsWithin, IsPassed, StepsStop}
 use Rattle.e_prove.specs.Stops.{IsStopBefore}
 use Rattle.e_prove.proofs.HeldStates.{after_is}
 use Rattle.e_prove.proofs.PassedSteps.{passed_as, stops_first, same_names}
@@ -75,12 +75,12 @@ claim_begins before shown inner x n r = claim_ready before shown inner r.rest x 
 pub claim_numbers : (before : List Stated) (shown : List Lit) (inner : Script) (x : StepState) (n : ℕ) → AreReadySteps before (Claim shown inner) x n → n + 1 + size inner < 2 ^ 32
 claim_numbers before shown inner x n r = claim_few shown inner r.rest n r.few
 
-pub claim_ends : (before : List Stated) (shown : List Lit) (inner derived : Script) (x : StepState) (n : ℕ) → IsDerived before inner x (goal_of shown) derived → AreReadySteps before (Claim shown inner) x n
+pub claim_ends : (before : List Stated) (shown : List Lit) (inner derived : Script) (x : StepState) (n : ℕ) → IsDerivedFrom before inner x (goal_of shown) derived → AreReadySteps before (Claim shown inner) x n
     → are_good_facts x.context.scope (joined_all x.context.facts shown) ≡ true
 claim_ends before shown inner derived x n d r = block_facts before r.rest (after_block shown x) r.goal (claim_rest before shown inner derived r.rest x r.goal d r.ready)
 
 pub claim_is_passed : (before : List Stated) (shown : List Lit) (inner : Script) (x z after : StepState) (n : ℕ) (o : Names) (proved : ProvedBlock) (r : Result ProvedStep Stop) → ClaimReady before shown inner x
-    → IsDerived before inner x (goal_of shown) (script_of proved.block) → proved.next ≡ n + 1 + size inner → o ≡ x.names → KeepsHeld (held_at x) z → IfOk r (λ p. (rest : Script) → step_script p.step rest ≡ Claim shown (script_of proved.block) rest)
+    → IsDerivedFrom before inner x (goal_of shown) (script_of proved.block) → proved.next ≡ n + 1 + size inner → o ≡ x.names → KeepsHeld (held_at x) z → IfOk r (λ p. (rest : Script) → step_script p.step rest ≡ Claim shown (script_of proved.block) rest)
     → IfOk r (λ p. p.next ≡ proved.next) → OnOk r (IsLeftWith o shown z after) → IfOk r (λ p. IsPassed before (Claim shown inner) x n (step_script p.step) after p.next)
 claim_is_passed before shown inner x z after n o proved (Err t) ready d count e k a b c = tt
 claim_is_passed before shown inner x z after n o proved (Ok p) ready d count e k a b c =
@@ -114,12 +114,12 @@ pub superposed_numbers : (before : List Stated) (form : Superpose) (names : List
 superposed_numbers before form names shown certs inner x n r = superposed_few form names shown certs inner r.rest n r.few
 
 pub superposed_ends : (before : List Stated) (form : Superpose) (names : List (List ℕ)) (shown : List Lit) (certs : List Cert) (inner derived : Script) (x : StepState) (n : ℕ)
-    → IsDerived before inner (after_superposed form names x) (goal_of shown) derived → AreReadySteps before (Superposed form names shown certs inner) x n → are_good_facts x.context.scope (joined_all x.context.facts shown) ≡ true
+    → IsDerivedFrom before inner (after_superposed form names x) (goal_of shown) derived → AreReadySteps before (Superposed form names shown certs inner) x n → are_good_facts x.context.scope (joined_all x.context.facts shown) ≡ true
 superposed_ends before form names shown certs inner derived x n d r =
     block_facts before r.rest (after_block shown x) r.goal (superposed_rest before form names shown certs inner derived r.rest x r.goal d r.ready)
 
 pub superposed_is_passed : (before : List Stated) (form : Superpose) (names : List (List ℕ)) (shown : List Lit) (certs : List Cert) (inner : Script) (x z after : StepState) (n : ℕ) (o : Names) (proved : ProvedBlock) (r : Result ProvedStep Stop)
-    → SuperposedReady before form names shown inner x → Certifies form x certs → IsDerived before inner (after_superposed form names x) (goal_of shown) (script_of proved.block) → proved.next ≡ n + 1 + size inner → o ≡ x.names → KeepsHeld (held_at x) z
+    → SuperposedReady before form names shown inner x → Certifies form x certs → IsDerivedFrom before inner (after_superposed form names x) (goal_of shown) (script_of proved.block) → proved.next ≡ n + 1 + size inner → o ≡ x.names → KeepsHeld (held_at x) z
     → IfOk r (λ p. (rest : Script) → step_script p.step rest ≡ Superposed form names shown certs (script_of proved.block) rest) → IfOk r (λ p. p.next ≡ proved.next) → OnOk r (IsLeftWith o shown z after)
     → IfOk r (λ p. (written : List Cert) → IsPassed before (Superposed form names shown written inner) x n (step_script p.step) after p.next)
 superposed_is_passed before form names shown certs inner x z after n o proved (Err t) ready cs d count e k a b c = tt

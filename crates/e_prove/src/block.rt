@@ -4,7 +4,7 @@ ghost use Rattle.e_clause.specs.declared.cert.Cert.{Cert as Certificate};
 ghost use Rattle.e_theorem.specs.Statements.{all_stated};
 ghost use Rattle.e_deriv.specs.Script.{Claim, Superposed, script_of, step_script, close_script, size};
 ghost use Rattle.e_prove.specs.inner.StepStates.{goal_view};
-ghost use Rattle.e_prove.specs.inner.PassedSteps.{AreReadySteps, IsReadyFor, IsReadyStep, IsDerived, IsPassed, KeepsHeld, StepsStop, StepStops, StopsWithin};
+ghost use Rattle.e_prove.specs.inner.PassedSteps.{AreReadySteps, IsReadyFor, IsReadyStep, IsDerivedFrom, IsPassed, KeepsHeld, StepsStop, StepStops, StopsWithin};
 
 use crate::application::{Application, apply};
 use crate::close::{Goal, contradiction, qed};
@@ -54,7 +54,7 @@ pub fn prove_block(
 ) -> Result<ProvedBlock, Stop>
     requires ready { IsReadyFor (all_stated before.now) (script_of block.now) state.old (goal_view goal.now) }
     requires few { first + size (script_of block.now) < 2 ^ 32 }
-    ensures derived { IfOk result (λ p. IsDerived (all_stated before.now) (script_of block.now) state.old (goal_view goal.now) (script_of p.block)) }
+    ensures derived { IfOk result (λ p. IsDerivedFrom (all_stated before.now) (script_of block.now) state.old (goal_view goal.now) (script_of p.block)) }
     ensures next { IfOk result (λ p. p.next ≡ first + size (script_of block.now)) }
     ensures kept { OnOk result (KeepsHeld state.old state.new) }
     ensures err { IfErr result (StopsWithin (all_stated before.now) (script_of block.now) state.old (goal_view goal.now) first) }
@@ -224,7 +224,7 @@ fn prove_close(
 ) -> Result<ProvedClose, Stop>
     requires ready { IsReadyFor (all_stated before.now) (close_script close.now) state.old (goal_view goal.now) }
     requires few { number + size (close_script close.now) < 2 ^ 32 }
-    ensures derived { IfOk result (λ p. IsDerived (all_stated before.now) (close_script close.now) state.old (goal_view goal.now) (close_script p.close)) }
+    ensures derived { IfOk result (λ p. IsDerivedFrom (all_stated before.now) (close_script close.now) state.old (goal_view goal.now) (close_script p.close)) }
     ensures next { IfOk result (λ p. p.next ≡ number + size (close_script close.now)) }
     ensures kept { OnOk result (KeepsHeld state.old state.new) }
     ensures err { IfErr result (StopsWithin (all_stated before.now) (close_script close.now) state.old (goal_view goal.now) number) }

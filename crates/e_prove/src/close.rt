@@ -8,7 +8,7 @@ ghost use Rattle.e_deriv.specs.declared.block.Close.TheVariants.{Qed, Contradict
 ghost use Rattle.e_deriv.specs.Goal.{Goal as BlockGoal, are_for, goal_with as goal_at};
 ghost use Rattle.e_prove.specs.inner.StepStates.{goal_view};
 ghost use Rattle.e_prove.specs.inner.StopsOfSteps.{contradiction_by};
-ghost use Rattle.e_prove.specs.inner.LicensedSteps.{IsClosed, IsStopOfClose};
+ghost use Rattle.e_prove.specs.inner.LicensedSteps.{IsLicensedClose, IsStopOfClose};
 
 use crate::licence::licences;
 use crate::step_stop::StepStop;
@@ -35,7 +35,7 @@ pub fn qed(
 ) -> Result<Close, StepStop>
     requires form { IsTrue (are_for (goal_view goal.now) context.old.scope objects.now) }
     requires lits { IsTrue (are_good context.old.scope (goal_at (goal_view goal.now) objects.now)) }
-    ensures ok { IfOk result (λ d. (before : List Stated) (certs : List Cert) → IsClosed before (Qed objects.now certs) context.old (goal_view goal.now) d) }
+    ensures ok { IfOk result (λ d. (before : List Stated) (certs : List Cert) → IsLicensedClose before (Qed objects.now certs) context.old (goal_view goal.now) d) }
     ensures err { IfErr result (λ h. (before : List Stated) (certs : List Cert) → IsStopOfClose before (Qed objects.now certs) context.old (goal_view goal.now) h) }
     ensures kept { context.new ≡ context.old }
 {
@@ -49,7 +49,7 @@ pub fn qed(
 
 /// A contradiction: the facts contradict each other.
 pub fn contradiction(alloc: Global, context: &mut Context) -> Result<Close, StepStop>
-    ensures ok { IfOk result (λ d. (before : List Stated) (goal : BlockGoal) (written : Option Against) → IsClosed before (Contradiction written) context.old goal d) }
+    ensures ok { IfOk result (λ d. (before : List Stated) (goal : BlockGoal) (written : Option Against) → IsLicensedClose before (Contradiction written) context.old goal d) }
     ensures err { IfErr result (λ h. (before : List Stated) (goal : BlockGoal) (written : Option Against) → IsStopOfClose before (Contradiction written) context.old goal h) }
     ensures kept { context.new ≡ context.old }
 {

@@ -7,7 +7,7 @@ ghost use Rattle.e_theorem.specs.Statements.{all_stated};
 ghost use Rattle.e_deriv.specs.Script.{Script, script_of, step_script, close_script, size as script_size};
 ghost use Rattle.e_prove.specs.Stops.{IsStopBefore};
 ghost use Rattle.e_prove.specs.inner.StepStates.{after_literal, goal_view};
-ghost use Rattle.e_prove.specs.inner.PassedSteps.{IsReadyFor, IsDerived, IsReadyStep, Reaches, ReachesInStep, IsFirstPassed, StopsWithin, StepStops};
+ghost use Rattle.e_prove.specs.inner.PassedSteps.{IsReadyFor, IsDerivedFrom, IsReadyStep, ReachesStep, ReachesInStep, IsFirstPassed, StopsWithin, StepStops};
 
 use crate::block::{prove_block, prove_step};
 use crate::close::Goal;
@@ -52,7 +52,7 @@ pub fn reach(
     requires few { first + script_size (script_of block.now) < 2 ^ 32 }
     requires from { first ≤ target }
     requires within { target < first + script_size (script_of block.now) }
-    ensures reached { OnOk result (Reaches (all_stated before.now) (script_of block.now) state.old (goal_view goal.now) first target state.new) }
+    ensures reached { OnOk result (ReachesStep (all_stated before.now) (script_of block.now) state.old (goal_view goal.now) first target state.new) }
     ensures err { IfErr result (StopsWithin (all_stated before.now) (script_of block.now) state.old (goal_view goal.now) first) }
     ensures earlier { IfErr result (IsStopBefore target) }
 {
@@ -145,7 +145,7 @@ fn enter_close(
     requires few { number + script_size (close_script close.now) < 2 ^ 32 }
     requires inside { number < target }
     requires within { target < number + script_size (close_script close.now) }
-    ensures reached { OnOk result (Reaches (all_stated before.now) (close_script close.now) state.old (goal_view goal.now) number target state.new) }
+    ensures reached { OnOk result (ReachesStep (all_stated before.now) (close_script close.now) state.old (goal_view goal.now) number target state.new) }
     ensures err { IfErr result (StopsWithin (all_stated before.now) (close_script close.now) state.old (goal_view goal.now) number) }
     ensures earlier { IfErr result (IsStopBefore target) }
 {
@@ -180,7 +180,7 @@ fn pass_first(
 ) -> Result<(), Stop>
     requires ready { IsReadyFor (all_stated before.now) (script_of block.now) (after_literal lit.now state.old) (goal_view goal.now) }
     requires few { first + script_size (script_of block.now) < 2 ^ 32 }
-    requires second { (derived : Script) → IsDerived (all_stated before.now) (script_of block.now) (after_literal lit.now state.old) (goal_view goal.now) derived → IsTrue (are_good_facts state.old.context.scope (joined state.old.context.facts (negation lit.now))) }
+    requires second { (derived : Script) → IsDerivedFrom (all_stated before.now) (script_of block.now) (after_literal lit.now state.old) (goal_view goal.now) derived → IsTrue (are_good_facts state.old.context.scope (joined state.old.context.facts (negation lit.now))) }
     ensures passed { OnOk result (IsFirstPassed (all_stated before.now) lit.now (script_of block.now) state.old (goal_view goal.now) state.new) }
     ensures err { IfErr result (StopsWithin (all_stated before.now) (script_of block.now) (after_literal lit.now state.old) (goal_view goal.now) first) }
 {

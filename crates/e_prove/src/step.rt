@@ -11,7 +11,7 @@ ghost use Rattle.e_construct.specs.Superposing;
 ghost use Rattle.e_clause.specs.Certify.{certify_all};
 ghost use Rattle.e_clause.specs.declared.cert.Version.TheVariants as version;
 ghost use Rattle.e_clause.specs.Versions.{is_cert_of};
-ghost use Rattle.e_prove.specs.inner.StepStates.{HasRoom, after_literal, after_make, after_superposed};
+ghost use Rattle.e_prove.specs.inner.StepStates.{HasRoomForMore, after_literal, after_make, after_superposed};
 ghost use Rattle.e_prove.specs.inner.StopsOfSteps.{StepStopsAmong, UnlessNoMemory};
 ghost use Rattle.e_prove.specs.inner.LicensedSteps.{IsLicensedStep, IsStopOfStep};
 
@@ -86,7 +86,7 @@ pub fn make(
     names: &[Name],
     state: &mut StepState,
 ) -> Result<Step, StepStop>
-    requires room { HasRoom state.old.context.scope }
+    requires room { HasRoomForMore state.old.context.scope }
     requires needs { IsTrue (are_good state.old.context.scope (Construct.needs form.now)) }
     requires after { let after = after_make form.now names.now state.old in IsTrue (are_good_facts after.context.scope after.context.facts) }
     ensures ok { IfOk result (λ d. (before : List Stated) (certs : List Certificate) → IsLicensedStep before (Make form.now names.now certs) state.old d state.new) }
@@ -115,7 +115,7 @@ pub fn superpose(
     names: &[Name],
     state: &mut StepState,
 ) -> Result<Vec<Cert>, StepStop>
-    requires room { HasRoom state.old.context.scope }
+    requires room { HasRoomForMore state.old.context.scope }
     requires needs { IsTrue (are_good state.old.context.scope (Superposing.needs form.now)) }
     requires after { let after = after_superposed form.now names.now state.old in IsTrue (are_good_facts after.context.scope after.context.facts) }
     ensures certs { IfOk result (λ cs. IsTrue (certify_all state.old.context.scope state.old.context.facts (Superposing.needs form.now) cs.items)) }

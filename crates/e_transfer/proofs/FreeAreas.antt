@@ -28,7 +28,7 @@ use Rattle.e_transfer.specs.declared.models.Filling.{Filling}
 use Rattle.e_transfer.specs.declared.plan.Plan.{Plan}
 use Rattle.e_transfer.specs.declared.query.Strength.{Strength}
 use Rattle.e_transfer.specs.Areas.{is_among_areas, are_listed, name_areas_of, ListsAlso, IsFree}
-use Rattle.e_transfer.specs.GivenGoals.{IsFitting}
+use Rattle.e_transfer.specs.GivenGoals.{IsFittingLiteral}
 use Rattle.e_transfer.specs.Marks.{mark_number, lit_mark, is_area_term}
 use Rattle.e_transfer.specs.Models.{value_in_list, is_flattened, value_when_canonical, value_by, fits_term, fits_terms, is_model}
 use Rattle.e_transfer.specs.inner.PartsOfChoices.{chosen_arguments, term_last}
@@ -161,7 +161,7 @@ none_beside_free m scope facts goal rule place at coeff plan r part args t other
     let of = of_instance rule all r gives.lits of_table gives.instance in
     let l : Lit = record { neg = false; atom = MagEq (record { coeff = coeff; term = t } ∷ []) (record { coeff = coeff; term = other } ∷ []) } in
     let is : slice_get gives.lits at ≡ Some (lit_at r all l) = ap (λ (ls : List Lit). slice_get ls at) of.1 ∙ at_map (lit_at r all) (clause_of r) at l here in
-    let fits = subst (λ (b : Bool). IsFitting m facts goal b (lit_at r all l)) apart (fitting m facts gives.lits goal (lit_at r all l) place at gives.here gives.suffice is) in
+    let fits = subst (λ (b : Bool). IsFittingLiteral m facts goal b (lit_at r all l)) apart (fitting m facts gives.lits goal (lit_at r all l) place at gives.here gives.suffice is) in
     let one : term_at (number all) t ≡ term_at (number args) t =
     term_kept positions (length part) (number all) (number args)
     (λ v below. number_kept r positions part rest v below ∙ ap (λ (os : List Obj). number os v) (sym are)) t less in

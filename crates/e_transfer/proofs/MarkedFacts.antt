@@ -28,7 +28,7 @@ use Rattle.e_metric.proofs.terms.WellFormedSums.{all_more}
 use Rattle.e_transfer.specs.declared.models.Filling.TheVariants.{Flat}
 use Rattle.e_transfer.specs.declared.query.Strength.{Strength}
 use Rattle.e_transfer.specs.declared.query.Strength.TheVariants as strength
-use Rattle.e_transfer.specs.GivenGoals.{Suffices, IsFitting, NoneAt}
+use Rattle.e_transfer.specs.GivenGoals.{Suffices, IsFittingLiteral, NoneAt}
 use Rattle.e_transfer.specs.Marks.{relation_number, mark_number, lit_mark, is_marked, are_marked, is_area_term, all_are_areas, is_strict_on_areas, NoneSuffices, NoneHolds}
 use Rattle.e_transfer.specs.Models.{value_when_canonical, value_by, fits_term, fits_terms, is_model}
 use Rattle.e_transfer.proofs.Instances.{of_instance, at_map}
@@ -245,7 +245,7 @@ none_holds m facts goal r at neg a here unlike none = λ l is args fits.
     let p = number args in
     let q = line r args in
     let c = circle r args in
-    elim (subst (λ (k : Lit). IsFitting m facts goal false (lit_at r args k)) (sym e) fits) [
+    elim (subst (λ (k : Lit). IsFittingLiteral m facts goal false (lit_at r args k)) (sym e) fits) [
       | inl same ↦ unlike (ap (λ n. mark_number n neg) (sym (relation_at p q c a)) ∙ mark_alike (record { neg = neg; atom = atom_at p q c a }) goal same)
       | inr enough ↦ none p q c enough
     ]
@@ -271,4 +271,4 @@ none_elsewhere m scope facts goal rule place at r of_table less apart none args 
     let of = of_instance rule args r gives.lits of_table gives.instance in
     let is : slice_get gives.lits at ≡ Some (lit_at r args l) = ap (λ (ls : List Lit). slice_get ls at) of.1 ∙ at_map (lit_at r args) (clause_of r) at l here in
     none l here args
-    (subst (λ (b : Bool). IsFitting m facts goal b (lit_at r args l)) (unequal at place apart) (fitting m facts gives.lits goal (lit_at r args l) place at gives.here gives.suffice is))
+    (subst (λ (b : Bool). IsFittingLiteral m facts goal b (lit_at r args l)) (unequal at place apart) (fitting m facts gives.lits goal (lit_at r args l) place at gives.here gives.suffice is))

@@ -17,10 +17,10 @@ use Rattle.e_transfer.specs.declared.plan.Plan.{Plan}
 use Rattle.e_transfer.specs.declared.unify.Binding.{Binding}
 use Rattle.e_transfer.specs.declared.unify.Binding.TheVariants as binding
 use Rattle.e_transfer.specs.declared.walk.Span.{Span}
-use Rattle.e_transfer.specs.Choice.{Fits}
+use Rattle.e_transfer.specs.Choice.{FitsSpans}
 use Rattle.e_transfer.specs.inner.Bindings.{binding_agrees, binding_at, BindingsAgree}
 use Rattle.e_transfer.specs.inner.PartsOfChoices.{variable_sort, arguments_from, chosen_arguments, ready_at_of}
-use Rattle.e_transfer.specs.inner.Plans.{total_of, RepresentativesAre, OrderIs, PositionsAre, variable_span, plan_spans, PlanIs}
+use Rattle.e_transfer.specs.inner.Plans.{total_of, RepresentativesAre, OrderIs, PositionsAre, variable_span, plan_spans, IsPlanFor}
 
 -- ---- the arguments, one by one
 
@@ -114,7 +114,7 @@ in_span count n v f (binding.Is m) is less agree =
     rw bound (omega (arith, e), omega (arith, e))
 
 fits_spans : (r : Row) (scope : Scope) (bindings : List Binding) (args : List Obj) (order : List ℕ) → AreOfRow r args → list_all (is_in_scope scope) args ≡ true → BindingsAgree (number args) bindings
-    → list_all (λ v. nat_lt v (length args)) order ≡ true → Fits (plan_spans r scope bindings order) (map (number args) order)
+    → list_all (λ v. nat_lt v (length args)) order ≡ true → FitsSpans (plan_spans r scope bindings order) (map (number args) order)
 fits_spans r scope bindings args [] of over agree below = tt
 fits_spans r scope bindings args (v ∷ order) of over agree below =
     let rest = list_all (λ u. nat_lt u (length args)) order in
@@ -146,7 +146,7 @@ object_is o s n e k = ap (λ x. obj x n) e ∙ ap (λ m. obj o.sort m) k
 abbrev Reaches : Row → Scope → List Binding → List ℕ → List Span → Type 0
 Reaches r scope bindings positions spans =
     (args : List Obj) → IsTrue (fits r args) → IsTrue (list_all (is_in_scope scope) args) → BindingsAgree (number args) bindings
-    → (c : List ℕ) × Fits spans c × (chosen_arguments r positions c ≡ args)
+    → (c : List ℕ) × FitsSpans spans c × (chosen_arguments r positions c ≡ args)
 
 reaches : (r : Row) (scope : Scope) (bindings : List Binding) (representatives order positions : List ℕ) → length bindings ≡ total_of r → RepresentativesAre bindings representatives → OrderIs (length bindings) representatives order
     → PositionsAre representatives order positions → Reaches r scope bindings positions (plan_spans r scope bindings order)
@@ -172,7 +172,7 @@ all_below n (p ∷ ps) each =
     and_from (nat_lt p n) (list_all (λ q. nat_lt q n) ps) (lt-ltb p n (each 0 (omega arith))) (all_below n ps (λ i less. each (suc i) (omega (arith, less))))
 
 pub plan_is : (r : Row) (scope : Scope) (bindings : List Binding) (representatives order : List ℕ) (plan : Plan) → length bindings ≡ total_of r → RepresentativesAre bindings representatives → OrderIs (length bindings) representatives order
-    → PositionsAre representatives order plan.positions.items → plan.spans.items ≡ plan_spans r scope bindings order → plan.ready_at.items ≡ ready_at_of r plan.positions.items → PlanIs r scope bindings plan
+    → PositionsAre representatives order plan.positions.items → plan.spans.items ≡ plan_spans r scope bindings order → plan.ready_at.items ≡ ready_at_of r plan.positions.items → IsPlanFor r scope bindings plan
 plan_is r scope bindings representatives order plan total are ordered placed spans ready_at =
     let many : length order ≡ length plan.spans.items = sym (ap length spans ∙ length-map order (λ v. variable_span (count_of scope (variable_sort r v)) (binding_at bindings v))) in
     record {

@@ -12,7 +12,7 @@ use Rattle.e_literal.specs.Rename.{atom_at}
 use Rattle.e_clause.specs.Rows.{Row}
 use Rattle.e_clause.specs.Instance.{clause_of, lit_at}
 use Rattle.e_transfer.specs.declared.query.Strength.{Strength}
-use Rattle.e_transfer.specs.GivenGoals.{IsFitting, Suffices}
+use Rattle.e_transfer.specs.GivenGoals.{IsFittingLiteral, Suffices}
 
 -- the relations, numbered; those of diagrams come first
 abbrev pub relation_number : Atom → ℕ
@@ -69,4 +69,4 @@ NoneSuffices m facts l = (p q c : ℕ → ℕ) → Suffices m facts (record { ne
 -- no instance has at this place of the clause the goal, or a literal whose negation suffices
 abbrev pub NoneHolds : Strength → List Lit → Lit → Row → ℕ → Type 0
 NoneHolds m facts goal r at =
-    (l : Lit) → slice_get (clause_of r) at ≡ Some l → (args : List Obj) → IsFitting m facts goal false (lit_at r args l) → ⊥
+    (l : Lit) → slice_get (clause_of r) at ≡ Some l → (args : List Obj) → IsFittingLiteral m facts goal false (lit_at r args l) → ⊥

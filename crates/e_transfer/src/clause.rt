@@ -4,7 +4,7 @@
 ghost use Rattle.std.specs.Prelude.{◌≡◌, ◌<◌, length, map, IfOk, slice_get, Some};
 ghost use Rattle.e_clause.specs.Instance.{clause_of, lit_at};
 ghost use Rattle.e_clause.specs.Views.{row_of};
-ghost use Rattle.e_transfer.specs.GivenGoals.{signed};
+ghost use Rattle.e_transfer.specs.GivenGoals.{signed_literal};
 
 use e_clause::{Pattern, Row, literal};
 use e_literal::{Lit, Obj};
@@ -20,7 +20,7 @@ pub fn clause_len(row: &Row) -> usize
 /// The pattern at a place of the clause, and whether its negation is meant.
 pub fn pattern_at(row: &Row, at: usize) -> (Pattern, bool)
     requires { at < length (clause_of (row_of row.now)) }
-    ensures { slice_get (clause_of (row_of row.now)) at ≡ Some (signed result.1 result.0) }
+    ensures { slice_get (clause_of (row_of row.now)) at ≡ Some (signed_literal result.1 result.0) }
 {
     let premises = row.premises.len();
     if at < premises {

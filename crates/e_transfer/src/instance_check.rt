@@ -106,7 +106,7 @@ fn diagrams_hold(facts: &Facts, needs: &[Lit]) -> bool
 
 /// Adds the negation of a literal that is not the goal.
 fn add_need(needs: &mut Vec<Lit>, lit: Lit, goal: &Lit) -> Result<(), AllocError>
-    ensures { OnOk result (needs.new.items ≡ needs.old.items ++ GivenGoals.needs (lit ∷ []) goal.now) }
+    ensures { OnOk result (needs.new.items ≡ needs.old.items ++ GivenGoals.needs_beside (lit ∷ []) goal.now) }
 {
     if !same(&lit, goal) {
         needs.push(negate(lit))?;
@@ -118,7 +118,7 @@ fn add_need(needs: &mut Vec<Lit>, lit: Lit, goal: &Lit) -> Result<(), AllocError
 
 /// The negations of the literals that are not the goal.
 fn needs_of(alloc: Global, lits: Vec<Lit>, goal: &Lit) -> Result<Vec<Lit>, AllocError>
-    ensures { IfOk result (λ v. v.items ≡ GivenGoals.needs lits.items goal.now) }
+    ensures { IfOk result (λ v. v.items ≡ GivenGoals.needs_beside lits.items goal.now) }
 {
     let mut needs = Vec::new(alloc);
     for lit in lits {

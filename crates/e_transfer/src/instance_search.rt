@@ -5,7 +5,7 @@ ghost use Rattle.e_clause.specs.RuleKinds.{is_transfer};
 ghost use Rattle.e_clause.specs.Table.{table};
 ghost use Rattle.e_clause.specs.Views.{row_of};
 ghost use Rattle.e_clause.specs.Instance.{clause_of};
-ghost use Rattle.e_transfer.specs.GivenGoals.{IsFitting, IsWideTransfer, Suffices};
+ghost use Rattle.e_transfer.specs.GivenGoals.{IsFittingLiteral, IsWideTransfer, Suffices};
 ghost use Rattle.e_transfer.specs.declared.query.Strength.TheVariants as strength;
 ghost use Rattle.e_literal.specs.Rename.{term_at};
 ghost use Rattle.e_clause.specs.Instance;
@@ -102,7 +102,7 @@ fn may_suffice(query: &Query, need: &Lit) -> bool
 /// Whether a literal of an instance may be what it has to be: at the goal's place the goal,
 /// elsewhere the goal or one whose negation may hold.
 fn may_hold(query: &Query, here: bool, lit: Lit) -> bool
-    ensures { result ≡ false → IsFitting query.now.strength query.now.facts.now query.now.goal.now here lit → ⊥ }
+    ensures { result ≡ false → IsFittingLiteral query.now.strength query.now.facts.now query.now.goal.now here lit → ⊥ }
 {
     if same(&lit, query.goal) {
         mem::drop(lit);

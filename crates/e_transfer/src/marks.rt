@@ -6,7 +6,7 @@ ghost use Rattle.e_literal.specs.Literal.{negation};
 ghost use Rattle.e_clause.specs.Instance.{clause_of};
 ghost use Rattle.e_clause.specs.Table.{table};
 ghost use Rattle.e_clause.specs.Views.{atom_of, row_of};
-ghost use Rattle.e_transfer.specs.GivenGoals.{signed, NoneAt};
+ghost use Rattle.e_transfer.specs.GivenGoals.{signed_literal, NoneAt};
 ghost use Rattle.e_transfer.specs.Marks;
 ghost use Rattle.e_transfer.specs.Marks.{are_marked, NoneHolds};
 
@@ -129,7 +129,7 @@ fn is_strict_of_areas(neg: bool, shape: &Shape) -> bool
 
 /// The atom of a pattern, or of its negation, and its sign.
 fn parts(pattern: &Pattern, negated: bool) -> (Shape, bool)
-    ensures { signed negated pattern.now ≡ record { neg = result.1; atom = atom_of result.0 } }
+    ensures { signed_literal negated pattern.now ≡ record { neg = result.1; atom = atom_of result.0 } }
 {
     match pattern {
         Pattern::Is(shape) => (*shape, negated),

@@ -8,7 +8,7 @@ ghost use Rattle.e_transfer.specs.inner.PartsOfChoices;
 ghost use Rattle.e_transfer.specs.inner.PartsOfChoices.{sum_last, term_last, atom_last};
 ghost use Rattle.e_transfer.specs.inner.Bindings;
 ghost use Rattle.e_transfer.specs.inner.Plans;
-ghost use Rattle.e_transfer.specs.inner.Plans.{total_of, has, Grows, RepresentativesAre, OrderIs, PositionsAre, PlanIs};
+ghost use Rattle.e_transfer.specs.inner.Plans.{total_of, has_variable, Grows, RepresentativesAre, OrderIs, PositionsAre, IsPlanFor};
 
 use crate::unify::{Binding, binding_of, representative};
 use crate::walk::Span;
@@ -42,7 +42,7 @@ fn representatives_of(alloc: Global, bindings: &[Binding]) -> Result<Vec<usize>,
 fn add_once(order: &mut Vec<usize>, total: usize, variable: usize) -> Result<(), AllocError>
     requires { variable < total }
     ensures grows { OnOk result (Grows total order.old.items order.new.items) }
-    ensures there { OnOk result (IsTrue (has order.new.items variable)) }
+    ensures there { OnOk result (IsTrue (has_variable order.new.items variable)) }
 {
     if !order.contains(&variable) {
         order.push(variable)?;
@@ -103,7 +103,7 @@ fn order_of(
 
 /// The place of a variable in the order.
 fn position_in(order: &[usize], variable: usize) -> usize
-    requires { IsTrue (has order.now variable) }
+    requires { IsTrue (has_variable order.now variable) }
     ensures below { result < length order.now }
     ensures at { slice_index order.now result ≡ variable }
 {
@@ -289,7 +289,7 @@ pub fn make_plan(
     preferred: &[u8],
 ) -> Result<Plan, AllocError>
     requires { length bindings.now ≡ total_of (row_of row.now) }
-    ensures { IfOk result (PlanIs (row_of row.now) scope bindings.now) }
+    ensures { IfOk result (IsPlanFor (row_of row.now) scope bindings.now) }
 {
     let representatives = representatives_of(alloc, bindings)?;
     let order = order_of(alloc, bindings, &representatives, preferred)?;

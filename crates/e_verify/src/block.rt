@@ -6,7 +6,7 @@ ghost use Rattle.e_theorem.specs.Statements.{all_stated};
 ghost use Rattle.e_deriv.specs.Fitting.{is_small_statement};
 ghost use Rattle.e_deriv.specs.Script.{Claim, Superposed, script_of, step_script, close_script};
 ghost use Rattle.e_verify.specs.declared.reject.Reject.TheVariants.{Bad as IsBad};
-ghost use Rattle.e_verify.specs.Checking.{AreReadyLines, IsReadyFor, IsReadyStep, IsPassed, KeepsFacts, LinesReject, RejectIs, StepRejects, verdict_at};
+ghost use Rattle.e_verify.specs.Checking.{AreCheckable, IsCheckable, IsCheckableStep, AreVerified, KeepsFirstFacts, LinesReject, RejectIs, StepRejects, verdict_at};
 ghost use Rattle.e_verify.specs.inner.StepStates.{block_goal};
 
 use crate::closes::{contradiction, qed};
@@ -32,10 +32,10 @@ pub fn verify_block(
     state: &mut StepState,
     first: u32,
 ) -> Result<u32, Reject>
-    requires ready { IsReadyFor (all_stated before.now) (script_of block.now) state.old (block_goal goal.now) first }
+    requires ready { IsCheckable (all_stated before.now) (script_of block.now) state.old (block_goal goal.now) first }
     requires statements { IsTrue (list_all is_small_statement (all_stated before.now)) }
     ensures ok { IfOk result (λ next. verdict_at (all_stated before.now) (script_of block.now) state.old (block_goal goal.now) first ≡ Ok next) }
-    ensures kept { OnOk result (KeepsFacts state.old state.new) }
+    ensures kept { OnOk result (KeepsFirstFacts state.old state.new) }
     ensures err { IfErr result (RejectIs (verdict_at (all_stated before.now) (script_of block.now) state.old (block_goal goal.now) first)) }
 {
     let mut number = first;
@@ -57,9 +57,9 @@ fn verify_step(
     state: &mut StepState,
     number: u32,
 ) -> Result<u32, Reject>
-    requires ready { IsReadyStep (all_stated before.now) step.now state.old number }
+    requires ready { IsCheckableStep (all_stated before.now) step.now state.old number }
     requires statements { IsTrue (list_all is_small_statement (all_stated before.now)) }
-    ensures ok { IfOk result (λ next. IsPassed (all_stated before.now) (step_script step.now) state.old number state.new next) }
+    ensures ok { IfOk result (λ next. AreVerified (all_stated before.now) (step_script step.now) state.old number state.new next) }
     ensures err { IfErr result (StepRejects (all_stated before.now) step.now state.old number) }
 {
     match step {
@@ -110,9 +110,9 @@ fn verify_claim(
     state: &mut StepState,
     number: u32,
 ) -> Result<u32, Reject>
-    requires ready { AreReadyLines (all_stated before.now) (Claim shown.now (script_of inner.now)) state.old number }
+    requires ready { AreCheckable (all_stated before.now) (Claim shown.now (script_of inner.now)) state.old number }
     requires statements { IsTrue (list_all is_small_statement (all_stated before.now)) }
-    ensures ok { IfOk result (λ next. IsPassed (all_stated before.now) (Claim shown.now (script_of inner.now)) state.old number state.new next) }
+    ensures ok { IfOk result (λ next. AreVerified (all_stated before.now) (Claim shown.now (script_of inner.now)) state.old number state.new next) }
     ensures err { IfErr result (LinesReject (all_stated before.now) (Claim shown.now (script_of inner.now)) state.old number) }
 {
     if !are_over(state.scope, shown) {
@@ -148,9 +148,9 @@ fn verify_superposed(
     state: &mut StepState,
     number: u32,
 ) -> Result<u32, Reject>
-    requires ready { (names : List (List ℕ)) × AreReadyLines (all_stated before.now) (Superposed superposition.now.form.now names superposition.now.shown.now superposition.now.certs.now (script_of inner.now)) state.old number }
+    requires ready { (names : List (List ℕ)) × AreCheckable (all_stated before.now) (Superposed superposition.now.form.now names superposition.now.shown.now superposition.now.certs.now (script_of inner.now)) state.old number }
     requires statements { IsTrue (list_all is_small_statement (all_stated before.now)) }
-    ensures ok { IfOk result (λ next. (names : List (List ℕ)) → IsPassed (all_stated before.now) (Superposed superposition.now.form.now names superposition.now.shown.now superposition.now.certs.now (script_of inner.now)) state.old number state.new next) }
+    ensures ok { IfOk result (λ next. (names : List (List ℕ)) → AreVerified (all_stated before.now) (Superposed superposition.now.form.now names superposition.now.shown.now superposition.now.certs.now (script_of inner.now)) state.old number state.new next) }
     ensures err { IfErr result (λ e. (names : List (List ℕ)) → LinesReject (all_stated before.now) (Superposed superposition.now.form.now names superposition.now.shown.now superposition.now.certs.now (script_of inner.now)) state.old number e) }
 {
     let Superposition { form, shown, certs } = *superposition;
@@ -179,10 +179,10 @@ fn verify_close(
     state: &mut StepState,
     number: u32,
 ) -> Result<u32, Reject>
-    requires ready { IsReadyFor (all_stated before.now) (close_script close.now) state.old (block_goal goal.now) number }
+    requires ready { IsCheckable (all_stated before.now) (close_script close.now) state.old (block_goal goal.now) number }
     requires statements { IsTrue (list_all is_small_statement (all_stated before.now)) }
     ensures ok { IfOk result (λ next. verdict_at (all_stated before.now) (close_script close.now) state.old (block_goal goal.now) number ≡ Ok next) }
-    ensures kept { OnOk result (KeepsFacts state.old state.new) }
+    ensures kept { OnOk result (KeepsFirstFacts state.old state.new) }
     ensures err { IfErr result (RejectIs (verdict_at (all_stated before.now) (close_script close.now) state.old (block_goal goal.now) number)) }
 {
     match close {

@@ -6,7 +6,7 @@ ghost use Rattle.std.specs.List.{list_all};
 ghost use Rattle.e_literal.specs.WellFormed.{is_well_formed};
 ghost use Rattle.e_clause.specs.Sum.{says_differ};
 ghost use Rattle.e_clause.specs.MetricCertificate;
-ghost use Rattle.e_verify.specs.inner.Small.{is_small, is_short};
+ghost use Rattle.e_verify.specs.inner.Small.{is_small_row, is_short};
 ghost use Rattle.e_verify.specs.inner.Views.{row_view, comparison_view};
 ghost use Rattle.e_clause.specs.Written.{is_good_name, is_good_sum, is_good_sums};
 
@@ -121,7 +121,7 @@ fn if_not<'a>(row: Option<Comparison<'a>>) -> Option<Comparison<'a>>
 fn above_row<'a>(row: Comparison<'a>) -> Row<'a>
     requires { IsTrue (is_short row) }
     ensures row { row_view result ≡ MetricCertificate.above_row (comparison_view row.entry) }
-    ensures small { IsTrue (is_small result) }
+    ensures small { IsTrue (is_small_row result) }
 {
     Row::Sums {
         says: Says::More,
@@ -135,7 +135,7 @@ fn above_row<'a>(row: Comparison<'a>) -> Row<'a>
 fn below_row<'a>(row: Comparison<'a>) -> Row<'a>
     requires { IsTrue (is_short row) }
     ensures row { row_view result ≡ MetricCertificate.below_row (comparison_view row.entry) }
-    ensures small { IsTrue (is_small result) }
+    ensures small { IsTrue (is_small_row result) }
 {
     Row::Sums {
         says: Says::More,

@@ -15,9 +15,9 @@ ghost use Rattle.e_deriv.specs.Versions.{has_certs_of};
 ghost use Rattle.e_verify.specs.Numbered;
 ghost use Rattle.e_verify.specs.Numbered.{derivation_with_places};
 ghost use Rattle.e_verify.specs.Verdicts.{IsVerifiable};
-ghost use Rattle.e_verify.specs.Checking.{KeepsFacts};
+ghost use Rattle.e_verify.specs.Checking.{KeepsFirstFacts};
 ghost use Rattle.e_verify.specs.inner.Numbering.{HaveFew, IsNumberedStep, places_at};
-ghost use Rattle.e_verify.specs.inner.StepStates.{after_superposed, block_goal};
+ghost use Rattle.e_verify.specs.inner.StepStates.{state_after_superposed, block_goal};
 
 use crate::closes::{are_of_sorts, goal_with};
 use crate::ending::{Head, claimed, split, superposed};
@@ -81,7 +81,7 @@ fn number_block(
     requires { IsTrue (list_all is_small_statement (all_stated before.now)) }
     ensures same { IfOk result (λ b. script_of b ≡ places_at (all_stated before.now) (script_of block.now) state.old (block_goal goal.now)) }
     ensures few { OnOk result (HaveFew (all_stated before.now) (script_of block.now) state.old (block_goal goal.now)) }
-    ensures kept { OnOk result (KeepsFacts state.old state.new) }
+    ensures kept { OnOk result (KeepsFirstFacts state.old state.new) }
 {
     let mut steps = Vec::new(alloc);
     for step in &block.steps {
@@ -185,7 +185,7 @@ fn number_close(
     requires { IsTrue (list_all is_small_statement (all_stated before.now)) }
     ensures same { IfOk result (λ c. close_script c ≡ places_at (all_stated before.now) (close_script close.now) state.old (block_goal goal.now)) }
     ensures few { OnOk result (HaveFew (all_stated before.now) (close_script close.now) state.old (block_goal goal.now)) }
-    ensures kept { OnOk result (KeepsFacts state.old state.new) }
+    ensures kept { OnOk result (KeepsFirstFacts state.old state.new) }
 {
     if state.facts.len() >= PLACES {
         return Err(AllocError);
@@ -337,7 +337,7 @@ fn superpose(
     state: &mut StepState,
 ) -> Result<Items<Cert>, AllocError>
     ensures certs { IfOk result (λ cs. cs ≡ Numbered.certs_with_places state.old.facts (superposing.needs form.now) certs.now) }
-    ensures after { OnOk result (state.new ≡ after_superposed form.now state.old) }
+    ensures after { OnOk result (state.new ≡ state_after_superposed form.now state.old) }
 {
     let scope = state.scope;
     if !has_room(scope) {

@@ -8,8 +8,8 @@ ghost use Rattle.e_literal.specs.Rows.{row_of_atom};
 ghost use Rattle.e_literal.specs.WellFormed.{is_good_atom, is_well_formed};
 ghost use Rattle.e_clause.specs.Sum;
 ghost use Rattle.e_clause.specs.declared.cert.RowName.TheVariants.{Least};
-ghost use Rattle.e_verify.specs.inner.Small.{is_small, is_short};
-ghost use Rattle.e_verify.specs.inner.Views.{row_view, comparison_view, says_of, row_scope_view};
+ghost use Rattle.e_verify.specs.inner.Small.{is_small_row, is_short};
+ghost use Rattle.e_verify.specs.inner.Views.{row_view, comparison_view, says_view, row_scope_view};
 ghost use Rattle.e_clause.specs.Written.{is_good_name};
 ghost use Rattle.e_verify.specs.inner.RowScopes.{is_good_row_scope};
 
@@ -67,7 +67,7 @@ pub struct RowScope<'a> {
 impl<'a> Row<'a> {
     /// What it says of its form.
     pub fn says(&self) -> Says
-        ensures { says_of result ≡ (row_view self.now).says }
+        ensures { says_view result ≡ (row_view self.now).says }
     {
         match self {
             Row::Sums { says, .. } => *says,
@@ -82,7 +82,7 @@ pub fn row_named<'a>(row_scope: &RowScope<'a>, name: &'a RowName) -> Option<Row<
     requires row_scope { IsTrue (is_good_row_scope row_scope.now) }
     requires name { IsTrue (is_good_name name.now) }
     ensures row { option_map row_view result ≡ Sum.row_named (row_scope_view row_scope.now) name.now }
-    ensures small { IfSome result (λ r. IsTrue (is_small r)) }
+    ensures small { IfSome result (λ r. IsTrue (is_small_row r)) }
 {
     match name {
         RowName::Fact(lit) => unless_not(fact_row(row_scope.facts, lit)),
@@ -168,7 +168,7 @@ fn row_of<'a>(atom: &'a Atom, neg: bool) -> Option<Comparison<'a>>
 fn unless_not<'a>(row: Option<Comparison<'a>>) -> Option<Row<'a>>
     requires { IfSome row (λ c. IsTrue (is_short c)) }
     ensures row { option_map row_view result ≡ Sum.unless_not (option_map comparison_view row.entry) }
-    ensures small { IfSome result (λ r. IsTrue (is_small r)) }
+    ensures small { IfSome result (λ r. IsTrue (is_small_row r)) }
 {
     match row {
         Some(Comparison { says, plus, minus }) => {
@@ -189,7 +189,7 @@ fn unless_not<'a>(row: Option<Comparison<'a>>) -> Option<Row<'a>>
 /// A segment of the step whose ends are apart by the facts.
 fn pos_row<'a>(row_scope: &RowScope<'a>, term: Term) -> Option<Row<'a>>
     ensures row { option_map row_view result ≡ Sum.pos_of (row_scope_view row_scope.now) term }
-    ensures small { IfSome result (λ r. IsTrue (is_small r)) }
+    ensures small { IfSome result (λ r. IsTrue (is_small_row r)) }
 {
     match term {
         Term::Seg(a, b) if is_step_term(row_scope, term) && row_scope.facts.are_apart(a, b) => {
@@ -202,7 +202,7 @@ fn pos_row<'a>(row_scope: &RowScope<'a>, term: Term) -> Option<Row<'a>>
 /// An angle of the step.
 fn top_row<'a>(row_scope: &RowScope<'a>, term: Term) -> Option<Row<'a>>
     ensures row { option_map row_view result ≡ Sum.top_of (row_scope_view row_scope.now) term }
-    ensures small { IfSome result (λ r. IsTrue (is_small r)) }
+    ensures small { IfSome result (λ r. IsTrue (is_small_row r)) }
 {
     match term {
         Term::Ang(_, _, _) if is_step_term(row_scope, term) => Some(Row::Top(term)),
@@ -213,7 +213,7 @@ fn top_row<'a>(row_scope: &RowScope<'a>, term: Term) -> Option<Row<'a>>
 /// A term of the step.
 fn least_row<'a>(row_scope: &RowScope<'a>, term: Term) -> Option<Row<'a>>
     ensures row { option_map row_view result ≡ Sum.row_named (row_scope_view row_scope.now) (Least term) }
-    ensures small { IfSome result (λ r. IsTrue (is_small r)) }
+    ensures small { IfSome result (λ r. IsTrue (is_small_row r)) }
 {
     if is_step_term(row_scope, term) {
         Some(Row::Least(term))

@@ -14,8 +14,8 @@ ghost use Rattle.e_deriv.specs.Goal.{Goal};
 ghost use Rattle.e_deriv.specs.Script.{Script, Cite, Hence, Make, Apply, Superposed};
 ghost use Rattle.e_deriv.specs.Steps;
 ghost use Rattle.e_deriv.specs.Steps.{is_citation};
-ghost use Rattle.e_verify.specs.Checking.{IsChecked, line_at};
-ghost use Rattle.e_verify.specs.inner.StepStates.{after_superposed};
+ghost use Rattle.e_verify.specs.Checking.{IsChecked, line_in_state};
+ghost use Rattle.e_verify.specs.inner.StepStates.{state_after_superposed};
 ghost use Rattle.e_clause.specs.Written.{is_good_cert};
 
 use crate::certificate::{certifies, certify_all};
@@ -157,8 +157,8 @@ pub fn superpose(
     requires facts { IsTrue (list_all is_well_formed state.old.facts) }
     requires scope { IsTrue (is_small state.old.scope) }
     requires certs { IsTrue (list_all is_good_cert certs.now) }
-    ensures test { IfOk result (λ b. (before : List Stated) (names : List (List ℕ)) (inner rest : Script) (goal : Goal) → b ≡ is_certified before (line_at (Superposed form.now names shown.now certs.now inner rest) state.old goal)) }
-    ensures after { IfOk result (λ b. IsTrue b → state.new ≡ after_superposed form.now state.old) }
+    ensures test { IfOk result (λ b. (before : List Stated) (names : List (List ℕ)) (inner rest : Script) (goal : Goal) → b ≡ is_certified before (line_in_state (Superposed form.now names shown.now certs.now inner rest) state.old goal)) }
+    ensures after { IfOk result (λ b. IsTrue b → state.new ≡ state_after_superposed form.now state.old) }
 {
     let scope = state.scope;
     if !form.fits(scope) || !are_over(scope, shown) {

@@ -4,7 +4,7 @@ ghost use Rattle.std.specs.Prelude.{◌≡◌, IfOk, IsTrue};
 ghost use Rattle.std.specs.List.{list_all};
 ghost use Rattle.e_literal.specs.Absurd;
 ghost use Rattle.e_clause.specs.Sum;
-ghost use Rattle.e_verify.specs.inner.Views.{says_of, row_scope_view};
+ghost use Rattle.e_verify.specs.inner.Views.{says_view, row_scope_view};
 ghost use Rattle.e_clause.specs.Written.{is_good_sum};
 ghost use Rattle.e_verify.specs.inner.RowScopes.{is_good_row_scope};
 
@@ -65,7 +65,7 @@ fn is_good_multiplier(n: i128) -> bool
 }
 
 fn is_good_sign(says: Says, multiplier: i128) -> bool
-    ensures { result ≡ Absurd.is_good_sign (says_of says) multiplier }
+    ensures { result ≡ Absurd.is_good_sign (says_view says) multiplier }
 {
     match says {
         Says::Zero => true,
@@ -75,7 +75,7 @@ fn is_good_sign(says: Says, multiplier: i128) -> bool
 }
 
 fn is_strict(says: Says, multiplier: i128) -> bool
-    ensures { result ≡ Absurd.is_strict (says_of says) multiplier }
+    ensures { result ≡ Absurd.is_strict (says_view says) multiplier }
 {
     says == Says::More && 1 <= multiplier
 }

@@ -8,7 +8,7 @@ ghost use Rattle.e_deriv.specs.Proves.{IsProof};
 ghost use Rattle.e_deriv.specs.Script.{script_of};
 ghost use Rattle.e_verify.specs.Checking.{RejectIs};
 ghost use Rattle.e_verify.specs.Verdicts.{IsVerifiable};
-ghost use Rattle.e_verify.specs.inner.StepStates.{start_of};
+ghost use Rattle.e_verify.specs.inner.StepStates.{state_at_start};
 
 use crate::block::verify_block;
 use crate::facts::Facts;
@@ -64,7 +64,7 @@ pub(crate) fn begin(
     statement: &Statement,
 ) -> Result<StepState, AllocError>
     requires { scope ≡ scope_of (stated statement.now) }
-    ensures { IfOk result (λ x. x ≡ start_of (stated statement.now)) }
+    ensures { IfOk result (λ x. x ≡ state_at_start (stated statement.now)) }
 {
     let mut state = StepState {
         scope,

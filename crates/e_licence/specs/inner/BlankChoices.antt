@@ -29,9 +29,9 @@ numbers_left None [] = []
 numbers_left None (v ∷ c) = c
 
 -- the arguments for all the objects
-abbrev pub filled : Scope → List Obj → List (Option Obj) → List ℕ → List Obj
-filled missing (o ∷ os) (e ∷ entries) c = argument_for missing o e c ∷ filled missing os entries (numbers_left e c)
-filled missing _ _ c = []
+abbrev pub filled_arguments : Scope → List Obj → List (Option Obj) → List ℕ → List Obj
+filled_arguments missing (o ∷ os) (e ∷ entries) c = argument_for missing o e c ∷ filled_arguments missing os entries (numbers_left e c)
+filled_arguments missing _ _ c = []
 
 -- the numbers in scope for a blank
 abbrev pub spans_of : Scope → List Obj → List (Option Obj) → List Span
@@ -41,7 +41,7 @@ spans_of s _ _ = []
 
 -- the images of the objects
 abbrev pub images_of_choice : Scope → List Obj → List (Option Obj) → List ℕ → List Entry
-images_of_choice s os entries c = paired os (filled s os entries c)
+images_of_choice s os entries c = paired os (filled_arguments s os entries c)
 
 -- ---- what is licensed at the first numbers of a choice
 
@@ -56,8 +56,8 @@ AllCompleted b now before first (l ∷ ls) =
     (IsTrue (is_completed b.scope now before first l) → Allowed b.scope b.facts (renamed (image_in now) l)) × AllCompleted b now before first ls
 
 -- each literal that the last number completes is allowed
-abbrev pub IsKept : Basis → List Obj → List (Option Obj) → List Lit → List ℕ → Type 0
-IsKept b os entries given part =
+abbrev pub IsKeptChoice : Basis → List Obj → List (Option Obj) → List Lit → List ℕ → Type 0
+IsKeptChoice b os entries given part =
     AllCompleted b (images_of_choice b.scope os entries part) (images_of_choice b.scope os entries (take (length part - 1) part)) (length part == 0) given
 
 -- each literal is allowed
@@ -70,7 +70,7 @@ pub record IsRefusedAt (b : Basis) (now : List Entry) (l : Lit) : Type 0 where
   pub not_allowed : ¬ Allowed b.scope b.facts (renamed (image_in now) l)
 
 -- all objects of the literal are in scope, and it is too wide
-pub record IsWideAt (b : Basis) (now : List Entry) (l : Lit) (w : ℕ) : Type 0 where
+pub record IsWideUnder (b : Basis) (now : List Entry) (l : Lit) (w : ℕ) : Type 0 where
   pub good : IsTrue (is_good b.scope (renamed (image_in now) l))
   pub is_wide : IsTooWideLit b.scope b.facts (renamed (image_in now) l) w
 
@@ -83,13 +83,13 @@ pub record SomeIsRefusedAt (b : Basis) (now : List Entry) (ls : List Lit) : Type
 pub record SomeIsWideAt (b : Basis) (now : List Entry) (ls : List Lit) (w : ℕ) : Type 0 where
   pub lit : Lit
   pub is_one : Contains ls lit
-  pub is_wide : IsWideAt b now lit w
+  pub is_wide : IsWideUnder b now lit w
 
 -- what is answered on one literal
 abbrev pub OneIs : Basis → List Entry → List Entry → Bool → Lit → Verdict (Unit {0}) → Type 0
 OneIs b now before first l (verdict.Yes p) = IsTrue (is_completed b.scope now before first l) → Allowed b.scope b.facts (renamed (image_in now) l)
 OneIs b now before first l verdict.No = IsRefusedAt b now l
-OneIs b now before first l (verdict.TooWide w) = IsWideAt b now l w
+OneIs b now before first l (verdict.TooWide w) = IsWideUnder b now l w
 
 -- what is answered on all
 abbrev pub AllIs : Basis → List Entry → List Entry → Bool → List Lit → Verdict (Unit {0}) → Type 0

@@ -3,9 +3,9 @@ use Rattle.std.proofs.Common.{◌≡◌, refl, Bool, false}
 use Rattle.e_literal.specs.declared.object.Kind.{Kind}
 use Rattle.e_literal.specs.declared.object.Kind.TheVariants.{Segment, Angle, Area}
 use Rattle.e_literal.specs.WellFormed.{same_kind}
-use Rattle.e_metric.specs.inner.ByKind.{arranged, at_kind, others}
+use Rattle.e_metric.specs.inner.ByKind.{arranged, at_kind, other_two}
 
-pub each_kind : {T : Type 0} (P : Kind → T → Type 0) (which : Kind) (own first second : T) → P which own → P (others which).0 first → P (others which).1 second → (k : Kind) → P k (at_kind (arranged which own first second) k)
+pub each_kind : {T : Type 0} (P : Kind → T → Type 0) (which : Kind) (own first second : T) → P which own → P (other_two which).0 first → P (other_two which).1 second → (k : Kind) → P k (at_kind (arranged which own first second) k)
 each_kind P Segment own first second h f s Segment = h
 each_kind P Segment own first second h f s Angle = f
 each_kind P Segment own first second h f s Area = s
@@ -16,12 +16,12 @@ each_kind P Area own first second h f s Segment = f
 each_kind P Area own first second h f s Angle = s
 each_kind P Area own first second h f s Area = h
 
-pub first_differs : (which : Kind) → same_kind (others which).0 which ≡ false
+pub first_differs : (which : Kind) → same_kind (other_two which).0 which ≡ false
 first_differs Segment = refl
 first_differs Angle = refl
 first_differs Area = refl
 
-pub second_differs : (which : Kind) → same_kind (others which).1 which ≡ false
+pub second_differs : (which : Kind) → same_kind (other_two which).1 which ≡ false
 second_differs Segment = refl
 second_differs Angle = refl
 second_differs Area = refl

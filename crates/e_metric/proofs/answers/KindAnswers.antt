@@ -29,9 +29,9 @@ use Rattle.e_literal.specs.Rows.{Row}
 use Rattle.e_simplex.specs.declared.decision.Absurdity.{Absurdity}
 use Rattle.e_simplex.specs.Answer.{IsAbsurdity}
 use Rattle.e_metric.specs.AgreeingRows.{AreRows, AllLimited}
-use Rattle.e_metric.specs.ListedTerms.{listed, distinct_terms}
+use Rattle.e_metric.specs.ListedTerms.{with_listed, distinct_terms}
 use Rattle.e_metric.specs.inner.Certificate.{certificate_sums}
-use Rattle.e_metric.specs.MetricAnswers.{IsCertified, IsTooWide}
+use Rattle.e_metric.specs.MetricAnswers.{IsCertified, IsTooWideSystem}
 use Rattle.e_clause.specs.declared.cert.Version.TheVariants as version
 use Rattle.e_clause.specs.Versions.{are_sums_of}
 use Rattle.e_metric.proofs.rows.SameCoefficients.{satisfy_alike, wide_alike, width_alike}
@@ -76,7 +76,7 @@ module _ (which : Kind) (facts : List Lit) (wanted : Option Lit) where
 
   module _ (ns : List NamedRow) (order : AreReordered ns (system which facts wanted)) (ps : List (RowName × GivenRow)) (are : AreRows ns ps) (limited : AllLimited ps)
       (good : list_all is_well_formed facts ≡ true) (few : length (terms_of_lits facts) ≤ 1100) (good_wanted : is_good_wanted wanted ≡ true) (rows : List GivenRow) (rows_are : rows ≡ rows_given ps) where
-    together : length ps + length (listed (distinct_terms which facts wanted) (Right ∷ [])) ≤ 4096
+    together : length ps + length (with_listed (distinct_terms which facts wanted) (Right ∷ [])) ≤ 4096
     together = omega (arith, length_rows ns ps are, order.many, system_length which facts wanted good good_wanted few)
 
     pub few_rows : length rows ≤ 4096
@@ -95,18 +95,18 @@ module _ (which : Kind) (facts : List Lit) (wanted : Option Lit) where
         (let wide : IsWide (rows_of_system which facts wanted) = wide_reordered ns (system which facts wanted) order (wide_alike (all_seen (rows_given ps)) (map row_of ns) (rows_alike ns ps are) (subst (λ rs. IsWide (all_seen rs)) rows_are h)) in
         record { is_wide = wide; is_width = e; is_large = omega (arith, e, wide_rows_width (rows_of_system which facts wanted) wide) })
 
-    pub too_wide : (w : ℕ) → w ≡ width (rows_of_system which facts wanted) → IsWide (all_seen rows) → IsTooWide facts wanted w
+    pub too_wide : (w : ℕ) → w ≡ width (rows_of_system which facts wanted) → IsWide (all_seen rows) → IsTooWideSystem facts wanted w
     too_wide w e h = record { rows = rows_of_system which facts wanted; is_one = one_system which; has_width = has_width w e h }
 
-    pub refuted : (names : List RowName) (terms : List Term) (a : Absurdity) (sums : Sums) → names ≡ names_given ps → terms ≡ listed (distinct_terms which facts wanted) (Right ∷ [])
+    pub refuted : (names : List RowName) (terms : List Term) (a : Absurdity) (sums : Sums) → names ≡ names_given ps → terms ≡ with_listed (distinct_terms which facts wanted) (Right ∷ [])
         → IsAbsurdity (all_seen rows) a → sums ≡ certificate_sums names rows terms a → IsCertified facts wanted (record { sums = sums })
     refuted names terms a sums n t h e =
-        (let sums_are : sums ≡ certificate_sums (names_given ps) (rows_given ps) (listed (distinct_terms which facts wanted) (Right ∷ [])) a =
+        (let sums_are : sums ≡ certificate_sums (names_given ps) (rows_given ps) (with_listed (distinct_terms which facts wanted) (Right ∷ [])) a =
         e ∙ ap (λ ns. certificate_sums ns rows terms a) n ∙ ap (λ rs. certificate_sums (names_given ps) rs terms a) rows_are ∙ ap (λ ts. certificate_sums (names_given ps) (rows_given ps) ts a) t in
         record {
           refutes = ap (sums_refute facts wanted) sums_are ∙ certified which facts wanted ns order ps are together a (subst (λ rs. IsAbsurdity (all_seen rs) a) rows_are h);
           scoped = λ s k g. ap (sums_in s) sums_are ∙ in_scope s facts wanted k g which ns order (names_given ps) (rows_given ps) a (names_are ns ps are);
-          written = ap (are_sums_of version.One) sums_are ∙ written_well which facts wanted ns order (names_given ps) (rows_given ps) (listed (distinct_terms which facts wanted) (Right ∷ [])) a (names_are ns ps are) good;
+          written = ap (are_sums_of version.One) sums_are ∙ written_well which facts wanted ns order (names_given ps) (rows_given ps) (with_listed (distinct_terms which facts wanted) (Right ∷ [])) a (names_are ns ps are) good;
         })
 
   -- the width of the rows in their order

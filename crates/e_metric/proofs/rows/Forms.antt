@@ -24,7 +24,7 @@ use Rattle.e_literal.proofs.Terms.{term_eq_is, term_eq_same, equal_terms, term_e
 use Rattle.e_literal.proofs.CanonicalTerms.{canonical_twice}
 use Rattle.e_literal.proofs.Valued.{is_normal, normal_coefficient}
 use Rattle.e_literal.proofs.Booleans.{and_left, and_right}
-use Rattle.e_metric.specs.inner.Differences.{coefficient_in_difference, occurs_in, is_passed, with_term, with_terms, difference_form}
+use Rattle.e_metric.specs.inner.Differences.{coefficient_in_difference, occurs_in, is_passed, with_summand, with_summands, difference_form}
 use Rattle.e_metric.specs.AgreeingRows.{has_no_zero}
 
 -- ---- lists
@@ -84,7 +84,7 @@ distinct_push (p ∷ ps) n t h k =
     and_from (not (occurs_in (ps ++ (n, t) ∷ []) p.1)) (have_distinct_terms (ps ++ (n, t) ∷ [])) (ap not one)
     (distinct_push ps n t (and_right (not (occurs_in ps p.1)) (have_distinct_terms ps) h) w.1))
 
-joined_term : (x y : List Mono) (form : Summands) (t : Term) → canonical t ≡ t → IsJoined x y form → IsJoined x y (with_term x y form t)
+joined_term : (x y : List Mono) (form : Summands) (t : Term) → canonical t ≡ t → IsJoined x y form → IsJoined x y (with_summand x y form t)
 joined_term x y form t c h = by (is_passed x y form t) refl
   where
     by : (b : Bool) → is_passed x y form t ≡ b → IsJoined x y (cond b form (form ++ (coefficient_in_difference x y t, t) ∷ []))
@@ -96,30 +96,30 @@ joined_term x y form t c h = by (is_passed x y form t) refl
           are_summands = summands_push x y form (coefficient_in_difference x y t, t) h.are_summands (record { coefficient = refl; some = not_zero (coefficient_in_difference x y t) v.1; normal = is_normal_of t c w.0 });
         })
 
-joined_terms : (x y : List Mono) (form : Summands) (ms : List Mono) → IsJoined x y form → IsJoined x y (with_terms x y form ms)
+joined_terms : (x y : List Mono) (form : Summands) (ms : List Mono) → IsJoined x y form → IsJoined x y (with_summands x y form ms)
 joined_terms x y form [] h = h
-joined_terms x y form (m ∷ ms) h = joined_terms x y (with_term x y form (canonical m.term)) ms (joined_term x y form (canonical m.term) (canonical_twice m.term) h)
+joined_terms x y form (m ∷ ms) h = joined_terms x y (with_summand x y form (canonical m.term)) ms (joined_term x y form (canonical m.term) (canonical_twice m.term) h)
 
 pub is_joined : (x y : List Mono) → IsJoined x y (difference_form x y)
-is_joined x y = joined_terms x y (with_terms x y [] x) y (joined_terms x y [] x (record { distinct = refl; are_summands = tt }))
+is_joined x y = joined_terms x y (with_summands x y [] x) y (joined_terms x y [] x (record { distinct = refl; are_summands = tt }))
 
 -- ---- each term that does not cancel is there
 
-occurs_keep : (x y : List Mono) (form : Summands) (u t : Term) → occurs_in form t ≡ true → occurs_in (with_term x y form u) t ≡ true
+occurs_keep : (x y : List Mono) (form : Summands) (u t : Term) → occurs_in form t ≡ true → occurs_in (with_summand x y form u) t ≡ true
 occurs_keep x y form u t h = by (is_passed x y form u)
   where
     by : (b : Bool) → occurs_in (cond b form (form ++ (coefficient_in_difference x y u, u) ∷ [])) t ≡ true
     by true = h
     by false = occurs_append form ((coefficient_in_difference x y u, u) ∷ []) t ∙ or_left (occurs_in form t) (occurs_in ((coefficient_in_difference x y u, u) ∷ []) t) h
 
-occurs_keeps : (x y : List Mono) (form : Summands) (ms : List Mono) (t : Term) → occurs_in form t ≡ true → occurs_in (with_terms x y form ms) t ≡ true
+occurs_keeps : (x y : List Mono) (form : Summands) (ms : List Mono) (t : Term) → occurs_in form t ≡ true → occurs_in (with_summands x y form ms) t ≡ true
 occurs_keeps x y form [] t h = h
-occurs_keeps x y form (m ∷ ms) t h = occurs_keeps x y (with_term x y form (canonical m.term)) ms t (occurs_keep x y form (canonical m.term) t h)
+occurs_keeps x y form (m ∷ ms) t h = occurs_keeps x y (with_summand x y form (canonical m.term)) ms t (occurs_keep x y form (canonical m.term) t h)
 
-occurs_here : (x y : List Mono) (form : Summands) (t : Term) → is_degenerate t ≡ false → coefficient_in_difference x y t ≢ pos 0 → occurs_in (with_term x y form t) t ≡ true
+occurs_here : (x y : List Mono) (form : Summands) (t : Term) → is_degenerate t ≡ false → coefficient_in_difference x y t ≢ pos 0 → occurs_in (with_summand x y form t) t ≡ true
 occurs_here x y form t d n = by (occurs_in form t) (int_eq (coefficient_in_difference x y t) (pos 0)) refl refl
   where
-    by : (a b : Bool) → occurs_in form t ≡ a → int_eq (coefficient_in_difference x y t) (pos 0) ≡ b → occurs_in (with_term x y form t) t ≡ true
+    by : (a b : Bool) → occurs_in form t ≡ a → int_eq (coefficient_in_difference x y t) (pos 0) ≡ b → occurs_in (with_summand x y form t) t ≡ true
     by true b e f = occurs_keep x y form t t e
     by false true e f = absurd (n (zero_is (coefficient_in_difference x y t) f))
     by false false e f =
@@ -127,13 +127,13 @@ occurs_here x y form t d n = by (occurs_in form t) (int_eq (coefficient_in_diffe
         ∙ occurs_append form ((coefficient_in_difference x y t, t) ∷ []) t
         ∙ or_right (occurs_in form t) (term_eq t t || false) (or_left (term_eq t t) false (term_eq_same t))
 
-occurs_met : (x y : List Mono) (form : Summands) (ms : List Mono) (t : Term) → is_normal t ≡ true → coefficient_in_difference x y t ≢ pos 0 → coeff_of ms t ≢ 0 → occurs_in (with_terms x y form ms) t ≡ true
+occurs_met : (x y : List Mono) (form : Summands) (ms : List Mono) (t : Term) → is_normal t ≡ true → coefficient_in_difference x y t ≢ pos 0 → coeff_of ms t ≢ 0 → occurs_in (with_summands x y form ms) t ≡ true
 occurs_met x y form [] t n d c = absurd (c refl)
-occurs_met x y form (m ∷ ms) t n d c = by (one_term m.term t) refl (λ k. occurs_met x y (with_term x y form (canonical m.term)) ms t n d k)
+occurs_met x y form (m ∷ ms) t n d c = by (one_term m.term t) refl (λ k. occurs_met x y (with_summand x y form (canonical m.term)) ms t n d k)
   where
-    by : (b : Bool) → one_term m.term t ≡ b → (coeff_of ms t ≢ 0 → occurs_in (with_terms x y (with_term x y form (canonical m.term)) ms) t ≡ true) → occurs_in (with_terms x y (with_term x y form (canonical m.term)) ms) t ≡ true
+    by : (b : Bool) → one_term m.term t ≡ b → (coeff_of ms t ≢ 0 → occurs_in (with_summands x y (with_summand x y form (canonical m.term)) ms) t ≡ true) → occurs_in (with_summands x y (with_summand x y form (canonical m.term)) ms) t ≡ true
     by true e ih = (let same : canonical m.term ≡ t = term_eq_is (canonical m.term) (canonical t) e ∙ (normal_is t n).0 in
-        ap (λ u. occurs_in (with_terms x y (with_term x y form u) ms) t) same ∙ occurs_keeps x y (with_term x y form t) ms t (occurs_here x y form t (normal_is t n).1 d))
+        ap (λ u. occurs_in (with_summands x y (with_summand x y form u) ms) t) same ∙ occurs_keeps x y (with_summand x y form t) ms t (occurs_here x y form t (normal_is t n).1 d))
     by false e ih = ih (λ z. c (ap (λ k. cond k m.coeff 0 + coeff_of ms t) e ∙ omega (arith, z)))
 
 -- ---- the coefficients of the form
@@ -162,8 +162,8 @@ joined_coefficient x y t = by (occurs_in (difference_form x y) t) refl ∙ sym (
     none true true s e f = sym (zero_is (coefficient_in_difference x y t) f)
     none true false s e f = (let n = not_zero (coefficient_in_difference x y t) f in
         absurd (true≢false (sym (elim (either (coeff_of x t) (coeff_of y t) n) [
-          | inl c ↦ occurs_keeps x y (with_terms x y [] x) y t (occurs_met x y [] x t e n c)
-          | inr c ↦ occurs_met x y (with_terms x y [] x) y t e n c
+          | inl c ↦ occurs_keeps x y (with_summands x y [] x) y t (occurs_met x y [] x t e n c)
+          | inr c ↦ occurs_met x y (with_summands x y [] x) y t e n c
         ]) ∙ s)))
       where
         either : (a b : ℕ) → pos a -ℤ pos b ≢ pos 0 → (a ≢ 0) ⊎ (b ≢ 0)
@@ -214,12 +214,12 @@ all_small x y (p ∷ ps) l a b h =
     within : (a b : ℕ) → a ≤ 32000000 → b ≤ 32000000 → nat_le (unsigned_abs (pos a -ℤ pos b)) (2 ^ 30) ≡ true
     within a b h k = le_is (unsigned_abs (pos a -ℤ pos b)) (2 ^ 30) (omega (arith, sums, abs_is (pos a -ℤ pos b)))
 
-terms_length : (x y : List Mono) (form : Summands) (ms : List Mono) → length (with_terms x y form ms) ≤ length form + length ms
+terms_length : (x y : List Mono) (form : Summands) (ms : List Mono) → length (with_summands x y form ms) ≤ length form + length ms
 terms_length x y form [] = omega arith
-terms_length x y form (m ∷ ms) = by (is_passed x y form (canonical m.term)) (terms_length x y (with_term x y form (canonical m.term)) ms)
+terms_length x y form (m ∷ ms) = by (is_passed x y form (canonical m.term)) (terms_length x y (with_summand x y form (canonical m.term)) ms)
   where
-    by : (b : Bool) → length (with_terms x y (with_term x y form (canonical m.term)) ms) ≤ length (with_term x y form (canonical m.term)) + length ms
-        → length (with_terms x y (with_term x y form (canonical m.term)) ms) ≤ length form + suc (length ms)
+    by : (b : Bool) → length (with_summands x y (with_summand x y form (canonical m.term)) ms) ≤ length (with_summand x y form (canonical m.term)) + length ms
+        → length (with_summands x y (with_summand x y form (canonical m.term)) ms) ≤ length form + suc (length ms)
     by b h = omega (arith, h, one (is_passed x y form (canonical m.term)))
       where
         one : (b : Bool) → length (cond b form (form ++ (coefficient_in_difference x y (canonical m.term), canonical m.term) ∷ [])) ≤ suc (length form)
@@ -227,7 +227,7 @@ terms_length x y form (m ∷ ms) = by (is_passed x y form (canonical m.term)) (t
         one false = omega (arith, length-append form ((coefficient_in_difference x y (canonical m.term), canonical m.term) ∷ []))
 
 pub joined_length : (x y : List Mono) → length (difference_form x y) ≤ length x + length y
-joined_length x y = omega (arith, terms_length x y (with_terms x y [] x) y, terms_length x y [] x)
+joined_length x y = omega (arith, terms_length x y (with_summands x y [] x) y, terms_length x y [] x)
 
 -- ---- sums that are well formed
 

@@ -9,7 +9,7 @@ use Rattle.e_literal.specs.declared.literal.Lit.{Lit}
 use Rattle.e_clause.specs.declared.cert.RowName.TheVariants.{Fact, Goal}
 use Rattle.e_clause.specs.Assignment.{terms_of_lits}
 use Rattle.e_clause.specs.System.{of_kind, against_goal, rows_named, rows_of_term, rows_of_kind, system}
-use Rattle.e_metric.specs.ListedTerms.{listed, distinct_terms}
+use Rattle.e_metric.specs.ListedTerms.{with_listed, distinct_terms}
 use Rattle.e_metric.specs.inner.FurtherRows.{terms_added, further}
 use Rattle.e_metric.specs.RowOrder.{AreReordered}
 use Rattle.e_metric.proofs.terms.FirstTerms.{listed_first, some_wanted, none_wanted}
@@ -20,12 +20,12 @@ use Rattle.e_simplex.proofs.Spreading.{take_done}
 -- ---- terms of more literals
 
 -- those after the terms that were there
-goal_rows_after : (which : Kind) (terms : List Term) (ls : List Lit) (all : List Term) → all ≡ listed terms (terms_of_lits (of_kind which ls)) → drop (length terms) all ≡ terms_added which terms ls
+goal_rows_after : (which : Kind) (terms : List Term) (ls : List Lit) (all : List Term) → all ≡ with_listed terms (terms_of_lits (of_kind which ls)) → drop (length terms) all ≡ terms_added which terms ls
 goal_rows_after which terms ls all e =
     ap (drop (length terms)) (e ∙ listed_first terms terms (terms_of_lits (of_kind which ls)) (λ t. refl))
     ∙ drop-append_seam terms (terms_added which terms ls)
 
-pub as_long : (which : Kind) (terms : List Term) (ls : List Lit) (all : List Term) → all ≡ listed terms (terms_of_lits (of_kind which ls)) → length terms ≤ length all
+pub as_long : (which : Kind) (terms : List Term) (ls : List Lit) (all : List Term) → all ≡ with_listed terms (terms_of_lits (of_kind which ls)) → length terms ≤ length all
 as_long which terms ls all e = omega (
   arith,
   ap (λ (ts : List Term). length ts) (e ∙ listed_first terms terms (terms_of_lits (of_kind which ls)) (λ t. refl)),
@@ -33,10 +33,10 @@ as_long which terms ls all e = omega (
 )
 
 -- the same of one literal
-pub as_long_one : (which : Kind) (terms : List Term) (l : Lit) (all : List Term) → all ≡ listed terms (terms_of_lits (of_kind which (l ∷ []))) → length terms ≤ length all
+pub as_long_one : (which : Kind) (terms : List Term) (l : Lit) (all : List Term) → all ≡ with_listed terms (terms_of_lits (of_kind which (l ∷ []))) → length terms ≤ length all
 as_long_one which terms l = as_long which terms (l ∷ [])
 
-pub last_after : (which : Kind) (terms : List Term) (ls : List Lit) (all : List Term) → all ≡ listed terms (terms_of_lits (of_kind which ls)) → take (length all - length terms) (drop (length terms) all) ≡ terms_added which terms ls
+pub last_after : (which : Kind) (terms : List Term) (ls : List Lit) (all : List Term) → all ≡ with_listed terms (terms_of_lits (of_kind which ls)) → take (length all - length terms) (drop (length terms) all) ≡ terms_added which terms ls
 last_after which terms ls all e =
     take_done (drop (length terms) all) (length all - length terms) (omega (arith, length-drop (length terms) all)) ∙ goal_rows_after which terms ls all e
 
@@ -45,7 +45,7 @@ all_terms : (which : Kind) (facts : List Lit) (l : Lit) → distinct_terms which
 all_terms which facts l =
     (let known = distinct_terms which facts None in
     let new = terms_of_lits (of_kind which (l ∷ [])) in
-    some_wanted which facts l ∙ ap (λ ts. listed ts new) (sym (none_wanted which facts)) ∙ listed_first known known new (λ t. refl))
+    some_wanted which facts l ∙ ap (λ ts. with_listed ts new) (sym (none_wanted which facts)) ∙ listed_first known known new (λ t. refl))
 
 -- ---- rows
 

@@ -16,7 +16,7 @@ use Rattle.e_clause.specs.declared.cert.RowName.TheVariants.{Fact, Pos}
 use Rattle.e_clause.specs.Assignment.{terms_of_lits}
 use Rattle.e_clause.specs.System.{NamedRow, named, pos_row, of_kind, rows_named, rows_of_term, rows_of_kind, system}
 use Rattle.e_metric.specs.inner.FurtherRows.{terms_added, rows_added_by_facts, joining}
-use Rattle.e_metric.specs.ListedTerms.{listed, distinct_terms}
+use Rattle.e_metric.specs.ListedTerms.{with_listed, distinct_terms}
 use Rattle.e_metric.proofs.terms.FirstTerms.{listed_append, listed_first, none_wanted, kind_append, lits_append}
 use Rattle.e_metric.proofs.rows.Forms.{none_more}
 use Rattle.e_metric.proofs.rows.SystemRows.{flat_append}
@@ -89,9 +89,9 @@ all_terms which facts more =
     let old = terms_of_lits (of_kind which facts) in
     let new = terms_of_lits (of_kind which more) in
     none_wanted which (facts ++ more)
-    ∙ ap (listed []) (ap terms_of_lits (kind_append which facts more) ∙ lits_append (of_kind which facts) (of_kind which more))
+    ∙ ap (with_listed []) (ap terms_of_lits (kind_append which facts more) ∙ lits_append (of_kind which facts) (of_kind which more))
     ∙ listed_append [] old new
-    ∙ ap (λ ts. listed ts new) (sym (none_wanted which facts))
+    ∙ ap (λ ts. with_listed ts new) (sym (none_wanted which facts))
     ∙ listed_first known known new (λ t. refl)
 
 -- the rows that further facts bring

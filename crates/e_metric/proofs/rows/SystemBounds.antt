@@ -22,7 +22,7 @@ use Rattle.e_clause.specs.Assignment.{terms_of_atom, terms_of_lits}
 use Rattle.e_clause.specs.Laws.{is_good_wanted}
 use Rattle.e_clause.specs.System.{NamedRow, named, is_of_kind, of_kind, against_goal, rows_named, rows_of_term, rows_of_kind, pos_row, system}
 use Rattle.e_clause.proofs.Carried.{good_against}
-use Rattle.e_metric.specs.ListedTerms.{listed, distinct_terms}
+use Rattle.e_metric.specs.ListedTerms.{with_listed, distinct_terms}
 use Rattle.e_metric.proofs.terms.FirstTerms.{with_right}
 
 -- ---- one literal
@@ -130,7 +130,7 @@ wanted_terms None h = omega arith
 wanted_terms (Some l) h = omega (arith, length-append (terms_of_atom l.atom) [], few_terms l (and_right (is_metric l) (is_well_formed l) h) (and_left (is_metric l) (is_well_formed l) h))
 
 pub system_length : (which : Kind) (facts : List Lit) (wanted : Option Lit) → list_all is_well_formed facts ≡ true → is_good_wanted wanted ≡ true → length (terms_of_lits facts) ≤ 1100
-    → length (system which facts wanted) + length (listed (distinct_terms which facts wanted) (Right ∷ [])) ≤ 4096
+    → length (system which facts wanted) + length (with_listed (distinct_terms which facts wanted) (Right ∷ [])) ≤ 4096
 system_length which facts wanted good good_wanted few =
     (let known = of_kind which facts in
     let negated_at = of_kind which (against_goal wanted) in

@@ -31,7 +31,7 @@ use Rattle.e_clause.proofs.Named.{Each, EachLit, each_literal, each_system}
 use Rattle.e_clause.proofs.Solved.{terms_of_system, system_among, first_among}
 use Rattle.e_fraction.specs.declared.row.Row.{Row as GivenRow}
 use Rattle.e_simplex.specs.declared.decision.Absurdity.{Absurdity}
-use Rattle.e_metric.specs.ListedTerms.{listed, distinct_terms}
+use Rattle.e_metric.specs.ListedTerms.{with_listed, distinct_terms}
 use Rattle.e_metric.specs.inner.Certificate.{certificate_sums}
 use Rattle.e_metric.specs.MetricAnswers.{wanted_in}
 use Rattle.e_metric.proofs.terms.FirstTerms.{with_right}
@@ -141,11 +141,11 @@ module _ (s : Scope) where
 
     -- the sums of a system
     pub in_scope : (which : Kind) (ns : List NamedRow) (order : AreReordered ns (system which facts wanted)) (names : List RowName) (gs : List GivenRow) (a : Absurdity) → names ≡ map (λ (n : NamedRow). n.name) ns
-        → sums_in s (certificate_sums names gs (listed (distinct_terms which facts wanted) (Right ∷ [])) a) ≡ true
+        → sums_in s (certificate_sums names gs (with_listed (distinct_terms which facts wanted) (Right ∷ [])) a) ≡ true
     in_scope which ns order names gs a e =
         (let written = terms_of_system which facts wanted in
-        sums_scoped (certificate_sums names gs (listed (distinct_terms which facts wanted) (Right ∷ [])) a)
-        ∙ sums_have (row_name_in s) names gs (listed (distinct_terms which facts wanted) (Right ∷ [])) a (record { goal = refl; above = refl; below = refl })
+        sums_scoped (certificate_sums names gs (with_listed (distinct_terms which facts wanted) (Right ∷ [])) a)
+        ∙ sums_have (row_name_in s) names gs (with_listed (distinct_terms which facts wanted) (Right ∷ [])) a (record { goal = refl; above = refl; below = refl })
         (ap (list_all (row_name_in s)) e ∙ each_name (row_name_in s) ns (each_reordered ns (system which facts wanted) order InScope (names_each which)))
         (ap (list_all term_in) (with_right written)
         ∙ all_terms (first_terms [] (written ++ Right ∷ [])) (λ t k. elim (among_either written (Right ∷ []) t (first_among [] (written ++ Right ∷ []) t k)) [

@@ -33,7 +33,7 @@ use Rattle.e_simplex.specs.declared.decision.Absurdity.{Absurdity}
 use Rattle.e_simplex.specs.declared.decision.Absurdity.TheVariants.{One, Two}
 use Rattle.e_simplex.specs.Answer.{each_weighed, MayTake, AreTaken, TakesMore, Refutes, IsNotAt, as_more, as_less, RefutesBoth, IsAbsurdity}
 use Rattle.e_metric.specs.AgreeingRows.{AreRows}
-use Rattle.e_metric.specs.ListedTerms.{listed, distinct_terms}
+use Rattle.e_metric.specs.ListedTerms.{with_listed, distinct_terms}
 use Rattle.e_metric.specs.inner.Certificate.{certificate_sum, negated_place, certificate_sums}
 use Rattle.e_metric.proofs.rows.SameCoefficients.{Alike}
 use Rattle.e_metric.specs.RowOrder.{AreReordered}
@@ -253,7 +253,7 @@ module _ (which : Kind) (facts : List Lit) (wanted : Option Lit) where
   written = terms_of_system which facts wanted
 
   abbrev pub summed : List Term
-  summed = listed (distinct_terms which facts wanted) (Right ∷ [])
+  summed = with_listed (distinct_terms which facts wanted) (Right ∷ [])
 
   summed_is : summed ≡ first_terms [] (written ++ Right ∷ [])
   summed_is = with_right written

@@ -16,20 +16,20 @@ use Rattle.e_literal.specs.Rows.{has_term, first_terms}
 use Rattle.e_literal.proofs.CanonicalTerms.{one_term_is, one_term_of}
 use Rattle.e_clause.specs.Assignment.{terms_of_atom, terms_of_lits}
 use Rattle.e_clause.specs.System.{is_of_kind, of_kind, against_goal}
-use Rattle.e_metric.specs.ListedTerms.{listed, distinct_terms}
+use Rattle.e_metric.specs.ListedTerms.{with_listed, distinct_terms}
 use Rattle.e_metric.proofs.rows.Forms.{none_more}
 
 -- ---- one list after the other
 
-pub listed_append : (seen ts us : List Term) → listed seen (ts ++ us) ≡ listed (listed seen ts) us
+pub listed_append : (seen ts us : List Term) → with_listed seen (ts ++ us) ≡ with_listed (with_listed seen ts) us
 listed_append seen [] us = refl
 listed_append seen (t ∷ ts) us = listed_append (cond (has_term seen t) seen (seen ++ t ∷ [])) ts us
 
 abbrev term_of : Mono → Term
 term_of m = m.term
 
-pub sum_terms : (seen : List Term) (x y : List Mono) → listed seen (map (λ m. m.term) (x ++ y)) ≡ listed (listed seen (map (λ m. m.term) x)) (map (λ m. m.term) y)
-sum_terms seen x y = ap (listed seen) (map-append term_of x y) ∙ listed_append seen (map term_of x) (map term_of y)
+pub sum_terms : (seen : List Term) (x y : List Mono) → with_listed seen (map (λ m. m.term) (x ++ y)) ≡ with_listed (with_listed seen (map (λ m. m.term) x)) (map (λ m. m.term) y)
+sum_terms seen x y = ap (with_listed seen) (map-append term_of x y) ∙ listed_append seen (map term_of x) (map term_of y)
 
 pub ruleset atom_terms = (sum_terms)
 
@@ -47,12 +47,12 @@ Alike us vs = (t : Term) → has_term us t ≡ has_term vs t
 alike_push : (us vs : List Term) (t : Term) → Alike us vs → Alike (us ++ t ∷ []) (t ∷ vs)
 alike_push us vs t h u = list_any-append (one_term u) us (t ∷ []) ∙ ap (λ b. b || (one_term u t || false)) (h u) ∙ or_last (has_term vs u) (one_term u t)
 
-pub listed_first : (us vs ts : List Term) → Alike us vs → listed us ts ≡ us ++ first_terms vs ts
+pub listed_first : (us vs ts : List Term) → Alike us vs → with_listed us ts ≡ us ++ first_terms vs ts
 listed_first us vs [] h = sym (none_more us)
 listed_first us vs (t ∷ ts) h = by (has_term us t) (has_term vs t) (h t) (listed_first us vs ts h) (listed_first (us ++ t ∷ []) (t ∷ vs) ts (alike_push us vs t h))
   where
-    by : (a b : Bool) → a ≡ b → listed us ts ≡ us ++ first_terms vs ts → listed (us ++ t ∷ []) ts ≡ (us ++ t ∷ []) ++ first_terms (t ∷ vs) ts
-        → listed (cond a us (us ++ t ∷ [])) ts ≡ us ++ cond b (first_terms vs ts) (t ∷ first_terms (t ∷ vs) ts)
+    by : (a b : Bool) → a ≡ b → with_listed us ts ≡ us ++ first_terms vs ts → with_listed (us ++ t ∷ []) ts ≡ (us ++ t ∷ []) ++ first_terms (t ∷ vs) ts
+        → with_listed (cond a us (us ++ t ∷ [])) ts ≡ us ++ cond b (first_terms vs ts) (t ∷ first_terms (t ∷ vs) ts)
     by true true e known new = known
     by true false e known new = absurd (true≢false e)
     by false true e known new = absurd (true≢false (sym e))
@@ -81,12 +81,12 @@ kind_one which l = by (is_of_kind which l)
     by false = refl
 
 -- one literal
-pub literal_yes : (which : Kind) (l : Lit) (seen : List Term) → is_of_kind which l ≡ true → listed seen (terms_of_lits (of_kind which (l ∷ []))) ≡ listed seen (terms_of_atom l.atom)
+pub literal_yes : (which : Kind) (l : Lit) (seen : List Term) → is_of_kind which l ≡ true → with_listed seen (terms_of_lits (of_kind which (l ∷ []))) ≡ with_listed seen (terms_of_atom l.atom)
 literal_yes which l seen h =
-    ap (λ ls. listed seen (terms_of_lits ls)) (kind_one which l ∙ ap (λ b. cond b (l ∷ []) []) h) ∙ ap (listed seen) (none_more (terms_of_atom l.atom))
+    ap (λ ls. with_listed seen (terms_of_lits ls)) (kind_one which l ∙ ap (λ b. cond b (l ∷ []) []) h) ∙ ap (with_listed seen) (none_more (terms_of_atom l.atom))
 
-pub literal_no : (which : Kind) (l : Lit) (seen : List Term) → is_of_kind which l ≡ false → listed seen (terms_of_lits (of_kind which (l ∷ []))) ≡ seen
-literal_no which l seen h = ap (λ ls. listed seen (terms_of_lits ls)) (kind_one which l ∙ ap (λ b. cond b (l ∷ []) []) h)
+pub literal_no : (which : Kind) (l : Lit) (seen : List Term) → is_of_kind which l ≡ false → with_listed seen (terms_of_lits (of_kind which (l ∷ []))) ≡ seen
+literal_no which l seen h = ap (λ ls. with_listed seen (terms_of_lits ls)) (kind_one which l ∙ ap (λ b. cond b (l ∷ []) []) h)
 
 pub ruleset literal_terms = (literal_yes, literal_no)
 
@@ -120,12 +120,12 @@ whole_rest xs from k h = take_all k (drop from xs) (omega (arith, length-drop fr
 
 -- the terms of one more of them
 pub more_terms : (which : Kind) (facts : List Lit) (from k : ℕ) (l : Lit) (start now new : List Term) → slice_get facts (from + k) ≡ Some l
-    → now ≡ listed start (terms_of_lits (of_kind which (take k (drop from facts)))) → new ≡ listed now (terms_of_lits (of_kind which (l ∷ [])))
-    → new ≡ listed start (terms_of_lits (of_kind which (take (k + 1) (drop from facts))))
+    → now ≡ with_listed start (terms_of_lits (of_kind which (take k (drop from facts)))) → new ≡ with_listed now (terms_of_lits (of_kind which (l ∷ [])))
+    → new ≡ with_listed start (terms_of_lits (of_kind which (take (k + 1) (drop from facts))))
 more_terms which facts from k l start now new h e n =
-    n ∙ ap (λ ts. listed ts (terms_of_lits (of_kind which (l ∷ [])))) e
-    ∙ sym (ap (λ ls. listed start (terms_of_lits ls)) (kind_more which (drop from facts) k l (one_from facts from k l h))
-    ∙ ap (listed start) (lits_append (of_kind which (take k (drop from facts))) (of_kind which (l ∷ [])))
+    n ∙ ap (λ ts. with_listed ts (terms_of_lits (of_kind which (l ∷ [])))) e
+    ∙ sym (ap (λ ls. with_listed start (terms_of_lits ls)) (kind_more which (drop from facts) k l (one_from facts from k l h))
+    ∙ ap (with_listed start) (lits_append (of_kind which (take k (drop from facts))) (of_kind which (l ∷ [])))
     ∙ listed_append start (terms_of_lits (of_kind which (take k (drop from facts)))) (terms_of_lits (of_kind which (l ∷ []))))
 
 -- with the wanted literal
@@ -136,15 +136,15 @@ turned_terms which l = by (is_of_kind which l)
     by true = refl
     by false = refl
 
-after_facts : (which : Kind) (facts : List Lit) (wanted : Option Lit) → distinct_terms which facts wanted ≡ listed (listed [] (terms_of_lits (of_kind which facts))) (terms_of_lits (of_kind which (against_goal wanted)))
+after_facts : (which : Kind) (facts : List Lit) (wanted : Option Lit) → distinct_terms which facts wanted ≡ with_listed (with_listed [] (terms_of_lits (of_kind which facts))) (terms_of_lits (of_kind which (against_goal wanted)))
 after_facts which facts wanted =
     sym (listed_first [] [] (terms_of_lits (of_kind which facts) ++ terms_of_lits (of_kind which (against_goal wanted))) (λ t. refl))
     ∙ listed_append [] (terms_of_lits (of_kind which facts)) (terms_of_lits (of_kind which (against_goal wanted)))
 
-pub some_wanted : (which : Kind) (facts : List Lit) (l : Lit) → distinct_terms which facts (Some l) ≡ listed (listed [] (terms_of_lits (of_kind which facts))) (terms_of_lits (of_kind which (l ∷ [])))
-some_wanted which facts l = after_facts which facts (Some l) ∙ ap (listed (listed [] (terms_of_lits (of_kind which facts)))) (turned_terms which l)
+pub some_wanted : (which : Kind) (facts : List Lit) (l : Lit) → distinct_terms which facts (Some l) ≡ with_listed (with_listed [] (terms_of_lits (of_kind which facts))) (terms_of_lits (of_kind which (l ∷ [])))
+some_wanted which facts l = after_facts which facts (Some l) ∙ ap (with_listed (with_listed [] (terms_of_lits (of_kind which facts)))) (turned_terms which l)
 
-pub none_wanted : (which : Kind) (facts : List Lit) → distinct_terms which facts None ≡ listed [] (terms_of_lits (of_kind which facts))
+pub none_wanted : (which : Kind) (facts : List Lit) → distinct_terms which facts None ≡ with_listed [] (terms_of_lits (of_kind which facts))
 none_wanted which facts = after_facts which facts None
 
 pub ruleset all_terms = (some_wanted, none_wanted)
@@ -196,8 +196,8 @@ first_has seen (s ∷ ss) u h n = by (has_term seen s) refl (or_cases (one_term 
     ]
 
 -- with right after them
-pub with_right : (ts : List Term) → listed (first_terms [] ts) (Right ∷ []) ≡ first_terms [] (ts ++ Right ∷ [])
+pub with_right : (ts : List Term) → with_listed (first_terms [] ts) (Right ∷ []) ≡ first_terms [] (ts ++ Right ∷ [])
 with_right ts =
-    ap (λ us. listed us (Right ∷ [])) (sym (listed_first [] [] ts (λ t. refl)))
+    ap (λ us. with_listed us (Right ∷ [])) (sym (listed_first [] [] ts (λ t. refl)))
     ∙ sym (listed_append [] ts (Right ∷ []))
     ∙ listed_first [] [] (ts ++ Right ∷ []) (λ t. refl)

@@ -10,10 +10,10 @@ at_kind b Angle = b.angles
 at_kind b AreaKind = b.areas
 
 -- the other two kinds, in their order
-abbrev pub others : Kind → Kind × Kind
-others Segment = (Angle, AreaKind)
-others Angle = (Segment, AreaKind)
-others AreaKind = (Segment, Angle)
+abbrev pub other_two : Kind → Kind × Kind
+other_two Segment = (Angle, AreaKind)
+other_two Angle = (Segment, AreaKind)
+other_two AreaKind = (Segment, Angle)
 
 -- one for the kind, and those for the other two in their order
 abbrev pub arranged : {T : Type 0} → Kind → T → T → T → ByKind T

@@ -29,33 +29,33 @@ line_variable r l = r.points + l
 abbrev pub circle_variable : Row → ℕ → ℕ
 circle_variable r c = r.points + r.lines + c
 
-abbrev pub both : ℕ → ℕ → ℕ → ℕ → Option (List Equation)
-both v n w m = Some (equation.Is v n ∷ equation.Is w m ∷ [])
+abbrev pub both_equations : ℕ → ℕ → ℕ → ℕ → Option (List Equation)
+both_equations v n w m = Some (equation.Is v n ∷ equation.Is w m ∷ [])
 
 abbrev pub all_three : ℕ → ℕ → ℕ → ℕ → ℕ → ℕ → Option (List Equation)
 all_three v n w m u k = Some (equation.Is v n ∷ equation.Is w m ∷ equation.Is u k ∷ [])
 
 -- the atom of a row is the goal where its variables represent the goal's objects, place by place
 abbrev pub equations_from_atom : Row → Atom → Atom → Option (List Equation)
-equations_from_atom r (On x l) (On a b) = both x a (line_variable r l) b
-equations_from_atom r (OnC x c) (OnC a b) = both x a (circle_variable r c) b
-equations_from_atom r (Inside x c) (Inside a b) = both x a (circle_variable r c) b
-equations_from_atom r (Center x c) (Center a b) = both x a (circle_variable r c) b
+equations_from_atom r (On x l) (On a b) = both_equations x a (line_variable r l) b
+equations_from_atom r (OnC x c) (OnC a b) = both_equations x a (circle_variable r c) b
+equations_from_atom r (Inside x c) (Inside a b) = both_equations x a (circle_variable r c) b
+equations_from_atom r (Center x c) (Center a b) = both_equations x a (circle_variable r c) b
 equations_from_atom r (Between x y z) (Between a b c) = all_three x a y b z c
 equations_from_atom r (Same x y l) (Same a b c) = all_three x a y b (line_variable r l) c
-equations_from_atom r (MeetLL l m) (MeetLL a b) = both (line_variable r l) a (line_variable r m) b
-equations_from_atom r (MeetLC l c) (MeetLC a b) = both (line_variable r l) a (circle_variable r c) b
-equations_from_atom r (MeetCC c d) (MeetCC a b) = both (circle_variable r c) a (circle_variable r d) b
-equations_from_atom r (EqP x y) (EqP a b) = both x a y b
-equations_from_atom r (EqL l m) (EqL a b) = both (line_variable r l) a (line_variable r m) b
-equations_from_atom r (EqC c d) (EqC a b) = both (circle_variable r c) a (circle_variable r d) b
+equations_from_atom r (MeetLL l m) (MeetLL a b) = both_equations (line_variable r l) a (line_variable r m) b
+equations_from_atom r (MeetLC l c) (MeetLC a b) = both_equations (line_variable r l) a (circle_variable r c) b
+equations_from_atom r (MeetCC c d) (MeetCC a b) = both_equations (circle_variable r c) a (circle_variable r d) b
+equations_from_atom r (EqP x y) (EqP a b) = both_equations x a y b
+equations_from_atom r (EqL l m) (EqL a b) = both_equations (line_variable r l) a (line_variable r m) b
+equations_from_atom r (EqC c d) (EqC a b) = both_equations (circle_variable r c) a (circle_variable r d) b
 equations_from_atom r _ _ = None
 
 -- ---- terms
 
 -- the term of a row is the goal's, point by point
 abbrev pub equations_from_term : Term → Term → Option (List Equation)
-equations_from_term (Seg x y) (Seg a b) = both x a y b
+equations_from_term (Seg x y) (Seg a b) = both_equations x a y b
 equations_from_term (Ang x y z) (Ang a b c) = all_three x a y b z c
 equations_from_term (Area x y z) (Area a b c) = all_three x a y b z c
 equations_from_term Right Right = Some []

@@ -17,8 +17,8 @@ use Rattle.e_literal.proofs.Arith.{sums, zero_is, product_size}
 use Rattle.e_literal.proofs.Booleans.{or_not_left, or_not_right, and_left, and_right, same_bool, all_hold}
 use Rattle.e_clause.specs.declared.cert.RowName.{RowName}
 use Rattle.e_clause.specs.Sum.{Place, row_named, weighed_rows, is_good_multiplier, is_good_size, refutes}
-use Rattle.e_verify.specs.inner.Totals.{at}
-use Rattle.e_verify.specs.inner.Small.{is_small}
+use Rattle.e_verify.specs.inner.Totals.{total_at}
+use Rattle.e_verify.specs.inner.Small.{is_small_row}
 use Rattle.e_verify.specs.inner.Views.{row_view}
 use Rattle.e_verify.specs.declared.rows.Row.{Row as CodeRow}
 use Rattle.e_verify.proofs.arithmetic.Coefficients.{abs_sum, times_none, row_size}
@@ -124,8 +124,8 @@ cancelled ws h = all_hold (λ t. int_eq (total ws t) (pos 0)) (terms_of ws) (λ 
 pub record IsAdded (p : Place) (xs : List (ℤ × RowName)) (n : ℕ) (es : List (ℕ × ℤ)) (strict : Bool) : Type 0 where
   pub rows : List Weighed
   pub named : weighed_rows p xs ≡ Some rows
-  pub sum : (t : Term) → at es t ≡ total rows t
-  pub size : (t : Term) → unsigned_abs (at es t) ≤ n * 2 ^ 106
+  pub sum : (t : Term) → total_at es t ≡ total rows t
+  pub size : (t : Term) → unsigned_abs (total_at es t) ≤ n * 2 ^ 106
   pub signs : good_signs rows ≡ true
   pub has_strict : strict ≡ some_strict rows
 
@@ -134,15 +134,15 @@ total_more [] w t = omega (arith, sums)
 total_more (v ∷ ws) w t = omega (arith, sums, total_more ws w t)
 
 pub one_added : (p : Place) (xs : List (ℤ × RowName)) (i : ℕ) (x : ℤ × RowName) (es after : List (ℕ × ℤ)) (strict now new : Bool) (row : CodeRow) → i < length xs → x ≡ get_or xs i x → IsAdded p (take i xs) i es strict
-    → row_named p x.1 ≡ Some (row_view row) → ((t : Term) → at after t ≡ at es t +ℤ x.0 *ℤ coefficient (row_view row).form t) → is_good_sign (row_view row).says x.0 ≡ true
-    → now ≡ is_strict (row_view row).says x.0 → new ≡ (strict || now) → is_small row ≡ true → unsigned_abs x.0 ≤ 2 ^ 80 → IsAdded p (take (i + 1) xs) (i + 1) after new
+    → row_named p x.1 ≡ Some (row_view row) → ((t : Term) → total_at after t ≡ total_at es t +ℤ x.0 *ℤ coefficient (row_view row).form t) → is_good_sign (row_view row).says x.0 ≡ true
+    → now ≡ is_strict (row_view row).says x.0 → new ≡ (strict || now) → is_small_row row ≡ true → unsigned_abs x.0 ≤ 2 ^ 80 → IsAdded p (take (i + 1) xs) (i + 1) after new
 one_added p xs i x es after strict now new row h is a e f g k n small m =
     let r = row_view row in
     record {
       rows = a.rows ++ weigh x.0 r ∷ [];
       named = ap (weighed_rows p) (take_more xs i x h ∙ ap (λ y. take i xs ++ y ∷ []) (sym is)) ∙ named_more p (take i xs) x r e ∙ ap (option_map (λ ws. ws ++ weigh x.0 r ∷ [])) a.named;
       sum = λ t. f t ∙ ap (λ z. z +ℤ x.0 *ℤ coefficient r.form t) (a.sum t) ∙ sym (total_more a.rows (weigh x.0 r) t);
-      size = λ t. omega (arith, ap unsigned_abs (f t), a.size t, abs_sum (at es t) (x.0 *ℤ coefficient r.form t), product_size x.0 (coefficient r.form t) (2 ^ 80) 64000000 m (row_size row t small));
+      size = λ t. omega (arith, ap unsigned_abs (f t), a.size t, abs_sum (total_at es t) (x.0 *ℤ coefficient r.form t), product_size x.0 (coefficient r.form t) (2 ^ 80) 64000000 m (row_size row t small));
       signs = list_all-append (λ (w : Weighed). is_good_sign w.row.says w.multiplier) a.rows (weigh x.0 r ∷ []) ∙ ap (λ b. b && (is_good_sign r.says x.0 && true)) a.signs ∙ and-true (is_good_sign r.says x.0) ∙ g;
       has_strict = n ∙ ap (λ b. b || now) a.has_strict ∙ ap (λ b. some_strict a.rows || b) (k ∙ sym (or-false (is_strict r.says x.0)))
           ∙ sym (list_any-append (λ (w : Weighed). is_strict w.row.says w.multiplier) a.rows (weigh x.0 r ∷ []));
@@ -163,7 +163,7 @@ bad_sign p xs i x r h is e k =
     by (Some ws) h = and_false (cancel ws) (good_signs ws && some_strict ws) (ap (λ b. b && some_strict ws) h)
 
 pub whole : (p : Place) (xs ys : List (ℤ × RowName)) (n : ℕ) (es : List (ℕ × ℤ)) (strict none : Bool) → is_good_size xs ≡ true → ys ≡ xs → IsAdded p ys n es strict
-    → IsTrue none ↔ ((t : Term) → at es t ≡ pos 0) → (strict && none) ≡ refutes p xs
+    → IsTrue none ↔ ((t : Term) → total_at es t ≡ pos 0) → (strict && none) ≡ refutes p xs
 whole p xs ys n es strict none size all a z =
     and_comm strict none ∙ ap (λ b. b && strict) same ∙ ap (λ b. cancel a.rows && b) (a.has_strict ∙ sym (ap (λ b. b && some_strict a.rows) a.signs))
     ∙ sym (ap (λ o. option_map_or is_absurd o false) (ap (weighed_rows p) (sym all) ∙ a.named)) ∙ sym (ap (λ b. b && option_map_or is_absurd (weighed_rows p xs) false) size)
@@ -183,7 +183,7 @@ good_multiplier xs i x h k is =
     leb-true (unsigned_abs m) (2 ^ 80) (and_right (not (int_eq m (pos 0))) (nat_le (unsigned_abs m) (2 ^ 80))
     (ap (λ (y : ℤ × RowName). is_good_multiplier y.0) is ∙ all_get (λ (x : ℤ × RowName). is_good_multiplier x.0) xs i x (and_right (nat_le (length xs) 4096) all (and_right (nat_le 1 (length xs)) (nat_le (length xs) 4096 && all) h)) k))
 
-pub room_for : (p : Place) (xs : List (ℤ × RowName)) (i : ℕ) (es : List (ℕ × ℤ)) (strict : Bool) (t : Term) → is_good_size xs ≡ true → i < length xs → IsAdded p (take i xs) i es strict → unsigned_abs (at es t) ≤ 2 ^ 120
+pub room_for : (p : Place) (xs : List (ℤ × RowName)) (i : ℕ) (es : List (ℕ × ℤ)) (strict : Bool) (t : Term) → is_good_size xs ≡ true → i < length xs → IsAdded p (take i xs) i es strict → unsigned_abs (total_at es t) ≤ 2 ^ 120
 room_for p xs i es strict t h k a =
     let all = list_all (λ (x : ℤ × RowName). is_good_multiplier x.0) xs in
     let few = leb-true (length xs) 4096 (and_left (nat_le (length xs) 4096) all (and_right (nat_le 1 (length xs)) (nat_le (length xs) 4096 && all) h)) in

@@ -13,7 +13,7 @@ use Rattle.e_literal.specs.Rows.{Summands, coefficient, normal_summands, times, 
 use Rattle.e_literal.proofs.Arith.{sums, mul_add, mul_neg, neg_mul, mul_one, size_negative, product_size}
 use Rattle.e_literal.proofs.Booleans.{and_left, and_right}
 use Rattle.e_literal.proofs.Valued.{coefficient_negative}
-use Rattle.e_verify.specs.inner.Small.{are_small, is_small}
+use Rattle.e_verify.specs.inner.Small.{are_small_monomials, is_small_row}
 use Rattle.e_verify.specs.inner.Views.{row_view}
 use Rattle.e_verify.specs.declared.rows.Row.{Row}
 use Rattle.e_verify.specs.declared.rows.Row.TheVariants.{Sums, Pos, Top, Right as RightRow, Least}
@@ -110,7 +110,7 @@ low_front ms zero h = refl
 low_front [] (suc i) h = refl
 low_front (m ∷ ms) (suc i) h = ap (λ b. b && has_low (take i ms)) (and_left (nat_le m.coeff 1000000) (has_low ms) h) ∙ low_front ms i (and_right (nat_le m.coeff 1000000) (has_low ms) h)
 
-pub front_size : (ms : List Mono) (i : ℕ) (t : Term) → are_small ms ≡ true → unsigned_abs (coefficient (normal_summands (plus (take i ms))) t) ≤ 32000000
+pub front_size : (ms : List Mono) (i : ℕ) (t : Term) → are_small_monomials ms ≡ true → unsigned_abs (coefficient (normal_summands (plus (take i ms))) t) ≤ 32000000
 front_size ms i t h =
     let few = leb-true (length ms) 32 (and_left (nat_le (length ms) 32) (has_low ms) h) in
     omega (arith, few, length-take i ms, sum_size (take i ms) t (low_front ms i (and_right (nat_le (length ms) 32) (has_low ms) h)))
@@ -186,12 +186,12 @@ added_sums row says x y turned t a m n z is e f = by turned e ∙ ap (λ r. a +�
     by true e = f ∙ ap (λ k. a +ℤ k *ℤ coefficient form t) e ∙ ap (λ k. a +ℤ k) (neg_mul m (coefficient form t) ∙ sym (mul_neg m (coefficient form t)) ∙ ap (λ k. m *ℤ k) (sym (coefficient_negative form t)))
     by false e = f ∙ ap (λ k. a +ℤ k *ℤ coefficient form t) e
 
-pub sum_bound : (ms : List Mono) (t : Term) → are_small ms ≡ true → unsigned_abs (coefficient (normal_summands (plus ms)) t) ≤ 32000000
+pub sum_bound : (ms : List Mono) (t : Term) → are_small_monomials ms ≡ true → unsigned_abs (coefficient (normal_summands (plus ms)) t) ≤ 32000000
 sum_bound ms t h =
     let few = leb-true (length ms) 32 (and_left (nat_le (length ms) 32) (has_low ms) h) in
     omega (arith, few, sum_size ms t (and_right (nat_le (length ms) 32) (has_low ms) h))
 
-pub row_size : (row : Row) (t : Term) → is_small row ≡ true → unsigned_abs (coefficient (row_view row).form t) ≤ 64000000
+pub row_size : (row : Row) (t : Term) → is_small_row row ≡ true → unsigned_abs (coefficient (row_view row).form t) ≤ 64000000
 row_size (Sums says x y turned) t h = by turned
   where
     form : Summands
@@ -206,8 +206,8 @@ row_size (Sums says x y turned) t h = by turned
           ap unsigned_abs (both_forms (plus x.now) (minus y.now) t ∙ ap (λ z. c +ℤ z) (less y.now t)),
           abs_sum c (neg_ℤ d),
           size_negative d,
-          sum_bound x.now t (and_left (are_small x.now) (are_small y.now) h),
-          sum_bound y.now t (and_right (are_small x.now) (are_small y.now) h),
+          sum_bound x.now t (and_left (are_small_monomials x.now) (are_small_monomials y.now) h),
+          sum_bound y.now t (and_right (are_small_monomials x.now) (are_small_monomials y.now) h),
         )
 
     by : (b : Bool) → unsigned_abs (coefficient (row_view (Sums says x y b)).form t) ≤ 64000000

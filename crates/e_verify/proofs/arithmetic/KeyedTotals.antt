@@ -17,13 +17,13 @@ use Rattle.e_literal.specs.Rows.{coefficient, normal_summands, times, is_degener
 use Rattle.e_literal.proofs.Terms.{term_eq_is}
 use Rattle.e_literal.proofs.Arith.{sums, zero_is, is_zero}
 use Rattle.e_literal.proofs.Booleans.{and_left, and_right}
-use Rattle.e_verify.specs.inner.Totals.{term_key, is_narrow, IsKey, at_key, at}
+use Rattle.e_verify.specs.inner.Totals.{term_key, is_narrow, IsKey, at_key, total_at}
 use Rattle.e_verify.proofs.arithmetic.TermKeys.{same_keys}
 
 -- ---- what is read
 
 -- a term with a key has the coefficient that is kept with it
-pub at_narrow : (es : List (ℕ × ℤ)) (t : Term) → is_narrow t ≡ true → at es t ≡ at_key es (term_key t)
+pub at_narrow : (es : List (ℕ × ℤ)) (t : Term) → is_narrow t ≡ true → total_at es t ≡ at_key es (term_key t)
 at_narrow es t h = ap (λ b. cond b (at_key es (term_key t)) (pos 0)) h
 
 -- ---- what is zero
@@ -39,7 +39,7 @@ zero_at_key (e ∷ es) key h = by (is_eq (nat_cmp key e.0)) (zero_at_key es key 
     by true later = zero_is e.1 (and_left (int_eq e.1 (pos 0)) (are_zero (values_of es)) h)
     by false later = later
 
-zero_at : (es : List (ℕ × ℤ)) (t : Term) → are_zero (values_of es) ≡ true → at es t ≡ pos 0
+zero_at : (es : List (ℕ × ℤ)) (t : Term) → are_zero (values_of es) ≡ true → total_at es t ≡ pos 0
 zero_at es t h = by (is_narrow t)
   where
     by : (b : Bool) → cond b (at_key es (term_key t)) (pos 0) ≡ pos 0
@@ -49,16 +49,16 @@ zero_at es t h = by (is_narrow t)
 abbrev IsFound : BTreeMap ℕ ℤ → ℕ × ℤ → Type 0
 IsFound m e = get nat_cmp m e.0 ≡ Some e.1
 
-zero_for : (es : List (ℕ × ℤ)) (key : ℕ) → IsKey key → ((t : Term) → at es t ≡ pos 0) → at_key es key ≡ pos 0
+zero_for : (es : List (ℕ × ℤ)) (key : ℕ) → IsKey key → ((t : Term) → total_at es t ≡ pos 0) → at_key es key ≡ pos 0
 zero_for es key k h = ap (at_key es) (sym k.2) ∙ sym (at_narrow es k.0 k.1) ∙ h k.0
 
-all_zero : (m : BTreeMap ℕ ℤ) (es : List (ℕ × ℤ)) → All (IsFound m) es → All IsKey (keys_of es) → ((t : Term) → at m.entries t ≡ pos 0) → are_zero (values_of es) ≡ true
+all_zero : (m : BTreeMap ℕ ℤ) (es : List (ℕ × ℤ)) → All (IsFound m) es → All IsKey (keys_of es) → ((t : Term) → total_at m.entries t ≡ pos 0) → are_zero (values_of es) ≡ true
 all_zero m [] a k h = refl
 all_zero m (e ∷ es) a k h =
     ap (λ b. b && are_zero (values_of es)) (is_zero e.1 (sym (ap (λ o. unwrap_or o (pos 0)) (All-head (IsFound m) e es a)) ∙ zero_for m.entries e.0 (All-head IsKey e.0 (keys_of es) k) h))
     ∙ all_zero m es (All-tail (IsFound m) e es a) (All-tail IsKey e.0 (keys_of es) k) h
 
-pub zero_everywhere : (m : BTreeMap ℕ ℤ) (r : Bool) → All IsKey (keys_of m.entries) → IsOrdered nat_cmp m → r ≡ list_all (λ n. int_eq n (pos 0)) (values_of m.entries) → IsTrue r ↔ ((t : Term) → at m.entries t ≡ pos 0)
+pub zero_everywhere : (m : BTreeMap ℕ ℤ) (r : Bool) → All IsKey (keys_of m.entries) → IsOrdered nat_cmp m → r ≡ list_all (λ n. int_eq n (pos 0)) (values_of m.entries) → IsTrue r ↔ ((t : Term) → total_at m.entries t ≡ pos 0)
 zero_everywhere m r keys sorted e = (
   λ h t. zero_at m.entries t (sym e ∙ h),
   λ h. e ∙ all_zero m m.entries (All-found nat_cmp_total m sorted) keys h,
@@ -67,7 +67,7 @@ zero_everywhere m r keys sorted e = (
 -- ---- what is added
 
 put_at : (old new : List (ℕ × ℤ)) (added t : Term) (n w : ℤ) → is_narrow added ≡ true → w ≡ at_key old (term_key added) +ℤ n
-    → lookup (λ k. is_eq (nat_cmp (term_key t) k)) new ≡ cond (is_eq (nat_cmp (term_key added) (term_key t))) (Some w) (lookup (λ k. is_eq (nat_cmp (term_key t) k)) old) → at new t ≡ at old t +ℤ coefficient (times n added ∷ []) t
+    → lookup (λ k. is_eq (nat_cmp (term_key t) k)) new ≡ cond (is_eq (nat_cmp (term_key added) (term_key t))) (Some w) (lookup (λ k. is_eq (nat_cmp (term_key t) k)) old) → total_at new t ≡ total_at old t +ℤ coefficient (times n added ∷ []) t
 put_at old new added t n w low e h = by (is_narrow t) refl
   where
     found : (b : Bool) → term_eq added t ≡ b → unwrap_or (cond b (Some w) (lookup (λ k. is_eq (nat_cmp (term_key t) k)) old)) (pos 0) ≡ at_key old (term_key t) +ℤ (cond b n (pos 0) +ℤ pos 0)
@@ -84,9 +84,9 @@ put_at old new added t n w low e h = by (is_narrow t) refl
         ∙ found (term_eq added t) refl
     by false k = wide (term_eq added t) refl k
 
-pub dropped : (es : List (ℕ × ℤ)) (term t : Term) (n : ℤ) → is_degenerate term ≡ true → at es t ≡ at es t +ℤ coefficient (normal_summands (times n term ∷ [])) t
+pub dropped : (es : List (ℕ × ℤ)) (term t : Term) (n : ℤ) → is_degenerate term ≡ true → total_at es t ≡ total_at es t +ℤ coefficient (normal_summands (times n term ∷ [])) t
 dropped es term t n d =
-    omega (arith, sums) ∙ ap (λ b. at es t +ℤ coefficient (map (λ (p : ℤ × Term). times p.0 (canonical p.1)) (cond (not b) (times n term ∷ []) [])) t) (sym d)
+    omega (arith, sums) ∙ ap (λ b. total_at es t +ℤ coefficient (map (λ (p : ℤ × Term). times p.0 (canonical p.1)) (cond (not b) (times n term ∷ []) [])) t) (sym d)
 
 -- the key that the code makes of a term in its normal order
 pub record IsKeyFor (term ordered : Term) (key : ℕ) : Type 0 where
@@ -94,8 +94,8 @@ pub record IsKeyFor (term ordered : Term) (key : ℕ) : Type 0 where
   pub value : key ≡ term_key ordered
   pub narrow : is_narrow ordered ≡ true
 
-at_ordered : (es : List (ℕ × ℤ)) (term ordered : Term) (key : ℕ) → IsKeyFor term ordered key → at_key es key ≡ at es (canonical term)
-at_ordered es term ordered key k = ap (at_key es) k.value ∙ sym (at_narrow es ordered k.narrow) ∙ ap (at es) k.order
+at_ordered : (es : List (ℕ × ℤ)) (term ordered : Term) (key : ℕ) → IsKeyFor term ordered key → at_key es key ≡ total_at es (canonical term)
+at_ordered es term ordered key k = ap (at_key es) k.value ∙ sym (at_narrow es ordered k.narrow) ∙ ap (total_at es) k.order
 
 fits_wide : (a b : ℤ) → unsigned_abs a + unsigned_abs b < 2 ^ 127 → SFits w128 (a +ℤ b)
 fits_wide a b h = fits_signed_from_abs w128 (a +ℤ b) (omega (arith, sums, abs_is a, abs_is b, abs_is (a +ℤ b), h))
@@ -105,7 +105,7 @@ stands : (m : BTreeMap ℕ ℤ) (es : List (ℕ × ℤ)) (key : ℕ) (o : Option
 stands m es key o is e = ap (λ x. unwrap_or x (pos 0)) e ∙ ap (λ xs. at_key xs key) is
 
 pub fits_for : (m : BTreeMap ℕ ℤ) (es : List (ℕ × ℤ)) (term ordered : Term) (key : ℕ) (o : Option ℤ) (before n : ℤ) → m.entries ≡ es → IsKeyFor term ordered key → o ≡ get nat_cmp m key → o ≡ Some before
-    → unsigned_abs (at es (canonical term)) + unsigned_abs n < 2 ^ 127 → SFits w128 (before +ℤ n)
+    → unsigned_abs (total_at es (canonical term)) + unsigned_abs n < 2 ^ 127 → SFits w128 (before +ℤ n)
 fits_for m es term ordered key o before n is k e f h =
     fits_wide before n
     (subst (λ z. unsigned_abs z + unsigned_abs n < 2 ^ 127) (sym (ap (λ x. unwrap_or x (pos 0)) (sym f) ∙ stands m es key o is e ∙ at_ordered es term ordered key k)) h)
@@ -115,11 +115,11 @@ abbrev IsPut : List (ℕ × ℤ) → List (ℕ × ℤ) → ℕ → ℤ → Type 
 IsPut es new key w = (q : ℕ) → lookup (λ x. is_eq (nat_cmp q x)) new ≡ cond (is_eq (nat_cmp key q)) (Some w) (lookup (λ x. is_eq (nat_cmp q x)) es)
 
 put_for : (es new : List (ℕ × ℤ)) (term ordered : Term) (key : ℕ) (n w : ℤ) → IsKeyFor term ordered key → w ≡ at_key es key +ℤ n → is_degenerate term ≡ false → IsPut es new key w
-    → (t : Term) → at new t ≡ at es t +ℤ coefficient (normal_summands (times n term ∷ [])) t
+    → (t : Term) → total_at new t ≡ total_at es t +ℤ coefficient (normal_summands (times n term ∷ [])) t
 put_for es new term ordered key n w k e d put t =
     put_at es new ordered t n w k.narrow (e ∙ ap (λ x. at_key es x +ℤ n) k.value) (put (term_key t) ∙ ap (λ x. cond (is_eq (nat_cmp x (term_key t))) (Some w) (lookup (λ x. is_eq (nat_cmp (term_key t) x)) es)) k.value)
-    ∙ ap (λ u. at es t +ℤ coefficient (times n u ∷ []) t) k.order
-    ∙ ap (λ form. at es t +ℤ coefficient form t) (sym (kept d))
+    ∙ ap (λ u. total_at es t +ℤ coefficient (times n u ∷ []) t) k.order
+    ∙ ap (λ form. total_at es t +ℤ coefficient form t) (sym (kept d))
   where
     kept : is_degenerate term ≡ false → normal_summands (times n term ∷ []) ≡ times n (canonical term) ∷ []
     kept d = ap (λ b. map (λ (p : ℤ × Term). times p.0 (canonical p.1)) (cond (not b) (times n term ∷ []) [])) d
@@ -137,7 +137,7 @@ put_twice es middle new key v w h k q = k q ∙ by (is_eq (nat_cmp key q)) (h q)
 
 -- the term was not there
 pub first_for : (m m' : BTreeMap ℕ ℤ) (es : List (ℕ × ℤ)) (term ordered : Term) (key : ℕ) (o : Option ℤ) (n : ℤ) → m.entries ≡ es → IsKeyFor term ordered key → o ≡ get nat_cmp m key → o ≡ None → is_degenerate term ≡ false
-    → Updates nat_cmp m m' key (Some n) → (t : Term) → at m'.entries t ≡ at es t +ℤ coefficient (normal_summands (times n term ∷ [])) t
+    → Updates nat_cmp m m' key (Some n) → (t : Term) → total_at m'.entries t ≡ total_at es t +ℤ coefficient (normal_summands (times n term ∷ [])) t
 first_for m m' es term ordered key o n is k e f d u =
     let zero_there : pos 0 ≡ at_key es key = ap (λ x. unwrap_or x (pos 0)) (sym f) ∙ stands m es key o is e in
     put_for es m'.entries term ordered key n n k (plus_none n ∙ ap (λ z. z +ℤ n) zero_there) d (is_put m m' es key n is u)
@@ -147,7 +147,7 @@ first_for m m' es term ordered key o n is k e f d u =
 
 -- the term was there
 pub added_for : (m m' m'' : BTreeMap ℕ ℤ) (es : List (ℕ × ℤ)) (term ordered : Term) (key : ℕ) (o : Option ℤ) (before n : ℤ) → m.entries ≡ es → IsKeyFor term ordered key → o ≡ get nat_cmp m key → o ≡ Some before
-    → is_degenerate term ≡ false → Updates nat_cmp m m' key (Some n) → Updates nat_cmp m' m'' key (Some (before +ℤ n)) → (t : Term) → at m''.entries t ≡ at es t +ℤ coefficient (normal_summands (times n term ∷ [])) t
+    → is_degenerate term ≡ false → Updates nat_cmp m m' key (Some n) → Updates nat_cmp m' m'' key (Some (before +ℤ n)) → (t : Term) → total_at m''.entries t ≡ total_at es t +ℤ coefficient (normal_summands (times n term ∷ [])) t
 added_for m m' m'' es term ordered key o before n is k e f d u v =
     let there : before ≡ at_key es key = ap (λ x. unwrap_or x (pos 0)) (sym f) ∙ stands m es key o is e in
     put_for es m''.entries term ordered key n (before +ℤ n) k (ap (λ z. z +ℤ n) there) d

@@ -11,7 +11,7 @@ use Rattle.e_literal.specs.declared.object.Mono.{Mono}
 use Rattle.e_literal.specs.Literal.{kind_of_term, kind_of_sums}
 use Rattle.e_literal.specs.WellFormed.{same_kind, is_good_coefficient, are_good_sums}
 use Rattle.e_literal.proofs.Booleans.{and_left, and_right}
-use Rattle.e_verify.specs.inner.Small.{are_small}
+use Rattle.e_verify.specs.inner.Small.{are_small_monomials}
 
 abbrev fits_kind : Kind → Mono → Bool
 fits_kind k m = same_kind (kind_of_term m.term) k && is_good_coefficient m.coeff
@@ -39,10 +39,10 @@ all_low x y h =
     let k = list_all (fits_kind (kind_of_sums x y)) (x ++ y) in
     sym (list_all-append (λ (m : Mono). nat_le m.coeff 1000000) x y) ∙ low (kind_of_sums x y) (x ++ y) (and_right (nat_le n 32) k (and_right (nat_le 1 n) (nat_le n 32 && k) h))
 
-pub first_small : (x y : List Mono) → are_good_sums x y ≡ true → are_small x ≡ true
+pub first_small : (x y : List Mono) → are_good_sums x y ≡ true → are_small_monomials x ≡ true
 first_small x y h = let e = few x y h in and_from (nat_le (length x) 32) (has_low x) (le-leb (length x) 32 (omega (arith, e))) (and_left (has_low x) (has_low y) (all_low x y h))
 
-pub second_small : (x y : List Mono) → are_good_sums x y ≡ true → are_small y ≡ true
+pub second_small : (x y : List Mono) → are_good_sums x y ≡ true → are_small_monomials y ≡ true
 second_small x y h = let e = few x y h in and_from (nat_le (length y) 32) (has_low y) (le-leb (length y) 32 (omega (arith, e))) (and_right (has_low x) (has_low y) (all_low x y h))
 
 pub if_some : {X : Type 0} (p : X → Bool) (o : Option X) → option_map_or p o true ≡ true → IfSome o (λ x. IsTrue (p x))

@@ -28,10 +28,10 @@ use Rattle.e_deriv.proofs.Stops.{lines_length}
 use Rattle.e_verify.specs.declared.reject.Reject.{Reject}
 use Rattle.e_verify.specs.declared.reject.Reject.TheVariants.{Bad, NoMemory}
 use Rattle.e_verify.specs.declared.step_state.StepState.{StepState}
-use Rattle.e_verify.specs.inner.StepStates.{with_facts, after_superposed}
+use Rattle.e_verify.specs.inner.StepStates.{with_facts, state_after_superposed}
 use Rattle.e_clause.specs.Written.{is_good_cert, is_good_against}
 use Rattle.e_deriv.specs.Written.{is_written_well}
-use Rattle.e_verify.specs.Checking.{line_at, lines_at, verdict_at, RejectIs, IsReadyFor, IsChecked, IsPassed, StepRejects}
+use Rattle.e_verify.specs.Checking.{line_in_state, lines_in_state, verdict_at, RejectIs, IsCheckable, IsChecked, AreVerified, StepRejects}
 use Rattle.e_verify.proofs.checking.FirstLines.{some_lines, claim_lines, superposed_lines, cases_lines}
 use Rattle.e_deriv.proofs.Keeping.{stay_all}
 use Rattle.e_construct.specs.Superposing as superposing
@@ -102,7 +102,7 @@ pub reject_as : (v w : Result ℕ ℕ) (e : Reject) → v ≡ w → RejectIs w e
 reject_as v w e is h = subst (λ r. RejectIs r e) (sym is) h
 
 pub size_of : (before : List Stated) (d : Script) (x : StepState) (goal : Goal) (n m : ℕ) → verdict_at before d x goal n ≡ Ok m → m ≡ n + size d
-size_of before d x goal n m e = count (is_certified before) (lines_at before d x goal) n m e ∙ ap (λ k. n + k) (lines_length before d d x.scope x.facts goal)
+size_of before d x goal n m e = count (is_certified before) (lines_in_state before d x goal) n m e ∙ ap (λ k. n + k) (lines_length before d d x.scope x.facts goal)
 
 -- ---- scopes
 
@@ -121,8 +121,8 @@ left_small ys zs h = and_left (list_all is_small_line ys) (list_all is_small_lin
 right_small : (ys zs : List Line) → list_all is_small_line (ys ++ zs) ≡ true → list_all is_small_line zs ≡ true
 right_small ys zs h = and_right (list_all is_small_line ys) (list_all is_small_line zs) (sym (list_all-append is_small_line ys zs) ∙ h)
 
-pub scope_small : (before : List Stated) (d : Script) (x : StepState) (goal : Goal) (n : ℕ) → IsReadyFor before d x goal n → is_small x.scope ≡ true
-scope_small before d x goal n r = let l = some_lines before d x goal in first_small (line_at d x goal) l.0 (lines_at before d x goal) l.1 r.scopes
+pub scope_small : (before : List Stated) (d : Script) (x : StepState) (goal : Goal) (n : ℕ) → IsCheckable before d x goal n → is_small x.scope ≡ true
+scope_small before d x goal n r = let l = some_lines before d x goal in first_small (line_in_state d x goal) l.0 (lines_in_state before d x goal) l.1 r.scopes
 
 -- ---- what is written well
 
@@ -199,20 +199,20 @@ make_line form names certs = record { written = λ rest h. (make_written form na
 pub apply_line : (theorem : ℕ) (args : List (Option Obj)) (names : List (List ℕ)) (certs : List Cert) → IsLine (Apply theorem args names certs)
 apply_line theorem args names certs = record { written = λ rest h. (apply_written theorem args names certs rest h).1; size_is = size-Apply theorem args names certs }
 
-pub bad_line : (before : List Stated) (d : Script) (x : StepState) (goal : Goal) (n : ℕ) → is_certified before (line_at d x goal) ≡ false → verdict_at before d x goal n ≡ Err n
+pub bad_line : (before : List Stated) (d : Script) (x : StepState) (goal : Goal) (n : ℕ) → is_certified before (line_in_state d x goal) ≡ false → verdict_at before d x goal n ≡ Err n
 bad_line before d x goal n h =
-    let l = some_lines before d x goal in ap (λ xs. first_failure (is_certified before) xs n) l.1 ∙ fail_one (is_certified before) (line_at d x goal) l.0 n h
+    let l = some_lines before d x goal in ap (λ xs. first_failure (is_certified before) xs n) l.1 ∙ fail_one (is_certified before) (line_in_state d x goal) l.0 n h
 
 pub line_passed : (before : List Stated) (step : Step) (whole : Script → Script) (x after : StepState) (n : ℕ) (b : Bool) (r : Result ℕ Reject) → ((rest : Script) → step_script step rest ≡ whole rest) → IsLine whole
-    → IsChecked before whole x after b → IfOk r (λ next. IsTrue b × (next ≡ n + 1)) → IfOk r (λ next. IsPassed before (step_script step) x n after next)
+    → IsChecked before whole x after b → IfOk r (λ next. IsTrue b × (next ≡ n + 1)) → IfOk r (λ next. AreVerified before (step_script step) x n after next)
 line_passed before step whole x after n b (Err e) is line c h = tt
 line_passed before step whole x after n b (Ok next) is line c h =
     record {
       ready = λ rest goal r.
-          let q = subst (λ d. IsReadyFor before d x goal n) (is rest) r in
+          let q = subst (λ d. IsCheckable before d x goal n) (is rest) r in
           record {
             written = line.written rest q.written;
-            scopes = rest_small (line_at (whole rest) x goal) (lines_at before rest after goal) (lines_at before (whole rest) x goal) (c.next h.0 rest goal) q.scopes;
+            scopes = rest_small (line_in_state (whole rest) x goal) (lines_in_state before rest after goal) (lines_in_state before (whole rest) x goal) (c.next h.0 rest goal) q.scopes;
             facts = c.formed h.0 q.facts;
             shown = q.shown;
             few = omega (arith, h.1, q.few, line.size_is rest);
@@ -220,8 +220,8 @@ line_passed before step whole x after n b (Ok next) is line c h =
       same = λ rest goal.
           ap (λ d. verdict_at before d x goal n) (is rest)
           ∙ ap (λ xs. first_failure (is_certified before) xs n) (c.next h.0 rest goal)
-          ∙ pass_one (is_certified before) (line_at (whole rest) x goal) (lines_at before rest after goal) n (sym (c.test rest goal) ∙ h.0)
-          ∙ ap (first_failure (is_certified before) (lines_at before rest after goal)) (sym h.1);
+          ∙ pass_one (is_certified before) (line_in_state (whole rest) x goal) (lines_in_state before rest after goal) n (sym (c.test rest goal) ∙ h.0)
+          ∙ ap (first_failure (is_certified before) (lines_in_state before rest after goal)) (sym h.1);
       kept = c.kept h.0;
     }
 
@@ -235,51 +235,51 @@ line_rejected before step whole x after n b (Err e) is c h =
 
 -- ---- a close that is one line
 
-pub close_certified : (before : List Stated) (d : Script) (x : StepState) (goal : Goal) (n : ℕ) (b : Bool) (r : Result ℕ Reject) → lines_at before d x goal ≡ line_at d x goal ∷ [] → b ≡ is_certified before (line_at d x goal)
+pub close_certified : (before : List Stated) (d : Script) (x : StepState) (goal : Goal) (n : ℕ) (b : Bool) (r : Result ℕ Reject) → lines_in_state before d x goal ≡ line_in_state d x goal ∷ [] → b ≡ is_certified before (line_in_state d x goal)
     → IfOk r (λ next. IsTrue b × (next ≡ n + 1)) → IfOk r (λ next. verdict_at before d x goal n ≡ Ok next)
 close_certified before d x goal n b (Err e) one t h = tt
 close_certified before d x goal n b (Ok next) one t h =
-    ap (λ xs. first_failure (is_certified before) xs n) one ∙ pass_one (is_certified before) (line_at d x goal) [] n (sym t ∙ h.0) ∙ ap Ok (sym h.1)
+    ap (λ xs. first_failure (is_certified before) xs n) one ∙ pass_one (is_certified before) (line_in_state d x goal) [] n (sym t ∙ h.0) ∙ ap Ok (sym h.1)
 
-pub close_rejected : (before : List Stated) (d : Script) (x : StepState) (goal : Goal) (n : ℕ) (b : Bool) (r : Result ℕ Reject) → b ≡ is_certified before (line_at d x goal)
+pub close_rejected : (before : List Stated) (d : Script) (x : StepState) (goal : Goal) (n : ℕ) (b : Bool) (r : Result ℕ Reject) → b ≡ is_certified before (line_in_state d x goal)
     → IfErr r (λ e. IsFalse b × (e ≡ Bad n)) → IfErr r (RejectIs (verdict_at before d x goal n))
 close_rejected before d x goal n b (Ok next) t h = tt
 close_rejected before d x goal n b (Err e) t h = subst (RejectIs (verdict_at before d x goal n)) (sym h.1) (bad_line before d x goal n (sym t ∙ h.0))
 
 -- ---- a claim
 
-pub claim_inner : (before : List Stated) (shown : List Lit) (inner rest : Script) (x : StepState) (goal : Goal) (n : ℕ) → IsReadyFor before (Claim shown inner rest) x goal n → IsReadyFor before inner x (goal_of shown) (n + 1)
+pub claim_inner : (before : List Stated) (shown : List Lit) (inner rest : Script) (x : StepState) (goal : Goal) (n : ℕ) → IsCheckable before (Claim shown inner rest) x goal n → IsCheckable before inner x (goal_of shown) (n + 1)
 claim_inner before shown inner rest x goal n r =
     let w = claim_written shown inner rest r.written in
-    let s = rest_small (line_at (Claim shown inner rest) x goal) _ (lines_at before (Claim shown inner rest) x goal) (claim_lines before shown inner x rest goal) r.scopes in
+    let s = rest_small (line_in_state (Claim shown inner rest) x goal) _ (lines_in_state before (Claim shown inner rest) x goal) (claim_lines before shown inner x rest goal) r.scopes in
     record {
       written = w.1;
-      scopes = left_small (lines_at before inner x (goal_of shown)) (lines_at before rest (with_facts (joined_all x.facts shown) x) goal) s;
+      scopes = left_small (lines_in_state before inner x (goal_of shown)) (lines_in_state before rest (with_facts (joined_all x.facts shown) x) goal) s;
       facts = r.facts;
       shown = w.0;
       few = omega (arith, r.few, size-Claim shown inner rest);
     }
 
 pub passed_claim : (before : List Stated) (shown : List Lit) (inner : Script) (x : StepState) (n m : ℕ) → are_over x.scope shown ≡ true → verdict_at before inner x (goal_of shown) (n + 1) ≡ Ok m
-    → IsPassed before (Claim shown inner) x n (with_facts (joined_all x.facts shown) x) m
+    → AreVerified before (Claim shown inner) x n (with_facts (joined_all x.facts shown) x) m
 passed_claim before shown inner x n m h e =
     let after = with_facts (joined_all x.facts shown) x in
     let p = is_certified before in
-    let A = lines_at before inner x (goal_of shown) in
+    let A = lines_in_state before inner x (goal_of shown) in
     record {
       ready = λ rest goal r.
-          let s = rest_small (line_at (Claim shown inner rest) x goal) _ (lines_at before (Claim shown inner rest) x goal) (claim_lines before shown inner x rest goal) r.scopes in
+          let s = rest_small (line_in_state (Claim shown inner rest) x goal) _ (lines_in_state before (Claim shown inner rest) x goal) (claim_lines before shown inner x rest goal) r.scopes in
           record {
             written = (claim_written shown inner rest r.written).2;
-            scopes = right_small A (lines_at before rest after goal) s;
+            scopes = right_small A (lines_in_state before rest after goal) s;
             facts = all_joined_formed x.facts shown r.facts (claim_written shown inner rest r.written).0;
             shown = r.shown;
             few = omega (arith, r.few, size-Claim shown inner rest, size_of before inner x (goal_of shown) (n + 1) m e);
           };
       same = λ rest goal.
-          let B = lines_at before rest after goal in
+          let B = lines_in_state before rest after goal in
           ap (λ xs. first_failure p xs n) (claim_lines before shown inner x rest goal)
-          ∙ pass_one p (line_at (Claim shown inner rest) x goal) (A ++ B) n (rw h refl)
+          ∙ pass_one p (line_in_state (Claim shown inner rest) x goal) (A ++ B) n (rw h refl)
           ∙ pass_all p A B (n + 1) m e;
       kept = stay_all x.facts shown;
     }
@@ -288,10 +288,10 @@ pub claim_rejected : (before : List Stated) (shown : List Lit) (inner rest : Scr
     → RejectIs (verdict_at before inner x (goal_of shown) (n + 1)) e → RejectIs (verdict_at before (Claim shown inner rest) x goal n) e
 claim_rejected before shown inner rest x goal n e h k =
     let p = is_certified before in
-    let A = lines_at before inner x (goal_of shown) in
-    let B = lines_at before rest (with_facts (joined_all x.facts shown) x) goal in
+    let A = lines_in_state before inner x (goal_of shown) in
+    let B = lines_in_state before rest (with_facts (joined_all x.facts shown) x) goal in
     reject_as (verdict_at before (Claim shown inner rest) x goal n) (first_failure p (A ++ B) (n + 1)) e
-    (ap (λ xs. first_failure p xs n) (claim_lines before shown inner x rest goal) ∙ pass_one p (line_at (Claim shown inner rest) x goal) (A ++ B) n (rw h refl))
+    (ap (λ xs. first_failure p xs n) (claim_lines before shown inner x rest goal) ∙ pass_one p (line_in_state (Claim shown inner rest) x goal) (A ++ B) n (rw h refl))
     (reject_all p A B (n + 1) e k)
 
 pub claim_bad : (before : List Stated) (shown : List Lit) (inner rest : Script) (x : StepState) (goal : Goal) (n : ℕ) → are_over x.scope shown ≡ false → verdict_at before (Claim shown inner rest) x goal n ≡ Err n
@@ -300,14 +300,14 @@ claim_bad before shown inner rest x goal n h = bad_line before (Claim shown inne
 -- ---- a superposition
 
 pub superposed_inner : (before : List Stated) (form : Superpose) (names : List (List ℕ)) (shown : List Lit) (certs : List Cert) (inner rest : Script) (x : StepState) (goal : Goal) (n : ℕ)
-    → superposing.fits form x.scope ≡ true → IsReadyFor before (Superposed form names shown certs inner rest) x goal n → IsReadyFor before inner (after_superposed form x) (goal_of shown) (n + 1)
+    → superposing.fits form x.scope ≡ true → IsCheckable before (Superposed form names shown certs inner rest) x goal n → IsCheckable before inner (state_after_superposed form x) (goal_of shown) (n + 1)
 superposed_inner before form names shown certs inner rest x goal n fit r =
     let w = superposed_written form names shown certs inner rest r.written in
     let d = Superposed form names shown certs inner rest in
-    let s = rest_small (line_at d x goal) _ (lines_at before d x goal) (superposed_lines before form names shown certs inner x rest goal) r.scopes in
+    let s = rest_small (line_in_state d x goal) _ (lines_in_state before d x goal) (superposed_lines before form names shown certs inner x rest goal) r.scopes in
     record {
       written = w.2;
-      scopes = left_small (lines_at before inner (after_superposed form x) (goal_of shown)) (lines_at before rest (with_facts (joined_all x.facts shown) x) goal) s;
+      scopes = left_small (lines_in_state before inner (state_after_superposed form x) (goal_of shown)) (lines_in_state before rest (with_facts (joined_all x.facts shown) x) goal) s;
       facts = all_joined_formed x.facts (superposing.gives form x.scope) r.facts (superposed_gives_formed form x.scope fit);
       shown = w.0;
       few = omega (arith, r.few, size-Superposed form names shown certs inner rest);
@@ -315,66 +315,66 @@ superposed_inner before form names shown certs inner rest x goal n fit r =
 
 -- the superposition itself is certified, whatever its block is
 abbrev pub IsHead : List Stated → Superpose → List (List ℕ) → List Lit → List Cert → StepState → Bool → Type 0
-IsHead before form names shown certs x b = (inner rest : Script) (goal : Goal) → b ≡ is_certified before (line_at (Superposed form names shown certs inner rest) x goal)
+IsHead before form names shown certs x b = (inner rest : Script) (goal : Goal) → b ≡ is_certified before (line_in_state (Superposed form names shown certs inner rest) x goal)
 
 pub passed_superposed : (before : List Stated) (form : Superpose) (names : List (List ℕ)) (shown : List Lit) (certs : List Cert) (inner : Script) (x : StepState) (n m : ℕ) → IsHead before form names shown certs x true
-    → verdict_at before inner (after_superposed form x) (goal_of shown) (n + 1) ≡ Ok m → IsPassed before (Superposed form names shown certs inner) x n (with_facts (joined_all x.facts shown) x) m
+    → verdict_at before inner (state_after_superposed form x) (goal_of shown) (n + 1) ≡ Ok m → AreVerified before (Superposed form names shown certs inner) x n (with_facts (joined_all x.facts shown) x) m
 passed_superposed before form names shown certs inner x n m h e =
     let after = with_facts (joined_all x.facts shown) x in
     let p = is_certified before in
-    let A = lines_at before inner (after_superposed form x) (goal_of shown) in
+    let A = lines_in_state before inner (state_after_superposed form x) (goal_of shown) in
     record {
       ready = λ rest goal r.
           let d = Superposed form names shown certs inner rest in
-          let s = rest_small (line_at d x goal) _ (lines_at before d x goal) (superposed_lines before form names shown certs inner x rest goal) r.scopes in
+          let s = rest_small (line_in_state d x goal) _ (lines_in_state before d x goal) (superposed_lines before form names shown certs inner x rest goal) r.scopes in
           record {
             written = (superposed_written form names shown certs inner rest r.written).3;
-            scopes = right_small A (lines_at before rest after goal) s;
+            scopes = right_small A (lines_in_state before rest after goal) s;
             facts = all_joined_formed x.facts shown r.facts (superposed_written form names shown certs inner rest r.written).0;
             shown = r.shown;
-            few = omega (arith, r.few, size-Superposed form names shown certs inner rest, size_of before inner (after_superposed form x) (goal_of shown) (n + 1) m e);
+            few = omega (arith, r.few, size-Superposed form names shown certs inner rest, size_of before inner (state_after_superposed form x) (goal_of shown) (n + 1) m e);
           };
       same = λ rest goal.
-          let B = lines_at before rest after goal in
+          let B = lines_in_state before rest after goal in
           ap (λ xs. first_failure p xs n) (superposed_lines before form names shown certs inner x rest goal)
-          ∙ pass_one p (line_at (Superposed form names shown certs inner rest) x goal) (A ++ B) n (sym (h inner rest goal))
+          ∙ pass_one p (line_in_state (Superposed form names shown certs inner rest) x goal) (A ++ B) n (sym (h inner rest goal))
           ∙ pass_all p A B (n + 1) m e;
       kept = stay_all x.facts shown;
     }
 
 pub superposed_rejected : (before : List Stated) (form : Superpose) (names : List (List ℕ)) (shown : List Lit) (certs : List Cert) (inner rest : Script) (x : StepState) (goal : Goal) (n : ℕ) (e : Reject)
-    → IsHead before form names shown certs x true → RejectIs (verdict_at before inner (after_superposed form x) (goal_of shown) (n + 1)) e → RejectIs (verdict_at before (Superposed form names shown certs inner rest) x goal n) e
+    → IsHead before form names shown certs x true → RejectIs (verdict_at before inner (state_after_superposed form x) (goal_of shown) (n + 1)) e → RejectIs (verdict_at before (Superposed form names shown certs inner rest) x goal n) e
 superposed_rejected before form names shown certs inner rest x goal n e h k =
     let p = is_certified before in
-    let A = lines_at before inner (after_superposed form x) (goal_of shown) in
-    let B = lines_at before rest (with_facts (joined_all x.facts shown) x) goal in
+    let A = lines_in_state before inner (state_after_superposed form x) (goal_of shown) in
+    let B = lines_in_state before rest (with_facts (joined_all x.facts shown) x) goal in
     reject_as (verdict_at before (Superposed form names shown certs inner rest) x goal n) (first_failure p (A ++ B) (n + 1)) e
-    (ap (λ xs. first_failure p xs n) (superposed_lines before form names shown certs inner x rest goal) ∙ pass_one p (line_at (Superposed form names shown certs inner rest) x goal) (A ++ B) n (sym (h inner rest goal)))
+    (ap (λ xs. first_failure p xs n) (superposed_lines before form names shown certs inner x rest goal) ∙ pass_one p (line_in_state (Superposed form names shown certs inner rest) x goal) (A ++ B) n (sym (h inner rest goal)))
     (reject_all p A B (n + 1) e k)
 
 -- ---- a split
 
-pub cases_first : (before : List Stated) (lit : Lit) (first second : Script) (x : StepState) (goal : Goal) (n : ℕ) → IsReadyFor before (Cases lit first second) x goal n
-    → IsReadyFor before first (with_facts (joined x.facts lit) x) goal (n + 1)
+pub cases_first : (before : List Stated) (lit : Lit) (first second : Script) (x : StepState) (goal : Goal) (n : ℕ) → IsCheckable before (Cases lit first second) x goal n
+    → IsCheckable before first (with_facts (joined x.facts lit) x) goal (n + 1)
 cases_first before lit first second x goal n r =
     let w = cases_written lit first second r.written in
-    let s = rest_small (line_at (Cases lit first second) x goal) _ (lines_at before (Cases lit first second) x goal) (cases_lines before lit first second x goal) r.scopes in
+    let s = rest_small (line_in_state (Cases lit first second) x goal) _ (lines_in_state before (Cases lit first second) x goal) (cases_lines before lit first second x goal) r.scopes in
     record {
       written = w.1;
-      scopes = left_small (lines_at before first (with_facts (joined x.facts lit) x) goal) (lines_at before second (with_facts (joined x.facts (negation lit)) x) goal) s;
+      scopes = left_small (lines_in_state before first (with_facts (joined x.facts lit) x) goal) (lines_in_state before second (with_facts (joined x.facts (negation lit)) x) goal) s;
       facts = joined_formed x.facts lit r.facts w.0;
       shown = r.shown;
       few = omega (arith, r.few, size-Cases lit first second);
     }
 
-pub cases_second : (before : List Stated) (lit : Lit) (first second : Script) (x : StepState) (goal : Goal) (n m : ℕ) → IsReadyFor before (Cases lit first second) x goal n
-    → verdict_at before first (with_facts (joined x.facts lit) x) goal (n + 1) ≡ Ok m → IsReadyFor before second (with_facts (joined x.facts (negation lit)) x) goal m
+pub cases_second : (before : List Stated) (lit : Lit) (first second : Script) (x : StepState) (goal : Goal) (n m : ℕ) → IsCheckable before (Cases lit first second) x goal n
+    → verdict_at before first (with_facts (joined x.facts lit) x) goal (n + 1) ≡ Ok m → IsCheckable before second (with_facts (joined x.facts (negation lit)) x) goal m
 cases_second before lit first second x goal n m r e =
     let w = cases_written lit first second r.written in
-    let s = rest_small (line_at (Cases lit first second) x goal) _ (lines_at before (Cases lit first second) x goal) (cases_lines before lit first second x goal) r.scopes in
+    let s = rest_small (line_in_state (Cases lit first second) x goal) _ (lines_in_state before (Cases lit first second) x goal) (cases_lines before lit first second x goal) r.scopes in
     record {
       written = w.2;
-      scopes = right_small (lines_at before first (with_facts (joined x.facts lit) x) goal) (lines_at before second (with_facts (joined x.facts (negation lit)) x) goal) s;
+      scopes = right_small (lines_in_state before first (with_facts (joined x.facts lit) x) goal) (lines_in_state before second (with_facts (joined x.facts (negation lit)) x) goal) s;
       facts = joined_formed x.facts (negation lit) r.facts w.0;
       shown = r.shown;
       few = omega (arith, r.few, size-Cases lit first second, size_of before first (with_facts (joined x.facts lit) x) goal (n + 1) m e);
@@ -385,18 +385,18 @@ pub cases_same : (before : List Stated) (lit : Lit) (first second : Script) (x :
     → verdict_at before (Cases lit first second) x goal n ≡ verdict_at before second (with_facts (joined x.facts (negation lit)) x) goal m
 cases_same before lit first second x goal n m h e =
     let p = is_certified before in
-    let A = lines_at before first (with_facts (joined x.facts lit) x) goal in
-    let B = lines_at before second (with_facts (joined x.facts (negation lit)) x) goal in
-    ap (λ xs. first_failure p xs n) (cases_lines before lit first second x goal) ∙ pass_one p (line_at (Cases lit first second) x goal) (A ++ B) n (rw h refl) ∙ pass_all p A B (n + 1) m e
+    let A = lines_in_state before first (with_facts (joined x.facts lit) x) goal in
+    let B = lines_in_state before second (with_facts (joined x.facts (negation lit)) x) goal in
+    ap (λ xs. first_failure p xs n) (cases_lines before lit first second x goal) ∙ pass_one p (line_in_state (Cases lit first second) x goal) (A ++ B) n (rw h refl) ∙ pass_all p A B (n + 1) m e
 
 pub cases_rejected : (before : List Stated) (lit : Lit) (first second : Script) (x : StepState) (goal : Goal) (n : ℕ) (e : Reject) → all_in_scope x.scope lit ≡ true
     → RejectIs (verdict_at before first (with_facts (joined x.facts lit) x) goal (n + 1)) e → RejectIs (verdict_at before (Cases lit first second) x goal n) e
 cases_rejected before lit first second x goal n e h k =
     let p = is_certified before in
-    let A = lines_at before first (with_facts (joined x.facts lit) x) goal in
-    let B = lines_at before second (with_facts (joined x.facts (negation lit)) x) goal in
+    let A = lines_in_state before first (with_facts (joined x.facts lit) x) goal in
+    let B = lines_in_state before second (with_facts (joined x.facts (negation lit)) x) goal in
     reject_as (verdict_at before (Cases lit first second) x goal n) (first_failure p (A ++ B) (n + 1)) e
-    (ap (λ xs. first_failure p xs n) (cases_lines before lit first second x goal) ∙ pass_one p (line_at (Cases lit first second) x goal) (A ++ B) n (rw h refl))
+    (ap (λ xs. first_failure p xs n) (cases_lines before lit first second x goal) ∙ pass_one p (line_in_state (Cases lit first second) x goal) (A ++ B) n (rw h refl))
     (reject_all p A B (n + 1) e k)
 
 pub cases_bad : (before : List Stated) (lit : Lit) (first second : Script) (x : StepState) (goal : Goal) (n : ℕ) → all_in_scope x.scope lit ≡ false → verdict_at before (Cases lit first second) x goal n ≡ Err n

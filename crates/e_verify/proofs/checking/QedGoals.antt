@@ -19,7 +19,7 @@ use Rattle.e_deriv.specs.Script.{Qed}
 use Rattle.e_deriv.specs.Goal.{Goal, are_for, goal_with}
 use Rattle.e_deriv.specs.Certified.{is_certified}
 use Rattle.e_verify.specs.declared.step_state.StepState.{StepState}
-use Rattle.e_verify.specs.Checking.{line_at}
+use Rattle.e_verify.specs.Checking.{line_in_state}
 use Rattle.e_construct.proofs.Images.{no_objects}
 
 abbrev sorts_of : List Obj → List Sort
@@ -41,6 +41,6 @@ pub goal_formed : (goal : Goal) (objects : List Obj) → list_all is_well_formed
 goal_formed goal objects h = each_formed (renamed (image_in (paired goal.made objects))) (renamed_well_formed (image_in (paired goal.made objects))) goal.shown h
 
 pub qed_certified : (objects : List Obj) (certs : List Cert) (goal : Goal) (x : StepState) → are_for goal x.scope objects ≡ true → (before : List Stated)
-    → certify_all x.scope x.facts (goal_with goal objects) certs ≡ is_certified before (line_at (Qed objects certs) x goal)
+    → certify_all x.scope x.facts (goal_with goal objects) certs ≡ is_certified before (line_in_state (Qed objects certs) x goal)
 qed_certified objects certs goal x h before =
     sym (ap (λ b. b && (certify_all x.scope x.facts (goal_with goal objects) certs && true)) h ∙ and-true (certify_all x.scope x.facts (goal_with goal objects) certs))

@@ -15,14 +15,14 @@ use Rattle.e_deriv.specs.Certified.{Certified, derivation_lines, is_certified, v
 use Rattle.e_deriv.specs.Fitting.{is_small, is_small_statement, all_objects}
 use Rattle.e_deriv.proofs.Smallness.{few_objects}
 use Rattle.e_verify.specs.declared.step_state.StepState.{StepState}
-use Rattle.e_verify.specs.inner.StepStates.{start_of}
-use Rattle.e_verify.specs.Checking.{verdict_at, IsReadyFor}
+use Rattle.e_verify.specs.inner.StepStates.{state_at_start}
+use Rattle.e_verify.specs.Checking.{verdict_at, IsCheckable}
 use Rattle.e_verify.specs.Verdicts.{IsVerifiable}
 use Rattle.e_verify.proofs.checking.FormedFacts.{all_joined_formed}
 use Rattle.e_verify.proofs.checking.PassedLines.{all_pass}
 
-pub same_verdict : (before : List Stated) (t : Stated) (d : Script) (x : StepState) (g : Goal) → x ≡ start_of t → g ≡ goal_of_statement t → verdict before t d ≡ verdict_at before d x g 1
-same_verdict before t d x g is same = sym (ap (λ y. verdict_at before d y g 1) is ∙ ap (λ h. verdict_at before d (start_of t) h 1) same)
+pub same_verdict : (before : List Stated) (t : Stated) (d : Script) (x : StepState) (g : Goal) → x ≡ state_at_start t → g ≡ goal_of_statement t → verdict before t d ≡ verdict_at before d x g 1
+same_verdict before t d x g is same = sym (ap (λ y. verdict_at before d y g 1) is ∙ ap (λ h. verdict_at before d (state_at_start t) h 1) same)
 
 each_formed : (q : Lit → Bool) (ls : List Lit) → list_all (λ l. is_well_formed l && q l) ls ≡ true → list_all is_well_formed ls ≡ true
 each_formed q [] h = refl
@@ -44,9 +44,9 @@ facts_formed t h =
     (each_formed (all_in_scope s) t.given
     (and_left (list_all (λ l. is_well_formed l && all_in_scope s l) t.given) (list_all (λ l. is_well_formed l && all_in_scope (grown s t.made) l) t.shown) h))
 
-pub start_ready : (before : List Stated) (t : Stated) (d : Script) (x : StepState) (g : Goal) → IsVerifiable before t d → x ≡ start_of t → g ≡ goal_of_statement t → IsReadyFor before d x g 1
+pub start_ready : (before : List Stated) (t : Stated) (d : Script) (x : StepState) (g : Goal) → IsVerifiable before t d → x ≡ state_at_start t → g ≡ goal_of_statement t → IsCheckable before d x g 1
 start_ready before t d x g v is same =
-    subst (λ y. IsReadyFor before d y g 1) (sym is) (subst (λ h. IsReadyFor before d (start_of t) h 1) (sym same)
+    subst (λ y. IsCheckable before d y g 1) (sym is) (subst (λ h. IsCheckable before d (state_at_start t) h 1) (sym same)
     (record {
       written = v.written;
       scopes = v.scopes;

@@ -30,9 +30,9 @@ use Rattle.e_deriv.proofs.Scripts.{steps_at, steps_script-append, step_script-Ci
 use Rattle.e_deriv.proofs.Keeping.{stay_joined, stay_all}
 use Rattle.e_verify.specs.declared.step_state.StepState.{StepState}
 use Rattle.e_verify.specs.declared.step_state.Checkpoint.{Checkpoint}
-use Rattle.e_verify.specs.inner.StepStates.{with_facts, after_superposed, checkpoint_of, restored}
+use Rattle.e_verify.specs.inner.StepStates.{with_facts, state_after_superposed, checkpoint_of, restored}
 use Rattle.e_verify.specs.inner.Numbering.{has_few, HaveFew, IsNumberedStep, places_at}
-use Rattle.e_verify.specs.Checking.{line_at, lines_at, KeepsFacts}
+use Rattle.e_verify.specs.Checking.{line_in_state, lines_in_state, KeepsFirstFacts}
 use Rattle.e_verify.specs.Numbered.{cert_with_places, certs_with_places, against_with_places, with_places}
 use Rattle.e_verify.proofs.checking.FirstLines.{cite_lines, hence_lines, make_lines, apply_lines, qed_lines, contradiction_lines, cases_lines, claim_lines, superposed_lines, after_make, after_apply}
 use Rattle.e_verify.proofs.checking.InnerBlocks.{kept_on, restored_is}
@@ -66,7 +66,7 @@ claim_places before shown inner x rest goal = refl
 
 superposed_places : (before : List Stated) (form : Superpose) (names : List (List ℕ)) (shown : List Lit) (certs : List Cert) (inner : Script) (x : StepState) (rest : Script) (goal : Goal)
     → places_at before (Superposed form names shown certs inner rest) x goal
-    ≡ Superposed form names shown (certs_with_places x.facts (superposing.needs form) certs) (places_at before inner (after_superposed form x) (goal_of shown)) (places_at before rest (with_facts (joined_all x.facts shown) x) goal)
+    ≡ Superposed form names shown (certs_with_places x.facts (superposing.needs form) certs) (places_at before inner (state_after_superposed form x) (goal_of shown)) (places_at before rest (with_facts (joined_all x.facts shown) x) goal)
 unfolding with_places
 superposed_places before form names shown certs inner x rest goal = refl
 
@@ -88,11 +88,11 @@ cases_places before lit first second x goal = refl
 few_first : (x : StepState) → length x.facts < 2 ^ 32 → nat_lt (length x.facts) (2 ^ 32) ≡ true
 few_first x few = lt-ltb (length x.facts) (2 ^ 32) few
 
-few_line : (before : List Stated) (d : Script) (x : StepState) (goal : Goal) (rest : Script) (after : StepState) → length x.facts < 2 ^ 32 → lines_at before d x goal ≡ line_at d x goal ∷ lines_at before rest after goal
+few_line : (before : List Stated) (d : Script) (x : StepState) (goal : Goal) (rest : Script) (after : StepState) → length x.facts < 2 ^ 32 → lines_in_state before d x goal ≡ line_in_state d x goal ∷ lines_in_state before rest after goal
     → HaveFew before rest after goal → HaveFew before d x goal
 few_line before d x goal rest after few is h = ap (list_all has_few) is ∙ ap₂ {A = Bool} {B = Bool} (λ a b. a && b) (few_first x few) h
 
-pub few_close : (before : List Stated) (d : Script) (x : StepState) (goal : Goal) → length x.facts < 2 ^ 32 → lines_at before d x goal ≡ line_at d x goal ∷ [] → HaveFew before d x goal
+pub few_close : (before : List Stated) (d : Script) (x : StepState) (goal : Goal) → length x.facts < 2 ^ 32 → lines_in_state before d x goal ≡ line_in_state d x goal ∷ [] → HaveFew before d x goal
 few_close before d x goal few is = ap (list_all has_few) is ∙ ap₂ {A = Bool} {B = Bool} (λ a b. a && b) (few_first x few) refl
 
 -- ---- steps of one line
@@ -151,13 +151,13 @@ pub ruleset placing = (common_steps, cite_numbered, hence_numbered, make_numbere
 -- ---- steps with a block inside
 
 -- back where the block was entered, with what it shows
-back_is : (o : Checkpoint) (x z after : StepState) (again shown : List Lit) → o ≡ checkpoint_of x → KeepsFacts x z → again ≡ shown → after ≡ with_facts (joined_all (restored o z).facts again) (restored o z) → after ≡ with_facts (joined_all x.facts shown) x
+back_is : (o : Checkpoint) (x z after : StepState) (again shown : List Lit) → o ≡ checkpoint_of x → KeepsFirstFacts x z → again ≡ shown → after ≡ with_facts (joined_all (restored o z).facts again) (restored o z) → after ≡ with_facts (joined_all x.facts shown) x
 back_is o x z after again shown e k twice end =
     end ∙ ap (λ w. with_facts (joined_all w.facts again) w) (restored_is o x z (restored o z) e k refl) ∙ ap (λ ls. with_facts (joined_all x.facts ls) x) twice
 
 pub claim_numbered : (before : List Stated) (step : Step) (shown seen again : List Lit) (inner : Box Block Global) (block numbered : Block) (x z after : StepState) (o : Checkpoint) (s : Step)
     → step ≡ ClaimStep shown inner → seen ≡ shown → again ≡ shown → block ≡ inner.value
-    → script_of numbered ≡ places_at before (script_of block) x (goal_of seen) → HaveFew before (script_of block) x (goal_of seen) → o ≡ checkpoint_of x → KeepsFacts x z
+    → script_of numbered ≡ places_at before (script_of block) x (goal_of seen) → HaveFew before (script_of block) x (goal_of seen) → o ≡ checkpoint_of x → KeepsFirstFacts x z
     → ((rest : Script) → step_script s rest ≡ Claim again (script_of numbered) rest) → after ≡ with_facts (joined_all (restored o z).facts again) (restored o z) → IsNumberedStep before (step_script step) x (step_script s) after
 claim_numbered before step shown seen again inner block numbered x z after o s is same twice at placed few e k made end =
     let inside : Script = script_of inner.value in
@@ -172,22 +172,22 @@ claim_numbered before step shown seen again inner block numbered x z after o s i
           ∙ ap₂ {A = List Lit} {B = Script} (λ ls d. Claim ls d (places_at before rest later goal)) (sym twice) (sym block_placed)
           ∙ sym (made (places_at before rest later goal));
       few = λ all rest goal h.
-          ap (λ t. list_all has_few (lines_at before (step_script t rest) x goal)) is ∙ ap (λ d. list_all has_few (lines_at before d x goal)) (step_script-Claim shown inner rest)
+          ap (λ t. list_all has_few (lines_in_state before (step_script t rest) x goal)) is ∙ ap (λ d. list_all has_few (lines_in_state before d x goal)) (step_script-Claim shown inner rest)
           ∙ ap (list_all has_few) (claim_lines before shown inside x rest goal)
-          ∙ ap₂ {A = Bool} {B = Bool} (λ a b. a && b) (few_first x all) (all_both has_few (lines_at before inside x (goal_of shown)) (lines_at before rest later goal) block_few h);
+          ∙ ap₂ {A = Bool} {B = Bool} (λ a b. a && b) (few_first x all) (all_both has_few (lines_in_state before inside x (goal_of shown)) (lines_in_state before rest later goal) block_few h);
       kept = stay_all x.facts shown;
     })
 
 pub superposed_numbered : (before : List Stated) (step : Step) (form : Superpose) (names copies : List (List ℕ)) (shown seen again : List Lit) (certs given placed : List Cert) (inner : Box Block Global) (block numbered : Block) (x z w after : StepState) (o : Checkpoint) (s : Step)
     → step ≡ SuperposedStep form names shown certs inner → seen ≡ shown → again ≡ shown → copies ≡ names → given ≡ certs → block ≡ inner.value
-    → placed ≡ certs_with_places x.facts (superposing.needs form) given → z ≡ after_superposed form x
-    → script_of numbered ≡ places_at before (script_of block) z (goal_of seen) → HaveFew before (script_of block) z (goal_of seen) → o ≡ checkpoint_of x → KeepsFacts z w
+    → placed ≡ certs_with_places x.facts (superposing.needs form) given → z ≡ state_after_superposed form x
+    → script_of numbered ≡ places_at before (script_of block) z (goal_of seen) → HaveFew before (script_of block) z (goal_of seen) → o ≡ checkpoint_of x → KeepsFirstFacts z w
     → ((rest : Script) → step_script s rest ≡ Superposed form copies again placed (script_of numbered) rest) → after ≡ with_facts (joined_all (restored o w).facts again) (restored o w)
     → IsNumberedStep before (step_script step) x (step_script s) after
 superposed_numbered before step form names copies shown seen again certs given placed inner block numbered x z w after o s is same twice named cs at put begun block_is few e k made end =
-    let kept = kept_on x z w (subst (KeepsFacts x) (sym begun) (stay_all x.facts (superposing.gives form x.scope))) k in
+    let kept = kept_on x z w (subst (KeepsFirstFacts x) (sym begun) (stay_all x.facts (superposing.gives form x.scope))) k in
     let inside : Script = script_of inner.value in
-    let begin : StepState = after_superposed form x in
+    let begin : StepState = state_after_superposed form x in
     let later : StepState = with_facts (joined_all x.facts shown) x in
     let block_placed : script_of numbered ≡ places_at before inside begin (goal_of shown) =
     block_is ∙ ap (λ q. places_at before (script_of block) q (goal_of seen)) begun ∙ ap (λ b. places_at before (script_of b) begin (goal_of seen)) at ∙ ap (λ ls. places_at before inside begin (goal_of ls)) same in
@@ -203,9 +203,9 @@ superposed_numbered before step form names copies shown seen again certs given p
           ∙ ap (λ ls. Superposed form names ls placed (script_of numbered) (places_at before rest later goal)) twice
           ∙ ap₂ {A = List Cert} {B = Script} (λ ps d. Superposed form names shown ps d (places_at before rest later goal)) certs_placed block_placed);
       few = λ all rest goal h.
-          ap (λ t. list_all has_few (lines_at before (step_script t rest) x goal)) is ∙ ap (λ d. list_all has_few (lines_at before d x goal)) (step_script-Superposed form names shown certs inner rest)
+          ap (λ t. list_all has_few (lines_in_state before (step_script t rest) x goal)) is ∙ ap (λ d. list_all has_few (lines_in_state before d x goal)) (step_script-Superposed form names shown certs inner rest)
           ∙ ap (list_all has_few) (superposed_lines before form names shown certs inside x rest goal)
-          ∙ ap₂ {A = Bool} {B = Bool} (λ a b. a && b) (few_first x all) (all_both has_few (lines_at before inside begin (goal_of shown)) (lines_at before rest later goal) block_few h);
+          ∙ ap₂ {A = Bool} {B = Bool} (λ a b. a && b) (few_first x all) (all_both has_few (lines_in_state before inside begin (goal_of shown)) (lines_in_state before rest later goal) block_few h);
       kept = stay_all x.facts shown;
     })
 
@@ -255,7 +255,7 @@ qed_same before c k objects seen certs like x goal is same also e =
 
 pub qed_few : (before : List Stated) (c : Close) (objects : List Obj) (certs : List Cert) (x : StepState) (goal : Goal) → c ≡ QedClose objects certs → length x.facts < 2 ^ 32 → HaveFew before (close_script c) x goal
 qed_few before c objects certs x goal is few =
-    ap (λ d. list_all has_few (lines_at before d x goal)) (qed_is c objects certs is) ∙ few_close before (Qed objects certs) x goal few (qed_lines before objects certs x goal)
+    ap (λ d. list_all has_few (lines_in_state before d x goal)) (qed_is c objects certs is) ∙ few_close before (Qed objects certs) x goal few (qed_lines before objects certs x goal)
 
 contradiction_is : (c : Close) (against : Option Against) → c ≡ ContradictionClose against → close_script c ≡ Contradiction against
 contradiction_is c against is = ap close_script is ∙ close_script-Contradiction against
@@ -266,15 +266,15 @@ contradiction_same before c k against x goal is e = contradiction_numbered befor
 
 pub contradiction_few : (before : List Stated) (c : Close) (against : Option Against) (x : StepState) (goal : Goal) → c ≡ ContradictionClose against → length x.facts < 2 ^ 32 → HaveFew before (close_script c) x goal
 contradiction_few before c against x goal is few =
-    ap (λ d. list_all has_few (lines_at before d x goal)) (contradiction_is c against is) ∙ few_close before (Contradiction against) x goal few (contradiction_lines before against x goal)
+    ap (λ d. list_all has_few (lines_in_state before d x goal)) (contradiction_is c against is) ∙ few_close before (Contradiction against) x goal few (contradiction_lines before against x goal)
 
 -- ---- a split
 
 -- what holds after the first block
-pub after_cases : (x z w y after : StepState) (lit : Lit) (o : Checkpoint) → z ≡ with_facts (joined x.facts lit) x → o ≡ checkpoint_of x → KeepsFacts z w → y ≡ restored o w → after ≡ with_facts (joined y.facts (negation lit)) y
+pub after_cases : (x z w y after : StepState) (lit : Lit) (o : Checkpoint) → z ≡ with_facts (joined x.facts lit) x → o ≡ checkpoint_of x → KeepsFirstFacts z w → y ≡ restored o w → after ≡ with_facts (joined y.facts (negation lit)) y
     → after ≡ with_facts (joined x.facts (negation lit)) x
 after_cases x z w y after lit o begun e k left end =
-    let kept = kept_on x z w (subst (KeepsFacts x) (sym begun) (stay_joined x.facts lit)) k in
+    let kept = kept_on x z w (subst (KeepsFirstFacts x) (sym begun) (stay_joined x.facts lit)) k in
     end ∙ ap (λ q. with_facts (joined q.facts (negation lit)) q) (restored_is o x w y e kept left)
 
 pub cases_numbered : (before : List Stated) (c : Close) (lit : Lit) (first second : Box Block Global) (b1 b2 n1 n2 : Block) (x z after : StepState) (goal : Goal)
@@ -294,10 +294,10 @@ pub cases_few : (before : List Stated) (c : Close) (lit : Lit) (first second : B
 cases_few before c lit first second b1 b2 x z after goal all is at1 at2 begun few1 back few2 =
     let one = with_facts (joined x.facts lit) x in
     let two = with_facts (joined x.facts (negation lit)) x in
-    ap (λ d. list_all has_few (lines_at before d x goal)) (ap close_script is ∙ close_script-Cases lit first second)
+    ap (λ d. list_all has_few (lines_in_state before d x goal)) (ap close_script is ∙ close_script-Cases lit first second)
     ∙ ap (list_all has_few) (cases_lines before lit (script_of first.value) (script_of second.value) x goal)
     ∙ ap₂ {A = Bool} {B = Bool} (λ a b. a && b) (few_first x all)
-    (all_both has_few (lines_at before (script_of first.value) one goal) (lines_at before (script_of second.value) two goal)
+    (all_both has_few (lines_in_state before (script_of first.value) one goal) (lines_in_state before (script_of second.value) two goal)
     (subst (λ b. HaveFew before (script_of b) one goal) at1 (subst (λ q. HaveFew before (script_of b1) q goal) begun few1)) (subst (λ b. HaveFew before (script_of b) two goal) at2 (subst (λ q. HaveFew before (script_of b2) q goal) back few2)))
 
 -- ---- the steps of a block

@@ -12,16 +12,16 @@ use Rattle.e_verify.specs.declared.step_state.Checkpoint.{Checkpoint}
 use Rattle.e_verify.specs.declared.step_state.Goal.{Goal as CodeGoal}
 
 -- before the first line of a statement's proof
-abbrev pub start_of : Stated → StepState
-start_of t = record { scope = scope_of t; facts = facts_of_statement t }
+abbrev pub state_at_start : Stated → StepState
+state_at_start t = record { scope = scope_of t; facts = facts_of_statement t }
 
 -- with these facts in the place of its own
 abbrev pub with_facts : List Lit → StepState → StepState
 with_facts facts x = record x { facts = facts }
 
 -- what the block of a superposition begins with
-abbrev pub after_superposed : Superpose → StepState → StepState
-after_superposed form x = record { scope = grown x.scope superposing.made; facts = joined_all x.facts (superposing.gives form x.scope) }
+abbrev pub state_after_superposed : Superpose → StepState → StepState
+state_after_superposed form x = record { scope = grown x.scope superposing.made; facts = joined_all x.facts (superposing.gives form x.scope) }
 
 abbrev pub checkpoint_of : StepState → Checkpoint
 checkpoint_of x = record { scope = x.scope; facts = length x.facts }

@@ -28,5 +28,5 @@ abbrev pub at_key : List (ℕ × ℤ) → ℕ → ℤ
 at_key entries key = unwrap_or (lookup (λ k. is_eq (nat_cmp key k)) entries) (pos 0)
 
 -- the coefficient of the term, 0 where it is not there
-abbrev pub at : List (ℕ × ℤ) → Term → ℤ
-at entries t = if is_narrow t then at_key entries (term_key t) else pos 0
+abbrev pub total_at : List (ℕ × ℤ) → Term → ℤ
+total_at entries t = if is_narrow t then at_key entries (term_key t) else pos 0

@@ -12,11 +12,11 @@ use Rattle.e_verify.specs.declared.rows.Row.{Row as CodeRow}
 use Rattle.e_verify.specs.declared.rows.Row.TheVariants.{Sums, Pos, Top, Right, Least}
 use Rattle.e_verify.specs.declared.rows.RowScope.{RowScope}
 
-abbrev pub says_of : CodeSays → Says
-says_of Zero = says.Zero
-says_of AtLeast = says.AtLeast
-says_of More = says.More
-says_of Not = says.Not
+abbrev pub says_view : CodeSays → Says
+says_view Zero = says.Zero
+says_view AtLeast = says.AtLeast
+says_view More = says.More
+says_view Not = says.Not
 
 -- the form, or minus the form
 abbrev pub form_turned : Bool → Summands → Summands
@@ -24,14 +24,14 @@ form_turned true form = negative form
 form_turned false form = form
 
 abbrev pub row_view : CodeRow → Row
-row_view (Sums said x y turned) = record { says = says_of said; form = form_turned turned (normal_summands (plus x.now ++ minus y.now)) }
+row_view (Sums said x y turned) = record { says = says_view said; form = form_turned turned (normal_summands (plus x.now ++ minus y.now)) }
 row_view (Pos t) = pos_row t
 row_view (Top t) = top_row t
 row_view Right = right_row
 row_view (Least t) = least_row t
 
 abbrev pub comparison_view : Comparison → Row
-comparison_view c = record { says = says_of c.says; form = normal_summands (plus c.plus.now ++ minus c.minus.now) }
+comparison_view c = record { says = says_view c.says; form = normal_summands (plus c.plus.now ++ minus c.minus.now) }
 
 abbrev pub row_scope_view : RowScope → Place
 row_scope_view p = record { facts = p.facts.now; wanted = option_copied p.wanted; above = option_map row_view p.above; below = option_map row_view p.below }

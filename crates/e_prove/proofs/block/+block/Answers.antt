@@ -11,10 +11,10 @@ use Rattle.e_deriv.specs.declared.block.Close.TheVariants.{Qed}
 use Rattle.e_deriv.specs.Script.{Claim as ClaimScript, Superposed as SuperposedScript, script_of, step_script, close_script, size}
 use Rattle.e_deriv.specs.Goal.{goal_of, are_for, goal_with}
 use Rattle.e_construct.specs.Superposing as superposing
-use Rattle.e_prove.specs.inner.StepStates.{HasRoom, goal_view, after_literal, after_superposed}
+use Rattle.e_prove.specs.inner.StepStates.{HasRoomForMore, goal_view, after_literal, after_superposed}
 use Rattle.e_prove.specs.inner.Applications.{CanApply}
 use Rattle.e_prove.specs.inner.LicensedSteps.{IsLicensedStep, IsStopOfClose, IsStopOfStep}
-use Rattle.e_prove.specs.inner.PassedSteps.{IsReadyFor, IsReadyStep, IsDerived, IsPassed, StepsStop, StopsWithin}
+use Rattle.e_prove.specs.inner.PassedSteps.{IsReadyFor, IsReadyStep, IsDerivedFrom, IsPassed, StepsStop, StopsWithin}
 use Rattle.e_prove.proofs.LicensedLiterals.{ok_map, err_map}
 use Rattle.e_prove.proofs.Closes.{qed_fits}
 use Rattle.e_prove.proofs.PassedSteps.{numbered_passed, numbered_stops, numbered_close_stops, stops_for_memory, stops_as_memory}
@@ -181,7 +181,7 @@ prove_close-assume_not-requires t c =
     let other =
     split_second_ready (all_stated c.args.before.now) c.args.close.now lit c.in-Cases.first c.in-Cases.second (script_of c.in-Ok.one.block) x goal c.in-Cases.is
     (derived_outside (all_stated c.args.before.now) (script_of c.in-Cases.first.value) first c.assume.new.self goal (script_of c.in-Ok.one.block) hs entered
-    (subst (λ b. IsDerived (all_stated c.args.before.now) (script_of b) c.assume.new.self goal (script_of c.in-Ok.one.block)) c.deref.ensures c.in-Ok.ensures.derived))
+    (subst (λ b. IsDerivedFrom (all_stated c.args.before.now) (script_of b) c.assume.new.self goal (script_of c.in-Ok.one.block)) c.deref.ensures c.in-Ok.ensures.derived))
     c.requires.ready
     in
     let back =
@@ -201,7 +201,7 @@ prove_close-prove_block-requires-in-Cases t c =
     let other =
     split_second_ready (all_stated c.args.before.now) c.args.close.now lit c.in-Cases.first c.in-Cases.second (script_of c.in-Ok.one.block) x goal c.in-Cases.is
     (derived_outside (all_stated c.args.before.now) (script_of c.in-Cases.first.value) first c.assume.new.self goal (script_of c.in-Ok.one.block) hs entered
-    (subst (λ b. IsDerived (all_stated c.args.before.now) (script_of b) c.assume.new.self goal (script_of c.in-Ok.one.block)) c.deref.ensures c.in-Ok.ensures.derived))
+    (subst (λ b. IsDerivedFrom (all_stated c.args.before.now) (script_of b) c.assume.new.self goal (script_of c.in-Ok.one.block)) c.deref.ensures c.in-Ok.ensures.derived))
     c.requires.ready
     in
     let count = split_size c.args.close.now lit c.in-Cases.first c.in-Cases.second c.in-Cases.is in
@@ -270,9 +270,9 @@ prove_close-returns-in-Ok-prove_block-clause-derived t c =
     let begun = c.in-Ok-assume_not.ensures ∙ ap (after_literal (negation lit)) back in
     split_derived (all_stated c.args.before.now) c.args.close.now lit c.in-Cases.first c.in-Cases.second c.in-Ok.one.block c.in-Ok-prove_block.other.block x goal c.split.result c.in-Cases.is parts
     (derived_outside (all_stated c.args.before.now) (script_of c.in-Cases.first.value) first c.assume.new.self goal (script_of c.in-Ok.one.block) hs entered
-    (subst (λ b. IsDerived (all_stated c.args.before.now) (script_of b) c.assume.new.self goal (script_of c.in-Ok.one.block)) c.deref.ensures c.in-Ok.ensures.derived))
-    (subst (λ y. IsDerived (all_stated c.args.before.now) (script_of c.in-Cases.second.value) y goal (script_of c.in-Ok-prove_block.other.block)) begun
-    (subst (λ b. IsDerived (all_stated c.args.before.now) (script_of b) c.assume_not.new.self goal (script_of c.in-Ok-prove_block.other.block)) c.deref-in-Cases.ensures c.in-Ok-prove_block.ensures.derived))
+    (subst (λ b. IsDerivedFrom (all_stated c.args.before.now) (script_of b) c.assume.new.self goal (script_of c.in-Ok.one.block)) c.deref.ensures c.in-Ok.ensures.derived))
+    (subst (λ y. IsDerivedFrom (all_stated c.args.before.now) (script_of c.in-Cases.second.value) y goal (script_of c.in-Ok-prove_block.other.block)) begun
+    (subst (λ b. IsDerivedFrom (all_stated c.args.before.now) (script_of b) c.assume_not.new.self goal (script_of c.in-Ok-prove_block.other.block)) c.deref-in-Cases.ensures c.in-Ok-prove_block.ensures.derived))
     c.split.ensures.close
 
 pub prove_close-returns-in-Ok-prove_block-clause-next : goal.prove_close-returns-in-Ok-prove_block-clause-next
@@ -312,7 +312,7 @@ prove_close-returns-in-Err-prove_block-clause-err t c =
     let same = ap (λ b. size (script_of b)) c.deref.ensures in
     split_stops_second (all_stated c.args.before.now) c.args.close.now lit c.in-Cases.first c.in-Cases.second c.in-Ok.one.block x goal c.args.number c.in-Ok.one.next c.in-Err-prove_block.stop c.in-Cases.is parts
     (derived_outside (all_stated c.args.before.now) (script_of c.in-Cases.first.value) first c.assume.new.self goal (script_of c.in-Ok.one.block) hs entered
-    (subst (λ b. IsDerived (all_stated c.args.before.now) (script_of b) c.assume.new.self goal (script_of c.in-Ok.one.block)) c.deref.ensures c.in-Ok.ensures.derived))
+    (subst (λ b. IsDerivedFrom (all_stated c.args.before.now) (script_of b) c.assume.new.self goal (script_of c.in-Ok.one.block)) c.deref.ensures c.in-Ok.ensures.derived))
     (omega (arith, same, c.in-Ok.ensures.next))
     (subst (λ y. StopsWithin (all_stated c.args.before.now) (script_of c.in-Cases.second.value) y goal c.in-Ok.one.next c.in-Err-prove_block.stop) begun
     (subst (λ b. StopsWithin (all_stated c.args.before.now) (script_of b) c.assume_not.new.self goal c.in-Ok.one.next c.in-Err-prove_block.stop) c.deref-in-Cases.ensures c.in-Err-prove_block.ensures.err))
@@ -558,7 +558,7 @@ prove_superposed-superpose-requires-clause-room t c =
     let h = c.args.superposition.now in
     let x = c.args.state.now in
     let parts = superposed_begins (all_stated c.args.before.now) h.form.now h.names.now h.shown.now c.requires.0 (script_of c.args.inner.now) x c.args.number c.requires.1 in
-    subst (λ z. HasRoom z.context.scope) (sym c.in_ok-outer.ensures.held) (room_of_small x.context.scope parts.scope)
+    subst (λ z. HasRoomForMore z.context.scope) (sym c.in_ok-outer.ensures.held) (room_of_small x.context.scope parts.scope)
 
 pub prove_superposed-superpose-requires-clause-needs : goal.prove_superposed-superpose-requires-clause-needs
 prove_superposed-superpose-requires-clause-needs t c =

@@ -1,7 +1,7 @@
 use Rattle.std.proofs.Common.{below_more, ◌≡◌, ◌<◌, ◌∙◌, List, [], get_or, length, subst, sym, arith}
 use Rattle.e_clause.specs.Views.{row_of}
 use Rattle.e_transfer.specs.declared.equations.Equation.{Equation}
-use Rattle.e_transfer.specs.GivenGoals.{NoneWithEquations, signed}
+use Rattle.e_transfer.specs.GivenGoals.{NoneWithEquations, signed_literal}
 use Rattle.e_transfer.proofs.RuleSearches.{none_at, search_nothing}
 use Rattle.e_transfer.proofs.rule_search.search_place.Goals as goal
 
@@ -19,6 +19,6 @@ pub returns : goal.returns
 returns c =
     let s = c.args.query.now in
     let matches = c.in_ok-matches.matches.items in
-    none_at s.strength s.scope s.facts.now s.goal.now c.args.rule c.args.place (row_of c.args.row.now) (signed c.pattern_at-negated.result.1 c.pattern_at-negated.result.0) matches
+    none_at s.strength s.scope s.facts.now s.goal.now c.args.rule c.args.place (row_of c.args.row.now) (signed_literal c.pattern_at-negated.result.1 c.pattern_at-negated.result.0) matches
     c.requires.of_table c.pattern_at-negated.ensures c.in_ok-matches.ensures
     (λ k less. c.loop-equations.invariant k (omega (arith, less, c.loop-equations-test.false)))

@@ -3,7 +3,7 @@ use Rattle.e_theorem.specs.Statements.{all_stated}
 use Rattle.e_deriv.specs.declared.block.Close.TheViews.{the_lemmas}
 use Rattle.e_deriv.specs.Script.{script_of, step_script, close_script, Cite, Hence, Make, Apply, Claim, Superposed}
 use Rattle.e_verify.specs.inner.StepStates.{block_goal}
-use Rattle.e_verify.specs.Checking.{verdict_at, IsReadyFor, IsChecked, IsPassed, LinesReject}
+use Rattle.e_verify.specs.Checking.{verdict_at, IsCheckable, IsChecked, AreVerified, LinesReject}
 use Rattle.e_deriv.proofs.Keeping.{all_stay}
 use Rattle.e_verify.proofs.checking.PassedLines.{cite_line, hence_line, make_line, apply_line, line_passed, line_rejected}
 use Rattle.e_verify.proofs.checking.InnerBlocks.{step_ready, step_rejects, step_same, step_next, steps_end, kept_on, ok_as, err_as, few_one, few_step, formed_step, small_step, cite_parts, cite_is, hence_is, make_is, apply_is, hence_parts, make_parts, apply_parts, ready_as, all_passed_as, all_rejected_as, ok_with, err_with, few_lines, formed_lines, small_lines, claim_is, claim_ready, claim_fails, claim_stops, claim_done, superposed_is, superposed_parts, superposed_ready, tested_fits, superposed_fails, superposed_stops, superposed_done, qed_parts, contradiction_parts, qed_ok, qed_bad, contradiction_ok, contradiction_bad, split_fails, first_ready, first_stops, after_first, second_ready, split_same, kept_after_first}
@@ -50,7 +50,7 @@ pub verify_block-verify_close-requires : goal.verify_block-verify_close-requires
 verify_block-verify_close-requires t c =
     let end = steps_end c.args.block.now.steps.items c.deref-step-items.result.now (close_script c.args.block.now.close) c.loop-step.step-index c.deref-step-items.ensures.value c.loop-step-test.false in (
       search (rules, the_lemmas),
-      (subst (λ d. IsReadyFor (all_stated c.args.before.now) d c.loop-step.state (block_goal c.args.goal.now) c.loop-step.number) end c.loop-step.invariant.ready, c.requires.statements),
+      (subst (λ d. IsCheckable (all_stated c.args.before.now) d c.loop-step.state (block_goal c.args.goal.now) c.loop-step.number) end c.loop-step.invariant.ready, c.requires.statements),
     )
 
 pub verify_block-returns-clause-ok : goal.verify_block-returns-clause-ok
@@ -298,7 +298,7 @@ verify_step-returns-in-Superposed-clause-ok t c =
     all_passed_as before (whole y.names) (step_script c.args.step.now) c.args.state.now c.verify_superposed.new.state c.args.number c.verify_superposed.result
     (superposed_is c.args.step.now y.form y.names y.shown c.items-in-Superposed.result.now y.certs c.items-in-Superposed-2.result.now y.inner c.deref-in-Superposed.result.now y.is c.items-in-Superposed.ensures c.items-in-Superposed-2.ensures
     c.deref-in-Superposed.ensures)
-    (ok_with c.verify_superposed.result (λ m names. IsPassed before (whole names) c.args.state.now c.args.number c.verify_superposed.new.state m) y.names c.verify_superposed.ensures.ok)
+    (ok_with c.verify_superposed.result (λ m names. AreVerified before (whole names) c.args.state.now c.args.number c.verify_superposed.new.state m) y.names c.verify_superposed.ensures.ok)
 
 pub verify_step-returns-in-Superposed-clause-err : goal.verify_step-returns-in-Superposed-clause-err
 verify_step-returns-in-Superposed-clause-err t c =

@@ -2,7 +2,7 @@ use Rattle.std.proofs.Common.{◌≡◌, ◌+◌, ◌*◌, drop}
 use Rattle.e_theorem.specs.Statements.{all_stated}
 use Rattle.e_deriv.specs.Script.{script_of, steps_script, close_script}
 use Rattle.e_verify.specs.inner.StepStates.{block_goal}
-use Rattle.e_verify.specs.Checking.{verdict_at, IsReadyFor, KeepsFacts}
+use Rattle.e_verify.specs.Checking.{verdict_at, IsCheckable, KeepsFirstFacts}
 use Rattle.e_verify.proofs.block.+block.Given as goal
 
 -- by depth; a claim and a superposition are above their blocks and below their steps
@@ -26,6 +26,6 @@ invariant-verify_block-loop-step l =
     record {
       same : verdict_at (all_stated l.before) (steps_script (drop l.step-index l.block.steps.items) (close_script l.block.close)) l.state (block_goal l.goal) l.number
           ≡ verdict_at (all_stated l.before) (script_of l.block) l.initial.state (block_goal l.goal) l.first;
-      ready : IsReadyFor (all_stated l.before) (steps_script (drop l.step-index l.block.steps.items) (close_script l.block.close)) l.state (block_goal l.goal) l.number;
-      kept : KeepsFacts l.initial.state l.state;
+      ready : IsCheckable (all_stated l.before) (steps_script (drop l.step-index l.block.steps.items) (close_script l.block.close)) l.state (block_goal l.goal) l.number;
+      kept : KeepsFirstFacts l.initial.state l.state;
     }

@@ -4,7 +4,7 @@ use Rattle.e_literal.specs.Literal.{negation}
 use Rattle.e_theorem.specs.Statements.{all_stated}
 use Rattle.e_deriv.specs.Script.{Cite, Hence, Make, Apply, script_of, step_script, steps_script, close_script}
 use Rattle.e_verify.specs.inner.StepStates.{block_goal}
-use Rattle.e_verify.specs.Checking.{KeepsFacts}
+use Rattle.e_verify.specs.Checking.{KeepsFirstFacts}
 use Rattle.e_verify.specs.inner.Numbering.{HaveFew, IsNumberedStep, places_at}
 use Rattle.e_deriv.proofs.Keeping.{all_stay, stay_joined}
 use Rattle.e_verify.proofs.checking.InnerBlocks.{cite_is, hence_is, make_is, apply_is, kept_on, steps_end}
@@ -166,4 +166,4 @@ number_close-returns-in-Ok-number_block-clause-kept t c =
     c.in-Ok-assume_not.ensures
     in
     where_ok c.split.result
-    (kept_on x c.assume_not.new.self c.number_block-in-Cases.new.state (subst (KeepsFacts x) (sym back) (stay_joined x.facts (negation y.lit))) c.in-Ok-number_block.ensures.kept)
+    (kept_on x c.assume_not.new.self c.number_block-in-Cases.new.state (subst (KeepsFirstFacts x) (sym back) (stay_joined x.facts (negation y.lit))) c.in-Ok-number_block.ensures.kept)

@@ -3,7 +3,7 @@ use Rattle.e_theorem.specs.Statements.{all_stated}
 use Rattle.e_deriv.specs.Script.{script_of, steps_script, close_script}
 use Rattle.e_verify.specs.inner.StepStates.{block_goal}
 use Rattle.e_verify.specs.inner.Numbering.{HaveFew, places_at}
-use Rattle.e_verify.specs.Checking.{KeepsFacts}
+use Rattle.e_verify.specs.Checking.{KeepsFirstFacts}
 use Rattle.e_verify.proofs.numbering.+number.Given as goal
 
 abbrev pub decreases-number_block : goal.decreases-number_block
@@ -21,5 +21,5 @@ invariant-number_block-loop-step l =
       same : steps_script l.steps.items (places_at (all_stated l.before) (steps_script (drop l.step-index l.block.steps.items) (close_script l.block.close)) l.state (block_goal l.goal))
           ≡ places_at (all_stated l.before) (script_of l.block) l.initial.state (block_goal l.goal);
       few : HaveFew (all_stated l.before) (steps_script (drop l.step-index l.block.steps.items) (close_script l.block.close)) l.state (block_goal l.goal) → HaveFew (all_stated l.before) (script_of l.block) l.initial.state (block_goal l.goal);
-      kept : KeepsFacts l.initial.state l.state;
+      kept : KeepsFirstFacts l.initial.state l.state;
     }
