@@ -152,7 +152,8 @@ pub fn spans(
     declared: &[Obj],
     pattern: &[Option<Obj>],
 ) -> Result<Vec<Span>, AllocError>
-    ensures { IfOk result (λ spans. spans.items ≡ BlankChoices.spans_of scope declared.now pattern.now) }
+    ensures { IfOk result
+        (λ spans. spans.items ≡ BlankChoices.spans_of scope declared.now pattern.now) }
 {
     let mut spans = Vec::new(alloc);
     for (object, entry) in declared.iter().zip(pattern) {
@@ -183,7 +184,8 @@ pub fn arguments(
     pattern: &[Option<Obj>],
     part: &[u16],
 ) -> Result<Vec<Obj>, AllocError>
-    ensures { IfOk result (λ args. args.items ≡ BlankChoices.filled_arguments scope declared.now pattern.now part.now) }
+    ensures { IfOk result (λ args. args.items
+        ≡ BlankChoices.filled_arguments scope declared.now pattern.now part.now) }
 {
     let mut rest = part;
     let mut args = Vec::new(alloc);
@@ -224,7 +226,8 @@ fn left(entry: Option<Obj>, rest: &[u16]) -> &[u16]
 impl<'a> Blanks<'a> {
     /// The images of the declared objects by the first numbers of a choice.
     fn images(&self, alloc: Global, part: &[u16]) -> Result<Map, AllocError>
-        ensures { IfOk result (λ map. map ≡ BlankChoices.images_of_choice self.now.context.now.scope self.now.declared.items self.now.pattern.now part.now) }
+        ensures { IfOk result (λ map. map ≡ BlankChoices.images_of_choice self.now.context.now.scope
+            self.now.declared.items self.now.pattern.now part.now) }
     {
         let scope = self.context.scope();
         let args = arguments(alloc, scope, &self.declared, self.pattern, part)?;
@@ -268,7 +271,8 @@ impl<'a> Blanks<'a> {
         earlier: &Map,
         first: bool,
     ) -> Result<Verdict<()>, AllocError>
-        ensures { IfOk result (AllIs self.now.context.now images.now earlier.now first self.now.statement.now.given) }
+        ensures { IfOk result
+            (AllIs self.now.context.now images.now earlier.now first self.now.statement.now.given) }
     {
         for lit in self.statement.given.items() {
             match self.license_one(alloc, lit, images, earlier, first)? {
@@ -294,13 +298,16 @@ fn front(part: &[u16]) -> &[u16]
 impl<'a> Task for Blanks<'a> {
     type Proof = ();
 
-    ghost wanted = { λ s c. IsWanted s.context.now s.declared.items s.pattern.now s.statement.now.given c };
+    ghost wanted = { λ s c. IsWanted s.context.now s.declared.items s.pattern.now
+        s.statement.now.given c };
 
-    ghost kept = { λ s part. IsKeptChoice s.context.now s.declared.items s.pattern.now s.statement.now.given part };
+    ghost kept = { λ s part. IsKeptChoice s.context.now s.declared.items s.pattern.now
+        s.statement.now.given part };
 
     ghost shown = { λ s part p. Unit {0} };
 
-    ghost wide = { λ s part w. SomeIsWideAt s.context.now (BlankChoices.images_of_choice s.context.now.scope s.declared.items s.pattern.now part) s.statement.now.given w };
+    ghost wide = { λ s part w. SomeIsWideAt s.context.now (BlankChoices.images_of_choice
+        s.context.now.scope s.declared.items s.pattern.now part) s.statement.now.given w };
 
     fn check(&self, alloc: Global, part: &[u16]) -> Result<Verdict<()>, AllocError> {
         let images = self.images(alloc, part)?;

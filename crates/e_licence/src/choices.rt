@@ -153,7 +153,8 @@ fn as_found(
     found: &[Items<u16>],
     more: bool,
 ) -> Result<FirstChoices, AllocError>
-    ensures { IfOk result (λ f. f ≡ Found (map (filled_arguments scope declared.now pattern.now) found.now) more) }
+    ensures { IfOk result
+        (λ f. f ≡ Found (map (filled_arguments scope declared.now pattern.now) found.now) more) }
 {
     let choices = all_arguments(alloc, scope, declared, pattern, found)?;
     Ok(FirstChoices::Found { choices, more })
@@ -167,7 +168,8 @@ fn all_arguments(
     pattern: &[Option<Obj>],
     found: &[Items<u16>],
 ) -> Result<Items<Items<Obj>>, AllocError>
-    ensures { IfOk result (λ choices. choices ≡ map (filled_arguments scope declared.now pattern.now) found.now) }
+    ensures { IfOk result
+        (λ choices. choices ≡ map (filled_arguments scope declared.now pattern.now) found.now) }
 {
     let mut choices = Items::empty(alloc);
     for part in found {

@@ -42,7 +42,8 @@ impl Model for Context {
 
     ghost use Rattle.e_licence.specs.HeldStates.{held_in, IsContext};
 
-    ghost view = { λ c. record { scope = c.scope; facts = c.facts; held = map (held_in c.facts) c.held.items } };
+    ghost view = { λ c. record
+        { scope = c.scope; facts = c.facts; held = map (held_in c.facts) c.held.items } };
 
     ghost invariant = { λ c. IsContext c.scope c.facts c.held.items c.solved };
 }
@@ -113,7 +114,8 @@ impl Context {
     pub fn add(&mut self, lit: Lit) -> Result<Added, AllocError>
         requires { IsTrue (are_good_facts self.old.scope (joined self.old.facts lit)) }
         ensures added { IfOk result (AddedIs self.old.facts lit self.new.facts) }
-        ensures joined { OnOk result (self.new ≡ record self.old { facts = joined self.old.facts lit }) }
+        ensures joined { OnOk result
+            (self.new ≡ record self.old { facts = joined self.old.facts lit }) }
         ensures err { OnErr result (self.new ≡ self.old) }
     {
         self.facts.add(lit)
@@ -135,7 +137,8 @@ impl Context {
     ///
     /// It fails only out of memory, and then all is as before.
     pub fn hold(&mut self) -> Result<(), AllocError>
-        ensures ok { OnOk result (self.new ≡ record self.old { held = self.old.held ++ state_of self.old ∷ [] }) }
+        ensures ok { OnOk result
+            (self.new ≡ record self.old { held = self.old.held ++ state_of self.old ∷ [] }) }
         ensures err { OnErr result (self.new ≡ self.old) }
     {
         let solved = self.solved.take();

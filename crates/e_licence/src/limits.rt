@@ -31,7 +31,8 @@ pub const NOTHING: Scope = Scope {
 
 // Whether each literal is well formed and in scope.
 fn are_over(scope: Scope, lits: &[Lit]) -> bool
-    ensures { result ≡ list_all (λ l. WellFormed.is_well_formed l && all_in_scope scope l) lits.now }
+    ensures { result
+        ≡ list_all (λ l. WellFormed.is_well_formed l && all_in_scope scope l) lits.now }
 {
     lits.iter()
         .all(|lit| is_well_formed(lit) && in_scope(lit, scope))

@@ -49,7 +49,8 @@ pub fn sweep<T: Task>(
     most: usize,
 ) -> Result<Swept, AllocError>
     requires { length found.old ≤ most }
-    ensures { IfOk result (Sweeps (T.kept task.now) (T.wide task.now) (T.wanted task.now) spans.now most chosen.old.items chosen.new.items found.old found.new) }
+    ensures { IfOk result (Sweeps (T.kept task.now) (T.wide task.now) (T.wanted task.now) spans.now
+        most chosen.old.items chosen.new.items found.old found.new) }
 {
     let proof = match task.check(alloc, chosen)? {
         Verdict::Yes(proof) => proof,

@@ -42,7 +42,8 @@ fn keep(
     name: &RowName,
     multiplier: i128,
 ) -> Result<(), AllocError>
-    ensures { OnOk result (sum.new.items ≡ sum.old.items ++ Certificate.named_multipliers (name.now ∷ []) (multiplier ∷ [])) }
+    ensures { OnOk result (sum.new.items ≡ sum.old.items
+        ++ Certificate.named_multipliers (name.now ∷ []) (multiplier ∷ [])) }
 {
     if multiplier != 0 {
         sum.push((multiplier, copied(alloc, name)?))?;
@@ -91,7 +92,8 @@ fn use_row(
 #[tactic(auto, using(crate::proofs::sums::ZippedRows::ending))]
 fn used(alloc: Global, rows: &[Row], weights: &[i128]) -> Result<(Vec<Row>, Vec<i128>), AllocError>
     requires { length weights.now ≡ length rows.now }
-    ensures { IfOk result (λ u. (u.0.items ≡ Certificate.used_rows rows.now weights.now) × (u.1.items ≡ Certificate.used_weights rows.now weights.now)) }
+    ensures { IfOk result (λ u. (u.0.items ≡ Certificate.used_rows rows.now weights.now)
+        × (u.1.items ≡ Certificate.used_weights rows.now weights.now)) }
 {
     let mut used = Vec::new(alloc);
     let mut by = Vec::new(alloc);
@@ -110,7 +112,8 @@ fn add_leasts_of(
     terms: &[Term],
 ) -> Result<(), AllocError>
     requires { IsWeighable rows.now weights.now }
-    ensures { OnOk result (sum.new.items ≡ sum.old.items ++ leasts (Absurd.total (weighed rows.now weights.now)) terms.now) }
+    ensures { OnOk result (sum.new.items ≡ sum.old.items
+        ++ leasts (Absurd.total (weighed rows.now weights.now)) terms.now) }
 {
     for term in terms {
         let left = total(rows, weights, canonical(*term));
@@ -130,7 +133,8 @@ fn add_leasts(
     terms: &[Term],
 ) -> Result<(), AllocError>
     requires { IsWeighable rows.now weights.now }
-    ensures { OnOk result (sum.new.items ≡ sum.old.items ++ leasts (Absurd.total (weighed rows.now weights.now)) terms.now) }
+    ensures { OnOk result (sum.new.items ≡ sum.old.items
+        ++ leasts (Absurd.total (weighed rows.now weights.now)) terms.now) }
 {
     let (used, by) = used(alloc, rows, weights)?;
     add_leasts_of(sum, &used, &by, terms)
@@ -148,7 +152,8 @@ fn sum_of(
 ) -> Result<Sum, AllocError>
     requires names { length multipliers.now ≡ length names.now }
     requires rows { IsWeighable rows.now weights.now }
-    ensures { IfOk result (λ s. s ≡ Certificate.certificate_sum names.now rows.now multipliers.now weights.now terms.now) }
+    ensures { IfOk result (λ s. s
+        ≡ Certificate.certificate_sum names.now rows.now multipliers.now weights.now terms.now) }
 {
     let mut sum = kept(alloc, names, multipliers)?;
     add_leasts(&mut sum, alloc, rows, weights, terms)?;
@@ -191,7 +196,10 @@ fn two_sums(
     requires below_small { unsigned_abs (get_or below.now row (pos 0)) ≤ 2 ^ 80 }
     requires first { IsWeighable rows.now above.now }
     requires second { IsWeighable rows.now (Certificate.negated_place below.now row) }
-    ensures { IfOk result (λ s. s ≡ TwoSums (get_or names.items row name.Goal) (Certificate.certificate_sum (set names.items row name.Above) rows.now above.now above.now terms.now) (Certificate.certificate_sum (set names.items row name.Below) rows.now below.now (Certificate.negated_place below.now row) terms.now)) }
+    ensures { IfOk result (λ s. s ≡ TwoSums (get_or names.items row name.Goal)
+        (Certificate.certificate_sum (set names.items row name.Above) rows.now above.now above.now
+        terms.now) (Certificate.certificate_sum (set names.items row name.Below) rows.now below.now
+        (Certificate.negated_place below.now row) terms.now)) }
 {
     let weights = negated_at(alloc, below, row)?;
     let differs = name_row(&mut names, row, RowName::Above);
@@ -274,7 +282,8 @@ pub fn sums_of(
     requires few { length rows.now ≤ 4096 }
     requires coefficients { IsTrue (all_small rows.now) }
     requires refuted { IsAbsurdity (all_seen rows.now) absurdity.now }
-    ensures { IfOk result (λ s. s ≡ Certificate.certificate_sums names.items rows.now terms.now absurdity.now) }
+    ensures { IfOk result
+        (λ s. s ≡ Certificate.certificate_sums names.items rows.now terms.now absurdity.now) }
 {
     match absurdity {
         Absurdity::One(multipliers) => {

@@ -63,7 +63,8 @@ pub fn summed_terms(
     facts: &Facts,
     wanted: Option<&Lit>,
 ) -> Result<Vec<Term>, AllocError>
-    ensures { IfOk result (λ v. v.items ≡ with_listed (distinct_terms which facts.now (option_copied wanted.entry)) (Term.Right ∷ [])) }
+    ensures { IfOk result (λ v. v.items ≡ with_listed
+        (distinct_terms which facts.now (option_copied wanted.entry)) (Term.Right ∷ [])) }
 {
     let mut terms = terms_of_kind(alloc, which, facts, wanted)?;
     if !has_term(&terms, Term::Right) {
@@ -86,7 +87,9 @@ pub fn certificate_of(
     requires few { length rows.now ≤ 4096 }
     requires coefficients { IsTrue (all_small rows.now) }
     requires refuted { IsAbsurdity (all_seen rows.now) absurdity.now }
-    ensures { IfOk result (λ m. m.sums ≡ Certificate.certificate_sums names.items rows.now (with_listed (distinct_terms which facts.now (option_copied wanted.entry)) (Term.Right ∷ [])) absurdity.now) }
+    ensures { IfOk result (λ m. m.sums ≡ Certificate.certificate_sums names.items
+        rows.now (with_listed (distinct_terms which facts.now (option_copied wanted.entry))
+        (Term.Right ∷ [])) absurdity.now) }
 {
     let terms = summed_terms(alloc, which, facts, wanted)?;
     let sums = sums_of(alloc, names, rows, &terms, absurdity)?;
@@ -130,7 +133,8 @@ fn answers_of_both(
     requires few { length (terms_of_lits facts.now) ≤ 1100 }
     requires wanted { IsTrue (is_good_wanted (option_copied wanted)) }
     ensures one { IfOk result (λ p. IsKindAnswer one facts.now (option_copied wanted.entry) p.0) }
-    ensures other { IfOk result (λ p. IsKindAnswer other facts.now (option_copied wanted.entry) p.1) }
+    ensures other { IfOk result
+        (λ p. IsKindAnswer other facts.now (option_copied wanted.entry) p.1) }
 {
     let first = answer_of_kind(alloc, one, facts, wanted)?;
     match answer_of_kind(alloc, other, facts, wanted) {
@@ -154,9 +158,12 @@ fn answers_by_kind(
     requires few { length (terms_of_lits facts.now) ≤ 1100 }
     requires wanted { IsTrue (is_good_wanted (option_copied wanted)) }
     requires own_answer { IsKindAnswer which facts.now (option_copied wanted) own_answer }
-    ensures segments { IfOk result (λ b. IsKindAnswer Kind.Segment facts.now (option_copied wanted.entry) b.segments) }
-    ensures angles { IfOk result (λ b. IsKindAnswer Kind.Angle facts.now (option_copied wanted.entry) b.angles) }
-    ensures areas { IfOk result (λ b. IsKindAnswer Kind.Area facts.now (option_copied wanted.entry) b.areas) }
+    ensures segments { IfOk result
+        (λ b. IsKindAnswer Kind.Segment facts.now (option_copied wanted.entry) b.segments) }
+    ensures angles { IfOk result
+        (λ b. IsKindAnswer Kind.Angle facts.now (option_copied wanted.entry) b.angles) }
+    ensures areas { IfOk result
+        (λ b. IsKindAnswer Kind.Area facts.now (option_copied wanted.entry) b.areas) }
 {
     let (first, second) = other_kinds(which);
     match answers_of_both(alloc, first, second, facts, wanted) {

@@ -31,7 +31,8 @@ fn form_value(values: &[(Term, u128)], form: &[(i64, Term)]) -> Option<i128>
 
 // Whether a row is seen to be so.
 fn is_so(values: &[(Term, u128)], row: &Row) -> bool
-    ensures { result ≡ true → IsSo (says_of row.now.kind) (Solution.form_value row.now.form (Answer.assigned values.now)) }
+    ensures { result ≡ true → IsSo (says_of row.now.kind)
+        (Solution.form_value row.now.form (Answer.assigned values.now)) }
 {
     match form_value(values, row.form.summands()) {
         None => false,

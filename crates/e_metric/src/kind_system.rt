@@ -151,7 +151,8 @@ impl KindSystem {
         requires kind_system { IsKindSystem which (take from facts.now) self.now }
         requires facts { IsTrue (list_all is_well_formed facts.now) }
         requires few { length (terms_of_lits facts.now) ≤ 1100 }
-        ensures { IfOk result (λ o. MatchOption o (IsKindSystem which facts.now self.now) (IsKindSystem which facts.now)) }
+        ensures { IfOk result (λ o. MatchOption o (IsKindSystem which facts.now self.now)
+            (IsKindSystem which facts.now)) }
     {
         match self {
             KindSystem::Solved(solved_system) => grown(alloc, solved_system, which, facts, from),
@@ -178,7 +179,8 @@ fn grown(
     requires solved_system { IsSolvedSystem which (take from facts.now) solved_system.now }
     requires facts { IsTrue (list_all is_well_formed facts.now) }
     requires few { length (terms_of_lits facts.now) ≤ 1100 }
-    ensures { IfOk result (λ o. MatchOption o (IsSolvedSystem which facts.now solved_system.now) (IsKindSystem which facts.now)) }
+    ensures { IfOk result (λ o. MatchOption o (IsSolvedSystem which facts.now solved_system.now)
+        (IsKindSystem which facts.now)) }
 {
     let raised = count_term_rows(facts, &solved_system.terms);
     if raised == solved_system.raised {
@@ -207,10 +209,12 @@ fn with_rest(
 ) -> Result<Option<KindSystem>, AllocError>
     requires within { from ≤ length facts.now }
     requires solved_system { IsSolvedSystem which (take from facts.now) solved_system.now }
-    requires raised { solved_system.now.raised ≡ length (flat_map (rows_of_term facts.now) solved_system.now.terms.items) }
+    requires raised { solved_system.now.raised
+        ≡ length (flat_map (rows_of_term facts.now) solved_system.now.terms.items) }
     requires facts { IsTrue (list_all is_well_formed facts.now) }
     requires few { length (terms_of_lits facts.now) ≤ 1100 }
-    ensures { IfOk result (λ o. MatchOption o (IsSolvedSystem which facts.now solved_system.now) (IsKindSystem which facts.now)) }
+    ensures { IfOk result (λ o. MatchOption o (IsSolvedSystem which facts.now solved_system.now)
+        (IsKindSystem which facts.now)) }
 {
     let fresh = fresh_terms_of_facts(alloc, which, &solved_system.terms, facts, from)?;
     let named = rows_of_facts(alloc, which, facts, from, &fresh)?;
@@ -281,7 +285,8 @@ fn joined_system(
     requires facts { IsTrue (list_all is_well_formed facts.now) }
     requires few { length (terms_of_lits facts.now) ≤ 1100 }
     requires together { AreTogether which facts.now None solved_system.now names.now rows.now }
-    requires terms { solved_system.now.terms.items ++ fresh.now ≡ ListedTerms.distinct_terms which facts.now None }
+    requires terms { solved_system.now.terms.items ++ fresh.now
+        ≡ ListedTerms.distinct_terms which facts.now None }
     ensures { IfOk result (IsKindSystem which facts.now) }
 {
     match solved_system.settled.with(alloc, rows)? {

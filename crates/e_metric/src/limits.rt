@@ -24,7 +24,8 @@ fn is_of(which: Kind, term: Term) -> bool
 
 // Whether each monomial is of the kind, with a coefficient from 1 to 1,000,000.
 fn are_good(which: Kind, sum: &[Mono]) -> bool
-    ensures { result ≡ list_all (λ m. same_kind (kind_of_term m.term) which && is_good_coefficient m.coeff) sum.now }
+    ensures { result ≡ list_all
+        (λ m. same_kind (kind_of_term m.term) which && is_good_coefficient m.coeff) sum.now }
 {
     sum.iter().all(|m| is_of(which, m.term) && 1 <= m.coeff && m.coeff <= 1_000_000)
 }
@@ -93,7 +94,8 @@ fn capped_monomials(facts: &Facts) -> usize
 
 /// Whether each fact is well formed, and the metric facts have at most 1,100 monomials.
 pub fn are_few_facts(facts: &Facts) -> bool
-    ensures { result ≡ (list_all WellFormed.is_well_formed facts.now && nat_le (length (terms_of_lits facts.now)) 1100) }
+    ensures { result ≡ (list_all WellFormed.is_well_formed facts.now
+        && nat_le (length (terms_of_lits facts.now)) 1100) }
 {
     are_well_formed(facts) && capped_monomials(facts) <= 1100
 }

@@ -29,7 +29,8 @@ pub fn has_term(terms: &[Term], term: Term) -> bool
 
 // Puts the terms of a sum last that are none of those before.
 fn add_sum(terms: &mut Vec<Term>, sum: &[Mono]) -> Result<(), AllocError>
-    ensures { OnOk result (terms.new.items ≡ with_listed terms.old.items (map (λ m. m.term) sum.now)) }
+    ensures { OnOk result
+        (terms.new.items ≡ with_listed terms.old.items (map (λ m. m.term) sum.now)) }
 {
     for m in sum {
         if !has_term(terms, m.term) {
@@ -56,7 +57,8 @@ fn add_atom(terms: &mut Vec<Term>, atom: &Atom) -> Result<(), AllocError>
 // Puts the terms of a literal last that are none of those before, if it is of the kind.
 #[tactic(auto, using(crate::proofs::terms::FirstTerms::literal_terms))]
 fn add_literal(terms: &mut Vec<Term>, which: Kind, lit: &Lit) -> Result<(), AllocError>
-    ensures { OnOk result (terms.new.items ≡ with_listed terms.old.items (terms_of_lits (of_kind which (lit.now ∷ [])))) }
+    ensures { OnOk result (terms.new.items
+        ≡ with_listed terms.old.items (terms_of_lits (of_kind which (lit.now ∷ [])))) }
 {
     if is_of_kind(which, lit) {
         add_atom(terms, &lit.atom)?;
@@ -72,7 +74,8 @@ fn add_facts(
     from: usize,
 ) -> Result<(), AllocError>
     requires { from ≤ length facts.now }
-    ensures { OnOk result (terms.new.items ≡ with_listed terms.old.items (terms_of_lits (of_kind which (drop from facts.now)))) }
+    ensures { OnOk result (terms.new.items
+        ≡ with_listed terms.old.items (terms_of_lits (of_kind which (drop from facts.now)))) }
 {
     let count = facts.len();
     for k in 0..count - from {
@@ -83,7 +86,8 @@ fn add_facts(
 
 // The terms of the facts of a kind.
 fn terms_of_facts(alloc: Global, which: Kind, facts: &Facts) -> Result<Vec<Term>, AllocError>
-    ensures { IfOk result (λ v. v.items ≡ with_listed [] (terms_of_lits (of_kind which facts.now))) }
+    ensures { IfOk result
+        (λ v. v.items ≡ with_listed [] (terms_of_lits (of_kind which facts.now))) }
 {
     let mut terms = Vec::new(alloc);
     add_facts(&mut terms, which, facts, 0)?;
@@ -99,7 +103,8 @@ pub fn terms_of_kind(
     facts: &Facts,
     wanted: Option<&Lit>,
 ) -> Result<Vec<Term>, AllocError>
-    ensures { IfOk result (λ v. v.items ≡ distinct_terms which facts.now (option_copied wanted.entry)) }
+    ensures { IfOk result
+        (λ v. v.items ≡ distinct_terms which facts.now (option_copied wanted.entry)) }
 {
     let mut terms = terms_of_facts(alloc, which, facts)?;
     if let Some(lit) = wanted {
@@ -134,7 +139,8 @@ pub fn fresh_terms_of_facts(
     from: usize,
 ) -> Result<Vec<Term>, AllocError>
     requires { from ≤ length facts.now }
-    ensures { IfOk result (λ v. v.items ≡ FurtherRows.terms_added which terms.now (drop from facts.now)) }
+    ensures { IfOk result
+        (λ v. v.items ≡ FurtherRows.terms_added which terms.now (drop from facts.now)) }
 {
     let mut all = Vec::from_slice(alloc, terms)?;
     add_facts(&mut all, which, facts, from)?;

@@ -60,7 +60,9 @@ impl Slot {
         requires front { IsFront which facts.now self.now }
         requires facts { IsTrue (list_all is_well_formed facts.now) }
         requires few { length (terms_of_lits facts.now) ≤ 1100 }
-        ensures { IfOk result (λ o. MatchOption o (IfSome self.now.kind_system (IsKindSystem which facts.now)) (IsKindSystem which facts.now)) }
+        ensures { IfOk
+            result (λ o. MatchOption o (IfSome self.now.kind_system (IsKindSystem which facts.now))
+            (IsKindSystem which facts.now)) }
     {
         match &self.kind_system {
             Some(kind_system) => kind_system.grown(alloc, which, facts, self.upto),
@@ -188,7 +190,8 @@ impl Slot {
 
     // Forgets what is solved of more than the first facts.
     fn back_to(&mut self, count: usize)
-        ensures { (which : Kind) (facts : List Lit) → count ≤ length facts → IsFront which facts self.old → IsFront which (take count facts) self.new }
+        ensures { (which : Kind) (facts : List Lit) → count ≤ length facts
+            → IsFront which facts self.old → IsFront which (take count facts) self.new }
     {
         if self.is_within(count) {
             return;
@@ -265,7 +268,8 @@ impl MetricFacts {
     /// Forgets what is solved of more than the first `count` facts, where the others are taken
     /// away.
     pub fn back_to(&mut self, count: usize)
-        ensures { (facts : List Lit) → count ≤ length facts → AreFronts facts self.old → AreFronts (take count facts) self.new }
+        ensures { (facts : List Lit) → count ≤ length facts → AreFronts facts self.old
+            → AreFronts (take count facts) self.new }
     {
         self.systems.segments.back_to(count);
         self.systems.angles.back_to(count);
@@ -275,7 +279,8 @@ impl MetricFacts {
     /// The same of the same facts: where a block of a proof begins, so that what is solved of the
     /// facts before it is there again after it.
     pub fn copied(&self, alloc: Global) -> Result<MetricFacts, AllocError>
-        ensures { IfOk result (λ m. (facts : List Lit) → AreFronts facts self.now → AreFronts facts m) }
+        ensures { IfOk result (λ m. (facts : List Lit) → AreFronts facts self.now
+            → AreFronts facts m) }
     {
         let segments = self.systems.segments.copied(alloc)?;
         let angles = match self.systems.angles.copied(alloc) {
@@ -353,8 +358,10 @@ impl MetricFacts {
         requires wanted { IsTrue (is_good_wanted (option_copied wanted)) }
         requires one { of_kind one (against_goal (option_copied wanted)) ≡ [] }
         requires other { of_kind other (against_goal (option_copied wanted)) ≡ [] }
-        ensures one { IfOk result (λ p. IsKindAnswer one facts.now (option_copied wanted.entry) p.0) }
-        ensures other { IfOk result (λ p. IsKindAnswer other facts.now (option_copied wanted.entry) p.1) }
+        ensures one { IfOk result
+            (λ p. IsKindAnswer one facts.now (option_copied wanted.entry) p.0) }
+        ensures other { IfOk result
+            (λ p. IsKindAnswer other facts.now (option_copied wanted.entry) p.1) }
     {
         let first = self.answer_alone(alloc, one, facts, wanted)?;
         match self.answer_alone(alloc, other, facts, wanted) {
@@ -381,9 +388,12 @@ impl MetricFacts {
         requires goal { IsTrue (is_good_wanted (Some goal.now)) }
         requires kind { kind_of_atom goal.now.atom ≡ Some which }
         requires own_answer { IsKindAnswer which facts.now (Some goal.now) own_answer }
-        ensures segments { IfOk result (λ b. IsKindAnswer Kind.Segment facts.now (Some goal.now) b.segments) }
-        ensures angles { IfOk result (λ b. IsKindAnswer Kind.Angle facts.now (Some goal.now) b.angles) }
-        ensures areas { IfOk result (λ b. IsKindAnswer Kind.Area facts.now (Some goal.now) b.areas) }
+        ensures segments { IfOk result
+            (λ b. IsKindAnswer Kind.Segment facts.now (Some goal.now) b.segments) }
+        ensures angles { IfOk result
+            (λ b. IsKindAnswer Kind.Angle facts.now (Some goal.now) b.angles) }
+        ensures areas { IfOk result
+            (λ b. IsKindAnswer Kind.Area facts.now (Some goal.now) b.areas) }
     {
         let wanted = Some(goal);
         let (first, second) = other_kinds(which);

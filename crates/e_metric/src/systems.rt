@@ -96,7 +96,8 @@ fn add_term_rows(
     facts: &Facts,
     terms: &[Term],
 ) -> Result<(), AllocError>
-    ensures { OnOk result (GrowBy (flat_map (rows_of_term facts.now) terms.now) rows.old.items rows.new.items) }
+    ensures { OnOk result
+        (GrowBy (flat_map (rows_of_term facts.now) terms.now) rows.old.items rows.new.items) }
 {
     for term in terms {
         add_term_row(rows, alloc, facts, *term)?;
@@ -130,7 +131,8 @@ fn add_fact_row(
     fact: &Lit,
 ) -> Result<(), AllocError>
     requires { IsTrue (is_well_formed fact.now) }
-    ensures { OnOk result (GrowBy (rows_named (λ l. name.Fact l) (of_kind which (fact.now ∷ []))) rows.old.items rows.new.items) }
+    ensures { OnOk result (GrowBy (rows_named (λ l. name.Fact l) (of_kind which (fact.now ∷ [])))
+        rows.old.items rows.new.items) }
 {
     if is_of_kind(which, fact) {
         if let Some(row) = row_of(alloc, &fact.atom, fact.neg)? {
@@ -150,7 +152,9 @@ fn add_fact_rows(
 ) -> Result<(), AllocError>
     requires facts { IsTrue (list_all is_well_formed facts.now) }
     requires within { from ≤ length facts.now }
-    ensures { OnOk result (GrowBy (rows_named (λ l. name.Fact l) (of_kind which (drop from facts.now))) rows.old.items rows.new.items) }
+    ensures { OnOk result
+        (GrowBy (rows_named (λ l. name.Fact l) (of_kind which (drop from facts.now))) rows.old.items
+        rows.new.items) }
 {
     let count = facts.len();
     for k in 0..count - from {
@@ -167,7 +171,9 @@ fn add_negation_row(
     goal: &Lit,
 ) -> Result<(), AllocError>
     requires { IsTrue (is_well_formed goal.now) }
-    ensures { OnOk result (GrowBy (rows_named (λ l. name.Goal) (of_kind which (against_goal (Some goal.now)))) rows.old.items rows.new.items) }
+    ensures { OnOk
+        result (GrowBy (rows_named (λ l. name.Goal) (of_kind which (against_goal (Some goal.now))))
+        rows.old.items rows.new.items) }
 {
     if is_of_kind(which, goal) {
         if let Some(row) = row_of(alloc, &goal.atom, !goal.neg)? {
@@ -185,7 +191,9 @@ fn add_goal_row(
     goal: Option<&Lit>,
 ) -> Result<(), AllocError>
     requires { IsTrue (option_map_or is_well_formed (option_copied goal) true) }
-    ensures { OnOk result (GrowBy (rows_named (λ l. name.Goal) (of_kind which (against_goal (option_copied goal.entry)))) rows.old.items rows.new.items) }
+    ensures { OnOk result (GrowBy
+        (rows_named (λ l. name.Goal) (of_kind which (against_goal (option_copied goal.entry))))
+        rows.old.items rows.new.items) }
 {
     match goal {
         Some(lit) => add_negation_row(rows, alloc, which, lit),
@@ -205,7 +213,8 @@ pub fn system(
 ) -> Result<Vec<(RowName, Row)>, AllocError>
     requires facts { IsTrue (list_all is_well_formed facts.now) }
     requires goal { IsTrue (option_map_or is_well_formed (option_copied goal) true) }
-    ensures rows { IfOk result (λ v. AreRows (System.system which facts.now (option_copied goal.entry)) v.items) }
+    ensures rows { IfOk result
+        (λ v. AreRows (System.system which facts.now (option_copied goal.entry)) v.items) }
     ensures limited { IfOk result (λ v. AllLimited v.items) }
 {
     let mut rows = Vec::new(alloc);
@@ -227,7 +236,8 @@ pub fn rows_of_goal(
     goal: &Lit,
 ) -> Result<Vec<(RowName, Row)>, AllocError>
     requires { IsTrue (is_well_formed goal.now) }
-    ensures rows { IfOk result (λ v. AreRows (FurtherRows.rows_added_by_goal which facts.now fresh.now goal.now) v.items) }
+    ensures rows { IfOk result
+        (λ v. AreRows (FurtherRows.rows_added_by_goal which facts.now fresh.now goal.now) v.items) }
     ensures limited { IfOk result (λ v. AllLimited v.items) }
 {
     let mut rows = Vec::new(alloc);
@@ -247,7 +257,8 @@ pub fn rows_of_facts(
 ) -> Result<Vec<(RowName, Row)>, AllocError>
     requires facts { IsTrue (list_all is_well_formed facts.now) }
     requires within { from ≤ length facts.now }
-    ensures rows { IfOk result (λ v. AreRows (FurtherRows.rows_added_by_facts which facts.now (drop from facts.now) fresh.now) v.items) }
+    ensures rows { IfOk result (λ v. AreRows
+        (FurtherRows.rows_added_by_facts which facts.now (drop from facts.now) fresh.now) v.items) }
     ensures limited { IfOk result (λ v. AllLimited v.items) }
 {
     let mut rows = Vec::new(alloc);

@@ -52,12 +52,15 @@ pub fn prove_block(
     state: &mut StepState,
     first: u32,
 ) -> Result<ProvedBlock, Stop>
-    requires ready { IsReadyFor (all_stated before.now) (script_of block.now) state.old (goal_view goal.now) }
+    requires ready { IsReadyFor (all_stated before.now) (script_of block.now) state.old
+        (goal_view goal.now) }
     requires few { first + size (script_of block.now) < 2 ^ 32 }
-    ensures derived { IfOk result (λ p. IsDerivedFrom (all_stated before.now) (script_of block.now) state.old (goal_view goal.now) (script_of p.block)) }
+    ensures derived { IfOk result (λ p. IsDerivedFrom (all_stated before.now) (script_of block.now)
+        state.old (goal_view goal.now) (script_of p.block)) }
     ensures next { IfOk result (λ p. p.next ≡ first + size (script_of block.now)) }
     ensures kept { OnOk result (KeepsHeld state.old state.new) }
-    ensures err { IfErr result (StopsWithin (all_stated before.now) (script_of block.now) state.old (goal_view goal.now) first) }
+    ensures err { IfErr result (StopsWithin (all_stated before.now) (script_of block.now) state.old
+        (goal_view goal.now) first) }
 {
     let mut steps = Vec::new(alloc);
     let mut number = first;
@@ -92,7 +95,8 @@ pub fn prove_step(
     number: u32,
 ) -> Result<ProvedStep, Stop>
     requires { IsReadyStep (all_stated before.now) step.now state.old number }
-    ensures ok { IfOk result (λ p. IsPassed (all_stated before.now) (step_script step.now) state.old number (step_script p.step) state.new p.next) }
+    ensures ok { IfOk result (λ p. IsPassed (all_stated before.now) (step_script step.now) state.old
+        number (step_script p.step) state.new p.next) }
     ensures err { IfErr result (StepStops (all_stated before.now) step.now state.old number) }
 {
     match step {
@@ -153,9 +157,13 @@ fn prove_claim(
     state: &mut StepState,
     number: u32,
 ) -> Result<ProvedStep, Stop>
-    requires { AreReadySteps (all_stated before.now) (Claim shown.now (script_of inner.now)) state.old number }
-    ensures ok { IfOk result (λ p. IsPassed (all_stated before.now) (Claim shown.now (script_of inner.now)) state.old number (step_script p.step) state.new p.next) }
-    ensures err { IfErr result (StepsStop (all_stated before.now) (Claim shown.now (script_of inner.now)) state.old number) }
+    requires { AreReadySteps (all_stated before.now) (Claim shown.now (script_of inner.now))
+        state.old number }
+    ensures ok { IfOk result
+        (λ p. IsPassed (all_stated before.now) (Claim shown.now (script_of inner.now)) state.old
+        number (step_script p.step) state.new p.next) }
+    ensures err { IfErr result (StepsStop (all_stated before.now)
+        (Claim shown.now (script_of inner.now)) state.old number) }
 {
     let outer = state.hold(alloc)?;
     let goal = Goal { made: &[], shown };
@@ -186,9 +194,16 @@ fn prove_superposed(
     state: &mut StepState,
     number: u32,
 ) -> Result<ProvedStep, Stop>
-    requires { (certs : List Certificate) × AreReadySteps (all_stated before.now) (Superposed superposition.now.form.now superposition.now.names.now superposition.now.shown.now certs (script_of inner.now)) state.old number }
-    ensures ok { IfOk result (λ p. (certs : List Certificate) → IsPassed (all_stated before.now) (Superposed superposition.now.form.now superposition.now.names.now superposition.now.shown.now certs (script_of inner.now)) state.old number (step_script p.step) state.new p.next) }
-    ensures err { IfErr result (λ s. (certs : List Certificate) → StepsStop (all_stated before.now) (Superposed superposition.now.form.now superposition.now.names.now superposition.now.shown.now certs (script_of inner.now)) state.old number s) }
+    requires { (certs : List Certificate) × AreReadySteps
+        (all_stated before.now) (Superposed superposition.now.form.now superposition.now.names.now
+        superposition.now.shown.now certs (script_of inner.now)) state.old number }
+    ensures ok { IfOk result (λ p. (certs : List Certificate)
+        → IsPassed (all_stated before.now) (Superposed superposition.now.form.now
+        superposition.now.names.now superposition.now.shown.now certs (script_of inner.now))
+        state.old number (step_script p.step) state.new p.next) }
+    ensures err { IfErr result (λ s. (certs : List Certificate) → StepsStop
+        (all_stated before.now) (Superposed superposition.now.form.now superposition.now.names.now
+        superposition.now.shown.now certs (script_of inner.now)) state.old number s) }
 {
     let Superposition { form, names, shown } = *superposition;
     let outer = state.hold(alloc)?;
@@ -222,12 +237,15 @@ fn prove_close(
     state: &mut StepState,
     number: u32,
 ) -> Result<ProvedClose, Stop>
-    requires ready { IsReadyFor (all_stated before.now) (close_script close.now) state.old (goal_view goal.now) }
+    requires ready { IsReadyFor (all_stated before.now) (close_script close.now) state.old
+        (goal_view goal.now) }
     requires few { number + size (close_script close.now) < 2 ^ 32 }
-    ensures derived { IfOk result (λ p. IsDerivedFrom (all_stated before.now) (close_script close.now) state.old (goal_view goal.now) (close_script p.close)) }
+    ensures derived { IfOk result (λ p. IsDerivedFrom (all_stated before.now)
+        (close_script close.now) state.old (goal_view goal.now) (close_script p.close)) }
     ensures next { IfOk result (λ p. p.next ≡ number + size (close_script close.now)) }
     ensures kept { OnOk result (KeepsHeld state.old state.new) }
-    ensures err { IfErr result (StopsWithin (all_stated before.now) (close_script close.now) state.old (goal_view goal.now) number) }
+    ensures err { IfErr result (StopsWithin (all_stated before.now) (close_script close.now)
+        state.old (goal_view goal.now) number) }
 {
     match close {
         Close::Qed { objects, .. } => {

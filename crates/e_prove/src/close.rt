@@ -35,8 +35,10 @@ pub fn qed(
 ) -> Result<Close, StepStop>
     requires form { IsTrue (are_for (goal_view goal.now) context.old.scope objects.now) }
     requires lits { IsTrue (are_good context.old.scope (goal_at (goal_view goal.now) objects.now)) }
-    ensures ok { IfOk result (λ d. (before : List Stated) (certs : List Cert) → IsLicensedClose before (Qed objects.now certs) context.old (goal_view goal.now) d) }
-    ensures err { IfErr result (λ h. (before : List Stated) (certs : List Cert) → IsStopOfClose before (Qed objects.now certs) context.old (goal_view goal.now) h) }
+    ensures ok { IfOk result (λ d. (before : List Stated) (certs : List Cert)
+        → IsLicensedClose before (Qed objects.now certs) context.old (goal_view goal.now) d) }
+    ensures err { IfErr result (λ h. (before : List Stated) (certs : List Cert)
+        → IsStopOfClose before (Qed objects.now certs) context.old (goal_view goal.now) h) }
     ensures kept { context.new ≡ context.old }
 {
     let wanted = goal_with(alloc, goal, objects)?;
@@ -49,8 +51,12 @@ pub fn qed(
 
 /// A contradiction: the facts contradict each other.
 pub fn contradiction(alloc: Global, context: &mut Context) -> Result<Close, StepStop>
-    ensures ok { IfOk result (λ d. (before : List Stated) (goal : BlockGoal) (written : Option Against) → IsLicensedClose before (Contradiction written) context.old goal d) }
-    ensures err { IfErr result (λ h. (before : List Stated) (goal : BlockGoal) (written : Option Against) → IsStopOfClose before (Contradiction written) context.old goal h) }
+    ensures ok { IfOk
+        result (λ d. (before : List Stated) (goal : BlockGoal) (written : Option Against)
+        → IsLicensedClose before (Contradiction written) context.old goal d) }
+    ensures err { IfErr
+        result (λ h. (before : List Stated) (goal : BlockGoal) (written : Option Against)
+        → IsStopOfClose before (Contradiction written) context.old goal h) }
     ensures kept { context.new ≡ context.old }
 {
     let answer = context.against(alloc)?;

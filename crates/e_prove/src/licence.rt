@@ -23,7 +23,8 @@ use std::mem;
 /// A certificate of the literal, where it is allowed. The literals that it names are well formed.
 pub fn licensed(alloc: Global, context: &mut Context, lit: &Lit) -> Result<Cert, StepStop>
     requires { IsTrue (is_good context.old.scope lit.now) }
-    ensures ok { IfOk result (λ c. IsTrue (certifies context.old.scope context.old.facts lit.now c)) }
+    ensures ok { IfOk result
+        (λ c. IsTrue (certifies context.old.scope context.old.facts lit.now c)) }
     ensures written { IfOk result (λ c. IsTrue (is_cert_of version.One c)) }
     ensures err { IfErr result (StepStopsAmong context.old (lit.now ∷ [])) }
     ensures kept { context.new ≡ context.old }
@@ -36,7 +37,8 @@ pub fn licensed(alloc: Global, context: &mut Context, lit: &Lit) -> Result<Cert,
 /// that is not allowed, or too wide to be decided, stops it.
 pub fn licences(alloc: Global, context: &mut Context, lits: &[Lit]) -> Result<Vec<Cert>, StepStop>
     requires { IsTrue (are_good context.old.scope lits.now) }
-    ensures ok { IfOk result (λ cs. IsTrue (certify_all context.old.scope context.old.facts lits.now cs.items)) }
+    ensures ok { IfOk result
+        (λ cs. IsTrue (certify_all context.old.scope context.old.facts lits.now cs.items)) }
     ensures written { IfOk result (λ cs. IsTrue (list_all (is_cert_of version.One) cs.items)) }
     ensures err { IfErr result (StepStopsAmong context.old lits.now) }
     ensures kept { context.new ≡ context.old }
@@ -52,7 +54,8 @@ pub fn licences(alloc: Global, context: &mut Context, lits: &[Lit]) -> Result<Ve
 /// What is answered on a literal: its certificate, or a stop.
 fn to_cert(alloc: Global, context: &Context, lit: &Lit, answer: Licensed) -> Result<Cert, StepStop>
     requires { IsLicence context.now lit.now answer }
-    ensures ok { IfOk result (λ c. IsTrue (certifies context.now.scope context.now.facts lit.now c)) }
+    ensures ok { IfOk result
+        (λ c. IsTrue (certifies context.now.scope context.now.facts lit.now c)) }
     ensures written { IfOk result (λ c. IsTrue (is_cert_of version.One c)) }
     ensures err { IfErr result (StepStopsAmong context.now (lit.now ∷ [])) }
 {

@@ -36,12 +36,16 @@ pub fn context_at(
     theorem: &Theorem,
     step: u32,
 ) -> Result<Place, Stop>
-    requires fitting { IsFitting (all_stated before.now) (stated theorem.now.statement) (script_of theorem.now.block) }
+    requires fitting { IsFitting (all_stated before.now) (stated theorem.now.statement)
+        (script_of theorem.now.block) }
     requires first { 1 ≤ step }
     requires last { step ≤ size (script_of theorem.now.block) }
-    ensures place { IfOk result (IsPlace (all_stated before.now) (stated theorem.now.statement) theorem.now.names (script_of theorem.now.block) step) }
-    ensures stop { IfErr result (StopIs (all_stated before.now) (stated theorem.now.statement) (script_of theorem.now.block)) }
-    ensures names { IfErr result (HasNames (all_stated before.now) (stated theorem.now.statement) theorem.now.names (script_of theorem.now.block)) }
+    ensures place { IfOk result (IsPlace (all_stated before.now) (stated theorem.now.statement)
+        theorem.now.names (script_of theorem.now.block) step) }
+    ensures stop { IfErr result (StopIs (all_stated before.now) (stated theorem.now.statement)
+        (script_of theorem.now.block)) }
+    ensures names { IfErr result (HasNames (all_stated before.now) (stated theorem.now.statement)
+        theorem.now.names (script_of theorem.now.block)) }
     ensures earlier { IfErr result (IsStopBefore step) }
 {
     let statement = &theorem.statement;

@@ -22,8 +22,10 @@ use std::mem;
 
 /// How many step and close lines a step has, with those of the block inside it.
 fn lines_of(step: &Step) -> u32
-    requires { (rest : Script) → script_size (step_script step.now rest) < 2 ^ 32 + script_size rest }
-    ensures { (rest : Script) → script_size (step_script step.now rest) ≡ result + script_size rest }
+    requires { (rest : Script)
+        → script_size (step_script step.now rest) < 2 ^ 32 + script_size rest }
+    ensures { (rest : Script)
+        → script_size (step_script step.now rest) ≡ result + script_size rest }
 {
     match step {
         Step::Cite(_) => 1,
@@ -48,12 +50,15 @@ pub fn reach(
     first: u32,
     target: u32,
 ) -> Result<(), Stop>
-    requires ready { IsReadyFor (all_stated before.now) (script_of block.now) state.old (goal_view goal.now) }
+    requires ready { IsReadyFor (all_stated before.now) (script_of block.now) state.old
+        (goal_view goal.now) }
     requires few { first + script_size (script_of block.now) < 2 ^ 32 }
     requires from { first ≤ target }
     requires within { target < first + script_size (script_of block.now) }
-    ensures reached { OnOk result (ReachesStep (all_stated before.now) (script_of block.now) state.old (goal_view goal.now) first target state.new) }
-    ensures err { IfErr result (StopsWithin (all_stated before.now) (script_of block.now) state.old (goal_view goal.now) first) }
+    ensures reached { OnOk result (ReachesStep (all_stated before.now) (script_of block.now)
+        state.old (goal_view goal.now) first target state.new) }
+    ensures err { IfErr result (StopsWithin (all_stated before.now) (script_of block.now) state.old
+        (goal_view goal.now) first) }
     ensures earlier { IfErr result (IsStopBefore target) }
 {
     let mut number = first;
@@ -92,8 +97,10 @@ fn enter_step(
 ) -> Result<(), Stop>
     requires ready { IsReadyStep (all_stated before.now) step.now state.old number }
     requires inside { number < target }
-    requires within { (rest : Script) → target + script_size rest < number + script_size (step_script step.now rest) }
-    ensures reached { OnOk result (ReachesInStep (all_stated before.now) step.now state.old number target state.new) }
+    requires within { (rest : Script)
+        → target + script_size rest < number + script_size (step_script step.now rest) }
+    ensures reached { OnOk result
+        (ReachesInStep (all_stated before.now) step.now state.old number target state.new) }
     ensures err { IfErr result (StepStops (all_stated before.now) step.now state.old number) }
     ensures earlier { IfErr result (IsStopBefore target) }
 {
@@ -141,12 +148,15 @@ fn enter_close(
     number: u32,
     target: u32,
 ) -> Result<(), Stop>
-    requires ready { IsReadyFor (all_stated before.now) (close_script close.now) state.old (goal_view goal.now) }
+    requires ready { IsReadyFor (all_stated before.now) (close_script close.now) state.old
+        (goal_view goal.now) }
     requires few { number + script_size (close_script close.now) < 2 ^ 32 }
     requires inside { number < target }
     requires within { target < number + script_size (close_script close.now) }
-    ensures reached { OnOk result (ReachesStep (all_stated before.now) (close_script close.now) state.old (goal_view goal.now) number target state.new) }
-    ensures err { IfErr result (StopsWithin (all_stated before.now) (close_script close.now) state.old (goal_view goal.now) number) }
+    ensures reached { OnOk result (ReachesStep (all_stated before.now) (close_script close.now)
+        state.old (goal_view goal.now) number target state.new) }
+    ensures err { IfErr result (StopsWithin (all_stated before.now) (close_script close.now)
+        state.old (goal_view goal.now) number) }
     ensures earlier { IfErr result (IsStopBefore target) }
 {
     match close {
@@ -178,11 +188,17 @@ fn pass_first(
     state: &mut StepState,
     first: u32,
 ) -> Result<(), Stop>
-    requires ready { IsReadyFor (all_stated before.now) (script_of block.now) (after_literal lit.now state.old) (goal_view goal.now) }
+    requires ready { IsReadyFor (all_stated before.now) (script_of block.now)
+        (after_literal lit.now state.old) (goal_view goal.now) }
     requires few { first + script_size (script_of block.now) < 2 ^ 32 }
-    requires second { (derived : Script) → IsDerivedFrom (all_stated before.now) (script_of block.now) (after_literal lit.now state.old) (goal_view goal.now) derived → IsTrue (are_good_facts state.old.context.scope (joined state.old.context.facts (negation lit.now))) }
-    ensures passed { OnOk result (IsFirstPassed (all_stated before.now) lit.now (script_of block.now) state.old (goal_view goal.now) state.new) }
-    ensures err { IfErr result (StopsWithin (all_stated before.now) (script_of block.now) (after_literal lit.now state.old) (goal_view goal.now) first) }
+    requires second { (derived : Script) → IsDerivedFrom (all_stated before.now)
+        (script_of block.now) (after_literal lit.now state.old) (goal_view goal.now) derived
+        → IsTrue (are_good_facts state.old.context.scope
+        (joined state.old.context.facts (negation lit.now))) }
+    ensures passed { OnOk result (IsFirstPassed (all_stated before.now) lit.now
+        (script_of block.now) state.old (goal_view goal.now) state.new) }
+    ensures err { IfErr result (StopsWithin (all_stated before.now) (script_of block.now)
+        (after_literal lit.now state.old) (goal_view goal.now) first) }
 {
     let outer = state.hold(alloc)?;
     state.assume(alloc, lit)?;

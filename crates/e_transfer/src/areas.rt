@@ -32,7 +32,8 @@ fn add_sum(areas: &mut Vec<Term>, sum: &[Mono]) -> Result<(), AllocError>
 }
 
 fn add_areas(areas: &mut Vec<Term>, fact: &Lit) -> Result<(), AllocError>
-    ensures { OnOk result (ListsAlso (terms_of_atom fact.now.atom) areas.old.items areas.new.items) }
+    ensures { OnOk result
+        (ListsAlso (terms_of_atom fact.now.atom) areas.old.items areas.new.items) }
 {
     if let Atom::MagEq(x, y) | Atom::MagLt(x, y) = &fact.atom {
         add_sum(areas, x.items())?;

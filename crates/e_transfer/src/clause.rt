@@ -33,7 +33,8 @@ pub fn pattern_at(row: &Row, at: usize) -> (Pattern, bool)
 /// The literal at a place of the clause, with these arguments.
 pub fn literal_at(alloc: Global, row: &Row, args: &[Obj], at: usize) -> Result<Lit, AllocError>
     requires { at < length (clause_of (row_of row.now)) }
-    ensures { IfOk result (λ l. slice_get (map (lit_at (row_of row.now) args.now) (clause_of (row_of row.now))) at ≡ Some l) }
+    ensures { IfOk result (λ l. slice_get
+        (map (lit_at (row_of row.now) args.now) (clause_of (row_of row.now))) at ≡ Some l) }
 {
     let (pattern, negated) = pattern_at(row, at);
     literal(alloc, row, args, &pattern, negated)

@@ -78,7 +78,8 @@ pub fn equations_of_atom(
     shape: &Shape,
     goal: &Atom,
 ) -> Result<Option<Items<Equation>>, AllocError>
-    ensures { IfOk result (λ o. o ≡ Equations.equations_from_atom (row_of row.now) (atom_of shape.now) goal.now) }
+    ensures { IfOk result
+        (λ o. o ≡ Equations.equations_from_atom (row_of row.now) (atom_of shape.now) goal.now) }
 {
     let equations = match (shape, goal) {
         (Shape::On(x, l), Atom::On(a, b)) => two(alloc, point(*x, *a), line(row, *l, *b)),

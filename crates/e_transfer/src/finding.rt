@@ -164,7 +164,8 @@ fn find_where_wide(alloc: Global, query: &Query, width: u128) -> Result<Found, A
 /// The same, where a literal that an instance needs has a wide system, of this width: those are
 /// passed over.
 fn find_narrow(alloc: Global, query: &Query, width: u128) -> Result<Found, AllocError>
-    requires not_plain { ¬ TransferFromFacts query.now.scope query.now.facts.now query.now.goal.now }
+    requires not_plain { ¬ TransferFromFacts query.now.scope query.now.facts.now
+        query.now.goal.now }
     requires wide { IsWideTransfer query.now.scope query.now.facts.now query.now.goal.now width }
     ensures { IfOk result (IsFound query.now.scope query.now.facts.now query.now.goal.now) }
 {

@@ -82,7 +82,8 @@ fn part_of(alloc: Global, query: &Query, need: &Lit) -> Result<Verdict<Part>, Al
 fn parts_of(alloc: Global, query: &Query, needs: &[Lit]) -> Result<Verdict<Items<Part>>, AllocError>
     requires well_formed { IsTrue (list_all is_well_formed needs.now) }
     requires in_scope { IsTrue (list_all (all_in_scope query.now.scope) needs.now) }
-    ensures { IfOk result (PartsAre query.now.strength query.now.scope query.now.facts.now needs.now) }
+    ensures { IfOk result
+        (PartsAre query.now.strength query.now.scope query.now.facts.now needs.now) }
 {
     let mut parts = Items::empty(alloc);
     for need in needs {
@@ -106,7 +107,8 @@ fn diagrams_hold(facts: &Facts, needs: &[Lit]) -> bool
 
 /// Adds the negation of a literal that is not the goal.
 fn add_need(needs: &mut Vec<Lit>, lit: Lit, goal: &Lit) -> Result<(), AllocError>
-    ensures { OnOk result (needs.new.items ≡ needs.old.items ++ GivenGoals.needs_beside (lit ∷ []) goal.now) }
+    ensures { OnOk result
+        (needs.new.items ≡ needs.old.items ++ GivenGoals.needs_beside (lit ∷ []) goal.now) }
 {
     if !same(&lit, goal) {
         needs.push(negate(lit))?;
@@ -149,7 +151,8 @@ pub fn check_instance(
     args: Items<Obj>,
 ) -> Result<Verdict<TransferCert>, AllocError>
     requires { IsTrue (is_transfer rule) }
-    ensures { IfOk result (InstanceIs query.now.strength query.now.scope query.now.facts.now query.now.goal.now rule args) }
+    ensures { IfOk result (InstanceIs query.now.strength query.now.scope query.now.facts.now
+        query.now.goal.now rule args) }
 {
     if !are_in_scope(query.scope, args.items()) {
         return Ok(Verdict::No);

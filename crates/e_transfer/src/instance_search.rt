@@ -61,7 +61,8 @@ fn arguments(
     positions: &[usize],
     part: &[u16],
 ) -> Result<Items<Obj>, AllocError>
-    ensures { IfOk result (λ a. a ≡ PartsOfChoices.chosen_arguments (row_of row.now) positions.now part.now) }
+    ensures { IfOk result
+        (λ a. a ≡ PartsOfChoices.chosen_arguments (row_of row.now) positions.now part.now) }
 {
     let mut args = Vec::with_capacity(alloc, positions.len())?;
     for v in 0..positions.len() {
@@ -102,7 +103,8 @@ fn may_suffice(query: &Query, need: &Lit) -> bool
 /// Whether a literal of an instance may be what it has to be: at the goal's place the goal,
 /// elsewhere the goal or one whose negation may hold.
 fn may_hold(query: &Query, here: bool, lit: Lit) -> bool
-    ensures { result ≡ false → IsFittingLiteral query.now.strength query.now.facts.now query.now.goal.now here lit → ⊥ }
+    ensures { result ≡ false
+        → IsFittingLiteral query.now.strength query.now.facts.now query.now.goal.now here lit → ⊥ }
 {
     if same(&lit, query.goal) {
         mem::drop(lit);
@@ -162,8 +164,11 @@ impl<'a> InstanceSearch<'a> {
     /// is.
     fn has_free_area(&self, row: &Row, part: &[u16], args: &[Obj], at: usize) -> bool
         requires of_table { slice_get table self.now.rule ≡ Some (row_of row.now) }
-        requires arguments { args.now ≡ PartsOfChoices.chosen_arguments (row_of row.now) self.now.plan.now.positions.items part.now }
-        ensures { result ≡ true → NoneFrom self.now.query.strength self.now.query.scope self.now.query.facts.now self.now.query.goal.now self.now.rule self.now.place self.now.plan.now part.now }
+        requires arguments { args.now ≡ PartsOfChoices.chosen_arguments (row_of row.now)
+            self.now.plan.now.positions.items part.now }
+        ensures { result ≡ true
+            → NoneFrom self.now.query.strength self.now.query.scope self.now.query.facts.now
+            self.now.query.goal.now self.now.rule self.now.place self.now.plan.now part.now }
     {
         if at >= clause_len(row) || at == self.place || is_equation(self.query.goal) {
             return false;
@@ -189,9 +194,12 @@ impl<'a> InstanceSearch<'a> {
         j: usize,
     ) -> Result<bool, AllocError>
         requires of_table { slice_get table self.now.rule ≡ Some (row_of row.now) }
-        requires arguments { args.now ≡ PartsOfChoices.chosen_arguments (row_of row.now) self.now.plan.now.positions.items part.now }
+        requires arguments { args.now ≡ PartsOfChoices.chosen_arguments (row_of row.now)
+            self.now.plan.now.positions.items part.now }
         requires in_clause { j < length (clause_of (row_of row.now)) }
-        ensures { IfOk result (λ b. b ≡ true → NoneFrom self.now.query.strength self.now.query.scope self.now.query.facts.now self.now.query.goal.now self.now.rule self.now.place self.now.plan.now part.now) }
+        ensures { IfOk result (λ b. b ≡ true
+            → NoneFrom self.now.query.strength self.now.query.scope self.now.query.facts.now
+            self.now.query.goal.now self.now.rule self.now.place self.now.plan.now part.now) }
     {
         if !is_completed(&self.plan.ready_at, j, part.len()) {
             return Ok(false);
@@ -209,8 +217,11 @@ impl<'a> InstanceSearch<'a> {
         args: &[Obj],
     ) -> Result<bool, AllocError>
         requires of_table { slice_get table self.now.rule ≡ Some (row_of row.now) }
-        requires arguments { args.now ≡ PartsOfChoices.chosen_arguments (row_of row.now) self.now.plan.now.positions.items part.now }
-        ensures { IfOk result (λ b. b ≡ false → NoneFrom self.now.query.strength self.now.query.scope self.now.query.facts.now self.now.query.goal.now self.now.rule self.now.place self.now.plan.now part.now) }
+        requires arguments { args.now ≡ PartsOfChoices.chosen_arguments (row_of row.now)
+            self.now.plan.now.positions.items part.now }
+        ensures { IfOk result (λ b. b ≡ false
+            → NoneFrom self.now.query.strength self.now.query.scope self.now.query.facts.now
+            self.now.query.goal.now self.now.rule self.now.place self.now.plan.now part.now) }
     {
         for j in 0..clause_len(row) {
             if self.is_excluded(alloc, row, part, args, j)? {
@@ -224,13 +235,16 @@ impl<'a> InstanceSearch<'a> {
 impl<'a> Task for InstanceSearch<'a> {
     type Proof = Option<TransferCert>;
 
-    ghost wanted = { λ s c. Wanted s.query.strength s.query.scope s.query.facts.now s.query.goal.now s.rule s.place s.plan.now c };
+    ghost wanted = { λ s c. Wanted s.query.strength s.query.scope s.query.facts.now s.query.goal.now
+        s.rule s.place s.plan.now c };
 
     ghost kept = { λ s part. Unit {0} };
 
-    ghost shown = { λ s part p. Shown s.query.scope s.query.facts.now s.query.goal.now (length s.plan.now.spans.items) part p };
+    ghost shown = { λ s part p. Shown s.query.scope s.query.facts.now s.query.goal.now
+        (length s.plan.now.spans.items) part p };
 
-    ghost wide = { λ s part w. (s.query.strength ≡ strength.Sums) × IsWideTransfer s.query.scope s.query.facts.now s.query.goal.now w };
+    ghost wide = { λ s part w. (s.query.strength ≡ strength.Sums)
+        × IsWideTransfer s.query.scope s.query.facts.now s.query.goal.now w };
 
     fn check(
         &self,

@@ -129,7 +129,8 @@ fn is_strict_of_areas(neg: bool, shape: &Shape) -> bool
 
 /// The atom of a pattern, or of its negation, and its sign.
 fn parts(pattern: &Pattern, negated: bool) -> (Shape, bool)
-    ensures { signed_literal negated pattern.now ≡ record { neg = result.1; atom = atom_of result.0 } }
+    ensures { signed_literal negated pattern.now
+        ≡ record { neg = result.1; atom = atom_of result.0 } }
 {
     match pattern {
         Pattern::Is(shape) => (*shape, negated),
@@ -141,7 +142,8 @@ fn parts(pattern: &Pattern, negated: bool) -> (Shape, bool)
 /// areas differ, or that one is less, and there are values with which the facts are true and all
 /// areas are 0.
 fn may_follow(query: &Query, neg: bool, shape: &Shape) -> bool
-    ensures { result ≡ false → Marks.NoneSuffices query.now.strength query.now.facts.now (record { neg = neg; atom = atom_of shape.now }) }
+    ensures { result ≡ false → Marks.NoneSuffices query.now.strength query.now.facts.now
+        (record { neg = neg; atom = atom_of shape.now }) }
 {
     let relation = relation_of(shape);
     if relation < OF_DIAGRAMS {
@@ -155,7 +157,8 @@ fn may_follow(query: &Query, neg: bool, shape: &Shape) -> bool
 
 /// Whether a literal of this relation and sign may hold.
 fn may_suffice(query: &Query, neg: bool, shape: &Shape) -> bool
-    ensures { result ≡ false → Marks.NoneSuffices query.now.strength query.now.facts.now (record { neg = neg; atom = atom_of shape.now }) }
+    ensures { result ≡ false → Marks.NoneSuffices query.now.strength query.now.facts.now
+        (record { neg = neg; atom = atom_of shape.now }) }
 {
     match query.strength {
         Strength::Facts => query.marks[mark(relation_of(shape), neg)],
@@ -167,7 +170,8 @@ fn may_suffice(query: &Query, neg: bool, shape: &Shape) -> bool
 /// holds.
 fn may_hold(query: &Query, row: &Row, at: usize) -> bool
     requires { at < length (clause_of (row_of row.now)) }
-    ensures { result ≡ false → NoneHolds query.now.strength query.now.facts.now query.now.goal.now (row_of row.now) at }
+    ensures { result ≡ false
+        → NoneHolds query.now.strength query.now.facts.now query.now.goal.now (row_of row.now) at }
 {
     let (pattern, negated) = pattern_at(row, at);
     let (shape, neg) = parts(&pattern, negated);
@@ -177,7 +181,8 @@ fn may_hold(query: &Query, row: &Row, at: usize) -> bool
 /// Whether the place is the goal's, or the literal there may hold.
 fn may_be(query: &Query, row: &Row, place: usize, at: usize) -> bool
     requires { at < length (clause_of (row_of row.now)) }
-    ensures { result ≡ false → (at ≢ place) × NoneHolds query.now.strength query.now.facts.now query.now.goal.now (row_of row.now) at }
+    ensures { result ≡ false → (at ≢ place)
+        × NoneHolds query.now.strength query.now.facts.now query.now.goal.now (row_of row.now) at }
 {
     at == place || may_hold(query, row, at)
 }
@@ -185,7 +190,8 @@ fn may_be(query: &Query, row: &Row, place: usize, at: usize) -> bool
 /// Whether each literal of the clause but the one at this place may hold.
 pub fn may_all_hold(query: &Query, rule: Rule, row: &Row, place: usize) -> bool
     requires { slice_get table rule ≡ Some (row_of row.now) }
-    ensures { result ≡ false → NoneAt query.now.strength query.now.scope query.now.facts.now query.now.goal.now rule place }
+    ensures { result ≡ false → NoneAt query.now.strength query.now.scope query.now.facts.now
+        query.now.goal.now rule place }
 {
     for at in 0..clause_len(row) {
         if !may_be(query, row, place, at) {

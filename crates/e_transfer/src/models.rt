@@ -158,7 +158,8 @@ fn may_have(facts: &Facts, filling: Filling, values: &[(Term, u128)], term: Term
 }
 
 fn all_may_have(facts: &Facts, filling: Filling, values: &[(Term, u128)], sum: &[Mono]) -> bool
-    ensures { result ≡ true → IsTrue (fits_terms facts.now (value_by filling values.now) (map (λ m. m.term) sum.now)) }
+    ensures { result ≡ true
+        → IsTrue (fits_terms facts.now (value_by filling values.now) (map (λ m. m.term) sum.now)) }
 {
     match sum {
         [] => true,
@@ -170,7 +171,8 @@ fn all_may_have(facts: &Facts, filling: Filling, values: &[(Term, u128)], sum: &
 
 /// Whether the terms of a literal may have their values.
 fn literal_fits(facts: &Facts, filling: Filling, values: &[(Term, u128)], lit: &Lit) -> bool
-    ensures { result ≡ true → IsTrue (fits_terms facts.now (value_by filling values.now) (terms_of_atom lit.now.atom)) }
+    ensures { result ≡ true
+        → IsTrue (fits_terms facts.now (value_by filling values.now) (terms_of_atom lit.now.atom)) }
 {
     match &lit.atom {
         Atom::MagEq(x, y) | Atom::MagLt(x, y) => {
@@ -183,14 +185,16 @@ fn literal_fits(facts: &Facts, filling: Filling, values: &[(Term, u128)], lit: &
 
 /// Whether a fact is true, and its terms may have their values.
 fn fact_fits(facts: &Facts, filling: Filling, values: &[(Term, u128)], fact: &Lit) -> bool
-    ensures terms { result ≡ true → IsTrue (fits_terms facts.now (value_by filling values.now) (terms_of_atom fact.now.atom)) }
+    ensures terms { result ≡ true → IsTrue
+        (fits_terms facts.now (value_by filling values.now) (terms_of_atom fact.now.atom)) }
     ensures holds { result ≡ true → IsTrue (holds (value_by filling values.now) fact.now) }
 {
     is_true(filling, values, fact) && literal_fits(facts, filling, values, fact)
 }
 
 fn facts_fit(facts: &Facts, filling: Filling, values: &[(Term, u128)]) -> bool
-    ensures terms { result ≡ true → IsTrue (fits_terms facts.now (value_by filling values.now) (terms_of_lits facts.now)) }
+    ensures terms { result ≡ true
+        → IsTrue (fits_terms facts.now (value_by filling values.now) (terms_of_lits facts.now)) }
     ensures hold { result ≡ true → IsTrue (all_hold (value_by filling values.now) facts.now) }
 {
     for i in 0..facts.len() {

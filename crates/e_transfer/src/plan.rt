@@ -165,7 +165,8 @@ fn spans_of(
     bindings: &[Binding],
     order: &[usize],
 ) -> Result<Vec<Span>, AllocError>
-    ensures { IfOk result (λ v. v.items ≡ Plans.plan_spans (row_of row.now) scope bindings.now order.now) }
+    ensures { IfOk result
+        (λ v. v.items ≡ Plans.plan_spans (row_of row.now) scope bindings.now order.now) }
 {
     let mut spans = Vec::new(alloc);
     for v in order {
@@ -271,7 +272,8 @@ fn add_ready_at(
     positions: &[usize],
     patterns: &[Pattern],
 ) -> Result<(), AllocError>
-    ensures { OnOk result (ready_at.new.items ≡ ready_at.old.items ++ map (λ l. atom_last (row_of row.now) positions.now l.atom) (map lit_of patterns.now)) }
+    ensures { OnOk result (ready_at.new.items ≡ ready_at.old.items
+        ++ map (λ l. atom_last (row_of row.now) positions.now l.atom) (map lit_of patterns.now)) }
 {
     for p in patterns {
         ready_at.push(last_of_pattern(row, positions, p))?;

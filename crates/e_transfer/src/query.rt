@@ -50,8 +50,12 @@ pub struct Query<'a> {
     ghost step_facts_of: { ForSome (option_copied step_facts) (λ k. k ≡ facts.now) },
     ghost good: { IsTrue (are_good_facts scope facts.now) },
     ghost marked: { IsTrue (are_marked marks facts.now) },
-    ghost named: { IsTrue (not (plain_model || spread_model) || name_areas_of areas.now facts.now) },
-    ghost plain: { IsTrue (not plain_model || is_model facts.now (value_by filling.Ones values.now)) },
-    ghost spread: { IsTrue (not spread_model || is_model facts.now (value_by filling.Spread values.now)) },
-    ghost flat: { IsTrue (not flat_model || is_model facts.now (value_by filling.Flat values.now)) },
+    ghost named: { IsTrue
+        (not (plain_model || spread_model) || name_areas_of areas.now facts.now) },
+    ghost plain: { IsTrue
+        (not plain_model || is_model facts.now (value_by filling.Ones values.now)) },
+    ghost spread: { IsTrue
+        (not spread_model || is_model facts.now (value_by filling.Spread values.now)) },
+    ghost flat: { IsTrue
+        (not flat_model || is_model facts.now (value_by filling.Flat values.now)) },
 }

@@ -18,7 +18,8 @@ pub fn add_row(totals: &mut Totals, row: Row, multiplier: i128) -> Result<(), Al
     requires row { IsTrue (is_small_row row) }
     requires multiplier { unsigned_abs multiplier ≤ 2 ^ 80 }
     requires room { (t : ATerm) → unsigned_abs (total_at totals.old t) ≤ 2 ^ 120 }
-    ensures { OnOk result ((t : ATerm) → total_at totals.new t ≡ total_at totals.old t +ℤ multiplier *ℤ coefficient (row_view row.entry).form t) }
+    ensures { OnOk result ((t : ATerm) → total_at totals.new t ≡ total_at totals.old t +ℤ multiplier
+        *ℤ coefficient (row_view row.entry).form t) }
 {
     match row {
         Row::Sums {
@@ -56,7 +57,8 @@ fn add_difference(
     requires minus { IsTrue (are_small_monomials minus.now) }
     requires multiplier { unsigned_abs multiplier ≤ 2 ^ 80 }
     requires room { (t : ATerm) → unsigned_abs (total_at totals.old t) ≤ 2 ^ 120 }
-    ensures { OnOk result ((t : ATerm) → total_at totals.new t ≡ total_at totals.old t +ℤ multiplier *ℤ coefficient (normal_summands (Rows.plus plus.now ++ Rows.minus minus.now)) t) }
+    ensures { OnOk result ((t : ATerm) → total_at totals.new t ≡ total_at totals.old t +ℤ multiplier
+        *ℤ coefficient (normal_summands (Rows.plus plus.now ++ Rows.minus minus.now)) t) }
 {
     add_sum(totals, plus, multiplier)?;
     add_sum(totals, minus, turned_by(true, multiplier))
@@ -67,7 +69,8 @@ fn add_sum(totals: &mut Totals, sum: &[Mono], multiplier: i128) -> Result<(), Al
     requires sum { IsTrue (are_small_monomials sum.now) }
     requires multiplier { unsigned_abs multiplier ≤ 2 ^ 80 }
     requires room { (t : ATerm) → unsigned_abs (total_at totals.old t) ≤ 2 ^ 121 }
-    ensures { OnOk result ((t : ATerm) → total_at totals.new t ≡ total_at totals.old t +ℤ multiplier *ℤ coefficient (normal_summands (Rows.plus sum.now)) t) }
+    ensures { OnOk result ((t : ATerm) → total_at totals.new t ≡ total_at totals.old t +ℤ multiplier
+        *ℤ coefficient (normal_summands (Rows.plus sum.now)) t) }
 {
     for m in sum {
         totals.add(m.term, product(multiplier, m.coeff))?;

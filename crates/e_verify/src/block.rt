@@ -32,11 +32,14 @@ pub fn verify_block(
     state: &mut StepState,
     first: u32,
 ) -> Result<u32, Reject>
-    requires ready { IsCheckable (all_stated before.now) (script_of block.now) state.old (block_goal goal.now) first }
+    requires ready { IsCheckable (all_stated before.now) (script_of block.now) state.old
+        (block_goal goal.now) first }
     requires statements { IsTrue (list_all is_small_statement (all_stated before.now)) }
-    ensures ok { IfOk result (λ next. verdict_at (all_stated before.now) (script_of block.now) state.old (block_goal goal.now) first ≡ Ok next) }
+    ensures ok { IfOk result (λ next. verdict_at (all_stated before.now) (script_of block.now)
+        state.old (block_goal goal.now) first ≡ Ok next) }
     ensures kept { OnOk result (KeepsFirstFacts state.old state.new) }
-    ensures err { IfErr result (RejectIs (verdict_at (all_stated before.now) (script_of block.now) state.old (block_goal goal.now) first)) }
+    ensures err { IfErr result (RejectIs (verdict_at (all_stated before.now) (script_of block.now)
+        state.old (block_goal goal.now) first)) }
 {
     let mut number = first;
     for step in &block.steps {
@@ -59,7 +62,8 @@ fn verify_step(
 ) -> Result<u32, Reject>
     requires ready { IsCheckableStep (all_stated before.now) step.now state.old number }
     requires statements { IsTrue (list_all is_small_statement (all_stated before.now)) }
-    ensures ok { IfOk result (λ next. AreVerified (all_stated before.now) (step_script step.now) state.old number state.new next) }
+    ensures ok { IfOk result (λ next. AreVerified (all_stated before.now) (step_script step.now)
+        state.old number state.new next) }
     ensures err { IfErr result (StepRejects (all_stated before.now) step.now state.old number) }
 {
     match step {
@@ -110,10 +114,13 @@ fn verify_claim(
     state: &mut StepState,
     number: u32,
 ) -> Result<u32, Reject>
-    requires ready { AreCheckable (all_stated before.now) (Claim shown.now (script_of inner.now)) state.old number }
+    requires ready { AreCheckable (all_stated before.now) (Claim shown.now (script_of inner.now))
+        state.old number }
     requires statements { IsTrue (list_all is_small_statement (all_stated before.now)) }
-    ensures ok { IfOk result (λ next. AreVerified (all_stated before.now) (Claim shown.now (script_of inner.now)) state.old number state.new next) }
-    ensures err { IfErr result (LinesReject (all_stated before.now) (Claim shown.now (script_of inner.now)) state.old number) }
+    ensures ok { IfOk result (λ next. AreVerified (all_stated before.now)
+        (Claim shown.now (script_of inner.now)) state.old number state.new next) }
+    ensures err { IfErr result (LinesReject (all_stated before.now)
+        (Claim shown.now (script_of inner.now)) state.old number) }
 {
     if !are_over(state.scope, shown) {
         return Err(Reject::Bad { step: number });
@@ -148,10 +155,16 @@ fn verify_superposed(
     state: &mut StepState,
     number: u32,
 ) -> Result<u32, Reject>
-    requires ready { (names : List (List ℕ)) × AreCheckable (all_stated before.now) (Superposed superposition.now.form.now names superposition.now.shown.now superposition.now.certs.now (script_of inner.now)) state.old number }
+    requires ready { (names : List (List ℕ)) × AreCheckable (all_stated before.now)
+        (Superposed superposition.now.form.now names superposition.now.shown.now
+        superposition.now.certs.now (script_of inner.now)) state.old number }
     requires statements { IsTrue (list_all is_small_statement (all_stated before.now)) }
-    ensures ok { IfOk result (λ next. (names : List (List ℕ)) → AreVerified (all_stated before.now) (Superposed superposition.now.form.now names superposition.now.shown.now superposition.now.certs.now (script_of inner.now)) state.old number state.new next) }
-    ensures err { IfErr result (λ e. (names : List (List ℕ)) → LinesReject (all_stated before.now) (Superposed superposition.now.form.now names superposition.now.shown.now superposition.now.certs.now (script_of inner.now)) state.old number e) }
+    ensures ok { IfOk result (λ next. (names : List (List ℕ)) → AreVerified (all_stated before.now)
+        (Superposed superposition.now.form.now names superposition.now.shown.now
+        superposition.now.certs.now (script_of inner.now)) state.old number state.new next) }
+    ensures err { IfErr result (λ e. (names : List (List ℕ)) → LinesReject (all_stated before.now)
+        (Superposed superposition.now.form.now names superposition.now.shown.now
+        superposition.now.certs.now (script_of inner.now)) state.old number e) }
 {
     let Superposition { form, shown, certs } = *superposition;
     let outer = state.checkpoint();
@@ -179,11 +192,14 @@ fn verify_close(
     state: &mut StepState,
     number: u32,
 ) -> Result<u32, Reject>
-    requires ready { IsCheckable (all_stated before.now) (close_script close.now) state.old (block_goal goal.now) number }
+    requires ready { IsCheckable (all_stated before.now) (close_script close.now) state.old
+        (block_goal goal.now) number }
     requires statements { IsTrue (list_all is_small_statement (all_stated before.now)) }
-    ensures ok { IfOk result (λ next. verdict_at (all_stated before.now) (close_script close.now) state.old (block_goal goal.now) number ≡ Ok next) }
+    ensures ok { IfOk result (λ next. verdict_at (all_stated before.now) (close_script close.now)
+        state.old (block_goal goal.now) number ≡ Ok next) }
     ensures kept { OnOk result (KeepsFirstFacts state.old state.new) }
-    ensures err { IfErr result (RejectIs (verdict_at (all_stated before.now) (close_script close.now) state.old (block_goal goal.now) number)) }
+    ensures err { IfErr result (RejectIs (verdict_at (all_stated before.now)
+        (close_script close.now) state.old (block_goal goal.now) number)) }
 {
     match close {
         Close::Qed { objects, certs } => {

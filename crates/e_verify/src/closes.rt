@@ -31,7 +31,8 @@ pub fn qed(
     requires facts { IsTrue (list_all is_well_formed state.now.facts) }
     requires shown { IsTrue (list_all is_well_formed goal.now.shown.now) }
     requires certs { IsTrue (list_all is_good_cert certs.now) }
-    ensures { IfOk result (λ b. (before : List Stated) → b ≡ is_certified before (line_in_state (Qed objects.now certs.now) state.now (block_goal goal.now))) }
+    ensures { IfOk result (λ b. (before : List Stated) → b ≡ is_certified before
+        (line_in_state (Qed objects.now certs.now) state.now (block_goal goal.now))) }
 {
     if !are_of_sorts(state.scope, goal.made, objects) {
         return Ok(false);
@@ -48,7 +49,8 @@ pub fn contradiction(
 ) -> Result<bool, AllocError>
     requires facts { IsTrue (list_all is_well_formed state.now.facts) }
     requires against { IsTrue (option_map_or is_good_against against.now true) }
-    ensures { IfOk result (λ b. (before : List Stated) (goal : BlockGoal) → b ≡ is_certified before (line_in_state (Contradiction against.now) state.now goal)) }
+    ensures { IfOk result (λ b. (before : List Stated) (goal : BlockGoal)
+        → b ≡ is_certified before (line_in_state (Contradiction against.now) state.now goal)) }
 {
     match against {
         Some(against) => certifies_against(alloc, state.scope, &state.facts, against),

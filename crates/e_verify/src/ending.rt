@@ -30,7 +30,8 @@ fn show_after(
     state: &mut StepState,
 ) -> Result<Items<Lit>, AllocError>
     ensures shown { IfOk result (λ ls. ls ≡ shown.now) }
-    ensures after { OnOk result (state.new ≡ with_facts (joined_all (restored outer state.old).facts shown.now) (restored outer state.old)) }
+    ensures after { OnOk result (state.new ≡ with_facts
+        (joined_all (restored outer state.old).facts shown.now) (restored outer state.old)) }
 {
     state.restore(outer);
     state.assume_all(alloc, shown)?;
@@ -46,8 +47,10 @@ pub fn claimed(
     outer: Checkpoint,
     state: &mut StepState,
 ) -> Result<Step, AllocError>
-    ensures step { IfOk result (λ s. (rest : Script) → step_script s rest ≡ Claim shown.now (script_of block) rest) }
-    ensures after { OnOk result (state.new ≡ with_facts (joined_all (restored outer state.old).facts shown.now) (restored outer state.old)) }
+    ensures step { IfOk result (λ s. (rest : Script)
+        → step_script s rest ≡ Claim shown.now (script_of block) rest) }
+    ensures after { OnOk result (state.new ≡ with_facts
+        (joined_all (restored outer state.old).facts shown.now) (restored outer state.old)) }
 {
     let shown = match show_after(alloc, shown, outer, state) {
         Ok(shown) => shown,
@@ -70,8 +73,11 @@ pub fn superposed(
     outer: Checkpoint,
     state: &mut StepState,
 ) -> Result<Step, AllocError>
-    ensures step { IfOk result (λ s. (rest : Script) → step_script s rest ≡ Superposed head.entry.form.now head.entry.names.now shown.now head.entry.certs (script_of block) rest) }
-    ensures after { OnOk result (state.new ≡ with_facts (joined_all (restored outer state.old).facts shown.now) (restored outer state.old)) }
+    ensures step { IfOk result (λ s. (rest : Script)
+        → step_script s rest ≡ Superposed head.entry.form.now head.entry.names.now shown.now
+        head.entry.certs (script_of block) rest) }
+    ensures after { OnOk result (state.new ≡ with_facts
+        (joined_all (restored outer state.old).facts shown.now) (restored outer state.old)) }
 {
     let Head { form, names, certs } = head;
     let shown = match show_after(alloc, shown, outer, state) {
@@ -124,7 +130,8 @@ fn boxed(alloc: Global, first: Block, second: Block) -> Result<(Box<Block>, Box<
 /// A split whose blocks have their places.
 #[tactic(auto, using(e_deriv::proofs::Scripts::scripts))]
 pub fn split(alloc: Global, lit: &Lit, first: Block, second: Block) -> Result<Close, AllocError>
-    ensures { IfOk result (λ c. close_script c ≡ Cases lit.now (script_of first) (script_of second)) }
+    ensures { IfOk result
+        (λ c. close_script c ≡ Cases lit.now (script_of first) (script_of second)) }
 {
     let (first, second) = boxed(alloc, first, second)?;
     match copy(alloc, lit) {

@@ -28,7 +28,8 @@ pub fn sums_refute<'a>(
     requires facts { IsTrue (list_all is_well_formed facts.now) }
     requires wanted { IsTrue (option_map_or is_well_formed (option_copied wanted) true) }
     requires sums { IsTrue (is_good_sums sums.now) }
-    ensures { IfOk result (λ b. b ≡ MetricCertificate.sums_refute facts.now (option_copied wanted.entry) sums.now) }
+    ensures { IfOk result
+        (λ b. b ≡ MetricCertificate.sums_refute facts.now (option_copied wanted.entry) sums.now) }
 {
     match sums {
         Sums::One(sum) => {
@@ -65,7 +66,8 @@ fn both_refute<'a>(
     requires row { IsTrue (is_short row) }
     requires above { IsTrue (is_good_sum above.now) }
     requires below { IsTrue (is_good_sum below.now) }
-    ensures { IfOk result (λ b. b ≡ MetricCertificate.both_refute facts.now (option_copied wanted.entry) (comparison_view row.entry) above.now below.now) }
+    ensures { IfOk result (λ b. b ≡ MetricCertificate.both_refute facts.now
+        (option_copied wanted.entry) (comparison_view row.entry) above.now below.now) }
 {
     let row_scope = RowScope {
         facts,
@@ -94,7 +96,8 @@ fn differing<'a>(
     requires facts { IsTrue (list_all is_well_formed facts.now) }
     requires wanted { IsTrue (option_map_or is_well_formed (option_copied wanted) true) }
     requires name { IsTrue (is_good_name name.now) }
-    ensures row { option_map comparison_view result ≡ MetricCertificate.differing facts.now (option_copied wanted.entry) name.now }
+    ensures row { option_map comparison_view result
+        ≡ MetricCertificate.differing facts.now (option_copied wanted.entry) name.now }
     ensures small { IfSome result (λ c. IsTrue (is_short c)) }
 {
     match name {
@@ -108,7 +111,8 @@ fn differing<'a>(
 /// No row but where it says that its form is not 0.
 fn if_not<'a>(row: Option<Comparison<'a>>) -> Option<Comparison<'a>>
     requires { IfSome row (λ c. IsTrue (is_short c)) }
-    ensures row { option_map comparison_view result ≡ option_and_then (λ r. if says_differ r.says then Some r else None) (option_map comparison_view row.entry) }
+    ensures row { option_map comparison_view result ≡ option_and_then
+        (λ r. if says_differ r.says then Some r else None) (option_map comparison_view row.entry) }
     ensures small { IfSome result (λ c. IsTrue (is_short c)) }
 {
     match row {

@@ -52,11 +52,15 @@ pub fn numbered(
     statement: &Statement,
     deriv: &Block,
 ) -> Result<Block, AllocError>
-    requires verifiable { IsVerifiable (all_stated before.now) (stated statement.now) (script_of deriv.now) }
-    requires certified { Certified (all_stated before.now) (stated statement.now) (script_of deriv.now) }
-    ensures numbered { IfOk result (λ d. script_of d ≡ derivation_with_places (all_stated before.now) (stated statement.now) (script_of deriv.now)) }
+    requires verifiable { IsVerifiable (all_stated before.now) (stated statement.now)
+        (script_of deriv.now) }
+    requires certified { Certified (all_stated before.now) (stated statement.now)
+        (script_of deriv.now) }
+    ensures numbered { IfOk result (λ d. script_of d ≡ derivation_with_places
+        (all_stated before.now) (stated statement.now) (script_of deriv.now)) }
     ensures script { IfOk result (λ d. erased (script_of d) ≡ erased (script_of deriv.now)) }
-    ensures certified { IfOk result (λ d. Certified (all_stated before.now) (stated statement.now) (script_of d)) }
+    ensures certified { IfOk result
+        (λ d. Certified (all_stated before.now) (stated statement.now) (script_of d)) }
     ensures version { IfOk result (λ d. IsTrue (has_certs_of version.Two (script_of d))) }
 {
     let scope = grown(NOTHING, statement.declared.items());
@@ -79,8 +83,10 @@ fn number_block(
     state: &mut StepState,
 ) -> Result<Block, AllocError>
     requires { IsTrue (list_all is_small_statement (all_stated before.now)) }
-    ensures same { IfOk result (λ b. script_of b ≡ places_at (all_stated before.now) (script_of block.now) state.old (block_goal goal.now)) }
-    ensures few { OnOk result (HaveFew (all_stated before.now) (script_of block.now) state.old (block_goal goal.now)) }
+    ensures same { IfOk result (λ b. script_of b
+        ≡ places_at (all_stated before.now) (script_of block.now) state.old (block_goal goal.now)) }
+    ensures few { OnOk result
+        (HaveFew (all_stated before.now) (script_of block.now) state.old (block_goal goal.now)) }
     ensures kept { OnOk result (KeepsFirstFacts state.old state.new) }
 {
     let mut steps = Vec::new(alloc);
@@ -105,7 +111,8 @@ fn number_step(
     state: &mut StepState,
 ) -> Result<Step, AllocError>
     requires { IsTrue (list_all is_small_statement (all_stated before.now)) }
-    ensures step { IfOk result (λ s. IsNumberedStep (all_stated before.now) (step_script step.now) state.old (step_script s) state.new) }
+    ensures step { IfOk result (λ s. IsNumberedStep (all_stated before.now) (step_script step.now)
+        state.old (step_script s) state.new) }
     ensures few { OnOk result (length state.old.facts < 2 ^ 32) }
 {
     if state.facts.len() >= PLACES {
@@ -183,8 +190,10 @@ fn number_close(
     state: &mut StepState,
 ) -> Result<Close, AllocError>
     requires { IsTrue (list_all is_small_statement (all_stated before.now)) }
-    ensures same { IfOk result (λ c. close_script c ≡ places_at (all_stated before.now) (close_script close.now) state.old (block_goal goal.now)) }
-    ensures few { OnOk result (HaveFew (all_stated before.now) (close_script close.now) state.old (block_goal goal.now)) }
+    ensures same { IfOk result (λ c. close_script c ≡ places_at (all_stated before.now)
+        (close_script close.now) state.old (block_goal goal.now)) }
+    ensures few { OnOk result
+        (HaveFew (all_stated before.now) (close_script close.now) state.old (block_goal goal.now)) }
     ensures kept { OnOk result (KeepsFirstFacts state.old state.new) }
 {
     if state.facts.len() >= PLACES {
@@ -221,7 +230,8 @@ fn number_close(
 
 #[tactic(auto, using(crate::proofs::placing::NumberedSteps::placing))]
 fn cite(alloc: Global, by: &By, state: &mut StepState) -> Result<Step, AllocError>
-    ensures { IfOk result (λ s. (before : List Stated) → IsNumberedStep before (Cite by.now) state.old (step_script s) state.new) }
+    ensures { IfOk result (λ s. (before : List Stated)
+        → IsNumberedStep before (Cite by.now) state.old (step_script s) state.new) }
 {
     state.assume(alloc, &by.lit)?;
     let by = copy_by(alloc, by)?;
@@ -235,7 +245,8 @@ fn hence(
     cert: &Option<Cert>,
     state: &mut StepState,
 ) -> Result<Step, AllocError>
-    ensures { IfOk result (λ s. (before : List Stated) → IsNumberedStep before (Hence lit.now cert.now) state.old (step_script s) state.new) }
+    ensures { IfOk result (λ s. (before : List Stated)
+        → IsNumberedStep before (Hence lit.now cert.now) state.old (step_script s) state.new) }
 {
     let cert = placed_option(alloc, &state.facts, lit, cert)?;
     state.assume(alloc, lit)?;
@@ -250,7 +261,8 @@ fn placed_option(
     lit: &Lit,
     cert: &Option<Cert>,
 ) -> Result<Option<Cert>, AllocError>
-    ensures { IfOk result (λ c. c ≡ option_map (Numbered.cert_with_places facts.now lit.now) cert.now) }
+    ensures { IfOk result
+        (λ c. c ≡ option_map (Numbered.cert_with_places facts.now lit.now) cert.now) }
 {
     match cert {
         Some(cert) => Ok(Some(placed_cert(alloc, facts, lit, cert)?)),
@@ -266,7 +278,8 @@ fn make(
     certs: &[Cert],
     state: &mut StepState,
 ) -> Result<Step, AllocError>
-    ensures { IfOk result (λ s. (before : List Stated) → IsNumberedStep before (Make form.now names.now certs.now) state.old (step_script s) state.new) }
+    ensures { IfOk result (λ s. (before : List Stated) → IsNumberedStep before
+        (Make form.now names.now certs.now) state.old (step_script s) state.new) }
 {
     let scope = state.scope;
     if !has_room(scope) || !form.fits(scope) {
@@ -299,7 +312,9 @@ fn apply(
     state: &mut StepState,
 ) -> Result<Step, AllocError>
     requires { IsTrue (list_all is_small_statement (all_stated before.now)) }
-    ensures { IfOk result (λ s. IsNumberedStep (all_stated before.now) (Apply line.now.theorem line.now.args.now line.now.names.now line.now.certs.now) state.old (step_script s) state.new) }
+    ensures { IfOk result (λ s. IsNumberedStep (all_stated before.now)
+        (Apply line.now.theorem line.now.args.now line.now.names.now line.now.certs.now) state.old
+        (step_script s) state.new) }
 {
     let scope = state.scope;
     let Some(statement) = before.get(line.theorem as usize) else {
@@ -336,7 +351,8 @@ fn superpose(
     certs: &[Cert],
     state: &mut StepState,
 ) -> Result<Items<Cert>, AllocError>
-    ensures certs { IfOk result (λ cs. cs ≡ Numbered.certs_with_places state.old.facts (superposing.needs form.now) certs.now) }
+    ensures certs { IfOk result (λ cs. cs
+        ≡ Numbered.certs_with_places state.old.facts (superposing.needs form.now) certs.now) }
     ensures after { OnOk result (state.new ≡ state_after_superposed form.now state.old) }
 {
     let scope = state.scope;
@@ -359,7 +375,8 @@ fn qed(
     goal: &Goal,
     state: &StepState,
 ) -> Result<Close, AllocError>
-    ensures { IfOk result (λ c. (before : List Stated) → close_script c ≡ places_at before (Qed objects.now certs.now) state.now (block_goal goal.now)) }
+    ensures { IfOk result (λ c. (before : List Stated) → close_script c
+        ≡ places_at before (Qed objects.now certs.now) state.now (block_goal goal.now)) }
 {
     if !are_of_sorts(state.scope, goal.made, objects) {
         return Err(AllocError);
@@ -375,7 +392,8 @@ fn contradiction(
     against: &Option<Against>,
     facts: &Facts,
 ) -> Result<Close, AllocError>
-    ensures { IfOk result (λ c. c ≡ ContradictionClose (option_map (Numbered.against_with_places facts.now) against.now)) }
+    ensures { IfOk result (λ c. c
+        ≡ ContradictionClose (option_map (Numbered.against_with_places facts.now) against.now)) }
 {
     let against = match against {
         Some(against) => Some(placed_against(alloc, facts, against)?),

@@ -95,7 +95,8 @@ fn is_one_term(a: Term, b: Term) -> bool
 
 /// The name with its place.
 fn placed_name(facts: &Facts, name: &RowName) -> Result<Placed, AllocError>
-    ensures { IfOk result (λ p. (p.name ≡ Numbered.name_with_place facts.now name.now) × (p.turned ≡ Numbered.turns facts.now name.now)) }
+    ensures { IfOk result (λ p. (p.name ≡ Numbered.name_with_place facts.now name.now)
+        × (p.turned ≡ Numbered.turns facts.now name.now)) }
 {
     match name {
         RowName::Fact(lit) => {
@@ -203,7 +204,8 @@ fn two_sums(
     above: Vec<(i128, RowName)>,
     below: Vec<(i128, RowName)>,
 ) -> Result<Sums, AllocError>
-    ensures { IfOk result (λ s. s ≡ Numbered.two_placed differs.turned differs.name above.items below.items) }
+    ensures { IfOk result
+        (λ s. s ≡ Numbered.two_placed differs.turned differs.name above.items below.items) }
 {
     let (above, below) = if differs.turned {
         (swapped(alloc, below)?, swapped(alloc, above)?)
@@ -244,7 +246,8 @@ fn put_parts(
     parts: &[Part],
     out: &mut Vec<Part>,
 ) -> Result<(), AllocError>
-    ensures { OnOk result (out.new.items ≡ out.old.items ++ Numbered.parts_with_places facts.now lits.now parts.now) }
+    ensures { OnOk result
+        (out.new.items ≡ out.old.items ++ Numbered.parts_with_places facts.now lits.now parts.now) }
 {
     match (lits, parts) {
         ([lit, lits @ ..], [part, parts @ ..]) => {
@@ -315,7 +318,8 @@ fn put_certs(
     certs: &[Cert],
     out: &mut Vec<Cert>,
 ) -> Result<(), AllocError>
-    ensures { OnOk result (out.new.items ≡ out.old.items ++ Numbered.certs_with_places facts.now lits.now certs.now) }
+    ensures { OnOk result
+        (out.new.items ≡ out.old.items ++ Numbered.certs_with_places facts.now lits.now certs.now) }
 {
     match (lits, certs) {
         ([lit, lits @ ..], [cert, certs @ ..]) => {

@@ -81,7 +81,8 @@ impl<'a> Row<'a> {
 pub fn row_named<'a>(row_scope: &RowScope<'a>, name: &'a RowName) -> Option<Row<'a>>
     requires row_scope { IsTrue (is_good_row_scope row_scope.now) }
     requires name { IsTrue (is_good_name name.now) }
-    ensures row { option_map row_view result ≡ Sum.row_named (row_scope_view row_scope.now) name.now }
+    ensures row { option_map row_view result
+        ≡ Sum.row_named (row_scope_view row_scope.now) name.now }
     ensures small { IfSome result (λ r. IsTrue (is_small_row r)) }
 {
     match name {
@@ -167,7 +168,8 @@ fn row_of<'a>(atom: &'a Atom, neg: bool) -> Option<Comparison<'a>>
 /// No row where it says that its form is not 0.
 fn unless_not<'a>(row: Option<Comparison<'a>>) -> Option<Row<'a>>
     requires { IfSome row (λ c. IsTrue (is_short c)) }
-    ensures row { option_map row_view result ≡ Sum.unless_not (option_map comparison_view row.entry) }
+    ensures row { option_map row_view result
+        ≡ Sum.unless_not (option_map comparison_view row.entry) }
     ensures small { IfSome result (λ r. IsTrue (is_small_row r)) }
 {
     match row {
@@ -212,7 +214,8 @@ fn top_row<'a>(row_scope: &RowScope<'a>, term: Term) -> Option<Row<'a>>
 
 /// A term of the step.
 fn least_row<'a>(row_scope: &RowScope<'a>, term: Term) -> Option<Row<'a>>
-    ensures row { option_map row_view result ≡ Sum.row_named (row_scope_view row_scope.now) (Least term) }
+    ensures row { option_map row_view result
+        ≡ Sum.row_named (row_scope_view row_scope.now) (Least term) }
     ensures small { IfSome result (λ r. IsTrue (is_small_row r)) }
 {
     if is_step_term(row_scope, term) {

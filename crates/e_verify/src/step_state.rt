@@ -58,14 +58,16 @@ impl StepState {
 
     /// The negation of the literal is a fact.
     pub fn assume_not(&mut self, alloc: Global, lit: &Lit) -> Result<(), AllocError>
-        ensures { OnOk result (self.new ≡ with_facts (joined self.old.facts (negation lit.now)) self.old) }
+        ensures { OnOk result
+            (self.new ≡ with_facts (joined self.old.facts (negation lit.now)) self.old) }
     {
         self.facts.add(negate(copy(alloc, lit)?))
     }
 
     /// The literals are facts.
     pub fn assume_all(&mut self, alloc: Global, lits: &[Lit]) -> Result<(), AllocError>
-        ensures { OnOk result (self.new ≡ with_facts (joined_all self.old.facts lits.now) self.old) }
+        ensures { OnOk result
+            (self.new ≡ with_facts (joined_all self.old.facts lits.now) self.old) }
     {
         join_copies(alloc, &mut self.facts, lits)
     }

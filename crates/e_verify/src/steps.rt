@@ -32,7 +32,8 @@ use std::alloc::{AllocError, Global};
 /// Whether a citation is certified; then its literal is a fact.
 pub fn cite(alloc: Global, by: &By, state: &mut StepState) -> Result<bool, AllocError>
     requires { IsTrue (is_well_formed by.now.lit) }
-    ensures { IfOk result (λ b. (before : List Stated) → IsChecked before (Cite by.now) state.old state.new b) }
+    ensures { IfOk result (λ b. (before : List Stated)
+        → IsChecked before (Cite by.now) state.old state.new b) }
 {
     if !is_cited(alloc, state.scope, &state.facts, by)? {
         return Ok(false);
@@ -68,7 +69,8 @@ pub fn hence(
     requires facts { IsTrue (list_all is_well_formed state.old.facts) }
     requires lit { IsTrue (is_well_formed lit.now) }
     requires cert { IsTrue (option_map_or is_good_cert cert.now true) }
-    ensures { IfOk result (λ b. (before : List Stated) → IsChecked before (Hence lit.now cert.now) state.old state.new b) }
+    ensures { IfOk result (λ b. (before : List Stated)
+        → IsChecked before (Hence lit.now cert.now) state.old state.new b) }
 {
     let Some(cert) = cert else {
         return Ok(false);
@@ -93,7 +95,8 @@ pub fn make(
     requires facts { IsTrue (list_all is_well_formed state.old.facts) }
     requires scope { IsTrue (is_small state.old.scope) }
     requires certs { IsTrue (list_all is_good_cert certs.now) }
-    ensures { IfOk result (λ b. (before : List Stated) (names : List (List ℕ)) → IsChecked before (Make form.now names certs.now) state.old state.new b) }
+    ensures { IfOk result (λ b. (before : List Stated) (names : List (List ℕ))
+        → IsChecked before (Make form.now names certs.now) state.old state.new b) }
 {
     let scope = state.scope;
     if !form.fits(scope) {
@@ -123,7 +126,8 @@ pub fn apply(
     requires scope { IsTrue (is_small state.old.scope) }
     requires statements { IsTrue (list_all is_small_statement (all_stated before.now)) }
     requires certs { IsTrue (list_all is_good_cert certs.now) }
-    ensures { IfOk result (λ b. (names : List (List ℕ)) → IsChecked (all_stated before.now) (Apply theorem args.now names certs.now) state.old state.new b) }
+    ensures { IfOk result (λ b. (names : List (List ℕ)) → IsChecked (all_stated before.now)
+        (Apply theorem args.now names certs.now) state.old state.new b) }
 {
     let Some(statement) = before.get(theorem as usize) else {
         return Ok(false);
@@ -157,8 +161,11 @@ pub fn superpose(
     requires facts { IsTrue (list_all is_well_formed state.old.facts) }
     requires scope { IsTrue (is_small state.old.scope) }
     requires certs { IsTrue (list_all is_good_cert certs.now) }
-    ensures test { IfOk result (λ b. (before : List Stated) (names : List (List ℕ)) (inner rest : Script) (goal : Goal) → b ≡ is_certified before (line_in_state (Superposed form.now names shown.now certs.now inner rest) state.old goal)) }
-    ensures after { IfOk result (λ b. IsTrue b → state.new ≡ state_after_superposed form.now state.old) }
+    ensures test { IfOk result (λ b. (before : List Stated) (names : List (List ℕ))
+        (inner rest : Script) (goal : Goal) → b ≡ is_certified before
+        (line_in_state (Superposed form.now names shown.now certs.now inner rest) state.old goal)) }
+    ensures after { IfOk result (λ b. IsTrue b
+        → state.new ≡ state_after_superposed form.now state.old) }
 {
     let scope = state.scope;
     if !form.fits(scope) || !are_over(scope, shown) {
@@ -179,7 +186,8 @@ pub(crate) fn all_written(
     alloc: Global,
     args: &[Option<Obj>],
 ) -> Result<Option<Vec<Obj>>, AllocError>
-    ensures { IfOk result (λ o. option_map (λ v. v.items) o ≡ (if has_no_blank args.now then Some (written args.now) else None)) }
+    ensures { IfOk result (λ o. option_map (λ v. v.items) o
+        ≡ (if has_no_blank args.now then Some (written args.now) else None)) }
 {
     let mut objects = Vec::new(alloc);
     for arg in args {

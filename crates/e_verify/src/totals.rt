@@ -56,8 +56,10 @@ impl Totals {
     /// Adds a term with its coefficient, as a row has it: in its normal order, and dropped where it
     /// is 0.
     pub fn add(&mut self, term: Term, n: i128) -> Result<(), AllocError>
-        requires { unsigned_abs (total_at self.old (Same.canonical term)) + unsigned_abs n < 2 ^ 127 }
-        ensures { OnOk result ((t : ATerm) → total_at self.new t ≡ total_at self.old t +ℤ coefficient (normal_summands (times n term ∷ [])) t) }
+        requires { unsigned_abs (total_at self.old (Same.canonical term)) + unsigned_abs n
+            < 2 ^ 127 }
+        ensures { OnOk result ((t : ATerm) → total_at self.new t ≡ total_at self.old t
+            +ℤ coefficient (normal_summands (times n term ∷ [])) t) }
     {
         if is_degenerate(term) {
             return Ok(());

@@ -23,7 +23,8 @@ pub fn transfer_certifies(
 ) -> Result<bool, AllocError>
     requires facts { IsTrue (list_all is_well_formed facts.now) }
     requires parts { IsTrue (list_all is_good_part cert.now.parts) }
-    ensures { IfOk result (λ b. b ≡ TransferCertificate.transfer_certifies facts.now lit.now cert.now) }
+    ensures { IfOk result
+        (λ b. b ≡ TransferCertificate.transfer_certifies facts.now lit.now cert.now) }
 {
     if !cert.rule.is_transfer() {
         return Ok(false);
@@ -49,7 +50,8 @@ fn parts_certify(
     requires facts { IsTrue (list_all is_well_formed facts.now) }
     requires lits { IsTrue (list_all is_well_formed lits.now) }
     requires parts { IsTrue (list_all is_good_part parts.now) }
-    ensures { IfOk result (λ b. b ≡ TransferCertificate.parts_certify facts.now (map negation lits.now) parts.now) }
+    ensures { IfOk result
+        (λ b. b ≡ TransferCertificate.parts_certify facts.now (map negation lits.now) parts.now) }
 {
     match (lits, parts) {
         ([], []) => Ok(true),

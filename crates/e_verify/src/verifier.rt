@@ -36,9 +36,12 @@ pub fn verify(
     deriv: &Block,
 ) -> Result<(), Reject>
     requires { IsVerifiable (all_stated before.now) (stated statement.now) (script_of deriv.now) }
-    ensures certified { OnOk result (Certified (all_stated before.now) (stated statement.now) (script_of deriv.now)) }
-    ensures proof { OnOk result (IsProof (all_stated before.now) (stated statement.now) (script_of deriv.now)) }
-    ensures bad { IfErr result (RejectIs (verdict (all_stated before.now) (stated statement.now) (script_of deriv.now))) }
+    ensures certified { OnOk result
+        (Certified (all_stated before.now) (stated statement.now) (script_of deriv.now)) }
+    ensures proof { OnOk result
+        (IsProof (all_stated before.now) (stated statement.now) (script_of deriv.now)) }
+    ensures bad { IfErr result
+        (RejectIs (verdict (all_stated before.now) (stated statement.now) (script_of deriv.now))) }
 {
     let scope = grown(NOTHING, statement.declared.items());
     let made = next_objects(alloc, scope, statement.made.items())?;
