@@ -10,7 +10,7 @@ ghost use Rattle.e_clause.specs.declared.cert.Version.TheVariants as version;
 ghost use Rattle.e_deriv.specs.Certified.{Certified};
 ghost use Rattle.e_deriv.specs.Fitting.{is_small, is_small_statement};
 ghost use Rattle.e_deriv.specs.declared.block.Close.TheVariants.{Contradiction as ContradictionClose};
-ghost use Rattle.e_deriv.specs.Script.{Cite, Hence, Make, Apply, Qed, script_of, step_script, close_script, erased};
+ghost use Rattle.e_deriv.specs.Script.{Cite, Hence, Make, Apply, Claim, Superposed, Qed, script_of, step_script, close_script, erased};
 ghost use Rattle.e_deriv.specs.Versions.{has_certs_of};
 ghost use Rattle.e_verify.specs.Numbered;
 ghost use Rattle.e_verify.specs.Numbered.{derivation_with_places};
@@ -138,17 +138,7 @@ fn number_step(
             };
             apply(alloc, before, &line, state)
         }
-        Step::Claim { shown, inner } => {
-            let outer = state.checkpoint();
-            let goal = Goal {
-                made: &[],
-                shown: shown.items(),
-            };
-            match number_block(alloc, before, inner, &goal, state) {
-                Ok(numbered) => claimed(alloc, shown.items(), numbered, outer, state),
-                Err(_) => Err(AllocError),
-            }
-        }
+        Step::Claim { shown, inner } => number_claim(alloc, before, shown.items(), inner, state),
         Step::Superposed {
             form,
             names,
@@ -156,27 +146,80 @@ fn number_step(
             certs,
             inner,
         } => {
-            let outer = state.checkpoint();
-            let certs = match superpose(alloc, form, certs.items(), state) {
-                Ok(certs) => certs,
-                Err(_) => return Err(AllocError),
-            };
-            let goal = Goal {
-                made: &[],
+            let superposition = Superposition {
+                form,
+                names: names.items(),
                 shown: shown.items(),
+                certs: certs.items(),
             };
-            match number_block(alloc, before, inner, &goal, state) {
-                Ok(numbered) => {
-                    let head = Head {
-                        form,
-                        names: names.items(),
-                        certs,
-                    };
-                    superposed(alloc, head, shown.items(), numbered, outer, state)
-                }
-                Err(_) => Err(AllocError),
-            }
+            number_superposed(alloc, before, &superposition, inner, state)
         }
+    }
+}
+
+/// A claim with its block, with places.
+#[cycle(number)]
+fn number_claim(
+    alloc: Global,
+    before: &[Statement],
+    shown: &[Lit],
+    inner: &Block,
+    state: &mut StepState,
+) -> Result<Step, AllocError>
+    requires { IsTrue (list_all is_small_statement (all_stated before.now)) }
+    ensures { IfOk result (λ s. IsNumberedStep (all_stated before.now)
+        (Claim shown.now (script_of inner.now)) state.old (step_script s) state.new) }
+{
+    let outer = state.checkpoint();
+    let goal = Goal { made: &[], shown };
+    match number_block(alloc, before, inner, &goal, state) {
+        Ok(numbered) => claimed(alloc, shown, numbered, outer, state),
+        Err(_) => Err(AllocError),
+    }
+}
+
+/// A superposition without its block.
+#[derive(Clone, Copy)]
+struct Superposition<'a> {
+    form: &'a Superpose,
+    names: &'a [Name],
+    shown: &'a [Lit],
+    certs: &'a [Cert],
+}
+
+/// A superposition with its block, with places.
+#[cycle(number)]
+fn number_superposed(
+    alloc: Global,
+    before: &[Statement],
+    superposition: &Superposition,
+    inner: &Block,
+    state: &mut StepState,
+) -> Result<Step, AllocError>
+    requires { IsTrue (list_all is_small_statement (all_stated before.now)) }
+    ensures { IfOk result (λ s. IsNumberedStep
+        (all_stated before.now) (Superposed superposition.now.form.now superposition.now.names.now
+        superposition.now.shown.now superposition.now.certs.now (script_of inner.now)) state.old
+        (step_script s) state.new) }
+{
+    let Superposition {
+        form,
+        names,
+        shown,
+        certs,
+    } = *superposition;
+    let outer = state.checkpoint();
+    let certs = match superpose(alloc, form, certs, state) {
+        Ok(certs) => certs,
+        Err(_) => return Err(AllocError),
+    };
+    let goal = Goal { made: &[], shown };
+    match number_block(alloc, before, inner, &goal, state) {
+        Ok(numbered) => {
+            let head = Head { form, names, certs };
+            superposed(alloc, head, shown, numbered, outer, state)
+        }
+        Err(_) => Err(AllocError),
     }
 }
 

@@ -155,57 +155,40 @@ back_is : (o : Checkpoint) (x z after : StepState) (again shown : List Lit) → 
 back_is o x z after again shown e k twice end =
     end ∙ ap (λ w. with_facts (joined_all w.facts again) w) (restored_is o x z (restored o z) e k refl) ∙ ap (λ ls. with_facts (joined_all x.facts ls) x) twice
 
-pub claim_numbered : (before : List Stated) (step : Step) (shown seen again : List Lit) (inner : Box Block Global) (block numbered : Block) (x z after : StepState) (o : Checkpoint) (s : Step)
-    → step ≡ ClaimStep shown inner → seen ≡ shown → again ≡ shown → block ≡ inner.value
-    → script_of numbered ≡ places_at before (script_of block) x (goal_of seen) → HaveFew before (script_of block) x (goal_of seen) → o ≡ checkpoint_of x → KeepsFirstFacts x z
-    → ((rest : Script) → step_script s rest ≡ Claim again (script_of numbered) rest) → after ≡ with_facts (joined_all (restored o z).facts again) (restored o z) → IsNumberedStep before (step_script step) x (step_script s) after
-claim_numbered before step shown seen again inner block numbered x z after o s is same twice at placed few e k made end =
-    let inside : Script = script_of inner.value in
+pub claim_numbered : (before : List Stated) (shown : List Lit) (inner : Script) (numbered : Block) (x z after : StepState) (o : Checkpoint) (s : Step) → script_of numbered ≡ places_at before inner x (goal_of shown)
+    → HaveFew before inner x (goal_of shown) → o ≡ checkpoint_of x → KeepsFirstFacts x z → ((rest : Script) → step_script s rest ≡ Claim shown (script_of numbered) rest)
+    → after ≡ with_facts (joined_all (restored o z).facts shown) (restored o z) → IsNumberedStep before (Claim shown inner) x (step_script s) after
+claim_numbered before shown inner numbered x z after o s placed few e k made end =
     let later : StepState = with_facts (joined_all x.facts shown) x in
-    let block_placed : script_of numbered ≡ places_at before inside x (goal_of shown) =
-    placed ∙ ap (λ b. places_at before (script_of b) x (goal_of seen)) at ∙ ap (λ ls. places_at before inside x (goal_of ls)) same in
-    let block_few : HaveFew before inside x (goal_of shown) = subst (λ ls. HaveFew before inside x (goal_of ls)) same (subst (λ b. HaveFew before (script_of b) x (goal_of seen)) at few) in
-    subst (λ (w : StepState). IsNumberedStep before (step_script step) x (step_script s) w) (sym (back_is o x z after again shown e k twice end))
+    subst (λ (w : StepState). IsNumberedStep before (Claim shown inner) x (step_script s) w) (sym (back_is o x z after shown shown e k refl end))
     (record {
       same = λ rest goal.
-          ap (λ t. places_at before (step_script t rest) x goal) is ∙ ap (λ d. places_at before d x goal) (step_script-Claim shown inner rest) ∙ claim_places before shown inside x rest goal
-          ∙ ap₂ {A = List Lit} {B = Script} (λ ls d. Claim ls d (places_at before rest later goal)) (sym twice) (sym block_placed)
-          ∙ sym (made (places_at before rest later goal));
+          claim_places before shown inner x rest goal ∙ ap (λ d. Claim shown d (places_at before rest later goal)) (sym placed) ∙ sym (made (places_at before rest later goal));
       few = λ all rest goal h.
-          ap (λ t. list_all has_few (lines_in_state before (step_script t rest) x goal)) is ∙ ap (λ d. list_all has_few (lines_in_state before d x goal)) (step_script-Claim shown inner rest)
-          ∙ ap (list_all has_few) (claim_lines before shown inside x rest goal)
-          ∙ ap₂ {A = Bool} {B = Bool} (λ a b. a && b) (few_first x all) (all_both has_few (lines_in_state before inside x (goal_of shown)) (lines_in_state before rest later goal) block_few h);
+          ap (list_all has_few) (claim_lines before shown inner x rest goal)
+          ∙ ap₂ {A = Bool} {B = Bool} (λ a b. a && b) (few_first x all) (all_both has_few (lines_in_state before inner x (goal_of shown)) (lines_in_state before rest later goal) few h);
       kept = stay_all x.facts shown;
     })
 
-pub superposed_numbered : (before : List Stated) (step : Step) (form : Superpose) (names copies : List (List ℕ)) (shown seen again : List Lit) (certs given placed : List Cert) (inner : Box Block Global) (block numbered : Block) (x z w after : StepState) (o : Checkpoint) (s : Step)
-    → step ≡ SuperposedStep form names shown certs inner → seen ≡ shown → again ≡ shown → copies ≡ names → given ≡ certs → block ≡ inner.value
-    → placed ≡ certs_with_places x.facts (superposing.needs form) given → z ≡ state_after_superposed form x
-    → script_of numbered ≡ places_at before (script_of block) z (goal_of seen) → HaveFew before (script_of block) z (goal_of seen) → o ≡ checkpoint_of x → KeepsFirstFacts z w
-    → ((rest : Script) → step_script s rest ≡ Superposed form copies again placed (script_of numbered) rest) → after ≡ with_facts (joined_all (restored o w).facts again) (restored o w)
-    → IsNumberedStep before (step_script step) x (step_script s) after
-superposed_numbered before step form names copies shown seen again certs given placed inner block numbered x z w after o s is same twice named cs at put begun block_is few e k made end =
+pub superposed_numbered : (before : List Stated) (form : Superpose) (names : List (List ℕ)) (shown : List Lit) (certs placed : List Cert) (inner : Script) (numbered : Block) (x z w after : StepState) (o : Checkpoint) (s : Step)
+    → placed ≡ certs_with_places x.facts (superposing.needs form) certs → z ≡ state_after_superposed form x → script_of numbered ≡ places_at before inner z (goal_of shown) → HaveFew before inner z (goal_of shown)
+    → o ≡ checkpoint_of x → KeepsFirstFacts z w → ((rest : Script) → step_script s rest ≡ Superposed form names shown placed (script_of numbered) rest)
+    → after ≡ with_facts (joined_all (restored o w).facts shown) (restored o w) → IsNumberedStep before (Superposed form names shown certs inner) x (step_script s) after
+superposed_numbered before form names shown certs placed inner numbered x z w after o s put begun block_is few e k made end =
     let kept = kept_on x z w (subst (KeepsFirstFacts x) (sym begun) (stay_all x.facts (superposing.gives form x.scope))) k in
-    let inside : Script = script_of inner.value in
     let begin : StepState = state_after_superposed form x in
     let later : StepState = with_facts (joined_all x.facts shown) x in
-    let block_placed : script_of numbered ≡ places_at before inside begin (goal_of shown) =
-    block_is ∙ ap (λ q. places_at before (script_of block) q (goal_of seen)) begun ∙ ap (λ b. places_at before (script_of b) begin (goal_of seen)) at ∙ ap (λ ls. places_at before inside begin (goal_of ls)) same in
-    let block_few : HaveFew before inside begin (goal_of shown) =
-    subst (λ ls. HaveFew before inside begin (goal_of ls)) same (subst (λ b. HaveFew before (script_of b) begin (goal_of seen)) at (subst (λ q. HaveFew before (script_of block) q (goal_of seen)) begun few)) in
-    let certs_placed : placed ≡ certs_with_places x.facts (superposing.needs form) certs = put ∙ ap (certs_with_places x.facts (superposing.needs form)) cs in
-    subst (λ (q : StepState). IsNumberedStep before (step_script step) x (step_script s) q) (sym (back_is o x w after again shown e kept twice end))
+    let block_placed : script_of numbered ≡ places_at before inner begin (goal_of shown) = block_is ∙ ap (λ q. places_at before inner q (goal_of shown)) begun in
+    let block_few : HaveFew before inner begin (goal_of shown) = subst (λ q. HaveFew before inner q (goal_of shown)) begun few in
+    subst (λ (q : StepState). IsNumberedStep before (Superposed form names shown certs inner) x (step_script s) q) (sym (back_is o x w after shown shown e kept refl end))
     (record {
       same = λ rest goal.
-          ap (λ t. places_at before (step_script t rest) x goal) is ∙ ap (λ d. places_at before d x goal) (step_script-Superposed form names shown certs inner rest) ∙ superposed_places before form names shown certs inside x rest goal
+          superposed_places before form names shown certs inner x rest goal
           ∙ sym (made (places_at before rest later goal)
-          ∙ ap (λ ns. Superposed form ns again placed (script_of numbered) (places_at before rest later goal)) named
-          ∙ ap (λ ls. Superposed form names ls placed (script_of numbered) (places_at before rest later goal)) twice
-          ∙ ap₂ {A = List Cert} {B = Script} (λ ps d. Superposed form names shown ps d (places_at before rest later goal)) certs_placed block_placed);
+          ∙ ap₂ {A = List Cert} {B = Script} (λ ps d. Superposed form names shown ps d (places_at before rest later goal)) put block_placed);
       few = λ all rest goal h.
-          ap (λ t. list_all has_few (lines_in_state before (step_script t rest) x goal)) is ∙ ap (λ d. list_all has_few (lines_in_state before d x goal)) (step_script-Superposed form names shown certs inner rest)
-          ∙ ap (list_all has_few) (superposed_lines before form names shown certs inside x rest goal)
-          ∙ ap₂ {A = Bool} {B = Bool} (λ a b. a && b) (few_first x all) (all_both has_few (lines_in_state before inside begin (goal_of shown)) (lines_in_state before rest later goal) block_few h);
+          ap (list_all has_few) (superposed_lines before form names shown certs inner x rest goal)
+          ∙ ap₂ {A = Bool} {B = Bool} (λ a b. a && b) (few_first x all) (all_both has_few (lines_in_state before inner begin (goal_of shown)) (lines_in_state before rest later goal) block_few h);
       kept = stay_all x.facts shown;
     })
 

@@ -2,12 +2,12 @@ use Rattle.std.proofs.Common.{sym, ap, ◌∙◌, subst, arith}
 use Rattle.std.specs.Prelude.{IfOk}
 use Rattle.e_literal.specs.Literal.{negation}
 use Rattle.e_theorem.specs.Statements.{all_stated}
-use Rattle.e_deriv.specs.Script.{Cite, Hence, Make, Apply, script_of, step_script, steps_script, close_script}
+use Rattle.e_deriv.specs.Script.{Cite, Hence, Make, Apply, Claim, Superposed, script_of, step_script, steps_script, close_script}
 use Rattle.e_verify.specs.inner.StepStates.{block_goal}
 use Rattle.e_verify.specs.Checking.{KeepsFirstFacts}
 use Rattle.e_verify.specs.inner.Numbering.{HaveFew, IsNumberedStep, places_at}
 use Rattle.e_deriv.proofs.Keeping.{all_stay, stay_joined}
-use Rattle.e_verify.proofs.checking.InnerBlocks.{cite_is, hence_is, make_is, apply_is, kept_on, steps_end}
+use Rattle.e_verify.proofs.checking.InnerBlocks.{cite_is, hence_is, make_is, apply_is, claim_is, superposed_is, kept_on, steps_end}
 use Rattle.e_verify.proofs.placing.NumberedSteps.{steps_go_on, few_go_on, step_ok, all_before, ok_with, if_ok, where_ok, claim_numbered, superposed_numbered, qed_same, qed_few, contradiction_same, contradiction_few, after_cases, cases_numbered, cases_few}
 use Rattle.e_verify.proofs.numbering.+number.Goals as goal
 
@@ -90,21 +90,34 @@ number_step-returns-in-Apply-clause-step t c =
 
 -- ---- steps with a block inside
 
-pub number_step-returns-in-Ok-clause-step : goal.number_step-returns-in-Ok-clause-step
-number_step-returns-in-Ok-clause-step t c =
+pub number_step-returns-in-Claim-clause-step : goal.number_step-returns-in-Claim-clause-step
+number_step-returns-in-Claim-clause-step t c =
     let y = c.in-Claim in
-    ok_with c.claimed.result c.claimed.ensures.step c.claimed.ensures.after
-    (λ s made end. claim_numbered (all_stated c.args.before.now) c.args.step.now y.shown c.items-in-Claim.result.now c.items-in-Ok.result.now y.inner c.deref.result.now c.in-Ok.numbered c.args.state.now c.number_block.new.state c.claimed.new.state c.checkpoint-outer.result s
-    y.is c.items-in-Claim.ensures c.items-in-Ok.ensures c.deref.ensures c.in-Ok.ensures.same c.in-Ok.ensures.few c.checkpoint-outer.ensures c.in-Ok.ensures.kept made end)
+    step_ok (all_stated c.args.before.now) c.args.step.now (Claim c.items-in-Claim.result.now (script_of c.deref.result.now)) c.args.state.now c.number_claim.new.state c.number_claim.result
+    (claim_is c.args.step.now y.shown c.items-in-Claim.result.now y.inner c.deref.result.now y.is c.items-in-Claim.ensures c.deref.ensures) c.number_claim.ensures
 
-pub number_step-returns-in-Ok-number_block-clause-step : goal.number_step-returns-in-Ok-number_block-clause-step
-number_step-returns-in-Ok-number_block-clause-step t c =
+pub number_step-returns-in-Superposed-clause-step : goal.number_step-returns-in-Superposed-clause-step
+number_step-returns-in-Superposed-clause-step t c =
     let y = c.in-Superposed in
+    step_ok (all_stated c.args.before.now) c.args.step.now (Superposed y.form c.items-in-Superposed.result.now c.items-in-Superposed-2.result.now c.items-in-Superposed-3.result.now (script_of c.deref-in-Superposed.result.now)) c.args.state.now
+    c.number_superposed.new.state c.number_superposed.result
+    (λ rest. superposed_is c.args.step.now y.form y.names y.shown c.items-in-Superposed-2.result.now y.certs c.items-in-Superposed-3.result.now y.inner c.deref-in-Superposed.result.now y.is c.items-in-Superposed-2.ensures c.items-in-Superposed-3.ensures
+    c.deref-in-Superposed.ensures rest
+    ∙ ap (λ ns. Superposed y.form ns c.items-in-Superposed-2.result.now c.items-in-Superposed-3.result.now (script_of c.deref-in-Superposed.result.now) rest) (sym c.items-in-Superposed.ensures)) c.number_superposed.ensures
+
+pub number_claim-returns-in-Ok : goal.number_claim-returns-in-Ok
+number_claim-returns-in-Ok t c =
+    ok_with c.claimed.result c.claimed.ensures.step c.claimed.ensures.after
+    (λ s made end. claim_numbered (all_stated c.args.before.now) c.args.shown.now (script_of c.args.inner.now) c.in-Ok.numbered c.args.state.now c.number_block.new.state c.claimed.new.state c.checkpoint-outer.result s
+    c.in-Ok.ensures.same c.in-Ok.ensures.few c.checkpoint-outer.ensures c.in-Ok.ensures.kept made end)
+
+pub number_superposed-returns-in-Ok-number_block : goal.number_superposed-returns-in-Ok-number_block
+number_superposed-returns-in-Ok-number_block t c =
+    let h = c.args.superposition.now in
     ok_with c.superposed.result c.superposed.ensures.step c.superposed.ensures.after
-    (λ s made end. superposed_numbered (all_stated c.args.before.now) c.args.step.now y.form y.names c.items-in-Ok-number_block.result.now y.shown c.items-in-Superposed-2.result.now c.items-in-Ok-number_block-2.result.now y.certs c.items-in-Superposed.result.now
-    c.in-Ok-superpose.certs y.inner c.deref-in-Superposed.result.now c.in-Ok-number_block.numbered c.args.state.now c.superpose.new.state c.number_block-in-Superposed.new.state c.superposed.new.state c.checkpoint-outer-in-Superposed.result s
-    y.is c.items-in-Superposed-2.ensures c.items-in-Ok-number_block-2.ensures c.items-in-Ok-number_block.ensures c.items-in-Superposed.ensures c.deref-in-Superposed.ensures c.in-Ok-superpose.ensures.certs c.in-Ok-superpose.ensures.after
-    c.in-Ok-number_block.ensures.same c.in-Ok-number_block.ensures.few c.checkpoint-outer-in-Superposed.ensures c.in-Ok-number_block.ensures.kept made end)
+    (λ s made end. superposed_numbered (all_stated c.args.before.now) h.form.now h.names.now h.shown.now h.certs.now c.in-Ok.certs (script_of c.args.inner.now) c.in-Ok-number_block.numbered c.args.state.now c.superpose.new.state
+    c.number_block.new.state c.superposed.new.state c.checkpoint-outer.result s c.in-Ok.ensures.certs c.in-Ok.ensures.after c.in-Ok-number_block.ensures.same c.in-Ok-number_block.ensures.few c.checkpoint-outer.ensures
+    c.in-Ok-number_block.ensures.kept made end)
 
 -- ---- closes
 
