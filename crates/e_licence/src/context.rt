@@ -87,7 +87,8 @@ impl Context {
         facts
     }
 
-    /// The facts are in scope and well formed, and their terms are few.
+    /// The facts are in scope and well formed, and their terms are few. It does nothing: callers
+    /// that need this of the context have it from the contract.
     pub fn good(&self)
         ensures { IsTrue (are_good_facts self.now.scope self.now.facts) }
     {

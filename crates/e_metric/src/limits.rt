@@ -85,6 +85,7 @@ fn are_well_formed(facts: &Facts) -> bool
 fn capped_monomials(facts: &Facts) -> usize
     ensures { result ≡ min (length (terms_of_lits facts.now)) 1101 }
 {
+    // Capped at each fact, since nothing bounds how many facts there are.
     let mut count = 0;
     for i in 0..facts.len() {
         count = (count + monomials(facts.get(i))).min(1101);

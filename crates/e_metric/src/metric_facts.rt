@@ -153,6 +153,7 @@ impl Slot {
         requires { IsFront which facts.now self.now }
         ensures { IfOk result (λ o. IfSome o (IsCertified facts.now None)) }
     {
+        // The kind is for the contract alone: each slot has the facts of one.
         let _ = which;
         if self.is_whole(facts) {
             if let Some(kind_system) = &self.kind_system {

@@ -176,8 +176,8 @@ impl Facts {
     }
 }
 
-/// Whether one the same as the literal, which has this fingerprint, is among the facts. Most that
-/// are asked for are late ones.
+/// Whether one the same as the literal, which has this fingerprint, is among the facts. They are
+/// looked through from the last on, since most that are asked for came late.
 fn has_same(facts: &[Fact], lit: &Lit, fingerprint: u128) -> bool
     requires { fingerprint ≡ atom_fingerprint lit.now.atom }
     ensures { result ≡ is_fact facts.now lit.now }

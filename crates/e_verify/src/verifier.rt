@@ -19,6 +19,7 @@ use e_literal::{Scope, grown, next_objects};
 use e_theorem::Statement;
 use std::alloc::{AllocError, Global};
 
+/// No objects.
 pub(crate) const NOTHING: Scope = Scope {
     points: 0,
     lines: 0,
@@ -52,6 +53,7 @@ pub fn verify(
     };
     match verify_block(alloc, before, deriv, &goal, &mut state, 1) {
         Ok(_) => {
+            // The law that what is certified is a proof.
             certified_proves();
             Ok(())
         }
