@@ -34,7 +34,7 @@ pub enum FirstChoices {
 }
 
 /// The first of the good choices for the blanks of an application of the statement, in order, at
-/// most so many, and whether there are more. The blanks are filled as [`crate::match_blanks`] fills
+/// most `most`, and whether there are more. The blanks are filled as [`crate::match_blanks`] fills
 /// them. It fails only out of memory.
 ///
 /// Questions begin where the context has solved its facts: [`Context::solve`] before it is worth

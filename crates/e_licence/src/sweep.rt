@@ -1,4 +1,4 @@
-//! A second way to walk a search: all kept choices in order, up to so many.
+//! A second way to walk a search: all kept choices in order, up to a given number.
 
 ghost use Rattle.std.specs.Prelude.{◌≤◌, length, IfOk};
 ghost use Rattle.e_licence.specs.inner.Sweeps.{FoundIs, Sweeps};
