@@ -18,22 +18,18 @@ use Rattle.e_deriv.specs.declared.block.Step.TheVariants.{Cite as CiteStep, Henc
 use Rattle.e_deriv.specs.declared.block.Close.{Close}
 use Rattle.e_deriv.specs.declared.block.Close.TheVariants.{Qed as QedClose, Contradiction as ContradictionClose, Cases as CasesClose}
 use Rattle.e_deriv.specs.declared.stop.Stop.{Stop}
-use Rattle.e_deriv.specs.Script.{Script, Claim, Superposed, Cases, script_of, step_script, steps_script, close_script, size}
+use Rattle.e_deriv.specs.Script.{Script, Superposed, Cases, script_of, step_script, steps_script, close_script, size}
 use Rattle.e_deriv.specs.Goal.{Goal, goal_of}
 use Rattle.e_deriv.proofs.Scripts.{steps_at, steps_script-append, step_script-Claim, step_script-Superposed, close_script-Cases}
 use Rattle.e_prove.specs.declared.step_stop.StepStop.{StepStop}
 use Rattle.e_prove.specs.declared.step_state.StepState.{StepState}
-use Rattle.e_deriv.specs.declared.names.Names.{Names}
-use Rattle.e_prove.specs.declared.block.ProvedBlock.{ProvedBlock}
-use Rattle.e_prove.specs.declared.block.ProvedStep.{ProvedStep}
 use Rattle.e_prove.specs.declared.block.ProvedClose.{ProvedClose}
-use Rattle.e_prove.specs.inner.StepStates.{after_literal, after_superposed, held_at, IsLeftWith}
+use Rattle.e_prove.specs.inner.StepStates.{after_literal, after_superposed}
 use Rattle.e_prove.specs.inner.StopsOfSteps.{StepStopsAmong, UnlessNoMemory, StopOf}
 use Rattle.e_prove.specs.inner.PassedSteps.{IsReadyFor, IsReadyStep, IsDerivedFrom, KeepsHeld, StopsWithin, IsPassed, StepStops}
-use Rattle.e_prove.proofs.HeldStates.{after_is}
 use Rattle.e_prove.proofs.PassedSteps.{passed_none, passed_more, passed_as, stops_first, same_names}
 use Rattle.e_prove.proofs.StopsInLists.{stop_within, before_more, stop_before}
-use Rattle.e_prove.proofs.InnerBlocks.{ClaimReady, claim_size, claim_stops, passed_claim, SuperposedReady, Certifies, superposed_size, superposed_stops, passed_superposed, superposed_step_stops, SplitReady, split_ready, split_other, split_derives, split_first, split_second}
+use Rattle.e_prove.proofs.InnerBlocks.{ClaimReady, claim_size, claim_stops, SuperposedReady, Certifies, superposed_size, superposed_stops, superposed_step_stops, SplitReady, split_ready, split_other, split_derives, split_first, split_second}
 use Rattle.e_book.proofs.KeptBlocks.{size_split}
 
 pub on_ok : {A E : Type 0} (p : Type 0) (r : Result A E) → p → OnOk r p

@@ -23,7 +23,7 @@ use Rattle.e_construct.specs.Construct.{made, gives, needs as needs_of_form}
 use Rattle.e_deriv.specs.declared.block.Block.{Block}
 use Rattle.e_deriv.specs.declared.block.Step.TheVariants.{Cite as CiteStep, Hence as HenceStep, Make as MakeStep, Apply as ApplyStep, Claim as ClaimStep, Superposed as SuperposedStep}
 use Rattle.e_deriv.specs.Script.{Script, Cite, Hence, Make, Apply, Claim, Superposed, script_of, step_script, size}
-use Rattle.e_deriv.specs.Goal.{Goal, goal_of}
+use Rattle.e_deriv.specs.Goal.{Goal}
 use Rattle.e_deriv.specs.Parts.{written, filled_in}
 use Rattle.e_deriv.specs.Lines.{lines, theorem_at}
 use Rattle.e_deriv.specs.Fitting.{LitsFit, is_small, is_small_statement}
@@ -31,12 +31,12 @@ use Rattle.e_deriv.proofs.Choices.{written_again}
 use Rattle.e_deriv.proofs.Scripts.{step_script-Claim, step_script-Superposed}
 use Rattle.e_deriv.proofs.Smallness.{few_of_small}
 use Rattle.e_prove.specs.declared.step_state.StepState.{StepState}
-use Rattle.e_prove.specs.inner.StepStates.{HasRoomForMore, after_make, after_superposed, after_literal, after_block}
+use Rattle.e_prove.specs.inner.StepStates.{HasRoomForMore, after_make, after_literal}
 use Rattle.e_prove.specs.inner.LicensedSteps.{lines_at, line_at, has_form}
-use Rattle.e_prove.specs.inner.PassedSteps.{IsReadyFor, IsReadyStep, IsDerivedFrom}
+use Rattle.e_prove.specs.inner.PassedSteps.{IsReadyFor, IsReadyStep}
 use Rattle.e_prove.specs.inner.Applications.{LitsFitAt, CanApply}
 use Rattle.e_prove.proofs.PassedSteps.{lines_begin, first_is}
-use Rattle.e_prove.proofs.InnerBlocks.{ClaimReady, claim_ready, claim_rest, SuperposedReady, superposed_ready, superposed_rest}
+use Rattle.e_prove.proofs.InnerBlocks.{ClaimReady, claim_ready, SuperposedReady, superposed_ready}
 
 -- the facts that a script begins with are good
 pub first_facts : (before : List Stated) (here f : Script) (s : Scope) (facts : List Lit) (goal : Goal) → LitsFit before (lines before here f s facts goal) → are_good_facts s facts ≡ true

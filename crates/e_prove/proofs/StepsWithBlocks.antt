@@ -14,7 +14,7 @@ use Rattle.e_deriv.specs.declared.block.Step.TheVariants.{Claim as ClaimStep, Su
 use Rattle.e_deriv.specs.declared.names.Names.{Names}
 use Rattle.e_deriv.specs.declared.stop.Stop.{Stop}
 use Rattle.e_deriv.specs.Script.{Script, Claim, Superposed, script_of, step_script, size}
-use Rattle.e_deriv.specs.Goal.{Goal, goal_of}
+use Rattle.e_deriv.specs.Goal.{goal_of}
 use Rattle.e_deriv.proofs.Scripts.{step_script-Claim, step_script-Superposed}
 use Rattle.e_prove.specs.declared.step_stop.StepStop.{StepStop}
 use Rattle.e_prove.specs.declared.step_state.StepState.{StepState}

@@ -1,5 +1,5 @@
 -- Lists of numbers, place by place.
-use Rattle.std.proofs.Common.{◌≡◌, ℕ, ◌+◌, ◌<◌, List, [], ◌∷◌, ◌++◌, refl, sym, ap, ◌∙◌, subst, arith, get_or, length, length-append, inl, inr, Bool, true, false, ◌||◌, not, cond, true≢false, eqb-true, Option, Some, None}
+use Rattle.std.proofs.Common.{◌≡◌, ℕ, ◌+◌, ◌<◌, List, [], ◌∷◌, ◌++◌, refl, sym, ap, ◌∙◌, subst, arith, get_or, length, length-append, inl, inr, Bool, true, false, ◌||◌, not, cond, true≢false, eqb-true, Some, None}
 use Rattle.std.specs.Prelude.{◌==◌, nat_lt}
 use Rattle.std.specs.List.{list_any, position, position_or_len}
 use Rattle.std.proofs.lemmas.List.{get_or_append_left}

@@ -1,5 +1,5 @@
 -- What holds of one kind and of the other two holds of each kind.
-use Rattle.std.proofs.Common.{◌≡◌, refl, sym, subst, Bool, false}
+use Rattle.std.proofs.Common.{◌≡◌, refl, sym, subst, false}
 use Rattle.e_literal.specs.declared.object.Kind.{Kind}
 use Rattle.e_literal.specs.declared.object.Kind.TheVariants.{Segment, Angle, Area}
 use Rattle.e_literal.specs.WellFormed.{same_kind}

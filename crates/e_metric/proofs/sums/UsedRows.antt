@@ -1,6 +1,6 @@
 -- A row whose weight is 0 counts for nothing in a sum of rows.
-use Rattle.std.proofs.Common.{◌≡◌, ℕ, suc, ◌≤◌, ◌^◌, List, [], ◌∷◌, length, refl, sym, ap, subst, arith, cond, Bool, true, false, ◌∙◌}
-use Rattle.std.specs.Prelude.{IsTrue, unsigned_abs, nat_le, neg_ℤ, int_lt}
+use Rattle.std.proofs.Common.{◌≡◌, suc, ◌≤◌, ◌^◌, List, [], ◌∷◌, length, refl, sym, ap, subst, arith, cond, Bool, true, false, ◌∙◌}
+use Rattle.std.specs.Prelude.{unsigned_abs, nat_le, neg_ℤ, int_lt}
 use Rattle.std.specs.Ordering.{int_eq}
 use lib.IntN.{ℤ, pos, ◌+ℤ◌, ◌*ℤ◌, zero-*ℤ}
 use Rattle.std.proofs.lemmas.Bool.{and_from}

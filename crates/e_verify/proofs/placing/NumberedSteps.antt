@@ -19,14 +19,14 @@ use Rattle.e_construct.specs.Construct as construct
 use Rattle.e_construct.specs.Superposing as superposing
 use Rattle.e_deriv.specs.declared.block.Block.{Block}
 use Rattle.e_deriv.specs.declared.block.Step.{Step}
-use Rattle.e_deriv.specs.declared.block.Step.TheVariants.{Cite as CiteStep, Hence as HenceStep, Make as MakeStep, Apply as ApplyStep, Claim as ClaimStep, Superposed as SuperposedStep}
+use Rattle.e_deriv.specs.declared.block.Step.TheVariants.{Cite as CiteStep, Hence as HenceStep, Make as MakeStep, Apply as ApplyStep}
 use Rattle.e_deriv.specs.declared.block.Close.{Close}
 use Rattle.e_deriv.specs.declared.block.Close.TheVariants.{Qed as QedClose, Contradiction as ContradictionClose, Cases as CasesClose}
 use Rattle.e_deriv.specs.Script.{Script, Cite, Hence, Make, Apply, Claim, Superposed, Qed, Contradiction, Cases, script_of, step_script, steps_script, close_script}
 use Rattle.e_deriv.specs.Goal.{Goal, goal_of, goal_with}
 use Rattle.e_deriv.specs.Lines.{theorem_at}
 use Rattle.e_deriv.specs.Parts.{written}
-use Rattle.e_deriv.proofs.Scripts.{steps_at, steps_script-append, step_script-Cite, step_script-Hence, step_script-Make, step_script-Apply, step_script-Claim, step_script-Superposed, close_script-Qed, close_script-Contradiction, close_script-Cases}
+use Rattle.e_deriv.proofs.Scripts.{steps_at, steps_script-append, step_script-Cite, step_script-Hence, step_script-Make, step_script-Apply, close_script-Qed, close_script-Contradiction, close_script-Cases}
 use Rattle.e_deriv.proofs.Keeping.{stay_joined, stay_all}
 use Rattle.e_verify.specs.declared.step_state.StepState.{StepState}
 use Rattle.e_verify.specs.declared.step_state.Checkpoint.{Checkpoint}

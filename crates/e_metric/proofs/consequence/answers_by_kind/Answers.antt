@@ -1,4 +1,3 @@
-use Rattle.std.proofs.Common.{ap, ◌∙◌}
 use Rattle.std.specs.Option.{option_copied}
 use Rattle.e_literal.specs.declared.object.Kind.TheVariants.{Segment, Angle, Area}
 use Rattle.e_metric.specs.MetricAnswers.{IsKindAnswer}

@@ -1,4 +1,4 @@
-use Rattle.std.proofs.Common.{below_more, ◌≡◌, ◌<◌, ◌∙◌, List, [], get_or, length, subst, sym, arith}
+use Rattle.std.proofs.Common.{below_more, ◌≡◌, ◌∙◌, List, [], get_or, subst, arith}
 use Rattle.e_clause.specs.Views.{row_of}
 use Rattle.e_transfer.specs.declared.equations.Equation.{Equation}
 use Rattle.e_transfer.specs.GivenGoals.{NoneWithEquations, signed_literal}
