@@ -43,7 +43,7 @@ there_before_end v (x ∷ xs) h = by (is_it v x) h (λ k. there_before_end v xs 
 pub is_found : (v : ℕ) (xs : List ℕ) → list_any (is_it v) xs ≡ true → position (is_it v) xs ≡ None → ⊥
 is_found v xs h e =
     let tested : nat_lt (position_or_len (is_it v) xs) (length xs) ≡ true = lt-ltb (position_or_len (is_it v) xs) (length xs) (there_before_end v xs h) in
-    absurd (none-some (sym e ∙ ap (λ b. cond b (Some (position_or_len (is_it v) xs)) None) tested))
+    none-some (position_or_len (is_it v) xs) (sym e ∙ ap (λ b. cond b (Some (position_or_len (is_it v) xs)) None) tested)
 
 -- and its place is one of the list's, where it is
 pub found_below : (v : ℕ) (xs : List ℕ) (i : ℕ) → position (is_it v) xs ≡ Some i → i < length xs
