@@ -3,7 +3,7 @@
 ghost use Rattle.std.specs.Prelude.{◌≡◌, ◌≤◌, ◌∷◌, [], true, length, drop, option_copied, flat_map, IfOk, OnOk, IsTrue, Some};
 ghost use Rattle.std.specs.Option.{option_map_or};
 ghost use Rattle.std.specs.List.{list_all};
-ghost use Rattle.e_literal.specs.Facts;
+ghost use Rattle.e_literal.specs.Facts.{are_apart as say_apart};
 ghost use Rattle.e_literal.specs.WellFormed.{is_well_formed};
 ghost use Rattle.e_clause.specs.declared.cert.RowName.TheVariants as name;
 ghost use Rattle.e_clause.specs.System.{NamedRow};
@@ -22,7 +22,7 @@ use std::alloc::{AllocError, Global};
 
 /// Whether the facts say that the two points differ, in one order or the other.
 pub fn are_apart(facts: &Facts, a: u16, b: u16) -> bool
-    ensures { result ≡ Facts.are_apart facts.now a b }
+    ensures { result ≡ say_apart facts.now a b }
 {
     let one = Lit {
         neg: true,
