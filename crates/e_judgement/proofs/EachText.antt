@@ -10,7 +10,7 @@ use Rattle.e_book.proofs.InScope.{bind_ok}
 use Rattle.e_read.specs.declared.reading.Reading.{Reading}
 use Rattle.e_read.specs.Text.{Piece, Derived, Last, at_start, taken, garbled_at, finished, or_on, is_end, piece_from}
 use Rattle.e_read.proofs.TakenLines.{either}
-use Rattle.e_verify.proofs.Passing.{all_pass}
+use Rattle.e_verify.proofs.checking.PassedLines.{all_pass}
 use Rattle.e_judgement.specs.declared.judgement.Judgement.{Judgement}
 use Rattle.e_judgement.specs.declared.judgement.Judgement.TheVariants.{Bad, Garbled}
 use Rattle.e_judgement.specs.Judged.{Rest, with_theorem, ReadsNext, IsCertified, Passes, JudgedBehind, Closes, IsJudged, version_of, JudgedBehindHead, JudgesLines, lines_of_text}

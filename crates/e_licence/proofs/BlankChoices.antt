@@ -17,8 +17,8 @@ use Rattle.e_literal.proofs.Booleans.{or_not_right, and_left, and_right, eqb_sel
 use Rattle.e_theorem.specs.Choice.{fills, is_below}
 use Rattle.e_theorem.specs.Pattern.{are_entries}
 use Rattle.e_transfer.specs.declared.walk.Span.{Span}
-use Rattle.e_transfer.specs.Choice.{Fits, Starts, Below}
-use Rattle.e_licence.specs.inner.BlankChoices.{filled, spans_of}
+use Rattle.e_transfer.specs.Choice.{FitsSpans, Starts, ComesBefore}
+use Rattle.e_licence.specs.inner.BlankChoices.{filled_arguments, spans_of}
 
 -- ---- the numbers of a choice give arguments
 
@@ -42,14 +42,14 @@ is_there s sort num rest less h =
 -- the first numbers of a choice, and 0 for the others
 pub start_is_of_sorts : (s b : Scope) (sorts : List Sort) (entries : List (Option Obj)) (c : List ℕ) → are_entries s sorts entries ≡ true
     → Starts (spans_of s (next_objects b sorts) entries) c → has_empty (spans_of s (next_objects b sorts) entries) ≡ false
-    → are_of_sorts s sorts (filled nothing (next_objects b sorts) entries c) ≡ true
+    → are_of_sorts s sorts (filled_arguments nothing (next_objects b sorts) entries c) ≡ true
 start_is_of_sorts s b [] [] c are starts some = refl
 start_is_of_sorts s b [] (e ∷ entries) c are starts some = absurd (true≢false (sym are))
 start_is_of_sorts s b (sort ∷ sorts) [] c are starts some = absurd (true≢false (sym are))
 start_is_of_sorts s b (sort ∷ sorts) (Some p ∷ entries) c are starts some =
     let rest = and_right (same_sort sort p.sort) _ are in
-    ap (λ x. x && (is_in_scope s p && are_of_sorts s sorts (filled nothing (next_objects (with_one b sort) sorts) entries c))) (and_left (same_sort sort p.sort) _ are)
-    ∙ ap (λ x. x && are_of_sorts s sorts (filled nothing (next_objects (with_one b sort) sorts) entries c)) (and_left (is_in_scope s p) _ rest)
+    ap (λ x. x && (is_in_scope s p && are_of_sorts s sorts (filled_arguments nothing (next_objects (with_one b sort) sorts) entries c))) (and_left (same_sort sort p.sort) _ are)
+    ∙ ap (λ x. x && are_of_sorts s sorts (filled_arguments nothing (next_objects (with_one b sort) sorts) entries c)) (and_left (is_in_scope s p) _ rest)
     ∙ start_is_of_sorts s (with_one b sort) sorts entries c (and_right (is_in_scope s p) _ rest) starts some
 start_is_of_sorts s b (sort ∷ sorts) (None ∷ entries) [] are starts some =
     is_there s sort (count_of nothing sort) _ (omega (arith, counts_nothing sort, some_number (count_of s sort) _ some))
@@ -61,33 +61,33 @@ start_is_of_sorts s b (sort ∷ sorts) (None ∷ entries) [] are starts some =
 start_is_of_sorts s b (sort ∷ sorts) (None ∷ entries) (v ∷ c) are (from, less, starts) some =
     is_there s sort v _ less (start_is_of_sorts s (with_one b sort) sorts entries c are starts (or_not_right (eqb (count_of s sort) 0) _ some))
 
-pub filled_fills : (s m b : Scope) (sorts : List Sort) (entries : List (Option Obj)) (c : List ℕ) → are_entries s sorts entries ≡ true → fills entries (filled m (next_objects b sorts) entries c) ≡ true
+pub filled_fills : (s m b : Scope) (sorts : List Sort) (entries : List (Option Obj)) (c : List ℕ) → are_entries s sorts entries ≡ true → fills entries (filled_arguments m (next_objects b sorts) entries c) ≡ true
 filled_fills s m b [] [] c are = refl
 filled_fills s m b [] (e ∷ entries) c are = absurd (true≢false (sym are))
 filled_fills s m b (sort ∷ sorts) [] c are = absurd (true≢false (sym are))
 filled_fills s m b (sort ∷ sorts) (Some p ∷ entries) c are =
-    ap (λ x. x && fills entries (filled m (next_objects (with_one b sort) sorts) entries c)) (same_obj_self p)
+    ap (λ x. x && fills entries (filled_arguments m (next_objects (with_one b sort) sorts) entries c)) (same_obj_self p)
     ∙ filled_fills s m (with_one b sort) sorts entries c (and_right (is_in_scope s p) _ (and_right (same_sort sort p.sort) _ are))
 filled_fills s m b (sort ∷ sorts) (None ∷ entries) [] are = filled_fills s m (with_one b sort) sorts entries [] are
 filled_fills s m b (sort ∷ sorts) (None ∷ entries) (v ∷ c) are = filled_fills s m (with_one b sort) sorts entries c are
 
 -- of a whole choice nothing is missing
-pub whole : (s m k b : Scope) (sorts : List Sort) (entries : List (Option Obj)) (c : List ℕ) → Fits (spans_of s (next_objects b sorts) entries) c
-    → filled m (next_objects b sorts) entries c ≡ filled k (next_objects b sorts) entries c
+pub whole : (s m k b : Scope) (sorts : List Sort) (entries : List (Option Obj)) (c : List ℕ) → FitsSpans (spans_of s (next_objects b sorts) entries) c
+    → filled_arguments m (next_objects b sorts) entries c ≡ filled_arguments k (next_objects b sorts) entries c
 whole s m k b [] entries c fits = refl
 whole s m k b (sort ∷ sorts) [] c fits = refl
 whole s m k b (sort ∷ sorts) (Some p ∷ entries) c fits = ap (λ os. p ∷ os) (whole s m k (with_one b sort) sorts entries c fits)
 whole s m k b (sort ∷ sorts) (None ∷ entries) [] fits = absurd fits
 whole s m k b (sort ∷ sorts) (None ∷ entries) (v ∷ c) (from, less, fits) = ap (λ os. obj sort v ∷ os) (whole s m k (with_one b sort) sorts entries c fits)
 
-pub fits_starts : (spans : List Span) (c : List ℕ) → Fits spans c → Starts spans c
+pub fits_starts : (spans : List Span) (c : List ℕ) → FitsSpans spans c → Starts spans c
 fits_starts [] [] fits = tt
 fits_starts [] (v ∷ c) fits = fits
 fits_starts (n ∷ ns) [] fits = tt
 fits_starts (n ∷ ns) (v ∷ c) (from, less, fits) = (from, less, fits_starts ns c fits)
 
 -- a blank without numbers has no choice
-pub none_fits : (spans : List Span) (c : List ℕ) → has_empty spans ≡ true → Fits spans c → ⊥
+pub none_fits : (spans : List Span) (c : List ℕ) → has_empty spans ≡ true → FitsSpans spans c → ⊥
 none_fits [] c h fits = true≢false (sym h)
 none_fits (n ∷ ns) [] h fits = fits
 none_fits (n ∷ ns) (v ∷ c) h (from, less, fits) =
@@ -104,7 +104,7 @@ chosen (None ∷ entries) (a ∷ args) = a.num ∷ chosen entries args
 chosen _ _ = []
 
 pub chosen_fit : (s b : Scope) (sorts : List Sort) (entries : List (Option Obj)) (args : List Obj) → fills entries args ≡ true → are_of_sorts s sorts args ≡ true
-    → Fits (spans_of s (next_objects b sorts) entries) (chosen entries args)
+    → FitsSpans (spans_of s (next_objects b sorts) entries) (chosen entries args)
 chosen_fit s b [] [] [] fill fit = tt
 chosen_fit s b [] [] (a ∷ args) fill fit = absurd (true≢false (sym fill))
 chosen_fit s b [] (e ∷ entries) (a ∷ args) fill fit = absurd (true≢false (sym fit))
@@ -123,17 +123,17 @@ chosen_fit s b (sort ∷ sorts) (None ∷ entries) (a ∷ args) fill fit =
     )
 
 pub chosen_filled : (s m b : Scope) (sorts : List Sort) (entries : List (Option Obj)) (args : List Obj) → fills entries args ≡ true → are_of_sorts s sorts args ≡ true
-    → filled m (next_objects b sorts) entries (chosen entries args) ≡ args
+    → filled_arguments m (next_objects b sorts) entries (chosen entries args) ≡ args
 chosen_filled s m b [] entries [] fill fit = refl
 chosen_filled s m b [] entries (a ∷ args) fill fit = absurd (true≢false (sym fit))
 chosen_filled s m b (sort ∷ sorts) entries [] fill fit = absurd (true≢false (sym fit))
 chosen_filled s m b (sort ∷ sorts) [] (a ∷ args) fill fit = absurd (true≢false (sym fill))
 chosen_filled s m b (sort ∷ sorts) (Some p ∷ entries) (a ∷ args) fill fit =
-    ap (λ x. x ∷ filled m (next_objects (with_one b sort) sorts) entries (chosen entries args)) (same_obj_is p a (and_left (same_obj p a) _ fill))
+    ap (λ x. x ∷ filled_arguments m (next_objects (with_one b sort) sorts) entries (chosen entries args)) (same_obj_is p a (and_left (same_obj p a) _ fill))
     ∙ ap (λ os. a ∷ os)
     (chosen_filled s m (with_one b sort) sorts entries args (and_right (same_obj p a) _ fill) (and_right (is_in_scope s a) _ (and_right (same_sort sort a.sort) _ fit)))
 chosen_filled s m b (sort ∷ sorts) (None ∷ entries) (a ∷ args) fill fit =
-    ap (λ x. obj x a.num ∷ filled m (next_objects (with_one b sort) sorts) entries (chosen entries args)) (same_sort_is sort a.sort (and_left (same_sort sort a.sort) _ fit))
+    ap (λ x. obj x a.num ∷ filled_arguments m (next_objects (with_one b sort) sorts) entries (chosen entries args)) (same_sort_is sort a.sort (and_left (same_sort sort a.sort) _ fit))
     ∙ ap (λ os. a ∷ os) (chosen_filled s m (with_one b sort) sorts entries args fill (and_right (is_in_scope s a) _ (and_right (same_sort sort a.sort) _ fit)))
 
 -- ---- their order
@@ -151,13 +151,13 @@ none_below_zero n z rest is h =
       | inr both ↦ and_right (eqb n z) rest both
     ]
 
-not_below_none : (d : List ℕ) → Below d [] → ⊥
+not_below_none : (d : List ℕ) → ComesBefore d [] → ⊥
 not_below_none [] h = h
 not_below_none (v ∷ d) h = h
 
 -- smaller arguments have smaller numbers
-pub below : (s m b : Scope) (sorts : List Sort) (entries : List (Option Obj)) (d c : List ℕ) → Fits (spans_of s (next_objects b sorts) entries) d
-    → is_below (filled m (next_objects b sorts) entries d) (filled nothing (next_objects b sorts) entries c) ≡ true → Below d c
+pub below : (s m b : Scope) (sorts : List Sort) (entries : List (Option Obj)) (d c : List ℕ) → FitsSpans (spans_of s (next_objects b sorts) entries) d
+    → is_below (filled_arguments m (next_objects b sorts) entries d) (filled_arguments nothing (next_objects b sorts) entries c) ≡ true → ComesBefore d c
 below s m b [] entries d c fits h = absurd (true≢false (sym h))
 below s m b (sort ∷ sorts) [] d c fits h = absurd (true≢false (sym h))
 below s m b (sort ∷ sorts) (Some p ∷ entries) d c fits h = below s m (with_one b sort) sorts entries d c fits (after_same p.num _ h)
@@ -174,8 +174,8 @@ same_number : (n : ℕ) (rest : Bool) → rest ≡ true → (ltb n n || (eqb n n
 same_number n rest h = ap (λ b. b || (eqb n n && rest)) (not_itself n) ∙ ap (λ b. b && rest) (eqb_self n) ∙ h
 
 -- and smaller numbers give smaller arguments
-pub in_order : (s m b : Scope) (sorts : List Sort) (entries : List (Option Obj)) (d c : List ℕ) → Fits (spans_of s (next_objects b sorts) entries) d → Fits (spans_of s (next_objects b sorts) entries) c
-    → Below d c → is_below (filled m (next_objects b sorts) entries d) (filled m (next_objects b sorts) entries c) ≡ true
+pub in_order : (s m b : Scope) (sorts : List Sort) (entries : List (Option Obj)) (d c : List ℕ) → FitsSpans (spans_of s (next_objects b sorts) entries) d → FitsSpans (spans_of s (next_objects b sorts) entries) c
+    → ComesBefore d c → is_below (filled_arguments m (next_objects b sorts) entries d) (filled_arguments m (next_objects b sorts) entries c) ≡ true
 in_order s m b [] entries [] c fits fit less = absurd less
 in_order s m b [] entries (v ∷ d) c fits fit less = absurd fits
 in_order s m b (sort ∷ sorts) [] [] c fits fit less = absurd less
@@ -184,20 +184,20 @@ in_order s m b (sort ∷ sorts) (Some p ∷ entries) d c fits fit less = same_nu
 in_order s m b (sort ∷ sorts) (None ∷ entries) [] c fits fit less = absurd fits
 in_order s m b (sort ∷ sorts) (None ∷ entries) (v ∷ d) [] fits fit less = absurd fit
 in_order s m b (sort ∷ sorts) (None ∷ entries) (v ∷ d) (u ∷ c) fits fit (inl less) =
-    ap (λ x. x || (eqb v u && is_below (filled m (next_objects (with_one b sort) sorts) entries d) (filled m (next_objects (with_one b sort) sorts) entries c))) (lt-ltb v u less)
+    ap (λ x. x || (eqb v u && is_below (filled_arguments m (next_objects (with_one b sort) sorts) entries d) (filled_arguments m (next_objects (with_one b sort) sorts) entries c))) (lt-ltb v u less)
 in_order s m b (sort ∷ sorts) (None ∷ entries) (v ∷ d) (u ∷ c) (from, high, fits) (from', high', fit) (inr (same, less)) =
-    subst (λ (x : ℕ). (ltb v x || (eqb v x && is_below (filled m (next_objects (with_one b sort) sorts) entries d) (filled m (next_objects (with_one b sort) sorts) entries c))) ≡ true) same
+    subst (λ (x : ℕ). (ltb v x || (eqb v x && is_below (filled_arguments m (next_objects (with_one b sort) sorts) entries d) (filled_arguments m (next_objects (with_one b sort) sorts) entries c))) ≡ true) same
     (same_number v _ (in_order s m (with_one b sort) sorts entries d c fits fit less))
 
 -- ---- the loops over the objects and the entries
 
-no_entries : (m : Scope) (os : List Obj) (c : List ℕ) → filled m os [] c ≡ []
+no_entries : (m : Scope) (os : List Obj) (c : List ℕ) → filled_arguments m os [] c ≡ []
 no_entries m [] c = refl
 no_entries m (o ∷ os) c = refl
 
-pub filled_done : (m : Scope) (os : List Obj) (entries : List (Option Obj)) (c : List ℕ) (n : ℕ) → n ≡ min (length os) (length entries) → filled m (drop n os) (drop n entries) c ≡ []
-filled_done m [] entries c n is = ap (λ xs. filled m xs (drop n entries) c) (drop_all n [] (omega arith))
-filled_done m (o ∷ os) [] c n is = ap (λ xs. filled m (drop n (o ∷ os)) xs c) (drop_all n [] (omega arith)) ∙ no_entries m (drop n (o ∷ os)) c
+pub filled_done : (m : Scope) (os : List Obj) (entries : List (Option Obj)) (c : List ℕ) (n : ℕ) → n ≡ min (length os) (length entries) → filled_arguments m (drop n os) (drop n entries) c ≡ []
+filled_done m [] entries c n is = ap (λ xs. filled_arguments m xs (drop n entries) c) (drop_all n [] (omega arith))
+filled_done m (o ∷ os) [] c n is = ap (λ xs. filled_arguments m (drop n (o ∷ os)) xs c) (drop_all n [] (omega arith)) ∙ no_entries m (drop n (o ∷ os)) c
 filled_done m (o ∷ os) (e ∷ entries) c zero is = absurd (omega (arith, is))
 filled_done m (o ∷ os) (e ∷ entries) c (suc n) is = filled_done m os entries c n (omega (arith, is))
 
@@ -216,7 +216,7 @@ pub ruleset ending = (common_steps, filled_done, spans_done)
 -- ---- sorts
 
 pub filled_sorts : (s m b : Scope) (sorts : List Sort) (entries : List (Option Obj)) (c : List ℕ) → are_entries s sorts entries ≡ true
-    → map (λ (o : Obj). o.sort) (next_objects b sorts) ≡ map (λ (o : Obj). o.sort) (filled m (next_objects b sorts) entries c)
+    → map (λ (o : Obj). o.sort) (next_objects b sorts) ≡ map (λ (o : Obj). o.sort) (filled_arguments m (next_objects b sorts) entries c)
 filled_sorts s m b [] entries c are = refl
 filled_sorts s m b (sort ∷ sorts) [] c are = absurd (true≢false (sym are))
 filled_sorts s m b (sort ∷ sorts) (Some p ∷ entries) c are =
@@ -226,8 +226,8 @@ filled_sorts s m b (sort ∷ sorts) (None ∷ entries) [] are = ap (λ xs. sort 
 filled_sorts s m b (sort ∷ sorts) (None ∷ entries) (v ∷ c) are = ap (λ xs. sort ∷ xs) (filled_sorts s m (with_one b sort) sorts entries c are)
 
 -- the objects and their arguments are of one sort each
-pub one_sort : (s m : Scope) (os args : List Obj) (sorts : List Sort) (entries : List (Option Obj)) (c : List ℕ) → os ≡ next_objects nothing sorts → args ≡ filled m os entries c
+pub one_sort : (s m : Scope) (os args : List Obj) (sorts : List Sort) (entries : List (Option Obj)) (c : List ℕ) → os ≡ next_objects nothing sorts → args ≡ filled_arguments m os entries c
     → are_entries s sorts entries ≡ true → map (λ (o : Obj). o.sort) os ≡ map (λ (o : Obj). o.sort) args
 one_sort s m os args sorts entries c is filling are =
     ap (map (λ (o : Obj). o.sort)) is ∙ filled_sorts s m nothing sorts entries c are
-    ∙ ap (λ xs. map (λ (o : Obj). o.sort) (filled m xs entries c)) (sym is) ∙ ap (map (λ (o : Obj). o.sort)) (sym filling)
+    ∙ ap (λ xs. map (λ (o : Obj). o.sort) (filled_arguments m xs entries c)) (sym is) ∙ ap (map (λ (o : Obj). o.sort)) (sym filling)

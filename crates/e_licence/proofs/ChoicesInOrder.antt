@@ -12,15 +12,15 @@ use Rattle.e_clause.specs.Wide.{IsTooWideLit}
 use Rattle.e_theorem.specs.Choice.{is_below, IsGood}
 use Rattle.e_theorem.proofs.Uses.{needs_declared}
 use Rattle.e_transfer.specs.declared.walk.Span.{Span}
-use Rattle.e_transfer.specs.Choice.{Fits, Starts, Below, EachKept}
+use Rattle.e_transfer.specs.Choice.{FitsSpans, Starts, ComesBefore, EachKept}
 use Rattle.e_licence.specs.Contexts.{Basis}
 use Rattle.e_licence.specs.declared.choices.FirstChoices.{FirstChoices}
 use Rattle.e_licence.specs.declared.choices.FirstChoices.TheVariants as first
 use Rattle.e_licence.specs.declared.sweep.Swept.{Swept}
 use Rattle.e_licence.specs.declared.sweep.Swept.TheVariants as sweep
 use Rattle.e_licence.specs.ChoicesInOrder.{is_ascending, is_above, AreFirst, AnyChoiceIsTooWide, FirstAre}
-use Rattle.e_licence.specs.inner.BlankChoices.{filled, spans_of, IsWanted}
-use Rattle.e_licence.specs.inner.Sweeps.{Each, IsIn, AreAscending, IsAbove, IsKeptWhole, AreAll, AreFirstOf, Sweeps}
+use Rattle.e_licence.specs.inner.BlankChoices.{filled_arguments, spans_of, IsWanted}
+use Rattle.e_licence.specs.inner.Sweeps.{Each, IsAmongChoices, AreAscending, IsAbove, IsKeptWhole, AreAll, AreFirstOf, Sweeps}
 use Rattle.e_licence.proofs.BlankChoices.{has_empty, fits_starts, whole, chosen, in_order}
 use Rattle.e_licence.proofs.CompletedLiterals.{KeptAt, WideAt, at, stays, contains_at}
 use Rattle.e_licence.proofs.FilledBlanks.{objects, spans, Wanted, Kept, Wide, IsAsked, good_fits, good_filled, good_wanted, none_where_empty, start_fits, start_choice, kept_allowed, IsSearch, none_empty}
@@ -28,27 +28,27 @@ use Rattle.e_licence.proofs.SweptChoices.{each_map}
 
 -- the arguments by the numbers of a choice
 abbrev Args : Basis → Stated → List (Option Obj) → List ℕ → List Obj
-Args b t pattern c = filled b.scope (objects t) pattern c
+Args b t pattern c = filled_arguments b.scope (objects t) pattern c
 
 abbrev AllArgs : Basis → Stated → List (Option Obj) → List (List ℕ) → List (List Obj)
-AllArgs b t pattern cs = map (λ c. filled b.scope (objects t) pattern c) cs
+AllArgs b t pattern cs = map (λ c. filled_arguments b.scope (objects t) pattern c) cs
 
 -- ---- one choice
 
 -- a whole choice whose parts are all kept is good
-whole_good : (b : Basis) (t : Stated) (pattern : List (Option Obj)) (c : List ℕ) → IsAsked b t pattern → has_empty (spans b t pattern) ≡ false → Fits (spans b t pattern) c
+whole_good : (b : Basis) (t : Stated) (pattern : List (Option Obj)) (c : List ℕ) → IsAsked b t pattern → has_empty (spans b t pattern) ≡ false → FitsSpans (spans b t pattern) c
     → EachKept (Kept b t pattern) [] c → IsGood t b.scope b.facts pattern (Args b t pattern c)
 whole_good b t pattern c asked some fits kept =
     let starts = fits_starts (spans b t pattern) c fits in
     subst (λ (os : List Obj). IsGood t b.scope b.facts pattern os) (whole b.scope nothing b.scope nothing t.declared pattern c fits)
     (record {
       is_choice = start_choice b t pattern c asked some starts;
-      allowed = kept_allowed b t pattern c (filled nothing (objects t) pattern c) asked.states (whole b.scope b.scope nothing nothing t.declared pattern c fits)
+      allowed = kept_allowed b t pattern c (filled_arguments nothing (objects t) pattern c) asked.states (whole b.scope b.scope nothing nothing t.declared pattern c fits)
           (start_fits b t pattern c asked some starts) kept;
     })
 
-fits_of : (b : Basis) (t : Stated) (pattern : List (Option Obj)) (c : List ℕ) → IsKeptWhole (Kept b t pattern) [] (spans b t pattern) c → Fits (spans b t pattern) c
-fits_of b t pattern c w = subst (λ (x : List ℕ). Fits (spans b t pattern) x) (sym w.is) w.fits
+fits_of : (b : Basis) (t : Stated) (pattern : List (Option Obj)) (c : List ℕ) → IsKeptWhole (Kept b t pattern) [] (spans b t pattern) c → FitsSpans (spans b t pattern) c
+fits_of b t pattern c w = subst (λ (x : List ℕ). FitsSpans (spans b t pattern) x) (sym w.is) w.fits
 
 good_of : (b : Basis) (t : Stated) (pattern : List (Option Obj)) (c : List ℕ) → IsAsked b t pattern → has_empty (spans b t pattern) ≡ false
     → IsKeptWhole (Kept b t pattern) [] (spans b t pattern) c → IsGood t b.scope b.facts pattern (Args b t pattern c)
@@ -64,34 +64,34 @@ all_good b t pattern [] args k asked some h less is = absurd (omega (arith, less
 all_good b t pattern (c ∷ cs) args zero asked some (h, hs) less is = subst (λ (x : List Obj). IsGood t b.scope b.facts pattern x) is (good_of b t pattern c asked some h)
 all_good b t pattern (c ∷ cs) args (suc k) asked some (h, hs) less is = all_good b t pattern cs args k asked some hs (omega (arith, less)) is
 
-below_args : (b : Basis) (t : Stated) (pattern : List (Option Obj)) (c d : List ℕ) → Fits (spans b t pattern) c → Fits (spans b t pattern) d → Below c d
+below_args : (b : Basis) (t : Stated) (pattern : List (Option Obj)) (c d : List ℕ) → FitsSpans (spans b t pattern) c → FitsSpans (spans b t pattern) d → ComesBefore c d
     → is_below (Args b t pattern c) (Args b t pattern d) ≡ true
 below_args b t pattern c d fits fit less = in_order b.scope b.scope nothing t.declared pattern c d fits fit less
 
-all_after : (b : Basis) (t : Stated) (pattern : List (Option Obj)) (c : List ℕ) (cs : List (List ℕ)) → Fits (spans b t pattern) c → Each (Fits (spans b t pattern)) cs → Each (Below c) cs
+all_after : (b : Basis) (t : Stated) (pattern : List (Option Obj)) (c : List ℕ) (cs : List (List ℕ)) → FitsSpans (spans b t pattern) c → Each (FitsSpans (spans b t pattern)) cs → Each (ComesBefore c) cs
     → list_all (is_below (Args b t pattern c)) (AllArgs b t pattern cs) ≡ true
 all_after b t pattern c [] fits fit less = refl
 all_after b t pattern c (d ∷ ds) fits (f, fs) (l, ls) =
     and_from (is_below (Args b t pattern c) (Args b t pattern d)) _ (below_args b t pattern c d fits f l) (all_after b t pattern c ds fits fs ls)
 
-ascending_args : (b : Basis) (t : Stated) (pattern : List (Option Obj)) (cs : List (List ℕ)) → Each (Fits (spans b t pattern)) cs → AreAscending cs → is_ascending (AllArgs b t pattern cs) ≡ true
+ascending_args : (b : Basis) (t : Stated) (pattern : List (Option Obj)) (cs : List (List ℕ)) → Each (FitsSpans (spans b t pattern)) cs → AreAscending cs → is_ascending (AllArgs b t pattern cs) ≡ true
 ascending_args b t pattern [] fits less = refl
 ascending_args b t pattern (c ∷ cs) (f, fs) (l, ls) =
     and_from (list_all (is_below (Args b t pattern c)) (AllArgs b t pattern cs)) _ (all_after b t pattern c cs f fs l) (ascending_args b t pattern cs fs ls)
 
-above_args : (b : Basis) (t : Stated) (pattern : List (Option Obj)) (cs : List (List ℕ)) (d : List ℕ) → Each (Fits (spans b t pattern)) cs → Fits (spans b t pattern) d → IsAbove cs d
+above_args : (b : Basis) (t : Stated) (pattern : List (Option Obj)) (cs : List (List ℕ)) (d : List ℕ) → Each (FitsSpans (spans b t pattern)) cs → FitsSpans (spans b t pattern) d → IsAbove cs d
     → is_above (AllArgs b t pattern cs) (Args b t pattern d) ≡ true
 above_args b t pattern [] d fits fit less = refl
 above_args b t pattern (c ∷ cs) d (f, fs) fit (l, ls) =
     and_from (is_below (Args b t pattern c) (Args b t pattern d)) _ (below_args b t pattern c d f fit l) (above_args b t pattern cs d fs fit ls)
 
-in_args : (b : Basis) (t : Stated) (pattern : List (Option Obj)) (cs : List (List ℕ)) (c : List ℕ) (args : List Obj) → Args b t pattern c ≡ args → IsIn c cs → Contains (AllArgs b t pattern cs) args
+in_args : (b : Basis) (t : Stated) (pattern : List (Option Obj)) (cs : List (List ℕ)) (c : List ℕ) (args : List Obj) → Args b t pattern c ≡ args → IsAmongChoices c cs → Contains (AllArgs b t pattern cs) args
 in_args b t pattern [] c args are h = absurd h
-in_args b t pattern (d ∷ ds) c args are (inl is) = (0, omega arith, ap (λ x. filled b.scope (objects t) pattern x) is ∙ are)
+in_args b t pattern (d ∷ ds) c args are (inl is) = (0, omega arith, ap (λ x. filled_arguments b.scope (objects t) pattern x) is ∙ are)
 in_args b t pattern (d ∷ ds) c args are (inr h) = let k = in_args b t pattern ds c args are h in (suc k.0, omega (arith, k.1), k.2)
 
-each_fits : (b : Basis) (t : Stated) (pattern : List (Option Obj)) (cs : List (List ℕ)) → Each (IsKeptWhole (Kept b t pattern) [] (spans b t pattern)) cs → Each (Fits (spans b t pattern)) cs
-each_fits b t pattern cs h = each_map (IsKeptWhole (Kept b t pattern) [] (spans b t pattern)) (Fits (spans b t pattern)) cs (fits_of b t pattern) h
+each_fits : (b : Basis) (t : Stated) (pattern : List (Option Obj)) (cs : List (List ℕ)) → Each (IsKeptWhole (Kept b t pattern) [] (spans b t pattern)) cs → Each (FitsSpans (spans b t pattern)) cs
+each_fits b t pattern cs h = each_map (IsKeptWhole (Kept b t pattern) [] (spans b t pattern)) (FitsSpans (spans b t pattern)) cs (fits_of b t pattern) h
 
 -- ---- all of them, and the first of them
 
@@ -132,11 +132,11 @@ are_first b t pattern most cs asked some full h =
       );
     }
   where
-    fits : Each (Fits (spans b t pattern)) cs
+    fits : Each (FitsSpans (spans b t pattern)) cs
     fits = each_fits b t pattern cs h.whole
 
-    missing : (other : List Obj) → Args b t pattern (chosen pattern other) ≡ other → Fits (spans b t pattern) (chosen pattern other)
-        → IsIn (chosen pattern other) cs ⊎ IsAbove cs (chosen pattern other) → Contains (AllArgs b t pattern cs) other ⊎ (IsTrue true × IsTrue (is_above (AllArgs b t pattern cs) other))
+    missing : (other : List Obj) → Args b t pattern (chosen pattern other) ≡ other → FitsSpans (spans b t pattern) (chosen pattern other)
+        → IsAmongChoices (chosen pattern other) cs ⊎ IsAbove cs (chosen pattern other) → Contains (AllArgs b t pattern cs) other ⊎ (IsTrue true × IsTrue (is_above (AllArgs b t pattern cs) other))
     missing other is fit (inl there) = inl (in_args b t pattern cs (chosen pattern other) other is there)
     missing other is fit (inr above) =
         inr (refl, subst (λ (x : List Obj). is_above (AllArgs b t pattern cs) x ≡ true) is (above_args b t pattern cs (chosen pattern other) fits fit above))
@@ -146,7 +146,7 @@ any_wide : (b : Basis) (t : Stated) (pattern : List (Option Obj)) (c : List ℕ)
     → Wide b t pattern c w → AnyChoiceIsTooWide t b.scope b.facts pattern w
 any_wide b t pattern c w asked some starts wide =
     let fit = start_fits b t pattern c asked some starts in
-    let args = filled nothing (objects t) pattern c in
+    let args = filled_arguments nothing (objects t) pattern c in
     record {
       args = args;
       is_choice = start_choice b t pattern c asked some starts;
@@ -155,7 +155,7 @@ any_wide b t pattern c w asked some starts wide =
           (contains_at (at (paired (objects t) args)) t.given wide.lit wide.is_one);
       is_wide = subst (λ (l : Lit). IsTooWideLit b.scope b.facts l w)
           (stays b.scope nothing t.declared pattern c [] wide.lit wide.is_wide.good
-          ∙ ap (λ d. at (paired (objects t) (filled nothing (objects t) pattern d)) wide.lit) (append-nil c)) wide.is_wide.is_wide;
+          ∙ ap (λ d. at (paired (objects t) (filled_arguments nothing (objects t) pattern d)) wide.lit) (append-nil c)) wide.is_wide.is_wide;
     }
 
 -- where a blank has no number there is none
@@ -188,8 +188,8 @@ claim b t pattern os ns most before after old new s x search none is claims =
 
 -- the arguments are those of what was found
 args_are : (b : Basis) (t : Stated) (pattern : List (Option Obj)) (os : List Obj) (ns : List Span) (before : List ℕ) (cs new : List (List ℕ)) → IsSearch b t pattern os ns before → new ≡ cs
-    → map (filled b.scope os pattern) new ≡ AllArgs b t pattern cs
-args_are b t pattern os ns before cs new search is = ap (λ y. map (filled b.scope y pattern) new) search.objects ∙ ap (map (filled b.scope (objects t) pattern)) is
+    → map (filled_arguments b.scope os pattern) new ≡ AllArgs b t pattern cs
+args_are b t pattern os ns before cs new search is = ap (λ y. map (filled_arguments b.scope y pattern) new) search.objects ∙ ap (map (filled_arguments b.scope (objects t) pattern)) is
 
 found_as : {E : Type 0} (r : Result FirstChoices E) (b : Basis) (t : Stated) (pattern : List (Option Obj)) (most : ℕ) (choices args : List (List Obj)) (more : Bool) → choices ≡ args
     → IfOk r (λ f. f ≡ first.Found choices more) → AreFirst t b.scope b.facts pattern most args more → IfOk r (FirstAre t b pattern most)
@@ -199,18 +199,18 @@ found_as (Ok f) b t pattern most choices args more are is h =
 
 pub swept_all : {E : Type 0} (r : Result FirstChoices E) (b : Basis) (t : Stated) (pattern : List (Option Obj)) (os : List Obj) (ns : List Span) (most : ℕ) (before after : List ℕ) (old new : List (List ℕ)) (s : Swept)
     → IsAsked b t pattern → IsSearch b t pattern os ns before → has_empty ns ≡ false → old ≡ [] → s ≡ sweep.Done
-    → IfOk r (λ f. f ≡ first.Found (map (filled b.scope os pattern) new) false) → SweepAnswer b t pattern os ns most before after old new s → IfOk r (FirstAre t b pattern most)
+    → IfOk r (λ f. f ≡ first.Found (map (filled_arguments b.scope os pattern) new) false) → SweepAnswer b t pattern os ns most before after old new s → IfOk r (FirstAre t b pattern most)
 swept_all r b t pattern os ns most before after old new s asked search some none is found claims =
     let all = claim b t pattern os ns most before after old new s sweep.Done search none is claims in
-    found_as r b t pattern most (map (filled b.scope os pattern) new) (AllArgs b t pattern all.1.0) false (args_are b t pattern os ns before all.1.0 new search all.1.1) found
+    found_as r b t pattern most (map (filled_arguments b.scope os pattern) new) (AllArgs b t pattern all.1.0) false (args_are b t pattern os ns before all.1.0 new search all.1.1) found
     (are_all b t pattern most all.1.0 asked (none_empty b t pattern os ns before search some) (subst (λ (xs : List (List ℕ)). length xs ≤ most) all.1.1 all.2) all.1.2)
 
 pub swept_full : {E : Type 0} (r : Result FirstChoices E) (b : Basis) (t : Stated) (pattern : List (Option Obj)) (os : List Obj) (ns : List Span) (most : ℕ) (before after : List ℕ) (old new : List (List ℕ)) (s : Swept)
     → IsAsked b t pattern → IsSearch b t pattern os ns before → has_empty ns ≡ false → old ≡ [] → s ≡ sweep.Full
-    → IfOk r (λ f. f ≡ first.Found (map (filled b.scope os pattern) new) true) → SweepAnswer b t pattern os ns most before after old new s → IfOk r (FirstAre t b pattern most)
+    → IfOk r (λ f. f ≡ first.Found (map (filled_arguments b.scope os pattern) new) true) → SweepAnswer b t pattern os ns most before after old new s → IfOk r (FirstAre t b pattern most)
 swept_full r b t pattern os ns most before after old new s asked search some none is found claims =
     let full = claim b t pattern os ns most before after old new s sweep.Full search none is claims in
-    found_as r b t pattern most (map (filled b.scope os pattern) new) (AllArgs b t pattern full.0.0) true (args_are b t pattern os ns before full.0.0 new search full.0.1) found
+    found_as r b t pattern most (map (filled_arguments b.scope os pattern) new) (AllArgs b t pattern full.0.0) true (args_are b t pattern os ns before full.0.0 new search full.0.1) found
     (are_first b t pattern most full.0.0 asked (none_empty b t pattern os ns before search some) (sym (ap length full.0.1) ∙ full.1) full.0.2)
 
 pub swept_wide : (b : Basis) (t : Stated) (pattern : List (Option Obj)) (os : List Obj) (ns : List Span) (most : ℕ) (before after : List ℕ) (old new : List (List ℕ)) (s : Swept) (w : ℕ)

@@ -15,9 +15,9 @@ use Rattle.e_clause.specs.Clash.{clash, clashes_at}
 use Rattle.e_clause.specs.Judged.{are_good_facts}
 use Rattle.e_clause.specs.MetricCertificate.{sums_in, metric_contradicts}
 use Rattle.e_clause.specs.Wide.{IsTooWideContradiction}
-use Rattle.e_metric.proofs.FirstTerms.{take_one}
-use Rattle.e_metric.proofs.SystemRows.{all_at}
-use Rattle.e_metric.specs.MetricAnswers.{IsCertified, IsTooWide}
+use Rattle.e_metric.proofs.terms.FirstTerms.{take_one}
+use Rattle.e_metric.proofs.rows.SystemRows.{all_at}
+use Rattle.e_metric.specs.MetricAnswers.{IsCertified, IsTooWideSystem}
 use Rattle.e_licence.specs.Contexts.{Basis}
 use Rattle.e_licence.specs.inner.Clashes.{IsClashing}
 use Rattle.e_licence.specs.Licences.{IsCertifiedAgainst}
@@ -69,5 +69,5 @@ by_sums b m g h = record {
   written = h.written;
 }
 
-pub too_wide : (facts : List Lit) (w : ℕ) → clash facts ≡ false → IsTooWide facts None w → IsTooWideContradiction facts w
+pub too_wide : (facts : List Lit) (w : ℕ) → clash facts ≡ false → IsTooWideSystem facts None w → IsTooWideContradiction facts w
 too_wide facts w n h = record { no_clash = λ e. true≢false (sym e ∙ n); rows = h.rows; is_system = h.is_one; has_width = h.has_width }

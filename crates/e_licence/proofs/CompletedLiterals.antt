@@ -30,7 +30,7 @@ use Rattle.e_licence.specs.declared.licensing.Licensed.{Licensed}
 use Rattle.e_licence.specs.declared.licensing.Licensed.TheVariants as licensed
 use Rattle.e_licence.specs.Licences.{IsLicence}
 use Rattle.e_licence.specs.Contexts.{Basis}
-use Rattle.e_licence.specs.inner.BlankChoices.{left, filled, images, is_completed, AllCompleted, IsKept, IsWanted, IsRefusedAt, SomeIsRefusedAt, SomeIsWideAt, OneIs, AllIs}
+use Rattle.e_licence.specs.inner.BlankChoices.{numbers_left, filled_arguments, images_of_choice, is_completed, AllCompleted, IsKeptChoice, IsWanted, IsRefusedAt, SomeIsRefusedAt, SomeIsWideAt, OneIs, AllIs}
 
 -- ---- one object
 
@@ -50,8 +50,8 @@ not_in_scope s sort o num y is less =
 
 -- the image of an object that is known stays
 bound_stays : (s m b : Scope) (sorts : List Sort) (entries : List (Option Obj)) (part rest : List ℕ) (o : Obj)
-    → ltb (number_of (image_in (images s (next_objects b sorts) entries part) o) o.num) (count_of s o.sort) ≡ true
-    → number_of (image_in (images s (next_objects b sorts) entries part) o) o.num ≡ number_of (image_in (paired (next_objects b sorts) (filled m (next_objects b sorts) entries (part ++ rest))) o) o.num
+    → ltb (number_of (image_in (images_of_choice s (next_objects b sorts) entries part) o) o.num) (count_of s o.sort) ≡ true
+    → number_of (image_in (images_of_choice s (next_objects b sorts) entries part) o) o.num ≡ number_of (image_in (paired (next_objects b sorts) (filled_arguments m (next_objects b sorts) entries (part ++ rest))) o) o.num
 bound_stays s m b [] entries part rest o h = refl
 bound_stays s m b (sort ∷ sorts) [] part rest o h = refl
 bound_stays s m b (sort ∷ sorts) (Some p ∷ entries) part rest o h =
@@ -71,11 +71,11 @@ abbrev pub at : List Entry → Lit → Lit
 at es l = renamed (image_in es) l
 
 pub stays : (s m : Scope) (sorts : List Sort) (entries : List (Option Obj)) (part rest : List ℕ) (l : Lit)
-    → is_good s (at (images s (next_objects nothing sorts) entries part) l) ≡ true
-    → at (images s (next_objects nothing sorts) entries part) l ≡ at (paired (next_objects nothing sorts) (filled m (next_objects nothing sorts) entries (part ++ rest))) l
+    → is_good s (at (images_of_choice s (next_objects nothing sorts) entries part) l) ≡ true
+    → at (images_of_choice s (next_objects nothing sorts) entries part) l ≡ at (paired (next_objects nothing sorts) (filled_arguments m (next_objects nothing sorts) entries (part ++ rest))) l
 stays s m sorts entries part rest l good =
-    let f = image_in (images s (next_objects nothing sorts) entries part) in
-    let g = image_in (paired (next_objects nothing sorts) (filled m (next_objects nothing sorts) entries (part ++ rest))) in
+    let f = image_in (images_of_choice s (next_objects nothing sorts) entries part) in
+    let g = image_in (paired (next_objects nothing sorts) (filled_arguments m (next_objects nothing sorts) entries (part ++ rest))) in
     same_renamed f g (is_moved_in s f) (λ o h. bound_stays s m nothing sorts entries part rest o h) l
     (sym (renamed_scope s f l) ∙ and_left (all_in_scope s (renamed f l)) (is_well_formed (renamed f l)) good)
 
@@ -111,14 +111,14 @@ abbrev front : List ℕ → List ℕ
 front part = take (length part - 1) part
 
 bound_now : (b : Basis) (sorts : List Sort) (entries : List (Option Obj)) (given : List Lit) (part : List ℕ)
-    → (1 ≤ length part → AllBound b (images b.scope (next_objects nothing sorts) entries (front part)) given)
-    → IsKept b (next_objects nothing sorts) entries given part → AllBound b (images b.scope (next_objects nothing sorts) entries part) given
+    → (1 ≤ length part → AllBound b (images_of_choice b.scope (next_objects nothing sorts) entries (front part)) given)
+    → IsKeptChoice b (next_objects nothing sorts) entries given part → AllBound b (images_of_choice b.scope (next_objects nothing sorts) entries part) given
 bound_now b sorts entries given [] was kept =
-    bound_first b (images b.scope (next_objects nothing sorts) entries []) (images b.scope (next_objects nothing sorts) entries []) given kept
+    bound_first b (images_of_choice b.scope (next_objects nothing sorts) entries []) (images_of_choice b.scope (next_objects nothing sorts) entries []) given kept
 bound_now b sorts entries given (v ∷ part) was kept =
-    bound_next b (images b.scope (next_objects nothing sorts) entries (v ∷ part)) (images b.scope (next_objects nothing sorts) entries (front (v ∷ part))) (eqb (length (v ∷ part)) 0) given
+    bound_next b (images_of_choice b.scope (next_objects nothing sorts) entries (v ∷ part)) (images_of_choice b.scope (next_objects nothing sorts) entries (front (v ∷ part))) (eqb (length (v ∷ part)) 0) given
     (λ l good. stays b.scope b.scope sorts entries (front (v ∷ part)) (drop (length (v ∷ part) - 1) (v ∷ part)) l good
-    ∙ ap (λ c. at (images b.scope (next_objects nothing sorts) entries c) l) (take-append-drop (length (v ∷ part) - 1) (v ∷ part)))
+    ∙ ap (λ c. at (images_of_choice b.scope (next_objects nothing sorts) entries c) l) (take-append-drop (length (v ∷ part) - 1) (v ∷ part)))
     (was (omega arith)) kept
 
 front_of : (part : List ℕ) (v : ℕ) → front (part ++ v ∷ []) ≡ part
@@ -138,18 +138,18 @@ front_of part v =
 
 -- where each part of a choice is kept, all its literals are allowed
 bound_all : (b : Basis) (sorts : List Sort) (entries : List (Option Obj)) (given : List Lit) (part c : List ℕ)
-    → (1 ≤ length part → AllBound b (images b.scope (next_objects nothing sorts) entries (front part)) given)
-    → EachKept (IsKept b (next_objects nothing sorts) entries given) part c → AllBound b (images b.scope (next_objects nothing sorts) entries (part ++ c)) given
+    → (1 ≤ length part → AllBound b (images_of_choice b.scope (next_objects nothing sorts) entries (front part)) given)
+    → EachKept (IsKeptChoice b (next_objects nothing sorts) entries given) part c → AllBound b (images_of_choice b.scope (next_objects nothing sorts) entries (part ++ c)) given
 bound_all b sorts entries given part [] was kept =
-    subst (λ x. AllBound b (images b.scope (next_objects nothing sorts) entries x) given) (sym (append-nil part)) (bound_now b sorts entries given part was kept)
+    subst (λ x. AllBound b (images_of_choice b.scope (next_objects nothing sorts) entries x) given) (sym (append-nil part)) (bound_now b sorts entries given part was kept)
 bound_all b sorts entries given part (v ∷ c) was (kept, more) =
     let now = bound_now b sorts entries given part was kept in
-    subst (λ x. AllBound b (images b.scope (next_objects nothing sorts) entries x) given) (append_assoc part (v ∷ []) c)
+    subst (λ x. AllBound b (images_of_choice b.scope (next_objects nothing sorts) entries x) given) (append_assoc part (v ∷ []) c)
     (bound_all b sorts entries given (part ++ v ∷ []) c
-    (λ some. subst (λ x. AllBound b (images b.scope (next_objects nothing sorts) entries x) given) (sym (front_of part v)) now) more)
+    (λ some. subst (λ x. AllBound b (images_of_choice b.scope (next_objects nothing sorts) entries x) given) (sym (front_of part v)) now) more)
 
 pub all_bound : (b : Basis) (sorts : List Sort) (entries : List (Option Obj)) (given : List Lit) (c : List ℕ)
-    → EachKept (IsKept b (next_objects nothing sorts) entries given) [] c → AllBound b (images b.scope (next_objects nothing sorts) entries c) given
+    → EachKept (IsKeptChoice b (next_objects nothing sorts) entries given) [] c → AllBound b (images_of_choice b.scope (next_objects nothing sorts) entries c) given
 all_bound b sorts entries given c kept = bound_all b sorts entries given [] c (λ some. absurd (omega (arith, some))) kept
 
 -- and where all objects are in scope, each literal is
@@ -166,10 +166,10 @@ allowed_at scope facts f (x ∷ ls) l zero less is (here, rest) = subst (λ y. A
 allowed_at scope facts f (x ∷ ls) l (suc k) less is (here, rest) = allowed_at scope facts f ls l k (omega (arith, less)) is rest
 
 pub refused : (b : Basis) (sorts : List Sort) (entries : List (Option Obj)) (given : List Lit) (part rest : List ℕ) (l : Lit) → Contains given l
-    → IsRefusedAt b (images b.scope (next_objects nothing sorts) entries part) l → IsWanted b (next_objects nothing sorts) entries given (part ++ rest) → ⊥
+    → IsRefusedAt b (images_of_choice b.scope (next_objects nothing sorts) entries part) l → IsWanted b (next_objects nothing sorts) entries given (part ++ rest) → ⊥
 refused b sorts entries given part rest l (k, less, is) r wanted =
     r.not_allowed (subst (λ x. Allowed b.scope b.facts x) (sym (stays b.scope b.scope sorts entries part rest l r.good))
-    (allowed_at b.scope b.facts (at (images b.scope (next_objects nothing sorts) entries (part ++ rest))) given l k less is wanted))
+    (allowed_at b.scope b.facts (at (images_of_choice b.scope (next_objects nothing sorts) entries (part ++ rest))) given l k less is wanted))
 
 contains_map : (f : Lit → Lit) (ls : List Lit) (l : Lit) (k : ℕ) → k < length ls → slice_index_or ls k l ≡ l → (k < length (map f ls)) × (slice_index_or (map f ls) k (f l) ≡ f l)
 contains_map f [] l k less is = absurd (omega (arith, less))
@@ -188,10 +188,10 @@ Left b now before first ls i = AllCompleted b now before first (drop i ls) → A
 pub left_more : (b : Basis) (now before : List Entry) (first : Bool) (ls : List Lit) (i : ℕ) (d : Lit) → i < length ls
     → (IsTrue (is_completed b.scope now before first (get_or ls i d)) → Allowed b.scope b.facts (at now (get_or ls i d)))
     → Left b now before first ls i → Left b now before first ls (i + 1)
-left_more b now before first ls i d less here left rest = left (subst (λ x. AllCompleted b now before first x) (sym (drop_more ls i d less)) (here, rest))
+left_more b now before first ls i d less here numbers_left rest = numbers_left (subst (λ x. AllCompleted b now before first x) (sym (drop_more ls i d less)) (here, rest))
 
 pub left_none : (b : Basis) (now before : List Entry) (first : Bool) (ls : List Lit) (i : ℕ) → length ls ≤ i → Left b now before first ls i → AllCompleted b now before first ls
-left_none b now before first ls i most left = left (subst (λ x. AllCompleted b now before first x) (sym (drop_all i ls most)) tt)
+left_none b now before first ls i most numbers_left = numbers_left (subst (λ x. AllCompleted b now before first x) (sym (drop_all i ls most)) tt)
 
 -- ---- what the licence of a literal says
 
@@ -231,31 +231,31 @@ wide_one b now before first ls i l o w less is stop claim =
 -- ---- the verdict on the first numbers of a choice
 
 abbrev pub KeptAt : Basis → List Obj → List (Option Obj) → List Lit → List ℕ → Type 0
-KeptAt b os entries given part = IsKept b os entries given part
+KeptAt b os entries given part = IsKeptChoice b os entries given part
 
 abbrev pub ShownAt : List ℕ → Unit {0} → Type 0
 ShownAt part p = Unit {0}
 
 abbrev pub WideAt : Basis → List Obj → List (Option Obj) → List Lit → List ℕ → ℕ → Type 0
-WideAt b os entries given part w = SomeIsWideAt b (images b.scope os entries part) given w
+WideAt b os entries given part w = SomeIsWideAt b (images_of_choice b.scope os entries part) given w
 
 -- of all, where the images are those by the part, and by the part without its last number
 verdict_by : (b : Basis) (sorts : List Sort) (entries : List (Option Obj)) (given : List Lit) (part : List ℕ) (v : Verdict (Unit {0}))
-    → AllIs b (images b.scope (next_objects nothing sorts) entries part) (images b.scope (next_objects nothing sorts) entries (take (length part - 1) part)) (eqb (length part) 0) given v
+    → AllIs b (images_of_choice b.scope (next_objects nothing sorts) entries part) (images_of_choice b.scope (next_objects nothing sorts) entries (take (length part - 1) part)) (eqb (length part) 0) given v
     → VerdictIs (KeptAt b (next_objects nothing sorts) entries given) ShownAt (WideAt b (next_objects nothing sorts) entries given) (IsWanted b (next_objects nothing sorts) entries given) part v
 verdict_by b sorts entries given part (verdict.Yes p) claim = (claim, tt)
 verdict_by b sorts entries given part verdict.No claim = λ rest wanted. refused b sorts entries given part rest claim.lit claim.is_one claim.is_refused wanted
 verdict_by b sorts entries given part (verdict.TooWide w) claim = claim
 
 pub verdict_is : (b : Basis) (os : List Obj) (sorts : List Sort) (entries : List (Option Obj)) (given : List Lit) (part last_off : List ℕ) (es before : List Entry) (first : Bool)
-    (v : Verdict (Unit {0})) → os ≡ next_objects nothing sorts → es ≡ images b.scope os entries part → last_off ≡ take (length part - 1) part
-    → before ≡ images b.scope os entries last_off → first ≡ eqb (length part) 0 → AllIs b es before first given v
+    (v : Verdict (Unit {0})) → os ≡ next_objects nothing sorts → es ≡ images_of_choice b.scope os entries part → last_off ≡ take (length part - 1) part
+    → before ≡ images_of_choice b.scope os entries last_off → first ≡ eqb (length part) 0 → AllIs b es before first given v
     → VerdictIs (KeptAt b os entries given) ShownAt (WideAt b os entries given) (IsWanted b os entries given) part v
 verdict_is b os sorts entries given part last_off es before first v are bound off olds at_first claim =
     subst (λ x. VerdictIs (KeptAt b x entries given) ShownAt (WideAt b x entries given) (IsWanted b x entries given) part v) (sym are)
     (verdict_by b sorts entries given part v
-    (subst (λ x. AllIs b x (images b.scope (next_objects nothing sorts) entries (take (length part - 1) part)) (eqb (length part) 0) given v)
-    (bound ∙ ap (λ x. images b.scope x entries part) are)
+    (subst (λ x. AllIs b x (images_of_choice b.scope (next_objects nothing sorts) entries (take (length part - 1) part)) (eqb (length part) 0) given v)
+    (bound ∙ ap (λ x. images_of_choice b.scope x entries part) are)
     (subst (λ x. AllIs b es x (eqb (length part) 0) given v)
-    (olds ∙ ap (images b.scope os entries) off ∙ ap (λ x. images b.scope x entries (take (length part - 1) part)) are)
+    (olds ∙ ap (images_of_choice b.scope os entries) off ∙ ap (λ x. images_of_choice b.scope x entries (take (length part - 1) part)) are)
     (subst (λ x. AllIs b es before x given v) at_first claim))))

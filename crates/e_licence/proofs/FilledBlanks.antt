@@ -18,10 +18,10 @@ use Rattle.e_theorem.proofs.Uses.{needs_declared, declared_good}
 use Rattle.e_transfer.specs.declared.walk.Span.{Span}
 use Rattle.e_transfer.specs.declared.walk.Verdict.{Verdict}
 use Rattle.e_transfer.specs.declared.walk.Verdict.TheVariants as verdict
-use Rattle.e_transfer.specs.Choice.{Fits, Starts, EachKept, NoneWanted, NoneBelow}
+use Rattle.e_transfer.specs.Choice.{FitsSpans, Starts, EachKept, NoneWanted, NoneBelow}
 use Rattle.e_transfer.specs.Verdicts.{SearchIs}
 use Rattle.e_licence.specs.Contexts.{Basis}
-use Rattle.e_licence.specs.inner.BlankChoices.{filled, spans_of, images, IsKept, IsWanted, SomeIsWideAt}
+use Rattle.e_licence.specs.inner.BlankChoices.{filled_arguments, spans_of, images_of_choice, IsKeptChoice, IsWanted, SomeIsWideAt}
 use Rattle.e_licence.proofs.BlankChoices.{has_empty, start_is_of_sorts, filled_fills, whole, fits_starts, none_fits, chosen, chosen_fit, chosen_filled, below}
 use Rattle.e_licence.proofs.CompletedLiterals.{KeptAt, ShownAt, WideAt, at, stays, all_bound, allowed_all, contains_at}
 
@@ -37,10 +37,10 @@ abbrev pub Wanted : Basis → Stated → List (Option Obj) → List ℕ → Type
 Wanted b t pattern c = IsWanted b (objects t) pattern t.given c
 
 abbrev pub Kept : Basis → Stated → List (Option Obj) → List ℕ → Type 0
-Kept b t pattern part = IsKept b (objects t) pattern t.given part
+Kept b t pattern part = IsKeptChoice b (objects t) pattern t.given part
 
 abbrev pub Wide : Basis → Stated → List (Option Obj) → List ℕ → ℕ → Type 0
-Wide b t pattern part w = SomeIsWideAt b (images b.scope (objects t) pattern part) t.given w
+Wide b t pattern part w = SomeIsWideAt b (images_of_choice b.scope (objects t) pattern part) t.given w
 
 -- what match_blanks asks for
 pub record IsAsked (b : Basis) (t : Stated) (pattern : List (Option Obj)) : Type 0 where
@@ -49,12 +49,12 @@ pub record IsAsked (b : Basis) (t : Stated) (pattern : List (Option Obj)) : Type
 
 -- ---- a good choice is wanted
 
-pub good_fits : (b : Basis) (t : Stated) (pattern : List (Option Obj)) (args : List Obj) → IsGood t b.scope b.facts pattern args → Fits (spans b t pattern) (chosen pattern args)
+pub good_fits : (b : Basis) (t : Stated) (pattern : List (Option Obj)) (args : List Obj) → IsGood t b.scope b.facts pattern args → FitsSpans (spans b t pattern) (chosen pattern args)
 good_fits b t pattern args good =
     chosen_fit b.scope nothing t.declared pattern args (and_left (fills pattern args) _ good.is_choice) (and_right (fills pattern args) _ good.is_choice)
 
 pub good_filled : (b : Basis) (t : Stated) (pattern : List (Option Obj)) (args : List Obj) → IsGood t b.scope b.facts pattern args
-    → filled b.scope (objects t) pattern (chosen pattern args) ≡ args
+    → filled_arguments b.scope (objects t) pattern (chosen pattern args) ≡ args
 good_filled b t pattern args good =
     chosen_filled b.scope b.scope nothing t.declared pattern args (and_left (fills pattern args) _ good.is_choice) (and_right (fills pattern args) _ good.is_choice)
 
@@ -73,13 +73,13 @@ none_where_empty b t pattern empty args good = none_fits (spans b t pattern) (ch
 
 -- and where none below is wanted, no good choice is below
 none_below : (b : Basis) (t : Stated) (pattern : List (Option Obj)) (c : List ℕ) (other : List Obj) → is_statement t ≡ true → NoneBelow (Wanted b t pattern) [] (spans b t pattern) c
-    → IsGood t b.scope b.facts pattern other → is_below other (filled nothing (objects t) pattern c) ≡ false
+    → IsGood t b.scope b.facts pattern other → is_below other (filled_arguments nothing (objects t) pattern c) ≡ false
 none_below b t pattern c other states none good =
-    elim (cases_Bool (is_below other (filled nothing (objects t) pattern c))) [
+    elim (cases_Bool (is_below other (filled_arguments nothing (objects t) pattern c))) [
       | inl is ↦
           absurd (none (chosen pattern other) (good_fits b t pattern other good)
           (below b.scope b.scope nothing t.declared pattern (chosen pattern other) c (good_fits b t pattern other good)
-          (ap (λ os. is_below os (filled nothing (objects t) pattern c)) (good_filled b t pattern other good) ∙ is))
+          (ap (λ os. is_below os (filled_arguments nothing (objects t) pattern c)) (good_filled b t pattern other good) ∙ is))
           (good_wanted b t pattern other states good))
       | inr not ↦ not
     ]
@@ -87,37 +87,37 @@ none_below b t pattern c other states none good =
 -- ---- the least good choice
 
 pub start_fits : (b : Basis) (t : Stated) (pattern : List (Option Obj)) (c : List ℕ) → IsAsked b t pattern → has_empty (spans b t pattern) ≡ false → Starts (spans b t pattern) c
-    → are_arguments t b.scope (filled nothing (objects t) pattern c) ≡ true
+    → are_arguments t b.scope (filled_arguments nothing (objects t) pattern c) ≡ true
 start_fits b t pattern c asked some starts = start_is_of_sorts b.scope nothing t.declared pattern c asked.fits starts some
 
 pub start_choice : (b : Basis) (t : Stated) (pattern : List (Option Obj)) (c : List ℕ) → IsAsked b t pattern → has_empty (spans b t pattern) ≡ false → Starts (spans b t pattern) c
-    → is_choice t b.scope pattern (filled nothing (objects t) pattern c) ≡ true
+    → is_choice t b.scope pattern (filled_arguments nothing (objects t) pattern c) ≡ true
 start_choice b t pattern c asked some starts =
-    and_from (fills pattern (filled nothing (objects t) pattern c)) _ (filled_fills b.scope nothing nothing t.declared pattern c asked.fits) (start_fits b t pattern c asked some starts)
+    and_from (fills pattern (filled_arguments nothing (objects t) pattern c)) _ (filled_fills b.scope nothing nothing t.declared pattern c asked.fits) (start_fits b t pattern c asked some starts)
 
-pub kept_allowed : (b : Basis) (t : Stated) (pattern : List (Option Obj)) (c : List ℕ) (args : List Obj) → is_statement t ≡ true → filled b.scope (objects t) pattern c ≡ args
+pub kept_allowed : (b : Basis) (t : Stated) (pattern : List (Option Obj)) (c : List ℕ) (args : List Obj) → is_statement t ≡ true → filled_arguments b.scope (objects t) pattern c ≡ args
     → are_arguments t b.scope args ≡ true → EachKept (Kept b t pattern) [] c → AllAllowed b.scope b.facts (needs_of_use t args b.scope)
 kept_allowed b t pattern c args states is fit kept =
     subst (λ (ls : List Lit). AllAllowed b.scope b.facts ls) (sym (needs_declared t args b.scope states fit))
     (subst (λ (os : List Obj). AllAllowed b.scope b.facts (map (at (paired (objects t) os)) t.given)) is
-    (allowed_all b (images b.scope (objects t) pattern c) t.given (all_bound b t.declared pattern t.given c kept)
+    (allowed_all b (images_of_choice b.scope (objects t) pattern c) t.given (all_bound b t.declared pattern t.given c kept)
     (ap (λ os. are_good b.scope (map (at (paired (objects t) os)) t.given)) is ∙ declared_good t args b.scope states fit)))
 
-least_at : (b : Basis) (t : Stated) (pattern : List (Option Obj)) (c : List ℕ) → IsAsked b t pattern → has_empty (spans b t pattern) ≡ false → Fits (spans b t pattern) c
-    → EachKept (Kept b t pattern) [] c → NoneBelow (Wanted b t pattern) [] (spans b t pattern) c → IsLeast t b.scope b.facts pattern (filled nothing (objects t) pattern c)
+least_at : (b : Basis) (t : Stated) (pattern : List (Option Obj)) (c : List ℕ) → IsAsked b t pattern → has_empty (spans b t pattern) ≡ false → FitsSpans (spans b t pattern) c
+    → EachKept (Kept b t pattern) [] c → NoneBelow (Wanted b t pattern) [] (spans b t pattern) c → IsLeast t b.scope b.facts pattern (filled_arguments nothing (objects t) pattern c)
 least_at b t pattern c asked some fits kept none =
     let starts = fits_starts (spans b t pattern) c fits in
     record {
       good = record {
         is_choice = start_choice b t pattern c asked some starts;
-        allowed = kept_allowed b t pattern c (filled nothing (objects t) pattern c) asked.states (whole b.scope b.scope nothing nothing t.declared pattern c fits)
+        allowed = kept_allowed b t pattern c (filled_arguments nothing (objects t) pattern c) asked.states (whole b.scope b.scope nothing nothing t.declared pattern c fits)
             (start_fits b t pattern c asked some starts) kept;
       };
       least = λ other good. none_below b t pattern c other asked.states none good;
     }
 
-pub least : (b : Basis) (t : Stated) (pattern : List (Option Obj)) (c : List ℕ) → IsAsked b t pattern → has_empty (spans b t pattern) ≡ false → Fits (spans b t pattern) c
-    → EachKept (Kept b t pattern) [] c → NoneBelow (Wanted b t pattern) [] (spans b t pattern) c → IsLeast t b.scope b.facts pattern (filled b.scope (objects t) pattern c)
+pub least : (b : Basis) (t : Stated) (pattern : List (Option Obj)) (c : List ℕ) → IsAsked b t pattern → has_empty (spans b t pattern) ≡ false → FitsSpans (spans b t pattern) c
+    → EachKept (Kept b t pattern) [] c → NoneBelow (Wanted b t pattern) [] (spans b t pattern) c → IsLeast t b.scope b.facts pattern (filled_arguments b.scope (objects t) pattern c)
 least b t pattern c asked some fits kept none =
     subst (λ (os : List Obj). IsLeast t b.scope b.facts pattern os) (whole b.scope nothing b.scope nothing t.declared pattern c fits) (least_at b t pattern c asked some fits kept none)
 
@@ -127,7 +127,7 @@ pub too_wide : (b : Basis) (t : Stated) (pattern : List (Option Obj)) (c : List 
     → Wide b t pattern c w → NoneBelow (Wanted b t pattern) [] (spans b t pattern) c → SomeChoiceIsTooWide t b.scope b.facts pattern w
 too_wide b t pattern c w asked some starts wide none =
     let fit = start_fits b t pattern c asked some starts in
-    let args = filled nothing (objects t) pattern c in
+    let args = filled_arguments nothing (objects t) pattern c in
     record {
       args = args;
       is_choice = start_choice b t pattern c asked some starts;
@@ -137,7 +137,7 @@ too_wide b t pattern c w asked some starts wide none =
           (contains_at (at (paired (objects t) args)) t.given wide.lit wide.is_one);
       is_wide = subst (λ (l : Lit). IsTooWideLit b.scope b.facts l w)
           (stays b.scope nothing t.declared pattern c [] wide.lit wide.is_wide.good
-          ∙ ap (λ d. at (paired (objects t) (filled nothing (objects t) pattern d)) wide.lit) (append-nil c)) wide.is_wide.is_wide;
+          ∙ ap (λ d. at (paired (objects t) (filled_arguments nothing (objects t) pattern d)) wide.lit) (append-nil c)) wide.is_wide.is_wide;
     }
 
 -- ---- the outcome of a search over the objects
@@ -165,14 +165,14 @@ pub none_empty : (b : Basis) (t : Stated) (pattern : List (Option Obj)) (os : Li
 none_empty b t pattern os ns before search some = sym (ap has_empty (search.spans ∙ ap (λ y. spans_of b.scope y pattern) search.objects)) ∙ some
 
 pub found : (b : Basis) (t : Stated) (pattern : List (Option Obj)) (os : List Obj) (ns : List Span) (before after : List ℕ) (args : List Obj) (o : Verdict (Unit {0})) (p : Unit {0})
-    → IsAsked b t pattern → IsSearch b t pattern os ns before → has_empty ns ≡ false → o ≡ verdict.Yes p → args ≡ filled b.scope os pattern after
+    → IsAsked b t pattern → IsSearch b t pattern os ns before → has_empty ns ≡ false → o ≡ verdict.Yes p → args ≡ filled_arguments b.scope os pattern after
     → SearchAnswer b t pattern os ns before after o → IsLeast t b.scope b.facts pattern args
 found b t pattern os ns before after args o p asked search some is at_end claims = end (claim b t pattern os ns before after o (verdict.Yes p) search is claims)
   where
     end : SearchAnswer b t pattern (objects t) (spans b t pattern) [] after (verdict.Yes p) → IsLeast t b.scope b.facts pattern args
     end (c, fits, kept, ends, shown, less) =
         subst (λ (x : List Obj). IsLeast t b.scope b.facts pattern x)
-        (ap (filled b.scope (objects t) pattern) (sym ends) ∙ sym (at_end ∙ ap (λ x. filled b.scope x pattern after) search.objects))
+        (ap (filled_arguments b.scope (objects t) pattern) (sym ends) ∙ sym (at_end ∙ ap (λ x. filled_arguments b.scope x pattern after) search.objects))
         (least b t pattern c asked (none_empty b t pattern os ns before search some) fits kept less)
 
 pub nothing_found : (b : Basis) (t : Stated) (pattern : List (Option Obj)) (os : List Obj) (ns : List Span) (before after : List ℕ) (o : Verdict (Unit {0})) → is_statement t ≡ true

@@ -5,7 +5,7 @@ use Rattle.std.proofs.lemmas.List.{take-append-drop}
 use Rattle.e_literal.specs.declared.literal.Lit.{Lit}
 use Rattle.e_metric.specs.declared.metric_facts.MetricFacts.{MetricFacts}
 use Rattle.e_metric.specs.Fronts.{AreFronts}
-use Rattle.e_metric.proofs.Fronts.{fronts_more}
+use Rattle.e_metric.proofs.answers.Fronts.{fronts_more}
 
 -- it stays so when facts come after
 pub metric_facts_more : (facts more : List Lit) (metric_facts : Option MetricFacts) → IfSome metric_facts (AreFronts facts) → IfSome metric_facts (AreFronts (facts ++ more))

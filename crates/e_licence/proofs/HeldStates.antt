@@ -12,7 +12,7 @@ use Rattle.e_metric.specs.declared.metric_facts.MetricFacts.{MetricFacts}
 use Rattle.e_metric.specs.Fronts.{AreFronts}
 use Rattle.e_licence.specs.declared.held.Held.{Held}
 use Rattle.e_licence.specs.Contexts.{State, Basis, state_of, IsReleased}
-use Rattle.e_licence.specs.HeldStates.{held_in, IsHeld, AreHeld, IsContext}
+use Rattle.e_licence.specs.HeldStates.{held_in, IsHeldState, AreHeld, IsContext}
 use Rattle.e_licence.proofs.Fronts.{metric_facts_more, metric_facts_of_more}
 
 -- what contracts see of a context
@@ -33,7 +33,7 @@ higher low n m facts (x ∷ hs) le h = (h.0, h.1, higher x.facts n m facts hs le
 same_front : (facts other : List Lit) (n k : ℕ) → k ≤ n → take n facts ≡ take n other → take k facts ≡ take k other
 same_front facts other n k le e = sym (take-take k n facts le) ∙ ap (λ fs. take k fs) e ∙ take-take k n other le
 
-held_moved : (facts other : List Lit) (x : Held) → take x.facts facts ≡ take x.facts other → IsHeld facts x → IsHeld other x
+held_moved : (facts other : List Lit) (x : Held) → take x.facts facts ≡ take x.facts other → IsHeldState facts x → IsHeldState other x
 held_moved facts other x e h =
     record { good = subst (λ fs. are_good_facts x.scope fs ≡ true) e h.good; metric_facts = subst (λ fs. IfSome x.solved (AreFronts fs)) e h.metric_facts }
 
@@ -51,14 +51,14 @@ states_stay low n facts other (x ∷ hs) e h =
     let first : held_in other x ≡ held_in facts x = ap (λ fs. record { scope = x.scope; facts = fs }) (sym same) in
     ap (λ s. s ∷ map (held_in other) hs) first ∙ ap (λ ss. held_in facts x ∷ ss) (states_stay x.facts n facts other hs e h.2)
 
-pushed : (low n m : ℕ) (facts : List Lit) (hs : List Held) (x : Held) → n ≤ x.facts → x.facts ≤ m → IsHeld facts x → AreHeld low n facts hs → AreHeld low m facts (hs ++ x ∷ [])
+pushed : (low n m : ℕ) (facts : List Lit) (hs : List Held) (x : Held) → n ≤ x.facts → x.facts ≤ m → IsHeldState facts x → AreHeld low n facts hs → AreHeld low m facts (hs ++ x ∷ [])
 pushed low n m facts [] x a b k h = (omega (arith, a, h), k, b)
 pushed low n m facts (y ∷ hs) x a b k h = (h.0, h.1, pushed y.facts n m facts hs x a b k h.2)
 
 -- what the last of them is, and what those before it are
 record Popped (low n : ℕ) (facts : List Lit) (hs : List Held) (x : Held) : Type 0 where
   before : AreHeld low x.facts facts hs
-  last : IsHeld facts x
+  last : IsHeldState facts x
   few : x.facts ≤ n
 
 popped : (low n : ℕ) (facts : List Lit) (hs : List Held) (x : Held) → AreHeld low n facts (hs ++ x ∷ []) → Popped low n facts hs x
@@ -68,9 +68,9 @@ popped low n facts (y ∷ hs) x h =
     record { before = (h.0, h.1, p.before); last = p.last; few = p.few }
 
 -- any of them
-held_at : (low n : ℕ) (facts : List Lit) (hs : List Held) (i : ℕ) (x : Held) → slice_get hs i ≡ Some x → AreHeld low n facts hs → IsHeld facts x
+held_at : (low n : ℕ) (facts : List Lit) (hs : List Held) (i : ℕ) (x : Held) → slice_get hs i ≡ Some x → AreHeld low n facts hs → IsHeldState facts x
 held_at low n facts [] i x e h = absurd (cc)
-held_at low n facts (y ∷ hs) zero x e h = let same : y ≡ x = cc in subst (IsHeld facts) same h.1
+held_at low n facts (y ∷ hs) zero x e h = let same : y ≡ x = cc in subst (IsHeldState facts) same h.1
 held_at low n facts (y ∷ hs) (suc i) x e h = held_at y.facts n facts hs i x e h.2
 
 -- what is right wherever that is right which was solved when one was held

@@ -19,7 +19,7 @@ use Rattle.e_clause.specs.Transfer.{Stands, NegationsStand, TransferConsequence}
 use Rattle.e_clause.specs.TransferCertificate.{transfer_certifies, transfer_in}
 use Rattle.e_clause.specs.Wide.{TransferFromFacts, IsPlain, IsTooWideLit}
 use Rattle.e_clause.proofs.Following.{metric_fact}
-use Rattle.e_metric.specs.MetricAnswers.{IsCertified, IsTooWide}
+use Rattle.e_metric.specs.MetricAnswers.{IsCertified, IsTooWideSystem}
 use Rattle.e_transfer.specs.declared.finding.Found.{Found}
 use Rattle.e_transfer.specs.declared.finding.Found.TheVariants.{Yes, No, TooWide}
 use Rattle.e_transfer.specs.FoundTransfers.{IsFound, IsTooWideTransfer}
@@ -78,7 +78,7 @@ no_plain : (s : Scope) (facts : List Lit) (l : Lit) → has facts l ≡ false �
 no_plain s facts l n h (inl f) = true≢false (sym f ∙ n)
 no_plain s facts l n h (inr t) = h t
 
-pub too_wide : (s : Scope) (facts : List Lit) (l : Lit) (w : ℕ) (f : Found) → has facts l ≡ false → is_metric l ≡ true → IsTooWide facts (Some l) w
+pub too_wide : (s : Scope) (facts : List Lit) (l : Lit) (w : ℕ) (f : Found) → has facts l ≡ false → is_metric l ≡ true → IsTooWideSystem facts (Some l) w
     → IsFound s facts l f → (f ≡ No) ⊎ ((v : ℕ) × (f ≡ TooWide v)) → IsTooWideLit s facts l w
 too_wide s facts l w f n e h g k = record {
   not_plain = no_plain s facts l n (not_given s facts l f g k);

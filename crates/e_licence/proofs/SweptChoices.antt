@@ -7,12 +7,12 @@ use Rattle.std.proofs.Math.Seq.{take-append_seam}
 use Rattle.e_transfer.specs.declared.walk.Span.{Span}
 use Rattle.e_transfer.specs.declared.walk.Verdict.{Verdict}
 use Rattle.e_transfer.specs.declared.walk.Verdict.TheVariants as verdict
-use Rattle.e_transfer.specs.Choice.{Fits, Starts, Below}
+use Rattle.e_transfer.specs.Choice.{FitsSpans, Starts, ComesBefore}
 use Rattle.e_transfer.specs.Verdicts.{VerdictIs}
 use Rattle.e_transfer.proofs.Choices.{none_span, tail_of, split}
 use Rattle.e_licence.specs.declared.sweep.Swept.{Swept}
 use Rattle.e_licence.specs.declared.sweep.Swept.TheVariants as sweep
-use Rattle.e_licence.specs.inner.Sweeps.{Each, IsIn, AreAscending, IsAbove, IsKeptWhole, AreAll, AreFirstOf, Sweeps, FoundIs, IsKeptUnder, AreUnder}
+use Rattle.e_licence.specs.inner.Sweeps.{Each, IsAmongChoices, AreAscending, IsAbove, IsKeptWhole, AreAll, AreFirstOf, Sweeps, FoundIs, IsKeptUnder, AreUnder}
 
 -- ---- lists of choices
 
@@ -24,36 +24,36 @@ pub each_both : (P : List ℕ → Type 0) (xs ys : List (List ℕ)) → Each P x
 each_both P [] ys h k = k
 each_both P (x ∷ xs) ys (h, hs) k = (h, each_both P xs ys hs k)
 
-in_left : (c : List ℕ) (xs ys : List (List ℕ)) → IsIn c xs → IsIn c (xs ++ ys)
+in_left : (c : List ℕ) (xs ys : List (List ℕ)) → IsAmongChoices c xs → IsAmongChoices c (xs ++ ys)
 in_left c [] ys h = absurd h
 in_left c (x ∷ xs) ys (inl is) = inl is
 in_left c (x ∷ xs) ys (inr h) = inr (in_left c xs ys h)
 
-in_right : (c : List ℕ) (xs ys : List (List ℕ)) → IsIn c ys → IsIn c (xs ++ ys)
+in_right : (c : List ℕ) (xs ys : List (List ℕ)) → IsAmongChoices c ys → IsAmongChoices c (xs ++ ys)
 in_right c [] ys h = h
 in_right c (x ∷ xs) ys h = inr (in_right c xs ys h)
 
-ascending_both : (xs ys : List (List ℕ)) → AreAscending xs → AreAscending ys → Each (λ x. Each (Below x) ys) xs → AreAscending (xs ++ ys)
+ascending_both : (xs ys : List (List ℕ)) → AreAscending xs → AreAscending ys → Each (λ x. Each (ComesBefore x) ys) xs → AreAscending (xs ++ ys)
 ascending_both [] ys h k below = k
-ascending_both (x ∷ xs) ys (h, hs) k (first, others) = (each_both (Below x) xs ys h first, ascending_both xs ys hs k others)
+ascending_both (x ∷ xs) ys (h, hs) k (first, others) = (each_both (ComesBefore x) xs ys h first, ascending_both xs ys hs k others)
 
 -- ---- their order
 
 -- the first number that differs is that after these
-below_after : (before : List ℕ) (u v : ℕ) (c d : List ℕ) → u < v → Below (before ++ u ∷ c) (before ++ v ∷ d)
+below_after : (before : List ℕ) (u v : ℕ) (c d : List ℕ) → u < v → ComesBefore (before ++ u ∷ c) (before ++ v ∷ d)
 below_after [] u v c d less = inl less
 below_after (b ∷ before) u v c d less = inr (refl, below_after before u v c d less)
 
 -- a choice with the number u after these is below one with the number v
 below_numbers : (kept : List ℕ → Type 0) (before : List ℕ) (rest : List Span) (u v : ℕ) (c : List ℕ) (d : List ℕ) → u < v
-    → IsKeptWhole kept (before ++ u ∷ []) rest c → Below c (before ++ v ∷ d)
+    → IsKeptWhole kept (before ++ u ∷ []) rest c → ComesBefore c (before ++ v ∷ d)
 below_numbers kept before rest u v c d less w =
-    subst (λ (x : List ℕ). Below x (before ++ v ∷ d)) (sym (w.is ∙ append_assoc before (u ∷ []) w.rest)) (below_after before u v w.rest d less)
+    subst (λ (x : List ℕ). ComesBefore x (before ++ v ∷ d)) (sym (w.is ∙ append_assoc before (u ∷ []) w.rest)) (below_after before u v w.rest d less)
 
 below_whole : (kept : List ℕ → Type 0) (before : List ℕ) (rest : List Span) (u v : ℕ) (c d : List ℕ) → u < v
-    → IsKeptWhole kept (before ++ u ∷ []) rest c → IsKeptWhole kept (before ++ v ∷ []) rest d → Below c d
+    → IsKeptWhole kept (before ++ u ∷ []) rest c → IsKeptWhole kept (before ++ v ∷ []) rest d → ComesBefore c d
 below_whole kept before rest u v c d less w x =
-    subst (λ (y : List ℕ). Below c y) (sym (x.is ∙ append_assoc before (v ∷ []) x.rest)) (below_numbers kept before rest u v c x.rest less w)
+    subst (λ (y : List ℕ). ComesBefore c y) (sym (x.is ∙ append_assoc before (v ∷ []) x.rest)) (below_numbers kept before rest u v c x.rest less w)
 
 -- ---- one span
 
@@ -78,13 +78,13 @@ under_wider kept before span rest v c here h = wider kept before span rest h.num
 all_below : (kept : List ℕ → Type 0) (before : List ℕ) (span : Span) (rest : List Span) (v : ℕ) (cs : List (List ℕ)) (d : List ℕ)
     → Each (IsKeptUnder kept before span rest v) cs → IsKeptWhole kept (before ++ v ∷ []) rest d → IsAbove cs d
 all_below kept before span rest v cs d h w =
-    each_map (IsKeptUnder kept before span rest v) (λ c. Below c d) cs (λ c k. below_whole kept before rest k.number v c d k.less k.whole w) h
+    each_map (IsKeptUnder kept before span rest v) (λ c. ComesBefore c d) cs (λ c k. below_whole kept before rest k.number v c d k.less k.whole w) h
 
 each_below : (kept : List ℕ → Type 0) (before : List ℕ) (span : Span) (rest : List Span) (v : ℕ) (cs new : List (List ℕ))
-    → Each (IsKeptUnder kept before span rest v) cs → Each (IsKeptWhole kept (before ++ v ∷ []) rest) new → Each (λ c. Each (Below c) new) cs
+    → Each (IsKeptUnder kept before span rest v) cs → Each (IsKeptWhole kept (before ++ v ∷ []) rest) new → Each (λ c. Each (ComesBefore c) new) cs
 each_below kept before span rest v cs new h k =
-    each_map (IsKeptUnder kept before span rest v) (λ c. Each (Below c) new) cs
-    (λ c u. each_map (IsKeptWhole kept (before ++ v ∷ []) rest) (Below c) new (λ d w. below_whole kept before rest u.number v c d u.less u.whole w) k) h
+    each_map (IsKeptUnder kept before span rest v) (λ c. Each (ComesBefore c) new) cs
+    (λ c u. each_map (IsKeptWhole kept (before ++ v ∷ []) rest) (ComesBefore c) new (λ d w. below_whole kept before rest u.number v c d u.less u.whole w) k) h
 
 -- nothing is tried yet
 pub none_under : (kept wanted : List ℕ → Type 0) (before : List ℕ) (span : Span) (rest : List Span) → AreUnder kept wanted before span rest span.from []
@@ -105,7 +105,7 @@ more_under kept wanted before span rest v cs new low high h k =
             | inr most ↦
                 let e : v ≡ u = omega (arith, less, most) in
                 in_right ((before ++ u ∷ []) ++ d) cs new
-                (subst (λ (x : ℕ). IsIn ((before ++ x ∷ []) ++ d) new) e
+                (subst (λ (x : ℕ). IsAmongChoices ((before ++ x ∷ []) ++ d) new) e
                 (k.none_missing d fits (subst (λ (x : ℕ). wanted ((before ++ x ∷ []) ++ d)) (sym e) good)))
           ];
     }
@@ -120,10 +120,10 @@ all_under kept wanted before span rest v cs here most h =
       none_missing = missing;
     }
   where
-    missing : (d : List ℕ) → Fits (span ∷ rest) d → wanted (before ++ d) → IsIn (before ++ d) cs
+    missing : (d : List ℕ) → FitsSpans (span ∷ rest) d → wanted (before ++ d) → IsAmongChoices (before ++ d) cs
     missing [] fits good = absurd fits
     missing (u ∷ us) (low, less, fits) good =
-        subst (λ (x : List ℕ). IsIn x cs) (append_assoc before (u ∷ []) us)
+        subst (λ (x : List ℕ). IsAmongChoices x cs) (append_assoc before (u ∷ []) us)
         (h.none_missing u low (omega (arith, less, most)) us fits (subst (λ (x : List ℕ). wanted x) (sym (append_assoc before (u ∷ []) us)) good))
 
 -- one more was found than the most
@@ -138,37 +138,37 @@ first_under kept wanted before span rest v cs new here low high h k =
       none_missing = missing;
       next = k.next;
       next_whole = wider kept before span rest v k.next here low high k.next_whole;
-      next_above = each_both (λ c. Below c k.next) cs new (all_below kept before span rest v cs k.next h.whole k.next_whole) k.next_above;
+      next_above = each_both (λ c. ComesBefore c k.next) cs new (all_below kept before span rest v cs k.next h.whole k.next_whole) k.next_above;
     }
   where
     -- what was found before this number is below a choice with this number or a greater one
     under : (u : ℕ) (us : List ℕ) → v ≤ u → IsAbove cs (before ++ u ∷ us)
     under u us most =
-        each_map (IsKeptUnder kept before span rest v) (λ c. Below c (before ++ u ∷ us)) cs (λ c x. below_numbers kept before rest x.number u c us (omega (arith, x.less, most)) x.whole) h.whole
+        each_map (IsKeptUnder kept before span rest v) (λ c. ComesBefore c (before ++ u ∷ us)) cs (λ c x. below_numbers kept before rest x.number u c us (omega (arith, x.less, most)) x.whole) h.whole
 
     -- and what was found with it is below one with a greater one
     new_below : (u : ℕ) (us : List ℕ) → v < u → IsAbove new (before ++ u ∷ us)
     new_below u us less =
-        each_map (IsKeptWhole kept (before ++ v ∷ []) rest) (λ c. Below c (before ++ u ∷ us)) new (λ c w. below_numbers kept before rest v u c us less w) k.whole
+        each_map (IsKeptWhole kept (before ++ v ∷ []) rest) (λ c. ComesBefore c (before ++ u ∷ us)) new (λ c w. below_numbers kept before rest v u c us less w) k.whole
 
-    here_missing : (us : List ℕ) → IsIn ((before ++ v ∷ []) ++ us) new ⊎ IsAbove new ((before ++ v ∷ []) ++ us) → IsIn (before ++ v ∷ us) (cs ++ new) ⊎ IsAbove (cs ++ new) (before ++ v ∷ us)
-    here_missing us (inl is) = inl (in_right (before ++ v ∷ us) cs new (subst (λ (x : List ℕ). IsIn x new) (append_assoc before (v ∷ []) us) is))
+    here_missing : (us : List ℕ) → IsAmongChoices ((before ++ v ∷ []) ++ us) new ⊎ IsAbove new ((before ++ v ∷ []) ++ us) → IsAmongChoices (before ++ v ∷ us) (cs ++ new) ⊎ IsAbove (cs ++ new) (before ++ v ∷ us)
+    here_missing us (inl is) = inl (in_right (before ++ v ∷ us) cs new (subst (λ (x : List ℕ). IsAmongChoices x new) (append_assoc before (v ∷ []) us) is))
     here_missing us (inr above) =
-        inr (each_both (λ c. Below c (before ++ v ∷ us)) cs new (under v us (omega arith)) (subst (λ (x : List ℕ). IsAbove new x) (append_assoc before (v ∷ []) us) above))
+        inr (each_both (λ c. ComesBefore c (before ++ v ∷ us)) cs new (under v us (omega arith)) (subst (λ (x : List ℕ). IsAbove new x) (append_assoc before (v ∷ []) us) above))
 
-    missing : (d : List ℕ) → Fits (span ∷ rest) d → wanted (before ++ d) → IsIn (before ++ d) (cs ++ new) ⊎ IsAbove (cs ++ new) (before ++ d)
+    missing : (d : List ℕ) → FitsSpans (span ∷ rest) d → wanted (before ++ d) → IsAmongChoices (before ++ d) (cs ++ new) ⊎ IsAbove (cs ++ new) (before ++ d)
     missing [] fits good = absurd fits
     missing (u ∷ us) (from, less, fits) good =
         let good_there = subst (λ (x : List ℕ). wanted x) (sym (append_assoc before (u ∷ []) us)) good in
         elim (cases_lt u v) [
           | inl smaller ↦
-              inl (in_left (before ++ u ∷ us) cs new (subst (λ (x : List ℕ). IsIn x cs) (append_assoc before (u ∷ []) us) (h.none_missing u from smaller us fits good_there)))
+              inl (in_left (before ++ u ∷ us) cs new (subst (λ (x : List ℕ). IsAmongChoices x cs) (append_assoc before (u ∷ []) us) (h.none_missing u from smaller us fits good_there)))
           | inr most ↦
               elim (cases_lt v u) [
-                | inl greater ↦ inr (each_both (λ c. Below c (before ++ u ∷ us)) cs new (under u us most) (new_below u us greater))
+                | inl greater ↦ inr (each_both (λ c. ComesBefore c (before ++ u ∷ us)) cs new (under u us most) (new_below u us greater))
                 | inr least ↦
                     let e : v ≡ u = omega (arith, most, least) in
-                    subst (λ (x : ℕ). IsIn (before ++ x ∷ us) (cs ++ new) ⊎ IsAbove (cs ++ new) (before ++ x ∷ us)) e
+                    subst (λ (x : ℕ). IsAmongChoices (before ++ x ∷ us) (cs ++ new) ⊎ IsAbove (cs ++ new) (before ++ x ∷ us)) e
                     (here_missing us (k.none_missing us fits (subst (λ (x : ℕ). wanted ((before ++ x ∷ []) ++ us)) (sym e) good_there)))
               ]
         ]
@@ -196,7 +196,7 @@ swept_wide {P} kept shown wide wanted spans most before part old v w at is claim
 is_whole : (kept : List ℕ → Type 0) (before : List ℕ) → kept before → IsKeptWhole kept before [] before
 is_whole kept before here = record { rest = []; is = sym (append-nil before); fits = tt; each = here }
 
-no_more : (before d : List ℕ) → Fits [] d → before ++ d ≡ before
+no_more : (before d : List ℕ) → FitsSpans [] d → before ++ d ≡ before
 no_more before [] fits = append-nil before
 no_more before (v ∷ d) fits = absurd fits
 

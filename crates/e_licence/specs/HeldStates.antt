@@ -13,14 +13,14 @@ abbrev pub held_in : List Lit → Held → State
 held_in facts h = record { scope = h.scope; facts = take h.facts facts }
 
 -- its facts are good, and what is solved was solved of them
-pub record IsHeld (facts : List Lit) (h : Held) : Type 0 where
+pub record IsHeldState (facts : List Lit) (h : Held) : Type 0 where
   pub good : IsTrue (are_good_facts h.scope (take h.facts facts))
   pub metric_facts : IfSome h.solved (AreFronts (take h.facts facts))
 
 -- their checkpoints are from `low` to `high`, none less than the one before it
 abbrev pub AreHeld : ℕ → ℕ → List Lit → List Held → Type 0
 AreHeld low high facts [] = low ≤ high
-AreHeld low high facts (h ∷ hs) = (low ≤ h.facts) × IsHeld facts h × AreHeld h.facts high facts hs
+AreHeld low high facts (h ∷ hs) = (low ≤ h.facts) × IsHeldState facts h × AreHeld h.facts high facts hs
 
 -- the facts are good, so is what is held of them, and what is solved is that of the first of them
 pub record IsContext (scope : Scope) (facts : List Lit) (held : List Held) (solved : Option MetricFacts) : Type 0 where

@@ -9,16 +9,16 @@ ghost use Rattle.e_theorem.specs.Pattern.{is_pattern};
 ghost use Rattle.e_theorem.specs.Statements.{stated};
 ghost use Rattle.e_transfer.specs.Prepared.{IsPrepared};
 ghost use Rattle.e_licence.specs.inner.BlankChoices;
-ghost use Rattle.e_licence.specs.inner.BlankChoices.{IsKept, IsWanted, OneIs, AllIs, SomeIsWideAt};
+ghost use Rattle.e_licence.specs.inner.BlankChoices.{IsKeptChoice, IsWanted, OneIs, AllIs, SomeIsWideAt};
 ghost use Rattle.e_licence.specs.FilledBlanks.{FilledIs};
 
 use crate::context::Context;
 use crate::licensing::{Licensed, licence_by};
-use crate::limits::is_good;
+use crate::limits::NOTHING;
 use e_literal::{Items, Lit, Map, Obj, Scope, count, next_objects, renamed};
 use e_metric::{MetricFacts, StepFacts};
 use e_theorem::Statement;
-use e_transfer::{Prepared, Span, Task, Verdict, prepare, search};
+use e_transfer::{Prepared, Span, Task, Verdict, is_good, prepare, search};
 use std::alloc::{AllocError, Global};
 use std::mem;
 
@@ -29,8 +29,8 @@ pub enum Filled {
     Found(Items<Obj>),
     /// No choice is good.
     None,
-    /// Under a choice that is not above the least good one, if there is one, a given literal is wide, and this is the width
-    /// of one of its systems.
+    /// Under a choice that is not above the least good one, if there is one, a given literal is
+    /// wide, and this is the width of one of its systems.
     TooWide(u128),
 }
 
@@ -49,13 +49,16 @@ pub struct Blanks<'a> {
     ghost fits: { IsTrue (is_pattern (stated statement.now) context.now.scope pattern.now) },
 }
 
-/// The least good choice for the blanks of an application of the statement: arguments that agree with the pattern, with
-/// which each given literal is allowed, compared in declared order by the objects' numbers.
+/// The least good choice for the blanks of an application of the statement: arguments that agree
+/// with the pattern, with which each given literal is allowed, compared in declared order by the
+/// objects' numbers.
 ///
-/// The blanks are filled in declared order, the lowest number first, and a choice is given up at the first given literal
-/// that is not allowed, as soon as its objects are known. It fails only out of memory.
+/// The blanks are filled in declared order, the lowest number first, and a choice is given up at
+/// the first given literal that is not allowed, as soon as its objects are known. It fails only out
+/// of memory.
 ///
-/// Questions begin where the context has solved its facts: [`Context::solve`] before it is worth it.
+/// Questions begin where the context has solved its facts: [`Context::solve`] before it is worth
+/// it.
 pub fn match_blanks(
     alloc: Global,
     context: &Context,
@@ -141,12 +144,6 @@ fn matched_by(
     }
 }
 
-pub const NOTHING: Scope = Scope {
-    points: 0,
-    lines: 0,
-    circles: 0,
-};
-
 /// For each blank the numbers in scope.
 #[tactic(auto, using(crate::proofs::BlankChoices::ending))]
 pub fn spans(
@@ -155,7 +152,8 @@ pub fn spans(
     declared: &[Obj],
     pattern: &[Option<Obj>],
 ) -> Result<Vec<Span>, AllocError>
-    ensures { IfOk result (λ spans. spans.items ≡ BlankChoices.spans_of scope declared.now pattern.now) }
+    ensures { IfOk result
+        (λ spans. spans.items ≡ BlankChoices.spans_of scope declared.now pattern.now) }
 {
     let mut spans = Vec::new(alloc);
     for (object, entry) in declared.iter().zip(pattern) {
@@ -176,7 +174,8 @@ pub fn has_empty(spans: &[Span]) -> bool
     spans.iter().any(|span| span.to == 0)
 }
 
-/// The arguments by the first numbers of a choice; where none is left, objects that are not in scope.
+/// The arguments by the first numbers of a choice; where none is left, objects that are not in
+/// scope.
 #[tactic(auto, using(crate::proofs::BlankChoices::ending))]
 pub fn arguments(
     alloc: Global,
@@ -185,7 +184,8 @@ pub fn arguments(
     pattern: &[Option<Obj>],
     part: &[u16],
 ) -> Result<Vec<Obj>, AllocError>
-    ensures { IfOk result (λ args. args.items ≡ BlankChoices.filled scope declared.now pattern.now part.now) }
+    ensures { IfOk result (λ args. args.items
+        ≡ BlankChoices.filled_arguments scope declared.now pattern.now part.now) }
 {
     let mut rest = part;
     let mut args = Vec::new(alloc);
@@ -198,7 +198,7 @@ pub fn arguments(
 
 /// The argument for a declared object.
 fn argument(scope: Scope, declared: Obj, entry: Option<Obj>, rest: &[u16]) -> Obj
-    ensures { result ≡ BlankChoices.argument scope declared entry rest.now }
+    ensures { result ≡ BlankChoices.argument_for scope declared entry rest.now }
 {
     match (entry, rest) {
         (Some(object), _) => object,
@@ -215,7 +215,7 @@ fn argument(scope: Scope, declared: Obj, entry: Option<Obj>, rest: &[u16]) -> Ob
 
 /// The numbers that are left after it.
 fn left(entry: Option<Obj>, rest: &[u16]) -> &[u16]
-    ensures { result.now ≡ BlankChoices.left entry rest.now }
+    ensures { result.now ≡ BlankChoices.numbers_left entry rest.now }
 {
     match (entry, rest) {
         (None, [_, left @ ..]) => left,
@@ -226,7 +226,8 @@ fn left(entry: Option<Obj>, rest: &[u16]) -> &[u16]
 impl<'a> Blanks<'a> {
     /// The images of the declared objects by the first numbers of a choice.
     fn images(&self, alloc: Global, part: &[u16]) -> Result<Map, AllocError>
-        ensures { IfOk result (λ map. map ≡ BlankChoices.images self.now.context.now.scope self.now.declared.items self.now.pattern.now part.now) }
+        ensures { IfOk result (λ map. map ≡ BlankChoices.images_of_choice self.now.context.now.scope
+            self.now.declared.items self.now.pattern.now part.now) }
     {
         let scope = self.context.scope();
         let args = arguments(alloc, scope, &self.declared, self.pattern, part)?;
@@ -261,7 +262,8 @@ impl<'a> Blanks<'a> {
         }
     }
 
-    /// Licenses the given literals whose objects are all known now, and were not before, up to the first that is not allowed.
+    /// Licenses the given literals whose objects are all known now, and were not before, up to the
+    /// first that is not allowed.
     fn license_all(
         &self,
         alloc: Global,
@@ -269,7 +271,8 @@ impl<'a> Blanks<'a> {
         earlier: &Map,
         first: bool,
     ) -> Result<Verdict<()>, AllocError>
-        ensures { IfOk result (AllIs self.now.context.now images.now earlier.now first self.now.statement.now.given) }
+        ensures { IfOk result
+            (AllIs self.now.context.now images.now earlier.now first self.now.statement.now.given) }
     {
         for lit in self.statement.given.items() {
             match self.license_one(alloc, lit, images, earlier, first)? {
@@ -295,13 +298,16 @@ fn front(part: &[u16]) -> &[u16]
 impl<'a> Task for Blanks<'a> {
     type Proof = ();
 
-    ghost wanted = { λ s c. IsWanted s.context.now s.declared.items s.pattern.now s.statement.now.given c };
+    ghost wanted = { λ s c. IsWanted s.context.now s.declared.items s.pattern.now
+        s.statement.now.given c };
 
-    ghost kept = { λ s part. IsKept s.context.now s.declared.items s.pattern.now s.statement.now.given part };
+    ghost kept = { λ s part. IsKeptChoice s.context.now s.declared.items s.pattern.now
+        s.statement.now.given part };
 
     ghost shown = { λ s part p. Unit {0} };
 
-    ghost wide = { λ s part w. SomeIsWideAt s.context.now (BlankChoices.images s.context.now.scope s.declared.items s.pattern.now part) s.statement.now.given w };
+    ghost wide = { λ s part w. SomeIsWideAt s.context.now (BlankChoices.images_of_choice
+        s.context.now.scope s.declared.items s.pattern.now part) s.statement.now.given w };
 
     fn check(&self, alloc: Global, part: &[u16]) -> Result<Verdict<()>, AllocError> {
         let images = self.images(alloc, part)?;

@@ -8,10 +8,11 @@ ghost use Rattle.e_theorem.specs.Statements.{stated};
 ghost use Rattle.e_transfer.specs.Prepared.{IsPrepared};
 ghost use Rattle.e_licence.specs.ChoicesInOrder.{FirstAre};
 ghost use Rattle.e_licence.specs.declared.choices.FirstChoices.TheVariants.{Found};
-ghost use Rattle.e_licence.specs.inner.BlankChoices.{filled};
+ghost use Rattle.e_licence.specs.inner.BlankChoices.{filled_arguments};
 
-use crate::blanks::{Blanks, NOTHING, arguments, has_empty, spans};
+use crate::blanks::{Blanks, arguments, has_empty, spans};
 use crate::context::Context;
+use crate::limits::NOTHING;
 use crate::sweep::{Swept, sweep};
 use e_literal::{Items, Obj, Scope, next_objects};
 use e_metric::{MetricFacts, StepFacts};
@@ -32,10 +33,12 @@ pub enum FirstChoices {
     TooWide(u128),
 }
 
-/// The first of the good choices for the blanks of an application of the statement, in order, at most so many, and whether
-/// there are more. The blanks are filled as [`crate::match_blanks`] fills them. It fails only out of memory.
+/// The first of the good choices for the blanks of an application of the statement, in order, at
+/// most `most`, and whether there are more. The blanks are filled as [`crate::match_blanks`] fills
+/// them. It fails only out of memory.
 ///
-/// Questions begin where the context has solved its facts: [`Context::solve`] before it is worth it.
+/// Questions begin where the context has solved its facts: [`Context::solve`] before it is worth
+/// it.
 pub fn first_choices(
     alloc: Global,
     context: &Context,
@@ -150,7 +153,8 @@ fn as_found(
     found: &[Items<u16>],
     more: bool,
 ) -> Result<FirstChoices, AllocError>
-    ensures { IfOk result (λ f. f ≡ Found (map (filled scope declared.now pattern.now) found.now) more) }
+    ensures { IfOk result
+        (λ f. f ≡ Found (map (filled_arguments scope declared.now pattern.now) found.now) more) }
 {
     let choices = all_arguments(alloc, scope, declared, pattern, found)?;
     Ok(FirstChoices::Found { choices, more })
@@ -164,7 +168,8 @@ fn all_arguments(
     pattern: &[Option<Obj>],
     found: &[Items<u16>],
 ) -> Result<Items<Items<Obj>>, AllocError>
-    ensures { IfOk result (λ choices. choices ≡ map (filled scope declared.now pattern.now) found.now) }
+    ensures { IfOk result
+        (λ choices. choices ≡ map (filled_arguments scope declared.now pattern.now) found.now) }
 {
     let mut choices = Items::empty(alloc);
     for part in found {

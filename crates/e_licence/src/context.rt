@@ -20,10 +20,11 @@ use std::alloc::{AllocError, Global};
 use std::marker::Model;
 use std::mem;
 
-/// The objects in scope and the facts, which are in scope, well formed and not too many; and the states that are held, each
-/// with the objects and the facts of its time, the last one last.
+/// The objects in scope and the facts, which are in scope, well formed and not too many; and the
+/// states that are held, each with the objects and the facts of its time, the last one last.
 ///
-/// What is solved of the facts' magnitudes is kept beside them, and grows with them. Contracts see nothing of it.
+/// What is solved of the facts' magnitudes is kept beside them, and grows with them. Contracts see
+/// nothing of it.
 #[derive(Drop)]
 pub struct Context {
     scope: Scope,
@@ -41,7 +42,8 @@ impl Model for Context {
 
     ghost use Rattle.e_licence.specs.HeldStates.{held_in, IsContext};
 
-    ghost view = { λ c. record { scope = c.scope; facts = c.facts; held = map (held_in c.facts) c.held.items } };
+    ghost view = { λ c. record
+        { scope = c.scope; facts = c.facts; held = map (held_in c.facts) c.held.items } };
 
     ghost invariant = { λ c. IsContext c.scope c.facts c.held.items c.solved };
 }
@@ -85,7 +87,8 @@ impl Context {
         facts
     }
 
-    /// The facts are in scope and well formed, and their terms are few.
+    /// The facts are in scope and well formed, and their terms are few. It does nothing: callers
+    /// that need this of the context have it from the contract.
     pub fn good(&self)
         ensures { IsTrue (are_good_facts self.now.scope self.now.facts) }
     {
@@ -112,7 +115,8 @@ impl Context {
     pub fn add(&mut self, lit: Lit) -> Result<Added, AllocError>
         requires { IsTrue (are_good_facts self.old.scope (joined self.old.facts lit)) }
         ensures added { IfOk result (AddedIs self.old.facts lit self.new.facts) }
-        ensures joined { OnOk result (self.new ≡ record self.old { facts = joined self.old.facts lit }) }
+        ensures joined { OnOk result
+            (self.new ≡ record self.old { facts = joined self.old.facts lit }) }
         ensures err { OnErr result (self.new ≡ self.old) }
     {
         self.facts.add(lit)
@@ -134,7 +138,8 @@ impl Context {
     ///
     /// It fails only out of memory, and then all is as before.
     pub fn hold(&mut self) -> Result<(), AllocError>
-        ensures ok { OnOk result (self.new ≡ record self.old { held = self.old.held ++ state_of self.old ∷ [] }) }
+        ensures ok { OnOk result
+            (self.new ≡ record self.old { held = self.old.held ++ state_of self.old ∷ [] }) }
         ensures err { OnErr result (self.new ≡ self.old) }
     {
         let solved = self.solved.take();
@@ -151,8 +156,8 @@ impl Context {
         Ok(())
     }
 
-    /// The last held state is the present one again, and is held no more: the objects and the facts that came after it are
-    /// gone. It takes no memory.
+    /// The last held state is the present one again, and is held no more: the objects and the facts
+    /// that came after it are gone. It takes no memory.
     pub fn release(&mut self)
         requires { 0 < length self.old.held }
         ensures { IsReleased self.old self.new }
@@ -182,8 +187,8 @@ impl Context {
         brought
     }
 
-    /// Whether the literal is allowed, as [`licence`] answers. Each kind of magnitude is solved where it is first asked, and
-    /// what is solved is kept.
+    /// Whether the literal is allowed, as [`licence`] answers. Each kind of magnitude is solved
+    /// where it is first asked, and what is solved is kept.
     ///
     /// [`licence`]: crate::licensing::licence
     pub fn licence(&mut self, alloc: Global, lit: &Lit) -> Result<Licensed, AllocError>
@@ -201,8 +206,8 @@ impl Context {
         licensed
     }
 
-    /// Whether the facts contradict each other, as [`against`] answers. No more kinds of magnitude are solved than needed, and
-    /// what is solved is kept.
+    /// Whether the facts contradict each other, as [`against`] answers. No more kinds of magnitude
+    /// are solved than needed, and what is solved is kept.
     ///
     /// [`against`]: crate::contradiction::against
     pub fn against(&mut self, alloc: Global) -> Result<Refuted, AllocError>

@@ -23,12 +23,13 @@ pub enum Refuted {
     Yes(Against),
     /// They do not: with these values of their terms the metric facts are true.
     No(Values),
-    /// No diagram literal and its negation are both facts, and a system of the facts is wide and has this width.
+    /// No diagram literal and its negation are both facts, and a system of the facts is wide and
+    /// has this width.
     TooWide(u128),
 }
 
-/// Whether the facts contradict each other: a diagram literal and its negation both are facts, or else no admissible
-/// assignment makes the metric facts true. It fails only out of memory.
+/// Whether the facts contradict each other: a diagram literal and its negation both are facts, or
+/// else no admissible assignment makes the metric facts true. It fails only out of memory.
 pub fn against(alloc: Global, context: &Context) -> Result<Refuted, AllocError>
     ensures { IfOk result (IsRefuted context.now) }
 {
@@ -42,7 +43,8 @@ pub fn against(alloc: Global, context: &Context) -> Result<Refuted, AllocError>
     refuted
 }
 
-/// The same, where no diagram literal and its negation are both facts: the kinds of magnitude are asked in turn.
+/// The same, where no diagram literal and its negation are both facts: the kinds of magnitude are
+/// asked in turn.
 pub(crate) fn by_arithmetic(
     alloc: Global,
     context: &Context,

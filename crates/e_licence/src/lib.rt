@@ -1,5 +1,6 @@
-//! The licence of one step: whether a literal is allowed by the facts in a scope, or the facts contradict each other, and
-//! why, and how the blanks of an application are filled; or that it cannot be decided, since a linear system of the step is wide.
+//! The licence of one step: whether a literal is allowed by the facts in a scope, or the facts
+//! contradict each other, and why, and how the blanks of an application are filled; or that it
+//! cannot be decided, since a linear system of the step is wide.
 #![tactic(auto)]
 
 mod blanks;
@@ -16,5 +17,6 @@ pub use blanks::{Filled, match_blanks};
 pub use choices::{FirstChoices, first_choices};
 pub use context::Context;
 pub use contradiction::{Refuted, against};
+pub use e_transfer::{are_good_facts, is_good};
 pub use licensing::{Licensed, licence};
-pub use limits::{are_good_facts, is_good, is_statement};
+pub use limits::is_statement;

@@ -22,18 +22,19 @@ use std::mem;
 pub enum Licensed {
     /// It is allowed, by this certificate: as a fact where it is one.
     Yes(Cert),
-    /// It is not allowed. Of a metric literal there are values of the terms of the step with which the facts are true and
-    /// the literal is false.
+    /// It is not allowed. Of a metric literal there are values of the terms of the step with which
+    /// the facts are true and the literal is false.
     No(Option<Values>),
-    /// It is no fact, facts alone give it by no transfer, and one of its systems is wide and has this width.
+    /// It is no fact, facts alone give it by no transfer, and one of its systems is wide and has
+    /// this width.
     TooWide(u128),
 }
 
-/// Whether the literal is allowed: as a fact; else, if it is metric, as a metric consequence of the facts; else as a
-/// transfer consequence. It fails only out of memory.
+/// Whether the literal is allowed: as a fact; else, if it is metric, as a metric consequence of the
+/// facts; else as a transfer consequence. It fails only out of memory.
 ///
-/// Questions begin where the context has solved its facts. Where many literals are asked, [`Context::licence`] keeps what is
-/// solved for one of them.
+/// Questions begin where the context has solved its facts. Where many literals are asked,
+/// [`Context::licence`] keeps what is solved for one of them.
 pub fn licence(alloc: Global, context: &Context, lit: &Lit) -> Result<Licensed, AllocError>
     requires { IsTrue (is_good context.now.scope lit.now) }
     ensures { IfOk result (IsLicence context.now lit.now) }
@@ -47,8 +48,9 @@ pub fn licence(alloc: Global, context: &Context, lit: &Lit) -> Result<Licensed, 
     licensed
 }
 
-/// The same of a literal that is no fact, where each kind of magnitude is solved only if it is asked: a metric literal that
-/// its own kind gives asks no other, and one that facts alone give by a transfer none besides.
+/// The same of a literal that is no fact, where each kind of magnitude is solved only if it is
+/// asked: a metric literal that its own kind gives asks no other, and one that facts alone give by
+/// a transfer none besides.
 pub(crate) fn licence_in_turn(
     alloc: Global,
     context: &Context,
@@ -98,7 +100,8 @@ fn given_in_turn(
     licensed
 }
 
-/// The same, where what is asked of magnitudes is solved already, so that it need not be for each of many literals.
+/// The same, where what is asked of magnitudes is solved already, so that it need not be for each
+/// of many literals.
 pub(crate) fn licence_by(
     alloc: Global,
     context: &Context,

@@ -1,46 +1,18 @@
-//! Tests of what is asked of the literals, the facts and the statements of a step.
+//! The test of what is asked of the statements of a step.
 
 ghost use Rattle.std.specs.Prelude.{◌≡◌, ◌<◌, ◌+◌, ◌^◌, ◌&&◌, length};
 ghost use Rattle.std.specs.List.{list_all};
 ghost use Rattle.e_literal.specs.Literal.{all_in_scope};
 ghost use Rattle.e_literal.specs.Use;
 ghost use Rattle.e_literal.specs.WellFormed;
-ghost use Rattle.e_clause.specs.Judged;
 ghost use Rattle.e_theorem.specs.Statements.{stated};
 
-use e_facts::Facts;
 use e_literal::{Lit, Scope, grown, in_scope};
-use e_metric::{are_few_facts, is_well_formed};
+use e_metric::is_well_formed;
 use e_theorem::Statement;
 
-/// Whether the literal is in scope and well formed.
-pub fn is_good(scope: Scope, lit: &Lit) -> bool
-    ensures { result ≡ Judged.is_good scope lit.now }
-{
-    in_scope(lit, scope) && is_well_formed(lit)
-}
-
-/// Whether the facts are in scope and well formed, and their terms are few.
-#[tactic(auto, using(crate::proofs::GoodLiterals::good_parts))]
-pub fn are_good_facts(scope: Scope, facts: &Facts) -> bool
-    ensures { result ≡ Judged.are_good_facts scope facts.now }
-{
-    are_in_scope(scope, facts) && are_few_facts(facts)
-}
-
-// Whether each fact is in scope.
-fn are_in_scope(scope: Scope, facts: &Facts) -> bool
-    ensures { result ≡ list_all (all_in_scope scope) facts.now }
-{
-    for i in 0..facts.len() {
-        if !in_scope(facts.get(i), scope) {
-            return false;
-        }
-    }
-    true
-}
-
-/// Whether the given literals name declared objects alone, the shown ones declared and made ones, and all are well formed.
+/// Whether the given literals name declared objects alone, the shown ones declared and made ones,
+/// and all are well formed.
 pub fn is_statement(statement: &Statement) -> bool
     requires { length statement.now.declared + length statement.now.made < 2 ^ 16 }
     ensures { result ≡ Use.is_statement (stated statement.now) }
@@ -50,7 +22,8 @@ pub fn is_statement(statement: &Statement) -> bool
     are_over(declared, statement.given.items()) && are_over(all, statement.shown.items())
 }
 
-const NOTHING: Scope = Scope {
+/// No objects.
+pub const NOTHING: Scope = Scope {
     points: 0,
     lines: 0,
     circles: 0,
@@ -58,7 +31,8 @@ const NOTHING: Scope = Scope {
 
 // Whether each literal is well formed and in scope.
 fn are_over(scope: Scope, lits: &[Lit]) -> bool
-    ensures { result ≡ list_all (λ l. WellFormed.is_well_formed l && all_in_scope scope l) lits.now }
+    ensures { result
+        ≡ list_all (λ l. WellFormed.is_well_formed l && all_in_scope scope l) lits.now }
 {
     lits.iter()
         .all(|lit| is_well_formed(lit) && in_scope(lit, scope))

@@ -1,4 +1,4 @@
-//! A second way to walk a search: all kept choices in order, up to so many.
+//! A second way to walk a search: all kept choices in order, up to a given number.
 
 ghost use Rattle.std.specs.Prelude.{◌≤◌, length, IfOk};
 ghost use Rattle.e_licence.specs.inner.Sweeps.{FoundIs, Sweeps};
@@ -36,9 +36,10 @@ fn found_one(
     Ok(Swept::Done)
 }
 
-/// Finds all choices that begin with `chosen`, go on with one number of each span, and whose parts are all kept, in order,
-/// until there would be more than `most` in all; a wanted choice is always kept. `chosen` is then what it was. Where a part is
-/// too wide, `chosen` is this part. It fails only out of memory.
+/// Finds all choices that begin with `chosen`, go on with one number of each span, and whose parts
+/// are all kept, in order, until there would be more than `most` in all; a wanted choice is always
+/// kept. `chosen` is then what it was. Where a part is too wide, `chosen` is this part. It fails
+/// only out of memory.
 pub fn sweep<T: Task>(
     alloc: Global,
     task: &T,
@@ -48,7 +49,8 @@ pub fn sweep<T: Task>(
     most: usize,
 ) -> Result<Swept, AllocError>
     requires { length found.old ≤ most }
-    ensures { IfOk result (Sweeps (T.kept task.now) (T.wide task.now) (T.wanted task.now) spans.now most chosen.old.items chosen.new.items found.old found.new) }
+    ensures { IfOk result (Sweeps (T.kept task.now) (T.wide task.now) (T.wanted task.now) spans.now
+        most chosen.old.items chosen.new.items found.old found.new) }
 {
     let proof = match task.check(alloc, chosen)? {
         Verdict::Yes(proof) => proof,

@@ -8,10 +8,10 @@ use Rattle.e_clause.specs.Assignment.{terms_of_lits}
 use Rattle.e_clause.specs.System.{of_kind, against_goal}
 
 -- the terms, and those of the second list that are none of them, each once
-abbrev pub listed : List Term → List Term → List Term
-listed seen [] = seen
-listed seen (t ∷ ts) = listed (if has_term seen t then seen else seen ++ t ∷ []) ts
+abbrev pub with_listed : List Term → List Term → List Term
+with_listed seen [] = seen
+with_listed seen (t ∷ ts) = with_listed (if has_term seen t then seen else seen ++ t ∷ []) ts
 
 -- the terms of the facts of a kind and of the wanted literal, if it is of the kind, each once, as it is written first
-abbrev pub terms_of_kind : Kind → List Lit → Option Lit → List Term
-terms_of_kind which facts wanted = first_terms [] (terms_of_lits (of_kind which facts) ++ terms_of_lits (of_kind which (against_goal wanted)))
+abbrev pub distinct_terms : Kind → List Lit → Option Lit → List Term
+distinct_terms which facts wanted = first_terms [] (terms_of_lits (of_kind which facts) ++ terms_of_lits (of_kind which (against_goal wanted)))

@@ -30,7 +30,7 @@ pub record IsCertified (facts : List Lit) (wanted : Option Lit) (m : MetricCert)
   pub written : IsTrue (are_sums_of version.One m.sums)
 
 -- w is the width of one of the metric systems, which is wide
-pub record IsTooWide (facts : List Lit) (wanted : Option Lit) (w : ℕ) : Type 0 where
+pub record IsTooWideSystem (facts : List Lit) (wanted : Option Lit) (w : ℕ) : Type 0 where
   pub rows : List Row
   pub is_one : Contains (metric_systems facts wanted) rows
   pub has_width : HasWidth rows w
@@ -39,7 +39,7 @@ pub record IsTooWide (facts : List Lit) (wanted : Option Lit) (w : ℕ) : Type 0
 abbrev pub IsMetricAnswer : List Lit → Option Lit → Metric → Type 0
 IsMetricAnswer facts wanted (Yes m) = IsCertified facts wanted m
 IsMetricAnswer facts wanted (No values) = ListsCounterexample facts wanted values
-IsMetricAnswer facts wanted (TooWide w) = IsTooWide facts wanted w
+IsMetricAnswer facts wanted (TooWide w) = IsTooWideSystem facts wanted w
 
 -- ---- one system
 
@@ -47,7 +47,7 @@ IsMetricAnswer facts wanted (TooWide w) = IsTooWide facts wanted w
 abbrev pub IsKindAnswer : Kind → List Lit → Option Lit → Metric → Type 0
 IsKindAnswer which facts wanted (Yes m) = IsCertified facts wanted m
 IsKindAnswer which facts wanted (No values) = Satisfy (assigned values) (rows_of_system which facts wanted)
-IsKindAnswer which facts wanted (TooWide w) = IsTooWide facts wanted w
+IsKindAnswer which facts wanted (TooWide w) = IsTooWideSystem facts wanted w
 
 abbrev pub IsYes : Metric → Type 0
 IsYes (Yes m) = Unit {0}

@@ -8,7 +8,7 @@ use Rattle.e_clause.specs.System.{NamedRow, of_kind, against_goal, rows_of_term,
 use Rattle.e_clause.specs.Wide.{HasWidth}
 use Rattle.e_fraction.specs.declared.row.Row.{Row as GivenRow}
 use Rattle.e_metric.specs.AgreeingRows.{AreRows, AllLimited}
-use Rattle.e_metric.specs.ListedTerms.{terms_of_kind}
+use Rattle.e_metric.specs.ListedTerms.{distinct_terms}
 use Rattle.e_metric.specs.RowOrder.{AreReordered}
 use Rattle.e_metric.specs.MetricAnswers.{IsCertified, IsKindAnswer}
 use Rattle.e_metric.specs.declared.consequence.Metric.{Metric}
@@ -30,7 +30,7 @@ pub record IsSolvedSystem (which : Kind) (facts : List Lit) (g : SolvedSystem) :
   pub order : AreReordered rows (system which facts None)
   pub named : AreNamed rows g.names.items g.rows.items
   pub settled : g.settled ≡ g.rows.items
-  pub terms : g.terms.items ≡ terms_of_kind which facts None
+  pub terms : g.terms.items ≡ distinct_terms which facts None
   pub raised : g.raised ≡ length (flat_map (rows_of_term facts) g.terms.items)
 
 -- the kept rows, and more after them, are those of a system, in some order, with their names

@@ -1,4 +1,4 @@
-// Values of the terms of a step.
+//! Values of the terms of a step.
 
 ghost use Rattle.std.specs.Prelude.{◌≡◌, ℕ, ◌++◌, [], ◌∷◌, map, option_copied, IsTrue, IfOk, OnOk};
 ghost use Rattle.std.specs.List.{list_all};
@@ -31,7 +31,8 @@ fn put_in_order(terms: &mut Vec<Term>)
 
 // Puts the terms of a sum last, in their normal order.
 fn add_sum(terms: &mut Vec<Term>, sum: &[Mono]) -> Result<(), AllocError>
-    ensures { OnOk result (terms.new.items ≡ terms.old.items ++ map (λ m. Same.canonical m.term) sum.now) }
+    ensures { OnOk result
+        (terms.new.items ≡ terms.old.items ++ map (λ m. Same.canonical m.term) sum.now) }
 {
     for m in sum {
         terms.push(canonical(m.term))?;
@@ -40,9 +41,10 @@ fn add_sum(terms: &mut Vec<Term>, sum: &[Mono]) -> Result<(), AllocError>
 }
 
 // Puts the terms of an atom last, in their normal order.
-#[tactic(auto, using(crate::proofs::StepTerms::atom_terms))]
+#[tactic(auto, using(crate::proofs::arithmetic::StepTerms::atom_terms))]
 fn add_atom(terms: &mut Vec<Term>, atom: &Atom) -> Result<(), AllocError>
-    ensures { OnOk result (terms.new.items ≡ terms.old.items ++ map Same.canonical (terms_of_atom atom.now)) }
+    ensures { OnOk result
+        (terms.new.items ≡ terms.old.items ++ map Same.canonical (terms_of_atom atom.now)) }
 {
     match atom {
         Atom::MagEq(x, y) | Atom::MagLt(x, y) => {
@@ -54,9 +56,10 @@ fn add_atom(terms: &mut Vec<Term>, atom: &Atom) -> Result<(), AllocError>
 }
 
 // Right, and the terms of the facts, in their normal order.
-#[tactic(auto, using(crate::proofs::StepTerms::fact_terms))]
+#[tactic(auto, using(crate::proofs::arithmetic::StepTerms::fact_terms))]
 fn terms_of_facts(alloc: Global, facts: &Facts) -> Result<Vec<Term>, AllocError>
-    ensures { IfOk result (λ v. v.items ≡ map Same.canonical (Term.Right ∷ terms_of_lits facts.now)) }
+    ensures { IfOk result
+        (λ v. v.items ≡ map Same.canonical (Term.Right ∷ terms_of_lits facts.now)) }
 {
     let mut terms = Vec::new(alloc);
     terms.push(Term::Right)?;
@@ -68,7 +71,8 @@ fn terms_of_facts(alloc: Global, facts: &Facts) -> Result<Vec<Term>, AllocError>
 
 // Puts the terms of the wanted literal last, if one is wanted, in their normal order.
 fn add_wanted(terms: &mut Vec<Term>, wanted: Option<&Lit>) -> Result<(), AllocError>
-    ensures { OnOk result (terms.new.items ≡ terms.old.items ++ map Same.canonical (terms_of_wanted (option_copied wanted.entry))) }
+    ensures { OnOk result (terms.new.items ≡ terms.old.items
+        ++ map Same.canonical (terms_of_wanted (option_copied wanted.entry))) }
 {
     match wanted {
         Some(lit) => add_atom(terms, &lit.atom),
@@ -77,10 +81,11 @@ fn add_wanted(terms: &mut Vec<Term>, wanted: Option<&Lit>) -> Result<(), AllocEr
 }
 
 // The terms of the step, in their order, each once.
-#[tactic(auto, using(crate::proofs::StepTerms::step_terms))]
+#[tactic(auto, using(crate::proofs::arithmetic::StepTerms::step_terms))]
 fn step_terms(alloc: Global, facts: &Facts, wanted: Option<&Lit>) -> Result<Vec<Term>, AllocError>
     ensures in_order { IfOk result (λ v. IsTrue (are_in_order v.items)) }
-    ensures same { IfOk result (λ v. (t : Term) → is_among v.items t ≡ is_among (map Same.canonical (terms_of_step facts.now (option_copied wanted.entry))) t) }
+    ensures same { IfOk result (λ v. (t : Term) → is_among v.items t
+        ≡ is_among (map Same.canonical (terms_of_step facts.now (option_copied wanted.entry))) t) }
 {
     let mut terms = terms_of_facts(alloc, facts)?;
     add_wanted(&mut terms, wanted)?;
@@ -126,7 +131,8 @@ fn with_values(alloc: Global, terms: &[Term], values: &ByKind<Values>) -> Result
     Ok(Values::new(pairs))
 }
 
-/// The terms of the step, in their order, with their values, where values of each kind satisfy the rows of its system.
+/// The terms of the step, in their order, with their values, where values of each kind satisfy the
+/// rows of its system.
 pub fn counterexample(
     alloc: Global,
     facts: &Facts,
@@ -135,7 +141,8 @@ pub fn counterexample(
 ) -> Result<Values, AllocError>
     requires facts { IsTrue (list_all is_well_formed facts.now) }
     requires wanted { IsTrue (is_good_wanted (option_copied wanted)) }
-    requires solved { (which : Kind) → Satisfy (values_of values.now which) (rows_of_system which facts.now (option_copied wanted)) }
+    requires solved { (which : Kind) → Satisfy (values_of values.now which)
+        (rows_of_system which facts.now (option_copied wanted)) }
     ensures { IfOk result (ListsCounterexample facts.now (option_copied wanted.entry)) }
 {
     let terms = step_terms(alloc, facts, wanted)?;

@@ -1,7 +1,7 @@
-// One thing for each kind of magnitude.
+//! One thing for each kind of magnitude.
 
 ghost use Rattle.std.specs.Prelude.{◌≡◌};
-ghost use Rattle.e_metric.specs.inner.ByKind.{at_kind};
+ghost use Rattle.e_metric.specs.inner.ByKind.{arranged, at_kind, other_two};
 
 use e_literal::Kind;
 
@@ -13,7 +13,41 @@ pub struct ByKind<T> {
     pub areas: T,
 }
 
+/// The kinds other than this one, in their order.
+pub fn other_kinds(which: Kind) -> (Kind, Kind)
+    ensures { result ≡ other_two which }
+{
+    match which {
+        Kind::Segment => (Kind::Angle, Kind::Area),
+        Kind::Angle => (Kind::Segment, Kind::Area),
+        Kind::Area => (Kind::Segment, Kind::Angle),
+    }
+}
+
 impl<T> ByKind<T> {
+    /// One for the kind, and those for the [`other_kinds`] in their order.
+    pub fn arrange(which: Kind, own: T, first: T, second: T) -> ByKind<T>
+        ensures { result ≡ arranged which own first second }
+    {
+        match which {
+            Kind::Segment => ByKind {
+                segments: own,
+                angles: first,
+                areas: second,
+            },
+            Kind::Angle => ByKind {
+                segments: first,
+                angles: own,
+                areas: second,
+            },
+            Kind::Area => ByKind {
+                segments: first,
+                angles: second,
+                areas: own,
+            },
+        }
+    }
+
     /// That of the kind.
     pub fn get(&self, which: Kind) -> &T
         ensures { result.now ≡ at_kind self.now which }

@@ -1,4 +1,4 @@
-// Certificates from multipliers of the rows of a system.
+//! Certificates from multipliers of the rows of a system.
 
 ghost use Rattle.std.specs.Prelude.{◌≡◌, ℕ, ◌+◌, ◌<◌, ◌≤◌, ◌^◌, ◌++◌, ◌∷◌, [], length, get_or, set, pos, unsigned_abs, IfOk, OnOk, IsTrue};
 ghost use Rattle.e_literal.specs.Absurd;
@@ -42,7 +42,8 @@ fn keep(
     name: &RowName,
     multiplier: i128,
 ) -> Result<(), AllocError>
-    ensures { OnOk result (sum.new.items ≡ sum.old.items ++ Certificate.kept (name.now ∷ []) (multiplier ∷ [])) }
+    ensures { OnOk result (sum.new.items ≡ sum.old.items
+        ++ Certificate.named_multipliers (name.now ∷ []) (multiplier ∷ [])) }
 {
     if multiplier != 0 {
         sum.push((multiplier, copied(alloc, name)?))?;
@@ -51,17 +52,18 @@ fn keep(
 }
 
 // The rows whose multiplier is not 0.
+#[tactic(auto, using(crate::proofs::sums::ZippedRows::ending))]
 fn kept(
     alloc: Global,
     names: &[RowName],
     multipliers: &[i128],
 ) -> Result<Vec<(i128, RowName)>, AllocError>
     requires { length multipliers.now ≡ length names.now }
-    ensures { IfOk result (λ v. v.items ≡ Certificate.kept names.now multipliers.now) }
+    ensures { IfOk result (λ v. v.items ≡ Certificate.named_multipliers names.now multipliers.now) }
 {
     let mut sum = Vec::new(alloc);
-    for i in 0..names.len() {
-        keep(&mut sum, alloc, &names[i], multipliers[i])?;
+    for (name, multiplier) in names.iter().zip(multipliers) {
+        keep(&mut sum, alloc, name, *multiplier)?;
     }
     Ok(sum)
 }
@@ -85,20 +87,24 @@ fn use_row(
     Ok(())
 }
 
-// The rows whose weight is not 0, and these weights: mostly few of many, and only these count for what is left of a term.
+// The rows whose weight is not 0, and these weights: mostly few of many, and only these count for
+// what is left of a term.
+#[tactic(auto, using(crate::proofs::sums::ZippedRows::ending))]
 fn used(alloc: Global, rows: &[Row], weights: &[i128]) -> Result<(Vec<Row>, Vec<i128>), AllocError>
     requires { length weights.now ≡ length rows.now }
-    ensures { IfOk result (λ u. (u.0.items ≡ Certificate.used_rows rows.now weights.now) × (u.1.items ≡ Certificate.used_weights rows.now weights.now)) }
+    ensures { IfOk result (λ u. (u.0.items ≡ Certificate.used_rows rows.now weights.now)
+        × (u.1.items ≡ Certificate.used_weights rows.now weights.now)) }
 {
     let mut used = Vec::new(alloc);
     let mut by = Vec::new(alloc);
-    for i in 0..rows.len() {
-        use_row(&mut used, &mut by, alloc, &rows[i], weights[i])?;
+    for (row, weight) in rows.iter().zip(weights) {
+        use_row(&mut used, &mut by, alloc, row, *weight)?;
     }
     Ok((used, by))
 }
 
-// Where less than nothing is left of a term, adds as many times the row that says that it is at least 0.
+// Where less than nothing is left of a term, adds as many times the row that says that it is at
+// least 0.
 fn add_leasts_of(
     sum: &mut Vec<(i128, RowName)>,
     rows: &[Row],
@@ -106,7 +112,8 @@ fn add_leasts_of(
     terms: &[Term],
 ) -> Result<(), AllocError>
     requires { IsWeighable rows.now weights.now }
-    ensures { OnOk result (sum.new.items ≡ sum.old.items ++ leasts (Absurd.total (weighed rows.now weights.now)) terms.now) }
+    ensures { OnOk result (sum.new.items ≡ sum.old.items
+        ++ leasts (Absurd.total (weighed rows.now weights.now)) terms.now) }
 {
     for term in terms {
         let left = total(rows, weights, canonical(*term));
@@ -126,13 +133,15 @@ fn add_leasts(
     terms: &[Term],
 ) -> Result<(), AllocError>
     requires { IsWeighable rows.now weights.now }
-    ensures { OnOk result (sum.new.items ≡ sum.old.items ++ leasts (Absurd.total (weighed rows.now weights.now)) terms.now) }
+    ensures { OnOk result (sum.new.items ≡ sum.old.items
+        ++ leasts (Absurd.total (weighed rows.now weights.now)) terms.now) }
 {
     let (used, by) = used(alloc, rows, weights)?;
     add_leasts_of(sum, &used, &by, terms)
 }
 
-// The sum of the rows with these multipliers, and of what brings each term to 0, where it is weighed by these weights.
+// The sum of the rows with these multipliers, and of what brings each term to 0, where it is
+// weighed by these weights.
 fn sum_of(
     alloc: Global,
     names: &[RowName],
@@ -143,7 +152,8 @@ fn sum_of(
 ) -> Result<Sum, AllocError>
     requires names { length multipliers.now ≡ length names.now }
     requires rows { IsWeighable rows.now weights.now }
-    ensures { IfOk result (λ s. s ≡ Certificate.sum_of names.now rows.now multipliers.now weights.now terms.now) }
+    ensures { IfOk result (λ s. s
+        ≡ Certificate.certificate_sum names.now rows.now multipliers.now weights.now terms.now) }
 {
     let mut sum = kept(alloc, names, multipliers)?;
     add_leasts(&mut sum, alloc, rows, weights, terms)?;
@@ -154,7 +164,7 @@ fn sum_of(
 fn negated_at(alloc: Global, multipliers: &[i128], place: usize) -> Result<Vec<i128>, AllocError>
     requires here { place < length multipliers.now }
     requires small { unsigned_abs (get_or multipliers.now place (pos 0)) ≤ 2 ^ 80 }
-    ensures { IfOk result (λ v. v.items ≡ Certificate.negated_at multipliers.now place) }
+    ensures { IfOk result (λ v. v.items ≡ Certificate.negated_place multipliers.now place) }
 {
     let mut weights = Vec::from_slice(alloc, multipliers)?;
     weights[place] = -multipliers[place];
@@ -185,8 +195,11 @@ fn two_sums(
     requires below_length { length below.now ≡ length names.items }
     requires below_small { unsigned_abs (get_or below.now row (pos 0)) ≤ 2 ^ 80 }
     requires first { IsWeighable rows.now above.now }
-    requires second { IsWeighable rows.now (Certificate.negated_at below.now row) }
-    ensures { IfOk result (λ s. s ≡ TwoSums (get_or names.items row name.Goal) (Certificate.sum_of (set names.items row name.Above) rows.now above.now above.now terms.now) (Certificate.sum_of (set names.items row name.Below) rows.now below.now (Certificate.negated_at below.now row) terms.now)) }
+    requires second { IsWeighable rows.now (Certificate.negated_place below.now row) }
+    ensures { IfOk result (λ s. s ≡ TwoSums (get_or names.items row name.Goal)
+        (Certificate.certificate_sum (set names.items row name.Above) rows.now above.now above.now
+        terms.now) (Certificate.certificate_sum (set names.items row name.Below) rows.now below.now
+        (Certificate.negated_place below.now row) terms.now)) }
 {
     let weights = negated_at(alloc, below, row)?;
     let differs = name_row(&mut names, row, RowName::Above);
@@ -269,7 +282,8 @@ pub fn sums_of(
     requires few { length rows.now ≤ 4096 }
     requires coefficients { IsTrue (all_small rows.now) }
     requires refuted { IsAbsurdity (all_seen rows.now) absurdity.now }
-    ensures { IfOk result (λ s. s ≡ Certificate.sums_of names.items rows.now terms.now absurdity.now) }
+    ensures { IfOk result
+        (λ s. s ≡ Certificate.certificate_sums names.items rows.now terms.now absurdity.now) }
 {
     match absurdity {
         Absurdity::One(multipliers) => {

@@ -1,4 +1,5 @@
-// Whether a metric literal follows from the facts of a step, and whether they contradict each other.
+//! Whether a metric literal follows from the facts of a step, and whether they contradict each
+//! other.
 
 ghost use Rattle.std.specs.Prelude.{◌≡◌, ◌⊎◌, ◌≤◌, [], ◌∷◌, length, map, option_copied, IsTrue, IfOk, Some, None};
 ghost use Rattle.std.specs.List.{list_all};
@@ -10,11 +11,11 @@ ghost use Rattle.e_fraction.specs.Limits.{all_small};
 ghost use Rattle.e_fraction.specs.Views.{all_seen};
 ghost use Rattle.e_simplex.specs.Answer.{IsAbsurdity};
 ghost use Rattle.e_metric.specs.inner.Certificate;
-ghost use Rattle.e_metric.specs.ListedTerms.{listed};
+ghost use Rattle.e_metric.specs.ListedTerms.{distinct_terms, with_listed};
 ghost use Rattle.e_metric.specs.MetricAnswers.{IsMetricAnswer, IsKindAnswer, IsYes, IfYes, IfNo};
 
 use crate::assigning::counterexample;
-use crate::by_kind::ByKind;
+use crate::by_kind::{ByKind, other_kinds};
 use crate::certificates::sums_of;
 use crate::listing::{has_term, terms_of_kind};
 use crate::systems::system;
@@ -31,7 +32,8 @@ use std::mem;
 pub enum Metric {
     /// The literal follows from the facts, or the facts contradict each other, by this certificate.
     Yes(MetricCert),
-    /// It does not: with these values of the terms of the step the facts are true, and the literal is false.
+    /// It does not: with these values of the terms of the step the facts are true, and the literal
+    /// is false.
     No(Values),
     /// One of the systems is wide, and has this width.
     TooWide(u128),
@@ -61,7 +63,8 @@ pub fn summed_terms(
     facts: &Facts,
     wanted: Option<&Lit>,
 ) -> Result<Vec<Term>, AllocError>
-    ensures { IfOk result (λ v. v.items ≡ listed (Rattle.e_metric.specs.ListedTerms.terms_of_kind which facts.now (option_copied wanted.entry)) (Term.Right ∷ [])) }
+    ensures { IfOk result (λ v. v.items ≡ with_listed
+        (distinct_terms which facts.now (option_copied wanted.entry)) (Term.Right ∷ [])) }
 {
     let mut terms = terms_of_kind(alloc, which, facts, wanted)?;
     if !has_term(&terms, Term::Right) {
@@ -84,7 +87,9 @@ pub fn certificate_of(
     requires few { length rows.now ≤ 4096 }
     requires coefficients { IsTrue (all_small rows.now) }
     requires refuted { IsAbsurdity (all_seen rows.now) absurdity.now }
-    ensures { IfOk result (λ m. m.sums ≡ Certificate.sums_of names.items rows.now (listed (Rattle.e_metric.specs.ListedTerms.terms_of_kind which facts.now (option_copied wanted.entry)) (Term.Right ∷ [])) absurdity.now) }
+    ensures { IfOk result (λ m. m.sums ≡ Certificate.certificate_sums names.items
+        rows.now (with_listed (distinct_terms which facts.now (option_copied wanted.entry))
+        (Term.Right ∷ [])) absurdity.now) }
 {
     let terms = summed_terms(alloc, which, facts, wanted)?;
     let sums = sums_of(alloc, names, rows, &terms, absurdity)?;
@@ -128,7 +133,8 @@ fn answers_of_both(
     requires few { length (terms_of_lits facts.now) ≤ 1100 }
     requires wanted { IsTrue (is_good_wanted (option_copied wanted)) }
     ensures one { IfOk result (λ p. IsKindAnswer one facts.now (option_copied wanted.entry) p.0) }
-    ensures other { IfOk result (λ p. IsKindAnswer other facts.now (option_copied wanted.entry) p.1) }
+    ensures other { IfOk result
+        (λ p. IsKindAnswer other facts.now (option_copied wanted.entry) p.1) }
 {
     let first = answer_of_kind(alloc, one, facts, wanted)?;
     match answer_of_kind(alloc, other, facts, wanted) {
@@ -152,44 +158,20 @@ fn answers_by_kind(
     requires few { length (terms_of_lits facts.now) ≤ 1100 }
     requires wanted { IsTrue (is_good_wanted (option_copied wanted)) }
     requires own_answer { IsKindAnswer which facts.now (option_copied wanted) own_answer }
-    ensures segments { IfOk result (λ b. IsKindAnswer Kind.Segment facts.now (option_copied wanted.entry) b.segments) }
-    ensures angles { IfOk result (λ b. IsKindAnswer Kind.Angle facts.now (option_copied wanted.entry) b.angles) }
-    ensures areas { IfOk result (λ b. IsKindAnswer Kind.Area facts.now (option_copied wanted.entry) b.areas) }
+    ensures segments { IfOk result
+        (λ b. IsKindAnswer Kind.Segment facts.now (option_copied wanted.entry) b.segments) }
+    ensures angles { IfOk result
+        (λ b. IsKindAnswer Kind.Angle facts.now (option_copied wanted.entry) b.angles) }
+    ensures areas { IfOk result
+        (λ b. IsKindAnswer Kind.Area facts.now (option_copied wanted.entry) b.areas) }
 {
-    match which {
-        Kind::Segment => match answers_of_both(alloc, Kind::Angle, Kind::Area, facts, wanted) {
-            Ok((angles, areas)) => Ok(ByKind {
-                segments: own_answer,
-                angles,
-                areas,
-            }),
-            Err(error) => {
-                mem::drop(own_answer);
-                Err(error)
-            }
-        },
-        Kind::Angle => match answers_of_both(alloc, Kind::Segment, Kind::Area, facts, wanted) {
-            Ok((segments, areas)) => Ok(ByKind {
-                segments,
-                angles: own_answer,
-                areas,
-            }),
-            Err(error) => {
-                mem::drop(own_answer);
-                Err(error)
-            }
-        },
-        Kind::Area => match answers_of_both(alloc, Kind::Segment, Kind::Angle, facts, wanted) {
-            Ok((segments, angles)) => Ok(ByKind {
-                segments,
-                angles,
-                areas: own_answer,
-            }),
-            Err(error) => {
-                mem::drop(own_answer);
-                Err(error)
-            }
-        },
+    let (first, second) = other_kinds(which);
+    match answers_of_both(alloc, first, second, facts, wanted) {
+        Ok((first, second)) => Ok(ByKind::arrange(which, own_answer, first, second)),
+        Err(error) => {
+            mem::drop(own_answer);
+            Err(error)
+        }
     }
 }
 
@@ -266,11 +248,12 @@ fn answer(
     }
 }
 
-/// Whether the metric literal follows from the facts: whether each admissible assignment that makes the metric facts true
-/// makes it true. `Yes` with a certificate that names no objects but those of the facts and of the goal; `No` with values
-/// for the terms of the step with which the facts are true and the goal is false; `TooWide` with the width of one of
-/// the systems, only where some minor of its rows has size at least 2^63. Facts that contradict each other in any kind
-/// give every metric literal.
+/// Whether the metric literal follows from the facts: whether each admissible assignment that makes
+/// the metric facts true makes it true. `Yes` with a certificate that names no objects but those of
+/// the facts and of the goal; `No` with values for the terms of the step with which the facts are
+/// true and the goal is false; `TooWide` with the width of one of the systems, only where some
+/// minor of its rows has size at least 2^63. Facts that contradict each other in any kind give
+/// every metric literal.
 ///
 /// [`are_few_facts`] and [`is_good_goal`] test the conditions.
 ///
@@ -288,8 +271,8 @@ pub fn follows(alloc: Global, facts: &Facts, goal: &Lit) -> Result<Metric, Alloc
     answer(alloc, which, facts, Some(goal))
 }
 
-/// Whether the metric facts contradict each other: whether no admissible assignment makes them all true. The answers
-/// are those of [`follows`], with no goal.
+/// Whether the metric facts contradict each other: whether no admissible assignment makes them all
+/// true. The answers are those of [`follows`], with no goal.
 pub fn absurd(alloc: Global, facts: &Facts) -> Result<Metric, AllocError>
     requires facts { IsTrue (list_all is_well_formed facts.now) }
     requires few { length (terms_of_lits facts.now) ≤ 1100 }

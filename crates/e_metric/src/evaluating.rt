@@ -1,4 +1,4 @@
-// Rows under values of their terms.
+//! Rows under values of their terms.
 
 ghost use Rattle.std.specs.Prelude.{◌≡◌, true, IfSome, IfOk};
 ghost use Rattle.e_literal.specs.Solution;
@@ -31,7 +31,8 @@ fn form_value(values: &[(Term, u128)], form: &[(i64, Term)]) -> Option<i128>
 
 // Whether a row is seen to be so.
 fn is_so(values: &[(Term, u128)], row: &Row) -> bool
-    ensures { result ≡ true → IsSo (says_of row.now.kind) (Solution.form_value row.now.form (Answer.assigned values.now)) }
+    ensures { result ≡ true → IsSo (says_of row.now.kind)
+        (Solution.form_value row.now.form (Answer.assigned values.now)) }
 {
     match form_value(values, row.form.summands()) {
         None => false,
@@ -56,9 +57,10 @@ pub fn are_so(values: &[(Term, u128)], rows: &[Row]) -> bool
     true
 }
 
-// A value that a term may have of which no fact speaks: 1 where it is a segment whose ends differ, and else 0.
+// A value that a term may have of which no fact speaks: 1 where it is a segment whose ends differ,
+// and else 0.
 fn default_value(facts: &Facts, term: Term) -> u128
-    ensures { result ≡ FurtherRows.default_value facts.now term }
+    ensures { result ≡ FurtherRows.value_of_fresh facts.now term }
 {
     match term {
         Term::Seg(a, b) => u128::from(are_apart(facts, a, b)),
@@ -73,7 +75,7 @@ pub fn extended(
     values: &[(Term, u128)],
     fresh: &[Term],
 ) -> Result<Values, AllocError>
-    ensures { IfOk result (λ v. v ≡ FurtherRows.extended facts.now values.now fresh.now) }
+    ensures { IfOk result (λ v. v ≡ FurtherRows.values_extended facts.now values.now fresh.now) }
 {
     let mut pairs = Vec::from_slice(alloc, values)?;
     for term in fresh {

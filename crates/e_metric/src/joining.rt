@@ -1,8 +1,8 @@
-// The difference of two sums, in which each term occurs once.
+//! The difference of two sums, in which each term occurs once.
 
 ghost use Rattle.std.specs.Prelude.{◌≡◌, ◌+◌, ◌<◌, ◌≤◌, ◌^◌, length, pos, OnOk, IfOk};
 ghost use Rattle.e_literal.specs.Same.{one_term, coeff_of};
-ghost use Rattle.e_metric.specs.inner.Differences.{with_term, with_terms};
+ghost use Rattle.e_metric.specs.inner.Differences.{coefficient_in_difference, difference_form, with_summand, with_summands};
 
 use e_fraction::stands_in;
 use e_literal::{Mono, Term, canonical, is_degenerate};
@@ -33,7 +33,7 @@ fn coefficient(sum: &[Mono], term: Term) -> i64
 // The coefficient of a term in the difference.
 fn difference(x: &[Mono], y: &[Mono], term: Term) -> i64
     requires { length x.now + length y.now ≤ 32 }
-    ensures { result ≡ Rattle.e_metric.specs.inner.Differences.difference x.now y.now term }
+    ensures { result ≡ coefficient_in_difference x.now y.now term }
 {
     coefficient(x, term) - coefficient(y, term)
 }
@@ -46,7 +46,7 @@ fn add_term(
     term: Term,
 ) -> Result<(), AllocError>
     requires { length x.now + length y.now ≤ 32 }
-    ensures { OnOk result (form.new.items ≡ with_term x.now y.now form.old.items term) }
+    ensures { OnOk result (form.new.items ≡ with_summand x.now y.now form.old.items term) }
 {
     if is_degenerate(term) || stands_in(form, term) {
         return Ok(());
@@ -66,7 +66,7 @@ fn add_terms(
     sum: &[Mono],
 ) -> Result<(), AllocError>
     requires { length x.now + length y.now ≤ 32 }
-    ensures { OnOk result (form.new.items ≡ with_terms x.now y.now form.old.items sum.now) }
+    ensures { OnOk result (form.new.items ≡ with_summands x.now y.now form.old.items sum.now) }
 {
     for m in sum {
         add_term(form, x, y, canonical(m.term))?;
@@ -77,7 +77,7 @@ fn add_terms(
 /// The summands of x - y, each term once, where it occurs first.
 pub fn joined(alloc: Global, x: &[Mono], y: &[Mono]) -> Result<Vec<(i64, Term)>, AllocError>
     requires { length x.now + length y.now ≤ 32 }
-    ensures { IfOk result (λ v. v.items ≡ Rattle.e_metric.specs.inner.Differences.joined x.now y.now) }
+    ensures { IfOk result (λ v. v.items ≡ difference_form x.now y.now) }
 {
     let mut form = Vec::new(alloc);
     add_terms(&mut form, x, y, x)?;

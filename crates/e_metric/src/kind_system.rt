@@ -1,4 +1,4 @@
-// The system of the facts of one kind.
+//! The system of the facts of one kind.
 
 ghost use Rattle.std.specs.Prelude.{◌≡◌, ◌≤◌, ◌++◌, length, take, flat_map, true, IsTrue, IfOk, MatchOption, Some, None};
 ghost use Rattle.std.specs.List.{list_all};
@@ -82,7 +82,8 @@ impl KindSystem {
         }
     }
 
-    /// The answer where a literal of this kind is wanted. Facts with a wide system are asked anew, with the literal.
+    /// The answer where a literal of this kind is wanted. Facts with a wide system are asked anew,
+    /// with the literal.
     pub fn ask(
         &self,
         alloc: Global,
@@ -136,8 +137,9 @@ impl KindSystem {
         }
     }
 
-    /// What is solved of the facts, where this is that of the first `from` of them. None: the others change nothing. Facts that
-    /// contradict each other stay so, and facts with a wide system are asked from nothing.
+    /// What is solved of the facts, where this is that of the first `from` of them. None: the
+    /// others change nothing. Facts that contradict each other stay so, and facts with a wide
+    /// system are asked from nothing.
     pub fn grown(
         &self,
         alloc: Global,
@@ -149,7 +151,8 @@ impl KindSystem {
         requires kind_system { IsKindSystem which (take from facts.now) self.now }
         requires facts { IsTrue (list_all is_well_formed facts.now) }
         requires few { length (terms_of_lits facts.now) ≤ 1100 }
-        ensures { IfOk result (λ o. MatchOption o (IsKindSystem which facts.now self.now) (IsKindSystem which facts.now)) }
+        ensures { IfOk result (λ o. MatchOption o (IsKindSystem which facts.now self.now)
+            (IsKindSystem which facts.now)) }
     {
         match self {
             KindSystem::Solved(solved_system) => grown(alloc, solved_system, which, facts, from),
@@ -162,8 +165,9 @@ impl KindSystem {
     }
 }
 
-// What is solved of the facts, where the first `from` of them have this solved system. None: the solved system is that of all. Where a term
-// that was there brings a row by a new fact, the rows are settled from nothing: it would occur among the others.
+// What is solved of the facts, where the first `from` of them have this solved system. None: the
+// solved system is that of all. Where a term that was there brings a row by a new fact, the rows
+// are settled from nothing: it would occur among the others.
 fn grown(
     alloc: Global,
     solved_system: &SolvedSystem,
@@ -175,7 +179,8 @@ fn grown(
     requires solved_system { IsSolvedSystem which (take from facts.now) solved_system.now }
     requires facts { IsTrue (list_all is_well_formed facts.now) }
     requires few { length (terms_of_lits facts.now) ≤ 1100 }
-    ensures { IfOk result (λ o. MatchOption o (IsSolvedSystem which facts.now solved_system.now) (IsKindSystem which facts.now)) }
+    ensures { IfOk result (λ o. MatchOption o (IsSolvedSystem which facts.now solved_system.now)
+        (IsKindSystem which facts.now)) }
 {
     let raised = count_term_rows(facts, &solved_system.terms);
     if raised == solved_system.raised {
@@ -193,7 +198,8 @@ fn are_none(named: &[(RowName, Row)], terms: &[Term]) -> bool
     named.is_empty() && terms.is_empty()
 }
 
-// The same, where the terms bring no more rows than before: the rows of the other facts come after them.
+// The same, where the terms bring no more rows than before: the rows of the other facts come after
+// them.
 fn with_rest(
     alloc: Global,
     solved_system: &SolvedSystem,
@@ -203,10 +209,12 @@ fn with_rest(
 ) -> Result<Option<KindSystem>, AllocError>
     requires within { from ≤ length facts.now }
     requires solved_system { IsSolvedSystem which (take from facts.now) solved_system.now }
-    requires raised { solved_system.now.raised ≡ length (flat_map (rows_of_term facts.now) solved_system.now.terms.items) }
+    requires raised { solved_system.now.raised
+        ≡ length (flat_map (rows_of_term facts.now) solved_system.now.terms.items) }
     requires facts { IsTrue (list_all is_well_formed facts.now) }
     requires few { length (terms_of_lits facts.now) ≤ 1100 }
-    ensures { IfOk result (λ o. MatchOption o (IsSolvedSystem which facts.now solved_system.now) (IsKindSystem which facts.now)) }
+    ensures { IfOk result (λ o. MatchOption o (IsSolvedSystem which facts.now solved_system.now)
+        (IsKindSystem which facts.now)) }
 {
     let fresh = fresh_terms_of_facts(alloc, which, &solved_system.terms, facts, from)?;
     let named = rows_of_facts(alloc, which, facts, from, &fresh)?;
@@ -277,7 +285,8 @@ fn joined_system(
     requires facts { IsTrue (list_all is_well_formed facts.now) }
     requires few { length (terms_of_lits facts.now) ≤ 1100 }
     requires together { AreTogether which facts.now None solved_system.now names.now rows.now }
-    requires terms { solved_system.now.terms.items ++ fresh.now ≡ ListedTerms.terms_of_kind which facts.now None }
+    requires terms { solved_system.now.terms.items ++ fresh.now
+        ≡ ListedTerms.distinct_terms which facts.now None }
     ensures { IfOk result (IsKindSystem which facts.now) }
 {
     match solved_system.settled.with(alloc, rows)? {

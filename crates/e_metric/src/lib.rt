@@ -1,5 +1,5 @@
-//! Metric consequence: the rows that the facts of a step give for each kind of magnitude, whether a metric literal
-//! follows from them, and why, or values of the terms that show that it does not.
+//! Metric consequence: the rows that the facts of a step give for each kind of magnitude, whether a
+//! metric literal follows from them, and why, or values of the terms that show that it does not.
 #![tactic(auto)]
 
 mod assigning;
@@ -21,4 +21,4 @@ pub use consequence::{Metric, absurd, follows};
 pub use limits::{are_few_facts, is_good_goal, is_well_formed};
 pub use metric_facts::MetricFacts;
 pub use step_facts::StepFacts;
-pub use systems::system;
+pub use systems::{are_apart, system};

@@ -1,4 +1,4 @@
-// The limits of facts and goals, as tests.
+//! The limits of facts and goals, as tests.
 
 ghost use Rattle.std.specs.Prelude.{◌≡◌, ◌<◌, ◌≤◌, ◌^◌, ◌&&◌, length, min, nat_le, Some};
 ghost use Rattle.std.specs.List.{list_all};
@@ -24,12 +24,13 @@ fn is_of(which: Kind, term: Term) -> bool
 
 // Whether each monomial is of the kind, with a coefficient from 1 to 1,000,000.
 fn are_good(which: Kind, sum: &[Mono]) -> bool
-    ensures { result ≡ list_all (λ m. same_kind (kind_of_term m.term) which && is_good_coefficient m.coeff) sum.now }
+    ensures { result ≡ list_all
+        (λ m. same_kind (kind_of_term m.term) which && is_good_coefficient m.coeff) sum.now }
 {
     sum.iter().all(|m| is_of(which, m.term) && 1 <= m.coeff && m.coeff <= 1_000_000)
 }
 
-#[tactic(auto, using(crate::proofs::GoodSums::parts))]
+#[tactic(auto, using(crate::proofs::terms::WellFormedSums::parts))]
 fn are_good_sums(which: Kind, x: &[Mono], y: &[Mono]) -> bool
     requires { which ≡ kind_of_sums x.now y.now }
     ensures { result ≡ WellFormed.are_good_sums x.now y.now }
@@ -38,8 +39,8 @@ fn are_good_sums(which: Kind, x: &[Mono], y: &[Mono]) -> bool
     1 <= monomials && monomials <= 32 && are_good(which, x) && are_good(which, y)
 }
 
-/// Whether the literal is well formed: a diagram literal, or one with 1 to 32 monomials of one kind with coefficients
-/// from 1 to 1,000,000.
+/// Whether the literal is well formed: a diagram literal, or one with 1 to 32 monomials of one kind
+/// with coefficients from 1 to 1,000,000.
 pub fn is_well_formed(lit: &Lit) -> bool
     ensures { result ≡ WellFormed.is_well_formed lit.now }
 {
@@ -84,6 +85,7 @@ fn are_well_formed(facts: &Facts) -> bool
 fn capped_monomials(facts: &Facts) -> usize
     ensures { result ≡ min (length (terms_of_lits facts.now)) 1101 }
 {
+    // Capped at each fact, since nothing bounds how many facts there are.
     let mut count = 0;
     for i in 0..facts.len() {
         count = (count + monomials(facts.get(i))).min(1101);
@@ -93,7 +95,8 @@ fn capped_monomials(facts: &Facts) -> usize
 
 /// Whether each fact is well formed, and the metric facts have at most 1,100 monomials.
 pub fn are_few_facts(facts: &Facts) -> bool
-    ensures { result ≡ (list_all WellFormed.is_well_formed facts.now && nat_le (length (terms_of_lits facts.now)) 1100) }
+    ensures { result ≡ (list_all WellFormed.is_well_formed facts.now
+        && nat_le (length (terms_of_lits facts.now)) 1100) }
 {
     are_well_formed(facts) && capped_monomials(facts) <= 1100
 }

@@ -1,11 +1,11 @@
-// The terms of the literals of a kind.
+//! The terms of the literals of a kind.
 
 ghost use Rattle.std.specs.Prelude.{◌≡◌, ◌≤◌, ◌++◌, ◌∷◌, [], length, map, drop, option_copied, OnOk, IfOk};
 ghost use Rattle.e_literal.specs.Rows;
 ghost use Rattle.e_clause.specs.Assignment.{terms_of_atom, terms_of_lits};
 ghost use Rattle.e_clause.specs.System;
 ghost use Rattle.e_clause.specs.System.{of_kind};
-ghost use Rattle.e_metric.specs.ListedTerms.{listed};
+ghost use Rattle.e_metric.specs.ListedTerms.{distinct_terms, with_listed};
 ghost use Rattle.e_metric.specs.inner.FurtherRows;
 
 use e_facts::Facts;
@@ -29,7 +29,8 @@ pub fn has_term(terms: &[Term], term: Term) -> bool
 
 // Puts the terms of a sum last that are none of those before.
 fn add_sum(terms: &mut Vec<Term>, sum: &[Mono]) -> Result<(), AllocError>
-    ensures { OnOk result (terms.new.items ≡ listed terms.old.items (map (λ m. m.term) sum.now)) }
+    ensures { OnOk result
+        (terms.new.items ≡ with_listed terms.old.items (map (λ m. m.term) sum.now)) }
 {
     for m in sum {
         if !has_term(terms, m.term) {
@@ -40,9 +41,9 @@ fn add_sum(terms: &mut Vec<Term>, sum: &[Mono]) -> Result<(), AllocError>
 }
 
 // Puts the terms of an atom last that are none of those before.
-#[tactic(auto, using(crate::proofs::FirstTerms::atom_terms))]
+#[tactic(auto, using(crate::proofs::terms::FirstTerms::atom_terms))]
 fn add_atom(terms: &mut Vec<Term>, atom: &Atom) -> Result<(), AllocError>
-    ensures { OnOk result (terms.new.items ≡ listed terms.old.items (terms_of_atom atom.now)) }
+    ensures { OnOk result (terms.new.items ≡ with_listed terms.old.items (terms_of_atom atom.now)) }
 {
     match atom {
         Atom::MagEq(x, y) | Atom::MagLt(x, y) => {
@@ -54,9 +55,10 @@ fn add_atom(terms: &mut Vec<Term>, atom: &Atom) -> Result<(), AllocError>
 }
 
 // Puts the terms of a literal last that are none of those before, if it is of the kind.
-#[tactic(auto, using(crate::proofs::FirstTerms::literal_terms))]
+#[tactic(auto, using(crate::proofs::terms::FirstTerms::literal_terms))]
 fn add_literal(terms: &mut Vec<Term>, which: Kind, lit: &Lit) -> Result<(), AllocError>
-    ensures { OnOk result (terms.new.items ≡ listed terms.old.items (terms_of_lits (of_kind which (lit.now ∷ [])))) }
+    ensures { OnOk result (terms.new.items
+        ≡ with_listed terms.old.items (terms_of_lits (of_kind which (lit.now ∷ [])))) }
 {
     if is_of_kind(which, lit) {
         add_atom(terms, &lit.atom)?;
@@ -72,7 +74,8 @@ fn add_facts(
     from: usize,
 ) -> Result<(), AllocError>
     requires { from ≤ length facts.now }
-    ensures { OnOk result (terms.new.items ≡ listed terms.old.items (terms_of_lits (of_kind which (drop from facts.now)))) }
+    ensures { OnOk result (terms.new.items
+        ≡ with_listed terms.old.items (terms_of_lits (of_kind which (drop from facts.now)))) }
 {
     let count = facts.len();
     for k in 0..count - from {
@@ -83,22 +86,25 @@ fn add_facts(
 
 // The terms of the facts of a kind.
 fn terms_of_facts(alloc: Global, which: Kind, facts: &Facts) -> Result<Vec<Term>, AllocError>
-    ensures { IfOk result (λ v. v.items ≡ listed [] (terms_of_lits (of_kind which facts.now))) }
+    ensures { IfOk result
+        (λ v. v.items ≡ with_listed [] (terms_of_lits (of_kind which facts.now))) }
 {
     let mut terms = Vec::new(alloc);
     add_facts(&mut terms, which, facts, 0)?;
     Ok(terms)
 }
 
-/// The terms of the facts of a kind and of the wanted literal, if it is of the kind, each once, as it is written first.
-#[tactic(auto, using(crate::proofs::FirstTerms::all_terms))]
+/// The terms of the facts of a kind and of the wanted literal, if it is of the kind, each once, as
+/// it is written first.
+#[tactic(auto, using(crate::proofs::terms::FirstTerms::all_terms))]
 pub fn terms_of_kind(
     alloc: Global,
     which: Kind,
     facts: &Facts,
     wanted: Option<&Lit>,
 ) -> Result<Vec<Term>, AllocError>
-    ensures { IfOk result (λ v. v.items ≡ Rattle.e_metric.specs.ListedTerms.terms_of_kind which facts.now (option_copied wanted.entry)) }
+    ensures { IfOk result
+        (λ v. v.items ≡ distinct_terms which facts.now (option_copied wanted.entry)) }
 {
     let mut terms = terms_of_facts(alloc, which, facts)?;
     if let Some(lit) = wanted {
@@ -108,14 +114,14 @@ pub fn terms_of_kind(
 }
 
 /// The terms of a literal, if it is of the kind, that are none of these, each once.
-#[tactic(auto, using(crate::proofs::GoalRows::as_long_one))]
+#[tactic(auto, using(crate::proofs::rows::GoalRows::as_long_one))]
 pub fn fresh_terms(
     alloc: Global,
     which: Kind,
     terms: &[Term],
     lit: &Lit,
 ) -> Result<Vec<Term>, AllocError>
-    ensures { IfOk result (λ v. v.items ≡ FurtherRows.fresh_terms which terms.now (lit.now ∷ [])) }
+    ensures { IfOk result (λ v. v.items ≡ FurtherRows.terms_added which terms.now (lit.now ∷ [])) }
 {
     let mut all = Vec::from_slice(alloc, terms)?;
     add_literal(&mut all, which, lit)?;
@@ -124,7 +130,7 @@ pub fn fresh_terms(
 }
 
 /// The terms of the facts of the kind from a place on that are none of these, each once.
-#[tactic(auto, using(crate::proofs::GoalRows::as_long))]
+#[tactic(auto, using(crate::proofs::rows::GoalRows::as_long))]
 pub fn fresh_terms_of_facts(
     alloc: Global,
     which: Kind,
@@ -133,7 +139,8 @@ pub fn fresh_terms_of_facts(
     from: usize,
 ) -> Result<Vec<Term>, AllocError>
     requires { from ≤ length facts.now }
-    ensures { IfOk result (λ v. v.items ≡ FurtherRows.fresh_terms which terms.now (drop from facts.now)) }
+    ensures { IfOk result
+        (λ v. v.items ≡ FurtherRows.terms_added which terms.now (drop from facts.now)) }
 {
     let mut all = Vec::from_slice(alloc, terms)?;
     add_facts(&mut all, which, facts, from)?;

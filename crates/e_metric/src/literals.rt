@@ -1,4 +1,4 @@
-// Rows of metric literals.
+//! Rows of metric literals.
 
 ghost use Rattle.std.specs.Prelude.{◌≡◌, ◌+◌, ◌≤◌, ◌++◌, length, IfOk, IsTrue};
 ghost use Rattle.std.specs.List.{list_all};
@@ -18,7 +18,8 @@ fn difference(alloc: Global, x: &[Mono], y: &[Mono]) -> Result<Signed, AllocErro
     requires few { length x.now + length y.now ≤ 32 }
     requires left { IsTrue (list_all (λ m. is_good_coefficient m.coeff) x.now) }
     requires right { IsTrue (list_all (λ m. is_good_coefficient m.coeff) y.now) }
-    ensures coefficients { IfOk result (λ f. (t : Term) → coefficient f t ≡ coefficient (normal_summands (plus x.now ++ minus y.now)) t) }
+    ensures coefficients { IfOk result (λ f. (t : Term)
+        → coefficient f t ≡ coefficient (normal_summands (plus x.now ++ minus y.now)) t) }
     ensures no_zero { IfOk result (λ f. IsTrue (has_no_zero f)) }
     ensures small { IfOk result (λ f. IsTrue (has_small_coefficients f)) }
     ensures short { IfOk result (λ f. length f ≤ 32) }

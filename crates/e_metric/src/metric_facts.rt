@@ -1,4 +1,4 @@
-// What is solved of the facts of a step, kind by kind, from as many of them as were asked about.
+//! What is solved of the facts of a step, kind by kind, from as many of them as were asked about.
 
 ghost use Rattle.std.specs.Prelude.{◌≡◌, ◌≤◌, [], length, take, true, option_copied, IsTrue, IfOk, IfSome, MatchOption, List, Some, None};
 ghost use Rattle.std.specs.List.{list_all};
@@ -14,7 +14,7 @@ ghost use Rattle.e_metric.specs.Fronts.{IsFront, IsFrontAs, AreFronts};
 ghost use Rattle.e_metric.specs.SolvedSystems.{IsKindSystem};
 ghost use Rattle.e_metric.specs.MetricAnswers.{IsCertified, IsMetricAnswer, IsKindAnswer, IfYes, IfNo};
 
-use crate::by_kind::ByKind;
+use crate::by_kind::{ByKind, other_kinds};
 use crate::consequence::{Metric, answer_of_kind, joined_answer};
 use crate::kind_system::{KindSystem, solve_kind};
 use e_clause::MetricCert;
@@ -23,7 +23,8 @@ use e_literal::{Kind, Lit, kind};
 use std::alloc::{AllocError, Global};
 use std::mem;
 
-/// What is solved of the first facts of a kind, as many as were there when it was asked; or nothing yet.
+/// What is solved of the first facts of a kind, as many as were there when it was asked; or nothing
+/// yet.
 #[derive(Drop)]
 pub struct Slot {
     kind_system: Option<KindSystem>,
@@ -59,7 +60,9 @@ impl Slot {
         requires front { IsFront which facts.now self.now }
         requires facts { IsTrue (list_all is_well_formed facts.now) }
         requires few { length (terms_of_lits facts.now) ≤ 1100 }
-        ensures { IfOk result (λ o. MatchOption o (IfSome self.now.kind_system (IsKindSystem which facts.now)) (IsKindSystem which facts.now)) }
+        ensures { IfOk
+            result (λ o. MatchOption o (IfSome self.now.kind_system (IsKindSystem which facts.now))
+            (IsKindSystem which facts.now)) }
     {
         match &self.kind_system {
             Some(kind_system) => kind_system.grown(alloc, which, facts, self.upto),
@@ -70,7 +73,8 @@ impl Slot {
         }
     }
 
-    // Brings what is solved up to all facts. No clause says that it does, since what is there is right in any case.
+    // Brings what is solved up to all facts. No clause says that it does, since what is there is
+    // right in any case.
     fn bring(&mut self, alloc: Global, which: Kind, facts: &Facts) -> Result<(), AllocError>
         requires front { IsFront which facts.now self.old }
         requires facts { IsTrue (list_all is_well_formed facts.now) }
@@ -149,6 +153,7 @@ impl Slot {
         requires { IsFront which facts.now self.now }
         ensures { IfOk result (λ o. IfSome o (IsCertified facts.now None)) }
     {
+        // The kind is for the contract alone: each slot has the facts of one.
         let _ = which;
         if self.is_whole(facts) {
             if let Some(kind_system) = &self.kind_system {
@@ -186,7 +191,8 @@ impl Slot {
 
     // Forgets what is solved of more than the first facts.
     fn back_to(&mut self, count: usize)
-        ensures { (which : Kind) (facts : List Lit) → count ≤ length facts → IsFront which facts self.old → IsFront which (take count facts) self.new }
+        ensures { (which : Kind) (facts : List Lit) → count ≤ length facts
+            → IsFront which facts self.old → IsFront which (take count facts) self.new }
     {
         if self.is_within(count) {
             return;
@@ -196,9 +202,9 @@ impl Slot {
     }
 }
 
-/// What is solved of the facts of a step. Each kind is solved where it is first asked, and brought up to the facts
-/// that have come since where it is asked again. What a refused call leaves is right for the same facts, and so is what
-/// facts leave that come later.
+/// What is solved of the facts of a step. Each kind is solved where it is first asked, and brought
+/// up to the facts that have come since where it is asked again. What a refused call leaves is
+/// right for the same facts, and so is what facts leave that come later.
 #[derive(Drop)]
 pub struct MetricFacts {
     systems: ByKind<Slot>,
@@ -260,19 +266,22 @@ impl MetricFacts {
         self.bring(alloc, Kind::Area, facts)
     }
 
-    /// Forgets what is solved of more than the first `count` facts, where the others are taken away.
+    /// Forgets what is solved of more than the first `count` facts, where the others are taken
+    /// away.
     pub fn back_to(&mut self, count: usize)
-        ensures { (facts : List Lit) → count ≤ length facts → AreFronts facts self.old → AreFronts (take count facts) self.new }
+        ensures { (facts : List Lit) → count ≤ length facts → AreFronts facts self.old
+            → AreFronts (take count facts) self.new }
     {
         self.systems.segments.back_to(count);
         self.systems.angles.back_to(count);
         self.systems.areas.back_to(count);
     }
 
-    /// The same of the same facts: where a block of a proof begins, so that what is solved of the facts before it is there again
-    /// after it.
+    /// The same of the same facts: where a block of a proof begins, so that what is solved of the
+    /// facts before it is there again after it.
     pub fn copied(&self, alloc: Global) -> Result<MetricFacts, AllocError>
-        ensures { IfOk result (λ m. (facts : List Lit) → AreFronts facts self.now → AreFronts facts m) }
+        ensures { IfOk result (λ m. (facts : List Lit) → AreFronts facts self.now
+            → AreFronts facts m) }
     {
         let segments = self.systems.segments.copied(alloc)?;
         let angles = match self.systems.angles.copied(alloc) {
@@ -350,8 +359,10 @@ impl MetricFacts {
         requires wanted { IsTrue (is_good_wanted (option_copied wanted)) }
         requires one { of_kind one (against_goal (option_copied wanted)) ≡ [] }
         requires other { of_kind other (against_goal (option_copied wanted)) ≡ [] }
-        ensures one { IfOk result (λ p. IsKindAnswer one facts.now (option_copied wanted.entry) p.0) }
-        ensures other { IfOk result (λ p. IsKindAnswer other facts.now (option_copied wanted.entry) p.1) }
+        ensures one { IfOk result
+            (λ p. IsKindAnswer one facts.now (option_copied wanted.entry) p.0) }
+        ensures other { IfOk result
+            (λ p. IsKindAnswer other facts.now (option_copied wanted.entry) p.1) }
     {
         let first = self.answer_alone(alloc, one, facts, wanted)?;
         match self.answer_alone(alloc, other, facts, wanted) {
@@ -378,45 +389,21 @@ impl MetricFacts {
         requires goal { IsTrue (is_good_wanted (Some goal.now)) }
         requires kind { kind_of_atom goal.now.atom ≡ Some which }
         requires own_answer { IsKindAnswer which facts.now (Some goal.now) own_answer }
-        ensures segments { IfOk result (λ b. IsKindAnswer Kind.Segment facts.now (Some goal.now) b.segments) }
-        ensures angles { IfOk result (λ b. IsKindAnswer Kind.Angle facts.now (Some goal.now) b.angles) }
-        ensures areas { IfOk result (λ b. IsKindAnswer Kind.Area facts.now (Some goal.now) b.areas) }
+        ensures segments { IfOk result
+            (λ b. IsKindAnswer Kind.Segment facts.now (Some goal.now) b.segments) }
+        ensures angles { IfOk result
+            (λ b. IsKindAnswer Kind.Angle facts.now (Some goal.now) b.angles) }
+        ensures areas { IfOk result
+            (λ b. IsKindAnswer Kind.Area facts.now (Some goal.now) b.areas) }
     {
         let wanted = Some(goal);
-        match which {
-            Kind::Segment => match self.both_alone(alloc, Kind::Angle, Kind::Area, facts, wanted) {
-                Ok((angles, areas)) => Ok(ByKind {
-                    segments: own_answer,
-                    angles,
-                    areas,
-                }),
-                Err(error) => {
-                    mem::drop(own_answer);
-                    Err(error)
-                }
-            },
-            Kind::Angle => match self.both_alone(alloc, Kind::Segment, Kind::Area, facts, wanted) {
-                Ok((segments, areas)) => Ok(ByKind {
-                    segments,
-                    angles: own_answer,
-                    areas,
-                }),
-                Err(error) => {
-                    mem::drop(own_answer);
-                    Err(error)
-                }
-            },
-            Kind::Area => match self.both_alone(alloc, Kind::Segment, Kind::Angle, facts, wanted) {
-                Ok((segments, angles)) => Ok(ByKind {
-                    segments,
-                    angles,
-                    areas: own_answer,
-                }),
-                Err(error) => {
-                    mem::drop(own_answer);
-                    Err(error)
-                }
-            },
+        let (first, second) = other_kinds(which);
+        match self.both_alone(alloc, first, second, facts, wanted) {
+            Ok((first, second)) => Ok(ByKind::arrange(which, own_answer, first, second)),
+            Err(error) => {
+                mem::drop(own_answer);
+                Err(error)
+            }
         }
     }
 
@@ -462,9 +449,10 @@ impl MetricFacts {
         }
     }
 
-    /// Whether the metric literal follows from the facts: the answers are those of [`follows`]. Of the kinds that the goal
-    /// is not of the answer is known, where they were brought up to the facts. The goal's own system is asked only where
-    /// the goal is true with the values that the facts have already, and from there.
+    /// Whether the metric literal follows from the facts: the answers are those of [`follows`]. Of
+    /// the kinds that the goal is not of the answer is known, where they were brought up to the
+    /// facts. The goal's own system is asked only where the goal is true with the values that the
+    /// facts have already, and from there.
     ///
     /// [`follows`]: crate::consequence::follows
     pub fn follows(&self, alloc: Global, facts: &Facts, goal: &Lit) -> Result<Metric, AllocError>
@@ -509,8 +497,8 @@ impl MetricFacts {
         }
     }
 
-    /// The same as [`MetricFacts::follows`], where each kind is first brought up to the facts, but only if it is asked: a
-    /// goal that follows by its own kind asks no other.
+    /// The same as [`MetricFacts::follows`], where each kind is first brought up to the facts, but
+    /// only if it is asked: a goal that follows by its own kind asks no other.
     pub fn follows_in_turn(
         &mut self,
         alloc: Global,
@@ -530,8 +518,8 @@ impl MetricFacts {
         self.follows_in_turn_of(alloc, which, facts, goal)
     }
 
-    /// A certificate of the goal by the facts of its own kind, where they give it. That kind is brought up to the facts, and no
-    /// other is asked.
+    /// A certificate of the goal by the facts of its own kind, where they give it. That kind is
+    /// brought up to the facts, and no other is asked.
     pub fn certificate_by_kind(
         &mut self,
         alloc: Global,
@@ -578,7 +566,8 @@ impl MetricFacts {
         }
     }
 
-    /// Whether the metric facts contradict each other, which is known of the kinds that were brought up to the facts.
+    /// Whether the metric facts contradict each other, which is known of the kinds that were
+    /// brought up to the facts.
     pub fn absurd(&self, alloc: Global, facts: &Facts) -> Result<Metric, AllocError>
         requires fronts { AreFronts facts.now self.now }
         requires facts { IsTrue (list_all is_well_formed facts.now) }
@@ -590,7 +579,8 @@ impl MetricFacts {
         self.answer_of_facts(alloc, facts)
     }
 
-    // Brings a kind up to the facts: the certificate that its facts contradict each other, if they do.
+    // Brings a kind up to the facts: the certificate that its facts contradict each other, if they
+    // do.
     fn contradiction_of(
         &mut self,
         alloc: Global,
@@ -607,7 +597,8 @@ impl MetricFacts {
         self.systems.get(which).contradiction(alloc, which, facts)
     }
 
-    // The certificate that the facts of a kind contradict each other, of the first kind that has one.
+    // The certificate that the facts of a kind contradict each other, of the first kind that has
+    // one.
     fn first_contradiction(
         &mut self,
         alloc: Global,
@@ -646,8 +637,8 @@ impl MetricFacts {
         }
     }
 
-    /// The same as [`MetricFacts::absurd`], where each kind is first brought up to the facts, but only until one
-    /// contradicts itself.
+    /// The same as [`MetricFacts::absurd`], where each kind is first brought up to the facts, but
+    /// only until one contradicts itself.
     pub fn absurd_in_turn(&mut self, alloc: Global, facts: &Facts) -> Result<Metric, AllocError>
         requires fronts { AreFronts facts.now self.old }
         requires facts { IsTrue (list_all is_well_formed facts.now) }

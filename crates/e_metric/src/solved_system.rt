@@ -1,4 +1,4 @@
-// The facts of one kind, whose rows have a solution, and the answers on goals from there.
+//! The facts of one kind, whose rows have a solution, and the answers on goals from there.
 
 ghost use Rattle.std.specs.Prelude.{◌≡◌, ◌≤◌, ◌++◌, length, option_copied, IsTrue, IfOk, OnOk, Some};
 ghost use Rattle.std.specs.List.{list_all};
@@ -10,7 +10,7 @@ ghost use Rattle.e_clause.specs.System;
 ghost use Rattle.e_clause.specs.System.{system, rows_of_system};
 ghost use Rattle.e_fraction.specs.Views.{all_seen};
 ghost use Rattle.e_simplex.specs.Answer.{AreValuesOf, IsRefuted};
-ghost use Rattle.e_metric.specs.inner.FurtherRows.{extended};
+ghost use Rattle.e_metric.specs.inner.FurtherRows.{values_extended};
 ghost use Rattle.e_metric.specs.SolvedSystems.{AreTogether, IsSolvedSystem};
 ghost use Rattle.e_metric.specs.ListedTerms;
 ghost use Rattle.e_metric.specs.MetricAnswers.{IsCertified, IsKindAnswer};
@@ -97,7 +97,8 @@ pub fn system_width(
 ) -> Result<u128, AllocError>
     requires facts { IsTrue (list_all is_well_formed facts.now) }
     requires wanted { IsTrue (is_good_wanted (option_copied wanted)) }
-    ensures { IfOk result (λ w. w ≡ Width.width (rows_of_system which facts.now (option_copied wanted.entry))) }
+    ensures { IfOk result
+        (λ w. w ≡ Width.width (rows_of_system which facts.now (option_copied wanted.entry))) }
 {
     let named = system(alloc, which, facts, wanted)?;
     let (_, rows) = split(alloc, named)?;
@@ -159,7 +160,8 @@ impl SolvedSystem {
         requires facts { IsTrue (list_all is_well_formed facts.now) }
         requires few { length (terms_of_lits facts.now) ≤ 1100 }
         requires wanted { IsTrue (is_good_wanted (option_copied wanted)) }
-        requires together { AreTogether which facts.now (option_copied wanted) self.now names.now rows.now }
+        requires together { AreTogether which facts.now (option_copied wanted) self.now names.now
+            rows.now }
         requires refuted { IsRefuted (all_seen (self.now.settled ++ rows.now)) absurdity.now }
         ensures { IfOk result (IsCertified facts.now (option_copied wanted.entry)) }
     {
@@ -182,7 +184,8 @@ impl SolvedSystem {
         requires facts { IsTrue (list_all is_well_formed facts.now) }
         requires few { length (terms_of_lits facts.now) ≤ 1100 }
         requires goal { IsTrue (is_good_wanted (Some goal.now)) }
-        requires together { AreTogether which facts.now (Some goal.now) self.now names.now rows.now }
+        requires together { AreTogether which facts.now (Some goal.now) self.now names.now
+            rows.now }
         ensures { IfOk result (IsKindAnswer which facts.now (Some goal.now)) }
     {
         match self.settled.decide_with(alloc, rows)? {
@@ -200,8 +203,8 @@ impl SolvedSystem {
         }
     }
 
-    /// The answer of the system of the facts and the goal. Where the goal is false with the values that the facts have
-    /// already, no linear question is asked.
+    /// The answer of the system of the facts and the goal. Where the goal is false with the values
+    /// that the facts have already, no linear question is asked.
     pub fn ask(
         &self,
         alloc: Global,

@@ -1,4 +1,4 @@
-// The facts of a step, and what is solved of their magnitudes.
+//! The facts of a step, and what is solved of their magnitudes.
 
 ghost use Rattle.std.specs.Prelude.{◌≡◌};
 ghost use Rattle.e_metric.specs.Fronts.{AreFronts};
@@ -7,7 +7,8 @@ use crate::metric_facts::MetricFacts;
 use e_facts::Facts;
 use std::marker::Model;
 
-/// Facts, and what is solved of their magnitudes, for a struct that holds both. Contracts see the facts.
+/// Facts, and what is solved of their magnitudes, for a struct that holds both. Contracts see the
+/// facts.
 #[derive(Drop)]
 pub struct StepFacts<'a> {
     facts: &'a Facts,

@@ -1,9 +1,9 @@
-// The metric systems.
+//! The metric systems.
 
 ghost use Rattle.std.specs.Prelude.{◌≡◌, ◌≤◌, ◌∷◌, [], true, length, drop, option_copied, flat_map, IfOk, OnOk, IsTrue, Some};
 ghost use Rattle.std.specs.Option.{option_map_or};
 ghost use Rattle.std.specs.List.{list_all};
-ghost use Rattle.e_literal.specs.Facts;
+ghost use Rattle.e_literal.specs.Facts.{are_apart as say_apart};
 ghost use Rattle.e_literal.specs.WellFormed.{is_well_formed};
 ghost use Rattle.e_clause.specs.declared.cert.RowName.TheVariants as name;
 ghost use Rattle.e_clause.specs.System.{NamedRow};
@@ -22,7 +22,7 @@ use std::alloc::{AllocError, Global};
 
 /// Whether the facts say that the two points differ, in one order or the other.
 pub fn are_apart(facts: &Facts, a: u16, b: u16) -> bool
-    ensures { result ≡ Rattle.e_literal.specs.Facts.are_apart facts.now a b }
+    ensures { result ≡ say_apart facts.now a b }
 {
     let one = Lit {
         neg: true,
@@ -96,7 +96,8 @@ fn add_term_rows(
     facts: &Facts,
     terms: &[Term],
 ) -> Result<(), AllocError>
-    ensures { OnOk result (GrowBy (flat_map (rows_of_term facts.now) terms.now) rows.old.items rows.new.items) }
+    ensures { OnOk result
+        (GrowBy (flat_map (rows_of_term facts.now) terms.now) rows.old.items rows.new.items) }
 {
     for term in terms {
         add_term_row(rows, alloc, facts, *term)?;
@@ -130,7 +131,8 @@ fn add_fact_row(
     fact: &Lit,
 ) -> Result<(), AllocError>
     requires { IsTrue (is_well_formed fact.now) }
-    ensures { OnOk result (GrowBy (rows_named (λ l. name.Fact l) (of_kind which (fact.now ∷ []))) rows.old.items rows.new.items) }
+    ensures { OnOk result (GrowBy (rows_named (λ l. name.Fact l) (of_kind which (fact.now ∷ [])))
+        rows.old.items rows.new.items) }
 {
     if is_of_kind(which, fact) {
         if let Some(row) = row_of(alloc, &fact.atom, fact.neg)? {
@@ -150,7 +152,9 @@ fn add_fact_rows(
 ) -> Result<(), AllocError>
     requires facts { IsTrue (list_all is_well_formed facts.now) }
     requires within { from ≤ length facts.now }
-    ensures { OnOk result (GrowBy (rows_named (λ l. name.Fact l) (of_kind which (drop from facts.now))) rows.old.items rows.new.items) }
+    ensures { OnOk result
+        (GrowBy (rows_named (λ l. name.Fact l) (of_kind which (drop from facts.now))) rows.old.items
+        rows.new.items) }
 {
     let count = facts.len();
     for k in 0..count - from {
@@ -167,7 +171,9 @@ fn add_negation_row(
     goal: &Lit,
 ) -> Result<(), AllocError>
     requires { IsTrue (is_well_formed goal.now) }
-    ensures { OnOk result (GrowBy (rows_named (λ l. name.Goal) (of_kind which (against_goal (Some goal.now)))) rows.old.items rows.new.items) }
+    ensures { OnOk
+        result (GrowBy (rows_named (λ l. name.Goal) (of_kind which (against_goal (Some goal.now))))
+        rows.old.items rows.new.items) }
 {
     if is_of_kind(which, goal) {
         if let Some(row) = row_of(alloc, &goal.atom, !goal.neg)? {
@@ -185,7 +191,9 @@ fn add_goal_row(
     goal: Option<&Lit>,
 ) -> Result<(), AllocError>
     requires { IsTrue (option_map_or is_well_formed (option_copied goal) true) }
-    ensures { OnOk result (GrowBy (rows_named (λ l. name.Goal) (of_kind which (against_goal (option_copied goal.entry)))) rows.old.items rows.new.items) }
+    ensures { OnOk result (GrowBy
+        (rows_named (λ l. name.Goal) (of_kind which (against_goal (option_copied goal.entry))))
+        rows.old.items rows.new.items) }
 {
     match goal {
         Some(lit) => add_negation_row(rows, alloc, which, lit),
@@ -193,9 +201,10 @@ fn add_goal_row(
     }
 }
 
-/// The rows of the metric system of a kind, each with its name: the facts of the kind and the negation of the goal, if
-/// it is of the kind; then, for each of their terms, that it is more than 0 or at most two right; then, for angles, that
-/// right is more than 0. A row whose terms all cancel stays, with an empty form.
+/// The rows of the metric system of a kind, each with its name: the facts of the kind and the
+/// negation of the goal, if it is of the kind; then, for each of their terms, that it is more than
+/// 0 or at most two right; then, for angles, that right is more than 0. A row whose terms all
+/// cancel stays, with an empty form.
 pub fn system(
     alloc: Global,
     which: Kind,
@@ -204,7 +213,8 @@ pub fn system(
 ) -> Result<Vec<(RowName, Row)>, AllocError>
     requires facts { IsTrue (list_all is_well_formed facts.now) }
     requires goal { IsTrue (option_map_or is_well_formed (option_copied goal) true) }
-    ensures rows { IfOk result (λ v. AreRows (System.system which facts.now (option_copied goal.entry)) v.items) }
+    ensures rows { IfOk result
+        (λ v. AreRows (System.system which facts.now (option_copied goal.entry)) v.items) }
     ensures limited { IfOk result (λ v. AllLimited v.items) }
 {
     let mut rows = Vec::new(alloc);
@@ -216,8 +226,8 @@ pub fn system(
     Ok(rows)
 }
 
-/// The rows that a goal adds to those of the facts of its kind, each with its name: that of its negation, and those of
-/// its terms that are none of the facts'.
+/// The rows that a goal adds to those of the facts of its kind, each with its name: that of its
+/// negation, and those of its terms that are none of the facts'.
 pub fn rows_of_goal(
     alloc: Global,
     which: Kind,
@@ -226,7 +236,8 @@ pub fn rows_of_goal(
     goal: &Lit,
 ) -> Result<Vec<(RowName, Row)>, AllocError>
     requires { IsTrue (is_well_formed goal.now) }
-    ensures rows { IfOk result (λ v. AreRows (FurtherRows.rows_of_goal which facts.now fresh.now goal.now) v.items) }
+    ensures rows { IfOk result
+        (λ v. AreRows (FurtherRows.rows_added_by_goal which facts.now fresh.now goal.now) v.items) }
     ensures limited { IfOk result (λ v. AllLimited v.items) }
 {
     let mut rows = Vec::new(alloc);
@@ -235,8 +246,8 @@ pub fn rows_of_goal(
     Ok(rows)
 }
 
-/// The rows that the facts from a place on add to those of the facts of their kind before them, each with its name: their
-/// own, and those of their terms that are none of the others'.
+/// The rows that the facts from a place on add to those of the facts of their kind before them,
+/// each with its name: their own, and those of their terms that are none of the others'.
 pub fn rows_of_facts(
     alloc: Global,
     which: Kind,
@@ -246,7 +257,8 @@ pub fn rows_of_facts(
 ) -> Result<Vec<(RowName, Row)>, AllocError>
     requires facts { IsTrue (list_all is_well_formed facts.now) }
     requires within { from ≤ length facts.now }
-    ensures rows { IfOk result (λ v. AreRows (FurtherRows.rows_of_facts which facts.now (drop from facts.now) fresh.now) v.items) }
+    ensures rows { IfOk result (λ v. AreRows
+        (FurtherRows.rows_added_by_facts which facts.now (drop from facts.now) fresh.now) v.items) }
     ensures limited { IfOk result (λ v. AllLimited v.items) }
 {
     let mut rows = Vec::new(alloc);
@@ -268,7 +280,7 @@ fn count_rows_of(facts: &Facts, term: Term) -> usize
 }
 
 /// How many rows the terms bring.
-#[tactic(auto, using(crate::proofs::RowsOfMoreFacts::raised_more))]
+#[tactic(auto, using(crate::proofs::rows::RowsOfMoreFacts::raised_more))]
 pub fn count_term_rows(facts: &Facts, terms: &[Term]) -> usize
     ensures { result ≡ length (flat_map (rows_of_term facts.now) terms.now) }
 {

@@ -37,7 +37,7 @@ use Rattle.e_prove.specs.declared.step_stop.StepStop.{StepStop}
 use Rattle.e_prove.specs.declared.step_stop.StepStop.TheVariants as step_stop
 use Rattle.e_prove.specs.declared.step_state.StepState.{StepState}
 use Rattle.e_prove.specs.inner.StepStates.{after_apply}
-use Rattle.e_prove.specs.inner.StopsOfSteps.{StepStopsAmong, StepStopsFilling, StepStopsApplying, as_match}
+use Rattle.e_prove.specs.inner.StopsOfSteps.{StepStopsAmong, StepStopsFilling, StepStopsApplying, match_stop}
 use Rattle.e_prove.specs.inner.LicensedSteps.{IsLicensedStep, IsStopOfStep}
 use Rattle.e_prove.specs.inner.Applications.{CanApply, IsUse}
 use Rattle.e_deriv.specs.Versions.{has_certs_of}
@@ -215,7 +215,7 @@ stops_without t x pattern args h n is k =
     subst (λ b. MatchBool b (StepStopsAmong x (needs_of_use t (written pattern) x.scope) h) (StepStopsFilling t x pattern h)) (sym n) (subst (λ os. StepStopsAmong x (needs_of_use t os x.scope) h) is k)
 
 -- at the least good choice no given literal is refused, and one that is too wide is a match that is
-match_stops : (t : Stated) (x : Basis) (pattern : List (Option Obj)) (args : List Obj) (h : StepStop) → IsLeast t x.scope x.facts pattern args → StepStopsAmong x (needs_of_use t args x.scope) h → StepStopsFilling t x pattern (as_match h)
+match_stops : (t : Stated) (x : Basis) (pattern : List (Option Obj)) (args : List Obj) (h : StepStop) → IsLeast t x.scope x.facts pattern args → StepStopsAmong x (needs_of_use t args x.scope) h → StepStopsFilling t x pattern (match_stop h)
 match_stops t x pattern args (step_stop.Lacks (Literal l) values) least k = absurd (none_not_allowed x.scope x.facts (needs_of_use t args x.scope) l least.good.allowed k.0)
 match_stops t x pattern args (step_stop.Lacks Match values) least k = absurd k
 match_stops t x pattern args (step_stop.Lacks Contradiction values) least k = absurd k
@@ -225,7 +225,7 @@ match_stops t x pattern args (step_stop.TooWide Match width) least k = absurd k
 match_stops t x pattern args (step_stop.TooWide Contradiction width) least k = absurd k
 match_stops t x pattern args step_stop.NoMemory least k = tt
 
-pub match_stops_so : (t : Stated) (x : Basis) (pattern : List (Option Obj)) (args : List Obj) (h k : StepStop) → IsLeast t x.scope x.facts pattern args → StepStopsAmong x (needs_of_use t args x.scope) h → k ≡ as_match h → StepStopsFilling t x pattern k
+pub match_stops_so : (t : Stated) (x : Basis) (pattern : List (Option Obj)) (args : List Obj) (h k : StepStop) → IsLeast t x.scope x.facts pattern args → StepStopsAmong x (needs_of_use t args x.scope) h → k ≡ match_stop h → StepStopsFilling t x pattern k
 match_stops_so t x pattern args h k least stops_at is = subst (StepStopsFilling t x pattern) (sym is) (match_stops t x pattern args h least stops_at)
 
 -- ---- what the code says

@@ -18,22 +18,18 @@ use Rattle.e_deriv.specs.declared.block.Step.TheVariants.{Cite as CiteStep, Henc
 use Rattle.e_deriv.specs.declared.block.Close.{Close}
 use Rattle.e_deriv.specs.declared.block.Close.TheVariants.{Qed as QedClose, Contradiction as ContradictionClose, Cases as CasesClose}
 use Rattle.e_deriv.specs.declared.stop.Stop.{Stop}
-use Rattle.e_deriv.specs.Script.{Script, Claim, Superposed, Cases, script_of, step_script, steps_script, close_script, size}
+use Rattle.e_deriv.specs.Script.{Script, Superposed, Cases, script_of, step_script, steps_script, close_script, size}
 use Rattle.e_deriv.specs.Goal.{Goal, goal_of}
 use Rattle.e_deriv.proofs.Scripts.{steps_at, steps_script-append, step_script-Claim, step_script-Superposed, close_script-Cases}
 use Rattle.e_prove.specs.declared.step_stop.StepStop.{StepStop}
 use Rattle.e_prove.specs.declared.step_state.StepState.{StepState}
-use Rattle.e_deriv.specs.declared.names.Names.{Names}
-use Rattle.e_prove.specs.declared.block.ProvedBlock.{ProvedBlock}
-use Rattle.e_prove.specs.declared.block.ProvedStep.{ProvedStep}
 use Rattle.e_prove.specs.declared.block.ProvedClose.{ProvedClose}
-use Rattle.e_prove.specs.inner.StepStates.{after_literal, after_superposed, held_at, IsLeftWith}
+use Rattle.e_prove.specs.inner.StepStates.{after_literal, after_superposed}
 use Rattle.e_prove.specs.inner.StopsOfSteps.{StepStopsAmong, UnlessNoMemory, StopOf}
-use Rattle.e_prove.specs.inner.PassedSteps.{IsReadyFor, IsReadyStep, IsDerived, KeepsHeld, StopsWithin, IsPassed, StepStops}
-use Rattle.e_prove.proofs.HeldStates.{after_is}
+use Rattle.e_prove.specs.inner.PassedSteps.{IsReadyFor, IsReadyStep, IsDerivedFrom, KeepsHeld, StopsWithin, IsPassed, StepStops}
 use Rattle.e_prove.proofs.PassedSteps.{passed_none, passed_more, passed_as, stops_first, same_names}
 use Rattle.e_prove.proofs.StopsInLists.{stop_within, before_more, stop_before}
-use Rattle.e_prove.proofs.InnerBlocks.{ClaimReady, claim_size, claim_stops, passed_claim, SuperposedReady, Certifies, superposed_size, superposed_stops, passed_superposed, superposed_step_stops, SplitReady, split_ready, split_other, split_derives, split_first, split_second}
+use Rattle.e_prove.proofs.InnerBlocks.{ClaimReady, claim_size, claim_stops, SuperposedReady, Certifies, superposed_size, superposed_stops, superposed_step_stops, SplitReady, split_ready, split_other, split_derives, split_first, split_second}
 use Rattle.e_book.proofs.KeptBlocks.{size_split}
 
 pub on_ok : {A E : Type 0} (p : Type 0) (r : Result A E) → p → OnOk r p
@@ -112,11 +108,11 @@ close_few before items seen done close i x y first n same le p =
     ap (λ d. first + size d) (sym (all_taken items seen i close same le)) ∙ p.number close
 
 pub close_derived : (before : List Stated) (items seen done : List Step) (close derived : Script) (i : ℕ) (x y : StepState) (goal : Goal) (first n : ℕ) → seen ≡ items → length seen ≤ i →
-    IsPassed before (steps_script (take i items)) x first (steps_script done) y n → IsReadyFor before (steps_script items close) x goal → IsDerived before close y goal derived →
-    IsDerived before (steps_script items close) x goal (steps_script done derived)
+    IsPassed before (steps_script (take i items)) x first (steps_script done) y n → IsReadyFor before (steps_script items close) x goal → IsDerivedFrom before close y goal derived →
+    IsDerivedFrom before (steps_script items close) x goal (steps_script done derived)
 close_derived before items seen done close derived i x y goal first n same le p r d =
     let e = all_taken items seen i close same le in
-    subst (λ w. IsDerived before w x goal (steps_script done derived)) e (p.derives close derived goal (subst (λ w. IsReadyFor before w x goal) (sym e) r) d)
+    subst (λ w. IsDerivedFrom before w x goal (steps_script done derived)) e (p.derives close derived goal (subst (λ w. IsReadyFor before w x goal) (sym e) r) d)
 
 pub close_stops : (before : List Stated) (items seen done : List Step) (close : Script) (i : ℕ) (x y : StepState) (goal : Goal) (first n : ℕ) (t : Stop) → seen ≡ items → length seen ≤ i →
     IsPassed before (steps_script (take i items)) x first (steps_script done) y n → IsReadyFor before (steps_script items close) x goal → StopsWithin before close y goal n t → StopsWithin before (steps_script items close) x goal first t
@@ -134,20 +130,6 @@ kept_literal lit x y z e k = k ∙ ap (λ w. w.context.held) e
 
 -- ---- a claim
 
-pub claim_passed : (before : List Stated) (step : Step) (shown seen : List Lit) (inner : Box Block Global) (x z after : StepState) (n : ℕ) (o : Names) (proved : ProvedBlock) (r : Result ProvedStep Stop) →
-    step ≡ ClaimStep shown inner → seen ≡ shown → ClaimReady before shown (script_of inner.value) x → IsDerived before (script_of inner.value) x (goal_of shown) (script_of proved.block) →
-    proved.next ≡ n + 1 + size (script_of inner.value) → o ≡ x.names → KeepsHeld (held_at x) z → IfOk r (λ p. (rest : Script) → step_script p.step rest ≡ Claim seen (script_of proved.block) rest) →
-    IfOk r (λ p. p.next ≡ proved.next) → OnOk r (IsLeftWith o seen z after) → IfOk r (λ p. IsPassed before (step_script step) x n (step_script p.step) after p.next)
-claim_passed before step shown seen inner x z after n o proved (Err t) is same ready d count e k a b c = tt
-claim_passed before step shown seen inner x z after n o proved (Ok p) is same ready d count e k a b c =
-    let S = script_of inner.value in
-    let D = script_of proved.block in
-    let base = passed_claim before shown S D x n proved.next ready.over d count in
-    let here = subst (λ w. IsPassed before (Claim shown S) x n (Claim shown D) w proved.next) (sym (after_is o x z after shown seen e k same c)) base in
-    passed_as before (Claim shown S) (Claim shown D) (step_script step) (step_script p.step) x after n p.next
-    (λ w. sym (ap (λ s. step_script s w) is ∙ step_script-Claim shown inner w)) (λ w. sym (a w ∙ ap (λ ls. Claim ls D w) same))
-    (subst (λ m. IsPassed before (Claim shown S) x n (Claim shown D) after m) (sym b) here)
-
 pub claim_stopped : (before : List Stated) (step : Step) (shown : List Lit) (inner : Box Block Global) (x : StepState) (n : ℕ) (t : Stop) → step ≡ ClaimStep shown inner → ClaimReady before shown (script_of inner.value) x →
     StopsWithin before (script_of inner.value) x (goal_of shown) (n + 1) t → StepStops before step x n t
 claim_stopped before step shown inner x n t is ready k rest goal r =
@@ -158,22 +140,6 @@ claim_stopped before step shown inner x n t is ready k rest goal r =
     )
 
 -- ---- a superposition
-
-pub superposed_passed : (before : List Stated) (step : Step) (form : Superpose) (names named : List (List ℕ)) (shown seen : List Lit) (written certs : List Cert) (inner : Box Block Global) (x z after : StepState) (n : ℕ) (o : Names) (proved : ProvedBlock)
-    (r : Result ProvedStep Stop) → step ≡ SuperposedStep form names shown written inner → named ≡ names → seen ≡ shown → SuperposedReady before form names shown (script_of inner.value) x → Certifies form x certs →
-    IsDerived before (script_of inner.value) (after_superposed form names x) (goal_of shown) (script_of proved.block) → proved.next ≡ n + 1 + size (script_of inner.value) → o ≡ x.names → KeepsHeld (held_at x) z →
-    IfOk r (λ p. (rest : Script) → step_script p.step rest ≡ Superposed form named seen certs (script_of proved.block) rest) → IfOk r (λ p. p.next ≡ proved.next) → OnOk r (IsLeftWith o seen z after) →
-    IfOk r (λ p. IsPassed before (step_script step) x n (step_script p.step) after p.next)
-superposed_passed before step form names named shown seen written certs inner x z after n o proved (Err t) is given same ready cs d count e k a b c = tt
-superposed_passed before step form names named shown seen written certs inner x z after n o proved (Ok p) is given same ready cs d count e k a b c =
-    let S = script_of inner.value in
-    let D = script_of proved.block in
-    let base = passed_superposed before form names shown written certs S D x n proved.next ready.fits ready.over cs d count in
-    let here = subst (λ w. IsPassed before (Superposed form names shown written S) x n (Superposed form names shown certs D) w proved.next) (sym (after_is o x z after shown seen e k same c)) base in
-    passed_as before (Superposed form names shown written S) (Superposed form names shown certs D) (step_script step) (step_script p.step) x after n p.next
-    (λ w. sym (ap (λ s. step_script s w) is ∙ step_script-Superposed form names shown written inner w))
-    (λ w. sym (a w ∙ ap (λ ns. Superposed form ns seen certs D w) given ∙ ap (λ ls. Superposed form names ls certs D w) same))
-    (subst (λ m. IsPassed before (Superposed form names shown written S) x n (Superposed form names shown certs D) after m) (sym b) here)
 
 pub superposed_stopped : (before : List Stated) (step : Step) (form : Superpose) (names : List (List ℕ)) (shown : List Lit) (written certs : List Cert) (inner : Box Block Global) (x : StepState) (n : ℕ) (t : Stop) →
     step ≡ SuperposedStep form names shown written inner → SuperposedReady before form names shown (script_of inner.value) x → Certifies form x certs →
@@ -207,7 +173,7 @@ split_parts before close lit first second x goal is r =
 
 -- the second block, where the first is derived
 pub split_second_ready : (before : List Stated) (close : Close) (lit : Lit) (first second : Box Block Global) (derived : Script) (x : StepState) (goal : Goal) → close ≡ CasesClose lit first second →
-    IsDerived before (script_of first.value) (after_literal lit x) goal derived → IsReadyFor before (close_script close) x goal → IsReadyFor before (script_of second.value) (after_literal (negation lit) x) goal
+    IsDerivedFrom before (script_of first.value) (after_literal lit x) goal derived → IsReadyFor before (close_script close) x goal → IsReadyFor before (script_of second.value) (after_literal (negation lit) x) goal
 split_second_ready before close lit first second derived x goal is d r =
     split_other before lit (script_of first.value) (script_of second.value) derived x goal d (subst (λ w. IsReadyFor before w x goal) (ap close_script is ∙ close_script-Cases lit first second) r)
 
@@ -216,13 +182,13 @@ split_size close lit first second is =
     ap size (ap close_script is ∙ close_script-Cases lit first second) ∙ size_split lit (script_of first.value) (script_of second.value)
 
 pub split_derived : (before : List Stated) (close : Close) (lit : Lit) (first second : Box Block Global) (one other : Block) (x : StepState) (goal : Goal) (r : Result ProvedClose Stop) → close ≡ CasesClose lit first second →
-    SplitReady before lit (script_of first.value) x goal → IsDerived before (script_of first.value) (after_literal lit x) goal (script_of one) →
-    IsDerived before (script_of second.value) (after_literal (negation lit) x) goal (script_of other) → IfOk r (λ p. close_script p.close ≡ Cases lit (script_of one) (script_of other)) →
-    IfOk r (λ p. IsDerived before (close_script close) x goal (close_script p.close))
+    SplitReady before lit (script_of first.value) x goal → IsDerivedFrom before (script_of first.value) (after_literal lit x) goal (script_of one) →
+    IsDerivedFrom before (script_of second.value) (after_literal (negation lit) x) goal (script_of other) → IfOk r (λ p. close_script p.close ≡ Cases lit (script_of one) (script_of other)) →
+    IfOk r (λ p. IsDerivedFrom before (close_script close) x goal (close_script p.close))
 split_derived before close lit first second one other x goal (Err t) is ready d e a = tt
 split_derived before close lit first second one other x goal (Ok p) is ready d e a =
-    subst (λ w. IsDerived before w x goal (close_script p.close)) (sym (ap close_script is ∙ close_script-Cases lit first second))
-    (subst (IsDerived before (Cases lit (script_of first.value) (script_of second.value)) x goal) (sym a)
+    subst (λ w. IsDerivedFrom before w x goal (close_script p.close)) (sym (ap close_script is ∙ close_script-Cases lit first second))
+    (subst (IsDerivedFrom before (Cases lit (script_of first.value) (script_of second.value)) x goal) (sym a)
     (split_derives before lit (script_of first.value) (script_of second.value) (script_of one) (script_of other) x goal ready.over d e))
 
 pub split_stops_first : (before : List Stated) (close : Close) (lit : Lit) (first second : Box Block Global) (x : StepState) (goal : Goal) (n : ℕ) (t : Stop) → close ≡ CasesClose lit first second →
@@ -232,7 +198,7 @@ split_stops_first before close lit first second x goal n t is ready k =
     (split_first before lit (script_of first.value) (script_of second.value) x goal n t ready.over k)
 
 pub split_stops_second : (before : List Stated) (close : Close) (lit : Lit) (first second : Box Block Global) (one : Block) (x : StepState) (goal : Goal) (n next : ℕ) (t : Stop) → close ≡ CasesClose lit first second →
-    SplitReady before lit (script_of first.value) x goal → IsDerived before (script_of first.value) (after_literal lit x) goal (script_of one) → next ≡ n + 1 + size (script_of first.value) →
+    SplitReady before lit (script_of first.value) x goal → IsDerivedFrom before (script_of first.value) (after_literal lit x) goal (script_of one) → next ≡ n + 1 + size (script_of first.value) →
     StopsWithin before (script_of second.value) (after_literal (negation lit) x) goal next t → StopsWithin before (close_script close) x goal n t
 split_stops_second before close lit first second one x goal n next t is ready d count k =
     subst (λ w. StopsWithin before w x goal n t) (sym (ap close_script is ∙ close_script-Cases lit first second))

@@ -32,7 +32,7 @@ use Rattle.e_licence.specs.Contexts.{Basis}
 use Rattle.e_prove.specs.declared.step_stop.StepStop.{StepStop}
 use Rattle.e_prove.specs.declared.step_stop.StepStop.TheVariants as step_stop
 use Rattle.e_prove.specs.inner.StopsOfSteps.{StepStopsAmong, contradiction_by}
-use Rattle.e_prove.specs.inner.LicensedSteps.{IsClosed, IsStopOfClose}
+use Rattle.e_prove.specs.inner.LicensedSteps.{IsLicensedClose, IsStopOfClose}
 
 -- what a qed that is ready says
 pub record QedFits (objects : List Obj) (x : Basis) (goal : Goal) : Type 0 where
@@ -50,7 +50,7 @@ unfolding close_script
 qed_fits before objects certs x goal r = qed_lines before objects certs x goal r
 
 closed_by : (before : List Stated) (objects : List Obj) (written certs : List Cert) (x : Basis) (goal : Goal) → are_for goal x.scope objects ≡ true →
-    IsTrue (certify_all x.scope x.facts (goal_with goal objects) certs) → IsTrue (list_all (is_cert_of version.One) certs) → IsClosed before (QedClose objects written) x goal (QedClose objects certs)
+    IsTrue (certify_all x.scope x.facts (goal_with goal objects) certs) → IsTrue (list_all (is_cert_of version.One) certs) → IsLicensedClose before (QedClose objects written) x goal (QedClose objects certs)
 unfolding lines erased filled_by close_script has_certs_of
 closed_by before objects written certs x goal form h g =
     record {
@@ -63,7 +63,7 @@ closed_by before objects written certs x goal form h g =
 -- a qed of which each literal has its certificate
 pub closed_qed : (before : List Stated) (objects kept : List Obj) (written certs given : List Cert) (wanted : List Lit) (x : Basis) (goal : Goal) →
     kept ≡ objects → given ≡ certs → wanted ≡ goal_with goal objects → are_for goal x.scope objects ≡ true → IsTrue (certify_all x.scope x.facts wanted certs) →
-    IsTrue (list_all (is_cert_of version.One) certs) → IsClosed before (QedClose objects written) x goal (QedClose kept given)
+    IsTrue (list_all (is_cert_of version.One) certs) → IsLicensedClose before (QedClose objects written) x goal (QedClose kept given)
 closed_qed before objects kept written certs given wanted x goal same these all form h g =
     rw (same, these) (closed_by before objects written certs x goal form (subst (λ ls. certify_all x.scope x.facts ls certs ≡ true) all h) g)
 
@@ -85,7 +85,7 @@ qed_stops before objects written wanted x goal h all k = qed_stops_by before obj
 
 -- a contradiction with its certificate
 closed_by_against : (before : List Stated) (written : Option Against) (a : Against) (x : Basis) (goal : Goal) → IsCertifiedAgainst x a →
-    IsClosed before (ContradictionClose written) x goal (ContradictionClose (Some a))
+    IsLicensedClose before (ContradictionClose written) x goal (ContradictionClose (Some a))
 unfolding lines erased filled_by close_script has_certs_of
 closed_by_against before written a x goal h =
     record {
@@ -109,7 +109,7 @@ contradiction_wide before written x goal width h filled = h
 
 -- what the answer on a contradiction makes of the close is right
 pub closed_so : (x : Basis) (a : Refuted) → IsRefuted x a →
-    IfOk (contradiction_by a) (λ d. (before : List Stated) (goal : Goal) (written : Option Against) → IsClosed before (ContradictionClose written) x goal d)
+    IfOk (contradiction_by a) (λ d. (before : List Stated) (goal : Goal) (written : Option Against) → IsLicensedClose before (ContradictionClose written) x goal d)
 closed_so x (refuted.Yes against) h = λ before goal written. closed_by_against before written against x goal h
 closed_so x (refuted.No values) h = tt
 closed_so x (refuted.TooWide width) h = tt

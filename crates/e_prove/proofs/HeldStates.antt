@@ -17,7 +17,7 @@ use Rattle.e_prove.specs.declared.step_stop.StepStop.TheVariants as step_stop
 use Rattle.e_prove.specs.declared.step_state.StepState.{StepState}
 use Rattle.e_prove.specs.inner.StepStates.{with_held, held_at, IsLeft, IsLeftWith, CanJoinLast, after_block}
 use Rattle.e_prove.specs.inner.StopsOfSteps.{StepStopsAmong, UnlessNoMemory}
-use Rattle.e_prove.specs.inner.PassedSteps.{IsReadyFor, IsDerived, StopsWithin, KeepsHeld}
+use Rattle.e_prove.specs.inner.PassedSteps.{IsReadyFor, IsDerivedFrom, StopsWithin, KeepsHeld}
 
 -- ---- steps do not look at what is held
 
@@ -26,9 +26,9 @@ ready_inside before d x y goal hs is r =
     let inside : IsReadyFor before d (with_held hs x) goal = record { forms = r.forms; lits = r.lits; scopes = r.scopes; statements = r.statements } in
     subst (λ z. IsReadyFor before d z goal) (sym is) inside
 
-pub derived_outside : (before : List Stated) (d : Script) (x y : StepState) (goal : Goal) (derived : Script) (hs : List State) → y ≡ with_held hs x → IsDerived before d y goal derived → IsDerived before d x goal derived
+pub derived_outside : (before : List Stated) (d : Script) (x y : StepState) (goal : Goal) (derived : Script) (hs : List State) → y ≡ with_held hs x → IsDerivedFrom before d y goal derived → IsDerivedFrom before d x goal derived
 derived_outside before d x y goal derived hs is h =
-    let inside : IsDerived before d (with_held hs x) goal derived = subst (λ z. IsDerived before d z goal derived) is h in
+    let inside : IsDerivedFrom before d (with_held hs x) goal derived = subst (λ z. IsDerivedFrom before d z goal derived) is h in
     record { licensed = inside.licensed; certified = inside.certified; erased = inside.erased; written = inside.written }
 
 pub stops_outside : (before : List Stated) (d : Script) (x y : StepState) (goal : Goal) (n : ℕ) (s : Stop) (hs : List State) → y ≡ with_held hs x → StopsWithin before d y goal n s → StopsWithin before d x goal n s

@@ -37,7 +37,7 @@ use Rattle.e_prove.specs.declared.step_state.StepState.{StepState}
 use Rattle.e_prove.specs.inner.StepStates.{after_literal, after_superposed, after_block}
 use Rattle.e_prove.specs.inner.StopsOfSteps.{StepStopsAt, StepStopsAmong}
 use Rattle.e_prove.specs.inner.LicensedSteps.{line_at, has_form}
-use Rattle.e_prove.specs.inner.PassedSteps.{IsReadyFor, IsDerived, Arrival, IsReachedIn, ReachesWithin, StopsWithin, IsPassed}
+use Rattle.e_prove.specs.inner.PassedSteps.{IsReadyFor, IsDerivedFrom, Arrival, IsReachedIn, ReachesWithin, StopsWithin, IsPassed}
 use Rattle.e_prove.proofs.StopsInLists.{reached_after, reached_left, reached_right, stops_by, names_length, all_both, lits_first, lits_second}
 use Rattle.e_deriv.specs.Versions.{has_certs_of}
 
@@ -71,7 +71,7 @@ claim_ready before shown inner rest x goal r =
       };
     }
 
-pub claim_rest : (before : List Stated) (shown : List Lit) (inner derived rest : Script) (x : StepState) (goal : Goal) → IsDerived before inner x (goal_of shown) derived → IsReadyFor before (Claim shown inner rest) x goal →
+pub claim_rest : (before : List Stated) (shown : List Lit) (inner derived rest : Script) (x : StepState) (goal : Goal) → IsDerivedFrom before inner x (goal_of shown) derived → IsReadyFor before (Claim shown inner rest) x goal →
     IsReadyFor before rest (after_block shown x) goal
 unfolding lines
 claim_rest before shown inner derived rest x goal d r =
@@ -88,8 +88,8 @@ claim_rest before shown inner derived rest x goal d r =
       statements = r.statements;
     }
 
-claim_derives : (before : List Stated) (shown : List Lit) (inner derived rest more : Script) (x : StepState) (goal : Goal) → are_over x.context.scope shown ≡ true → IsDerived before inner x (goal_of shown) derived →
-    IsDerived before rest (after_block shown x) goal more → IsDerived before (Claim shown inner rest) x goal (Claim shown derived more)
+claim_derives : (before : List Stated) (shown : List Lit) (inner derived rest more : Script) (x : StepState) (goal : Goal) → are_over x.context.scope shown ≡ true → IsDerivedFrom before inner x (goal_of shown) derived →
+    IsDerivedFrom before rest (after_block shown x) goal more → IsDerivedFrom before (Claim shown inner rest) x goal (Claim shown derived more)
 unfolding lines erased filled_by has_certs_of
 claim_derives before shown inner derived rest more x goal over d m =
     let s = x.context.scope in
@@ -131,7 +131,7 @@ claim_stops before shown inner rest x goal n stop over k =
 
 -- and after it
 pub claim_reaches_later : (before : List Stated) (shown : List Lit) (inner derived rest : Script) (x : StepState) (goal : Goal) (n next : ℕ) (a : Arrival) (i : ℕ) (seen : Names) → are_over x.context.scope shown ≡ true →
-    IsDerived before inner x (goal_of shown) derived → next ≡ n + 1 + size inner → ReachesWithin before rest (after_block shown x) goal next a i seen → ReachesWithin before (Claim shown inner rest) x goal n a i seen
+    IsDerivedFrom before inner x (goal_of shown) derived → next ≡ n + 1 + size inner → ReachesWithin before rest (after_block shown x) goal next a i seen → ReachesWithin before (Claim shown inner rest) x goal n a i seen
 unfolding lines names_lines
 claim_reaches_later before shown inner derived rest x goal n next a i seen over d count k =
     let s = x.context.scope in
@@ -149,7 +149,7 @@ claim_reaches_later before shown inner derived rest x goal n next a i seen over 
     }
 
 claim_later : (before : List Stated) (shown : List Lit) (inner derived rest : Script) (x : StepState) (goal : Goal) (n next : ℕ) (stop : Stop) → are_over x.context.scope shown ≡ true →
-    IsDerived before inner x (goal_of shown) derived → next ≡ n + 1 + size inner → StopsWithin before rest (after_block shown x) goal next stop → StopsWithin before (Claim shown inner rest) x goal n stop
+    IsDerivedFrom before inner x (goal_of shown) derived → next ≡ n + 1 + size inner → StopsWithin before rest (after_block shown x) goal next stop → StopsWithin before (Claim shown inner rest) x goal n stop
 claim_later before shown inner derived rest x goal n next stop over d count k =
     stops_by before rest (Claim shown inner rest) (after_block shown x) x goal goal next n stop (λ a i seen h. claim_reaches_later before shown inner derived rest x goal n next a i seen over d count h) k
 
@@ -157,7 +157,7 @@ pub claim_size : (shown : List Lit) (inner rest : Script) → size (Claim shown 
 unfolding size
 claim_size shown inner rest = refl
 
-pub passed_claim : (before : List Stated) (shown : List Lit) (inner derived : Script) (x : StepState) (n next : ℕ) → are_over x.context.scope shown ≡ true → IsDerived before inner x (goal_of shown) derived →
+pub passed_claim : (before : List Stated) (shown : List Lit) (inner derived : Script) (x : StepState) (n next : ℕ) → are_over x.context.scope shown ≡ true → IsDerivedFrom before inner x (goal_of shown) derived →
     next ≡ n + 1 + size inner → IsPassed before (Claim shown inner) x n (Claim shown derived) (after_block shown x) next
 passed_claim before shown inner derived x n next over d count =
     record {
@@ -206,7 +206,7 @@ superposed_ready before form names shown certs inner rest x goal r =
     }
 
 pub superposed_rest : (before : List Stated) (form : Superpose) (names : List (List ℕ)) (shown : List Lit) (certs : List Cert) (inner derived rest : Script) (x : StepState) (goal : Goal) →
-    IsDerived before inner (after_superposed form names x) (goal_of shown) derived → IsReadyFor before (Superposed form names shown certs inner rest) x goal → IsReadyFor before rest (after_block shown x) goal
+    IsDerivedFrom before inner (after_superposed form names x) (goal_of shown) derived → IsReadyFor before (Superposed form names shown certs inner rest) x goal → IsReadyFor before rest (after_block shown x) goal
 unfolding lines
 superposed_rest before form names shown certs inner derived rest x goal d r =
     let s = x.context.scope in
@@ -238,8 +238,8 @@ superposed_licensed before form names shown written certs inner rest f x goal fi
     record { fits = and_from _ _ fit over; allowed = all_allowed_of_certified x.context.scope x.context.facts (superposing.needs form) certs c.0; beside = tt }
 
 superposed_derives : (before : List Stated) (form : Superpose) (names : List (List ℕ)) (shown : List Lit) (written certs : List Cert) (inner derived rest more : Script) (x : StepState) (goal : Goal) →
-    superposing.fits form x.context.scope ≡ true → are_over x.context.scope shown ≡ true → Certifies form x certs → IsDerived before inner (after_superposed form names x) (goal_of shown) derived →
-    IsDerived before rest (after_block shown x) goal more → IsDerived before (Superposed form names shown written inner rest) x goal (Superposed form names shown certs derived more)
+    superposing.fits form x.context.scope ≡ true → are_over x.context.scope shown ≡ true → Certifies form x certs → IsDerivedFrom before inner (after_superposed form names x) (goal_of shown) derived →
+    IsDerivedFrom before rest (after_block shown x) goal more → IsDerivedFrom before (Superposed form names shown written inner rest) x goal (Superposed form names shown certs derived more)
 unfolding lines erased filled_by has_certs_of
 superposed_derives before form names shown written certs inner derived rest more x goal fit over c d m =
     let s = x.context.scope in
@@ -287,7 +287,7 @@ superposed_stops before form names shown written certs inner rest x goal n stop 
     stops_by before inner (Superposed form names shown written inner rest) (after_superposed form names x) x (goal_of shown) goal (n + 1) n stop (λ a i seen h. superposed_reaches before form names shown written certs inner rest x goal n a i seen fit over c h) k
 
 pub superposed_reaches_later : (before : List Stated) (form : Superpose) (names : List (List ℕ)) (shown : List Lit) (written certs : List Cert) (inner derived rest : Script) (x : StepState) (goal : Goal) (n next : ℕ) (a : Arrival) (i : ℕ) (seen : Names) →
-    superposing.fits form x.context.scope ≡ true → are_over x.context.scope shown ≡ true → Certifies form x certs → IsDerived before inner (after_superposed form names x) (goal_of shown) derived →
+    superposing.fits form x.context.scope ≡ true → are_over x.context.scope shown ≡ true → Certifies form x certs → IsDerivedFrom before inner (after_superposed form names x) (goal_of shown) derived →
     next ≡ n + 1 + size inner → ReachesWithin before rest (after_block shown x) goal next a i seen → ReachesWithin before (Superposed form names shown written inner rest) x goal n a i seen
 unfolding lines names_lines
 superposed_reaches_later before form names shown written certs inner derived rest x goal n next a i seen fit over c d count k =
@@ -311,7 +311,7 @@ superposed_reaches_later before form names shown written certs inner derived res
     }
 
 superposed_later : (before : List Stated) (form : Superpose) (names : List (List ℕ)) (shown : List Lit) (written certs : List Cert) (inner derived rest : Script) (x : StepState) (goal : Goal) (n next : ℕ) (stop : Stop) →
-    superposing.fits form x.context.scope ≡ true → are_over x.context.scope shown ≡ true → Certifies form x certs → IsDerived before inner (after_superposed form names x) (goal_of shown) derived →
+    superposing.fits form x.context.scope ≡ true → are_over x.context.scope shown ≡ true → Certifies form x certs → IsDerivedFrom before inner (after_superposed form names x) (goal_of shown) derived →
     next ≡ n + 1 + size inner → StopsWithin before rest (after_block shown x) goal next stop → StopsWithin before (Superposed form names shown written inner rest) x goal n stop
 superposed_later before form names shown written certs inner derived rest x goal n next stop fit over c d count k =
     stops_by before rest (Superposed form names shown written inner rest) (after_block shown x) x goal goal next n stop (λ a i seen h. superposed_reaches_later before form names shown written certs inner derived rest x goal n next a i seen fit over c d count h) k
@@ -321,7 +321,7 @@ unfolding size
 superposed_size form names shown certs inner rest = refl
 
 pub passed_superposed : (before : List Stated) (form : Superpose) (names : List (List ℕ)) (shown : List Lit) (written certs : List Cert) (inner derived : Script) (x : StepState) (n next : ℕ) →
-    superposing.fits form x.context.scope ≡ true → are_over x.context.scope shown ≡ true → Certifies form x certs → IsDerived before inner (after_superposed form names x) (goal_of shown) derived →
+    superposing.fits form x.context.scope ≡ true → are_over x.context.scope shown ≡ true → Certifies form x certs → IsDerivedFrom before inner (after_superposed form names x) (goal_of shown) derived →
     next ≡ n + 1 + size inner → IsPassed before (Superposed form names shown written inner) x n (Superposed form names shown certs derived) (after_block shown x) next
 passed_superposed before form names shown written certs inner derived x n next fit over c d count =
     record {
@@ -370,7 +370,7 @@ split_ready before lit first second x goal r =
     }
 
 -- the second block, where the first is derived
-pub split_other : (before : List Stated) (lit : Lit) (first second derived : Script) (x : StepState) (goal : Goal) → IsDerived before first (after_literal lit x) goal derived → IsReadyFor before (Cases lit first second) x goal →
+pub split_other : (before : List Stated) (lit : Lit) (first second derived : Script) (x : StepState) (goal : Goal) → IsDerivedFrom before first (after_literal lit x) goal derived → IsReadyFor before (Cases lit first second) x goal →
     IsReadyFor before second (after_literal (negation lit) x) goal
 unfolding lines
 split_other before lit first second derived x goal d r =
@@ -387,8 +387,8 @@ split_other before lit first second derived x goal d r =
       statements = r.statements;
     }
 
-pub split_derives : (before : List Stated) (lit : Lit) (first second one other : Script) (x : StepState) (goal : Goal) → all_in_scope x.context.scope lit ≡ true → IsDerived before first (after_literal lit x) goal one →
-    IsDerived before second (after_literal (negation lit) x) goal other → IsDerived before (Cases lit first second) x goal (Cases lit one other)
+pub split_derives : (before : List Stated) (lit : Lit) (first second one other : Script) (x : StepState) (goal : Goal) → all_in_scope x.context.scope lit ≡ true → IsDerivedFrom before first (after_literal lit x) goal one →
+    IsDerivedFrom before second (after_literal (negation lit) x) goal other → IsDerivedFrom before (Cases lit first second) x goal (Cases lit one other)
 unfolding lines erased filled_by has_certs_of
 split_derives before lit first second one other x goal over d e =
     let s = x.context.scope in
@@ -431,7 +431,7 @@ split_first before lit first second x goal n stop over k =
 
 -- and in the second, where the first is derived
 pub split_reaches_second : (before : List Stated) (lit : Lit) (first second derived : Script) (x : StepState) (goal : Goal) (n next : ℕ) (a : Arrival) (i : ℕ) (seen : Names) → all_in_scope x.context.scope lit ≡ true →
-    IsDerived before first (after_literal lit x) goal derived → next ≡ n + 1 + size first → ReachesWithin before second (after_literal (negation lit) x) goal next a i seen →
+    IsDerivedFrom before first (after_literal lit x) goal derived → next ≡ n + 1 + size first → ReachesWithin before second (after_literal (negation lit) x) goal next a i seen →
     ReachesWithin before (Cases lit first second) x goal n a i seen
 unfolding lines names_lines
 split_reaches_second before lit first second derived x goal n next a i seen over d count k =
@@ -451,7 +451,7 @@ split_reaches_second before lit first second derived x goal n next a i seen over
     }
 
 pub split_second : (before : List Stated) (lit : Lit) (first second derived : Script) (x : StepState) (goal : Goal) (n next : ℕ) (stop : Stop) → all_in_scope x.context.scope lit ≡ true →
-    IsDerived before first (after_literal lit x) goal derived → next ≡ n + 1 + size first → StopsWithin before second (after_literal (negation lit) x) goal next stop →
+    IsDerivedFrom before first (after_literal lit x) goal derived → next ≡ n + 1 + size first → StopsWithin before second (after_literal (negation lit) x) goal next stop →
     StopsWithin before (Cases lit first second) x goal n stop
 split_second before lit first second derived x goal n next stop over d count k =
     stops_by before second (Cases lit first second) (after_literal (negation lit) x) x goal goal next n stop (λ a i seen h. split_reaches_second before lit first second derived x goal n next a i seen over d count h) k

@@ -9,6 +9,7 @@ pub mod HeldStates
 pub mod InnerBlocks
 pub mod ReadySteps
 pub mod Blocks
+pub mod StepsWithBlocks
 pub mod ReachedSteps
 pub mod Closes
 pub mod WholeProofs

@@ -26,8 +26,8 @@ use Rattle.e_prove.specs.declared.step_state.StepState.{StepState}
 use Rattle.e_prove.specs.declared.block.ProvedStep.{ProvedStep}
 use Rattle.e_prove.specs.declared.block.ProvedClose.{ProvedClose}
 use Rattle.e_prove.specs.inner.StopsOfSteps.{StepStopsAt, UnlessNoMemory, StopOf, IsWithNumber}
-use Rattle.e_prove.specs.inner.LicensedSteps.{IsLicensedStep, IsStopOfStep, IsClosed, IsStopOfClose, line_at, lines_at, has_form}
-use Rattle.e_prove.specs.inner.PassedSteps.{IsReadyFor, IsDerived, KeepsHeld, Arrival, Stands, IsReachedIn, StopIn, ReachesWithin, Reaches, StopsWithin, IsPassed, StepStops}
+use Rattle.e_prove.specs.inner.LicensedSteps.{IsLicensedStep, IsStopOfStep, IsLicensedClose, IsStopOfClose, line_at, lines_at, has_form}
+use Rattle.e_prove.specs.inner.PassedSteps.{IsReadyFor, IsDerivedFrom, KeepsHeld, Arrival, Stands, IsReachedIn, StopIn, ReachesWithin, ReachesStep, StopsWithin, IsPassed, StepStops}
 use Rattle.e_prove.proofs.StopsInLists.{reached_first, reached_after, stop_first, stops_by, stop_before, tests_again, form_is_blind, scope_is_blind}
 
 -- ---- nothing licensed yet, and one thing after another
@@ -53,8 +53,8 @@ passed_as before f f' g g' x y n m e e' a =
     record {
       ready = λ rest goal r. a.ready rest goal (subst (λ d. IsReadyFor before d x goal) (sym (e rest)) r);
       derives = λ rest more goal r d.
-          subst (λ w. IsDerived before w x goal (g' more)) (e rest)
-          (subst (IsDerived before (f rest) x goal) (e' more) (a.derives rest more goal (subst (λ w. IsReadyFor before w x goal) (sym (e rest)) r) d));
+          subst (λ w. IsDerivedFrom before w x goal (g' more)) (e rest)
+          (subst (IsDerivedFrom before (f rest) x goal) (e' more) (a.derives rest more goal (subst (λ w. IsReadyFor before w x goal) (sym (e rest)) r) d));
       stops = λ rest goal s r h.
           subst (λ w. StopsWithin before w x goal n s) (e rest) (a.stops rest goal s (subst (λ w. IsReadyFor before w x goal) (sym (e rest)) r) h);
       reaches = λ rest goal v i names r h.
@@ -189,7 +189,7 @@ stops_first before here x goal n h s k e =
     }
 
 -- before the first step of a script this holds
-pub reaches_first : (before : List Stated) (here : Script) (x : StepState) (goal : Goal) (n : ℕ) → Reaches before here x goal n n x
+pub reaches_first : (before : List Stated) (here : Script) (x : StepState) (goal : Goal) (n : ℕ) → ReachesStep before here x goal n n x
 reaches_first before here x goal n =
     let a = lines_begin before here here x.context.scope x.context.facts goal in
     let b = names_begin before x.names here in
@@ -262,11 +262,11 @@ step_stops_as_memory before step x n (Ok a) e = tt
 step_stops_as_memory before step x n (Err s) e = subst (StepStops before step x n) (sym e) (λ rest goal r. (stops_for_memory before (step_script step rest) x goal n, tt))
 
 -- and of a close that has no block inside
-pub numbered_closed : (before : List Stated) (close : Close) (x : StepState) (goal : Goal) (answered : Result Close StepStop) (r : Result ProvedClose Stop) → IfOk answered (λ d. IsClosed before close x.context goal d) →
-    IfOk r (λ p. answered ≡ Ok p.close) → IfOk r (λ p. IsDerived before (close_script close) x goal (close_script p.close))
+pub numbered_closed : (before : List Stated) (close : Close) (x : StepState) (goal : Goal) (answered : Result Close StepStop) (r : Result ProvedClose Stop) → IfOk answered (λ d. IsLicensedClose before close x.context goal d) →
+    IfOk r (λ p. answered ≡ Ok p.close) → IfOk r (λ p. IsDerivedFrom before (close_script close) x goal (close_script p.close))
 numbered_closed before close x goal answered (Err s) j e = tt
 numbered_closed before close x goal answered (Ok p) j e =
-    let c = subst (λ q. IfOk q (λ d. IsClosed before close x.context goal d)) e j in
+    let c = subst (λ q. IfOk q (λ d. IsLicensedClose before close x.context goal d)) e j in
     record { licensed = c.licensed; certified = c.certified; erased = c.erased; written = c.written }
 
 pub numbered_close_stops : (before : List Stated) (close : Close) (x : StepState) (goal : Goal) (n : ℕ) (answered : Result Close StepStop) (r : Result ProvedClose Stop) → IfErr answered (IsStopOfClose before close x.context goal) →

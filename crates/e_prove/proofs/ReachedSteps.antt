@@ -22,7 +22,7 @@ use Rattle.e_prove.specs.declared.step_stop.StepStop.{StepStop}
 use Rattle.e_prove.specs.declared.step_stop.StepStop.TheVariants as step_stop
 use Rattle.e_prove.specs.inner.StopsOfSteps.{UnlessNoMemory}
 use Rattle.e_prove.specs.inner.StepStates.{after_literal, after_superposed}
-use Rattle.e_prove.specs.inner.PassedSteps.{IsReadyFor, IsReadyStep, Stands, Reaches, ReachesInStep, IsFirstPassed, IsPassed, StopsWithin, StepStops}
+use Rattle.e_prove.specs.inner.PassedSteps.{IsReadyFor, IsReadyStep, Stands, ReachesStep, ReachesInStep, IsFirstPassed, IsPassed, StopsWithin, StepStops}
 use Rattle.e_prove.proofs.StopsInLists.{before_more}
 use Rattle.e_prove.proofs.PassedSteps.{reaches_first}
 use Rattle.e_prove.proofs.InnerBlocks.{ClaimReady, claim_size, claim_reaches, SuperposedReady, Certifies, superposed_size, superposed_reaches, SplitReady, split_reaches_first, split_reaches_second, split_second}
@@ -73,32 +73,32 @@ superposed_count form names shown certs inner rest = ap size (step_script-Superp
 
 -- in the block of the step at this place
 pub step_reaches : (before : List Stated) (items seen done : List Step) (close : Script) (i : ℕ) (s : Step) (x y z : StepState) (goal : Goal) (first n m : ℕ) → seen ≡ items → i < length seen → s ≡ get_or seen i s →
-    IsPassed before (steps_script (take i items)) x first (steps_script done) y n → IsReadyFor before (steps_script items close) x goal → ReachesInStep before s y n m z → Reaches before (steps_script items close) x goal first m z
+    IsPassed before (steps_script (take i items)) x first (steps_script done) y n → IsReadyFor before (steps_script items close) x goal → ReachesInStep before s y n m z → ReachesStep before (steps_script items close) x goal first m z
 step_reaches before items seen done close i s x y z goal first n m same lt is p r k =
     let left = steps_script (drop (i + 1) items) close in
     let e = whole items seen i s close same lt is in
     let ready = subst (λ d. IsReadyFor before d x goal) (sym e) r in
-    subst (λ d. Reaches before d x goal first m z) e
+    subst (λ d. ReachesStep before d x goal first m z) e
     (p.reaches (step_script s left) goal (Stands z.context.scope z.context.facts) m z.names ready (k left goal (p.ready (step_script s left) goal ready)))
 
 -- at that step itself
 pub step_here : (before : List Stated) (items seen done : List Step) (close : Script) (i : ℕ) (s : Step) (x y : StepState) (goal : Goal) (first n m : ℕ) → seen ≡ items → i < length seen → s ≡ get_or seen i s → n ≡ m →
-    IsPassed before (steps_script (take i items)) x first (steps_script done) y n → IsReadyFor before (steps_script items close) x goal → Reaches before (steps_script items close) x goal first m y
+    IsPassed before (steps_script (take i items)) x first (steps_script done) y n → IsReadyFor before (steps_script items close) x goal → ReachesStep before (steps_script items close) x goal first m y
 step_here before items seen done close i s x y goal first n m same lt is at p r =
     step_reaches before items seen done close i s x y y goal first n m same lt is p r
-    (λ rest inner ready. subst (λ k. Reaches before (step_script s rest) y inner n k y) at (reaches_first before (step_script s rest) y inner n))
+    (λ rest inner ready. subst (λ k. ReachesStep before (step_script s rest) y inner n k y) at (reaches_first before (step_script s rest) y inner n))
 
 -- in the block's close
 pub close_reaches : (before : List Stated) (items seen done : List Step) (close : Script) (i : ℕ) (x y z : StepState) (goal : Goal) (first n m : ℕ) → seen ≡ items → length seen ≤ i →
-    IsPassed before (steps_script (take i items)) x first (steps_script done) y n → IsReadyFor before (steps_script items close) x goal → Reaches before close y goal n m z → Reaches before (steps_script items close) x goal first m z
+    IsPassed before (steps_script (take i items)) x first (steps_script done) y n → IsReadyFor before (steps_script items close) x goal → ReachesStep before close y goal n m z → ReachesStep before (steps_script items close) x goal first m z
 close_reaches before items seen done close i x y z goal first n m same le p r k =
     let e = all_taken items seen i close same le in
-    subst (λ w. Reaches before w x goal first m z) e (p.reaches close goal (Stands z.context.scope z.context.facts) m z.names (subst (λ w. IsReadyFor before w x goal) (sym e) r) k)
+    subst (λ w. ReachesStep before w x goal first m z) e (p.reaches close goal (Stands z.context.scope z.context.facts) m z.names (subst (λ w. IsReadyFor before w x goal) (sym e) r) k)
 
 pub close_here : (before : List Stated) (items seen done : List Step) (close : Script) (i : ℕ) (x y : StepState) (goal : Goal) (first n m : ℕ) → seen ≡ items → length seen ≤ i → n ≡ m →
-    IsPassed before (steps_script (take i items)) x first (steps_script done) y n → IsReadyFor before (steps_script items close) x goal → Reaches before (steps_script items close) x goal first m y
+    IsPassed before (steps_script (take i items)) x first (steps_script done) y n → IsReadyFor before (steps_script items close) x goal → ReachesStep before (steps_script items close) x goal first m y
 close_here before items seen done close i x y goal first n m same le at p r =
-    close_reaches before items seen done close i x y y goal first n m same le p r (subst (λ k. Reaches before close y goal n k y) at (reaches_first before close y goal n))
+    close_reaches before items seen done close i x y y goal first n m same le p r (subst (λ k. ReachesStep before close y goal n k y) at (reaches_first before close y goal n))
 
 -- ---- a step before the one that is sought
 
@@ -115,31 +115,31 @@ step_stops_before before s y n lines target t ready many le k =
 -- ---- blocks that are entered
 
 pub claim_entered : (before : List Stated) (step : Step) (shown : List Lit) (inner : Box Block Global) (x z : StepState) (n m : ℕ) → step ≡ ClaimStep shown inner → ClaimReady before shown (script_of inner.value) x →
-    Reaches before (script_of inner.value) x (goal_of shown) (n + 1) m z → ReachesInStep before step x n m z
+    ReachesStep before (script_of inner.value) x (goal_of shown) (n + 1) m z → ReachesInStep before step x n m z
 claim_entered before step shown inner x z n m is ready k rest goal r =
-    subst (λ w. Reaches before w x goal n m z) (sym (ap (λ s. step_script s rest) is ∙ step_script-Claim shown inner rest))
+    subst (λ w. ReachesStep before w x goal n m z) (sym (ap (λ s. step_script s rest) is ∙ step_script-Claim shown inner rest))
     (claim_reaches before shown (script_of inner.value) rest x goal n (Stands z.context.scope z.context.facts) m z.names ready.over k)
 
 pub superposed_entered : (before : List Stated) (step : Step) (form : Superpose) (names : List (List ℕ)) (shown : List Lit) (written certs : List Cert) (inner : Box Block Global) (x z : StepState) (n m : ℕ) →
     step ≡ SuperposedStep form names shown written inner → SuperposedReady before form names shown (script_of inner.value) x → Certifies form x certs →
-    Reaches before (script_of inner.value) (after_superposed form names x) (goal_of shown) (n + 1) m z → ReachesInStep before step x n m z
+    ReachesStep before (script_of inner.value) (after_superposed form names x) (goal_of shown) (n + 1) m z → ReachesInStep before step x n m z
 superposed_entered before step form names shown written certs inner x z n m is ready cs k rest goal r =
-    subst (λ w. Reaches before w x goal n m z) (sym (ap (λ s. step_script s rest) is ∙ step_script-Superposed form names shown written inner rest))
+    subst (λ w. ReachesStep before w x goal n m z) (sym (ap (λ s. step_script s rest) is ∙ step_script-Superposed form names shown written inner rest))
     (superposed_reaches before form names shown written certs (script_of inner.value) rest x goal n (Stands z.context.scope z.context.facts) m z.names ready.fits ready.over cs k)
 
 pub split_entered_first : (before : List Stated) (close : Close) (lit : Lit) (first second : Box Block Global) (x z : StepState) (goal : Goal) (n m : ℕ) → close ≡ CasesClose lit first second →
-    SplitReady before lit (script_of first.value) x goal → Reaches before (script_of first.value) (after_literal lit x) goal (n + 1) m z → Reaches before (close_script close) x goal n m z
+    SplitReady before lit (script_of first.value) x goal → ReachesStep before (script_of first.value) (after_literal lit x) goal (n + 1) m z → ReachesStep before (close_script close) x goal n m z
 split_entered_first before close lit first second x z goal n m is ready k =
-    subst (λ w. Reaches before w x goal n m z) (sym (ap close_script is ∙ close_script-Cases lit first second))
+    subst (λ w. ReachesStep before w x goal n m z) (sym (ap close_script is ∙ close_script-Cases lit first second))
     (split_reaches_first before lit (script_of first.value) (script_of second.value) x goal n (Stands z.context.scope z.context.facts) m z.names ready.over k)
 
 pub split_entered_second : (before : List Stated) (close : Close) (lit : Lit) (first second : Box Block Global) (x y z : StepState) (goal : Goal) (n next m : ℕ) → close ≡ CasesClose lit first second →
     SplitReady before lit (script_of first.value) x goal → IsFirstPassed before lit (script_of first.value) x goal y → next ≡ n + 1 + size (script_of first.value) →
-    Reaches before (script_of second.value) y goal next m z → Reaches before (close_script close) x goal n m z
+    ReachesStep before (script_of second.value) y goal next m z → ReachesStep before (close_script close) x goal n m z
 split_entered_second before close lit first second x y z goal n next m is ready d count k =
-    subst (λ w. Reaches before w x goal n m z) (sym (ap close_script is ∙ close_script-Cases lit first second))
+    subst (λ w. ReachesStep before w x goal n m z) (sym (ap close_script is ∙ close_script-Cases lit first second))
     (split_reaches_second before lit (script_of first.value) (script_of second.value) d.derived x goal n next (Stands z.context.scope z.context.facts) m z.names ready.over d.is_derived count
-    (subst (λ w. Reaches before (script_of second.value) w goal next m z) d.is_after k))
+    (subst (λ w. ReachesStep before (script_of second.value) w goal next m z) d.is_after k))
 
 pub split_stopped_second : (before : List Stated) (close : Close) (lit : Lit) (first second : Box Block Global) (x y : StepState) (goal : Goal) (n next : ℕ) (t : Stop) → close ≡ CasesClose lit first second →
     SplitReady before lit (script_of first.value) x goal → IsFirstPassed before lit (script_of first.value) x goal y → next ≡ n + 1 + size (script_of first.value) →

@@ -23,7 +23,7 @@ use Rattle.e_construct.specs.Construct.{made, gives, needs as needs_of_form}
 use Rattle.e_deriv.specs.declared.block.Block.{Block}
 use Rattle.e_deriv.specs.declared.block.Step.TheVariants.{Cite as CiteStep, Hence as HenceStep, Make as MakeStep, Apply as ApplyStep, Claim as ClaimStep, Superposed as SuperposedStep}
 use Rattle.e_deriv.specs.Script.{Script, Cite, Hence, Make, Apply, Claim, Superposed, script_of, step_script, size}
-use Rattle.e_deriv.specs.Goal.{Goal, goal_of}
+use Rattle.e_deriv.specs.Goal.{Goal}
 use Rattle.e_deriv.specs.Parts.{written, filled_in}
 use Rattle.e_deriv.specs.Lines.{lines, theorem_at}
 use Rattle.e_deriv.specs.Fitting.{LitsFit, is_small, is_small_statement}
@@ -31,12 +31,12 @@ use Rattle.e_deriv.proofs.Choices.{written_again}
 use Rattle.e_deriv.proofs.Scripts.{step_script-Claim, step_script-Superposed}
 use Rattle.e_deriv.proofs.Smallness.{few_of_small}
 use Rattle.e_prove.specs.declared.step_state.StepState.{StepState}
-use Rattle.e_prove.specs.inner.StepStates.{HasRoom, after_make, after_superposed, after_literal, after_block}
+use Rattle.e_prove.specs.inner.StepStates.{HasRoomForMore, after_make, after_literal}
 use Rattle.e_prove.specs.inner.LicensedSteps.{lines_at, line_at, has_form}
-use Rattle.e_prove.specs.inner.PassedSteps.{IsReadyFor, IsReadyStep, IsDerived}
+use Rattle.e_prove.specs.inner.PassedSteps.{IsReadyFor, IsReadyStep}
 use Rattle.e_prove.specs.inner.Applications.{LitsFitAt, CanApply}
 use Rattle.e_prove.proofs.PassedSteps.{lines_begin, first_is}
-use Rattle.e_prove.proofs.InnerBlocks.{ClaimReady, claim_ready, claim_rest, SuperposedReady, superposed_ready, superposed_rest}
+use Rattle.e_prove.proofs.InnerBlocks.{ClaimReady, claim_ready, SuperposedReady, superposed_ready}
 
 -- the facts that a script begins with are good
 pub first_facts : (before : List Stated) (here f : Script) (s : Scope) (facts : List Lit) (goal : Goal) → LitsFit before (lines before here f s facts goal) → are_good_facts s facts ≡ true
@@ -50,7 +50,7 @@ first_scope before here x goal r =
     let begun = lines_begin before here here x.context.scope x.context.facts goal in
     first_is (λ y. is_small y.scope) (line_at here here x.context goal) begun.0 (lines_at before here here x.context goal) begun.1 r.scopes
 
-pub room_of_small : (s : Scope) → is_small s ≡ true → HasRoom s
+pub room_of_small : (s : Scope) → is_small s ≡ true → HasRoomForMore s
 room_of_small s h =
     let few = few_of_small s h in
     record { points = omega (arith, few.points); lines = omega (arith, few.lines); circles = omega (arith, few.circles) }
@@ -105,7 +105,7 @@ pub make_good : (before : List Stated) (form : Construction) (names : List (List
 unfolding step_script
 make_good before form names certs x n r = make_lits before form names certs r.rest x r.goal r.ready
 
-pub make_room : (before : List Stated) (form : Construction) (names : List (List ℕ)) (certs : List Cert) (x : StepState) (n : ℕ) → IsReadyStep before (MakeStep form names certs) x n → HasRoom x.context.scope
+pub make_room : (before : List Stated) (form : Construction) (names : List (List ℕ)) (certs : List Cert) (x : StepState) (n : ℕ) → IsReadyStep before (MakeStep form names certs) x n → HasRoomForMore x.context.scope
 make_room before form names certs x n r = room_of_small x.context.scope (first_scope before (step_script (MakeStep form names certs) r.rest) x r.goal r.ready)
 
 -- ---- an application
@@ -174,7 +174,7 @@ theorem_is (s ∷ ss) (suc k) t lt e = theorem_is ss k t (omega (arith, lt)) e
 pub block_facts : (before : List Stated) (d : Script) (x : StepState) (goal : Goal) → IsReadyFor before d x goal → are_good_facts x.context.scope x.context.facts ≡ true
 block_facts before d x goal r = first_facts before d d x.context.scope x.context.facts goal (r.lits d)
 
-claim_few : (shown : List Lit) (inner rest : Script) (n : ℕ) → n + size (Claim shown inner rest) < 2 ^ 32 → n + 1 + size inner < 2 ^ 32
+pub claim_few : (shown : List Lit) (inner rest : Script) (n : ℕ) → n + size (Claim shown inner rest) < 2 ^ 32 → n + 1 + size inner < 2 ^ 32
 unfolding size
 claim_few shown inner rest n h = omega (arith, h)
 
@@ -185,13 +185,7 @@ claim_parts before shown inner x n r =
 pub claim_lines : (before : List Stated) (shown : List Lit) (inner : Box Block Global) (x : StepState) (n : ℕ) → IsReadyStep before (ClaimStep shown inner) x n → n + 1 + size (script_of inner.value) < 2 ^ 32
 claim_lines before shown inner x n r = claim_few shown (script_of inner.value) r.rest n (subst (λ d. n + size d < 2 ^ 32) (step_script-Claim shown inner r.rest) r.few)
 
-pub claim_after : (before : List Stated) (shown : List Lit) (inner : Box Block Global) (derived : Script) (x : StepState) (n : ℕ) → IsDerived before (script_of inner.value) x (goal_of shown) derived →
-    IsReadyStep before (ClaimStep shown inner) x n → are_good_facts x.context.scope (joined_all x.context.facts shown) ≡ true
-claim_after before shown inner derived x n d r =
-    let ready = subst (λ w. IsReadyFor before w x r.goal) (step_script-Claim shown inner r.rest) r.ready in
-    block_facts before r.rest (after_block shown x) r.goal (claim_rest before shown (script_of inner.value) derived r.rest x r.goal d ready)
-
-superposed_few : (form : Superpose) (names : List (List ℕ)) (shown : List Lit) (certs : List Cert) (inner rest : Script) (n : ℕ) → n + size (Superposed form names shown certs inner rest) < 2 ^ 32 → n + 1 + size inner < 2 ^ 32
+pub superposed_few : (form : Superpose) (names : List (List ℕ)) (shown : List Lit) (certs : List Cert) (inner rest : Script) (n : ℕ) → n + size (Superposed form names shown certs inner rest) < 2 ^ 32 → n + 1 + size inner < 2 ^ 32
 unfolding size
 superposed_few form names shown certs inner rest n h = omega (arith, h)
 
@@ -204,10 +198,3 @@ pub superposed_lines : (before : List Stated) (form : Superpose) (names : List (
     IsReadyStep before (SuperposedStep form names shown certs inner) x n → n + 1 + size (script_of inner.value) < 2 ^ 32
 superposed_lines before form names shown certs inner x n r =
     superposed_few form names shown certs (script_of inner.value) r.rest n (subst (λ d. n + size d < 2 ^ 32) (step_script-Superposed form names shown certs inner r.rest) r.few)
-
-pub superposed_after : (before : List Stated) (form : Superpose) (names : List (List ℕ)) (shown : List Lit) (certs : List Cert) (inner : Box Block Global) (derived : Script) (x : StepState) (n : ℕ) →
-    IsDerived before (script_of inner.value) (after_superposed form names x) (goal_of shown) derived → IsReadyStep before (SuperposedStep form names shown certs inner) x n →
-    are_good_facts x.context.scope (joined_all x.context.facts shown) ≡ true
-superposed_after before form names shown certs inner derived x n d r =
-    let ready = subst (λ w. IsReadyFor before w x r.goal) (step_script-Superposed form names shown certs inner r.rest) r.ready in
-    block_facts before r.rest (after_block shown x) r.goal (superposed_rest before form names shown certs (script_of inner.value) derived r.rest x r.goal d ready)

@@ -19,7 +19,7 @@ use Rattle.e_deriv.specs.Certified.{Certified}
 use Rattle.e_deriv.specs.Fitting.{IsFitting}
 use Rattle.e_prove.specs.inner.StepStates.{start_of}
 use Rattle.e_prove.specs.declared.step_state.StepState.{StepState}
-use Rattle.e_prove.specs.inner.PassedSteps.{IsReadyFor, IsDerived, Reaches, StopsWithin}
+use Rattle.e_prove.specs.inner.PassedSteps.{IsReadyFor, IsDerivedFrom, ReachesStep, StopsWithin}
 use Rattle.e_prove.specs.Places.{IsPlace}
 use Rattle.e_prove.specs.Stops.{StopIs, HasNames}
 use Rattle.e_prove.proofs.ReadySteps.{first_facts}
@@ -98,7 +98,7 @@ stop_is before t names script x goal s is same k =
 
 -- ---- the place
 
-place_at : (before : List Stated) (t : Stated) (names : Names) (script : Script) (n : ℕ) (y : StepState) → Reaches before script (start_of t names) (goal_of_statement t) 1 n y →
+place_at : (before : List Stated) (t : Stated) (names : Names) (script : Script) (n : ℕ) (y : StepState) → ReachesStep before script (start_of t names) (goal_of_statement t) 1 n y →
     IsPlace before t names script n (record { context = y.context; names = y.names })
 place_at before t names script n y k =
     let r = k.reached in
@@ -110,17 +110,17 @@ place_at before t names script n y k =
       named = sym (ap (slice_get (names_lines before (declared_names t names) script)) (omega (arith, r.number)) ∙ r.named);
     }
 
-pub place_is : (before : List Stated) (t : Stated) (names : Names) (script : Script) (n : ℕ) (x y : StepState) (goal : Goal) → x ≡ start_of t names → goal ≡ goal_of_statement t → Reaches before script x goal 1 n y →
+pub place_is : (before : List Stated) (t : Stated) (names : Names) (script : Script) (n : ℕ) (x y : StepState) (goal : Goal) → x ≡ start_of t names → goal ≡ goal_of_statement t → ReachesStep before script x goal 1 n y →
     IsPlace before t names script n (record { context = y.context; names = y.names })
 place_is before t names script n x y goal is same k =
-    place_at before t names script n y (subst (λ z. Reaches before script z (goal_of_statement t) 1 n y) is (subst (λ g. Reaches before script x g 1 n y) same k))
+    place_at before t names script n y (subst (λ z. ReachesStep before script z (goal_of_statement t) 1 n y) is (subst (λ g. ReachesStep before script x g 1 n y) same k))
 
 -- ---- the derivation
 
-derived_at : (before : List Stated) (t : Stated) (names : Names) (script derived : Script) (x : _) (goal : Goal) → x ≡ start_of t names → goal ≡ goal_of_statement t → IsDerived before script x goal derived →
-    IsDerived before script (start_of t names) (goal_of_statement t) derived
+derived_at : (before : List Stated) (t : Stated) (names : Names) (script derived : Script) (x : _) (goal : Goal) → x ≡ start_of t names → goal ≡ goal_of_statement t → IsDerivedFrom before script x goal derived →
+    IsDerivedFrom before script (start_of t names) (goal_of_statement t) derived
 derived_at before t names script derived x goal is same d =
-    subst (λ y. IsDerived before script y (goal_of_statement t) derived) is (subst (λ g. IsDerived before script x g derived) same d)
+    subst (λ y. IsDerivedFrom before script y (goal_of_statement t) derived) is (subst (λ g. IsDerivedFrom before script x g derived) same d)
 
-pub is_certified : (before : List Stated) (t : Stated) (names : Names) (script derived : Script) (x : _) (goal : Goal) → x ≡ start_of t names → goal ≡ goal_of_statement t → IsDerived before script x goal derived → Certified before t derived
+pub is_certified : (before : List Stated) (t : Stated) (names : Names) (script derived : Script) (x : _) (goal : Goal) → x ≡ start_of t names → goal ≡ goal_of_statement t → IsDerivedFrom before script x goal derived → Certified before t derived
 is_certified before t names script derived x goal is same d = (derived_at before t names script derived x goal is same d).certified

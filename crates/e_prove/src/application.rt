@@ -39,7 +39,8 @@ pub struct Application<'a> {
     pub names: &'a [Name],
 }
 
-/// An application with all its arguments: a certificate for each given literal there, and the shown literals.
+/// An application with all its arguments: a certificate for each given literal there, and the shown
+/// literals.
 #[derive(Drop)]
 pub struct Use {
     pub args: Items<Obj>,
@@ -47,8 +48,9 @@ pub struct Use {
     pub gives: Items<Lit>,
 }
 
-/// An application: each given literal of the statement is allowed at the arguments, where blanks are filled by the least
-/// good choice. The made objects come into scope, and the shown literals are facts.
+/// An application: each given literal of the statement is allowed at the arguments, where blanks
+/// are filled by the least good choice. The made objects come into scope, and the shown literals
+/// are facts.
 #[tactic(auto, unfolding(e_deriv::specs::Script::step_script))]
 pub fn apply(
     alloc: Global,
@@ -57,8 +59,14 @@ pub fn apply(
     state: &mut StepState,
 ) -> Result<Step, StepStop>
     requires { CanApply (stated statement.now) application.now.args.now state.old.context }
-    ensures ok { IfOk result (λ d. (before : List Stated) (certs : List Certificate) → theorem_at before application.now.theorem ≡ stated statement.now → IsLicensedStep before (Apply application.now.theorem application.now.args.now application.now.names.now certs) state.old d state.new) }
-    ensures err { IfErr result (λ h. (before : List Stated) (certs : List Certificate) → theorem_at before application.now.theorem ≡ stated statement.now → IsStopOfStep before (Apply application.now.theorem application.now.args.now application.now.names.now certs) state.old h) }
+    ensures ok { IfOk result (λ d. (before : List Stated) (certs : List Certificate)
+        → theorem_at before application.now.theorem ≡ stated statement.now → IsLicensedStep before
+        (Apply application.now.theorem application.now.args.now application.now.names.now certs)
+        state.old d state.new) }
+    ensures err { IfErr result (λ h. (before : List Stated) (certs : List Certificate)
+        → theorem_at before application.now.theorem ≡ stated statement.now → IsStopOfStep before
+        (Apply application.now.theorem application.now.args.now application.now.names.now certs)
+        state.old h) }
     ensures kept { IfErr result (UnlessNoMemory (state.new ≡ state.old)) }
 {
     let used = used(alloc, statement, application.args, &mut state.context)?;
@@ -136,9 +144,10 @@ fn filled_by_least(
     }
 }
 
-/// The stop of an application at a good choice for its blanks: what is too wide there is a match that is too wide.
+/// The stop of an application at a good choice for its blanks: what is too wide there is a match
+/// that is too wide.
 fn as_match(step_stop: StepStop) -> StepStop
-    ensures { result ≡ StopsOfSteps.as_match step_stop }
+    ensures { result ≡ StopsOfSteps.match_stop step_stop }
 {
     match step_stop {
         StepStop::TooWide { wanted, width } => {
@@ -162,12 +171,16 @@ fn used_at(
     requires statement { IsTrue (is_small_statement (stated statement.now)) }
     requires scope { IsTrue (is_small context.old.scope) }
     requires fit { IsTrue (are_arguments (stated statement.now) context.old.scope args) }
-    requires needs { IsTrue (are_good context.old.scope (needs_of_use (stated statement.now) args context.old.scope)) }
+    requires needs { IsTrue
+        (are_good context.old.scope (needs_of_use (stated statement.now) args context.old.scope)) }
     ensures args { IfOk result (λ u. u.args ≡ args) }
-    ensures certified { IfOk result (λ u. IsTrue (certify_all context.old.scope context.old.facts (needs_of_use (stated statement.now) args context.old.scope) u.certs.items)) }
+    ensures certified { IfOk result (λ u. IsTrue (certify_all context.old.scope context.old.facts
+        (needs_of_use (stated statement.now) args context.old.scope) u.certs.items)) }
     ensures written { IfOk result (λ u. IsTrue (list_all (is_cert_of version.One) u.certs.items)) }
-    ensures gives { IfOk result (λ u. u.gives ≡ gives_of_use (stated statement.now) args context.old.scope) }
-    ensures err { IfErr result (StepStopsAmong context.old (needs_of_use (stated statement.now) args context.old.scope)) }
+    ensures gives { IfOk result
+        (λ u. u.gives ≡ gives_of_use (stated statement.now) args context.old.scope) }
+    ensures err { IfErr result
+        (StepStopsAmong context.old (needs_of_use (stated statement.now) args context.old.scope)) }
     ensures kept { context.new ≡ context.old }
 {
     match use_of(alloc, statement, args.items(), context.scope()) {
@@ -182,7 +195,8 @@ fn used_at(
 
 /// The arguments, where none is a blank.
 fn written(alloc: Global, pattern: &[Option<Obj>]) -> Result<Option<Items<Obj>>, AllocError>
-    ensures { IfOk result (λ o. MatchOption o (IsFalse (has_no_blank pattern.now)) (λ args. IsTrue (has_no_blank pattern.now) × (args ≡ Parts.written pattern.now))) }
+    ensures { IfOk result (λ o. MatchOption o (IsFalse (has_no_blank pattern.now))
+        (λ args. IsTrue (has_no_blank pattern.now) × (args ≡ Parts.written pattern.now))) }
 {
     let mut args = Items::empty(alloc);
     for entry in pattern {

@@ -1,9 +1,10 @@
 //! Licensing a block step by step, with the blocks inside it.
-ghost use Rattle.std.specs.Prelude.{◌≡◌, ◌+◌, ◌<◌, ◌^◌, IfOk, IfErr, OnOk};
+ghost use Rattle.std.specs.Prelude.{◌≡◌, ◌+◌, ◌<◌, ◌^◌, List, IfOk, IfErr, OnOk};
+ghost use Rattle.e_clause.specs.declared.cert.Cert.{Cert as Certificate};
 ghost use Rattle.e_theorem.specs.Statements.{all_stated};
-ghost use Rattle.e_deriv.specs.Script.{script_of, step_script, close_script, size};
+ghost use Rattle.e_deriv.specs.Script.{Claim, Superposed, script_of, step_script, close_script, size};
 ghost use Rattle.e_prove.specs.inner.StepStates.{goal_view};
-ghost use Rattle.e_prove.specs.inner.PassedSteps.{IsReadyFor, IsReadyStep, IsDerived, IsPassed, KeepsHeld, StepStops, StopsWithin};
+ghost use Rattle.e_prove.specs.inner.PassedSteps.{AreReadySteps, IsReadyFor, IsReadyStep, IsDerivedFrom, IsPassed, KeepsHeld, StepsStop, StepStops, StopsWithin};
 
 use crate::application::{Application, apply};
 use crate::close::{Goal, contradiction, qed};
@@ -11,7 +12,10 @@ use crate::inner::{Head, claimed, split, superposed};
 use crate::step::{cite, hence, make, superpose};
 use crate::step_state::StepState;
 use crate::step_stop::{close_with_number, step_with_number, stop_at};
+use e_construct::Superpose;
 use e_deriv::{Block, Close, Step, Stop};
+use e_literal::Lit;
+use e_text::Name;
 use e_theorem::Statement;
 use std::alloc::Global;
 use std::mem;
@@ -37,7 +41,8 @@ pub struct ProvedClose {
     pub next: u32,
 }
 
-/// Licenses a block in its place, where its first step has this number: each step in order, with the blocks inside it.
+/// Licenses a block in its place, where its first step has this number: each step in order, with
+/// the blocks inside it.
 #[cycle(block)]
 pub fn prove_block(
     alloc: Global,
@@ -47,12 +52,15 @@ pub fn prove_block(
     state: &mut StepState,
     first: u32,
 ) -> Result<ProvedBlock, Stop>
-    requires ready { IsReadyFor (all_stated before.now) (script_of block.now) state.old (goal_view goal.now) }
+    requires ready { IsReadyFor (all_stated before.now) (script_of block.now) state.old
+        (goal_view goal.now) }
     requires few { first + size (script_of block.now) < 2 ^ 32 }
-    ensures derived { IfOk result (λ p. IsDerived (all_stated before.now) (script_of block.now) state.old (goal_view goal.now) (script_of p.block)) }
+    ensures derived { IfOk result (λ p. IsDerivedFrom (all_stated before.now) (script_of block.now)
+        state.old (goal_view goal.now) (script_of p.block)) }
     ensures next { IfOk result (λ p. p.next ≡ first + size (script_of block.now)) }
     ensures kept { OnOk result (KeepsHeld state.old state.new) }
-    ensures err { IfErr result (StopsWithin (all_stated before.now) (script_of block.now) state.old (goal_view goal.now) first) }
+    ensures err { IfErr result (StopsWithin (all_stated before.now) (script_of block.now) state.old
+        (goal_view goal.now) first) }
 {
     let mut steps = Vec::new(alloc);
     let mut number = first;
@@ -87,7 +95,8 @@ pub fn prove_step(
     number: u32,
 ) -> Result<ProvedStep, Stop>
     requires { IsReadyStep (all_stated before.now) step.now state.old number }
-    ensures ok { IfOk result (λ p. IsPassed (all_stated before.now) (step_script step.now) state.old number (step_script p.step) state.new p.next) }
+    ensures ok { IfOk result (λ p. IsPassed (all_stated before.now) (step_script step.now) state.old
+        number (step_script p.step) state.new p.next) }
     ensures err { IfErr result (StepStops (all_stated before.now) step.now state.old number) }
 {
     match step {
@@ -119,18 +128,7 @@ pub fn prove_step(
             step_with_number(alloc, answered, state, number)
         }
         Step::Claim { shown, inner } => {
-            let outer = state.hold(alloc)?;
-            let goal = Goal {
-                made: &[],
-                shown: shown.items(),
-            };
-            match prove_block(alloc, before, inner, &goal, state, number + 1) {
-                Ok(proved) => claimed(alloc, shown.items(), proved, outer, state),
-                Err(stop) => {
-                    mem::drop(outer);
-                    Err(stop)
-                }
-            }
+            prove_claim(alloc, before, shown.items(), inner, state, number)
         }
         Step::Superposed {
             form,
@@ -139,32 +137,92 @@ pub fn prove_step(
             inner,
             ..
         } => {
-            let outer = state.hold(alloc)?;
-            let certs = match superpose(alloc, form, names.items(), state) {
-                Ok(certs) => certs,
-                Err(step_stop) => {
-                    mem::drop(outer);
-                    return Err(stop_at(alloc, step_stop, state, number));
-                }
-            };
-            let goal = Goal {
-                made: &[],
+            let superposition = Superposition {
+                form,
+                names: names.items(),
                 shown: shown.items(),
             };
-            match prove_block(alloc, before, inner, &goal, state, number + 1) {
-                Ok(proved) => {
-                    let head = Head {
-                        form,
-                        names: names.items(),
-                        certs,
-                    };
-                    superposed(alloc, head, shown.items(), proved, outer, state)
-                }
-                Err(stop) => {
-                    mem::drop(outer);
-                    Err(stop)
-                }
-            }
+            prove_superposed(alloc, before, &superposition, inner, state, number)
+        }
+    }
+}
+
+/// Licenses a claim with its block; after it what it shows are facts.
+#[cycle(block)]
+fn prove_claim(
+    alloc: Global,
+    before: &[Statement],
+    shown: &[Lit],
+    inner: &Block,
+    state: &mut StepState,
+    number: u32,
+) -> Result<ProvedStep, Stop>
+    requires { AreReadySteps (all_stated before.now) (Claim shown.now (script_of inner.now))
+        state.old number }
+    ensures ok { IfOk result
+        (λ p. IsPassed (all_stated before.now) (Claim shown.now (script_of inner.now)) state.old
+        number (step_script p.step) state.new p.next) }
+    ensures err { IfErr result (StepsStop (all_stated before.now)
+        (Claim shown.now (script_of inner.now)) state.old number) }
+{
+    let outer = state.hold(alloc)?;
+    let goal = Goal { made: &[], shown };
+    match prove_block(alloc, before, inner, &goal, state, number + 1) {
+        Ok(proved) => claimed(alloc, shown, proved, outer, state),
+        Err(stop) => {
+            mem::drop(outer);
+            Err(stop)
+        }
+    }
+}
+
+/// A superposition without its certificates and its block.
+#[derive(Clone, Copy)]
+struct Superposition<'a> {
+    form: &'a Superpose,
+    names: &'a [Name],
+    shown: &'a [Lit],
+}
+
+/// Licenses a superposition with its block; after it what it shows are facts.
+#[cycle(block)]
+fn prove_superposed(
+    alloc: Global,
+    before: &[Statement],
+    superposition: &Superposition,
+    inner: &Block,
+    state: &mut StepState,
+    number: u32,
+) -> Result<ProvedStep, Stop>
+    requires { (certs : List Certificate) × AreReadySteps
+        (all_stated before.now) (Superposed superposition.now.form.now superposition.now.names.now
+        superposition.now.shown.now certs (script_of inner.now)) state.old number }
+    ensures ok { IfOk result (λ p. (certs : List Certificate)
+        → IsPassed (all_stated before.now) (Superposed superposition.now.form.now
+        superposition.now.names.now superposition.now.shown.now certs (script_of inner.now))
+        state.old number (step_script p.step) state.new p.next) }
+    ensures err { IfErr result (λ s. (certs : List Certificate) → StepsStop
+        (all_stated before.now) (Superposed superposition.now.form.now superposition.now.names.now
+        superposition.now.shown.now certs (script_of inner.now)) state.old number s) }
+{
+    let Superposition { form, names, shown } = *superposition;
+    let outer = state.hold(alloc)?;
+    let certs = match superpose(alloc, form, names, state) {
+        Ok(certs) => certs,
+        Err(step_stop) => {
+            mem::drop(outer);
+            return Err(stop_at(alloc, step_stop, state, number));
+        }
+    };
+    let goal = Goal { made: &[], shown };
+    match prove_block(alloc, before, inner, &goal, state, number + 1) {
+        Ok(proved) => {
+            let head = Head { form, names, certs };
+            superposed(alloc, head, shown, proved, outer, state)
+        }
+        Err(stop) => {
+            mem::drop(outer);
+            Err(stop)
         }
     }
 }
@@ -179,12 +237,15 @@ fn prove_close(
     state: &mut StepState,
     number: u32,
 ) -> Result<ProvedClose, Stop>
-    requires ready { IsReadyFor (all_stated before.now) (close_script close.now) state.old (goal_view goal.now) }
+    requires ready { IsReadyFor (all_stated before.now) (close_script close.now) state.old
+        (goal_view goal.now) }
     requires few { number + size (close_script close.now) < 2 ^ 32 }
-    ensures derived { IfOk result (λ p. IsDerived (all_stated before.now) (close_script close.now) state.old (goal_view goal.now) (close_script p.close)) }
+    ensures derived { IfOk result (λ p. IsDerivedFrom (all_stated before.now)
+        (close_script close.now) state.old (goal_view goal.now) (close_script p.close)) }
     ensures next { IfOk result (λ p. p.next ≡ number + size (close_script close.now)) }
     ensures kept { OnOk result (KeepsHeld state.old state.new) }
-    ensures err { IfErr result (StopsWithin (all_stated before.now) (close_script close.now) state.old (goal_view goal.now) number) }
+    ensures err { IfErr result (StopsWithin (all_stated before.now) (close_script close.now)
+        state.old (goal_view goal.now) number) }
 {
     match close {
         Close::Qed { objects, .. } => {

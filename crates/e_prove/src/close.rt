@@ -5,10 +5,10 @@ ghost use Rattle.e_clause.specs.declared.cert.Against.{Against};
 ghost use Rattle.e_clause.specs.declared.cert.Cert.{Cert};
 ghost use Rattle.e_clause.specs.Judged.{are_good};
 ghost use Rattle.e_deriv.specs.declared.block.Close.TheVariants.{Qed, Contradiction};
-ghost use Rattle.e_deriv.specs.Goal.{Goal as BlockGoal, are_for};
+ghost use Rattle.e_deriv.specs.Goal.{Goal as BlockGoal, are_for, goal_with as goal_at};
 ghost use Rattle.e_prove.specs.inner.StepStates.{goal_view};
 ghost use Rattle.e_prove.specs.inner.StopsOfSteps.{contradiction_by};
-ghost use Rattle.e_prove.specs.inner.LicensedSteps.{IsClosed, IsStopOfClose};
+ghost use Rattle.e_prove.specs.inner.LicensedSteps.{IsLicensedClose, IsStopOfClose};
 
 use crate::licence::licences;
 use crate::step_stop::StepStop;
@@ -34,9 +34,11 @@ pub fn qed(
     context: &mut Context,
 ) -> Result<Close, StepStop>
     requires form { IsTrue (are_for (goal_view goal.now) context.old.scope objects.now) }
-    requires lits { IsTrue (are_good context.old.scope (Rattle.e_deriv.specs.Goal.goal_with (goal_view goal.now) objects.now)) }
-    ensures ok { IfOk result (λ d. (before : List Stated) (certs : List Cert) → IsClosed before (Qed objects.now certs) context.old (goal_view goal.now) d) }
-    ensures err { IfErr result (λ h. (before : List Stated) (certs : List Cert) → IsStopOfClose before (Qed objects.now certs) context.old (goal_view goal.now) h) }
+    requires lits { IsTrue (are_good context.old.scope (goal_at (goal_view goal.now) objects.now)) }
+    ensures ok { IfOk result (λ d. (before : List Stated) (certs : List Cert)
+        → IsLicensedClose before (Qed objects.now certs) context.old (goal_view goal.now) d) }
+    ensures err { IfErr result (λ h. (before : List Stated) (certs : List Cert)
+        → IsStopOfClose before (Qed objects.now certs) context.old (goal_view goal.now) h) }
     ensures kept { context.new ≡ context.old }
 {
     let wanted = goal_with(alloc, goal, objects)?;
@@ -49,8 +51,12 @@ pub fn qed(
 
 /// A contradiction: the facts contradict each other.
 pub fn contradiction(alloc: Global, context: &mut Context) -> Result<Close, StepStop>
-    ensures ok { IfOk result (λ d. (before : List Stated) (goal : BlockGoal) (written : Option Against) → IsClosed before (Contradiction written) context.old goal d) }
-    ensures err { IfErr result (λ h. (before : List Stated) (goal : BlockGoal) (written : Option Against) → IsStopOfClose before (Contradiction written) context.old goal h) }
+    ensures ok { IfOk
+        result (λ d. (before : List Stated) (goal : BlockGoal) (written : Option Against)
+        → IsLicensedClose before (Contradiction written) context.old goal d) }
+    ensures err { IfErr
+        result (λ h. (before : List Stated) (goal : BlockGoal) (written : Option Against)
+        → IsStopOfClose before (Contradiction written) context.old goal h) }
     ensures kept { context.new ≡ context.old }
 {
     let answer = context.against(alloc)?;
@@ -81,7 +87,7 @@ fn close_by(answer: Refuted) -> Result<Close, StepStop>
 /// The literals of the goal with these objects for its made ones.
 fn goal_with(alloc: Global, goal: &Goal, objects: &[Obj]) -> Result<Vec<Lit>, AllocError>
     requires one_sort { map (λ o. o.sort) goal.now.made.now ≡ map (λ o. o.sort) objects.now }
-    ensures { IfOk result (λ lits. lits.items ≡ Rattle.e_deriv.specs.Goal.goal_with (goal_view goal.now) objects.now) }
+    ensures { IfOk result (λ lits. lits.items ≡ goal_at (goal_view goal.now) objects.now) }
 {
     let images = Map::paired(alloc, goal.made, objects)?;
     all_renamed(alloc, goal.shown, &images)

@@ -22,8 +22,8 @@ pub struct Head<'a> {
     pub certs: Vec<Cert>,
 }
 
-/// The block ends, and what it shows are facts where it was entered; hands out equal literals. It fails only out of
-/// memory; no clause says what holds then.
+/// The block ends, and what it shows are facts where it was entered; hands out equal literals. It
+/// fails only out of memory; no clause says what holds then.
 fn show_after(
     alloc: Global,
     shown: &[Lit],
@@ -50,7 +50,8 @@ pub fn claimed(
 ) -> Result<ProvedStep, Stop>
     requires held { 0 < length state.old.context.held }
     requires good { CanJoinLast shown.now state.old }
-    ensures step { IfOk result (λ p. (rest : Script) → step_script p.step rest ≡ Claim shown.now (script_of proved.block) rest) }
+    ensures step { IfOk result (λ p. (rest : Script)
+        → step_script p.step rest ≡ Claim shown.now (script_of proved.block) rest) }
     ensures next { IfOk result (λ p. p.next ≡ proved.next) }
     ensures after { OnOk result (IsLeftWith outer shown.now state.old state.new) }
     ensures err { IfErr result (λ s. s ≡ NoMemory) }
@@ -80,7 +81,9 @@ pub fn superposed(
 ) -> Result<ProvedStep, Stop>
     requires held { 0 < length state.old.context.held }
     requires good { CanJoinLast shown.now state.old }
-    ensures step { IfOk result (λ p. (rest : Script) → step_script p.step rest ≡ Superposed head.entry.form.now head.entry.names.now shown.now head.entry.certs.items (script_of proved.block) rest) }
+    ensures step { IfOk result (λ p. (rest : Script)
+        → step_script p.step rest ≡ Superposed head.entry.form.now head.entry.names.now shown.now
+        head.entry.certs.items (script_of proved.block) rest) }
     ensures next { IfOk result (λ p. p.next ≡ proved.next) }
     ensures after { OnOk result (IsLeftWith outer shown.now state.old state.new) }
     ensures err { IfErr result (λ s. s ≡ NoMemory) }
@@ -120,7 +123,8 @@ pub fn split(
     first: ProvedBlock,
     second: ProvedBlock,
 ) -> Result<ProvedClose, Stop>
-    ensures close { IfOk result (λ p. close_script p.close ≡ Cases lit.now (script_of first.block) (script_of second.block)) }
+    ensures close { IfOk result (λ p. close_script p.close
+        ≡ Cases lit.now (script_of first.block) (script_of second.block)) }
     ensures next { IfOk result (λ p. p.next ≡ second.next) }
     ensures err { IfErr result (λ s. s ≡ NoMemory) }
 {

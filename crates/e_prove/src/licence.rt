@@ -5,7 +5,7 @@ ghost use Rattle.e_literal.specs.Facts.{has, has_all, others};
 ghost use Rattle.e_literal.specs.Literal.{negation};
 ghost use Rattle.e_clause.specs.Certify.{certifies, certify_all};
 ghost use Rattle.e_clause.specs.Judged.{is_good, are_good};
-ghost use Rattle.e_deriv.specs.Steps.{instance_gives};
+ghost use Rattle.e_deriv.specs.Steps.{instance_gives, is_cited as gives_cited};
 ghost use Rattle.e_clause.specs.declared.cert.Version.TheVariants as version;
 ghost use Rattle.e_clause.specs.Versions.{is_cert_of};
 ghost use Rattle.e_licence.specs.Licences.{IsLicence};
@@ -23,7 +23,8 @@ use std::mem;
 /// A certificate of the literal, where it is allowed. The literals that it names are well formed.
 pub fn licensed(alloc: Global, context: &mut Context, lit: &Lit) -> Result<Cert, StepStop>
     requires { IsTrue (is_good context.old.scope lit.now) }
-    ensures ok { IfOk result (λ c. IsTrue (certifies context.old.scope context.old.facts lit.now c)) }
+    ensures ok { IfOk result
+        (λ c. IsTrue (certifies context.old.scope context.old.facts lit.now c)) }
     ensures written { IfOk result (λ c. IsTrue (is_cert_of version.One c)) }
     ensures err { IfErr result (StepStopsAmong context.old (lit.now ∷ [])) }
     ensures kept { context.new ≡ context.old }
@@ -32,11 +33,12 @@ pub fn licensed(alloc: Global, context: &mut Context, lit: &Lit) -> Result<Cert,
     to_cert(alloc, context, lit, answer)
 }
 
-/// A certificate of each literal, where each is allowed. They are licensed in order, and the first that is not allowed, or
-/// too wide to be decided, stops it.
+/// A certificate of each literal, where each is allowed. They are licensed in order, and the first
+/// that is not allowed, or too wide to be decided, stops it.
 pub fn licences(alloc: Global, context: &mut Context, lits: &[Lit]) -> Result<Vec<Cert>, StepStop>
     requires { IsTrue (are_good context.old.scope lits.now) }
-    ensures ok { IfOk result (λ cs. IsTrue (certify_all context.old.scope context.old.facts lits.now cs.items)) }
+    ensures ok { IfOk result
+        (λ cs. IsTrue (certify_all context.old.scope context.old.facts lits.now cs.items)) }
     ensures written { IfOk result (λ cs. IsTrue (list_all (is_cert_of version.One) cs.items)) }
     ensures err { IfErr result (StepStopsAmong context.old lits.now) }
     ensures kept { context.new ≡ context.old }
@@ -52,7 +54,8 @@ pub fn licences(alloc: Global, context: &mut Context, lits: &[Lit]) -> Result<Ve
 /// What is answered on a literal: its certificate, or a stop.
 fn to_cert(alloc: Global, context: &Context, lit: &Lit, answer: Licensed) -> Result<Cert, StepStop>
     requires { IsLicence context.now lit.now answer }
-    ensures ok { IfOk result (λ c. IsTrue (certifies context.now.scope context.now.facts lit.now c)) }
+    ensures ok { IfOk result
+        (λ c. IsTrue (certifies context.now.scope context.now.facts lit.now c)) }
     ensures written { IfOk result (λ c. IsTrue (is_cert_of version.One c)) }
     ensures err { IfErr result (StepStopsAmong context.now (lit.now ∷ [])) }
 {
@@ -71,7 +74,7 @@ fn to_cert(alloc: Global, context: &Context, lit: &Lit, answer: Licensed) -> Res
 
 /// Whether the cited instance gives the literal.
 pub fn is_cited(alloc: Global, by: &By, facts: &Facts) -> Result<bool, AllocError>
-    ensures { IfOk result (λ b. b ≡ Rattle.e_deriv.specs.Steps.is_cited facts.now by.now) }
+    ensures { IfOk result (λ b. b ≡ gives_cited facts.now by.now) }
 {
     match instance(alloc, by.rule, by.args.items()) {
         Ok(lits) => gives(alloc, facts, &by.lit, &lits),

@@ -24,23 +24,28 @@ pub struct Place {
     pub names: Names,
 }
 
-/// What holds before the step with this number, from the statements before the theorem: each step before it is licensed, with
-/// blanks filled by the least good choice. The steps are counted from 1 in text order, and the step is one of the script's.
+/// What holds before the step with this number, from the statements before the theorem: each step
+/// before it is licensed, with blanks filled by the least good choice. The steps are counted from 1
+/// in text order, and the step is one of the script's.
 ///
-/// A stop is one of [`crate::prove`], at a step before this one. The forms of the script's steps fit in their places, and so
-/// do the literals, as those of a theorem that is read do.
+/// A stop is one of [`crate::prove`], at a step before this one. The forms of the script's steps
+/// fit in their places, and so do the literals, as those of a theorem that is read do.
 pub fn context_at(
     alloc: Global,
     before: &[Statement],
     theorem: &Theorem,
     step: u32,
 ) -> Result<Place, Stop>
-    requires fitting { IsFitting (all_stated before.now) (stated theorem.now.statement) (script_of theorem.now.block) }
+    requires fitting { IsFitting (all_stated before.now) (stated theorem.now.statement)
+        (script_of theorem.now.block) }
     requires first { 1 ≤ step }
     requires last { step ≤ size (script_of theorem.now.block) }
-    ensures place { IfOk result (IsPlace (all_stated before.now) (stated theorem.now.statement) theorem.now.names (script_of theorem.now.block) step) }
-    ensures stop { IfErr result (StopIs (all_stated before.now) (stated theorem.now.statement) (script_of theorem.now.block)) }
-    ensures names { IfErr result (HasNames (all_stated before.now) (stated theorem.now.statement) theorem.now.names (script_of theorem.now.block)) }
+    ensures place { IfOk result (IsPlace (all_stated before.now) (stated theorem.now.statement)
+        theorem.now.names (script_of theorem.now.block) step) }
+    ensures stop { IfErr result (StopIs (all_stated before.now) (stated theorem.now.statement)
+        (script_of theorem.now.block)) }
+    ensures names { IfErr result (HasNames (all_stated before.now) (stated theorem.now.statement)
+        theorem.now.names (script_of theorem.now.block)) }
     ensures earlier { IfErr result (IsStopBefore step) }
 {
     let statement = &theorem.statement;

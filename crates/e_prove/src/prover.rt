@@ -23,24 +23,34 @@ use e_theorem::Statement;
 use std::alloc::Global;
 use std::mem;
 
-/// The derivation of a theorem by its own script, from the statements before it: each step licensed in order,
-/// with a certificate for each literal that it needs. Without its certificates it is the script, with the blanks of each
-/// application filled by the least good choice. Where the literals of the script are well formed, each literal that the
-/// derivation names is. Its certificates cite facts by literals, not by places.
+/// The derivation of a theorem by its own script, from the statements before it: each step licensed
+/// in order, with a certificate for each literal that it needs. Without its certificates it is the
+/// script, with the blanks of each application filled by the least good choice. Where the literals
+/// of the script are well formed, each literal that the derivation names is. Its certificates cite
+/// facts by literals, not by places.
 ///
-/// `Unlicensed` comes only at the first step that is not licensed, with what it lacks, the values that show it where that
-/// is a metric literal or a contradiction, and the names in scope before it. `TooWide` comes only where each step before
-/// is licensed and the step is wide. The forms of the script's steps fit in their places, and so do the literals, as
-/// those of a theorem that is read do (System E 2009, section 3.4).
+/// `Unlicensed` comes only at the first step that is not licensed, with what it lacks, the values
+/// that show it where that is a metric literal or a contradiction, and the names in scope before
+/// it. `TooWide` comes only where each step before is licensed and the step is wide. The forms of
+/// the script's steps fit in their places, and so do the literals, as those of a theorem that is
+/// read do (System E 2009, section 3.4).
 pub fn prove(alloc: Global, before: &[Statement], theorem: &Theorem) -> Result<Block, Stop>
-    requires { IsFitting (all_stated before.now) (stated theorem.now.statement) (script_of theorem.now.block) }
-    ensures certified { IfOk result (λ d. Certified (all_stated before.now) (stated theorem.now.statement) (script_of d)) }
-    ensures script { IfOk result (λ d. erased (script_of d) ≡ filled_by (erased (script_of theorem.now.block)) (script_of d)) }
-    ensures least { IfOk result (λ d. AllLicensed (all_stated before.now) (proof_lines (all_stated before.now) (stated theorem.now.statement) (script_of theorem.now.block) (script_of d))) }
-    ensures written { IfOk result (λ d. IsTrue (has_good_literals (script_of theorem.now.block)) → IsTrue (is_written_well (script_of d))) }
+    requires { IsFitting (all_stated before.now) (stated theorem.now.statement)
+        (script_of theorem.now.block) }
+    ensures certified { IfOk result
+        (λ d. Certified (all_stated before.now) (stated theorem.now.statement) (script_of d)) }
+    ensures script { IfOk result (λ d. erased (script_of d)
+        ≡ filled_by (erased (script_of theorem.now.block)) (script_of d)) }
+    ensures least { IfOk
+        result (λ d. AllLicensed (all_stated before.now) (proof_lines (all_stated before.now)
+        (stated theorem.now.statement) (script_of theorem.now.block) (script_of d))) }
+    ensures written { IfOk result (λ d. IsTrue (has_good_literals (script_of theorem.now.block))
+        → IsTrue (is_written_well (script_of d))) }
     ensures version { IfOk result (λ d. IsTrue (has_certs_of version.One (script_of d))) }
-    ensures stop { IfErr result (StopIs (all_stated before.now) (stated theorem.now.statement) (script_of theorem.now.block)) }
-    ensures names { IfErr result (HasNames (all_stated before.now) (stated theorem.now.statement) theorem.now.names (script_of theorem.now.block)) }
+    ensures stop { IfErr result (StopIs (all_stated before.now) (stated theorem.now.statement)
+        (script_of theorem.now.block)) }
+    ensures names { IfErr result (HasNames (all_stated before.now) (stated theorem.now.statement)
+        theorem.now.names (script_of theorem.now.block)) }
 {
     prove_parts(
         alloc,
@@ -51,7 +61,8 @@ pub fn prove(alloc: Global, before: &[Statement], theorem: &Theorem) -> Result<B
     )
 }
 
-/// The derivation of a statement by a script: each step licensed in order, with a certificate for each literal that it needs.
+/// The derivation of a statement by a script: each step licensed in order, with a certificate for
+/// each literal that it needs.
 pub(crate) fn prove_parts(
     alloc: Global,
     before: &[Statement],
@@ -60,12 +71,17 @@ pub(crate) fn prove_parts(
     block: &Block,
 ) -> Result<Block, Stop>
     requires { IsFitting (all_stated before.now) (stated statement.now) (script_of block.now) }
-    ensures certified { IfOk result (λ d. Certified (all_stated before.now) (stated statement.now) (script_of d)) }
-    ensures script { IfOk result (λ d. erased (script_of d) ≡ filled_by (erased (script_of block.now)) (script_of d)) }
-    ensures least { IfOk result (λ d. AllLicensed (all_stated before.now) (proof_lines (all_stated before.now) (stated statement.now) (script_of block.now) (script_of d))) }
+    ensures certified { IfOk result
+        (λ d. Certified (all_stated before.now) (stated statement.now) (script_of d)) }
+    ensures script { IfOk result
+        (λ d. erased (script_of d) ≡ filled_by (erased (script_of block.now)) (script_of d)) }
+    ensures least { IfOk result (λ d. AllLicensed (all_stated before.now) (proof_lines
+        (all_stated before.now) (stated statement.now) (script_of block.now) (script_of d))) }
     ensures certs { IfOk result (λ d. IsTrue (has_certs_of version.One (script_of d))) }
-    ensures stop { IfErr result (StopIs (all_stated before.now) (stated statement.now) (script_of block.now)) }
-    ensures names { IfErr result (HasNames (all_stated before.now) (stated statement.now) names.now (script_of block.now)) }
+    ensures stop { IfErr result
+        (StopIs (all_stated before.now) (stated statement.now) (script_of block.now)) }
+    ensures names { IfErr result
+        (HasNames (all_stated before.now) (stated statement.now) names.now (script_of block.now)) }
 {
     let mut state = StepState::first(alloc, statement, names)?;
     let made = match next_objects(alloc, state.context.scope(), statement.made.items()) {

@@ -4,10 +4,10 @@ ghost use Rattle.e_literal.specs.Literal.{negation};
 ghost use Rattle.e_literal.specs.Facts.{joined};
 ghost use Rattle.e_clause.specs.Judged.{are_good_facts};
 ghost use Rattle.e_theorem.specs.Statements.{all_stated};
-ghost use Rattle.e_deriv.specs.Script.{Script, script_of, step_script, close_script};
+ghost use Rattle.e_deriv.specs.Script.{Script, script_of, step_script, close_script, size as script_size};
 ghost use Rattle.e_prove.specs.Stops.{IsStopBefore};
 ghost use Rattle.e_prove.specs.inner.StepStates.{after_literal, goal_view};
-ghost use Rattle.e_prove.specs.inner.PassedSteps.{IsReadyFor, IsDerived, IsReadyStep, Reaches, ReachesInStep, IsFirstPassed, StopsWithin, StepStops};
+ghost use Rattle.e_prove.specs.inner.PassedSteps.{IsReadyFor, IsDerivedFrom, IsReadyStep, ReachesStep, ReachesInStep, IsFirstPassed, StopsWithin, StepStops};
 
 use crate::block::{prove_block, prove_step};
 use crate::close::Goal;
@@ -22,8 +22,10 @@ use std::mem;
 
 /// How many step and close lines a step has, with those of the block inside it.
 fn lines_of(step: &Step) -> u32
-    requires { (rest : Script) → Rattle.e_deriv.specs.Script.size (step_script step.now rest) < 2 ^ 32 + Rattle.e_deriv.specs.Script.size rest }
-    ensures { (rest : Script) → Rattle.e_deriv.specs.Script.size (step_script step.now rest) ≡ result + Rattle.e_deriv.specs.Script.size rest }
+    requires { (rest : Script)
+        → script_size (step_script step.now rest) < 2 ^ 32 + script_size rest }
+    ensures { (rest : Script)
+        → script_size (step_script step.now rest) ≡ result + script_size rest }
 {
     match step {
         Step::Cite(_) => 1,
@@ -35,8 +37,9 @@ fn lines_of(step: &Step) -> u32
     }
 }
 
-/// Licenses the steps of a block that come before the step with this number, where its first step has that one. What
-/// holds is then what holds before the step: the blocks around it are entered, and not left.
+/// Licenses the steps of a block that come before the step with this number, where its first step
+/// has that one. What holds is then what holds before the step: the blocks around it are entered,
+/// and not left.
 #[cycle(reach)]
 pub fn reach(
     alloc: Global,
@@ -47,12 +50,15 @@ pub fn reach(
     first: u32,
     target: u32,
 ) -> Result<(), Stop>
-    requires ready { IsReadyFor (all_stated before.now) (script_of block.now) state.old (goal_view goal.now) }
-    requires few { first + Rattle.e_deriv.specs.Script.size (script_of block.now) < 2 ^ 32 }
+    requires ready { IsReadyFor (all_stated before.now) (script_of block.now) state.old
+        (goal_view goal.now) }
+    requires few { first + script_size (script_of block.now) < 2 ^ 32 }
     requires from { first ≤ target }
-    requires within { target < first + Rattle.e_deriv.specs.Script.size (script_of block.now) }
-    ensures reached { OnOk result (Reaches (all_stated before.now) (script_of block.now) state.old (goal_view goal.now) first target state.new) }
-    ensures err { IfErr result (StopsWithin (all_stated before.now) (script_of block.now) state.old (goal_view goal.now) first) }
+    requires within { target < first + script_size (script_of block.now) }
+    ensures reached { OnOk result (ReachesStep (all_stated before.now) (script_of block.now)
+        state.old (goal_view goal.now) first target state.new) }
+    ensures err { IfErr result (StopsWithin (all_stated before.now) (script_of block.now) state.old
+        (goal_view goal.now) first) }
     ensures earlier { IfErr result (IsStopBefore target) }
 {
     let mut number = first;
@@ -91,8 +97,10 @@ fn enter_step(
 ) -> Result<(), Stop>
     requires ready { IsReadyStep (all_stated before.now) step.now state.old number }
     requires inside { number < target }
-    requires within { (rest : Script) → target + Rattle.e_deriv.specs.Script.size rest < number + Rattle.e_deriv.specs.Script.size (step_script step.now rest) }
-    ensures reached { OnOk result (ReachesInStep (all_stated before.now) step.now state.old number target state.new) }
+    requires within { (rest : Script)
+        → target + script_size rest < number + script_size (step_script step.now rest) }
+    ensures reached { OnOk result
+        (ReachesInStep (all_stated before.now) step.now state.old number target state.new) }
     ensures err { IfErr result (StepStops (all_stated before.now) step.now state.old number) }
     ensures earlier { IfErr result (IsStopBefore target) }
 {
@@ -128,7 +136,8 @@ fn enter_step(
     }
 }
 
-/// Enters a block of a split, where the step with this number is in it: the second one after the first is licensed.
+/// Enters a block of a split, where the step with this number is in it: the second one after the
+/// first is licensed.
 #[cycle(reach)]
 fn enter_close(
     alloc: Global,
@@ -139,12 +148,15 @@ fn enter_close(
     number: u32,
     target: u32,
 ) -> Result<(), Stop>
-    requires ready { IsReadyFor (all_stated before.now) (close_script close.now) state.old (goal_view goal.now) }
-    requires few { number + Rattle.e_deriv.specs.Script.size (close_script close.now) < 2 ^ 32 }
+    requires ready { IsReadyFor (all_stated before.now) (close_script close.now) state.old
+        (goal_view goal.now) }
+    requires few { number + script_size (close_script close.now) < 2 ^ 32 }
     requires inside { number < target }
-    requires within { target < number + Rattle.e_deriv.specs.Script.size (close_script close.now) }
-    ensures reached { OnOk result (Reaches (all_stated before.now) (close_script close.now) state.old (goal_view goal.now) number target state.new) }
-    ensures err { IfErr result (StopsWithin (all_stated before.now) (close_script close.now) state.old (goal_view goal.now) number) }
+    requires within { target < number + script_size (close_script close.now) }
+    ensures reached { OnOk result (ReachesStep (all_stated before.now) (close_script close.now)
+        state.old (goal_view goal.now) number target state.new) }
+    ensures err { IfErr result (StopsWithin (all_stated before.now) (close_script close.now)
+        state.old (goal_view goal.now) number) }
     ensures earlier { IfErr result (IsStopBefore target) }
 {
     match close {
@@ -165,7 +177,8 @@ fn enter_close(
     }
 }
 
-/// Licenses the first block of a split, and begins the second: the negation of the literal is a fact.
+/// Licenses the first block of a split, and begins the second: the negation of the literal is a
+/// fact.
 fn pass_first(
     alloc: Global,
     before: &[Statement],
@@ -175,11 +188,17 @@ fn pass_first(
     state: &mut StepState,
     first: u32,
 ) -> Result<(), Stop>
-    requires ready { IsReadyFor (all_stated before.now) (script_of block.now) (after_literal lit.now state.old) (goal_view goal.now) }
-    requires few { first + Rattle.e_deriv.specs.Script.size (script_of block.now) < 2 ^ 32 }
-    requires second { (derived : Script) → IsDerived (all_stated before.now) (script_of block.now) (after_literal lit.now state.old) (goal_view goal.now) derived → IsTrue (are_good_facts state.old.context.scope (joined state.old.context.facts (negation lit.now))) }
-    ensures passed { OnOk result (IsFirstPassed (all_stated before.now) lit.now (script_of block.now) state.old (goal_view goal.now) state.new) }
-    ensures err { IfErr result (StopsWithin (all_stated before.now) (script_of block.now) (after_literal lit.now state.old) (goal_view goal.now) first) }
+    requires ready { IsReadyFor (all_stated before.now) (script_of block.now)
+        (after_literal lit.now state.old) (goal_view goal.now) }
+    requires few { first + script_size (script_of block.now) < 2 ^ 32 }
+    requires second { (derived : Script) → IsDerivedFrom (all_stated before.now)
+        (script_of block.now) (after_literal lit.now state.old) (goal_view goal.now) derived
+        → IsTrue (are_good_facts state.old.context.scope
+        (joined state.old.context.facts (negation lit.now))) }
+    ensures passed { OnOk result (IsFirstPassed (all_stated before.now) lit.now
+        (script_of block.now) state.old (goal_view goal.now) state.new) }
+    ensures err { IfErr result (StopsWithin (all_stated before.now) (script_of block.now)
+        (after_literal lit.now state.old) (goal_view goal.now) first) }
 {
     let outer = state.hold(alloc)?;
     state.assume(alloc, lit)?;

@@ -11,7 +11,7 @@ ghost use Rattle.e_construct.specs.Superposing;
 ghost use Rattle.e_clause.specs.Certify.{certify_all};
 ghost use Rattle.e_clause.specs.declared.cert.Version.TheVariants as version;
 ghost use Rattle.e_clause.specs.Versions.{is_cert_of};
-ghost use Rattle.e_prove.specs.inner.StepStates.{HasRoom, after_literal, after_make, after_superposed};
+ghost use Rattle.e_prove.specs.inner.StepStates.{HasRoomForMore, after_literal, after_make, after_superposed};
 ghost use Rattle.e_prove.specs.inner.StopsOfSteps.{StepStopsAmong, UnlessNoMemory};
 ghost use Rattle.e_prove.specs.inner.LicensedSteps.{IsLicensedStep, IsStopOfStep};
 
@@ -29,9 +29,12 @@ use std::mem;
 /// A citation: its literal is one of the instance, and the negation of each other is a fact.
 #[tactic(auto, unfolding(e_deriv::specs::Script::step_script))]
 pub fn cite(alloc: Global, by: &By, state: &mut StepState) -> Result<Step, StepStop>
-    requires { IsTrue (are_good_facts state.old.context.scope (joined state.old.context.facts by.now.lit)) }
-    ensures ok { IfOk result (λ d. (before : List Stated) → IsLicensedStep before (Cite by.now) state.old d state.new) }
-    ensures err { IfErr result (λ h. (before : List Stated) → IsStopOfStep before (Cite by.now) state.old h) }
+    requires { IsTrue
+        (are_good_facts state.old.context.scope (joined state.old.context.facts by.now.lit)) }
+    ensures ok { IfOk result (λ d. (before : List Stated)
+        → IsLicensedStep before (Cite by.now) state.old d state.new) }
+    ensures err { IfErr result (λ h. (before : List Stated)
+        → IsStopOfStep before (Cite by.now) state.old h) }
     ensures kept { IfErr result (UnlessNoMemory (state.new ≡ state.old)) }
 {
     if !is_cited(alloc, by, state.context.facts())? {
@@ -49,9 +52,12 @@ pub fn cite(alloc: Global, by: &By, state: &mut StepState) -> Result<Step, StepS
 #[tactic(auto, unfolding(e_deriv::specs::Script::step_script))]
 pub fn hence(alloc: Global, lit: &Lit, state: &mut StepState) -> Result<Step, StepStop>
     requires lit { IsTrue (is_good state.old.context.scope lit.now) }
-    requires after { IsTrue (are_good_facts state.old.context.scope (joined state.old.context.facts lit.now)) }
-    ensures ok { IfOk result (λ d. (before : List Stated) (cert : Option Certificate) → IsLicensedStep before (Hence lit.now cert) state.old d state.new) }
-    ensures err { IfErr result (λ h. (before : List Stated) (cert : Option Certificate) → IsStopOfStep before (Hence lit.now cert) state.old h) }
+    requires after { IsTrue
+        (are_good_facts state.old.context.scope (joined state.old.context.facts lit.now)) }
+    ensures ok { IfOk result (λ d. (before : List Stated) (cert : Option Certificate)
+        → IsLicensedStep before (Hence lit.now cert) state.old d state.new) }
+    ensures err { IfErr result (λ h. (before : List Stated) (cert : Option Certificate)
+        → IsStopOfStep before (Hence lit.now cert) state.old h) }
     ensures kept { IfErr result (UnlessNoMemory (state.new ≡ state.old)) }
 {
     let cert = licensed(alloc, &mut state.context, lit)?;
@@ -67,9 +73,11 @@ pub fn hence(alloc: Global, lit: &Lit, state: &mut StepState) -> Result<Step, St
     }
 }
 
-/// The literal is a fact; hands out an equal one. It fails only out of memory; no clause says what holds then.
+/// The literal is a fact; hands out an equal one. It fails only out of memory; no clause says what
+/// holds then.
 fn assumed(alloc: Global, lit: &Lit, state: &mut StepState) -> Result<Lit, AllocError>
-    requires { IsTrue (are_good_facts state.old.context.scope (joined state.old.context.facts lit.now)) }
+    requires { IsTrue
+        (are_good_facts state.old.context.scope (joined state.old.context.facts lit.now)) }
     ensures lit { IfOk result (λ l. l ≡ lit.now) }
     ensures after { OnOk result (state.new ≡ after_literal lit.now state.old) }
 {
@@ -85,11 +93,14 @@ pub fn make(
     names: &[Name],
     state: &mut StepState,
 ) -> Result<Step, StepStop>
-    requires room { HasRoom state.old.context.scope }
+    requires room { HasRoomForMore state.old.context.scope }
     requires needs { IsTrue (are_good state.old.context.scope (Construct.needs form.now)) }
-    requires after { let after = after_make form.now names.now state.old in IsTrue (are_good_facts after.context.scope after.context.facts) }
-    ensures ok { IfOk result (λ d. (before : List Stated) (certs : List Certificate) → IsLicensedStep before (Make form.now names.now certs) state.old d state.new) }
-    ensures err { IfErr result (λ h. (before : List Stated) (certs : List Certificate) → IsStopOfStep before (Make form.now names.now certs) state.old h) }
+    requires after { let after = after_make form.now names.now state.old
+        in IsTrue (are_good_facts after.context.scope after.context.facts) }
+    ensures ok { IfOk result (λ d. (before : List Stated) (certs : List Certificate)
+        → IsLicensedStep before (Make form.now names.now certs) state.old d state.new) }
+    ensures err { IfErr result (λ h. (before : List Stated) (certs : List Certificate)
+        → IsStopOfStep before (Make form.now names.now certs) state.old h) }
     ensures kept { IfErr result (UnlessNoMemory (state.new ≡ state.old)) }
 {
     let needs = form.needs(alloc)?;
@@ -106,18 +117,20 @@ pub fn make(
     })
 }
 
-/// A superposition before its block: each literal that it needs is allowed. The copied points come into scope, and what it
-/// gives are facts.
+/// A superposition before its block: each literal that it needs is allowed. The copied points come
+/// into scope, and what it gives are facts.
 pub fn superpose(
     alloc: Global,
     form: &Superpose,
     names: &[Name],
     state: &mut StepState,
 ) -> Result<Vec<Cert>, StepStop>
-    requires room { HasRoom state.old.context.scope }
+    requires room { HasRoomForMore state.old.context.scope }
     requires needs { IsTrue (are_good state.old.context.scope (Superposing.needs form.now)) }
-    requires after { let after = after_superposed form.now names.now state.old in IsTrue (are_good_facts after.context.scope after.context.facts) }
-    ensures certs { IfOk result (λ cs. IsTrue (certify_all state.old.context.scope state.old.context.facts (Superposing.needs form.now) cs.items)) }
+    requires after { let after = after_superposed form.now names.now state.old
+        in IsTrue (are_good_facts after.context.scope after.context.facts) }
+    ensures certs { IfOk result (λ cs. IsTrue (certify_all state.old.context.scope
+        state.old.context.facts (Superposing.needs form.now) cs.items)) }
     ensures written { IfOk result (λ cs. IsTrue (list_all (is_cert_of version.One) cs.items)) }
     ensures after { OnOk result (state.new ≡ after_superposed form.now names.now state.old) }
     ensures err { IfErr result (StepStopsAmong state.old.context (Superposing.needs form.now)) }

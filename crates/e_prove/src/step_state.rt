@@ -27,14 +27,16 @@ pub struct StepState {
 }
 
 impl StepState {
-    /// What holds before the first step of a statement's proof: the declared objects have the first of the names.
+    /// What holds before the first step of a statement's proof: the declared objects have the first
+    /// of the names.
     pub fn first(
         alloc: Global,
         statement: &Statement,
         names: &Names,
     ) -> Result<StepState, AllocError>
         requires few { length statement.now.declared < 2 ^ 16 }
-        requires good { IsTrue (are_good_facts (scope_of (stated statement.now)) (facts_of_statement (stated statement.now))) }
+        requires good { IsTrue (are_good_facts (scope_of (stated statement.now))
+            (facts_of_statement (stated statement.now))) }
         ensures { IfOk result (λ x. x ≡ start_of (stated statement.now) names.now) }
     {
         let nothing = Scope {
@@ -55,9 +57,9 @@ impl StepState {
         }
     }
 
-    /// A block inside begins: the present state is held, and the names are handed out, which [`StepState::release`] takes back.
-    /// The facts are solved before, since each block inside would have to solve them else. It fails only out of
-    /// memory; no clause says what holds then.
+    /// A block inside begins: the present state is held, and the names are handed out, which
+    /// [`StepState::release`] takes back. The facts are solved before, since each block inside
+    /// would have to solve them else. It fails only out of memory; no clause says what holds then.
     pub fn hold(&mut self, alloc: Global) -> Result<Names, AllocError>
         ensures names { IfOk result (λ names. names ≡ self.old.names) }
         ensures held { OnOk result (self.new ≡ held_at self.old) }
@@ -77,7 +79,8 @@ impl StepState {
         self.names = names;
     }
 
-    /// The block inside ends, and what it shows are facts. It fails only out of memory; no clause says what holds then.
+    /// The block inside ends, and what it shows are facts. It fails only out of memory; no clause
+    /// says what holds then.
     pub fn release_with(
         &mut self,
         alloc: Global,
@@ -94,29 +97,33 @@ impl StepState {
 
     /// The literal is a fact. It fails only out of memory; no clause says what holds then.
     pub fn assume(&mut self, alloc: Global, lit: &Lit) -> Result<(), AllocError>
-        requires { IsTrue (are_good_facts self.old.context.scope (joined self.old.context.facts lit.now)) }
+        requires { IsTrue
+            (are_good_facts self.old.context.scope (joined self.old.context.facts lit.now)) }
         ensures { OnOk result (self.new ≡ after_literal lit.now self.old) }
     {
         self.context.add(copy(alloc, lit)?)?;
         Ok(())
     }
 
-    /// The negation of the literal is a fact. It fails only out of memory; no clause says what holds then.
+    /// The negation of the literal is a fact. It fails only out of memory; no clause says what
+    /// holds then.
     pub fn assume_not(&mut self, alloc: Global, lit: &Lit) -> Result<(), AllocError>
-        requires { IsTrue (are_good_facts self.old.context.scope (joined self.old.context.facts (negation lit.now))) }
+        requires { IsTrue (are_good_facts self.old.context.scope
+            (joined self.old.context.facts (negation lit.now))) }
         ensures { OnOk result (self.new ≡ after_literal (negation lit.now) self.old) }
     {
         self.context.add(negate(copy(alloc, lit)?))?;
         Ok(())
     }
 
-    /// New objects of these sorts come into scope, with these names. It fails only out of memory; no clause speaks of
-    /// what holds then.
+    /// New objects of these sorts come into scope, with these names. It fails only out of memory;
+    /// no clause speaks of what holds then.
     pub fn grow(&mut self, sorts: &[Sort], names: &[Name]) -> Result<(), AllocError>
         requires points { self.old.context.scope.points + length sorts.now < 2 ^ 16 }
         requires lines { self.old.context.scope.lines + length sorts.now < 2 ^ 16 }
         requires circles { self.old.context.scope.circles + length sorts.now < 2 ^ 16 }
-        ensures scope { OnOk result (self.new.context ≡ record self.old.context { scope = Scopes.grown self.old.context.scope sorts.now }) }
+        ensures scope { OnOk result (self.new.context
+            ≡ record self.old.context { scope = Scopes.grown self.old.context.scope sorts.now }) }
         ensures names { OnOk result (self.new.names ≡ named self.old.names sorts.now names.now) }
     {
         let scope = grown(self.context.scope(), sorts);
@@ -124,19 +131,28 @@ impl StepState {
         name_all(&mut self.names, sorts, names)
     }
 
-    /// The literals join the facts, one after the other. It fails only out of memory; no clause says what holds then.
+    /// The literals join the facts, one after the other. It fails only out of memory; no clause
+    /// says what holds then.
     pub fn join(&mut self, lits: Vec<Lit>) -> Result<(), AllocError>
-        requires { IsTrue (are_good_facts self.old.context.scope (joined_all self.old.context.facts lits.items)) }
-        ensures { OnOk result (self.new ≡ record self.old { context = record self.old.context { facts = joined_all self.old.context.facts lits.items } }) }
+        requires { IsTrue
+            (are_good_facts self.old.context.scope (joined_all self.old.context.facts lits.items)) }
+        ensures { OnOk result (self.new ≡ record self.old {
+          context
+              = record self.old.context { facts = joined_all self.old.context.facts lits.items };
+        }) }
     {
         join_all(&mut self.context, lits)
     }
 
-    /// Equal literals join the facts, one after the other. It fails only out of memory; no clause says what holds
-    /// then.
+    /// Equal literals join the facts, one after the other. It fails only out of memory; no clause
+    /// says what holds then.
     pub fn join_equal(&mut self, alloc: Global, lits: &[Lit]) -> Result<(), AllocError>
-        requires { IsTrue (are_good_facts self.old.context.scope (joined_all self.old.context.facts lits.now)) }
-        ensures { OnOk result (self.new ≡ record self.old { context = record self.old.context { facts = joined_all self.old.context.facts lits.now } }) }
+        requires { IsTrue
+            (are_good_facts self.old.context.scope (joined_all self.old.context.facts lits.now)) }
+        ensures { OnOk result (self.new ≡ record self.old {
+          context
+              = record self.old.context { facts = joined_all self.old.context.facts lits.now };
+        }) }
     {
         join_copies(alloc, &mut self.context, lits)
     }
@@ -155,7 +171,8 @@ fn name_all(names: &mut Names, sorts: &[Sort], new: &[Name]) -> Result<(), Alloc
 /// Adds each literal unless one the same is there.
 fn join_all(context: &mut Context, lits: Vec<Lit>) -> Result<(), AllocError>
     requires { IsTrue (are_good_facts context.old.scope (joined_all context.old.facts lits.items)) }
-    ensures { OnOk result (context.new ≡ record context.old { facts = joined_all context.old.facts lits.items }) }
+    ensures { OnOk result
+        (context.new ≡ record context.old { facts = joined_all context.old.facts lits.items }) }
 {
     for lit in lits {
         context.add(lit)?;
@@ -166,7 +183,8 @@ fn join_all(context: &mut Context, lits: Vec<Lit>) -> Result<(), AllocError>
 /// Adds an equal literal for each, unless one the same is there.
 fn join_copies(alloc: Global, context: &mut Context, lits: &[Lit]) -> Result<(), AllocError>
     requires { IsTrue (are_good_facts context.old.scope (joined_all context.old.facts lits.now)) }
-    ensures { OnOk result (context.new ≡ record context.old { facts = joined_all context.old.facts lits.now }) }
+    ensures { OnOk result
+        (context.new ≡ record context.old { facts = joined_all context.old.facts lits.now }) }
 {
     for lit in lits {
         context.add(copy(alloc, lit)?)?;

@@ -10,7 +10,8 @@ use e_literal::Values;
 use std::alloc::{AllocError, AllocFailed, Global};
 use std::mem;
 
-/// What the step lacks, with the values that show it; or what is too wide there, with its width; or out of memory.
+/// What the step lacks, with the values that show it; or what is too wide there, with its width; or
+/// out of memory.
 #[derive(Drop)]
 pub enum StepStop {
     Lacks {

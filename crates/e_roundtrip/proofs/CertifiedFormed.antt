@@ -39,7 +39,7 @@ use Rattle.e_deriv.specs.Parts.{written}
 use Rattle.e_deriv.specs.Steps.{fits, needs}
 use Rattle.e_deriv.specs.Certified.{Certified, certs_of, is_certified}
 use Rattle.e_deriv.specs.Written.{is_written_well}
-use Rattle.e_verify.proofs.Passing.{cite_written, hence_written, make_written, apply_written, claim_written, superposed_written, qed_written, contradiction_written, cases_written}
+use Rattle.e_verify.proofs.checking.PassedLines.{cite_written, hence_written, make_written, apply_written, claim_written, superposed_written, qed_written, contradiction_written, cases_written}
 use Rattle.e_roundtrip.specs.Formed.{Formed, sum_formed, names_difference, difference_formed, sums_formed, part_formed, has_parts, cert_formed, certs_formed, against_formed, formed_beside, is_formed}
 use Rattle.e_roundtrip.proofs.Standing.{OneCertified, first_of, both_of, one_certified}
 

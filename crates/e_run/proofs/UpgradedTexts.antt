@@ -15,7 +15,7 @@ use Rattle.e_book.specs.Entry.{Entry}
 use Rattle.e_book.specs.HasSpelling.{HasSpelling}
 use Rattle.e_book.proofs.WrittenScripts.{erased_literals, written_well}
 use Rattle.e_verify.specs.Numbered.{derivation_with_places}
-use Rattle.e_verify.proofs.NumberedLines.{numbered_certified, numbered_erased}
+use Rattle.e_verify.proofs.placing.NumberedLines.{numbered_certified, numbered_erased}
 use Rattle.e_judgement.specs.declared.judgement.Judgement.TheVariants.{Verified}
 use Rattle.e_judgement.specs.Judged.{Rest, ReadsNext, IsCertified, lines_of_text}
 use Rattle.e_roundtrip.specs.Written.{CanBeVerified}

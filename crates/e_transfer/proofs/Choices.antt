@@ -4,7 +4,7 @@ use Rattle.std.proofs.lemmas.List.{append_assoc, append-nil, take_all}
 use Rattle.e_transfer.specs.declared.walk.Span.{Span}
 use Rattle.e_transfer.specs.declared.walk.Verdict.{Verdict}
 use Rattle.e_transfer.specs.declared.walk.Verdict.TheVariants as verdict
-use Rattle.e_transfer.specs.Choice.{Fits, NoneWanted, NoneBelow}
+use Rattle.e_transfer.specs.Choice.{FitsSpans, NoneWanted, NoneBelow}
 use Rattle.e_transfer.specs.Verdicts.{VerdictIs, SearchIs}
 
 -- what a refused search leaves: more numbers may hold after
@@ -34,7 +34,7 @@ none_below_empty wanted before spans (v ∷ vs) fits below good = below
 
 -- no choice with a number below this one first is wanted
 abbrev pub NoneUnder : Kept → List ℕ → List Span → ℕ → ℕ → Type 0
-NoneUnder wanted before rest from v = (u : ℕ) → from ≤ u → u < v → (d : List ℕ) → Fits rest d → wanted ((before ++ u ∷ []) ++ d) → ⊥
+NoneUnder wanted before rest from v = (u : ℕ) → from ≤ u → u < v → (d : List ℕ) → FitsSpans rest d → wanted ((before ++ u ∷ []) ++ d) → ⊥
 
 -- a choice after a number
 after_chosen : (wanted : Kept) (before : List ℕ) (v : ℕ) (vs : List ℕ) → wanted (before ++ v ∷ vs) → wanted ((before ++ v ∷ []) ++ vs)

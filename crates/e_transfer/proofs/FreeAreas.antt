@@ -23,15 +23,15 @@ use Rattle.e_clause.specs.Instance.{number, lit_at, clause_of}
 use Rattle.e_clause.specs.Rows.{Row}
 use Rattle.e_clause.specs.Table.{table}
 use Rattle.e_clause.proofs.Spread.{Agree, all_hold_agrees, all_among}
-use Rattle.e_metric.proofs.FirstTerms.{take_one, lits_append}
+use Rattle.e_metric.proofs.terms.FirstTerms.{take_one, lits_append}
 use Rattle.e_transfer.specs.declared.models.Filling.{Filling}
 use Rattle.e_transfer.specs.declared.plan.Plan.{Plan}
 use Rattle.e_transfer.specs.declared.query.Strength.{Strength}
-use Rattle.e_transfer.specs.Areas.{is_one_of, are_listed, name_areas_of, ListsAlso, IsFree}
-use Rattle.e_transfer.specs.GivenGoals.{IsFitting}
-use Rattle.e_transfer.specs.Marks.{mark, mark_of, is_area}
-use Rattle.e_transfer.specs.Models.{listed_value, is_flat, canonical_value, value_by, fits_term, fits_terms, is_model}
-use Rattle.e_transfer.specs.inner.PartsOfChoices.{arguments, last_of_term}
+use Rattle.e_transfer.specs.Areas.{is_among_areas, are_listed, name_areas_of, ListsAlso, IsFree}
+use Rattle.e_transfer.specs.GivenGoals.{IsFittingLiteral}
+use Rattle.e_transfer.specs.Marks.{mark_number, lit_mark, is_area_term}
+use Rattle.e_transfer.specs.Models.{value_in_list, is_flattened, value_when_canonical, value_by, fits_term, fits_terms, is_model}
+use Rattle.e_transfer.specs.inner.PartsOfChoices.{chosen_arguments, term_last}
 use Rattle.e_transfer.specs.inner.SearchedPlaces.{NoneFrom}
 use Rattle.e_transfer.proofs.Instances.{of_instance, at_map, number_kept, term_kept}
 use Rattle.e_transfer.proofs.MarkedFacts.{mark_alike, sufficient_follows, fits_area, area_at}
@@ -48,35 +48,35 @@ with_one t x vs = (canonical t, x) ∷ vs
 elsewhere : (filling : Filling) (t s : Term) (x : ℕ) (vs : List (Term × ℕ)) → term_eq (canonical s) (canonical t) ≡ false
     → value_by filling (with_one t x vs) s ≡ value_by filling vs s
 elsewhere filling t s x vs differs =
-    ap (λ b. cond (is_degenerate s) 0 (cond (is_flat filling (canonical s)) 0 (cond b x (listed_value filling vs (canonical s))))) differs
+    ap (λ b. cond (is_degenerate s) 0 (cond (is_flattened filling (canonical s)) 0 (cond b x (value_in_list filling vs (canonical s))))) differs
 
-not_listed : (t s : Term) (areas : List Term) → is_one_of areas t ≡ false → is_one_of areas s ≡ true → term_eq (canonical s) (canonical t) ≡ false
+not_listed : (t s : Term) (areas : List Term) → is_among_areas areas t ≡ false → is_among_areas areas s ≡ true → term_eq (canonical s) (canonical t) ≡ false
 not_listed t s areas free listed = elim (cases_Bool (term_eq (canonical s) (canonical t))) [
   | inl e ↦ absurd (true≢false (sym listed ∙ (ap (λ (k : Term). list_any (λ a. term_eq k a) areas) (term_eq_is (canonical s) (canonical t) e) ∙ free)))
   | inr n ↦ n
 ]
 
 -- a term that is no area is another one
-other_kind : (t s : Term) → is_area t ≡ true → is_area s ≡ false → term_eq (canonical s) (canonical t) ≡ false
+other_kind : (t s : Term) → is_area_term t ≡ true → is_area_term s ≡ false → term_eq (canonical s) (canonical t) ≡ false
 other_kind (Area a b c) (Seg d e) h k = refl
 other_kind (Area a b c) (Ang d e f) h k = refl
 other_kind (Area a b c) (Area d e f) h k = absurd (true≢false k)
 other_kind (Area a b c) Right h k = refl
 other_kind t s h k = absurd (true≢false (sym h))
 
-by_area : (b : Bool) (t s : Term) (areas : List Term) → is_area s ≡ b → is_area t ≡ true → is_one_of areas t ≡ false → (not b || is_one_of areas s) ≡ true
+by_area : (b : Bool) (t s : Term) (areas : List Term) → is_area_term s ≡ b → is_area_term t ≡ true → is_among_areas areas t ≡ false → (not b || is_among_areas areas s) ≡ true
     → term_eq (canonical s) (canonical t) ≡ false
 by_area true t s areas e area free listed = not_listed t s areas free listed
 by_area false t s areas e area free listed = other_kind t s area e
 
 -- the terms of the facts keep their values
-facts_agree : (filling : Filling) (facts : List Lit) (areas : List Term) (t : Term) (x : ℕ) (vs : List (Term × ℕ)) → is_area t ≡ true → is_one_of areas t ≡ false
+facts_agree : (filling : Filling) (facts : List Lit) (areas : List Term) (t : Term) (x : ℕ) (vs : List (Term × ℕ)) → is_area_term t ≡ true → is_among_areas areas t ≡ false
     → name_areas_of areas facts ≡ true → Agree (terms_of_lits facts) (value_by filling vs) (value_by filling (with_one t x vs))
 facts_agree filling facts areas t x vs area free named = λ s among.
-    let listed = all_among (λ u. not (is_area u) || is_one_of areas u) (terms_of_lits facts) s named among in
-    sym (elsewhere filling t s x vs (by_area (is_area s) t s areas refl area free listed))
+    let listed = all_among (λ u. not (is_area_term u) || is_among_areas areas u) (terms_of_lits facts) s named among in
+    sym (elsewhere filling t s x vs (by_area (is_area_term s) t s areas refl area free listed))
 
-right_agrees : (filling : Filling) (t : Term) (x : ℕ) (vs : List (Term × ℕ)) → is_area t ≡ true → value_by filling vs Right ≡ value_by filling (with_one t x vs) Right
+right_agrees : (filling : Filling) (t : Term) (x : ℕ) (vs : List (Term × ℕ)) → is_area_term t ≡ true → value_by filling vs Right ≡ value_by filling (with_one t x vs) Right
 right_agrees filling t x vs area = sym (elsewhere filling t Right x vs (other_kind t Right area refl))
 
 fits_alike : (facts : List Lit) (v u : Term → ℕ) (t : Term) → v Right ≡ u Right → v t ≡ u t → fits_term facts v t ≡ fits_term facts u t
@@ -93,7 +93,7 @@ all_fit_alike facts v u (t ∷ ts) r agree fit =
     (all_fit_alike facts v u ts r (λ s a. agree s (among_rest t ts s a)) (and_right (fits_term facts v t) (fits_terms facts v ts) fit))
 
 -- so they are those of a model with any value for the area
-still_model : (filling : Filling) (facts : List Lit) (areas : List Term) (t : Term) (x : ℕ) (vs : List (Term × ℕ)) → is_area t ≡ true → is_one_of areas t ≡ false
+still_model : (filling : Filling) (facts : List Lit) (areas : List Term) (t : Term) (x : ℕ) (vs : List (Term × ℕ)) → is_area_term t ≡ true → is_among_areas areas t ≡ false
     → name_areas_of areas facts ≡ true → is_model facts (value_by filling vs) ≡ true → is_model facts (value_by filling (with_one t x vs)) ≡ true
 still_model filling facts areas t x vs area free named model =
     let v = value_by filling vs in
@@ -110,37 +110,37 @@ still_model filling facts areas t x vs area free named model =
 -- ---- two areas that need not differ
 
 -- the area has the value that it was given, and the other has it too
-own_value : (filling : Filling) (t : Term) (x : ℕ) (vs : List (Term × ℕ)) → is_flat filling (canonical t) ≡ false → is_degenerate t ≡ false
+own_value : (filling : Filling) (t : Term) (x : ℕ) (vs : List (Term × ℕ)) → is_flattened filling (canonical t) ≡ false → is_degenerate t ≡ false
     → value_by filling (with_one t x vs) t ≡ x
 own_value filling t x vs unflat whole =
-    ap (λ b. cond b 0 (cond (is_flat filling (canonical t)) 0 (cond (term_eq (canonical t) (canonical t)) x (listed_value filling vs (canonical t))))) whole
-    ∙ (ap (λ b. cond b 0 (cond (term_eq (canonical t) (canonical t)) x (listed_value filling vs (canonical t)))) unflat
-    ∙ ap (λ b. cond b x (listed_value filling vs (canonical t))) (equal_terms (canonical t) (canonical t) refl))
+    ap (λ b. cond b 0 (cond (is_flattened filling (canonical t)) 0 (cond (term_eq (canonical t) (canonical t)) x (value_in_list filling vs (canonical t))))) whole
+    ∙ (ap (λ b. cond b 0 (cond (term_eq (canonical t) (canonical t)) x (value_in_list filling vs (canonical t)))) unflat
+    ∙ ap (λ b. cond b x (value_in_list filling vs (canonical t))) (equal_terms (canonical t) (canonical t) refl))
 
 both_values : (b c : Bool) (x y : ℕ) → c ≡ false → cond b 0 (cond c 0 (cond true (cond b 0 (cond c 0 y)) x)) ≡ cond b 0 (cond c 0 y)
 both_values true c x y e = refl
 both_values false true x y e = absurd (true≢false e)
 both_values false false x y e = refl
 
-other_value : (filling : Filling) (t s : Term) (vs : List (Term × ℕ)) → is_flat filling (canonical s) ≡ false
+other_value : (filling : Filling) (t s : Term) (vs : List (Term × ℕ)) → is_flattened filling (canonical s) ≡ false
     → value_by filling (with_one t (value_by filling vs s) vs) s ≡ value_by filling vs s
 other_value filling t s vs unflat = elim (cases_Bool (term_eq (canonical s) (canonical t))) [
   | inl e ↦
-      ap (λ b. cond (is_degenerate s) 0 (cond (is_flat filling (canonical s)) 0 (cond b (value_by filling vs s) (listed_value filling vs (canonical s))))) e
-      ∙ both_values (is_degenerate s) (is_flat filling (canonical s)) (listed_value filling vs (canonical s)) (listed_value filling vs (canonical s)) unflat
+      ap (λ b. cond (is_degenerate s) 0 (cond (is_flattened filling (canonical s)) 0 (cond b (value_by filling vs s) (value_in_list filling vs (canonical s))))) e
+      ∙ both_values (is_degenerate s) (is_flattened filling (canonical s)) (value_in_list filling vs (canonical s)) (value_in_list filling vs (canonical s)) unflat
   | inr n ↦ elsewhere filling t s (value_by filling vs s) vs n
 ]
 
 equal_fails : (c a b : ℕ) → a ≡ b → not (eqb (c * a + 0) (c * b + 0)) ≡ false
 equal_fails c a b e = ap not (eq-eqb (c * a + 0) (c * b + 0) (ap (λ n. c * n + 0) e))
 
-pub is_free_area : (filling : Filling) (facts : List Lit) (areas : List Term) (t : Term) (vs : List (Term × ℕ)) → ((s : Term) → is_flat filling s ≡ false) → is_area t ≡ true
-    → is_degenerate t ≡ false → is_one_of areas t ≡ false → name_areas_of areas facts ≡ true → is_model facts (value_by filling vs) ≡ true → IsFree facts t
+pub is_free_area : (filling : Filling) (facts : List Lit) (areas : List Term) (t : Term) (vs : List (Term × ℕ)) → ((s : Term) → is_flattened filling s ≡ false) → is_area_term t ≡ true
+    → is_degenerate t ≡ false → is_among_areas areas t ≡ false → name_areas_of areas facts ≡ true → is_model facts (value_by filling vs) ≡ true → IsFree facts t
 is_free_area filling facts areas t vs unflat area whole free named model = λ coeff other second follows.
     let x = value_by filling vs other in
     let u = value_by filling (with_one t x vs) in
     refuted facts (record { neg = true; atom = MagEq (record { coeff = coeff; term = t } ∷ []) (record { coeff = coeff; term = other } ∷ []) })
-    (canonical_value filling (with_one t x vs)) (still_model filling facts areas t x vs area free named model)
+    (value_when_canonical filling (with_one t x vs)) (still_model filling facts areas t x vs area free named model)
     (and_from (fits_term facts u t) (fits_term facts u other && true) (fits_area facts u t area) (and_from (fits_term facts u other) true (fits_area facts u other second) refl))
     (equal_fails coeff (u t) (u other) (own_value filling t x vs (unflat (canonical t)) whole ∙ sym (other_value filling t other vs (unflat (canonical other)))))
     follows
@@ -149,19 +149,19 @@ is_free_area filling facts areas t vs unflat area whole free named model = λ co
 
 -- no choice is wanted that begins so, where the clause says at a place that such an area, which is known, is equal to another
 pub none_beside_free : (m : Strength) (scope : Scope) (facts : List Lit) (goal : Lit) (rule place at coeff : ℕ) (plan : Plan) (r : Row) (part : List ℕ) (args : List Obj) (t other : Term)
-    → slice_get table rule ≡ Some r → args ≡ arguments r plan.positions.items part
+    → slice_get table rule ≡ Some r → args ≡ chosen_arguments r plan.positions.items part
     → slice_get (clause_of r) at ≡ Some (record { neg = false; atom = MagEq (record { coeff = coeff; term = t } ∷ []) (record { coeff = coeff; term = other } ∷ []) })
-    → is_area other ≡ true → last_of_term plan.positions.items t < length part → eqb at place ≡ false → mark_of goal ≢ mark 12 false
+    → is_area_term other ≡ true → term_last plan.positions.items t < length part → eqb at place ≡ false → lit_mark goal ≢ mark_number 12 false
     → IsFree facts (term_at (number args) t) → NoneFrom m scope facts goal rule place plan part
 none_beside_free m scope facts goal rule place at coeff plan r part args t other of_table are here second less apart unlike free rest wanted =
     let positions = plan.positions.items in
-    let all = arguments r positions (part ++ rest) in
+    let all = chosen_arguments r positions (part ++ rest) in
     let both = with_row m scope facts goal rule place plan r (part ++ rest) of_table wanted in
     let gives = both.1 in
     let of = of_instance rule all r gives.lits of_table gives.instance in
     let l : Lit = record { neg = false; atom = MagEq (record { coeff = coeff; term = t } ∷ []) (record { coeff = coeff; term = other } ∷ []) } in
     let is : slice_get gives.lits at ≡ Some (lit_at r all l) = ap (λ (ls : List Lit). slice_get ls at) of.1 ∙ at_map (lit_at r all) (clause_of r) at l here in
-    let fits = subst (λ (b : Bool). IsFitting m facts goal b (lit_at r all l)) apart (fitting m facts gives.lits goal (lit_at r all l) place at gives.here gives.suffice is) in
+    let fits = subst (λ (b : Bool). IsFittingLiteral m facts goal b (lit_at r all l)) apart (fitting m facts gives.lits goal (lit_at r all l) place at gives.here gives.suffice is) in
     let one : term_at (number all) t ≡ term_at (number args) t =
     term_kept positions (length part) (number all) (number args)
     (λ v below. number_kept r positions part rest v below ∙ ap (λ (os : List Obj). number os v) (sym are)) t less in
@@ -174,16 +174,16 @@ none_beside_free m scope facts goal rule place at coeff plan r part args t other
 
 -- ---- which areas the facts name
 
-listed_more : (areas : List Term) (a t : Term) → is_one_of areas t ≡ true → is_one_of (areas ++ a ∷ []) t ≡ true
+listed_more : (areas : List Term) (a t : Term) → is_among_areas areas t ≡ true → is_among_areas (areas ++ a ∷ []) t ≡ true
 listed_more [] a t h = absurd (true≢false (sym h))
-listed_more (b ∷ bs) a t h = elim (or_cases (term_eq (canonical t) b) (is_one_of bs t) h) [
-  | inl e ↦ or_left (term_eq (canonical t) b) (is_one_of (bs ++ a ∷ []) t) e
-  | inr later ↦ or_right (term_eq (canonical t) b) (is_one_of (bs ++ a ∷ []) t) (listed_more bs a t later)
+listed_more (b ∷ bs) a t h = elim (or_cases (term_eq (canonical t) b) (is_among_areas bs t) h) [
+  | inl e ↦ or_left (term_eq (canonical t) b) (is_among_areas (bs ++ a ∷ []) t) e
+  | inr later ↦ or_right (term_eq (canonical t) b) (is_among_areas (bs ++ a ∷ []) t) (listed_more bs a t later)
 ]
 
-listed_last : (areas : List Term) (t : Term) → is_one_of (areas ++ canonical t ∷ []) t ≡ true
+listed_last : (areas : List Term) (t : Term) → is_among_areas (areas ++ canonical t ∷ []) t ≡ true
 listed_last [] t = or_left (term_eq (canonical t) (canonical t)) false (equal_terms (canonical t) (canonical t) refl)
-listed_last (b ∷ bs) t = or_right (term_eq (canonical t) b) (is_one_of (bs ++ canonical t ∷ []) t) (listed_last bs t)
+listed_last (b ∷ bs) t = or_right (term_eq (canonical t) b) (is_among_areas (bs ++ canonical t ∷ []) t) (listed_last bs t)
 
 by_kind : (b c d : Bool) → (c ≡ true → d ≡ true) → (not b || c) ≡ true → (not b || d) ≡ true
 by_kind true c d h e = h e
@@ -192,22 +192,22 @@ by_kind false c d h e = refl
 all_listed_more : (areas : List Term) (a : Term) (ts : List Term) → are_listed areas ts ≡ true → are_listed (areas ++ a ∷ []) ts ≡ true
 all_listed_more areas a [] h = refl
 all_listed_more areas a (t ∷ ts) h =
-    let here = not (is_area t) || is_one_of areas t in
-    and_from (not (is_area t) || is_one_of (areas ++ a ∷ []) t) (are_listed (areas ++ a ∷ []) ts)
-    (by_kind (is_area t) (is_one_of areas t) (is_one_of (areas ++ a ∷ []) t) (listed_more areas a t) (and_left here (are_listed areas ts) h))
+    let here = not (is_area_term t) || is_among_areas areas t in
+    and_from (not (is_area_term t) || is_among_areas (areas ++ a ∷ []) t) (are_listed (areas ++ a ∷ []) ts)
+    (by_kind (is_area_term t) (is_among_areas areas t) (is_among_areas (areas ++ a ∷ []) t) (listed_more areas a t) (and_left here (are_listed areas ts) h))
     (all_listed_more areas a ts (and_right here (are_listed areas ts) h))
 
 -- one more is listed
 pub also_pushed : (areas new : List Term) (t : Term) → new ≡ areas ++ canonical t ∷ [] → ListsAlso (t ∷ []) areas new
 also_pushed areas new t is = record {
   keeps = λ ss h. ap (λ (ts : List Term). are_listed ts ss) is ∙ all_listed_more areas (canonical t) ss h;
-  lists = and_from (not (is_area t) || is_one_of new t) true (or_right (not (is_area t)) (is_one_of new t) (ap (λ (ts : List Term). is_one_of ts t) is ∙ listed_last areas t)) refl;
+  lists = and_from (not (is_area_term t) || is_among_areas new t) true (or_right (not (is_area_term t)) (is_among_areas new t) (ap (λ (ts : List Term). is_among_areas ts t) is ∙ listed_last areas t)) refl;
 }
 
-pub also_unlike : (areas : List Term) (t : Term) → is_area t ≡ false → ListsAlso (t ∷ []) areas areas
+pub also_unlike : (areas : List Term) (t : Term) → is_area_term t ≡ false → ListsAlso (t ∷ []) areas areas
 also_unlike areas t unlike = record {
   keeps = λ ss h. h;
-  lists = and_from (not (is_area t) || is_one_of areas t) true (or_left (not (is_area t)) (is_one_of areas t) (ap not unlike)) refl;
+  lists = and_from (not (is_area_term t) || is_among_areas areas t) true (or_left (not (is_area_term t)) (is_among_areas areas t) (ap not unlike)) refl;
 }
 
 pub also_none : (areas : List Term) → ListsAlso [] areas areas
@@ -216,7 +216,7 @@ also_none areas = record { keeps = λ ss h. h; lists = refl }
 pub also_both : (ts us : List Term) (old mid new : List Term) → ListsAlso ts old mid → ListsAlso us mid new → ListsAlso (ts ++ us) old new
 also_both ts us old mid new a b = record {
   keeps = λ ss h. b.keeps ss (a.keeps ss h);
-  lists = list_all-append (λ t. not (is_area t) || is_one_of new t) ts us ∙ and_from (are_listed new ts) (are_listed new us) (b.keeps ts a.lists) b.lists;
+  lists = list_all-append (λ t. not (is_area_term t) || is_among_areas new t) ts us ∙ and_from (are_listed new ts) (are_listed new us) (b.keeps ts a.lists) b.lists;
 }
 
 one_taken : (sum : List Mono) (i : ℕ) (d : Mono) → i < length sum → take (suc i) sum ≡ take i sum ++ get_or sum i d ∷ []

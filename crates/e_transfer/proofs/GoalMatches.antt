@@ -15,8 +15,8 @@ use Rattle.e_literal.proofs.Agreeing.{agree_equal}
 use Rattle.e_literal.proofs.CanonicalTerms.{one_term_is, one_term_of}
 use Rattle.e_literal.proofs.Booleans.{and_left, and_right, all_both}
 use Rattle.e_transfer.specs.declared.equations.Equation.{Equation}
-use Rattle.e_transfer.specs.inner.Equations.{agrees, all_agree, some_agree, equations_of_term, equations_of_terms}
-use Rattle.e_transfer.specs.inner.Matches.{orders, matches_of_term, matches_of_sum, cancellations_of_terms, cancellations_of_sum, cancellations, product, cancels, none_cancels, all_cancel, sum_under, CoverSums}
+use Rattle.e_transfer.specs.inner.Equations.{agrees, all_agree, some_agree, equations_from_term, equations_from_terms}
+use Rattle.e_transfer.specs.inner.Matches.{term_orders, matches_of_term, matches_of_sum, cancellations_of_terms, cancellations_of_sum, cancelling_matches, match_product, cancels, none_cancels, all_cancel, sum_under, CoverSums}
 use Rattle.e_transfer.proofs.Elements.{list_any-map, list_any-flat_map, weaker, any_left, any_right}
 use Rattle.e_transfer.proofs.Orders.{one_order}
 
@@ -34,7 +34,7 @@ triple_equations true false c h = h
 triple_equations false b c h = h
 
 -- the term of a row is another where the equations say so
-term_equations : (f : ℕ → ℕ) (m o : Term) → term_eq (term_at f m) o ≡ true → some_agree f (option_to_list (equations_of_term m o)) ≡ true
+term_equations : (f : ℕ → ℕ) (m o : Term) → term_eq (term_at f m) o ≡ true → some_agree f (option_to_list (equations_from_term m o)) ≡ true
 term_equations f (Seg x y) (Seg a b) h = pair_equations (eqb (f x) a) (eqb (f y) b) h
 term_equations f (Ang x y z) (Ang a b c) h = triple_equations (eqb (f x) a) (eqb (f y) b) (eqb (f z) c) h
 term_equations f (Area x y z) (Area a b c) h = triple_equations (eqb (f x) a) (eqb (f y) b) (eqb (f z) c) h
@@ -52,7 +52,7 @@ term_equations f Right (Seg d e) h = h
 term_equations f Right (Ang d e g) h = h
 term_equations f Right (Area d e g) h = h
 
-terms_equations : (f : ℕ → ℕ) (m o : Term) → term_eq (term_at f m) (term_at f o) ≡ true → some_agree f (option_to_list (equations_of_terms m o)) ≡ true
+terms_equations : (f : ℕ → ℕ) (m o : Term) → term_eq (term_at f m) (term_at f o) ≡ true → some_agree f (option_to_list (equations_from_terms m o)) ≡ true
 terms_equations f (Seg x y) (Seg a b) h = pair_equations (eqb (f x) (f a)) (eqb (f y) (f b)) h
 terms_equations f (Ang x y z) (Ang a b c) h = triple_equations (eqb (f x) (f a)) (eqb (f y) (f b)) (eqb (f z) (f c)) h
 terms_equations f (Area x y z) (Area a b c) h = triple_equations (eqb (f x) (f a)) (eqb (f y) (f b)) (eqb (f z) (f c)) h
@@ -72,10 +72,10 @@ terms_equations f Right (Area d e g) h = h
 
 one_match : (f : ℕ → ℕ) (m goal : Term) → one_term (term_at f m) goal ≡ true → some_agree f (matches_of_term m goal) ≡ true
 one_match f m goal h =
-    list_any-flat_map (all_agree f) (λ o. option_to_list (equations_of_term m o)) (orders goal)
-    ∙ weaker (λ o. term_eq (term_at f m) o) (λ o. some_agree f (option_to_list (equations_of_term m o))) (term_equations f m) (orders goal) (one_order (term_at f m) goal h)
+    list_any-flat_map (all_agree f) (λ o. option_to_list (equations_from_term m o)) (term_orders goal)
+    ∙ weaker (λ o. term_eq (term_at f m) o) (λ o. some_agree f (option_to_list (equations_from_term m o))) (term_equations f m) (term_orders goal) (one_order (term_at f m) goal h)
 
-orders_under : (f : ℕ → ℕ) (t : Term) → orders (term_at f t) ≡ map (term_at f) (orders t)
+orders_under : (f : ℕ → ℕ) (t : Term) → term_orders (term_at f t) ≡ map (term_at f) (term_orders t)
 orders_under f (Seg a b) = refl
 orders_under f (Ang a b c) = refl
 orders_under f (Area a b c) = refl
@@ -83,11 +83,11 @@ orders_under f Right = refl
 
 one_cancellation : (f : ℕ → ℕ) (m other : Term) → one_term (term_at f m) (term_at f other) ≡ true → some_agree f (cancellations_of_terms m other) ≡ true
 one_cancellation f m other h =
-    let among : list_any (λ o. term_eq (term_at f m) (term_at f o)) (orders other) ≡ true =
-    sym (list_any-map (λ o. term_eq (term_at f m) o) (term_at f) (orders other)) ∙ sym (ap (λ os. list_any (λ o. term_eq (term_at f m) o) os) (orders_under f other))
+    let among : list_any (λ o. term_eq (term_at f m) (term_at f o)) (term_orders other) ≡ true =
+    sym (list_any-map (λ o. term_eq (term_at f m) o) (term_at f) (term_orders other)) ∙ sym (ap (λ os. list_any (λ o. term_eq (term_at f m) o) os) (orders_under f other))
     ∙ one_order (term_at f m) (term_at f other) h in
-    list_any-flat_map (all_agree f) (λ o. option_to_list (equations_of_terms m o)) (orders other)
-    ∙ weaker (λ o. term_eq (term_at f m) (term_at f o)) (λ o. some_agree f (option_to_list (equations_of_terms m o))) (terms_equations f m) (orders other) among
+    list_any-flat_map (all_agree f) (λ o. option_to_list (equations_from_terms m o)) (term_orders other)
+    ∙ weaker (λ o. term_eq (term_at f m) (term_at f o)) (λ o. some_agree f (option_to_list (equations_from_terms m o))) (terms_equations f m) (term_orders other) among
 
 -- ---- sums
 
@@ -142,12 +142,12 @@ with_each f a bs h k =
     list_any-map (all_agree f) (λ b. a ++ b) bs
     ∙ weaker (all_agree f) (λ b. all_agree f (a ++ b)) (λ b l. all_joined f a b h l) bs k
 
-pub product_agrees : (f : ℕ → ℕ) (as' bs : List (List Equation)) → some_agree f as' ≡ true → some_agree f bs ≡ true → some_agree f (product as' bs) ≡ true
+pub product_agrees : (f : ℕ → ℕ) (as' bs : List (List Equation)) → some_agree f as' ≡ true → some_agree f bs ≡ true → some_agree f (match_product as' bs) ≡ true
 product_agrees f as' bs h k =
     list_any-flat_map (all_agree f) (λ a. map (λ b. a ++ b) bs) as'
     ∙ weaker (all_agree f) (λ a. some_agree f (map (λ b. a ++ b) bs)) (λ a l. with_each f a bs l k) as' h
 
-product_more : (as' bs : List (List Equation)) (i : ℕ) (d : List Equation) → i < length as' → product (take (i + 1) as') bs ≡ product (take i as') bs ++ map (λ b. get_or as' i d ++ b) bs
+product_more : (as' bs : List (List Equation)) (i : ℕ) (d : List Equation) → i < length as' → match_product (take (i + 1) as') bs ≡ match_product (take i as') bs ++ map (λ b. get_or as' i d ++ b) bs
 product_more as' bs i d less =
     let g = λ (a : List Equation). map (λ b. a ++ b) bs in
     ap (flat_map g) (take_more as' i d less) ∙ flat_map-append g (take i as') (get_or as' i d ∷ []) ∙ ap (λ l. flat_map g (take i as') ++ l) (append-nil (g (get_or as' i d)))
@@ -186,7 +186,7 @@ cancellations_by f m ms y equal false h = elim (has_term (sum_under f y) (term_a
   | inr some ↦ cancellation_in_sum f m.term y some
 ]
 
-pub cancellations_cover : (f : ℕ → ℕ) (x y : List Mono) → ((t : Term) → coeff_of (sum_under f x) t ≡ coeff_of (sum_under f y) t) → some_agree f (cancellations x y) ≡ true
+pub cancellations_cover : (f : ℕ → ℕ) (x y : List Mono) → ((t : Term) → coeff_of (sum_under f x) t ≡ coeff_of (sum_under f y) t) → some_agree f (cancelling_matches x y) ≡ true
 cancellations_cover f [] y equal = refl
 cancellations_cover f (m ∷ ms) y equal = cancellations_by f m ms y equal (eqb m.coeff 0) refl
 
@@ -200,7 +200,7 @@ either_equal f x y z w h = elim (or_cases (agree (sum_under f x) (sum_under f y)
   | inr b ↦ inr ((agree_equal (sum_under f x) (sum_under f y) w z).0 b)
 ]
 
-pub sums_cancel : (x y z w : List Mono) → all_cancel z w z ≡ true → all_cancel z w w ≡ true → CoverSums x y z w (cancellations x y)
+pub sums_cancel : (x y z w : List Mono) → all_cancel z w z ≡ true → all_cancel z w w ≡ true → CoverSums x y z w (cancelling_matches x y)
 sums_cancel x y z w h k f e =
     let zero = all_equal z w h k in
     cancellations_cover f x y (λ t. elim (either_equal f x y z w e) [
@@ -217,7 +217,7 @@ sums_match x y z w t h f e = elim (either_equal f x y z w e) [
   | inr g ↦ matches_cover x y w z t (λ k. holds_is z w t h (sym k)) f g
 ]
 
-pub sums_match_both : (x y z w : List Mono) (as' bs : List (List Equation)) → CoverSums x y z w as' → CoverSums x y z w bs → CoverSums x y z w (product as' bs)
+pub sums_match_both : (x y z w : List Mono) (as' bs : List (List Equation)) → CoverSums x y z w as' → CoverSums x y z w bs → CoverSums x y z w (match_product as' bs)
 sums_match_both x y z w as' bs h k f e = product_agrees f as' bs (h f e) (k f e)
 
 -- ---- the terms that are left
@@ -234,6 +234,6 @@ nothing_left (t ∷ ts) less = absurd (omega (arith, less))
 
 -- one more match of the first
 pub product_step : (first second old new : List (List Equation)) (i : ℕ) (a : List Equation) → i < length first → a ≡ get_or first i a
-    → old ≡ product (take i first) second → new ≡ old ++ map (λ b. a ++ b) second → new ≡ product (take (i + 1) first) second
+    → old ≡ match_product (take i first) second → new ≡ old ++ map (λ b. a ++ b) second → new ≡ match_product (take (i + 1) first) second
 product_step first second old new i a less at e added =
-    added ∙ ap (λ l. l ++ map (λ b. a ++ b) second) e ∙ ap (λ x. product (take i first) second ++ map (λ b. x ++ b) second) at ∙ sym (product_more first second i a less)
+    added ∙ ap (λ l. l ++ map (λ b. a ++ b) second) e ∙ ap (λ x. match_product (take i first) second ++ map (λ b. x ++ b) second) at ∙ sym (product_more first second i a less)

@@ -28,8 +28,8 @@ use Rattle.e_clause.specs.Table.Lengths.{lengths}
 use Rattle.e_clause.specs.Table.Angles.{angles}
 use Rattle.e_clause.proofs.Refuted.{option_split}
 use Rattle.e_clause.proofs.Tables.{at_lengths, at_angles}
-use Rattle.e_transfer.specs.GivenGoals.{needs}
-use Rattle.e_transfer.specs.inner.PartsOfChoices.{sort_of}
+use Rattle.e_transfer.specs.GivenGoals.{needs_beside}
+use Rattle.e_transfer.specs.inner.PartsOfChoices.{variable_sort}
 use Rattle.e_transfer.proofs.Instances.{of_instance}
 use Rattle.e_transfer.proofs.Plans.{AreOfRow, of_row, in_scope_at, sort_of_point, sort_of_line, sort_of_circle}
 
@@ -94,7 +94,7 @@ record AreOver (r : Row) (scope : Scope) (args : List Obj) : Type 0 where
   of : AreOfRow r args
   over : list_all (is_in_scope scope) args ≡ true
 
-number_in : (r : Row) (scope : Scope) (args : List Obj) (s : Sort) (v : ℕ) → AreOver r scope args → v < r.points + r.lines + r.circles → sort_of r v ≡ s
+number_in : (r : Row) (scope : Scope) (args : List Obj) (s : Sort) (v : ℕ) → AreOver r scope args → v < r.points + r.lines + r.circles → variable_sort r v ≡ s
     → is_in_scope scope (obj s (number args v)) ≡ true
 number_in r scope args s v are less is =
     let below = in_scope_at r scope args v are.of are.over (let many = are.of.many in omega (arith, many, less)) in
@@ -196,8 +196,8 @@ of_needs q alike p (l ∷ ls) all =
     with_one q l (filter p ls) (p l) (alike l ∙ and_left (q l) (list_all q ls) all) (of_needs q alike p ls (and_right (q l) (list_all q ls) all))
 
 pub record AreGoodNeeds (scope : Scope) (lits : List Lit) (goal : Lit) : Type 0 where
-  pub well : list_all is_well_formed (needs lits goal) ≡ true
-  pub over : list_all (all_in_scope scope) (needs lits goal) ≡ true
+  pub well : list_all is_well_formed (needs_beside lits goal) ≡ true
+  pub over : list_all (all_in_scope scope) (needs_beside lits goal) ≡ true
 
 good_needs_of : (rule : ℕ) (r : Row) (scope : Scope) (args : List Obj) (lits : List Lit) (goal : Lit) → slice_get table rule ≡ Some r → is_transfer rule ≡ true
     → Inst rule args ≡ Some lits → list_all (is_in_scope scope) args ≡ true → AreGoodNeeds scope lits goal

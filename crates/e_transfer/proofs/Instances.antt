@@ -16,8 +16,8 @@ use Rattle.e_literal.specs.Rename.{term_at, mono_at, atom_at}
 use Rattle.e_clause.specs.Rows.{Row}
 use Rattle.e_clause.specs.Table.{table}
 use Rattle.e_clause.specs.Instance.{Inst, instance_of_row, fits, number, lit_at, clause_of}
-use Rattle.e_transfer.specs.inner.Equations.{line, circle}
-use Rattle.e_transfer.specs.inner.PartsOfChoices.{arguments_from, arguments, last_of_term, last_of_sum, last_of_atom, ready_at_of}
+use Rattle.e_transfer.specs.inner.Equations.{line_variable, circle_variable}
+use Rattle.e_transfer.specs.inner.PartsOfChoices.{arguments_from, chosen_arguments, term_last, sum_last, atom_last, ready_at_of}
 
 -- ---- the literals of an instance
 
@@ -56,7 +56,7 @@ unchosen r c k (p ∷ positions) (suc v) over = unchosen r c (k + 1) positions v
 
 -- a number that is chosen stays
 pub number_kept : (r : Row) (positions part rest : List ℕ) (v : ℕ) → get_or positions v 0 < length part
-    → number (arguments r positions (part ++ rest)) v ≡ number (arguments r positions part) v
+    → number (chosen_arguments r positions (part ++ rest)) v ≡ number (chosen_arguments r positions part) v
 number_kept r positions part rest v less = elim (cases_lt v (length positions)) [
   | inl here ↦ chosen r (part ++ rest) 0 positions v here ∙ get_or_append_left part rest 0 (get_or positions v 0) less ∙ sym (chosen r part 0 positions v here)
   | inr over ↦ unchosen r (part ++ rest) 0 positions v over ∙ sym (unchosen r part 0 positions v over)
@@ -83,16 +83,16 @@ agree_on_three positions n f g same v w u less =
     let c = two_below (get_or positions v 0) (get_or positions w 0) n b.0 in
     (same v c.0, same w c.1, same u b.1)
 
-pub term_kept : (positions : List ℕ) (n : ℕ) (f g : ℕ → ℕ) → AgreeBelow positions n f g → (t : Term) → last_of_term positions t < n → term_at f t ≡ term_at g t
+pub term_kept : (positions : List ℕ) (n : ℕ) (f g : ℕ → ℕ) → AgreeBelow positions n f g → (t : Term) → term_last positions t < n → term_at f t ≡ term_at g t
 term_kept positions n f g same (Seg x y) less = let e = agree_on_two positions n f g same x y less in let p = e.0 in let q = e.1 in cc
 term_kept positions n f g same (Ang x y z) less = let e = agree_on_three positions n f g same x y z less in let p = e.0 in let q = e.1 in let s = e.2 in cc
 term_kept positions n f g same (Area x y z) less = let e = agree_on_three positions n f g same x y z less in let p = e.0 in let q = e.1 in let s = e.2 in cc
 term_kept positions n f g same Right less = refl
 
-sum_kept : (positions : List ℕ) (n : ℕ) (f g : ℕ → ℕ) → AgreeBelow positions n f g → (x : List Mono) → last_of_sum positions x < n → map (mono_at f) x ≡ map (mono_at g) x
+sum_kept : (positions : List ℕ) (n : ℕ) (f g : ℕ → ℕ) → AgreeBelow positions n f g → (x : List Mono) → sum_last positions x < n → map (mono_at f) x ≡ map (mono_at g) x
 sum_kept positions n f g same [] less = refl
 sum_kept positions n f g same (m ∷ ms) less =
-    let b = two_below (last_of_term positions m.term) (last_of_sum positions ms) n less in
+    let b = two_below (term_last positions m.term) (sum_last positions ms) n less in
     let p = term_kept positions n f g same m.term b.0 in
     let here : mono_at f m ≡ mono_at g m = ap (λ t. record { coeff = m.coeff; term = t }) p in
     let rest = sum_kept positions n f g same ms b.1 in
@@ -100,38 +100,38 @@ sum_kept positions n f g same (m ∷ ms) less =
 
 -- the atom of a row under a reading of its variables
 abbrev pub read : Row → (ℕ → ℕ) → Atom → Atom
-read r f a = atom_at f (λ k. f (line r k)) (λ k. f (circle r k)) a
+read r f a = atom_at f (λ k. f (line_variable r k)) (λ k. f (circle_variable r k)) a
 
-atom_kept : (r : Row) (positions : List ℕ) (n : ℕ) (f g : ℕ → ℕ) → AgreeBelow positions n f g → (a : Atom) → last_of_atom r positions a < n → read r f a ≡ read r g a
-atom_kept r positions n f g same (On x l) less = let e = agree_on_two positions n f g same x (line r l) less in let p = e.0 in let q = e.1 in cc
-atom_kept r positions n f g same (OnC x c) less = let e = agree_on_two positions n f g same x (circle r c) less in let p = e.0 in let q = e.1 in cc
-atom_kept r positions n f g same (Inside x c) less = let e = agree_on_two positions n f g same x (circle r c) less in let p = e.0 in let q = e.1 in cc
-atom_kept r positions n f g same (Center x c) less = let e = agree_on_two positions n f g same x (circle r c) less in let p = e.0 in let q = e.1 in cc
+atom_kept : (r : Row) (positions : List ℕ) (n : ℕ) (f g : ℕ → ℕ) → AgreeBelow positions n f g → (a : Atom) → atom_last r positions a < n → read r f a ≡ read r g a
+atom_kept r positions n f g same (On x l) less = let e = agree_on_two positions n f g same x (line_variable r l) less in let p = e.0 in let q = e.1 in cc
+atom_kept r positions n f g same (OnC x c) less = let e = agree_on_two positions n f g same x (circle_variable r c) less in let p = e.0 in let q = e.1 in cc
+atom_kept r positions n f g same (Inside x c) less = let e = agree_on_two positions n f g same x (circle_variable r c) less in let p = e.0 in let q = e.1 in cc
+atom_kept r positions n f g same (Center x c) less = let e = agree_on_two positions n f g same x (circle_variable r c) less in let p = e.0 in let q = e.1 in cc
 atom_kept r positions n f g same (Between x y z) less = let e = agree_on_three positions n f g same x y z less in let p = e.0 in let q = e.1 in let s = e.2 in cc
-atom_kept r positions n f g same (Same x y l) less = let e = agree_on_three positions n f g same x y (line r l) less in let p = e.0 in let q = e.1 in let s = e.2 in cc
-atom_kept r positions n f g same (MeetLL l m) less = let e = agree_on_two positions n f g same (line r l) (line r m) less in let p = e.0 in let q = e.1 in cc
-atom_kept r positions n f g same (MeetLC l c) less = let e = agree_on_two positions n f g same (line r l) (circle r c) less in let p = e.0 in let q = e.1 in cc
-atom_kept r positions n f g same (MeetCC c d) less = let e = agree_on_two positions n f g same (circle r c) (circle r d) less in let p = e.0 in let q = e.1 in cc
+atom_kept r positions n f g same (Same x y l) less = let e = agree_on_three positions n f g same x y (line_variable r l) less in let p = e.0 in let q = e.1 in let s = e.2 in cc
+atom_kept r positions n f g same (MeetLL l m) less = let e = agree_on_two positions n f g same (line_variable r l) (line_variable r m) less in let p = e.0 in let q = e.1 in cc
+atom_kept r positions n f g same (MeetLC l c) less = let e = agree_on_two positions n f g same (line_variable r l) (circle_variable r c) less in let p = e.0 in let q = e.1 in cc
+atom_kept r positions n f g same (MeetCC c d) less = let e = agree_on_two positions n f g same (circle_variable r c) (circle_variable r d) less in let p = e.0 in let q = e.1 in cc
 atom_kept r positions n f g same (EqP x y) less = let e = agree_on_two positions n f g same x y less in let p = e.0 in let q = e.1 in cc
-atom_kept r positions n f g same (EqL l m) less = let e = agree_on_two positions n f g same (line r l) (line r m) less in let p = e.0 in let q = e.1 in cc
-atom_kept r positions n f g same (EqC c d) less = let e = agree_on_two positions n f g same (circle r c) (circle r d) less in let p = e.0 in let q = e.1 in cc
+atom_kept r positions n f g same (EqL l m) less = let e = agree_on_two positions n f g same (line_variable r l) (line_variable r m) less in let p = e.0 in let q = e.1 in cc
+atom_kept r positions n f g same (EqC c d) less = let e = agree_on_two positions n f g same (circle_variable r c) (circle_variable r d) less in let p = e.0 in let q = e.1 in cc
 atom_kept r positions n f g same (MagEq x y) less =
-    let b = two_below (last_of_sum positions x) (last_of_sum positions y) n less in
+    let b = two_below (sum_last positions x) (sum_last positions y) n less in
     let p = sum_kept positions n f g same x b.0 in let q = sum_kept positions n f g same y b.1 in cc
 atom_kept r positions n f g same (MagLt x y) less =
-    let b = two_below (last_of_sum positions x) (last_of_sum positions y) n less in
+    let b = two_below (sum_last positions x) (sum_last positions y) n less in
     let p = sum_kept positions n f g same x b.0 in let q = sum_kept positions n f g same y b.1 in cc
 
-lit_kept : (r : Row) (positions part rest : List ℕ) (l : Lit) → last_of_atom r positions l.atom < length part
-    → lit_at r (arguments r positions (part ++ rest)) l ≡ lit_at r (arguments r positions part) l
+lit_kept : (r : Row) (positions part rest : List ℕ) (l : Lit) → atom_last r positions l.atom < length part
+    → lit_at r (chosen_arguments r positions (part ++ rest)) l ≡ lit_at r (chosen_arguments r positions part) l
 lit_kept r positions part rest l less =
     ap (λ a. record { neg = l.neg; atom = a })
-    (atom_kept r positions (length part) (number (arguments r positions (part ++ rest))) (number (arguments r positions part)) (number_kept r positions part rest) l.atom less)
+    (atom_kept r positions (length part) (number (chosen_arguments r positions (part ++ rest))) (number (chosen_arguments r positions part)) (number_kept r positions part rest) l.atom less)
 
 -- ---- the last places of the literals of the clause
 
 abbrev last_of : Row → List ℕ → Lit → ℕ
-last_of r positions l = last_of_atom r positions l.atom
+last_of r positions l = atom_last r positions l.atom
 
 ready_at_negated : (r : Row) (positions : List ℕ) (ls : List Lit) → map (last_of r positions) ls ≡ map (last_of r positions) (map negation ls)
 ready_at_negated r positions [] = refl
@@ -149,13 +149,13 @@ last_at r positions j last l h k =
 
 -- a literal whose last variable is chosen stays the same
 pub literal_kept : (r : Row) (positions part rest : List ℕ) (j last : ℕ) (lit : Lit) → slice_get (ready_at_of r positions) j ≡ Some last → last < length part
-    → slice_get (map (lit_at r (arguments r positions part)) (clause_of r)) j ≡ Some lit
-    → slice_get (map (lit_at r (arguments r positions (part ++ rest))) (clause_of r)) j ≡ Some lit
+    → slice_get (map (lit_at r (chosen_arguments r positions part)) (clause_of r)) j ≡ Some lit
+    → slice_get (map (lit_at r (chosen_arguments r positions (part ++ rest))) (clause_of r)) j ≡ Some lit
 literal_kept r positions part rest j last lit at less here =
-    let found = map_at (lit_at r (arguments r positions part)) (clause_of r) j lit here in
+    let found = map_at (lit_at r (chosen_arguments r positions part)) (clause_of r) j lit here in
     let l = found.0 in
     let below : last_of r positions l < length part = subst (λ n. n < length part) (last_at r positions j last l at found.1) less in
-    at_map (lit_at r (arguments r positions (part ++ rest))) (clause_of r) j l found.1
+    at_map (lit_at r (chosen_arguments r positions (part ++ rest))) (clause_of r) j l found.1
     ∙ ap Some (lit_kept r positions part rest l below ∙ sym found.2)
 
 -- ---- a whole choice
@@ -170,5 +170,5 @@ kept_from r part rest k (p ∷ positions) below =
 
 -- where all variables are chosen the arguments stay the same
 pub arguments_kept : (r : Row) (positions part rest : List ℕ) → ((i : ℕ) → i < length positions → get_or positions i 0 < length part)
-    → arguments r positions (part ++ rest) ≡ arguments r positions part
+    → chosen_arguments r positions (part ++ rest) ≡ chosen_arguments r positions part
 arguments_kept r positions part rest below = kept_from r part rest 0 positions below

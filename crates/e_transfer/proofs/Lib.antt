@@ -8,6 +8,7 @@ pub mod Plans
 pub mod Instances
 pub mod Needs
 pub mod GoodLiterals
+pub mod GoodFacts
 pub mod Clauses
 pub mod SearchedPlaces
 pub mod RuleSearches

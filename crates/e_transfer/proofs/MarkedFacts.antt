@@ -24,13 +24,13 @@ use Rattle.e_clause.specs.Metric.{MetricConsequence}
 use Rattle.e_clause.specs.Rows.{Row}
 use Rattle.e_clause.specs.Table.{table}
 use Rattle.e_clause.proofs.Following.{metric_fact}
-use Rattle.e_metric.proofs.GoodSums.{all_more}
+use Rattle.e_metric.proofs.terms.WellFormedSums.{all_more}
 use Rattle.e_transfer.specs.declared.models.Filling.TheVariants.{Flat}
 use Rattle.e_transfer.specs.declared.query.Strength.{Strength}
 use Rattle.e_transfer.specs.declared.query.Strength.TheVariants as strength
-use Rattle.e_transfer.specs.GivenGoals.{Suffices, IsFitting, NoneAt}
-use Rattle.e_transfer.specs.Marks.{relation, mark, mark_of, is_marked, are_marked, is_area, are_areas, is_strict_of_areas, NoneSuffices, NoneHolds}
-use Rattle.e_transfer.specs.Models.{canonical_value, value_by, fits_term, fits_terms, is_model}
+use Rattle.e_transfer.specs.GivenGoals.{Suffices, IsFittingLiteral, NoneAt}
+use Rattle.e_transfer.specs.Marks.{relation_number, mark_number, lit_mark, is_marked, are_marked, is_area_term, all_are_areas, is_strict_on_areas, NoneSuffices, NoneHolds}
+use Rattle.e_transfer.specs.Models.{value_when_canonical, value_by, fits_term, fits_terms, is_model}
 use Rattle.e_transfer.proofs.Instances.{of_instance, at_map}
 use Rattle.e_transfer.proofs.ModelValues.{refuted}
 use Rattle.e_transfer.proofs.Needs.{diagram_holds, fitting}
@@ -38,7 +38,7 @@ use Rattle.e_transfer.proofs.Needs.{diagram_holds, fitting}
 -- ---- relations
 
 -- other objects leave the relation
-pub relation_at : (p q c : ℕ → ℕ) (a : Atom) → relation (atom_at p q c a) ≡ relation a
+pub relation_at : (p q c : ℕ → ℕ) (a : Atom) → relation_number (atom_at p q c a) ≡ relation_number a
 relation_at p q c (On x y) = refl
 relation_at p q c (OnC x y) = refl
 relation_at p q c (Inside x y) = refl
@@ -54,7 +54,7 @@ relation_at p q c (EqC x y) = refl
 relation_at p q c (MagEq x y) = refl
 relation_at p q c (MagLt x y) = refl
 
-relation_alike : (a b : Atom) → same_atom a b ≡ true → relation a ≡ relation b
+relation_alike : (a b : Atom) → same_atom a b ≡ true → relation_number a ≡ relation_number b
 relation_alike (On a b) (On c d) h = refl
 relation_alike (OnC a b) (OnC c d) h = refl
 relation_alike (Inside a b) (Inside c d) h = refl
@@ -72,11 +72,11 @@ relation_alike (MagLt x y) (MagLt z w) h = refl
 relation_alike a b h = absurd (true≢false (sym h))
 
 -- literals that are the same have one mark
-pub mark_alike : (a b : Lit) → same_lit a b ≡ true → mark_of a ≡ mark_of b
+pub mark_alike : (a b : Lit) → same_lit a b ≡ true → lit_mark a ≡ lit_mark b
 mark_alike a b h =
     let sign : a.neg ≡ b.neg = same_neg_is a.neg b.neg (and_left (same_neg a.neg b.neg) (same_atom a.atom b.atom) h) in
-    let one : relation a.atom ≡ relation b.atom = relation_alike a.atom b.atom (and_right (same_neg a.neg b.neg) (same_atom a.atom b.atom) h) in
-    ap (λ (r : ℕ). mark r a.neg) one ∙ ap (mark (relation b.atom)) sign
+    let one : relation_number a.atom ≡ relation_number b.atom = relation_alike a.atom b.atom (and_right (same_neg a.neg b.neg) (same_atom a.atom b.atom) h) in
+    ap (λ (r : ℕ). mark_number r a.neg) one ∙ ap (mark_number (relation_number b.atom)) sign
 
 -- ---- marks
 
@@ -98,11 +98,11 @@ all_kept : (marks : List Bool) (k : ℕ) (ls : List Lit) → k < length marks �
 all_kept marks k [] less all = refl
 all_kept marks k (l ∷ ls) less all =
     and_from (is_marked (set marks k true) l) (are_marked (set marks k true) ls)
-    (set_keeps marks k (mark_of l) less (and_left (is_marked marks l) (are_marked marks ls) all))
+    (set_keeps marks k (lit_mark l) less (and_left (is_marked marks l) (are_marked marks ls) all))
     (all_kept marks k ls less (and_right (is_marked marks l) (are_marked marks ls) all))
 
 -- one fact more is marked
-pub one_more_marked : (facts : List Lit) (marks new : List Bool) (i k : ℕ) (fact : Lit) → k < length marks → new ≡ set marks k true → k ≡ mark_of fact
+pub one_more_marked : (facts : List Lit) (marks new : List Bool) (i k : ℕ) (fact : Lit) → k < length marks → new ≡ set marks k true → k ≡ lit_mark fact
     → slice_get facts i ≡ Some fact → are_marked marks (take i facts) ≡ true → are_marked new (take (i + 1) facts) ≡ true
 one_more_marked facts marks new i k fact less is at here all =
     let kept : are_marked new (take i facts) ≡ true = ap (λ (ms : List Bool). are_marked ms (take i facts)) is ∙ all_kept marks k (take i facts) less all in
@@ -114,7 +114,7 @@ all_marked facts marks n most each = sym (ap (are_marked marks) (take_all n fact
 
 -- ---- what does not suffice
 
-of_diagram : (a : Atom) → relation a < 12 → is_some (kind_of_atom a) ≡ false
+of_diagram : (a : Atom) → relation_number a < 12 → is_some (kind_of_atom a) ≡ false
 of_diagram (On x y) less = refl
 of_diagram (OnC x y) less = refl
 of_diagram (Inside x y) less = refl
@@ -130,22 +130,22 @@ of_diagram (EqC x y) less = refl
 of_diagram (MagEq x y) less = absurd (omega (arith, less))
 of_diagram (MagLt x y) less = absurd (omega (arith, less))
 
-fact_of : (m : Strength) (facts : List Lit) (l : Lit) → (m ≡ strength.Facts) ⊎ (relation l.atom < 12) → Suffices m facts l → has facts l ≡ true
+fact_of : (m : Strength) (facts : List Lit) (l : Lit) → (m ≡ strength.Facts) ⊎ (relation_number l.atom < 12) → Suffices m facts l → has facts l ≡ true
 fact_of m facts l (inl is) enough = subst (λ (k : Strength). Suffices k facts l) is enough
 fact_of m facts l (inr low) enough = sym (ap (λ b. b || has facts l) (of_diagram l.atom low)) ∙ diagram_holds m facts l enough
 
 -- what has to be a fact, and has no mark
-pub none_unmarked : (m : Strength) (facts : List Lit) (marks : List Bool) (neg : Bool) (a : Atom) → (m ≡ strength.Facts) ⊎ (relation a < 12) → are_marked marks facts ≡ true
-    → get_or marks (mark (relation a) neg) false ≡ false → NoneSuffices m facts (record { neg = neg; atom = a })
+pub none_unmarked : (m : Strength) (facts : List Lit) (marks : List Bool) (neg : Bool) (a : Atom) → (m ≡ strength.Facts) ⊎ (relation_number a < 12) → are_marked marks facts ≡ true
+    → get_or marks (mark_number (relation_number a) neg) false ≡ false → NoneSuffices m facts (record { neg = neg; atom = a })
 none_unmarked m facts marks neg a asked all unmarked = λ p q c enough.
     let l : Lit = record { neg = neg; atom = atom_at p q c a } in
-    let same : relation l.atom ≡ relation a = relation_at p q c a in
-    let as_asked : (m ≡ strength.Facts) ⊎ (relation l.atom < 12) = elim asked [
+    let same : relation_number l.atom ≡ relation_number a = relation_at p q c a in
+    let as_asked : (m ≡ strength.Facts) ⊎ (relation_number l.atom < 12) = elim asked [
       | inl is ↦ inl is
       | inr low ↦ inr (omega (arith, low, same))
     ] in
     let marked = marked_fact marks facts l all (fact_of m facts l as_asked enough) in
-    true≢false (sym marked ∙ (ap (λ r. get_or marks (mark r neg) false) same ∙ unmarked))
+    true≢false (sym marked ∙ (ap (λ r. get_or marks (mark_number r neg) false) same ∙ unmarked))
 
 -- ---- where all areas are 0
 
@@ -153,66 +153,66 @@ no_value : (b : Bool) → ◌≡◌ {A = ℕ} (cond b 0 0) 0
 no_value true = refl
 no_value false = refl
 
-zero_term : (vs : List (Term × ℕ)) (t : Term) → is_area t ≡ true → value_by Flat vs t ≡ 0
+zero_term : (vs : List (Term × ℕ)) (t : Term) → is_area_term t ≡ true → value_by Flat vs t ≡ 0
 zero_term vs (Area a b c) h = no_value (is_degenerate (Area a b c))
 zero_term vs t h = absurd (true≢false (sym h))
 
-zero_sum : (vs : List (Term × ℕ)) (x : List Mono) → are_areas x ≡ true → value_of (value_by Flat vs) x ≡ 0
+zero_sum : (vs : List (Term × ℕ)) (x : List Mono) → all_are_areas x ≡ true → value_of (value_by Flat vs) x ≡ 0
 zero_sum vs [] h = refl
 zero_sum vs (m ∷ ms) h =
-    let here = zero_term vs m.term (and_left (is_area m.term) (are_areas ms) h) in
-    let rest = zero_sum vs ms (and_right (is_area m.term) (are_areas ms) h) in
+    let here = zero_term vs m.term (and_left (is_area_term m.term) (all_are_areas ms) h) in
+    let rest = zero_sum vs ms (and_right (is_area_term m.term) (all_are_areas ms) h) in
     ap (λ v. m.coeff * v + value_of (value_by Flat vs) ms) here ∙ (ap (λ v. m.coeff * 0 + v) rest ∙ omega arith)
 
-pub fits_area : (facts : List Lit) (v : Term → ℕ) (t : Term) → is_area t ≡ true → fits_term facts v t ≡ true
+pub fits_area : (facts : List Lit) (v : Term → ℕ) (t : Term) → is_area_term t ≡ true → fits_term facts v t ≡ true
 fits_area facts v (Area a b c) h = refl
 fits_area facts v t h = absurd (true≢false (sym h))
 
-fits_sum : (facts : List Lit) (v : Term → ℕ) (x : List Mono) → are_areas x ≡ true → fits_terms facts v (map (λ m. m.term) x) ≡ true
+fits_sum : (facts : List Lit) (v : Term → ℕ) (x : List Mono) → all_are_areas x ≡ true → fits_terms facts v (map (λ m. m.term) x) ≡ true
 fits_sum facts v [] h = refl
 fits_sum facts v (m ∷ ms) h =
-    and_from (fits_term facts v m.term) (fits_terms facts v (map (λ n. n.term) ms)) (fits_area facts v m.term (and_left (is_area m.term) (are_areas ms) h))
-    (fits_sum facts v ms (and_right (is_area m.term) (are_areas ms) h))
+    and_from (fits_term facts v m.term) (fits_terms facts v (map (λ n. n.term) ms)) (fits_area facts v m.term (and_left (is_area_term m.term) (all_are_areas ms) h))
+    (fits_sum facts v ms (and_right (is_area_term m.term) (all_are_areas ms) h))
 
-fits_sums : (facts : List Lit) (v : Term → ℕ) (x y : List Mono) → are_areas x ≡ true → are_areas y ≡ true → fits_terms facts v (map (λ m. m.term) (x ++ y)) ≡ true
-fits_sums facts v x y h k = fits_sum facts v (x ++ y) (list_all-append (λ (m : Mono). is_area m.term) x y ∙ and_from (are_areas x) (are_areas y) h k)
+fits_sums : (facts : List Lit) (v : Term → ℕ) (x y : List Mono) → all_are_areas x ≡ true → all_are_areas y ≡ true → fits_terms facts v (map (λ m. m.term) (x ++ y)) ≡ true
+fits_sums facts v x y h k = fits_sum facts v (x ++ y) (list_all-append (λ (m : Mono). is_area_term m.term) x y ∙ and_from (all_are_areas x) (all_are_areas y) h k)
 
 -- a literal that says that areas differ, or that one is less, does not follow
-flat_fails : (facts : List Lit) (vs : List (Term × ℕ)) (neg : Bool) (a : Atom) → is_model facts (value_by Flat vs) ≡ true → is_strict_of_areas neg a ≡ true
+flat_fails : (facts : List Lit) (vs : List (Term × ℕ)) (neg : Bool) (a : Atom) → is_model facts (value_by Flat vs) ≡ true → is_strict_on_areas neg a ≡ true
     → MetricConsequence facts (record { neg = neg; atom = a }) → ⊥
 flat_fails facts vs true (MagEq x y) model strict follows =
-    let h = and_left (are_areas x) (are_areas y) strict in
-    let k = and_right (are_areas x) (are_areas y) strict in
-    refuted facts (record { neg = true; atom = MagEq x y }) (canonical_value Flat vs) model (fits_sums facts (value_by Flat vs) x y h k)
+    let h = and_left (all_are_areas x) (all_are_areas y) strict in
+    let k = and_right (all_are_areas x) (all_are_areas y) strict in
+    refuted facts (record { neg = true; atom = MagEq x y }) (value_when_canonical Flat vs) model (fits_sums facts (value_by Flat vs) x y h k)
     (rw (zero_sum vs x h, zero_sum vs y k) refl) follows
 flat_fails facts vs false (MagLt x y) model strict follows =
-    let h = and_left (are_areas x) (are_areas y) strict in
-    let k = and_right (are_areas x) (are_areas y) strict in
-    refuted facts (record { neg = false; atom = MagLt x y }) (canonical_value Flat vs) model (fits_sums facts (value_by Flat vs) x y h k)
+    let h = and_left (all_are_areas x) (all_are_areas y) strict in
+    let k = and_right (all_are_areas x) (all_are_areas y) strict in
+    refuted facts (record { neg = false; atom = MagLt x y }) (value_when_canonical Flat vs) model (fits_sums facts (value_by Flat vs) x y h k)
     (rw (zero_sum vs x h, zero_sum vs y k) refl) follows
 flat_fails facts vs neg a model strict follows = absurd (true≢false (sym strict))
 
-pub area_at : (p : ℕ → ℕ) (t : Term) → is_area t ≡ true → is_area (term_at p t) ≡ true
+pub area_at : (p : ℕ → ℕ) (t : Term) → is_area_term t ≡ true → is_area_term (term_at p t) ≡ true
 area_at p (Area a b c) h = refl
 area_at p t h = absurd (true≢false (sym h))
 
-areas_at : (p : ℕ → ℕ) (x : List Mono) → are_areas x ≡ true → are_areas (map (mono_at p) x) ≡ true
+areas_at : (p : ℕ → ℕ) (x : List Mono) → all_are_areas x ≡ true → all_are_areas (map (mono_at p) x) ≡ true
 areas_at p [] h = refl
 areas_at p (m ∷ ms) h =
-    and_from (is_area (term_at p m.term)) (are_areas (map (mono_at p) ms)) (area_at p m.term (and_left (is_area m.term) (are_areas ms) h))
-    (areas_at p ms (and_right (is_area m.term) (are_areas ms) h))
+    and_from (is_area_term (term_at p m.term)) (all_are_areas (map (mono_at p) ms)) (area_at p m.term (and_left (is_area_term m.term) (all_are_areas ms) h))
+    (areas_at p ms (and_right (is_area_term m.term) (all_are_areas ms) h))
 
-both_at : (p : ℕ → ℕ) (x y : List Mono) → (are_areas x && are_areas y) ≡ true → (are_areas (map (mono_at p) x) && are_areas (map (mono_at p) y)) ≡ true
+both_at : (p : ℕ → ℕ) (x y : List Mono) → (all_are_areas x && all_are_areas y) ≡ true → (all_are_areas (map (mono_at p) x) && all_are_areas (map (mono_at p) y)) ≡ true
 both_at p x y h =
-    and_from (are_areas (map (mono_at p) x)) (are_areas (map (mono_at p) y)) (areas_at p x (and_left (are_areas x) (are_areas y) h))
-    (areas_at p y (and_right (are_areas x) (are_areas y) h))
+    and_from (all_are_areas (map (mono_at p) x)) (all_are_areas (map (mono_at p) y)) (areas_at p x (and_left (all_are_areas x) (all_are_areas y) h))
+    (areas_at p y (and_right (all_are_areas x) (all_are_areas y) h))
 
-strict_at : (p q c : ℕ → ℕ) (neg : Bool) (a : Atom) → is_strict_of_areas neg a ≡ true → is_strict_of_areas neg (atom_at p q c a) ≡ true
+strict_at : (p q c : ℕ → ℕ) (neg : Bool) (a : Atom) → is_strict_on_areas neg a ≡ true → is_strict_on_areas neg (atom_at p q c a) ≡ true
 strict_at p q c true (MagEq x y) h = both_at p x y h
 strict_at p q c false (MagLt x y) h = both_at p x y h
 strict_at p q c neg a h = absurd (true≢false (sym h))
 
-strict_is_metric : (neg : Bool) (a : Atom) → is_strict_of_areas neg a ≡ true → is_some (kind_of_atom a) ≡ true
+strict_is_metric : (neg : Bool) (a : Atom) → is_strict_on_areas neg a ≡ true → is_some (kind_of_atom a) ≡ true
 strict_is_metric true (MagEq x y) h = refl
 strict_is_metric false (MagLt x y) h = refl
 strict_is_metric neg a h = absurd (true≢false (sym h))
@@ -228,7 +228,7 @@ sufficient_follows strength.Sums facts l metric enough = by_kind (is_metric l) f
 sufficient_follows strength.NarrowSums facts l metric (inl fact) = metric_fact facts l metric fact
 sufficient_follows strength.NarrowSums facts l metric (inr (follows, narrow)) = follows
 
-pub none_flat : (m : Strength) (facts : List Lit) (vs : List (Term × ℕ)) (neg : Bool) (a : Atom) → is_model facts (value_by Flat vs) ≡ true → is_strict_of_areas neg a ≡ true
+pub none_flat : (m : Strength) (facts : List Lit) (vs : List (Term × ℕ)) (neg : Bool) (a : Atom) → is_model facts (value_by Flat vs) ≡ true → is_strict_on_areas neg a ≡ true
     → NoneSuffices m facts (record { neg = neg; atom = a })
 none_flat m facts vs neg a model strict = λ p q c enough.
     let so = strict_at p q c neg a strict in
@@ -239,14 +239,14 @@ none_flat m facts vs neg a model strict = λ p q c enough.
 
 -- where the literal at the place has not the goal's mark, and none that negates it suffices
 pub none_holds : (m : Strength) (facts : List Lit) (goal : Lit) (r : Row) (at : ℕ) (neg : Bool) (a : Atom) → slice_get (clause_of r) at ≡ Some (record { neg = neg; atom = a })
-    → mark (relation a) neg ≢ mark_of goal → NoneSuffices m facts (record { neg = not neg; atom = a }) → NoneHolds m facts goal r at
+    → mark_number (relation_number a) neg ≢ lit_mark goal → NoneSuffices m facts (record { neg = not neg; atom = a }) → NoneHolds m facts goal r at
 none_holds m facts goal r at neg a here unlike none = λ l is args fits.
     let e : record { neg = neg; atom = a } ≡ l = same_Some (record { neg = neg; atom = a }) l (sym here ∙ is) in
     let p = number args in
     let q = line r args in
     let c = circle r args in
-    elim (subst (λ (k : Lit). IsFitting m facts goal false (lit_at r args k)) (sym e) fits) [
-      | inl same ↦ unlike (ap (λ n. mark n neg) (sym (relation_at p q c a)) ∙ mark_alike (record { neg = neg; atom = atom_at p q c a }) goal same)
+    elim (subst (λ (k : Lit). IsFittingLiteral m facts goal false (lit_at r args k)) (sym e) fits) [
+      | inl same ↦ unlike (ap (λ n. mark_number n neg) (sym (relation_at p q c a)) ∙ mark_alike (record { neg = neg; atom = atom_at p q c a }) goal same)
       | inr enough ↦ none p q c enough
     ]
 
@@ -271,4 +271,4 @@ none_elsewhere m scope facts goal rule place at r of_table less apart none args 
     let of = of_instance rule args r gives.lits of_table gives.instance in
     let is : slice_get gives.lits at ≡ Some (lit_at r args l) = ap (λ (ls : List Lit). slice_get ls at) of.1 ∙ at_map (lit_at r args) (clause_of r) at l here in
     none l here args
-    (subst (λ (b : Bool). IsFitting m facts goal b (lit_at r args l)) (unequal at place apart) (fitting m facts gives.lits goal (lit_at r args l) place at gives.here gives.suffice is))
+    (subst (λ (b : Bool). IsFittingLiteral m facts goal b (lit_at r args l)) (unequal at place apart) (fitting m facts gives.lits goal (lit_at r args l) place at gives.here gives.suffice is))

@@ -35,7 +35,7 @@ use Rattle.e_transfer.specs.declared.query.Strength.{Strength}
 use Rattle.e_transfer.specs.declared.query.Strength.TheVariants as strength
 use Rattle.e_transfer.specs.declared.walk.Verdict.{Verdict}
 use Rattle.e_transfer.specs.declared.walk.Verdict.TheVariants as verdict
-use Rattle.e_transfer.specs.GivenGoals.{PartIs, PartsAre, needs, Suffices, is_at, Gives, IsFitting, IsWideNeed, IsGoodPart, AreGoodParts, diagrams_hold, IsGood, IsWideTransfer}
+use Rattle.e_transfer.specs.GivenGoals.{PartIs, PartsAre, needs_beside, Suffices, is_at, GivesGoal, IsFittingLiteral, IsWideNeed, IsGoodPart, AreGoodParts, all_diagrams_hold, IsGoodTransfer, IsWideTransfer}
 
 -- ---- the literal at a place
 
@@ -62,19 +62,19 @@ at_goal ls place j goal l here at is =
     let e : slice_get ls place ≡ Some l = ap (slice_get ls) (sym is) ∙ at in
     sym (ap (λ o. option_map_or (λ m. same_lit m goal) o false) e) ∙ here
 
-elsewhere : (m : Strength) (facts ls : List Lit) (goal l : Lit) (j : ℕ) → All (Suffices m facts) (needs ls goal) → slice_get ls j ≡ Some l
+elsewhere : (m : Strength) (facts ls : List Lit) (goal l : Lit) (j : ℕ) → All (Suffices m facts) (needs_beside ls goal) → slice_get ls j ≡ Some l
     → (b : Bool) → same_lit l goal ≡ b → (same_lit l goal ≡ true) ⊎ Suffices m facts (negation l)
 elsewhere m facts ls goal l j all at true e = inl e
 elsewhere m facts ls goal l j all at false e = inr (each_negation (Suffices m facts) (λ k. not (same_lit k goal)) ls j l all at (ap not e))
 
 -- each literal of an instance that gives the goal is what it has to be
-fitting_by : (m : Strength) (facts ls : List Lit) (goal l : Lit) (place j : ℕ) → is_at ls place goal ≡ true → All (Suffices m facts) (needs ls goal)
-    → slice_get ls j ≡ Some l → (b : Bool) → eqb j place ≡ b → IsFitting m facts goal b l
+fitting_by : (m : Strength) (facts ls : List Lit) (goal l : Lit) (place j : ℕ) → is_at ls place goal ≡ true → All (Suffices m facts) (needs_beside ls goal)
+    → slice_get ls j ≡ Some l → (b : Bool) → eqb j place ≡ b → IsFittingLiteral m facts goal b l
 fitting_by m facts ls goal l place j here all at true e = at_goal ls place j goal l here at (eqb-true j place e)
 fitting_by m facts ls goal l place j here all at false e = elsewhere m facts ls goal l j all at (same_lit l goal) refl
 
-pub fitting : (m : Strength) (facts ls : List Lit) (goal l : Lit) (place j : ℕ) → is_at ls place goal ≡ true → All (Suffices m facts) (needs ls goal)
-    → slice_get ls j ≡ Some l → IsFitting m facts goal (eqb j place) l
+pub fitting : (m : Strength) (facts ls : List Lit) (goal l : Lit) (place j : ℕ) → is_at ls place goal ≡ true → All (Suffices m facts) (needs_beside ls goal)
+    → slice_get ls j ≡ Some l → IsFittingLiteral m facts goal (eqb j place) l
 fitting m facts ls goal l place j here all at = fitting_by m facts ls goal l place j here all at (eqb j place) refl
 
 -- the literal at a place is one of the instance
@@ -110,10 +110,10 @@ diagram_holds strength.NarrowSums facts l enough = elim enough [
   | inr (follows, narrow) ↦ or_left (is_metric l) (has facts l) follows.is_metric
 ]
 
-pub diagrams_of : (m : Strength) (facts ls : List Lit) → All (Suffices m facts) ls → diagrams_hold facts ls ≡ true
+pub diagrams_of : (m : Strength) (facts ls : List Lit) → All (Suffices m facts) ls → all_diagrams_hold facts ls ≡ true
 diagrams_of m facts [] all = refl
 diagrams_of m facts (l ∷ ls) all =
-    and_from (is_metric l || has facts l) (diagrams_hold facts ls) (diagram_holds m facts l (All-head (Suffices m facts) l ls all))
+    and_from (is_metric l || has facts l) (all_diagrams_hold facts ls) (diagram_holds m facts l (All-head (Suffices m facts) l ls all))
     (diagrams_of m facts ls (All-tail (Suffices m facts) l ls all))
 
 with_diagram : (b : Bool) (facts : List Lit) (l : Lit) (rest : List Lit) → (b || has facts (negation l)) ≡ true → has_all facts (map negation rest) ≡ true
@@ -121,12 +121,12 @@ with_diagram : (b : Bool) (facts : List Lit) (l : Lit) (rest : List Lit) → (b 
 with_diagram true facts l rest holds all = all
 with_diagram false facts l rest holds all = and_from (has facts (negation l)) (has_all facts (map negation rest)) holds all
 
-diagrams_among : (facts ls : List Lit) → diagrams_hold facts (map negation ls) ≡ true
+diagrams_among : (facts ls : List Lit) → all_diagrams_hold facts (map negation ls) ≡ true
     → has_all facts (map negation (filter (λ l. not (is_metric l)) ls)) ≡ true
 diagrams_among facts [] all = refl
 diagrams_among facts (l ∷ ls) all =
     let a = is_metric (negation l) || has facts (negation l) in
-    let b = diagrams_hold facts (map negation ls) in
+    let b = all_diagrams_hold facts (map negation ls) in
     with_diagram (is_metric l) facts l (filter (λ k. not (is_metric k)) ls) (and_left a b all) (diagrams_among facts ls (and_right a b all))
 
 -- ---- a wide need
@@ -141,7 +141,7 @@ negated_at (l ∷ ls) (suc k) need less is =
     (found.0, (suc at.0, (let below = at.1 in omega (arith, below)), at.2), found.2)
 
 pub wide_transfer : (scope : Scope) (facts lits : List Lit) (goal : Lit) (rule w : ℕ) (args : List Obj) → is_transfer rule ≡ true → list_all (is_in_scope scope) args ≡ true
-    → Inst rule args ≡ Some lits → has lits goal ≡ true → diagrams_hold facts (needs lits goal) ≡ true → IsWideNeed facts (needs lits goal) w
+    → Inst rule args ≡ Some lits → has lits goal ≡ true → all_diagrams_hold facts (needs_beside lits goal) ≡ true → IsWideNeed facts (needs_beside lits goal) w
     → IsWideTransfer scope facts goal w
 wide_transfer scope facts lits goal rule w args transfer over instance one hold wide =
     let at = wide.is_one in
@@ -175,7 +175,7 @@ parts_good scope facts (l ∷ ls) (p ∷ ps) good =
     )
 
 pub good_cert : (scope : Scope) (facts lits : List Lit) (goal : Lit) (cert : TransferCert) → is_transfer cert.rule ≡ true → list_all (is_in_scope scope) cert.args ≡ true
-    → Inst cert.rule cert.args ≡ Some lits → has lits goal ≡ true → AreGoodParts scope facts (needs lits goal) cert.parts → IsGood scope facts goal cert
+    → Inst cert.rule cert.args ≡ Some lits → has lits goal ≡ true → AreGoodParts scope facts (needs_beside lits goal) cert.parts → IsGoodTransfer scope facts goal cert
 good_cert scope facts lits goal cert transfer over instance one good =
     let parts = parts_good scope facts (others lits goal) cert.parts good in
     record {
@@ -192,15 +192,15 @@ pub same_lits : (rule : ℕ) (args : List Obj) (a b : List Lit) → Inst rule ar
 same_lits rule args a b h k = same_Some a b (sym h ∙ k)
 
 pub refused_not_one : (m : Strength) (scope : Scope) (facts : List Lit) (goal : Lit) (rule : ℕ) (args : List Obj) (lits : List Lit) → Inst rule args ≡ Some lits
-    → has lits goal ≡ false → (place : ℕ) → Gives m scope facts goal rule place args → ⊥
+    → has lits goal ≡ false → (place : ℕ) → GivesGoal m scope facts goal rule place args → ⊥
 refused_not_one m scope facts goal rule args lits instance not_one place gives =
     true≢false (sym (one_at gives.lits place goal gives.here) ∙ ap (λ ls. has ls goal) (same_lits rule args gives.lits lits gives.instance instance) ∙ not_one)
 
 pub refused_diagram : (m : Strength) (scope : Scope) (facts : List Lit) (goal : Lit) (rule : ℕ) (args : List Obj) (lits : List Lit) → Inst rule args ≡ Some lits
-    → diagrams_hold facts (needs lits goal) ≡ false → (place : ℕ) → Gives m scope facts goal rule place args → ⊥
+    → all_diagrams_hold facts (needs_beside lits goal) ≡ false → (place : ℕ) → GivesGoal m scope facts goal rule place args → ⊥
 refused_diagram m scope facts goal rule args lits instance fails place gives =
-    true≢false (sym (diagrams_of m facts (needs gives.lits goal) gives.suffice)
-    ∙ ap (λ ls. diagrams_hold facts (needs ls goal)) (same_lits rule args gives.lits lits gives.instance instance) ∙ fails)
+    true≢false (sym (diagrams_of m facts (needs_beside gives.lits goal) gives.suffice)
+    ∙ ap (λ ls. all_diagrams_hold facts (needs_beside ls goal)) (same_lits rule args gives.lits lits gives.instance instance) ∙ fails)
 
 -- ---- the needs, literal by literal
 
@@ -212,7 +212,7 @@ filter_joined : (p : Lit → Bool) (xs ys : List Lit) → filter p (xs ++ ys) �
 filter_joined p [] ys = refl
 filter_joined p (x ∷ xs) ys = with_rest (p x) x (filter p xs) (filter p ys) (filter p (xs ++ ys)) (filter_joined p xs ys)
 
-pub needs_joined : (xs ys : List Lit) (goal : Lit) → needs (xs ++ ys) goal ≡ needs xs goal ++ needs ys goal
+pub needs_joined : (xs ys : List Lit) (goal : Lit) → needs_beside (xs ++ ys) goal ≡ needs_beside xs goal ++ needs_beside ys goal
 needs_joined xs ys goal =
     let p = λ (l : Lit). not (same_lit l goal) in
     ap (map negation) (filter_joined p xs ys) ∙ map-append negation (filter p xs) (filter p ys)

@@ -7,7 +7,7 @@ use Rattle.e_literal.specs.declared.object.Term.{Term}
 use Rattle.e_literal.specs.declared.object.Term.TheVariants.{Seg, Ang, Area, Right}
 use Rattle.e_literal.specs.Same.{canonical, term_eq, one_term}
 use Rattle.e_literal.proofs.Booleans.{and_left, and_right}
-use Rattle.e_transfer.specs.inner.Matches.{orders}
+use Rattle.e_transfer.specs.inner.Matches.{term_orders}
 
 -- two numbers that are two others, in some order
 two_of : (a b c d : ℕ) → min a b ≡ min c d → max a b ≡ max c d → (a ≡ c) × (b ≡ d) ⊎ (a ≡ d) × (b ≡ c)
@@ -174,7 +174,7 @@ alike_of a b c d e f h = record {
 
 -- one of the orders is the term, where it is at one of these places
 abbrev among : Term → Term → Bool
-among s t = list_any (λ o. term_eq s o) (orders t)
+among s t = list_any (λ o. term_eq s o) (term_orders t)
 
 area_one : (a b c d e f : ℕ) → (a ≡ d) → (b ≡ e) × (c ≡ f) ⊎ (b ≡ f) × (c ≡ e) → among (Area a b c) (Area d e f) ≡ true
 area_one a b c d e f x (inl (y, z)) = grind (arith, nat_tests, x, y, z)
@@ -197,7 +197,7 @@ angle_one a b c d e f z (inl (x, y)) = grind (arith, nat_tests, x, y, z)
 angle_one a b c d e f z (inr (x, y)) = grind (arith, nat_tests, x, y, z)
 
 -- a term that is one with another is the other in one of its orders
-pub one_order : (s t : Term) → one_term s t ≡ true → list_any (λ o. term_eq s o) (orders t) ≡ true
+pub one_order : (s t : Term) → one_term s t ≡ true → list_any (λ o. term_eq s o) (term_orders t) ≡ true
 one_order (Seg a b) (Seg c d) h = pair_one a b c d (two_of a b c d (eqb-true _ _ (and_left _ _ h)) (eqb-true _ _ (and_right _ _ h)))
 one_order (Ang a b c) (Ang d e f) h =
     angle_one a b c d e f (eqb-true _ _ (and_left _ _ (and_right _ _ h)))

@@ -17,10 +17,10 @@ use Rattle.e_transfer.specs.declared.plan.Plan.{Plan}
 use Rattle.e_transfer.specs.declared.unify.Binding.{Binding}
 use Rattle.e_transfer.specs.declared.unify.Binding.TheVariants as binding
 use Rattle.e_transfer.specs.declared.walk.Span.{Span}
-use Rattle.e_transfer.specs.Choice.{Fits}
-use Rattle.e_transfer.specs.inner.Bindings.{binding_agrees, binding_of, BindingsAgree}
-use Rattle.e_transfer.specs.inner.PartsOfChoices.{sort_of, arguments_from, arguments, ready_at_of}
-use Rattle.e_transfer.specs.inner.Plans.{total_of, RepresentativesAre, OrderIs, PositionsAre, span_for, spans_of, PlanIs}
+use Rattle.e_transfer.specs.Choice.{FitsSpans}
+use Rattle.e_transfer.specs.inner.Bindings.{binding_agrees, binding_at, BindingsAgree}
+use Rattle.e_transfer.specs.inner.PartsOfChoices.{variable_sort, arguments_from, chosen_arguments, ready_at_of}
+use Rattle.e_transfer.specs.inner.Plans.{total_of, RepresentativesAre, OrderIs, PositionsAre, variable_span, plan_spans, IsPlanFor}
 
 -- ---- the arguments, one by one
 
@@ -65,16 +65,16 @@ of_row r args h =
     let last = and_right b (c && d) rest in
     record { many = eqb-true _ _ (and_left a (b && (c && d)) h); front = and_left b (c && d) rest; middle = and_left c d last; back = and_right c d last }
 
-pub sort_of_point : (r : Row) (v : ℕ) → v < r.points → sort_of r v ≡ Point
+pub sort_of_point : (r : Row) (v : ℕ) → v < r.points → variable_sort r v ≡ Point
 sort_of_point r v less = rw (lt-ltb v r.points less) refl
 
-pub sort_of_line : (r : Row) (v : ℕ) → r.points ≤ v → v < r.points + r.lines → sort_of r v ≡ Line
+pub sort_of_line : (r : Row) (v : ℕ) → r.points ≤ v → v < r.points + r.lines → variable_sort r v ≡ Line
 sort_of_line r v over less = rw (le-ltb v r.points over, lt-ltb v (r.points + r.lines) less) refl
 
-pub sort_of_circle : (r : Row) (v : ℕ) → r.points + r.lines ≤ v → sort_of r v ≡ Circle
+pub sort_of_circle : (r : Row) (v : ℕ) → r.points + r.lines ≤ v → variable_sort r v ≡ Circle
 sort_of_circle r v over = let points : r.points ≤ v = omega (arith, over) in rw (le-ltb v r.points points, le-ltb v (r.points + r.lines) over) refl
 
-sort_at : (r : Row) (args : List Obj) (v : ℕ) → AreOfRow r args → v < length args → (get_or args v nothing).sort ≡ sort_of r v
+sort_at : (r : Row) (args : List Obj) (v : ℕ) → AreOfRow r args → v < length args → (get_or args v nothing).sort ≡ variable_sort r v
 sort_at r args v of less = elim (cases_lt v r.points) [
   | inl point ↦ same_sort_is _ Point (at_front (λ o. same_sort o.sort Point) r.points args v of.front point less) ∙ sym (sort_of_point r v point)
   | inr over ↦ elim (cases_lt v (r.points + r.lines)) [
@@ -98,14 +98,14 @@ number_at (o ∷ args) zero less = refl
 number_at (o ∷ args) (suc v) less = number_at args v (omega (arith, less))
 
 pub in_scope_at : (r : Row) (scope : Scope) (args : List Obj) (v : ℕ) → AreOfRow r args → list_all (is_in_scope scope) args ≡ true → v < length args
-    → number args v < count_of scope (sort_of r v)
+    → number args v < count_of scope (variable_sort r v)
 in_scope_at r scope args v of over less =
     let below = ltb-true _ _ (at_any (is_in_scope scope) args v over less) in
-    subst (λ n. n < count_of scope (sort_of r v)) (sym (number_at args v less)) (subst (λ s. (get_or args v nothing).num < count_of scope s) (sort_at r args v of less) below)
+    subst (λ n. n < count_of scope (variable_sort r v)) (sym (number_at args v less)) (subst (λ s. (get_or args v nothing).num < count_of scope s) (sort_at r args v of less) below)
 
 -- ---- the choice of the arguments' numbers in the order of the search
 
-in_span : (count n v : ℕ) (f : ℕ → ℕ) (t : Binding) → f v ≡ n → n < count → binding_agrees f v t ≡ true → ((span_for count t).from ≤ n) × (n < (span_for count t).to)
+in_span : (count n v : ℕ) (f : ℕ → ℕ) (t : Binding) → f v ≡ n → n < count → binding_agrees f v t ≡ true → ((variable_span count t).from ≤ n) × (n < (variable_span count t).to)
 in_span count n v f binding.Free is less agree = (omega arith, less)
 in_span count n v f (binding.As w) is less agree = (omega arith, less)
 in_span count n v f (binding.Is m) is less agree =
@@ -114,12 +114,12 @@ in_span count n v f (binding.Is m) is less agree =
     rw bound (omega (arith, e), omega (arith, e))
 
 fits_spans : (r : Row) (scope : Scope) (bindings : List Binding) (args : List Obj) (order : List ℕ) → AreOfRow r args → list_all (is_in_scope scope) args ≡ true → BindingsAgree (number args) bindings
-    → list_all (λ v. nat_lt v (length args)) order ≡ true → Fits (spans_of r scope bindings order) (map (number args) order)
+    → list_all (λ v. nat_lt v (length args)) order ≡ true → FitsSpans (plan_spans r scope bindings order) (map (number args) order)
 fits_spans r scope bindings args [] of over agree below = tt
 fits_spans r scope bindings args (v ∷ order) of over agree below =
     let rest = list_all (λ u. nat_lt u (length args)) order in
     let less = ltb-true v (length args) (and_left (nat_lt v (length args)) rest below) in
-    let in_it = in_span (count_of scope (sort_of r v)) (number args v) v (number args) (binding_of bindings v) refl (in_scope_at r scope args v of over less) (agree v) in
+    let in_it = in_span (count_of scope (variable_sort r v)) (number args v) v (number args) (binding_at bindings v) refl (in_scope_at r scope args v of over less) (agree v) in
     (in_it.0, in_it.1, fits_spans r scope bindings args order of over agree (and_right (nat_lt v (length args)) rest below))
 
 chosen_at : (f : ℕ → ℕ) (order : List ℕ) (p : ℕ) → p < length order → get_or (map f order) p 0 ≡ f (get_or order p 0)
@@ -129,15 +129,15 @@ chosen_at f (v ∷ order) (suc p) less = chosen_at f order p (omega (arith, less
 
 -- arguments that have the sort and the number of each
 are_arguments : (r : Row) (c : List ℕ) (k : ℕ) (positions : List ℕ) (args : List Obj) → length positions ≡ length args
-    → ((i : ℕ) → i < length args → obj (sort_of r (k + i)) (get_or c (get_or positions i 0) 0) ≡ get_or args i nothing) → arguments_from r c k positions ≡ args
+    → ((i : ℕ) → i < length args → obj (variable_sort r (k + i)) (get_or c (get_or positions i 0) 0) ≡ get_or args i nothing) → arguments_from r c k positions ≡ args
 are_arguments r c k [] [] many each = refl
 are_arguments r c k [] (o ∷ args) many each = absurd (omega (arith, many))
 are_arguments r c k (p ∷ positions) [] many each = absurd (omega (arith, many))
 are_arguments r c k (p ∷ positions) (o ∷ args) many each =
     let first : k + 0 ≡ k = omega arith in
-    let here : obj (sort_of r k) (get_or c p 0) ≡ o = ap (λ n. obj (sort_of r n) (get_or c p 0)) (sym first) ∙ each 0 (omega arith) in
+    let here : obj (variable_sort r k) (get_or c p 0) ≡ o = ap (λ n. obj (variable_sort r n) (get_or c p 0)) (sym first) ∙ each 0 (omega arith) in
     let later = are_arguments r c (k + 1) positions args (omega (arith, many))
-    (λ i less. (let next : k + 1 + i ≡ k + suc i = omega arith in ap (λ n. obj (sort_of r n) (get_or c (get_or positions i 0) 0)) next ∙ each (suc i) (omega (arith, less)))) in
+    (λ i less. (let next : k + 1 + i ≡ k + suc i = omega arith in ap (λ n. obj (variable_sort r n) (get_or c (get_or positions i 0) 0)) next ∙ each (suc i) (omega (arith, less)))) in
     ap (λ x. x ∷ arguments_from r c (k + 1) positions) here ∙ ap (λ xs. o ∷ xs) later
 
 object_is : (o : Obj) (s : Sort) (n : ℕ) → s ≡ o.sort → n ≡ o.num → obj s n ≡ o
@@ -146,10 +146,10 @@ object_is o s n e k = ap (λ x. obj x n) e ∙ ap (λ m. obj o.sort m) k
 abbrev Reaches : Row → Scope → List Binding → List ℕ → List Span → Type 0
 Reaches r scope bindings positions spans =
     (args : List Obj) → IsTrue (fits r args) → IsTrue (list_all (is_in_scope scope) args) → BindingsAgree (number args) bindings
-    → (c : List ℕ) × Fits spans c × (arguments r positions c ≡ args)
+    → (c : List ℕ) × FitsSpans spans c × (chosen_arguments r positions c ≡ args)
 
 reaches : (r : Row) (scope : Scope) (bindings : List Binding) (representatives order positions : List ℕ) → length bindings ≡ total_of r → RepresentativesAre bindings representatives → OrderIs (length bindings) representatives order
-    → PositionsAre representatives order positions → Reaches r scope bindings positions (spans_of r scope bindings order)
+    → PositionsAre representatives order positions → Reaches r scope bindings positions (plan_spans r scope bindings order)
 reaches r scope bindings representatives order positions total are ordered placed args fit over agree =
     let of = of_row r args fit in
     let many : length bindings ≡ length args = total ∙ sym of.many in
@@ -163,7 +163,7 @@ reaches r scope bindings representatives order positions total are ordered place
           let first : 0 + i ≡ i = omega arith in
           let num : get_or c (get_or positions i 0) 0 ≡ (get_or args i nothing).num =
           chosen_at f order (get_or positions i 0) (placed.below i rooted) ∙ ap f (placed.at i rooted) ∙ are.hold f agree i tied ∙ number_at args i less in
-          object_is (get_or args i nothing) (sort_of r (0 + i)) (get_or c (get_or positions i 0) 0) (ap (sort_of r) first ∙ sym (sort_at r args i of less)) num)),
+          object_is (get_or args i nothing) (variable_sort r (0 + i)) (get_or c (get_or positions i 0) 0) (ap (variable_sort r) first ∙ sym (sort_at r args i of less)) num)),
     )
 
 all_below : (n : ℕ) (ps : List ℕ) → ((i : ℕ) → i < length ps → get_or ps i 0 < n) → list_all (λ p. nat_lt p n) ps ≡ true
@@ -172,9 +172,9 @@ all_below n (p ∷ ps) each =
     and_from (nat_lt p n) (list_all (λ q. nat_lt q n) ps) (lt-ltb p n (each 0 (omega arith))) (all_below n ps (λ i less. each (suc i) (omega (arith, less))))
 
 pub plan_is : (r : Row) (scope : Scope) (bindings : List Binding) (representatives order : List ℕ) (plan : Plan) → length bindings ≡ total_of r → RepresentativesAre bindings representatives → OrderIs (length bindings) representatives order
-    → PositionsAre representatives order plan.positions.items → plan.spans.items ≡ spans_of r scope bindings order → plan.ready_at.items ≡ ready_at_of r plan.positions.items → PlanIs r scope bindings plan
+    → PositionsAre representatives order plan.positions.items → plan.spans.items ≡ plan_spans r scope bindings order → plan.ready_at.items ≡ ready_at_of r plan.positions.items → IsPlanFor r scope bindings plan
 plan_is r scope bindings representatives order plan total are ordered placed spans ready_at =
-    let many : length order ≡ length plan.spans.items = sym (ap length spans ∙ length-map order (λ v. span_for (count_of scope (sort_of r v)) (binding_of bindings v))) in
+    let many : length order ≡ length plan.spans.items = sym (ap length spans ∙ length-map order (λ v. variable_span (count_of scope (variable_sort r v)) (binding_at bindings v))) in
     record {
       ready_at = ready_at;
       below = all_below (length plan.spans.items) plan.positions.items (λ i less. subst (λ n. get_or plan.positions.items i 0 < n) many (placed.below i (omega (arith, less, placed.many))));

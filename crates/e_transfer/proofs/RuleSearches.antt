@@ -27,11 +27,11 @@ use Rattle.e_transfer.specs.declared.walk.Span.{Span}
 use Rattle.e_transfer.specs.declared.walk.Verdict.{Verdict}
 use Rattle.e_transfer.specs.declared.walk.Verdict.TheVariants as verdict
 use Rattle.e_transfer.specs.inner.Equations.{all_agree, some_agree}
-use Rattle.e_transfer.specs.Choice.{Fits, NoneWanted}
-use Rattle.e_transfer.specs.inner.Plans.{PlanIs}
+use Rattle.e_transfer.specs.Choice.{FitsSpans, NoneWanted}
+use Rattle.e_transfer.specs.inner.Plans.{IsPlanFor}
 use Rattle.e_transfer.specs.inner.Matches.{Cover}
 use Rattle.e_transfer.specs.inner.Bindings.{BindingsAgree, BindingsAre}
-use Rattle.e_transfer.specs.GivenGoals.{RuleSearchIs, needs, Suffices, Gives, NoneWithBindings, NoneWithEquations, NoneAt, NoneOf, NoneGives, NarrowTransfer}
+use Rattle.e_transfer.specs.GivenGoals.{RuleSearchIs, needs_beside, Suffices, GivesGoal, NoneWithBindings, NoneWithEquations, NoneAt, NoneOf, NoneGives, NarrowTransfer}
 use Rattle.e_transfer.specs.Verdicts.{SearchIs}
 use Rattle.e_transfer.specs.inner.SearchedPlaces.{Wanted, Shown}
 use Rattle.e_transfer.proofs.Instances.{of_instance, at_map}
@@ -39,7 +39,7 @@ use Rattle.e_transfer.proofs.Needs.{some_place, place_below}
 
 -- ---- one search
 
-pub fits_length : (spans : List Span) (c : List ℕ) → Fits spans c → length c ≡ length spans
+pub fits_length : (spans : List Span) (c : List ℕ) → FitsSpans spans c → length c ≡ length spans
 fits_length [] [] fits = refl
 fits_length [] (v ∷ vs) fits = absurd fits
 fits_length (n ∷ ns) [] fits = absurd fits
@@ -47,7 +47,7 @@ fits_length (n ∷ ns) (v ∷ vs) fits = ap (λ k. suc k) (fits_length ns vs fit
 
 -- where no choice is wanted, no instance over the scope with these bindings gives the goal
 pub none_tied : (m : Strength) (scope : Scope) (facts : List Lit) (goal : Lit) (rule place : ℕ) (r : Row) (bindings : List Binding) (plan : Plan) → slice_get table rule ≡ Some r
-    → PlanIs r scope bindings plan → NoneWanted (Wanted m scope facts goal rule place plan) [] plan.spans.items → NoneWithBindings m scope facts goal rule place bindings
+    → IsPlanFor r scope bindings plan → NoneWanted (Wanted m scope facts goal rule place plan) [] plan.spans.items → NoneWithBindings m scope facts goal rule place bindings
 none_tied m scope facts goal rule place r bindings plan at is none args agree gives =
     let of = of_instance rule args r gives.lits at gives.instance in
     let reached = is.reaches args of.0 gives.over agree in
@@ -56,7 +56,7 @@ none_tied m scope facts goal rule place r bindings plan at is none args agree gi
       of_table = at;
       ready_at = is.ready_at;
       below = is.below;
-      gives = subst (λ (os : List Obj). Gives m scope facts goal rule place os) (sym reached.2) gives;
+      gives = subst (λ (os : List Obj). GivesGoal m scope facts goal rule place os) (sym reached.2) gives;
     })
 
 abbrev pub Kept : Type 1
@@ -150,7 +150,7 @@ none_gives m scope facts goal n most none rule transfer =
 -- ---- no instance at all
 
 no_instance : (m : Strength) (scope : Scope) (facts lits : List Lit) (goal : Lit) → NoneGives m scope facts goal → TransferOf scope goal lits
-    → All (Suffices m facts) (needs lits goal) → ⊥
+    → All (Suffices m facts) (needs_beside lits goal) → ⊥
 no_instance m scope facts lits goal none of enough =
     let place = some_place lits goal of.is_one in
     none of.rule of.is_transfer place.0 of.args (record { lits = lits; instance = of.instance; over = of.over_scope; here = place.1; suffice = enough })
@@ -162,7 +162,7 @@ all_facts facts (l ∷ ls) all =
 
 pub not_plain : (scope : Scope) (facts : List Lit) (goal : Lit) → NoneGives strength.Facts scope facts goal → TransferFromFacts scope facts goal → ⊥
 not_plain scope facts goal none transfer =
-    no_instance strength.Facts scope facts transfer.lits goal none transfer.of (all_facts facts (needs transfer.lits goal) transfer.rest)
+    no_instance strength.Facts scope facts transfer.lits goal none transfer.of (all_facts facts (needs_beside transfer.lits goal) transfer.rest)
 
 all_hold : (facts ls : List Lit) → NegationsStand facts ls → All (Suffices strength.Sums facts) (map negation ls)
 all_hold facts [] hold = All-nil (Suffices strength.Sums facts)

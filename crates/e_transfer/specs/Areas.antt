@@ -10,15 +10,15 @@ use Rattle.e_clause.specs.Assignment.{terms_of_lits}
 use Rattle.e_clause.specs.Metric.{MetricConsequence}
 use Rattle.e_clause.specs.declared.pattern.Pattern.{Pattern}
 use Rattle.e_clause.specs.Views.{lit_of}
-use Rattle.e_transfer.specs.Marks.{is_area}
+use Rattle.e_transfer.specs.Marks.{is_area_term}
 
 -- the term, in the one way of writing it, is one of the list
-abbrev pub is_one_of : List Term → Term → Bool
-is_one_of areas t = list_any (λ a. term_eq (canonical t) a) areas
+abbrev pub is_among_areas : List Term → Term → Bool
+is_among_areas areas t = list_any (λ a. term_eq (canonical t) a) areas
 
 -- each area among the terms is listed
 abbrev pub are_listed : List Term → List Term → Bool
-are_listed areas ts = list_all (λ t. not (is_area t) || is_one_of areas t) ts
+are_listed areas ts = list_all (λ t. not (is_area_term t) || is_among_areas areas t) ts
 
 abbrev pub name_areas_of : List Term → List Lit → Bool
 name_areas_of areas facts = are_listed areas (terms_of_lits facts)
@@ -32,8 +32,8 @@ pub record ListsAlso (ts : List Term) (old new : List Term) : Type 0 where
 pub record AreTwoAreas (m n : Mono) (t : Term) : Type 0 where
   pub is : m.term ≡ t
   pub coeff : n.coeff ≡ m.coeff
-  pub first : IsTrue (is_area t)
-  pub second : IsTrue (is_area n.term)
+  pub first : IsTrue (is_area_term t)
+  pub second : IsTrue (is_area_term n.term)
 
 -- each sum is of one such area
 pub record AreOneEach (x y : List Mono) (t : Term) : Type 0 where
@@ -41,19 +41,19 @@ pub record AreOneEach (x y : List Mono) (t : Term) : Type 0 where
   pub other : Term
   pub left : x ≡ record { coeff = coeff; term = t } ∷ []
   pub right : y ≡ record { coeff = coeff; term = other } ∷ []
-  pub first : IsTrue (is_area t)
-  pub second : IsTrue (is_area other)
+  pub first : IsTrue (is_area_term t)
+  pub second : IsTrue (is_area_term other)
 
 -- the pattern says of two areas alone that they are equal
 pub record AreEqualAreas (p : Pattern) (t : Term) : Type 0 where
   pub coeff : ℕ
   pub other : Term
   pub is : lit_of p ≡ record { neg = false; atom = MagEq (record { coeff = coeff; term = t } ∷ []) (record { coeff = coeff; term = other } ∷ []) }
-  pub first : IsTrue (is_area t)
-  pub second : IsTrue (is_area other)
+  pub first : IsTrue (is_area_term t)
+  pub second : IsTrue (is_area_term other)
 
 -- no two areas of which this is the first have to differ by what follows
 abbrev pub IsFree : List Lit → Term → Type 0
 IsFree facts t =
-    (coeff : ℕ) (other : Term) → IsTrue (is_area other)
+    (coeff : ℕ) (other : Term) → IsTrue (is_area_term other)
     → MetricConsequence facts (record { neg = true; atom = MagEq (record { coeff = coeff; term = t } ∷ []) (record { coeff = coeff; term = other } ∷ []) }) → ⊥

@@ -20,7 +20,7 @@ use Rattle.e_clause.specs.Views.{lit_of}
 use Rattle.e_clause.specs.Wide.{IsTransferSystem, HasWidth}
 use Rattle.e_clause.specs.PartCertificate.{part_certifies, part_in}
 use Rattle.e_clause.specs.TransferCertificate.{transfer_certifies, transfer_in}
-use Rattle.e_metric.specs.MetricAnswers.{IsTooWide}
+use Rattle.e_metric.specs.MetricAnswers.{IsTooWideSystem}
 use Rattle.e_clause.specs.declared.cert.Version.TheVariants as version
 use Rattle.e_clause.specs.Versions.{is_part_of}
 use Rattle.e_transfer.specs.declared.equations.Equation.{Equation}
@@ -33,16 +33,16 @@ use Rattle.e_transfer.specs.inner.Equations.{all_agree}
 use Rattle.e_transfer.specs.inner.Bindings.{BindingsAgree}
 
 -- the literal of a pattern, or its negation
-abbrev pub signed : Bool → Pattern → Lit
-signed negated p = (if negated then negation (lit_of p) else lit_of p)
+abbrev pub signed_literal : Bool → Pattern → Lit
+signed_literal negated p = (if negated then negation (lit_of p) else lit_of p)
 
 -- what an instance that has the goal needs: the negations of its other literals
-abbrev pub needs : List Lit → Lit → List Lit
-needs lits goal = map negation (others lits goal)
+abbrev pub needs_beside : List Lit → Lit → List Lit
+needs_beside lits goal = map negation (others lits goal)
 
 -- none of the metric systems of the literal is wide
 abbrev pub IsNarrow : List Lit → Lit → Type 0
-IsNarrow facts l = (w : ℕ) → IsTooWide facts (Some l) w → ⊥
+IsNarrow facts l = (w : ℕ) → IsTooWideSystem facts (Some l) w → ⊥
 
 -- the literal is a fact, or it is metric and follows from the facts by narrow systems
 abbrev pub HoldsNarrowly : List Lit → Lit → Type 0
@@ -59,17 +59,17 @@ abbrev pub is_at : List Lit → ℕ → Lit → Bool
 is_at lits place goal = option_map_or (λ l. same_lit l goal) (slice_get lits place) false
 
 -- the instance at these arguments over the scope has the goal at the place, and gives it
-pub record Gives (m : Strength) (scope : Scope) (facts : List Lit) (goal : Lit) (rule place : ℕ) (args : List Obj) : Type 0 where
+pub record GivesGoal (m : Strength) (scope : Scope) (facts : List Lit) (goal : Lit) (rule place : ℕ) (args : List Obj) : Type 0 where
   pub lits : List Lit
   pub instance : Inst rule args ≡ Some lits
   pub over : IsTrue (list_all (is_in_scope scope) args)
   pub here : IsTrue (is_at lits place goal)
-  pub suffice : All (Suffices m facts) (needs lits goal)
+  pub suffice : All (Suffices m facts) (needs_beside lits goal)
 
 -- what each literal of an instance that gives the goal is: the goal, at its place, and elsewhere the goal or one whose
 -- negation suffices
-abbrev pub IsFitting : Strength → List Lit → Lit → Bool → Lit → Type 0
-IsFitting m facts goal here l = MatchBool here (IsTrue (same_lit l goal)) (IsTrue (same_lit l goal) ⊎ Suffices m facts (negation l))
+abbrev pub IsFittingLiteral : Strength → List Lit → Lit → Bool → Lit → Type 0
+IsFittingLiteral m facts goal here l = MatchBool here (IsTrue (same_lit l goal)) (IsTrue (same_lit l goal) ⊎ Suffices m facts (negation l))
 
 -- ---- why a needed literal holds, or that it does not, or that one of its systems is wide
 
@@ -78,7 +78,7 @@ pub record IsWideNeed (facts ls : List Lit) (w : ℕ) : Type 0 where
   pub need : Lit
   pub is_one : Contains ls need
   pub is_metric : IsTrue (is_metric need)
-  pub too_wide : IsTooWide facts (Some need) w
+  pub too_wide : IsTooWideSystem facts (Some need) w
 
 -- the part certifies the literal, names objects in scope, and literals that are well formed
 pub record IsGoodPart (scope : Scope) (facts : List Lit) (l : Lit) (p : Part) : Type 0 where
@@ -89,7 +89,7 @@ pub record IsGoodPart (scope : Scope) (facts : List Lit) (l : Lit) (p : Part) : 
 abbrev pub PartIs : Strength → Scope → List Lit → Lit → Verdict Part → Type 0
 PartIs m scope facts l (verdict.Yes p) = IsGoodPart scope facts l p
 PartIs m scope facts l verdict.No = Suffices m facts l → ⊥
-PartIs m scope facts l (verdict.TooWide w) = (m ≡ strength.Sums) × IsTrue (is_metric l) × IsTooWide facts (Some l) w
+PartIs m scope facts l (verdict.TooWide w) = (m ≡ strength.Sums) × IsTrue (is_metric l) × IsTooWideSystem facts (Some l) w
 
 -- what is answered on a literal with a wide system: where only narrow ones are searched for, that it does not suffice
 abbrev pub passed_over : Strength → ℕ → Verdict Part
@@ -107,13 +107,13 @@ PartsAre m scope facts ls verdict.No = All (Suffices m facts) ls → ⊥
 PartsAre m scope facts ls (verdict.TooWide w) = (m ≡ strength.Sums) × IsWideNeed facts ls w
 
 -- the diagram literals are facts
-abbrev pub diagrams_hold : List Lit → List Lit → Bool
-diagrams_hold facts ls = list_all (λ l. is_metric l || has facts l) ls
+abbrev pub all_diagrams_hold : List Lit → List Lit → Bool
+all_diagrams_hold facts ls = list_all (λ l. is_metric l || has facts l) ls
 
 -- ---- whether instances give the goal
 
 -- the certificate is good for the goal, and its parts name literals that are well formed
-pub record IsGood (scope : Scope) (facts : List Lit) (goal : Lit) (cert : TransferCert) : Type 0 where
+pub record IsGoodTransfer (scope : Scope) (facts : List Lit) (goal : Lit) (cert : TransferCert) : Type 0 where
   pub over : IsTrue (transfer_in scope cert)
   pub certifies : IsTrue (transfer_certifies facts goal cert)
   pub written : IsTrue (list_all (is_part_of version.One) cert.parts)
@@ -126,8 +126,8 @@ pub record IsWideTransfer (scope : Scope) (facts : List Lit) (goal : Lit) (w : �
 
 -- one instance
 abbrev pub InstanceIs : Strength → Scope → List Lit → Lit → ℕ → List Obj → Verdict TransferCert → Type 0
-InstanceIs m scope facts goal rule args (verdict.Yes cert) = IsGood scope facts goal cert
-InstanceIs m scope facts goal rule args verdict.No = (place : ℕ) → Gives m scope facts goal rule place args → ⊥
+InstanceIs m scope facts goal rule args (verdict.Yes cert) = IsGoodTransfer scope facts goal cert
+InstanceIs m scope facts goal rule args verdict.No = (place : ℕ) → GivesGoal m scope facts goal rule place args → ⊥
 InstanceIs m scope facts goal rule args (verdict.TooWide w) = (m ≡ strength.Sums) × IsWideTransfer scope facts goal w
 
 -- ---- many instances
@@ -135,16 +135,16 @@ InstanceIs m scope facts goal rule args (verdict.TooWide w) = (m ≡ strength.Su
 -- none that has the goal at this place of the clause, with variables bound so, gives it
 abbrev pub NoneWithBindings : Strength → Scope → List Lit → Lit → ℕ → ℕ → List Binding → Type 0
 NoneWithBindings m scope facts goal rule place bindings =
-    (args : List Obj) → BindingsAgree (number args) bindings → Gives m scope facts goal rule place args → ⊥
+    (args : List Obj) → BindingsAgree (number args) bindings → GivesGoal m scope facts goal rule place args → ⊥
 
 -- none that has the goal at this place of the clause, with variables bound so, gives it
 abbrev pub NoneWithEquations : Strength → Scope → List Lit → Lit → ℕ → ℕ → List Equation → Type 0
 NoneWithEquations m scope facts goal rule place equations =
-    (args : List Obj) → IsTrue (all_agree (number args) equations) → Gives m scope facts goal rule place args → ⊥
+    (args : List Obj) → IsTrue (all_agree (number args) equations) → GivesGoal m scope facts goal rule place args → ⊥
 
 -- none that has the goal at this place of the clause gives it
 abbrev pub NoneAt : Strength → Scope → List Lit → Lit → ℕ → ℕ → Type 0
-NoneAt m scope facts goal rule place = (args : List Obj) → Gives m scope facts goal rule place args → ⊥
+NoneAt m scope facts goal rule place = (args : List Obj) → GivesGoal m scope facts goal rule place args → ⊥
 
 -- none of the rule gives it
 abbrev pub NoneOf : Strength → Scope → List Lit → Lit → ℕ → Type 0
@@ -156,7 +156,7 @@ NoneGives m scope facts goal = (rule : ℕ) → IsTrue (is_transfer rule) → No
 
 -- one that gives the goal; or none of those that are searched for, as `None` says; or one that is too wide
 abbrev pub RuleSearchIs : Strength → Scope → List Lit → Lit → Type 0 → Verdict TransferCert → Type 0
-RuleSearchIs m scope facts goal None (verdict.Yes cert) = IsGood scope facts goal cert
+RuleSearchIs m scope facts goal None (verdict.Yes cert) = IsGoodTransfer scope facts goal cert
 RuleSearchIs m scope facts goal None verdict.No = None
 RuleSearchIs m scope facts goal None (verdict.TooWide w) = (m ≡ strength.Sums) × IsWideTransfer scope facts goal w
 
@@ -166,4 +166,4 @@ RuleSearchIs m scope facts goal None (verdict.TooWide w) = (m ≡ strength.Sums)
 pub record NarrowTransfer (scope : Scope) (facts : List Lit) (l : Lit) : Type 0 where
   pub lits : List Lit
   pub of : TransferOf scope l lits
-  pub rest : All (HoldsNarrowly facts) (needs lits l)
+  pub rest : All (HoldsNarrowly facts) (needs_beside lits l)

@@ -12,53 +12,53 @@ use Rattle.e_literal.specs.Rename.{atom_at}
 use Rattle.e_clause.specs.Rows.{Row}
 use Rattle.e_clause.specs.Instance.{clause_of, lit_at}
 use Rattle.e_transfer.specs.declared.query.Strength.{Strength}
-use Rattle.e_transfer.specs.GivenGoals.{IsFitting, Suffices}
+use Rattle.e_transfer.specs.GivenGoals.{IsFittingLiteral, Suffices}
 
 -- the relations, numbered; those of diagrams come first
-abbrev pub relation : Atom → ℕ
-relation (On a b) = 0
-relation (OnC a b) = 1
-relation (Inside a b) = 2
-relation (Center a b) = 3
-relation (Between a b c) = 4
-relation (Same a b c) = 5
-relation (MeetLL a b) = 6
-relation (MeetLC a b) = 7
-relation (MeetCC a b) = 8
-relation (EqP a b) = 9
-relation (EqL a b) = 10
-relation (EqC a b) = 11
-relation (MagEq x y) = 12
-relation (MagLt x y) = 13
+abbrev pub relation_number : Atom → ℕ
+relation_number (On a b) = 0
+relation_number (OnC a b) = 1
+relation_number (Inside a b) = 2
+relation_number (Center a b) = 3
+relation_number (Between a b c) = 4
+relation_number (Same a b c) = 5
+relation_number (MeetLL a b) = 6
+relation_number (MeetLC a b) = 7
+relation_number (MeetCC a b) = 8
+relation_number (EqP a b) = 9
+relation_number (EqL a b) = 10
+relation_number (EqC a b) = 11
+relation_number (MagEq x y) = 12
+relation_number (MagLt x y) = 13
 
 -- two marks for each relation: of it, and of its negation
-abbrev pub mark : ℕ → Bool → ℕ
-mark relation neg = 2 * relation + (if neg then 1 else 0)
+abbrev pub mark_number : ℕ → Bool → ℕ
+mark_number relation_number neg = 2 * relation_number + (if neg then 1 else 0)
 
-abbrev pub mark_of : Lit → ℕ
-mark_of l = mark (relation l.atom) l.neg
+abbrev pub lit_mark : Lit → ℕ
+lit_mark l = mark_number (relation_number l.atom) l.neg
 
 -- there is a mark for the literal's relation and sign
 abbrev pub is_marked : List Bool → Lit → Bool
-is_marked marks l = slice_index_or marks (mark_of l) false
+is_marked marks l = slice_index_or marks (lit_mark l) false
 
 abbrev pub are_marked : List Bool → List Lit → Bool
 are_marked marks facts = list_all (is_marked marks) facts
 
 -- ---- areas
 
-abbrev pub is_area : Term → Bool
-is_area (Area a b c) = true
-is_area _ = false
+abbrev pub is_area_term : Term → Bool
+is_area_term (Area a b c) = true
+is_area_term _ = false
 
-abbrev pub are_areas : List Mono → Bool
-are_areas x = list_all (λ m. is_area m.term) x
+abbrev pub all_are_areas : List Mono → Bool
+all_are_areas x = list_all (λ m. is_area_term m.term) x
 
 -- the atom, or its negation, says that areas differ, or that one is less
-abbrev pub is_strict_of_areas : Bool → Atom → Bool
-is_strict_of_areas true (MagEq x y) = are_areas x && are_areas y
-is_strict_of_areas false (MagLt x y) = are_areas x && are_areas y
-is_strict_of_areas _ _ = false
+abbrev pub is_strict_on_areas : Bool → Atom → Bool
+is_strict_on_areas true (MagEq x y) = all_are_areas x && all_are_areas y
+is_strict_on_areas false (MagLt x y) = all_are_areas x && all_are_areas y
+is_strict_on_areas _ _ = false
 
 -- ---- places of a clause
 
@@ -69,4 +69,4 @@ NoneSuffices m facts l = (p q c : ℕ → ℕ) → Suffices m facts (record { ne
 -- no instance has at this place of the clause the goal, or a literal whose negation suffices
 abbrev pub NoneHolds : Strength → List Lit → Lit → Row → ℕ → Type 0
 NoneHolds m facts goal r at =
-    (l : Lit) → slice_get (clause_of r) at ≡ Some l → (args : List Obj) → IsFitting m facts goal false (lit_at r args l) → ⊥
+    (l : Lit) → slice_get (clause_of r) at ≡ Some l → (args : List Obj) → IsFittingLiteral m facts goal false (lit_at r args l) → ⊥

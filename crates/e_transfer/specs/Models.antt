@@ -12,35 +12,35 @@ use Rattle.e_literal.specs.Truth.{all_hold}
 use Rattle.e_clause.specs.Assignment.{is_within, is_positive_if_apart, terms_of_lits}
 
 -- mostly different numbers; an angle has 1 or 2
-abbrev pub spread_value : Term → ℕ
-spread_value (Seg a b) = 1 + a + 64 * b
-spread_value (Ang a b c) = 1 + (a + b + c) % 2
-spread_value (Area a b c) = 1 + a + 64 * b + 4096 * c
-spread_value Right = 1
+abbrev pub spread_number : Term → ℕ
+spread_number (Seg a b) = 1 + a + 64 * b
+spread_number (Ang a b c) = 1 + (a + b + c) % 2
+spread_number (Area a b c) = 1 + a + 64 * b + 4096 * c
+spread_number Right = 1
 
 -- 1 for each term, or, where they are to be spread, mostly different numbers
-abbrev pub default_value : Filling → Term → ℕ
-default_value Ones t = 1
-default_value Spread t = spread_value t
-default_value Flat t = 1
+abbrev pub filling_value : Filling → Term → ℕ
+filling_value Ones t = 1
+filling_value Spread t = spread_number t
+filling_value Flat t = 1
 
 -- the value that is listed, or else the default one
-abbrev pub listed_value : Filling → List (Term × ℕ) → Term → ℕ
-listed_value filling [] t = default_value filling t
-listed_value filling (p ∷ ps) t = if term_eq t p.0 then p.1 else listed_value filling ps t
+abbrev pub value_in_list : Filling → List (Term × ℕ) → Term → ℕ
+value_in_list filling [] t = filling_value filling t
+value_in_list filling (p ∷ ps) t = if term_eq t p.0 then p.1 else value_in_list filling ps t
 
 -- the term is an area, and all areas are to be 0
-abbrev pub is_flat : Filling → Term → Bool
-is_flat Flat (Area a b c) = true
-is_flat _ _ = false
+abbrev pub is_flattened : Filling → Term → Bool
+is_flattened Flat (Area a b c) = true
+is_flattened _ _ = false
 
 -- the value of a term that is written the one way
-abbrev pub canonical_value : Filling → List (Term × ℕ) → Term → ℕ
-canonical_value filling values t = if is_flat filling t then 0 else listed_value filling values t
+abbrev pub value_when_canonical : Filling → List (Term × ℕ) → Term → ℕ
+value_when_canonical filling values t = if is_flattened filling t then 0 else value_in_list filling values t
 
 -- the same in whatever order the points of the term are written, and 0 for a segment x x and a flat area
 abbrev pub value_by : Filling → List (Term × ℕ) → Term → ℕ
-value_by filling values t = carried (canonical_value filling values) t
+value_by filling values t = carried (value_when_canonical filling values) t
 
 -- what the value of a term of a step has to be
 abbrev pub fits_term : List Lit → (Term → ℕ) → Term → Bool

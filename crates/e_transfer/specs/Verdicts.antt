@@ -3,7 +3,7 @@ use Rattle.std.specs.Prelude.{◌≡◌, ℕ, List, ◌++◌}
 use Rattle.e_transfer.specs.declared.walk.Span.{Span}
 use Rattle.e_transfer.specs.declared.walk.Verdict.{Verdict}
 use Rattle.e_transfer.specs.declared.walk.Verdict.TheVariants as verdict
-use Rattle.e_transfer.specs.Choice.{Fits, Starts, EachKept, NoneWanted, NoneBelow}
+use Rattle.e_transfer.specs.Choice.{FitsSpans, Starts, EachKept, NoneWanted, NoneBelow}
 
 -- the part is kept, or no choice that begins with it is wanted, or something there is too wide
 abbrev pub VerdictIs :
@@ -16,7 +16,7 @@ VerdictIs kept shown wide wanted part (verdict.TooWide w) = wide part w
 abbrev pub SearchIs :
     {P : Type 0} → (List ℕ → Type 0) → (List ℕ → P → Type 0) → (List ℕ → ℕ → Type 0) → (List ℕ → Type 0) → List Span → List ℕ → List ℕ → Verdict P → Type 0
 SearchIs kept shown wide wanted spans before after (verdict.Yes p) =
-    (c : List ℕ) × Fits spans c × EachKept kept before c × (after ≡ before ++ c) × shown after p × NoneBelow wanted before spans c
+    (c : List ℕ) × FitsSpans spans c × EachKept kept before c × (after ≡ before ++ c) × shown after p × NoneBelow wanted before spans c
 SearchIs kept shown wide wanted spans before after verdict.No = (after ≡ before) × NoneWanted wanted before spans
 SearchIs kept shown wide wanted spans before after (verdict.TooWide w) =
     (c : List ℕ) × Starts spans c × (after ≡ before ++ c) × wide after w × NoneBelow wanted before spans c

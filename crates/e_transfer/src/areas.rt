@@ -1,4 +1,5 @@
-// Areas that no fact names: such an area may be of any size, so that it differs from another does not follow.
+//! Areas that no fact names: such an area may be of any size, so that it differs from another does
+//! not follow.
 
 ghost use Rattle.std.specs.Prelude.{◌≡◌, [], ◌∷◌, IfOk, OnOk, IsTrue, MatchOption, map};
 ghost use Rattle.e_clause.specs.Assignment.{terms_of_atom};
@@ -31,7 +32,8 @@ fn add_sum(areas: &mut Vec<Term>, sum: &[Mono]) -> Result<(), AllocError>
 }
 
 fn add_areas(areas: &mut Vec<Term>, fact: &Lit) -> Result<(), AllocError>
-    ensures { OnOk result (ListsAlso (terms_of_atom fact.now.atom) areas.old.items areas.new.items) }
+    ensures { OnOk result
+        (ListsAlso (terms_of_atom fact.now.atom) areas.old.items areas.new.items) }
 {
     if let Atom::MagEq(x, y) | Atom::MagLt(x, y) = &fact.atom {
         add_sum(areas, x.items())?;
@@ -53,7 +55,7 @@ pub fn areas_of(alloc: Global, facts: &Facts) -> Result<Vec<Term>, AllocError>
 
 /// Whether the term is one of these.
 pub fn is_one_of(areas: &[Term], term: Term) -> bool
-    ensures { result ≡ Areas.is_one_of areas.now term }
+    ensures { result ≡ Areas.is_among_areas areas.now term }
 {
     let term = canonical(term);
     areas.iter().any(|area| term == *area)

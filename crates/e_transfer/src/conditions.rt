@@ -1,6 +1,8 @@
-// The conditions of a search, as tests.
+//! The conditions of a search, as tests.
 
 ghost use Rattle.std.specs.Prelude.{◌≡◌};
+ghost use Rattle.std.specs.List.{list_all};
+ghost use Rattle.e_literal.specs.Literal.{all_in_scope};
 ghost use Rattle.e_clause.specs.Judged;
 
 use e_facts::Facts;
@@ -8,27 +10,28 @@ use e_literal::{Lit, Scope, in_scope};
 use e_metric::{are_few_facts, is_well_formed};
 
 /// Whether the literal is in scope and well formed.
-pub fn is_good_literal(scope: Scope, lit: &Lit) -> bool
+pub fn is_good(scope: Scope, lit: &Lit) -> bool
     ensures { result ≡ Judged.is_good scope lit.now }
 {
     in_scope(lit, scope) && is_well_formed(lit)
 }
 
-/// Whether each fact is in scope and well formed.
-fn are_good(scope: Scope, facts: &Facts) -> bool
-    ensures { result ≡ Judged.are_good scope facts.now }
+/// Whether the facts are in scope and well formed, and their terms are few.
+#[tactic(auto, using(crate::proofs::GoodFacts::good_parts))]
+pub fn are_good_facts(scope: Scope, facts: &Facts) -> bool
+    ensures { result ≡ Judged.are_good_facts scope facts.now }
+{
+    are_in_scope(scope, facts) && are_few_facts(facts)
+}
+
+/// Whether each fact is in scope.
+fn are_in_scope(scope: Scope, facts: &Facts) -> bool
+    ensures { result ≡ list_all (all_in_scope scope) facts.now }
 {
     for i in 0..facts.len() {
-        if !is_good_literal(scope, facts.get(i)) {
+        if !in_scope(facts.get(i), scope) {
             return false;
         }
     }
     true
-}
-
-/// Whether the facts are in scope and well formed, and their terms are few.
-pub fn are_good_facts(scope: Scope, facts: &Facts) -> bool
-    ensures { result ≡ Judged.are_good_facts scope facts.now }
-{
-    are_good(scope, facts) && are_few_facts(facts)
 }

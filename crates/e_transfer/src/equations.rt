@@ -1,4 +1,4 @@
-// What a goal says of the variables of a rule.
+//! What a goal says of the variables of a rule.
 
 ghost use Rattle.std.specs.Prelude.{◌≡◌, ◌+◌, ◌∷◌, [], IfOk};
 ghost use Rattle.e_clause.specs.Views.{atom_of, row_of};
@@ -9,7 +9,8 @@ use e_clause::{Row, Shape};
 use e_literal::{Atom, Items, Term};
 use std::alloc::{AllocError, Global};
 
-/// What is known of one variable, or of two. Variables are named by their places among the rule's arguments.
+/// What is known of one variable, or of two. Variables are named by their places among the rule's
+/// arguments.
 #[derive(Clone, Copy, PartialEq, Eq)]
 pub enum Equation {
     /// The variable represents the object with this number.
@@ -55,13 +56,13 @@ fn point(at: u16, number: u16) -> Equation
 }
 
 fn line(row: &Row, at: u16, number: u16) -> Equation
-    ensures { result ≡ bound.Is (Equations.line (row_of row.now) at) number }
+    ensures { result ≡ bound.Is (Equations.line_variable (row_of row.now) at) number }
 {
     Equation::Is(row.points as usize + at as usize, number)
 }
 
 fn circle(row: &Row, at: u16, number: u16) -> Equation
-    ensures { result ≡ bound.Is (Equations.circle (row_of row.now) at) number }
+    ensures { result ≡ bound.Is (Equations.circle_variable (row_of row.now) at) number }
 {
     Equation::Is(
         row.points as usize + row.lines as usize + at as usize,
@@ -69,14 +70,16 @@ fn circle(row: &Row, at: u16, number: u16) -> Equation
     )
 }
 
-/// What a diagram atom says of the variables of a shape, or none where they are of different relations.
+/// What a diagram atom says of the variables of a shape, or none where they are of different
+/// relations.
 pub fn equations_of_atom(
     alloc: Global,
     row: &Row,
     shape: &Shape,
     goal: &Atom,
 ) -> Result<Option<Items<Equation>>, AllocError>
-    ensures { IfOk result (λ o. o ≡ Equations.equations_of_atom (row_of row.now) (atom_of shape.now) goal.now) }
+    ensures { IfOk result
+        (λ o. o ≡ Equations.equations_from_atom (row_of row.now) (atom_of shape.now) goal.now) }
 {
     let equations = match (shape, goal) {
         (Shape::On(x, l), Atom::On(a, b)) => two(alloc, point(*x, *a), line(row, *l, *b)),
@@ -106,13 +109,14 @@ pub fn equations_of_atom(
     Ok(Some(equations?))
 }
 
-/// What a term of points says of the variables of a term, place by place, or none where they are of different kinds.
+/// What a term of points says of the variables of a term, place by place, or none where they are of
+/// different kinds.
 pub fn equations_of_term(
     alloc: Global,
     term: Term,
     goal: Term,
 ) -> Result<Option<Items<Equation>>, AllocError>
-    ensures { IfOk result (λ o. o ≡ Equations.equations_of_term term goal) }
+    ensures { IfOk result (λ o. o ≡ Equations.equations_from_term term goal) }
 {
     let equations = match (term, goal) {
         (Term::Seg(x, y), Term::Seg(a, b)) => two(alloc, point(x, a), point(y, b))?,
@@ -131,14 +135,14 @@ fn same(x: u16, y: u16) -> Equation
     Equation::Same(x as usize, y as usize)
 }
 
-/// What it says of the variables of two terms that they are one, place by place, or none where they are of different
-/// kinds.
+/// What it says of the variables of two terms that they are one, place by place, or none where they
+/// are of different kinds.
 pub fn equations_of_terms(
     alloc: Global,
     term: Term,
     other: Term,
 ) -> Result<Option<Items<Equation>>, AllocError>
-    ensures { IfOk result (λ o. o ≡ Equations.equations_of_terms term other) }
+    ensures { IfOk result (λ o. o ≡ Equations.equations_from_terms term other) }
 {
     let equations = match (term, other) {
         (Term::Seg(x, y), Term::Seg(a, b)) => two(alloc, same(x, a), same(y, b))?,

@@ -1,4 +1,4 @@
-// Whether a literal is a transfer consequence.
+//! Whether a literal is a transfer consequence.
 
 ghost use Rattle.std.specs.Prelude.{IfOk, IsTrue, IsFalse};
 ghost use Rattle.e_literal.specs.Facts.{has};
@@ -28,15 +28,17 @@ pub enum Found {
     Yes(TransferCert),
     /// No instance over the scope gives it.
     No,
-    /// It cannot be decided: a metric literal that an instance needs has a system that is too wide, of this width.
+    /// It cannot be decided: a metric literal that an instance needs has a system that is too wide,
+    /// of this width.
     TooWide(u128),
 }
 
 /// Whether one instance of a transfer clause over the scope gives the goal, and why.
 ///
-/// `Yes` with a certificate that is good for the goal; `No` where no instance gives it. `TooWide` where neither facts
-/// alone give it, nor metric literals that follow from the facts by narrow systems, and an instance whose diagram
-/// literals hold needs a metric literal with a wide system, of this width. It fails only out of memory.
+/// `Yes` with a certificate that is good for the goal; `No` where no instance gives it. `TooWide`
+/// where neither facts alone give it, nor metric literals that follow from the facts by narrow
+/// systems, and an instance whose diagram literals hold needs a metric literal with a wide system,
+/// of this width. It fails only out of memory.
 pub fn find(alloc: Global, scope: Scope, facts: &Facts, goal: &Lit) -> Result<Found, AllocError>
     requires facts { IsTrue (are_good_facts scope facts.now) }
     requires goal { IsTrue (is_good scope goal.now) }
@@ -106,9 +108,9 @@ pub fn find_by_sums(
     found
 }
 
-/// The same, where what many searches need is made of the facts. Values with which all metric facts are true, if there are
-/// any, show of most metric literals that they do not follow. What facts alone give is found by the way; only where a
-/// system is wide they are searched alone.
+/// The same, where what many searches need is made of the facts. Values with which all metric facts
+/// are true, if there are any, show of most metric literals that they do not follow. What facts
+/// alone give is found by the way; only where a system is wide they are searched alone.
 pub fn find_prepared<'a>(
     alloc: Global,
     scope: Scope,
@@ -145,7 +147,8 @@ pub fn find_prepared<'a>(
     }
 }
 
-/// The same, where a literal that an instance needs has a wide system, of this width: facts alone may give the goal.
+/// The same, where a literal that an instance needs has a wide system, of this width: facts alone
+/// may give the goal.
 fn find_where_wide(alloc: Global, query: &Query, width: u128) -> Result<Found, AllocError>
     requires wide { IsWideTransfer query.now.scope query.now.facts.now query.now.goal.now width }
     requires goal { IsTrue (is_good query.now.scope query.now.goal.now) }
@@ -158,9 +161,11 @@ fn find_where_wide(alloc: Global, query: &Query, width: u128) -> Result<Found, A
     }
 }
 
-/// The same, where a literal that an instance needs has a wide system, of this width: those are passed over.
+/// The same, where a literal that an instance needs has a wide system, of this width: those are
+/// passed over.
 fn find_narrow(alloc: Global, query: &Query, width: u128) -> Result<Found, AllocError>
-    requires not_plain { ¬ TransferFromFacts query.now.scope query.now.facts.now query.now.goal.now }
+    requires not_plain { ¬ TransferFromFacts query.now.scope query.now.facts.now
+        query.now.goal.now }
     requires wide { IsWideTransfer query.now.scope query.now.facts.now query.now.goal.now width }
     ensures { IfOk result (IsFound query.now.scope query.now.facts.now query.now.goal.now) }
 {

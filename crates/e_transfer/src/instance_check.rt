@@ -1,4 +1,4 @@
-// Whether one instance gives the goal, and why.
+//! Whether one instance gives the goal, and why.
 
 ghost use Rattle.std.specs.Prelude.{◌≡◌, ◌++◌, ◌∷◌, [], IfOk, OnOk, IsTrue, Some, true};
 ghost use Rattle.std.specs.List.{list_all};
@@ -13,17 +13,17 @@ ghost use Rattle.e_transfer.specs.GivenGoals;
 ghost use Rattle.e_transfer.specs.GivenGoals.{PartIs, PartsAre, InstanceIs, passed_over};
 
 use crate::models::{Filling, refutes};
-use crate::plan::count_of;
 use crate::query::{Query, Strength};
 use crate::walk::Verdict;
 use e_clause::{InstanceFault, Part, Rule, TransferCert, instance};
 use e_facts::Facts;
-use e_literal::{Items, Lit, Obj, Scope, kind, negate, same};
+use e_literal::{Items, Lit, Obj, Scope, count, kind, negate, same};
 use e_metric::{Metric, follows};
 use std::alloc::{AllocError, Global};
 use std::mem;
 
-/// What is answered on a literal that has a wide system: where only narrow ones are searched for it is passed over.
+/// What is answered on a literal that has a wide system: where only narrow ones are searched for it
+/// is passed over.
 fn too_wide(strength: Strength, width: u128) -> Verdict<Part>
     ensures { result ≡ passed_over strength width }
 {
@@ -54,7 +54,8 @@ fn answer(alloc: Global, query: &Query, need: &Lit) -> Result<Metric, AllocError
     }
 }
 
-/// Why a needed literal holds, or that it does not, or that one of its systems is too wide. A fact holds by itself.
+/// Why a needed literal holds, or that it does not, or that one of its systems is too wide. A fact
+/// holds by itself.
 fn part_of(alloc: Global, query: &Query, need: &Lit) -> Result<Verdict<Part>, AllocError>
     requires well_formed { IsTrue (is_well_formed need.now) }
     requires in_scope { IsTrue (all_in_scope query.now.scope need.now) }
@@ -76,11 +77,13 @@ fn part_of(alloc: Global, query: &Query, need: &Lit) -> Result<Verdict<Part>, Al
     }
 }
 
-/// Why each of the needed literals holds, or that one does not, or that a system of one is too wide.
+/// Why each of the needed literals holds, or that one does not, or that a system of one is too
+/// wide.
 fn parts_of(alloc: Global, query: &Query, needs: &[Lit]) -> Result<Verdict<Items<Part>>, AllocError>
     requires well_formed { IsTrue (list_all is_well_formed needs.now) }
     requires in_scope { IsTrue (list_all (all_in_scope query.now.scope) needs.now) }
-    ensures { IfOk result (PartsAre query.now.strength query.now.scope query.now.facts.now needs.now) }
+    ensures { IfOk result
+        (PartsAre query.now.strength query.now.scope query.now.facts.now needs.now) }
 {
     let mut parts = Items::empty(alloc);
     for need in needs {
@@ -95,7 +98,7 @@ fn parts_of(alloc: Global, query: &Query, needs: &[Lit]) -> Result<Verdict<Items
 
 /// Whether the diagram literals are facts.
 fn diagrams_hold(facts: &Facts, needs: &[Lit]) -> bool
-    ensures { result ≡ GivenGoals.diagrams_hold facts.now needs.now }
+    ensures { result ≡ GivenGoals.all_diagrams_hold facts.now needs.now }
 {
     needs
         .iter()
@@ -104,7 +107,8 @@ fn diagrams_hold(facts: &Facts, needs: &[Lit]) -> bool
 
 /// Adds the negation of a literal that is not the goal.
 fn add_need(needs: &mut Vec<Lit>, lit: Lit, goal: &Lit) -> Result<(), AllocError>
-    ensures { OnOk result (needs.new.items ≡ needs.old.items ++ GivenGoals.needs (lit ∷ []) goal.now) }
+    ensures { OnOk result
+        (needs.new.items ≡ needs.old.items ++ GivenGoals.needs_beside (lit ∷ []) goal.now) }
 {
     if !same(&lit, goal) {
         needs.push(negate(lit))?;
@@ -116,7 +120,7 @@ fn add_need(needs: &mut Vec<Lit>, lit: Lit, goal: &Lit) -> Result<(), AllocError
 
 /// The negations of the literals that are not the goal.
 fn needs_of(alloc: Global, lits: Vec<Lit>, goal: &Lit) -> Result<Vec<Lit>, AllocError>
-    ensures { IfOk result (λ v. v.items ≡ GivenGoals.needs lits.items goal.now) }
+    ensures { IfOk result (λ v. v.items ≡ GivenGoals.needs_beside lits.items goal.now) }
 {
     let mut needs = Vec::new(alloc);
     for lit in lits {
@@ -135,11 +139,11 @@ fn has_goal(lits: &[Lit], goal: &Lit) -> bool
 fn are_in_scope(scope: Scope, objects: &[Obj]) -> bool
     ensures { result ≡ list_all (is_in_scope scope) objects.now }
 {
-    objects.iter().all(|o| o.num < count_of(scope, o.sort))
+    objects.iter().all(|o| o.num < count(scope, o.sort))
 }
 
-/// Whether the instance at these arguments gives the goal. Metric questions are asked only where all diagram literals
-/// hold.
+/// Whether the instance at these arguments gives the goal. Metric questions are asked only where
+/// all diagram literals hold.
 pub fn check_instance(
     alloc: Global,
     query: &Query,
@@ -147,7 +151,8 @@ pub fn check_instance(
     args: Items<Obj>,
 ) -> Result<Verdict<TransferCert>, AllocError>
     requires { IsTrue (is_transfer rule) }
-    ensures { IfOk result (InstanceIs query.now.strength query.now.scope query.now.facts.now query.now.goal.now rule args) }
+    ensures { IfOk result (InstanceIs query.now.strength query.now.scope query.now.facts.now
+        query.now.goal.now rule args) }
 {
     if !are_in_scope(query.scope, args.items()) {
         return Ok(Verdict::No);

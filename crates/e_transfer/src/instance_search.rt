@@ -1,16 +1,16 @@
-// The search at one place of a clause.
+//! The search at one place of a clause.
 
 ghost use Rattle.std.specs.Prelude.{◌≡◌, ◌<◌, List, length, slice_get, true, false, slice_index, IfOk, IsTrue, Some};
 ghost use Rattle.e_clause.specs.RuleKinds.{is_transfer};
 ghost use Rattle.e_clause.specs.Table.{table};
 ghost use Rattle.e_clause.specs.Views.{row_of};
 ghost use Rattle.e_clause.specs.Instance.{clause_of};
-ghost use Rattle.e_transfer.specs.GivenGoals.{IsFitting, IsWideTransfer, Suffices};
+ghost use Rattle.e_transfer.specs.GivenGoals.{IsFittingLiteral, IsWideTransfer, Suffices};
 ghost use Rattle.e_transfer.specs.declared.query.Strength.TheVariants as strength;
 ghost use Rattle.e_literal.specs.Rename.{term_at};
 ghost use Rattle.e_clause.specs.Instance;
 ghost use Rattle.e_transfer.specs.Areas;
-ghost use Rattle.e_transfer.specs.Marks.{is_area};
+ghost use Rattle.e_transfer.specs.Marks.{is_area_term};
 ghost use Rattle.e_transfer.specs.inner.PartsOfChoices;
 ghost use Rattle.e_transfer.specs.inner.SearchedPlaces.{Wanted, NoneFrom, Shown};
 
@@ -26,14 +26,16 @@ use e_literal::{Items, Lit, Obj, Term, is_degenerate, kind, negate, same};
 use std::alloc::{AllocError, Global};
 use std::mem;
 
-/// The instances of a transfer clause that have the goal at one place, with the variables chosen by a plan.
+/// The instances of a transfer clause that have the goal at one place, with the variables chosen by
+/// a plan.
 #[derive(Drop)]
 pub struct InstanceSearch<'a> {
     pub query: Query<'a>,
     pub rule: Rule,
     pub place: usize,
     pub plan: &'a Plan,
-    /// Where the clause says of two areas alone that they are equal, if it does. That is a matter of speed alone.
+    /// Where the clause says of two areas alone that they are equal, if it does. That is a matter
+    /// of speed alone.
     pub areas: Option<usize>,
     ghost transfer: { IsTrue (is_transfer rule) },
 }
@@ -59,7 +61,8 @@ fn arguments(
     positions: &[usize],
     part: &[u16],
 ) -> Result<Items<Obj>, AllocError>
-    ensures { IfOk result (λ a. a ≡ PartsOfChoices.arguments (row_of row.now) positions.now part.now) }
+    ensures { IfOk result
+        (λ a. a ≡ PartsOfChoices.chosen_arguments (row_of row.now) positions.now part.now) }
 {
     let mut args = Vec::with_capacity(alloc, positions.len())?;
     for v in 0..positions.len() {
@@ -86,7 +89,8 @@ fn is_last(place: usize, length: usize) -> bool
     place < length && place == length - 1
 }
 
-/// Whether what an instance needs may hold: a fact, or a metric literal that is not seen to be false beside true facts.
+/// Whether what an instance needs may hold: a fact, or a metric literal that is not seen to be
+/// false beside true facts.
 fn may_suffice(query: &Query, need: &Lit) -> bool
     ensures { result ≡ false → Suffices query.now.strength query.now.facts.now need.now → ⊥ }
 {
@@ -96,10 +100,11 @@ fn may_suffice(query: &Query, need: &Lit) -> bool
     !is_refuted(query, need)
 }
 
-/// Whether a literal of an instance may be what it has to be: at the goal's place the goal, elsewhere the goal or one whose
-/// negation may hold.
+/// Whether a literal of an instance may be what it has to be: at the goal's place the goal,
+/// elsewhere the goal or one whose negation may hold.
 fn may_hold(query: &Query, here: bool, lit: Lit) -> bool
-    ensures { result ≡ false → IsFitting query.now.strength query.now.facts.now query.now.goal.now here lit → ⊥ }
+    ensures { result ≡ false
+        → IsFittingLiteral query.now.strength query.now.facts.now query.now.goal.now here lit → ⊥ }
 {
     if same(&lit, query.goal) {
         mem::drop(lit);
@@ -141,10 +146,10 @@ fn area_at(args: &[Obj], area: Term) -> Term
     }
 }
 
-/// Whether no need holds that says that the area differs from another: there are values with which all facts are true,
-/// and no fact names the area.
+/// Whether no need holds that says that the area differs from another: there are values with which
+/// all facts are true, and no fact names the area.
 fn is_free(query: &Query, area: Term) -> bool
-    requires { IsTrue (is_area area) }
+    requires { IsTrue (is_area_term area) }
     ensures { result ≡ true → Areas.IsFree query.now.facts.now area }
 {
     if is_degenerate(area) || is_one_of(query.areas, area) {
@@ -154,12 +159,16 @@ fn is_free(query: &Query, area: Term) -> bool
 }
 
 impl<'a> InstanceSearch<'a> {
-    /// Whether the last number of the part completes the first of two areas that the clause says to be equal at this
-    /// place, and the area is free: then the two do not differ, whatever the other is.
+    /// Whether the last number of the part completes the first of two areas that the clause says to
+    /// be equal at this place, and the area is free: then the two do not differ, whatever the other
+    /// is.
     fn has_free_area(&self, row: &Row, part: &[u16], args: &[Obj], at: usize) -> bool
         requires of_table { slice_get table self.now.rule ≡ Some (row_of row.now) }
-        requires arguments { args.now ≡ PartsOfChoices.arguments (row_of row.now) self.now.plan.now.positions.items part.now }
-        ensures { result ≡ true → NoneFrom self.now.query.strength self.now.query.scope self.now.query.facts.now self.now.query.goal.now self.now.rule self.now.place self.now.plan.now part.now }
+        requires arguments { args.now ≡ PartsOfChoices.chosen_arguments (row_of row.now)
+            self.now.plan.now.positions.items part.now }
+        ensures { result ≡ true
+            → NoneFrom self.now.query.strength self.now.query.scope self.now.query.facts.now
+            self.now.query.goal.now self.now.rule self.now.place self.now.plan.now part.now }
     {
         if at >= clause_len(row) || at == self.place || is_equation(self.query.goal) {
             return false;
@@ -174,7 +183,8 @@ impl<'a> InstanceSearch<'a> {
         is_free(&self.query, area_at(args, area))
     }
 
-    /// Whether the last number of the part completes the literal at a place of the clause, and the literal is excluded.
+    /// Whether the last number of the part completes the literal at a place of the clause, and the
+    /// literal is excluded.
     fn is_excluded(
         &self,
         alloc: Global,
@@ -184,9 +194,12 @@ impl<'a> InstanceSearch<'a> {
         j: usize,
     ) -> Result<bool, AllocError>
         requires of_table { slice_get table self.now.rule ≡ Some (row_of row.now) }
-        requires arguments { args.now ≡ PartsOfChoices.arguments (row_of row.now) self.now.plan.now.positions.items part.now }
+        requires arguments { args.now ≡ PartsOfChoices.chosen_arguments (row_of row.now)
+            self.now.plan.now.positions.items part.now }
         requires in_clause { j < length (clause_of (row_of row.now)) }
-        ensures { IfOk result (λ b. b ≡ true → NoneFrom self.now.query.strength self.now.query.scope self.now.query.facts.now self.now.query.goal.now self.now.rule self.now.place self.now.plan.now part.now) }
+        ensures { IfOk result (λ b. b ≡ true
+            → NoneFrom self.now.query.strength self.now.query.scope self.now.query.facts.now
+            self.now.query.goal.now self.now.rule self.now.place self.now.plan.now part.now) }
     {
         if !is_completed(&self.plan.ready_at, j, part.len()) {
             return Ok(false);
@@ -204,8 +217,11 @@ impl<'a> InstanceSearch<'a> {
         args: &[Obj],
     ) -> Result<bool, AllocError>
         requires of_table { slice_get table self.now.rule ≡ Some (row_of row.now) }
-        requires arguments { args.now ≡ PartsOfChoices.arguments (row_of row.now) self.now.plan.now.positions.items part.now }
-        ensures { IfOk result (λ b. b ≡ false → NoneFrom self.now.query.strength self.now.query.scope self.now.query.facts.now self.now.query.goal.now self.now.rule self.now.place self.now.plan.now part.now) }
+        requires arguments { args.now ≡ PartsOfChoices.chosen_arguments (row_of row.now)
+            self.now.plan.now.positions.items part.now }
+        ensures { IfOk result (λ b. b ≡ false
+            → NoneFrom self.now.query.strength self.now.query.scope self.now.query.facts.now
+            self.now.query.goal.now self.now.rule self.now.place self.now.plan.now part.now) }
     {
         for j in 0..clause_len(row) {
             if self.is_excluded(alloc, row, part, args, j)? {
@@ -219,13 +235,16 @@ impl<'a> InstanceSearch<'a> {
 impl<'a> Task for InstanceSearch<'a> {
     type Proof = Option<TransferCert>;
 
-    ghost wanted = { λ s c. Wanted s.query.strength s.query.scope s.query.facts.now s.query.goal.now s.rule s.place s.plan.now c };
+    ghost wanted = { λ s c. Wanted s.query.strength s.query.scope s.query.facts.now s.query.goal.now
+        s.rule s.place s.plan.now c };
 
     ghost kept = { λ s part. Unit {0} };
 
-    ghost shown = { λ s part p. Shown s.query.scope s.query.facts.now s.query.goal.now (length s.plan.now.spans.items) part p };
+    ghost shown = { λ s part p. Shown s.query.scope s.query.facts.now s.query.goal.now
+        (length s.plan.now.spans.items) part p };
 
-    ghost wide = { λ s part w. (s.query.strength ≡ strength.Sums) × IsWideTransfer s.query.scope s.query.facts.now s.query.goal.now w };
+    ghost wide = { λ s part w. (s.query.strength ≡ strength.Sums)
+        × IsWideTransfer s.query.scope s.query.facts.now s.query.goal.now w };
 
     fn check(
         &self,

@@ -1,8 +1,10 @@
-//! Transfer consequence: whether one instance of a transfer clause, between diagrams and magnitudes, gives a literal
-//! from the facts of a step, and why; complete over all instances of a scope.
+//! Transfer consequence: whether one instance of a transfer clause, between diagrams and
+//! magnitudes, gives a literal from the facts of a step, and why; complete over all instances of a
+//! scope.
 //!
-//! A literal is searched for at each place of each clause. What it says of the variables binds them, and the others are
-//! chosen one by one: a choice is given up at the first literal of the clause that cannot hold.
+//! A literal is searched for at each place of each clause. What it says of the variables binds
+//! them, and the others are chosen one by one: a choice is given up at the first literal of the
+//! clause that cannot hold.
 #![tactic(auto)]
 
 mod areas;
@@ -23,7 +25,7 @@ mod rule_search;
 mod unify;
 mod walk;
 
-pub use conditions::{are_good_facts, is_good_literal};
+pub use conditions::{are_good_facts, is_good};
 pub use finding::{Found, find, find_by_facts, find_prepared};
 pub use prepared::{Prepared, prepare};
 pub use walk::{Span, Task, Verdict, search};

@@ -1,12 +1,12 @@
-// Which relations occur among the facts, and with which sign: what an instance needs of another relation or sign is no
-// fact.
+//! Which relations occur among the facts, and with which sign: what an instance needs of another
+//! relation or sign is no fact.
 
 ghost use Rattle.std.specs.Prelude.{◌≡◌, ◌≢◌, ◌<◌, length, slice_get, IsTrue, Some, true, false};
 ghost use Rattle.e_literal.specs.Literal.{negation};
 ghost use Rattle.e_clause.specs.Instance.{clause_of};
 ghost use Rattle.e_clause.specs.Table.{table};
 ghost use Rattle.e_clause.specs.Views.{atom_of, row_of};
-ghost use Rattle.e_transfer.specs.GivenGoals.{signed, NoneAt};
+ghost use Rattle.e_transfer.specs.GivenGoals.{signed_literal, NoneAt};
 ghost use Rattle.e_transfer.specs.Marks;
 ghost use Rattle.e_transfer.specs.Marks.{are_marked, NoneHolds};
 
@@ -24,7 +24,7 @@ pub const MARKS: usize = 28;
 
 /// The number of the atom's relation.
 fn relation(atom: &Atom) -> usize
-    ensures is { result ≡ Marks.relation atom.now }
+    ensures is { result ≡ Marks.relation_number atom.now }
     ensures below { result < 14 }
 {
     match atom {
@@ -47,7 +47,7 @@ fn relation(atom: &Atom) -> usize
 
 /// The number of the relation of an atom over variables.
 fn relation_of(shape: &Shape) -> usize
-    ensures is { result ≡ Marks.relation (atom_of shape.now) }
+    ensures is { result ≡ Marks.relation_number (atom_of shape.now) }
     ensures below { result < 14 }
 {
     match shape {
@@ -71,7 +71,7 @@ fn relation_of(shape: &Shape) -> usize
 /// The mark of a relation, or of its negation.
 fn mark(relation: usize, neg: bool) -> usize
     requires { relation < 14 }
-    ensures is { result ≡ Marks.mark relation neg }
+    ensures is { result ≡ Marks.mark_number relation neg }
     ensures below { result < 28 }
 {
     if neg { 2 * relation + 1 } else { 2 * relation }
@@ -79,7 +79,7 @@ fn mark(relation: usize, neg: bool) -> usize
 
 /// The mark of the literal's relation and sign.
 fn mark_of(lit: &Lit) -> usize
-    ensures is { result ≡ Marks.mark_of lit.now }
+    ensures is { result ≡ Marks.lit_mark lit.now }
     ensures below { result < 28 }
 {
     mark(relation(&lit.atom), lit.neg)
@@ -87,7 +87,7 @@ fn mark_of(lit: &Lit) -> usize
 
 /// Whether the literal says that two sums are equal.
 pub fn is_equation(lit: &Lit) -> bool
-    ensures { result ≡ false → Marks.mark_of lit.now ≢ Marks.mark 12 false }
+    ensures { result ≡ false → Marks.lit_mark lit.now ≢ Marks.mark_number 12 false }
 {
     mark_of(lit) == 24
 }
@@ -105,20 +105,21 @@ pub fn marks_of(facts: &Facts) -> [bool; MARKS]
 
 /// Whether the term is an area.
 pub fn is_area(term: Term) -> bool
-    ensures { result ≡ Marks.is_area term }
+    ensures { result ≡ Marks.is_area_term term }
 {
     matches!(term, Term::Area(_, _, _))
 }
 
 fn are_areas(sum: &[Mono]) -> bool
-    ensures { result ≡ Marks.are_areas sum.now }
+    ensures { result ≡ Marks.all_are_areas sum.now }
 {
     sum.iter().all(|m| is_area(m.term))
 }
 
-/// Whether the literal says that areas differ, or that one is less: it is false where all areas are 0.
+/// Whether the literal says that areas differ, or that one is less: it is false where all areas are
+/// 0.
 fn is_strict_of_areas(neg: bool, shape: &Shape) -> bool
-    ensures { result ≡ Marks.is_strict_of_areas neg (atom_of shape.now) }
+    ensures { result ≡ Marks.is_strict_on_areas neg (atom_of shape.now) }
 {
     match (neg, shape) {
         (true, Shape::MagEq(x, y)) | (false, Shape::MagLt(x, y)) => are_areas(x) && are_areas(y),
@@ -128,7 +129,8 @@ fn is_strict_of_areas(neg: bool, shape: &Shape) -> bool
 
 /// The atom of a pattern, or of its negation, and its sign.
 fn parts(pattern: &Pattern, negated: bool) -> (Shape, bool)
-    ensures { signed negated pattern.now ≡ record { neg = result.1; atom = atom_of result.0 } }
+    ensures { signed_literal negated pattern.now
+        ≡ record { neg = result.1; atom = atom_of result.0 } }
 {
     match pattern {
         Pattern::Is(shape) => (*shape, negated),
@@ -136,10 +138,12 @@ fn parts(pattern: &Pattern, negated: bool) -> (Shape, bool)
     }
 }
 
-/// The same, where a metric literal may also follow from the facts: it does not where it says that areas differ, or that
-/// one is less, and there are values with which the facts are true and all areas are 0.
+/// The same, where a metric literal may also follow from the facts: it does not where it says that
+/// areas differ, or that one is less, and there are values with which the facts are true and all
+/// areas are 0.
 fn may_follow(query: &Query, neg: bool, shape: &Shape) -> bool
-    ensures { result ≡ false → Marks.NoneSuffices query.now.strength query.now.facts.now (record { neg = neg; atom = atom_of shape.now }) }
+    ensures { result ≡ false → Marks.NoneSuffices query.now.strength query.now.facts.now
+        (record { neg = neg; atom = atom_of shape.now }) }
 {
     let relation = relation_of(shape);
     if relation < OF_DIAGRAMS {
@@ -153,7 +157,8 @@ fn may_follow(query: &Query, neg: bool, shape: &Shape) -> bool
 
 /// Whether a literal of this relation and sign may hold.
 fn may_suffice(query: &Query, neg: bool, shape: &Shape) -> bool
-    ensures { result ≡ false → Marks.NoneSuffices query.now.strength query.now.facts.now (record { neg = neg; atom = atom_of shape.now }) }
+    ensures { result ≡ false → Marks.NoneSuffices query.now.strength query.now.facts.now
+        (record { neg = neg; atom = atom_of shape.now }) }
 {
     match query.strength {
         Strength::Facts => query.marks[mark(relation_of(shape), neg)],
@@ -161,10 +166,12 @@ fn may_suffice(query: &Query, neg: bool, shape: &Shape) -> bool
     }
 }
 
-/// Whether an instance may have at this place of the clause the goal, or a literal whose negation holds.
+/// Whether an instance may have at this place of the clause the goal, or a literal whose negation
+/// holds.
 fn may_hold(query: &Query, row: &Row, at: usize) -> bool
     requires { at < length (clause_of (row_of row.now)) }
-    ensures { result ≡ false → NoneHolds query.now.strength query.now.facts.now query.now.goal.now (row_of row.now) at }
+    ensures { result ≡ false
+        → NoneHolds query.now.strength query.now.facts.now query.now.goal.now (row_of row.now) at }
 {
     let (pattern, negated) = pattern_at(row, at);
     let (shape, neg) = parts(&pattern, negated);
@@ -174,7 +181,8 @@ fn may_hold(query: &Query, row: &Row, at: usize) -> bool
 /// Whether the place is the goal's, or the literal there may hold.
 fn may_be(query: &Query, row: &Row, place: usize, at: usize) -> bool
     requires { at < length (clause_of (row_of row.now)) }
-    ensures { result ≡ false → (at ≢ place) × NoneHolds query.now.strength query.now.facts.now query.now.goal.now (row_of row.now) at }
+    ensures { result ≡ false → (at ≢ place)
+        × NoneHolds query.now.strength query.now.facts.now query.now.goal.now (row_of row.now) at }
 {
     at == place || may_hold(query, row, at)
 }
@@ -182,7 +190,8 @@ fn may_be(query: &Query, row: &Row, place: usize, at: usize) -> bool
 /// Whether each literal of the clause but the one at this place may hold.
 pub fn may_all_hold(query: &Query, rule: Rule, row: &Row, place: usize) -> bool
     requires { slice_get table rule ≡ Some (row_of row.now) }
-    ensures { result ≡ false → NoneAt query.now.strength query.now.scope query.now.facts.now query.now.goal.now rule place }
+    ensures { result ≡ false → NoneAt query.now.strength query.now.scope query.now.facts.now
+        query.now.goal.now rule place }
 {
     for at in 0..clause_len(row) {
         if !may_be(query, row, place, at) {

@@ -1,4 +1,4 @@
-// How a goal may match a place of a clause, and what it says of the variables then.
+//! How a goal may match a place of a clause, and what it says of the variables then.
 
 ghost use Rattle.std.specs.Prelude.{◌≡◌, ◌⊎◌, ◌++◌, map, if◌then◌else◌, option_to_list, IfOk, OnOk, IsTrue, [], ◌∷◌};
 ghost use Rattle.e_literal.specs.Literal.{negation};
@@ -17,7 +17,7 @@ pub type MatchList = Vec<Items<Equation>>;
 
 /// The orders in which a term may be written.
 fn orders(alloc: Global, term: Term) -> Result<Vec<Term>, AllocError>
-    ensures { IfOk result (λ v. v.items ≡ Matches.orders term) }
+    ensures { IfOk result (λ v. v.items ≡ Matches.term_orders term) }
 {
     match term {
         Term::Seg(a, b) => Vec::from_slice(alloc, &[Term::Seg(a, b), Term::Seg(b, a)]),
@@ -88,7 +88,8 @@ fn add_cancellations(
     term: Term,
     other: Term,
 ) -> Result<(), AllocError>
-    ensures { OnOk result (matches.new.items ≡ matches.old.items ++ cancellations_of_terms term other) }
+    ensures { OnOk result
+        (matches.new.items ≡ matches.old.items ++ cancellations_of_terms term other) }
 {
     for order in &orders(alloc, other)? {
         add_some(matches, equations_of_terms(alloc, term, *order)?)?;
@@ -98,7 +99,7 @@ fn add_cancellations(
 
 /// The ways in which two sums may cancel: the first term of the one is a term of the other.
 fn cancellations(alloc: Global, x: &[Mono], y: &[Mono]) -> Result<MatchList, AllocError>
-    ensures { IfOk result (λ v. v.items ≡ Matches.cancellations x.now y.now) }
+    ensures { IfOk result (λ v. v.items ≡ Matches.cancelling_matches x.now y.now) }
 {
     match x {
         [first, ..] if first.coeff != 0 => cancellations_with(alloc, first.term, y),
@@ -142,7 +143,7 @@ fn joined(
 
 /// Each match of the first with each of the second.
 fn product(alloc: Global, first: &MatchList, second: &MatchList) -> Result<MatchList, AllocError>
-    ensures { IfOk result (λ v. v.items ≡ Matches.product first.now.items second.now.items) }
+    ensures { IfOk result (λ v. v.items ≡ Matches.match_product first.now.items second.now.items) }
 {
     let mut matches = Vec::new(alloc);
     for a in first {
@@ -158,7 +159,8 @@ fn add_each(
     first: &[Equation],
     second: &MatchList,
 ) -> Result<(), AllocError>
-    ensures { OnOk result (matches.new.items ≡ matches.old.items ++ map (λ b. first.now ++ b) second.now.items) }
+    ensures { OnOk result
+        (matches.new.items ≡ matches.old.items ++ map (λ b. first.now ++ b) second.now.items) }
 {
     for b in second {
         matches.push(joined(alloc, first, b.items())?)?;
@@ -188,8 +190,10 @@ fn coefficient(sum: &[Mono], term: Term) -> u128
 
 /// Adds terms of a sum that do not cancel in x - y, each once, until there are two.
 fn add_left(terms: &mut Vec<Term>, sum: &[Mono], x: &[Mono], y: &[Mono]) -> Result<(), AllocError>
-    ensures hold { OnOk result (IsTrue (none_cancels x.now y.now terms.old.items) → IsTrue (none_cancels x.now y.now terms.new.items)) }
-    ensures empty { OnOk result (terms.new.items ≡ [] → (terms.old.items ≡ []) × IsTrue (all_cancel x.now y.now sum.now)) }
+    ensures hold { OnOk result (IsTrue (none_cancels x.now y.now terms.old.items)
+        → IsTrue (none_cancels x.now y.now terms.new.items)) }
+    ensures empty { OnOk result (terms.new.items ≡ [] → (terms.old.items ≡ [])
+        × IsTrue (all_cancel x.now y.now sum.now)) }
 {
     for m in sum {
         if coefficient(x, m.term) != coefficient(y, m.term) {
@@ -201,7 +205,8 @@ fn add_left(terms: &mut Vec<Term>, sum: &[Mono], x: &[Mono], y: &[Mono]) -> Resu
 
 /// Adds a term, unless two are there, or one that is this term.
 fn add_once(terms: &mut Vec<Term>, term: Term) -> Result<(), AllocError>
-    ensures cases { OnOk result ((terms.new.items ≡ terms.old.items ++ term ∷ []) ⊎ ((terms.new.items ≡ terms.old.items) × ¬ (terms.old.items ≡ []))) }
+    ensures cases { OnOk result ((terms.new.items ≡ terms.old.items ++ term ∷ [])
+        ⊎ ((terms.new.items ≡ terms.old.items) × ¬ (terms.old.items ≡ []))) }
 {
     if terms.len() < 2 && !terms.iter().any(|t| is_one_term(*t, term)) {
         terms.push(term)?;
@@ -212,7 +217,8 @@ fn add_once(terms: &mut Vec<Term>, term: Term) -> Result<(), AllocError>
 /// Terms of x - y that do not cancel, no two of them one term: all of them, or two.
 fn left(alloc: Global, x: &[Mono], y: &[Mono]) -> Result<Vec<Term>, AllocError>
     ensures hold { IfOk result (λ v. IsTrue (none_cancels x.now y.now v.items)) }
-    ensures empty { IfOk result (λ v. v.items ≡ [] → IsTrue (all_cancel x.now y.now x.now) × IsTrue (all_cancel x.now y.now y.now)) }
+    ensures empty { IfOk result (λ v. v.items ≡ [] → IsTrue (all_cancel x.now y.now x.now)
+        × IsTrue (all_cancel x.now y.now y.now)) }
 {
     let mut terms = Vec::new(alloc);
     add_left(&mut terms, x, x, y)?;
@@ -271,7 +277,8 @@ pub fn matches(
     negated: bool,
     goal: &Lit,
 ) -> Result<MatchList, AllocError>
-    ensures { IfOk result (λ v. Cover (row_of row.now) (if negated then negation (lit_of pattern.now) else lit_of pattern.now) goal.now v.items) }
+    ensures { IfOk result (λ v. Cover (row_of row.now)
+        (if negated then negation (lit_of pattern.now) else lit_of pattern.now) goal.now v.items) }
 {
     let (neg, shape) = match pattern {
         Pattern::Is(shape) => (negated, shape),

@@ -1,7 +1,7 @@
-// Values of all terms, with which a metric literal that does not follow is mostly seen to be false, at no great cost.
+//! Values of all terms, with which a metric literal that does not follow is mostly seen to be
+//! false, at no great cost.
 
 ghost use Rattle.std.specs.Prelude.{◌≡◌, map, IfSome, IsTrue, true, false};
-ghost use Rattle.e_literal.specs.Facts.{are_apart};
 ghost use Rattle.e_literal.specs.Truth.{holds, all_hold, value_of};
 ghost use Rattle.e_clause.specs.Assignment.{terms_of_atom, terms_of_lits};
 ghost use Rattle.e_clause.specs.Metric.{MetricConsequence};
@@ -10,6 +10,7 @@ ghost use Rattle.e_transfer.specs.Models.{value_by, fits_term, fits_terms, is_mo
 
 use e_facts::Facts;
 use e_literal::{Atom, Lit, Mono, Term, canonical, is_degenerate};
+use e_metric::are_apart;
 
 /// Which values the terms have that no list gives.
 #[derive(Clone, Copy)]
@@ -24,7 +25,7 @@ pub enum Filling {
 
 /// What a term has that is not listed.
 fn default_value(filling: Filling, term: Term) -> u128
-    ensures { result ≡ Models.default_value filling term }
+    ensures { result ≡ Models.filling_value filling term }
 {
     match filling {
         Filling::Ones | Filling::Flat => 1,
@@ -33,7 +34,7 @@ fn default_value(filling: Filling, term: Term) -> u128
 }
 
 fn spread_value(term: Term) -> u128
-    ensures { result ≡ Models.spread_value term }
+    ensures { result ≡ Models.spread_number term }
 {
     match term {
         Term::Seg(a, b) => 1 + u128::from(a) + 64 * u128::from(b),
@@ -45,7 +46,7 @@ fn spread_value(term: Term) -> u128
 
 /// The value that is listed, or else the default one.
 fn listed_value(filling: Filling, values: &[(Term, u128)], term: Term) -> u128
-    ensures { result ≡ Models.listed_value filling values.now term }
+    ensures { result ≡ Models.value_in_list filling values.now term }
 {
     match values {
         [] => default_value(filling, term),
@@ -61,14 +62,14 @@ fn listed_value(filling: Filling, values: &[(Term, u128)], term: Term) -> u128
 
 /// Whether the term is an area, and all areas are to be 0.
 fn is_flat(filling: Filling, term: Term) -> bool
-    ensures { result ≡ Models.is_flat filling term }
+    ensures { result ≡ Models.is_flattened filling term }
 {
     matches!((filling, term), (Filling::Flat, Term::Area(_, _, _)))
 }
 
 /// The value of a term that is written the one way.
 fn canonical_value(filling: Filling, values: &[(Term, u128)], term: Term) -> u128
-    ensures { result ≡ Models.canonical_value filling values.now term }
+    ensures { result ≡ Models.value_when_canonical filling values.now term }
 {
     if is_flat(filling, term) {
         0
@@ -141,27 +142,12 @@ fn is_false(filling: Filling, values: &[(Term, u128)], lit: &Lit) -> bool
     }
 }
 
-/// Whether the facts say that the points differ.
-fn apart(facts: &Facts, a: u16, b: u16) -> bool
-    ensures { result ≡ are_apart facts.now a b }
-{
-    let first = Lit {
-        neg: true,
-        atom: Atom::EqP(a, b),
-    };
-    let second = Lit {
-        neg: true,
-        atom: Atom::EqP(b, a),
-    };
-    facts.has(&first) || facts.has(&second)
-}
-
 /// Whether a term of a step may have its value.
 fn may_have(facts: &Facts, filling: Filling, values: &[(Term, u128)], term: Term) -> bool
     ensures { result ≡ true → IsTrue (fits_term facts.now (value_by filling values.now) term) }
 {
     match term {
-        Term::Seg(a, b) => value(filling, values, term) >= 1 || !apart(facts, a, b),
+        Term::Seg(a, b) => value(filling, values, term) >= 1 || !are_apart(facts, a, b),
         Term::Ang(_, _, _) => match value(filling, values, Term::Right).checked_mul(2) {
             Some(most) => value(filling, values, term) <= most,
             None => false,
@@ -172,7 +158,8 @@ fn may_have(facts: &Facts, filling: Filling, values: &[(Term, u128)], term: Term
 }
 
 fn all_may_have(facts: &Facts, filling: Filling, values: &[(Term, u128)], sum: &[Mono]) -> bool
-    ensures { result ≡ true → IsTrue (fits_terms facts.now (value_by filling values.now) (map (λ m. m.term) sum.now)) }
+    ensures { result ≡ true
+        → IsTrue (fits_terms facts.now (value_by filling values.now) (map (λ m. m.term) sum.now)) }
 {
     match sum {
         [] => true,
@@ -184,7 +171,8 @@ fn all_may_have(facts: &Facts, filling: Filling, values: &[(Term, u128)], sum: &
 
 /// Whether the terms of a literal may have their values.
 fn literal_fits(facts: &Facts, filling: Filling, values: &[(Term, u128)], lit: &Lit) -> bool
-    ensures { result ≡ true → IsTrue (fits_terms facts.now (value_by filling values.now) (terms_of_atom lit.now.atom)) }
+    ensures { result ≡ true
+        → IsTrue (fits_terms facts.now (value_by filling values.now) (terms_of_atom lit.now.atom)) }
 {
     match &lit.atom {
         Atom::MagEq(x, y) | Atom::MagLt(x, y) => {
@@ -197,14 +185,16 @@ fn literal_fits(facts: &Facts, filling: Filling, values: &[(Term, u128)], lit: &
 
 /// Whether a fact is true, and its terms may have their values.
 fn fact_fits(facts: &Facts, filling: Filling, values: &[(Term, u128)], fact: &Lit) -> bool
-    ensures terms { result ≡ true → IsTrue (fits_terms facts.now (value_by filling values.now) (terms_of_atom fact.now.atom)) }
+    ensures terms { result ≡ true → IsTrue
+        (fits_terms facts.now (value_by filling values.now) (terms_of_atom fact.now.atom)) }
     ensures holds { result ≡ true → IsTrue (holds (value_by filling values.now) fact.now) }
 {
     is_true(filling, values, fact) && literal_fits(facts, filling, values, fact)
 }
 
 fn facts_fit(facts: &Facts, filling: Filling, values: &[(Term, u128)]) -> bool
-    ensures terms { result ≡ true → IsTrue (fits_terms facts.now (value_by filling values.now) (terms_of_lits facts.now)) }
+    ensures terms { result ≡ true
+        → IsTrue (fits_terms facts.now (value_by filling values.now) (terms_of_lits facts.now)) }
     ensures hold { result ≡ true → IsTrue (all_hold (value_by filling values.now) facts.now) }
 {
     for i in 0..facts.len() {

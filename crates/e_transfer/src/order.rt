@@ -1,6 +1,10 @@
-// The order in which the variables of a transfer clause are best chosen. It is a matter of speed alone.
+//! The order in which the variables of a transfer clause are best chosen. It is a matter of speed
+//! alone.
 
-/// The variables of each transfer clause, in the order of the table: each early where the facts then bind it.
+ghost use Rattle.std.specs.Prelude.{◌<◌};
+
+/// The variables of each transfer clause, in the order of the table: each early where the facts
+/// then bind it.
 static ORDERS: [&'static [u8]; 29] = [
     &[0, 1],
     &[0, 1],
@@ -33,10 +37,9 @@ static ORDERS: [&'static [u8]; 29] = [
     &[0, 1, 3, 4, 2, 5],
 ];
 
-/// The order for the transfer clause at this place.
-pub fn order(at: u8) -> &'static [u8] {
-    match ORDERS.get(at as usize) {
-        Some(order) => order,
-        None => &[],
-    }
+/// The order for the transfer clause at this place of the table.
+pub fn order(at: u8) -> &'static [u8]
+    requires { at < 29 }
+{
+    ORDERS[at as usize]
 }

@@ -1,20 +1,19 @@
-// In which order the variables of a rule are chosen, and from which numbers.
+//! In which order the variables of a rule are chosen, and from which numbers.
 
 ghost use Rattle.std.specs.Prelude.{◌≡◌, ◌<◌, ◌++◌, map, ◌==◌, IfOk, OnOk, IsTrue, length, slice_index, nat_lt};
 ghost use Rattle.std.specs.List.{list_all};
-ghost use Rattle.e_literal.specs.Literal;
 ghost use Rattle.e_clause.specs.Views.{atom_of, lit_of, row_of};
 ghost use Rattle.e_transfer.specs.inner.Equations;
 ghost use Rattle.e_transfer.specs.inner.PartsOfChoices;
-ghost use Rattle.e_transfer.specs.inner.PartsOfChoices.{last_of_sum, last_of_term, last_of_atom};
+ghost use Rattle.e_transfer.specs.inner.PartsOfChoices.{sum_last, term_last, atom_last};
 ghost use Rattle.e_transfer.specs.inner.Bindings;
 ghost use Rattle.e_transfer.specs.inner.Plans;
-ghost use Rattle.e_transfer.specs.inner.Plans.{total_of, has, Grows, RepresentativesAre, OrderIs, PositionsAre, PlanIs};
+ghost use Rattle.e_transfer.specs.inner.Plans.{total_of, has_variable, Grows, RepresentativesAre, OrderIs, PositionsAre, IsPlanFor};
 
 use crate::unify::{Binding, binding_of, representative};
 use crate::walk::Span;
 use e_clause::{Pattern, Row, Shape};
-use e_literal::{Mono, Scope, Sort, Term};
+use e_literal::{Mono, Scope, Sort, Term, count};
 use std::alloc::{AllocError, Global};
 
 /// The order of a search.
@@ -43,7 +42,7 @@ fn representatives_of(alloc: Global, bindings: &[Binding]) -> Result<Vec<usize>,
 fn add_once(order: &mut Vec<usize>, total: usize, variable: usize) -> Result<(), AllocError>
     requires { variable < total }
     ensures grows { OnOk result (Grows total order.old.items order.new.items) }
-    ensures there { OnOk result (IsTrue (has order.new.items variable)) }
+    ensures there { OnOk result (IsTrue (has_variable order.new.items variable)) }
 {
     if !order.contains(&variable) {
         order.push(variable)?;
@@ -82,7 +81,8 @@ fn add_preferred(
     Ok(())
 }
 
-/// The variables that represent all: those with a known number, then the preferred ones in their order, then the rest.
+/// The variables that represent all: those with a known number, then the preferred ones in their
+/// order, then the rest.
 fn order_of(
     alloc: Global,
     bindings: &[Binding],
@@ -95,24 +95,22 @@ fn order_of(
     let mut order = Vec::new(alloc);
     add_bound(&mut order, bindings)?;
     add_preferred(&mut order, representatives, bindings.len(), preferred)?;
-    for v in 0..representatives.len() {
-        add_once(&mut order, bindings.len(), representatives[v])?;
+    for representative in representatives {
+        add_once(&mut order, bindings.len(), *representative)?;
     }
     Ok(order)
 }
 
 /// The place of a variable in the order.
 fn position_in(order: &[usize], variable: usize) -> usize
-    requires { IsTrue (has order.now variable) }
+    requires { IsTrue (has_variable order.now variable) }
     ensures below { result < length order.now }
     ensures at { slice_index order.now result ≡ variable }
 {
-    for i in 0..order.len() {
-        if order[i] == variable {
-            return i;
-        }
+    match order.iter().position(|v| *v == variable) {
+        Some(position) => position,
+        None => unreachable!(),
     }
-    unreachable!()
 }
 
 fn positions_of(
@@ -125,15 +123,15 @@ fn positions_of(
     ensures { IfOk result (λ v. PositionsAre representatives.now order.now v.items) }
 {
     let mut positions = Vec::new(alloc);
-    for i in 0..representatives.len() {
-        positions.push(position_in(order, representatives[i]))?;
+    for representative in representatives {
+        positions.push(position_in(order, *representative))?;
     }
     Ok(positions)
 }
 
 /// The sort of a variable: points come first, then lines, then circles.
 pub fn sort_of(row: &Row, variable: usize) -> Sort
-    ensures { result ≡ PartsOfChoices.sort_of (row_of row.now) variable }
+    ensures { result ≡ PartsOfChoices.variable_sort (row_of row.now) variable }
 {
     let points = row.points as usize;
     let lines = row.lines as usize;
@@ -146,20 +144,9 @@ pub fn sort_of(row: &Row, variable: usize) -> Sort
     }
 }
 
-/// How many objects of a sort are in scope.
-pub fn count_of(scope: Scope, sort: Sort) -> u16
-    ensures { result ≡ Literal.count_of scope sort }
-{
-    match sort {
-        Sort::Point => scope.points,
-        Sort::Line => scope.lines,
-        Sort::Circle => scope.circles,
-    }
-}
-
 /// The numbers for a variable: the known one, if an object has it, or those of all objects.
 fn span_for(count: u16, binding: Binding) -> Span
-    ensures { result ≡ Plans.span_for count binding }
+    ensures { result ≡ Plans.variable_span count binding }
 {
     match binding {
         Binding::Is(number) if number < count => Span {
@@ -178,11 +165,12 @@ fn spans_of(
     bindings: &[Binding],
     order: &[usize],
 ) -> Result<Vec<Span>, AllocError>
-    ensures { IfOk result (λ v. v.items ≡ Plans.spans_of (row_of row.now) scope bindings.now order.now) }
+    ensures { IfOk result
+        (λ v. v.items ≡ Plans.plan_spans (row_of row.now) scope bindings.now order.now) }
 {
     let mut spans = Vec::new(alloc);
     for v in order {
-        let count = count_of(scope, sort_of(row, *v));
+        let count = count(scope, sort_of(row, *v));
         spans.push(span_for(count, binding_of(bindings, *v)))?;
     }
     Ok(spans)
@@ -205,13 +193,13 @@ fn point(positions: &[usize], at: u16) -> usize
 }
 
 fn line(row: &Row, positions: &[usize], at: u16) -> usize
-    ensures { result ≡ slice_index positions.now (Equations.line (row_of row.now) at) }
+    ensures { result ≡ slice_index positions.now (Equations.line_variable (row_of row.now) at) }
 {
     place(positions, row.points as usize + at as usize)
 }
 
 fn circle(row: &Row, positions: &[usize], at: u16) -> usize
-    ensures { result ≡ slice_index positions.now (Equations.circle (row_of row.now) at) }
+    ensures { result ≡ slice_index positions.now (Equations.circle_variable (row_of row.now) at) }
 {
     place(
         positions,
@@ -221,7 +209,7 @@ fn circle(row: &Row, positions: &[usize], at: u16) -> usize
 
 /// The last of the places of a term's variables.
 pub fn last_of_term(positions: &[usize], term: Term) -> usize
-    ensures { result ≡ PartsOfChoices.last_of_term positions.now term }
+    ensures { result ≡ PartsOfChoices.term_last positions.now term }
 {
     match term {
         Term::Seg(x, y) => point(positions, x).max(point(positions, y)),
@@ -233,7 +221,7 @@ pub fn last_of_term(positions: &[usize], term: Term) -> usize
 }
 
 fn last_of_sum(positions: &[usize], sum: &[Mono]) -> usize
-    ensures { result ≡ PartsOfChoices.last_of_sum positions.now sum.now }
+    ensures { result ≡ PartsOfChoices.sum_last positions.now sum.now }
 {
     match sum {
         [] => 0,
@@ -243,7 +231,7 @@ fn last_of_sum(positions: &[usize], sum: &[Mono]) -> usize
 
 /// The last of the places of a shape's variables.
 fn last_of_shape(row: &Row, positions: &[usize], shape: &Shape) -> usize
-    ensures { result ≡ last_of_atom (row_of row.now) positions.now (atom_of shape.now) }
+    ensures { result ≡ atom_last (row_of row.now) positions.now (atom_of shape.now) }
 {
     match shape {
         Shape::On(x, l) => point(positions, *x).max(line(row, positions, *l)),
@@ -271,7 +259,7 @@ fn last_of_shape(row: &Row, positions: &[usize], shape: &Shape) -> usize
 }
 
 fn last_of_pattern(row: &Row, positions: &[usize], pattern: &Pattern) -> usize
-    ensures { result ≡ last_of_atom (row_of row.now) positions.now (lit_of pattern.now).atom }
+    ensures { result ≡ atom_last (row_of row.now) positions.now (lit_of pattern.now).atom }
 {
     match pattern {
         Pattern::Is(shape) | Pattern::Not(shape) => last_of_shape(row, positions, shape),
@@ -284,7 +272,8 @@ fn add_ready_at(
     positions: &[usize],
     patterns: &[Pattern],
 ) -> Result<(), AllocError>
-    ensures { OnOk result (ready_at.new.items ≡ ready_at.old.items ++ map (λ l. last_of_atom (row_of row.now) positions.now l.atom) (map lit_of patterns.now)) }
+    ensures { OnOk result (ready_at.new.items ≡ ready_at.old.items
+        ++ map (λ l. atom_last (row_of row.now) positions.now l.atom) (map lit_of patterns.now)) }
 {
     for p in patterns {
         ready_at.push(last_of_pattern(row, positions, p))?;
@@ -292,8 +281,8 @@ fn add_ready_at(
     Ok(())
 }
 
-/// The plan for a rule in a scope, where some variables are bound, with the preferred variables early. Which are preferred
-/// is a matter of speed alone.
+/// The plan for a rule in a scope, where some variables are bound, with the preferred variables
+/// early. Which are preferred is a matter of speed alone.
 pub fn make_plan(
     alloc: Global,
     row: &Row,
@@ -302,7 +291,7 @@ pub fn make_plan(
     preferred: &[u8],
 ) -> Result<Plan, AllocError>
     requires { length bindings.now ≡ total_of (row_of row.now) }
-    ensures { IfOk result (PlanIs (row_of row.now) scope bindings.now) }
+    ensures { IfOk result (IsPlanFor (row_of row.now) scope bindings.now) }
 {
     let representatives = representatives_of(alloc, bindings)?;
     let order = order_of(alloc, bindings, &representatives, preferred)?;

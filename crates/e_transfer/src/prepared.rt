@@ -1,4 +1,4 @@
-// What is made of the facts of a step once, for all goals that are searched for by sums.
+//! What is made of the facts of a step once, for all goals that are searched for by sums.
 
 ghost use Rattle.std.specs.Prelude.{◌≡◌, ◌≤◌, length, IsTrue, IfOk};
 ghost use Rattle.std.specs.List.{list_all};
@@ -16,8 +16,8 @@ use e_literal::{Term, Values};
 use e_metric::{Metric, MetricFacts};
 use std::alloc::{AllocError, Global};
 
-/// What is made of facts: values with which all metric ones are true, if there are any, of which models those are, the areas
-/// that the facts name, and which relations they have.
+/// What is made of facts: values with which all metric ones are true, if there are any, of which
+/// models those are, the areas that the facts name, and which relations they have.
 #[derive(Drop)]
 pub struct Prepared {
     pub values: Values,
@@ -28,7 +28,8 @@ pub struct Prepared {
     pub marks: [bool; MARKS],
 }
 
-// The values with which all metric facts are true, if there are any. What they are is a matter of speed alone.
+// The values with which all metric facts are true, if there are any. What they are is a matter of
+// speed alone.
 fn values_of(alloc: Global, answer: Metric) -> Values {
     match answer {
         Metric::No(values) => values,

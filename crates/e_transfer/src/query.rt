@@ -1,4 +1,4 @@
-// What is searched for, and by what.
+//! What is searched for, and by what.
 
 ghost use Rattle.std.specs.Prelude.{◌≡◌, IsTrue, option_copied, not, ◌||◌, true, false};
 ghost use Rattle.std.specs.Option.{ForSome};
@@ -24,7 +24,8 @@ pub enum Strength {
     NarrowSums,
 }
 
-/// The goal, and the facts of a step, which are in scope and well formed, and not too many for a metric question.
+/// The goal, and the facts of a step, which are in scope and well formed, and not too many for a
+/// metric question.
 #[derive(Clone, Copy)]
 pub struct Query<'a> {
     pub scope: Scope,
@@ -43,13 +44,18 @@ pub struct Query<'a> {
     pub flat_model: bool,
     /// Which relations the facts have, and with which sign.
     pub marks: [bool; MARKS],
-    /// The areas that the facts name, each in the one way of writing it, where metric questions may be asked.
+    /// The areas that the facts name, each in the one way of writing it, where metric questions may
+    /// be asked.
     pub areas: &'a [Term],
     ghost step_facts_of: { ForSome (option_copied step_facts) (λ k. k ≡ facts.now) },
     ghost good: { IsTrue (are_good_facts scope facts.now) },
     ghost marked: { IsTrue (are_marked marks facts.now) },
-    ghost named: { IsTrue (not (plain_model || spread_model) || name_areas_of areas.now facts.now) },
-    ghost plain: { IsTrue (not plain_model || is_model facts.now (value_by filling.Ones values.now)) },
-    ghost spread: { IsTrue (not spread_model || is_model facts.now (value_by filling.Spread values.now)) },
-    ghost flat: { IsTrue (not flat_model || is_model facts.now (value_by filling.Flat values.now)) },
+    ghost named: { IsTrue
+        (not (plain_model || spread_model) || name_areas_of areas.now facts.now) },
+    ghost plain: { IsTrue
+        (not plain_model || is_model facts.now (value_by filling.Ones values.now)) },
+    ghost spread: { IsTrue
+        (not spread_model || is_model facts.now (value_by filling.Spread values.now)) },
+    ghost flat: { IsTrue
+        (not flat_model || is_model facts.now (value_by filling.Flat values.now)) },
 }

@@ -1,4 +1,4 @@
-// The search through all places of all transfer clauses.
+//! The search through all places of all transfer clauses.
 
 ghost use Rattle.std.specs.Prelude.{◌≡◌, ◌<◌, ◌+◌, length, slice_get, IfOk, IsTrue, Some};
 ghost use Rattle.e_clause.specs.Instance.{clause_of};
@@ -35,7 +35,9 @@ fn search_with_bindings(
     requires of_table { slice_get table rule ≡ Some (row_of row.now) }
     requires transfer { IsTrue (is_transfer rule) }
     requires total { length bindings.now ≡ total_of (row_of row.now) }
-    ensures { IfOk result (RuleSearchIs query.now.strength query.now.scope query.now.facts.now query.now.goal.now (NoneWithBindings query.now.strength query.now.scope query.now.facts.now query.now.goal.now rule place bindings.now)) }
+    ensures { IfOk result (RuleSearchIs query.now.strength query.now.scope query.now.facts.now
+        query.now.goal.now (NoneWithBindings query.now.strength query.now.scope query.now.facts.now
+        query.now.goal.now rule place bindings.now)) }
 {
     let plan = make_plan(alloc, row, query.scope, bindings, preferred)?;
     let task = InstanceSearch {
@@ -66,7 +68,9 @@ fn search_with_equations(
 ) -> Result<Verdict<TransferCert>, AllocError>
     requires of_table { slice_get table rule ≡ Some (row_of row.now) }
     requires transfer { IsTrue (is_transfer rule) }
-    ensures { IfOk result (RuleSearchIs query.now.strength query.now.scope query.now.facts.now query.now.goal.now (NoneWithEquations query.now.strength query.now.scope query.now.facts.now query.now.goal.now rule place equations.now)) }
+    ensures { IfOk result (RuleSearchIs query.now.strength query.now.scope query.now.facts.now
+        query.now.goal.now (NoneWithEquations query.now.strength query.now.scope query.now.facts.now
+        query.now.goal.now rule place equations.now)) }
 {
     let total = row.points as usize + row.lines as usize + row.circles as usize;
     match unify(alloc, total, equations)? {
@@ -95,23 +99,17 @@ fn search_place(
     requires of_table { slice_get table rule ≡ Some (row_of row.now) }
     requires transfer { IsTrue (is_transfer rule) }
     requires in_clause { place < length (clause_of (row_of row.now)) }
-    ensures { IfOk result (RuleSearchIs query.now.strength query.now.scope query.now.facts.now query.now.goal.now (NoneAt query.now.strength query.now.scope query.now.facts.now query.now.goal.now rule place)) }
+    ensures { IfOk result (RuleSearchIs query.now.strength query.now.scope query.now.facts.now
+        query.now.goal.now (NoneAt query.now.strength query.now.scope query.now.facts.now
+        query.now.goal.now rule place)) }
 {
     if !may_all_hold(query, rule, row, place) {
         return Ok(Verdict::No);
     }
     let (pattern, negated) = pattern_at(row, place);
     let matches = matches(alloc, row, &pattern, negated, query.goal)?;
-    for i in 0..matches.len() {
-        match search_with_equations(
-            alloc,
-            query,
-            rule,
-            row,
-            preferred,
-            place,
-            matches[i].items(),
-        )? {
+    for equations in &matches {
+        match search_with_equations(alloc, query, rule, row, preferred, place, equations.items())? {
             Verdict::No => {}
             Verdict::Yes(cert) => return Ok(Verdict::Yes(cert)),
             Verdict::TooWide(width) => return Ok(Verdict::TooWide(width)),
@@ -128,7 +126,9 @@ fn search_rule(
     preferred: &[u8],
 ) -> Result<Verdict<TransferCert>, AllocError>
     requires { IsTrue (is_transfer rule) }
-    ensures { IfOk result (RuleSearchIs query.now.strength query.now.scope query.now.facts.now query.now.goal.now (NoneOf query.now.strength query.now.scope query.now.facts.now query.now.goal.now rule)) }
+    ensures { IfOk result
+        (RuleSearchIs query.now.strength query.now.scope query.now.facts.now query.now.goal.now
+        (NoneOf query.now.strength query.now.scope query.now.facts.now query.now.goal.now rule)) }
 {
     let row = rule.row();
     for place in 0..clause_len(row) {
@@ -141,10 +141,12 @@ fn search_rule(
     Ok(Verdict::No)
 }
 
-/// The instances of all transfer clauses that have the goal: one that gives it, or none, or one that needs a literal
-/// with a wide system, if such are not passed over.
+/// The instances of all transfer clauses that have the goal: one that gives it, or none, or one
+/// that needs a literal with a wide system, if such are not passed over.
 pub fn search_rules(alloc: Global, query: &Query) -> Result<Verdict<TransferCert>, AllocError>
-    ensures { IfOk result (RuleSearchIs query.now.strength query.now.scope query.now.facts.now query.now.goal.now (NoneGives query.now.strength query.now.scope query.now.facts.now query.now.goal.now)) }
+    ensures { IfOk result
+        (RuleSearchIs query.now.strength query.now.scope query.now.facts.now query.now.goal.now
+        (NoneGives query.now.strength query.now.scope query.now.facts.now query.now.goal.now)) }
 {
     for at in 0..29u8 {
         match search_rule(alloc, query, Rule::transfer(at), order(at))? {

@@ -1,4 +1,4 @@
-// The binding of each variable.
+//! The binding of each variable.
 
 ghost use Rattle.std.specs.Prelude.{◌≡◌, ◌<◌, ℕ, IfOk, slice_set, length};
 ghost use Rattle.e_transfer.specs.inner.Bindings;
@@ -22,7 +22,7 @@ pub enum Binding {
 
 /// The binding of a variable; one that has none is free.
 pub fn binding_of(bindings: &[Binding], variable: usize) -> Binding
-    ensures { result ≡ Bindings.binding_of bindings.now variable }
+    ensures { result ≡ Bindings.binding_at bindings.now variable }
 {
     match bindings.get(variable) {
         Some(binding) => *binding,

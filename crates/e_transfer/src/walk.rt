@@ -42,20 +42,23 @@ pub trait Task {
     ghost wide: { Self → List ℕ → ℕ → Type 0 };
 
     fn check(&self, alloc: Global, part: &[u16]) -> Result<Verdict<Self::Proof>, AllocError>
-        ensures { IfOk result (VerdictIs (kept self.now) (shown self.now) (wide self.now) (wanted self.now) part.now) };
+        ensures { IfOk result (VerdictIs (kept self.now) (shown self.now) (wide self.now)
+            (wanted self.now) part.now) };
 }
 
-/// The least choice that begins with `chosen`, goes on with one number of each span, and whose parts are all kept, with
-/// what the check hands out for the whole; no choice before it is wanted. `chosen` is then this choice. `No` where no
-/// choice is wanted. `TooWide` at the first part that is too wide, where no choice before it is wanted; `chosen` is then this
-/// part. It fails only out of memory; `chosen` then is what it was, with some numbers after it.
+/// The least choice that begins with `chosen`, goes on with one number of each span, and whose
+/// parts are all kept, with what the check hands out for the whole; no choice before it is wanted.
+/// `chosen` is then this choice. `No` where no choice is wanted. `TooWide` at the first part that
+/// is too wide, where no choice before it is wanted; `chosen` is then this part. It fails only out
+/// of memory; `chosen` then is what it was, with some numbers after it.
 pub fn search<T: Task>(
     alloc: Global,
     task: &T,
     spans: &[Span],
     chosen: &mut Vec<u16>,
 ) -> Result<Verdict<T::Proof>, AllocError>
-    ensures outcome { IfOk result (SearchIs (T.kept task.now) (T.shown task.now) (T.wide task.now) (T.wanted task.now) spans.now chosen.old.items chosen.new.items) }
+    ensures outcome { IfOk result (SearchIs (T.kept task.now) (T.shown task.now) (T.wide task.now)
+        (T.wanted task.now) spans.now chosen.old.items chosen.new.items) }
     ensures err { OnErr result ((more : List ℕ) × (chosen.new.items ≡ chosen.old.items ++ more)) }
 {
     let proof = match task.check(alloc, chosen)? {

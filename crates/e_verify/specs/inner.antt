@@ -2,8 +2,8 @@
 pub mod Totals
 pub mod Small
 pub mod Views
-pub mod Placed
+pub mod RowScopes
 pub mod Fingerprint
 pub mod Alike
-pub mod Standing
+pub mod StepStates
 pub mod Numbering

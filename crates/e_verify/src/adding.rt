@@ -1,24 +1,25 @@
-// How rows are added up.
+//! How rows are added up.
 
 ghost use Rattle.std.specs.Prelude.{◌≡◌, ◌≤◌, ◌^◌, ◌++◌, IsTrue, OnOk, pos, neg_ℤ, ◌+ℤ◌, ◌*ℤ◌, unsigned_abs, if◌then◌else◌};
 ghost use Rattle.e_literal.specs.Rows;
 ghost use Rattle.e_literal.specs.declared.object.Term.{Term as ATerm};
 ghost use Rattle.e_literal.specs.Rows.{coefficient, normal_summands};
-ghost use Rattle.e_verify.specs.inner.Totals.{at};
-ghost use Rattle.e_verify.specs.inner.Small.{are_small, is_small};
-ghost use Rattle.e_verify.specs.inner.Views.{row_said};
+ghost use Rattle.e_verify.specs.inner.Totals.{total_at};
+ghost use Rattle.e_verify.specs.inner.Small.{are_small_monomials, is_small_row};
+ghost use Rattle.e_verify.specs.inner.Views.{row_view};
 
 use crate::rows::Row;
 use crate::totals::Totals;
 use e_literal::{Mono, Term};
 use std::alloc::AllocError;
 
-/// Adds the row so many times.
+/// Adds the row `multiplier` times.
 pub fn add_row(totals: &mut Totals, row: Row, multiplier: i128) -> Result<(), AllocError>
-    requires row { IsTrue (is_small row) }
+    requires row { IsTrue (is_small_row row) }
     requires multiplier { unsigned_abs multiplier ≤ 2 ^ 80 }
-    requires room { (t : ATerm) → unsigned_abs (at totals.old t) ≤ 2 ^ 120 }
-    ensures { OnOk result ((t : ATerm) → at totals.new t ≡ at totals.old t +ℤ multiplier *ℤ coefficient (row_said row.entry).form t) }
+    requires room { (t : ATerm) → unsigned_abs (total_at totals.old t) ≤ 2 ^ 120 }
+    ensures { OnOk result ((t : ATerm) → total_at totals.new t ≡ total_at totals.old t +ℤ multiplier
+        *ℤ coefficient (row_view row.entry).form t) }
 {
     match row {
         Row::Sums {
@@ -45,29 +46,31 @@ fn turned_by(turned: bool, multiplier: i128) -> i128
     if turned { -multiplier } else { multiplier }
 }
 
-/// Adds the one sum less the other so many times.
+/// Adds the one sum less the other `multiplier` times.
 fn add_difference(
     totals: &mut Totals,
     plus: &[Mono],
     minus: &[Mono],
     multiplier: i128,
 ) -> Result<(), AllocError>
-    requires plus { IsTrue (are_small plus.now) }
-    requires minus { IsTrue (are_small minus.now) }
+    requires plus { IsTrue (are_small_monomials plus.now) }
+    requires minus { IsTrue (are_small_monomials minus.now) }
     requires multiplier { unsigned_abs multiplier ≤ 2 ^ 80 }
-    requires room { (t : ATerm) → unsigned_abs (at totals.old t) ≤ 2 ^ 120 }
-    ensures { OnOk result ((t : ATerm) → at totals.new t ≡ at totals.old t +ℤ multiplier *ℤ coefficient (normal_summands (Rows.plus plus.now ++ Rows.minus minus.now)) t) }
+    requires room { (t : ATerm) → unsigned_abs (total_at totals.old t) ≤ 2 ^ 120 }
+    ensures { OnOk result ((t : ATerm) → total_at totals.new t ≡ total_at totals.old t +ℤ multiplier
+        *ℤ coefficient (normal_summands (Rows.plus plus.now ++ Rows.minus minus.now)) t) }
 {
     add_sum(totals, plus, multiplier)?;
     add_sum(totals, minus, turned_by(true, multiplier))
 }
 
-/// Adds the sum so many times.
+/// Adds the sum `multiplier` times.
 fn add_sum(totals: &mut Totals, sum: &[Mono], multiplier: i128) -> Result<(), AllocError>
-    requires sum { IsTrue (are_small sum.now) }
+    requires sum { IsTrue (are_small_monomials sum.now) }
     requires multiplier { unsigned_abs multiplier ≤ 2 ^ 80 }
-    requires room { (t : ATerm) → unsigned_abs (at totals.old t) ≤ 2 ^ 121 }
-    ensures { OnOk result ((t : ATerm) → at totals.new t ≡ at totals.old t +ℤ multiplier *ℤ coefficient (normal_summands (Rows.plus sum.now)) t) }
+    requires room { (t : ATerm) → unsigned_abs (total_at totals.old t) ≤ 2 ^ 121 }
+    ensures { OnOk result ((t : ATerm) → total_at totals.new t ≡ total_at totals.old t +ℤ multiplier
+        *ℤ coefficient (normal_summands (Rows.plus sum.now)) t) }
 {
     for m in sum {
         totals.add(m.term, product(multiplier, m.coeff))?;

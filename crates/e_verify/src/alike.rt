@@ -1,19 +1,19 @@
-// Literals that are written alike: most that are the same are told at once by it.
+//! Literals that are written alike: most that are the same are found so at once.
 
 ghost use Rattle.std.specs.Prelude.{◌≡◌, IsTrue};
 ghost use Rattle.e_literal.specs.Same.{same_lit};
-ghost use Rattle.e_verify.specs.inner.Alike.{are_alike_monos, are_alike_sums, are_alike_atoms, are_alike};
+ghost use Rattle.e_verify.specs.inner.Alike.{monos_alike, sums_alike, atoms_alike, lits_alike};
 
 use e_literal::{Atom, Lit, Mono, same};
 
 fn are_alike_monos(m: &Mono, n: &Mono) -> bool
-    ensures { result ≡ are_alike_monos m.now n.now }
+    ensures { result ≡ monos_alike m.now n.now }
 {
     m.coeff == n.coeff && m.term == n.term
 }
 
 fn are_alike_sums(x: &[Mono], y: &[Mono]) -> bool
-    ensures { result ≡ are_alike_sums x.now y.now }
+    ensures { result ≡ sums_alike x.now y.now }
 {
     match x {
         [] => y.is_empty(),
@@ -25,7 +25,7 @@ fn are_alike_sums(x: &[Mono], y: &[Mono]) -> bool
 }
 
 fn are_alike_atoms(a: &Atom, b: &Atom) -> bool
-    ensures { result ≡ are_alike_atoms a.now b.now }
+    ensures { result ≡ atoms_alike a.now b.now }
 {
     match (a, b) {
         (Atom::MagEq(x, y), Atom::MagEq(z, w)) | (Atom::MagLt(x, y), Atom::MagLt(z, w)) => {
@@ -36,9 +36,9 @@ fn are_alike_atoms(a: &Atom, b: &Atom) -> bool
 }
 
 /// Whether both compare magnitudes and are written alike, term by term; then they are the same.
-#[tactic(auto, using(crate::proofs::WrittenAlike::alike_is_same))]
+#[tactic(auto, using(crate::proofs::comparing::WrittenAlike::alike_is_same))]
 fn are_alike(a: &Lit, b: &Lit) -> bool
-    ensures value { result ≡ are_alike a.now b.now }
+    ensures value { result ≡ lits_alike a.now b.now }
     ensures same { IsTrue result → IsTrue (same_lit a.now b.now) }
 {
     a.neg == b.neg && are_alike_atoms(&a.atom, &b.atom)

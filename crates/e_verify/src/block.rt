@@ -1,49 +1,54 @@
-// Checking a block line by line, with the blocks inside it.
+//! Checking a block line by line, with the blocks inside it.
 
-ghost use Rattle.std.specs.Prelude.{◌≡◌, ◌+◌, ◌<◌, ◌^◌, IfOk, IfErr, OnOk, IsTrue, IsFalse, Ok};
+ghost use Rattle.std.specs.Prelude.{◌≡◌, ◌+◌, ◌<◌, ◌^◌, ℕ, List, IfOk, IfErr, OnOk, IsTrue, IsFalse, Ok};
 ghost use Rattle.std.specs.List.{list_all};
 ghost use Rattle.e_theorem.specs.Statements.{all_stated};
 ghost use Rattle.e_deriv.specs.Fitting.{is_small_statement};
-ghost use Rattle.e_deriv.specs.Script.{script_of, step_script, close_script};
+ghost use Rattle.e_deriv.specs.Script.{Claim, Superposed, script_of, step_script, close_script};
 ghost use Rattle.e_verify.specs.declared.reject.Reject.TheVariants.{Bad as IsBad};
-ghost use Rattle.e_verify.specs.Checking.{IsReadyFor, IsReadyStep, IsPassed, KeepsFacts, RejectIs, StepRejects, verdict_at};
-ghost use Rattle.e_verify.specs.inner.Standing.{goal_said};
+ghost use Rattle.e_verify.specs.Checking.{AreCheckable, IsCheckable, IsCheckableStep, AreVerified, KeepsFirstFacts, LinesReject, RejectIs, StepRejects, verdict_at};
+ghost use Rattle.e_verify.specs.inner.StepStates.{block_goal};
 
 use crate::closes::{contradiction, qed};
 use crate::reject::Reject;
 use crate::scope::are_over;
-use crate::standing::{Goal, Standing};
+use crate::step_state::{Goal, StepState};
 use crate::steps::{apply, cite, hence, make, superpose};
+use e_clause::Cert;
+use e_construct::Superpose;
 use e_deriv::{Block, Close, Step};
-use e_literal::in_scope;
+use e_literal::{Lit, in_scope};
 use e_theorem::Statement;
 use std::alloc::Global;
 
-/// Checks the lines of a block in order, with the blocks inside it, where its first line has this number. The answer is the
-/// number of the line behind it.
+/// Checks the lines of a block in order, with the blocks inside it, where its first line has this
+/// number. The answer is the number of the line after it.
 #[cycle(block)]
 pub fn verify_block(
     alloc: Global,
     before: &[Statement],
     block: &Block,
     goal: &Goal,
-    standing: &mut Standing,
+    state: &mut StepState,
     first: u32,
 ) -> Result<u32, Reject>
-    requires ready { IsReadyFor (all_stated before.now) (script_of block.now) standing.old (goal_said goal.now) first }
+    requires ready { IsCheckable (all_stated before.now) (script_of block.now) state.old
+        (block_goal goal.now) first }
     requires statements { IsTrue (list_all is_small_statement (all_stated before.now)) }
-    ensures ok { IfOk result (λ next. verdict_at (all_stated before.now) (script_of block.now) standing.old (goal_said goal.now) first ≡ Ok next) }
-    ensures kept { OnOk result (KeepsFacts standing.old standing.new) }
-    ensures err { IfErr result (RejectIs (verdict_at (all_stated before.now) (script_of block.now) standing.old (goal_said goal.now) first)) }
+    ensures ok { IfOk result (λ next. verdict_at (all_stated before.now) (script_of block.now)
+        state.old (block_goal goal.now) first ≡ Ok next) }
+    ensures kept { OnOk result (KeepsFirstFacts state.old state.new) }
+    ensures err { IfErr result (RejectIs (verdict_at (all_stated before.now) (script_of block.now)
+        state.old (block_goal goal.now) first)) }
 {
     let mut number = first;
     for step in &block.steps {
-        match verify_step(alloc, before, step, standing, number) {
+        match verify_step(alloc, before, step, state, number) {
             Ok(next) => number = next,
             Err(reject) => return Err(reject),
         }
     }
-    verify_close(alloc, before, &block.close, goal, standing, number)
+    verify_close(alloc, before, &block.close, goal, state, number)
 }
 
 /// Checks a step, with the block inside it.
@@ -52,19 +57,20 @@ fn verify_step(
     alloc: Global,
     before: &[Statement],
     step: &Step,
-    standing: &mut Standing,
+    state: &mut StepState,
     number: u32,
 ) -> Result<u32, Reject>
-    requires ready { IsReadyStep (all_stated before.now) step.now standing.old number }
+    requires ready { IsCheckableStep (all_stated before.now) step.now state.old number }
     requires statements { IsTrue (list_all is_small_statement (all_stated before.now)) }
-    ensures ok { IfOk result (λ next. IsPassed (all_stated before.now) (step_script step.now) standing.old number standing.new next) }
-    ensures err { IfErr result (StepRejects (all_stated before.now) step.now standing.old number) }
+    ensures ok { IfOk result (λ next. AreVerified (all_stated before.now) (step_script step.now)
+        state.old number state.new next) }
+    ensures err { IfErr result (StepRejects (all_stated before.now) step.now state.old number) }
 {
     match step {
-        Step::Cite(by) => told(cite(alloc, by, standing)?, number),
-        Step::Hence { lit, cert } => told(hence(alloc, lit, cert, standing)?, number),
+        Step::Cite(by) => verdict_of(cite(alloc, by, state)?, number),
+        Step::Hence { lit, cert } => verdict_of(hence(alloc, lit, cert, state)?, number),
         Step::Make { form, certs, .. } => {
-            told(make(alloc, form, certs.items(), standing)?, number)
+            verdict_of(make(alloc, form, certs.items(), state)?, number)
         }
         Step::Apply {
             theorem,
@@ -73,28 +79,13 @@ fn verify_step(
             ..
         } => {
             let args = args.items();
-            told(
-                apply(alloc, before, *theorem, args, certs.items(), standing)?,
+            verdict_of(
+                apply(alloc, before, *theorem, args, certs.items(), state)?,
                 number,
             )
         }
         Step::Claim { shown, inner } => {
-            if !are_over(standing.scope, shown.items()) {
-                return Err(Reject::Bad { step: number });
-            }
-            let outer = standing.enter();
-            let goal = Goal {
-                made: &[],
-                shown: shown.items(),
-            };
-            match verify_block(alloc, before, inner, &goal, standing, number + 1) {
-                Ok(next) => {
-                    standing.leave(outer);
-                    standing.suppose_all(alloc, shown.items())?;
-                    Ok(next)
-                }
-                Err(reject) => Err(reject),
-            }
+            verify_claim(alloc, before, shown.items(), inner, state, number)
         }
         Step::Superposed {
             form,
@@ -103,23 +94,91 @@ fn verify_step(
             inner,
             ..
         } => {
-            let outer = standing.enter();
-            if !superpose(alloc, form, shown.items(), certs.items(), standing)? {
-                return Err(Reject::Bad { step: number });
-            }
-            let goal = Goal {
-                made: &[],
+            let superposition = Superposition {
+                form,
                 shown: shown.items(),
+                certs: certs.items(),
             };
-            match verify_block(alloc, before, inner, &goal, standing, number + 1) {
-                Ok(next) => {
-                    standing.leave(outer);
-                    standing.suppose_all(alloc, shown.items())?;
-                    Ok(next)
-                }
-                Err(reject) => Err(reject),
-            }
+            verify_superposed(alloc, before, &superposition, inner, state, number)
         }
+    }
+}
+
+/// Checks a claim with its block; after it what it shows are facts.
+#[cycle(block)]
+fn verify_claim(
+    alloc: Global,
+    before: &[Statement],
+    shown: &[Lit],
+    inner: &Block,
+    state: &mut StepState,
+    number: u32,
+) -> Result<u32, Reject>
+    requires ready { AreCheckable (all_stated before.now) (Claim shown.now (script_of inner.now))
+        state.old number }
+    requires statements { IsTrue (list_all is_small_statement (all_stated before.now)) }
+    ensures ok { IfOk result (λ next. AreVerified (all_stated before.now)
+        (Claim shown.now (script_of inner.now)) state.old number state.new next) }
+    ensures err { IfErr result (LinesReject (all_stated before.now)
+        (Claim shown.now (script_of inner.now)) state.old number) }
+{
+    if !are_over(state.scope, shown) {
+        return Err(Reject::Bad { step: number });
+    }
+    let outer = state.checkpoint();
+    let goal = Goal { made: &[], shown };
+    match verify_block(alloc, before, inner, &goal, state, number + 1) {
+        Ok(next) => {
+            state.restore(outer);
+            state.assume_all(alloc, shown)?;
+            Ok(next)
+        }
+        Err(reject) => Err(reject),
+    }
+}
+
+/// A superposition without its names and its block.
+#[derive(Clone, Copy)]
+struct Superposition<'a> {
+    form: &'a Superpose,
+    shown: &'a [Lit],
+    certs: &'a [Cert],
+}
+
+/// Checks a superposition with its block; after it what it shows are facts.
+#[cycle(block)]
+fn verify_superposed(
+    alloc: Global,
+    before: &[Statement],
+    superposition: &Superposition,
+    inner: &Block,
+    state: &mut StepState,
+    number: u32,
+) -> Result<u32, Reject>
+    requires ready { (names : List (List ℕ)) × AreCheckable (all_stated before.now)
+        (Superposed superposition.now.form.now names superposition.now.shown.now
+        superposition.now.certs.now (script_of inner.now)) state.old number }
+    requires statements { IsTrue (list_all is_small_statement (all_stated before.now)) }
+    ensures ok { IfOk result (λ next. (names : List (List ℕ)) → AreVerified (all_stated before.now)
+        (Superposed superposition.now.form.now names superposition.now.shown.now
+        superposition.now.certs.now (script_of inner.now)) state.old number state.new next) }
+    ensures err { IfErr result (λ e. (names : List (List ℕ)) → LinesReject (all_stated before.now)
+        (Superposed superposition.now.form.now names superposition.now.shown.now
+        superposition.now.certs.now (script_of inner.now)) state.old number e) }
+{
+    let Superposition { form, shown, certs } = *superposition;
+    let outer = state.checkpoint();
+    if !superpose(alloc, form, shown, certs, state)? {
+        return Err(Reject::Bad { step: number });
+    }
+    let goal = Goal { made: &[], shown };
+    match verify_block(alloc, before, inner, &goal, state, number + 1) {
+        Ok(next) => {
+            state.restore(outer);
+            state.assume_all(alloc, shown)?;
+            Ok(next)
+        }
+        Err(reject) => Err(reject),
     }
 }
 
@@ -130,40 +189,46 @@ fn verify_close(
     before: &[Statement],
     close: &Close,
     goal: &Goal,
-    standing: &mut Standing,
+    state: &mut StepState,
     number: u32,
 ) -> Result<u32, Reject>
-    requires ready { IsReadyFor (all_stated before.now) (close_script close.now) standing.old (goal_said goal.now) number }
+    requires ready { IsCheckable (all_stated before.now) (close_script close.now) state.old
+        (block_goal goal.now) number }
     requires statements { IsTrue (list_all is_small_statement (all_stated before.now)) }
-    ensures ok { IfOk result (λ next. verdict_at (all_stated before.now) (close_script close.now) standing.old (goal_said goal.now) number ≡ Ok next) }
-    ensures kept { OnOk result (KeepsFacts standing.old standing.new) }
-    ensures err { IfErr result (RejectIs (verdict_at (all_stated before.now) (close_script close.now) standing.old (goal_said goal.now) number)) }
+    ensures ok { IfOk result (λ next. verdict_at (all_stated before.now) (close_script close.now)
+        state.old (block_goal goal.now) number ≡ Ok next) }
+    ensures kept { OnOk result (KeepsFirstFacts state.old state.new) }
+    ensures err { IfErr result (RejectIs (verdict_at (all_stated before.now)
+        (close_script close.now) state.old (block_goal goal.now) number)) }
 {
     match close {
         Close::Qed { objects, certs } => {
             let objects = objects.items();
-            told(qed(alloc, objects, certs.items(), goal, standing)?, number)
+            verdict_of(qed(alloc, objects, certs.items(), goal, state)?, number)
         }
-        Close::Contradiction { against } => told(contradiction(alloc, against, standing)?, number),
+        Close::Contradiction { against } => verdict_of(
+            contradiction(alloc, against, state)?,
+            number,
+        ),
         Close::Cases { lit, first, second } => {
-            if !in_scope(lit, standing.scope) {
+            if !in_scope(lit, state.scope) {
                 return Err(Reject::Bad { step: number });
             }
-            let outer = standing.enter();
-            standing.suppose(alloc, lit)?;
-            let next = match verify_block(alloc, before, first, goal, standing, number + 1) {
+            let outer = state.checkpoint();
+            state.assume(alloc, lit)?;
+            let next = match verify_block(alloc, before, first, goal, state, number + 1) {
                 Ok(next) => next,
                 Err(reject) => return Err(reject),
             };
-            standing.leave(outer);
-            standing.suppose_not(alloc, lit)?;
-            verify_block(alloc, before, second, goal, standing, next)
+            state.restore(outer);
+            state.assume_not(alloc, lit)?;
+            verify_block(alloc, before, second, goal, state, next)
         }
     }
 }
 
-/// What is told of a line with this number: the number of the next where it is certified.
-fn told(certified: bool, number: u32) -> Result<u32, Reject>
+/// The verdict on a line with this number: the number of the next where it is certified.
+fn verdict_of(certified: bool, number: u32) -> Result<u32, Reject>
     requires { number + 1 < 2 ^ 32 }
     ensures ok { IfOk result (λ next. IsTrue certified × (next ≡ number + 1)) }
     ensures err { IfErr result (λ e. IsFalse certified × (e ≡ IsBad number)) }

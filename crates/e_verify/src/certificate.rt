@@ -1,4 +1,4 @@
-// What one certificate certifies.
+//! What one certificate certifies.
 
 ghost use Rattle.std.specs.Prelude.{◌≡◌, IfOk, IsTrue};
 ghost use Rattle.std.specs.List.{list_all};
@@ -17,8 +17,9 @@ use e_literal::{Lit, Scope, copy, in_scope, kind, negate};
 use std::alloc::{AllocError, Global};
 use std::mem;
 
-/// Whether there are as many certificates as literals, and each certifies its literal in this scope, by these facts.
-#[tactic(auto, using(crate::proofs::Paired::literals))]
+/// Whether there are as many certificates as literals, and each certifies its literal in this
+/// scope, by these facts.
+#[tactic(auto, using(crate::proofs::checking::PairedCertificates::literals))]
 pub fn certify_all(
     alloc: Global,
     scope: Scope,
@@ -96,7 +97,8 @@ pub fn certifies_against(
     }
 }
 
-/// Whether the literal is among the facts, or at the place among them, or its sums show that it follows from them.
+/// Whether the literal is among the facts, or at the place among them, or its sums show that it
+/// follows from them.
 pub fn part_certifies(
     alloc: Global,
     facts: &Facts,
@@ -124,7 +126,7 @@ pub fn part_certifies(
 fn is_fact_at(facts: &Facts, lit: &Lit, place: u32) -> bool
     ensures { result ≡ PartCertificate.is_fact_at facts.now lit.now place }
 {
-    match facts.at(place) {
+    match facts.get(place) {
         Some(fact) => are_same(fact, lit),
         None => false,
     }

@@ -1,11 +1,11 @@
-// What is left of an inner block that has its places.
+//! What is left of an inner block that has its places.
 
 ghost use Rattle.std.specs.Prelude.{◌≡◌, IfOk, OnOk};
 ghost use Rattle.e_literal.specs.Facts.{joined_all};
 ghost use Rattle.e_deriv.specs.Script.{Script, Claim, Superposed, Cases, script_of, step_script, close_script};
-ghost use Rattle.e_verify.specs.inner.Standing.{left_for, with_facts};
+ghost use Rattle.e_verify.specs.inner.StepStates.{restored, with_facts};
 
-use crate::standing::{Outer, Standing};
+use crate::step_state::{Checkpoint, StepState};
 use e_clause::Cert;
 use e_construct::Superpose;
 use e_deriv::{Block, Close, Step, copy_lits};
@@ -26,14 +26,15 @@ pub struct Head<'a> {
 fn show_after(
     alloc: Global,
     shown: &[Lit],
-    outer: Outer,
-    standing: &mut Standing,
+    outer: Checkpoint,
+    state: &mut StepState,
 ) -> Result<Items<Lit>, AllocError>
     ensures shown { IfOk result (λ ls. ls ≡ shown.now) }
-    ensures after { OnOk result (standing.new ≡ with_facts (joined_all (left_for outer standing.old).facts shown.now) (left_for outer standing.old)) }
+    ensures after { OnOk result (state.new ≡ with_facts
+        (joined_all (restored outer state.old).facts shown.now) (restored outer state.old)) }
 {
-    standing.leave(outer);
-    standing.suppose_all(alloc, shown)?;
+    state.restore(outer);
+    state.assume_all(alloc, shown)?;
     copy_lits(alloc, shown)
 }
 
@@ -43,13 +44,15 @@ pub fn claimed(
     alloc: Global,
     shown: &[Lit],
     block: Block,
-    outer: Outer,
-    standing: &mut Standing,
+    outer: Checkpoint,
+    state: &mut StepState,
 ) -> Result<Step, AllocError>
-    ensures step { IfOk result (λ s. (rest : Script) → step_script s rest ≡ Claim shown.now (script_of block) rest) }
-    ensures after { OnOk result (standing.new ≡ with_facts (joined_all (left_for outer standing.old).facts shown.now) (left_for outer standing.old)) }
+    ensures step { IfOk result (λ s. (rest : Script)
+        → step_script s rest ≡ Claim shown.now (script_of block) rest) }
+    ensures after { OnOk result (state.new ≡ with_facts
+        (joined_all (restored outer state.old).facts shown.now) (restored outer state.old)) }
 {
-    let shown = match show_after(alloc, shown, outer, standing) {
+    let shown = match show_after(alloc, shown, outer, state) {
         Ok(shown) => shown,
         Err(_) => {
             mem::drop(block);
@@ -67,14 +70,17 @@ pub fn superposed(
     head: Head,
     shown: &[Lit],
     block: Block,
-    outer: Outer,
-    standing: &mut Standing,
+    outer: Checkpoint,
+    state: &mut StepState,
 ) -> Result<Step, AllocError>
-    ensures step { IfOk result (λ s. (rest : Script) → step_script s rest ≡ Superposed head.entry.form.now head.entry.names.now shown.now head.entry.certs (script_of block) rest) }
-    ensures after { OnOk result (standing.new ≡ with_facts (joined_all (left_for outer standing.old).facts shown.now) (left_for outer standing.old)) }
+    ensures step { IfOk result (λ s. (rest : Script)
+        → step_script s rest ≡ Superposed head.entry.form.now head.entry.names.now shown.now
+        head.entry.certs (script_of block) rest) }
+    ensures after { OnOk result (state.new ≡ with_facts
+        (joined_all (restored outer state.old).facts shown.now) (restored outer state.old)) }
 {
     let Head { form, names, certs } = head;
-    let shown = match show_after(alloc, shown, outer, standing) {
+    let shown = match show_after(alloc, shown, outer, state) {
         Ok(shown) => shown,
         Err(_) => {
             mem::drop(block);
@@ -124,7 +130,8 @@ fn boxed(alloc: Global, first: Block, second: Block) -> Result<(Box<Block>, Box<
 /// A split whose blocks have their places.
 #[tactic(auto, using(e_deriv::proofs::Scripts::scripts))]
 pub fn split(alloc: Global, lit: &Lit, first: Block, second: Block) -> Result<Close, AllocError>
-    ensures { IfOk result (λ c. close_script c ≡ Cases lit.now (script_of first) (script_of second)) }
+    ensures { IfOk result
+        (λ c. close_script c ≡ Cases lit.now (script_of first) (script_of second)) }
 {
     let (first, second) = boxed(alloc, first, second)?;
     match copy(alloc, lit) {

@@ -1,12 +1,12 @@
-// The facts before a line.
+//! The facts before a line.
 
 ghost use Rattle.std.specs.Prelude.{◌≡◌, ◌≤◌, [], take, length, slice_get, OnOk};
 ghost use Rattle.std.specs.List.{list_any, position};
 ghost use Rattle.std.specs.Option.{option_copied};
-ghost use Rattle.e_literal.specs.Facts.{has, has_all, joined, joined_all, are_equal_points};
+ghost use Rattle.e_literal.specs.Facts.{has as is_fact, has_all, joined, joined_all, are_apart as say_apart, are_equal_points};
 ghost use Rattle.e_literal.specs.Literal.{negation};
 ghost use Rattle.e_literal.specs.Same.{same_lit, term_eq};
-ghost use Rattle.e_verify.specs.inner.Fingerprint.{fingerprint_of};
+ghost use Rattle.e_verify.specs.inner.Fingerprint.{atom_fingerprint};
 ghost use Rattle.e_clause.specs.Assignment.{terms_of_atom, terms_of_lits};
 
 use crate::alike::are_same;
@@ -16,7 +16,8 @@ use std::alloc::{AllocError, Global};
 use std::marker::Model;
 use std::mem;
 
-/// A fact with its fingerprint, by which most literals that are not the same are told from it at once. Contracts see the literal.
+/// A fact with its fingerprint, by which most literals that are not the same are found different
+/// at once. Contracts see the literal.
 #[derive(Drop)]
 struct Fact {
     lit: Lit,
@@ -26,25 +27,25 @@ struct Fact {
 impl Model for Fact {
     ghost use Rattle.std.specs.Prelude.{◌≡◌};
     ghost use Rattle.e_literal.specs.declared.literal.Lit.{Lit};
-    ghost use Rattle.e_verify.specs.inner.Fingerprint.{fingerprint_of};
+    ghost use Rattle.e_verify.specs.inner.Fingerprint.{atom_fingerprint};
 
     ghost Value = { Lit };
 
     ghost view = { λ f. f.lit };
 
-    ghost invariant = { λ f. f.fingerprint ≡ fingerprint_of f.lit.atom };
+    ghost invariant = { λ f. f.fingerprint ≡ atom_fingerprint f.lit.atom };
 }
 
 impl Fact {
     /// Whether the literal, which has this fingerprint, is the same.
     fn is_same(&self, lit: &Lit, fingerprint: u128) -> bool
-        requires { fingerprint ≡ fingerprint_of lit.now.atom }
+        requires { fingerprint ≡ atom_fingerprint lit.now.atom }
         ensures { result ≡ same_lit self.now lit.now }
     {
         self.fingerprint == fingerprint && are_same(&self.lit, lit)
     }
 
-    /// Whether the term stands in it, as it is written.
+    /// Whether the term occurs in it, as it is written.
     fn has_term(&self, term: Term) -> bool
         ensures { result ≡ list_any (term_eq term) (terms_of_atom self.now.atom) }
     {
@@ -79,13 +80,13 @@ impl Facts {
 
     /// Whether one the same is there.
     pub fn has(&self, lit: &Lit) -> bool
-        ensures { result ≡ Rattle.e_literal.specs.Facts.has self.now lit.now }
+        ensures { result ≡ is_fact self.now lit.now }
     {
         has_same(&self.lits, lit, fingerprint_of(lit))
     }
 
     /// The fact at this place, counted from 0.
-    pub fn at(&self, place: u32) -> Option<&Lit>
+    pub fn get(&self, place: u32) -> Option<&Lit>
         ensures { option_copied result ≡ slice_get self.now place }
     {
         match self.lits.get(place as usize) {
@@ -113,14 +114,14 @@ impl Facts {
 
     /// Whether the facts say that two points differ, in one order or the other.
     pub fn are_apart(&self, a: u16, b: u16) -> bool
-        ensures { result ≡ Rattle.e_literal.specs.Facts.are_apart self.now a b }
+        ensures { result ≡ say_apart self.now a b }
     {
         self.say_differ(a, b) || self.say_differ(b, a)
     }
 
     /// Whether the facts say that two points differ, in this order.
     fn say_differ(&self, a: u16, b: u16) -> bool
-        ensures { result ≡ Rattle.e_literal.specs.Facts.has self.now (negation (are_equal_points a b)) }
+        ensures { result ≡ is_fact self.now (negation (are_equal_points a b)) }
     {
         let lit = differ(a, b);
         let is_there = self.has(&lit);
@@ -128,8 +129,8 @@ impl Facts {
         is_there
     }
 
-    /// Whether the term stands in a fact, as it is written.
-    #[tactic(auto, using(crate::proofs::StepTerms::standing))]
+    /// Whether the term occurs in a fact, as it is written.
+    #[tactic(auto, using(crate::proofs::arithmetic::StepTerms::occurring))]
     pub fn has_term(&self, term: Term) -> bool
         ensures { result ≡ list_any (term_eq term) (terms_of_lits self.now) }
     {
@@ -160,25 +161,26 @@ impl Facts {
         Ok(())
     }
 
-    /// The place after the last fact, to come back to.
-    pub fn mark(&self) -> usize
+    /// How many facts there are.
+    pub fn len(&self) -> usize
         ensures { result ≡ length self.now }
     {
         self.lits.len()
     }
 
-    /// Takes away all facts from the place on.
-    pub fn back_to(&mut self, mark: usize)
-        ensures { self.new ≡ take mark self.old }
+    /// Takes away all facts but the first `count`.
+    pub fn back_to(&mut self, count: usize)
+        ensures { self.new ≡ take count self.old }
     {
-        self.lits.truncate(mark);
+        self.lits.truncate(count);
     }
 }
 
-/// Whether one the same as the literal, which has this fingerprint, is among the facts. Most that are asked for are late ones.
+/// Whether one the same as the literal, which has this fingerprint, is among the facts. They are
+/// looked through from the last on, since most that are asked for came late.
 fn has_same(facts: &[Fact], lit: &Lit, fingerprint: u128) -> bool
-    requires { fingerprint ≡ fingerprint_of lit.now.atom }
-    ensures { result ≡ has facts.now lit.now }
+    requires { fingerprint ≡ atom_fingerprint lit.now.atom }
+    ensures { result ≡ is_fact facts.now lit.now }
 {
     facts
         .iter()
@@ -195,8 +197,8 @@ fn differ(a: u16, b: u16) -> Lit
     }
 }
 
-/// Whether the term stands in the literal, as it is written.
-#[tactic(auto, using(crate::proofs::StepTerms::standing))]
+/// Whether the term occurs in the literal, as it is written.
+#[tactic(auto, using(crate::proofs::arithmetic::StepTerms::occurring))]
 pub fn stands_in(lit: &Lit, term: Term) -> bool
     ensures { result ≡ list_any (term_eq term) (terms_of_atom lit.now.atom) }
 {

@@ -1,17 +1,19 @@
-// Fingerprints of literals: numbers by which most literals that are not the same are told apart at once.
+//! Fingerprints of literals: numbers by which most literals that are not the same are told apart at
+//! once.
 
 ghost use Rattle.std.specs.Prelude.{◌≡◌, ◌*◌, ◌<◌, ◌≤◌, ◌^◌};
 ghost use Rattle.e_literal.specs.Solution.{carried};
-ghost use Rattle.e_verify.specs.inner.Fingerprint.{mixed, number_of, weight_of, placed, fingerprint_of};
+ghost use Rattle.e_verify.specs.inner.Fingerprint.{square_residue, term_number, sum_weight, packed, atom_fingerprint};
 
 use crate::key::placed;
 use e_literal::{Atom, Lit, Mono, Term, canonical, is_degenerate};
 
-/// The square, by a prime below 2^30.
-#[tactic(auto, unfolding(crate::specs::inner::Fingerprint::mixed))]
+/// The square, by a prime below 2^30, so that a sum of such numbers with small coefficients stays
+/// far within 128 bits.
+#[tactic(auto, unfolding(crate::specs::inner::Fingerprint::square_residue))]
 fn mixed(n: u64) -> u64
     requires { n < 2 ^ 32 }
-    ensures value { result ≡ mixed n }
+    ensures value { result ≡ square_residue n }
     ensures bound { result < 2 ^ 30 }
 {
     n * n % 1_073_741_789
@@ -19,7 +21,7 @@ fn mixed(n: u64) -> u64
 
 /// The number of a term that is written one way.
 fn number_of(term: Term) -> u64
-    ensures value { result ≡ number_of term }
+    ensures value { result ≡ term_number term }
     ensures bound { result < 2 ^ 30 }
 {
     match term {
@@ -33,7 +35,7 @@ fn number_of(term: Term) -> u64
 
 /// The number of a term, however it is written; 0 where it is 0 in itself.
 fn carried_number(term: Term) -> u64
-    ensures value { result ≡ carried number_of term }
+    ensures value { result ≡ carried term_number term }
     ensures bound { result < 2 ^ 30 }
 {
     if is_degenerate(term) {
@@ -45,7 +47,7 @@ fn carried_number(term: Term) -> u64
 
 /// The number of a term as often as the sum has it.
 fn share(mono: &Mono) -> u64
-    ensures value { result ≡ mono.now.coeff * carried number_of mono.now.term }
+    ensures value { result ≡ mono.now.coeff * carried term_number mono.now.term }
     ensures bound { result < 2 ^ 62 }
 {
     u64::from(mono.coeff) * carried_number(mono.term)
@@ -53,7 +55,7 @@ fn share(mono: &Mono) -> u64
 
 /// The value of a sum where each term has its number.
 fn weight_of(sum: &[Mono]) -> u128
-    ensures { result ≡ weight_of sum.now }
+    ensures { result ≡ sum_weight sum.now }
 {
     let mut total = 0u128;
     for mono in sum {
@@ -64,15 +66,15 @@ fn weight_of(sum: &[Mono]) -> u128
 
 /// A kind of atom and its objects as one number.
 fn number_for(kind: u16, a: u16, b: u16, c: u16) -> u128
-    ensures { result ≡ placed kind a b c }
+    ensures { result ≡ packed kind a b c }
 {
     u128::from(placed(kind, a, b, c))
 }
 
 /// The fingerprint of a literal: literals that are the same have one.
-#[tactic(auto, unfolding(crate::specs::inner::Fingerprint::fingerprint_of))]
+#[tactic(auto, unfolding(crate::specs::inner::Fingerprint::atom_fingerprint))]
 pub(crate) fn fingerprint_of(lit: &Lit) -> u128
-    ensures { result ≡ fingerprint_of lit.now.atom }
+    ensures { result ≡ atom_fingerprint lit.now.atom }
 {
     match &lit.atom {
         Atom::On(a, b) => number_for(1, *a, *b, 0),

@@ -1,14 +1,14 @@
-// Terms as numbers, which are compared at once.
+//! Terms as numbers, which are compared at once.
 
 ghost use Rattle.std.specs.Prelude.{◌≡◌, IsTrue};
-ghost use Rattle.e_verify.specs.inner.Fingerprint.{placed};
-ghost use Rattle.e_verify.specs.inner.Totals.{key_of, is_narrow};
+ghost use Rattle.e_verify.specs.inner.Fingerprint.{packed};
+ghost use Rattle.e_verify.specs.inner.Totals.{term_key, is_narrow};
 
 use e_literal::Term;
 
 /// The kind and the points of the term as one number, which no other term has.
 pub fn key_of(term: Term) -> u64
-    ensures value { result ≡ key_of term }
+    ensures value { result ≡ term_key term }
     ensures narrow { IsTrue (is_narrow term) }
 {
     match term {
@@ -21,7 +21,7 @@ pub fn key_of(term: Term) -> u64
 
 /// Four numbers as one.
 pub fn placed(kind: u16, a: u16, b: u16, c: u16) -> u64
-    ensures { result ≡ placed kind a b c }
+    ensures { result ≡ packed kind a b c }
 {
     let front = (u64::from(kind) * 0x1_0000 + u64::from(a)) * 0x1_0000 + u64::from(b);
     front * 0x1_0000 + u64::from(c)

@@ -1,4 +1,5 @@
-//! Checks a derivation, certificate by certificate, and puts the places of facts into certificates. Nothing is searched for.
+//! Checks a derivation, certificate by certificate, and puts the places of facts into certificates.
+//! Nothing is searched for.
 #![tactic(auto)]
 
 mod adding;
@@ -17,7 +18,7 @@ mod places;
 mod reject;
 mod rows;
 mod scope;
-mod standing;
+mod step_state;
 mod steps;
 mod sums;
 mod totals;

@@ -1,4 +1,4 @@
-// What a metric certificate shows.
+//! What a metric certificate shows.
 
 ghost use Rattle.std.specs.Prelude.{◌≡◌, IfOk, IfSome, IsTrue, true, option_and_then, if◌then◌else◌, Some, None};
 ghost use Rattle.std.specs.Option.{option_map, option_map_or, option_copied};
@@ -6,18 +6,19 @@ ghost use Rattle.std.specs.List.{list_all};
 ghost use Rattle.e_literal.specs.WellFormed.{is_well_formed};
 ghost use Rattle.e_clause.specs.Sum.{says_differ};
 ghost use Rattle.e_clause.specs.MetricCertificate;
-ghost use Rattle.e_verify.specs.inner.Small.{is_small, is_short};
-ghost use Rattle.e_verify.specs.inner.Views.{row_said, comparison_said};
+ghost use Rattle.e_verify.specs.inner.Small.{is_small_row, is_short};
+ghost use Rattle.e_verify.specs.inner.Views.{row_view, comparison_view};
 ghost use Rattle.e_clause.specs.Written.{is_good_name, is_good_sum, is_good_sums};
 
 use crate::facts::Facts;
-use crate::rows::{Comparison, Place, Row, Says, fact_row, goal_row, row_at};
+use crate::rows::{Comparison, Row, RowScope, Says, fact_row, goal_row, row_at};
 use crate::sums::refutes;
 use e_clause::{RowName, Sums};
 use e_literal::Lit;
 use std::alloc::{AllocError, Global};
 
-/// Whether the facts and the negation of the wanted literal, where one is wanted, cannot all be true, by these sums.
+/// Whether the facts and the negation of the wanted literal, where one is wanted, cannot all be
+/// true, by these sums.
 pub fn sums_refute<'a>(
     alloc: Global,
     facts: &'a Facts,
@@ -27,17 +28,18 @@ pub fn sums_refute<'a>(
     requires facts { IsTrue (list_all is_well_formed facts.now) }
     requires wanted { IsTrue (option_map_or is_well_formed (option_copied wanted) true) }
     requires sums { IsTrue (is_good_sums sums.now) }
-    ensures { IfOk result (λ b. b ≡ MetricCertificate.sums_refute facts.now (option_copied wanted.entry) sums.now) }
+    ensures { IfOk result
+        (λ b. b ≡ MetricCertificate.sums_refute facts.now (option_copied wanted.entry) sums.now) }
 {
     match sums {
         Sums::One(sum) => {
-            let place = Place {
+            let row_scope = RowScope {
                 facts,
                 wanted,
                 above: None,
                 below: None,
             };
-            refutes(alloc, &place, sum.rows())
+            refutes(alloc, &row_scope, sum.rows())
         }
         Sums::Two {
             differs,
@@ -64,24 +66,25 @@ fn both_refute<'a>(
     requires row { IsTrue (is_short row) }
     requires above { IsTrue (is_good_sum above.now) }
     requires below { IsTrue (is_good_sum below.now) }
-    ensures { IfOk result (λ b. b ≡ MetricCertificate.both_refute facts.now (option_copied wanted.entry) (comparison_said row.entry) above.now below.now) }
+    ensures { IfOk result (λ b. b ≡ MetricCertificate.both_refute facts.now
+        (option_copied wanted.entry) (comparison_view row.entry) above.now below.now) }
 {
-    let place = Place {
+    let row_scope = RowScope {
         facts,
         wanted,
         above: Some(above_row(row)),
         below: None,
     };
-    if !refutes(alloc, &place, above)? {
+    if !refutes(alloc, &row_scope, above)? {
         return Ok(false);
     }
-    let place = Place {
+    let row_scope = RowScope {
         facts,
         wanted,
         above: None,
         below: Some(below_row(row)),
     };
-    refutes(alloc, &place, below)
+    refutes(alloc, &row_scope, below)
 }
 
 /// The row that says that its form is not 0, or none where the name may not be used here.
@@ -93,7 +96,8 @@ fn differing<'a>(
     requires facts { IsTrue (list_all is_well_formed facts.now) }
     requires wanted { IsTrue (option_map_or is_well_formed (option_copied wanted) true) }
     requires name { IsTrue (is_good_name name.now) }
-    ensures row { option_map comparison_said result ≡ MetricCertificate.differing facts.now (option_copied wanted.entry) name.now }
+    ensures row { option_map comparison_view result
+        ≡ MetricCertificate.differing facts.now (option_copied wanted.entry) name.now }
     ensures small { IfSome result (λ c. IsTrue (is_short c)) }
 {
     match name {
@@ -107,7 +111,8 @@ fn differing<'a>(
 /// No row but where it says that its form is not 0.
 fn if_not<'a>(row: Option<Comparison<'a>>) -> Option<Comparison<'a>>
     requires { IfSome row (λ c. IsTrue (is_short c)) }
-    ensures row { option_map comparison_said result ≡ option_and_then (λ r. if says_differ r.says then Some r else None) (option_map comparison_said row.entry) }
+    ensures row { option_map comparison_view result ≡ option_and_then
+        (λ r. if says_differ r.says then Some r else None) (option_map comparison_view row.entry) }
     ensures small { IfSome result (λ c. IsTrue (is_short c)) }
 {
     match row {
@@ -119,8 +124,8 @@ fn if_not<'a>(row: Option<Comparison<'a>>) -> Option<Comparison<'a>>
 /// The row that says that the form is more than 0.
 fn above_row<'a>(row: Comparison<'a>) -> Row<'a>
     requires { IsTrue (is_short row) }
-    ensures row { row_said result ≡ MetricCertificate.above_row (comparison_said row.entry) }
-    ensures small { IsTrue (is_small result) }
+    ensures row { row_view result ≡ MetricCertificate.above_row (comparison_view row.entry) }
+    ensures small { IsTrue (is_small_row result) }
 {
     Row::Sums {
         says: Says::More,
@@ -133,8 +138,8 @@ fn above_row<'a>(row: Comparison<'a>) -> Row<'a>
 /// The row that says that the form is less than 0.
 fn below_row<'a>(row: Comparison<'a>) -> Row<'a>
     requires { IsTrue (is_short row) }
-    ensures row { row_said result ≡ MetricCertificate.below_row (comparison_said row.entry) }
-    ensures small { IsTrue (is_small result) }
+    ensures row { row_view result ≡ MetricCertificate.below_row (comparison_view row.entry) }
+    ensures small { IsTrue (is_small_row result) }
 {
     Row::Sums {
         says: Says::More,

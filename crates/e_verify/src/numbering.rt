@@ -10,20 +10,20 @@ ghost use Rattle.e_clause.specs.declared.cert.Version.TheVariants as version;
 ghost use Rattle.e_deriv.specs.Certified.{Certified};
 ghost use Rattle.e_deriv.specs.Fitting.{is_small, is_small_statement};
 ghost use Rattle.e_deriv.specs.declared.block.Close.TheVariants.{Contradiction as ContradictionClose};
-ghost use Rattle.e_deriv.specs.Script.{Cite, Hence, Make, Apply, Qed, script_of, step_script, close_script, erased};
+ghost use Rattle.e_deriv.specs.Script.{Cite, Hence, Make, Apply, Claim, Superposed, Qed, script_of, step_script, close_script, erased};
 ghost use Rattle.e_deriv.specs.Versions.{has_certs_of};
 ghost use Rattle.e_verify.specs.Numbered;
 ghost use Rattle.e_verify.specs.Numbered.{derivation_with_places};
 ghost use Rattle.e_verify.specs.Verdicts.{IsVerifiable};
-ghost use Rattle.e_verify.specs.Checking.{KeepsFacts};
+ghost use Rattle.e_verify.specs.Checking.{KeepsFirstFacts};
 ghost use Rattle.e_verify.specs.inner.Numbering.{HaveFew, IsNumberedStep, places_at};
-ghost use Rattle.e_verify.specs.inner.Standing.{after_superposed, goal_said};
+ghost use Rattle.e_verify.specs.inner.StepStates.{state_after_superposed, block_goal};
 
 use crate::closes::{are_of_sorts, goal_with};
 use crate::ending::{Head, claimed, split, superposed};
 use crate::facts::Facts;
 use crate::places::{placed_against, placed_cert, placed_certs};
-use crate::standing::{Goal, Standing};
+use crate::step_state::{Goal, StepState};
 use crate::steps::all_written;
 use crate::verifier::{NOTHING, begin};
 use e_clause::{Against, By, Cert};
@@ -41,8 +41,9 @@ const MOST_OBJECTS: u16 = 1_000;
 /// The first number that is no place.
 const PLACES: usize = 1 << 32;
 
-/// The derivation where each certificate cites a fact by its place among the facts before its line, and none by a literal. It has the
-/// same lines, and what is certified stays so. One that has places already is itself.
+/// The derivation where each certificate cites a fact by its place among the facts before its line,
+/// and none by a literal. It has the same lines, and what is certified stays so. One that has
+/// places already is itself.
 ///
 /// A certified derivation fails only out of memory.
 pub fn numbered(
@@ -51,21 +52,25 @@ pub fn numbered(
     statement: &Statement,
     deriv: &Block,
 ) -> Result<Block, AllocError>
-    requires verifiable { IsVerifiable (all_stated before.now) (stated statement.now) (script_of deriv.now) }
-    requires certified { Certified (all_stated before.now) (stated statement.now) (script_of deriv.now) }
-    ensures numbered { IfOk result (λ d. script_of d ≡ derivation_with_places (all_stated before.now) (stated statement.now) (script_of deriv.now)) }
+    requires verifiable { IsVerifiable (all_stated before.now) (stated statement.now)
+        (script_of deriv.now) }
+    requires certified { Certified (all_stated before.now) (stated statement.now)
+        (script_of deriv.now) }
+    ensures numbered { IfOk result (λ d. script_of d ≡ derivation_with_places
+        (all_stated before.now) (stated statement.now) (script_of deriv.now)) }
     ensures script { IfOk result (λ d. erased (script_of d) ≡ erased (script_of deriv.now)) }
-    ensures certified { IfOk result (λ d. Certified (all_stated before.now) (stated statement.now) (script_of d)) }
+    ensures certified { IfOk result
+        (λ d. Certified (all_stated before.now) (stated statement.now) (script_of d)) }
     ensures version { IfOk result (λ d. IsTrue (has_certs_of version.Two (script_of d))) }
 {
     let scope = grown(NOTHING, statement.declared.items());
     let made = next_objects(alloc, scope, statement.made.items())?;
-    let mut standing = begin(alloc, scope, statement)?;
+    let mut state = begin(alloc, scope, statement)?;
     let goal = Goal {
         made: &made,
         shown: statement.shown.items(),
     };
-    number_block(alloc, before, deriv, &goal, &mut standing)
+    number_block(alloc, before, deriv, &goal, &mut state)
 }
 
 /// The block with places, where this holds before it.
@@ -75,21 +80,23 @@ fn number_block(
     before: &[Statement],
     block: &Block,
     goal: &Goal,
-    standing: &mut Standing,
+    state: &mut StepState,
 ) -> Result<Block, AllocError>
     requires { IsTrue (list_all is_small_statement (all_stated before.now)) }
-    ensures same { IfOk result (λ b. script_of b ≡ places_at (all_stated before.now) (script_of block.now) standing.old (goal_said goal.now)) }
-    ensures few { OnOk result (HaveFew (all_stated before.now) (script_of block.now) standing.old (goal_said goal.now)) }
-    ensures kept { OnOk result (KeepsFacts standing.old standing.new) }
+    ensures same { IfOk result (λ b. script_of b
+        ≡ places_at (all_stated before.now) (script_of block.now) state.old (block_goal goal.now)) }
+    ensures few { OnOk result
+        (HaveFew (all_stated before.now) (script_of block.now) state.old (block_goal goal.now)) }
+    ensures kept { OnOk result (KeepsFirstFacts state.old state.new) }
 {
     let mut steps = Vec::new(alloc);
     for step in &block.steps {
-        match number_step(alloc, before, step, standing) {
+        match number_step(alloc, before, step, state) {
             Ok(numbered) => steps.push(numbered)?,
             Err(_) => return Err(AllocError),
         }
     }
-    match number_close(alloc, before, &block.close, goal, standing) {
+    match number_close(alloc, before, &block.close, goal, state) {
         Ok(close) => Ok(Block { steps, close }),
         Err(_) => Err(AllocError),
     }
@@ -101,20 +108,21 @@ fn number_step(
     alloc: Global,
     before: &[Statement],
     step: &Step,
-    standing: &mut Standing,
+    state: &mut StepState,
 ) -> Result<Step, AllocError>
     requires { IsTrue (list_all is_small_statement (all_stated before.now)) }
-    ensures step { IfOk result (λ s. IsNumberedStep (all_stated before.now) (step_script step.now) standing.old (step_script s) standing.new) }
-    ensures few { OnOk result (length standing.old.facts < 2 ^ 32) }
+    ensures step { IfOk result (λ s. IsNumberedStep (all_stated before.now) (step_script step.now)
+        state.old (step_script s) state.new) }
+    ensures few { OnOk result (length state.old.facts < 2 ^ 32) }
 {
-    if standing.facts.mark() >= PLACES {
+    if state.facts.len() >= PLACES {
         return Err(AllocError);
     }
     match step {
-        Step::Cite(by) => cite(alloc, by, standing),
-        Step::Hence { lit, cert } => hence(alloc, lit, cert, standing),
+        Step::Cite(by) => cite(alloc, by, state),
+        Step::Hence { lit, cert } => hence(alloc, lit, cert, state),
         Step::Make { form, names, certs } => {
-            make(alloc, form, names.items(), certs.items(), standing)
+            make(alloc, form, names.items(), certs.items(), state)
         }
         Step::Apply {
             theorem,
@@ -128,19 +136,9 @@ fn number_step(
                 names: names.items(),
                 certs: certs.items(),
             };
-            apply(alloc, before, &line, standing)
+            apply(alloc, before, &line, state)
         }
-        Step::Claim { shown, inner } => {
-            let outer = standing.enter();
-            let goal = Goal {
-                made: &[],
-                shown: shown.items(),
-            };
-            match number_block(alloc, before, inner, &goal, standing) {
-                Ok(numbered) => claimed(alloc, shown.items(), numbered, outer, standing),
-                Err(_) => Err(AllocError),
-            }
-        }
+        Step::Claim { shown, inner } => number_claim(alloc, before, shown.items(), inner, state),
         Step::Superposed {
             form,
             names,
@@ -148,27 +146,80 @@ fn number_step(
             certs,
             inner,
         } => {
-            let outer = standing.enter();
-            let certs = match superpose(alloc, form, certs.items(), standing) {
-                Ok(certs) => certs,
-                Err(_) => return Err(AllocError),
-            };
-            let goal = Goal {
-                made: &[],
+            let superposition = Superposition {
+                form,
+                names: names.items(),
                 shown: shown.items(),
+                certs: certs.items(),
             };
-            match number_block(alloc, before, inner, &goal, standing) {
-                Ok(numbered) => {
-                    let head = Head {
-                        form,
-                        names: names.items(),
-                        certs,
-                    };
-                    superposed(alloc, head, shown.items(), numbered, outer, standing)
-                }
-                Err(_) => Err(AllocError),
-            }
+            number_superposed(alloc, before, &superposition, inner, state)
         }
+    }
+}
+
+/// A claim with its block, with places.
+#[cycle(number)]
+fn number_claim(
+    alloc: Global,
+    before: &[Statement],
+    shown: &[Lit],
+    inner: &Block,
+    state: &mut StepState,
+) -> Result<Step, AllocError>
+    requires { IsTrue (list_all is_small_statement (all_stated before.now)) }
+    ensures { IfOk result (λ s. IsNumberedStep (all_stated before.now)
+        (Claim shown.now (script_of inner.now)) state.old (step_script s) state.new) }
+{
+    let outer = state.checkpoint();
+    let goal = Goal { made: &[], shown };
+    match number_block(alloc, before, inner, &goal, state) {
+        Ok(numbered) => claimed(alloc, shown, numbered, outer, state),
+        Err(_) => Err(AllocError),
+    }
+}
+
+/// A superposition without its block.
+#[derive(Clone, Copy)]
+struct Superposition<'a> {
+    form: &'a Superpose,
+    names: &'a [Name],
+    shown: &'a [Lit],
+    certs: &'a [Cert],
+}
+
+/// A superposition with its block, with places.
+#[cycle(number)]
+fn number_superposed(
+    alloc: Global,
+    before: &[Statement],
+    superposition: &Superposition,
+    inner: &Block,
+    state: &mut StepState,
+) -> Result<Step, AllocError>
+    requires { IsTrue (list_all is_small_statement (all_stated before.now)) }
+    ensures { IfOk result (λ s. IsNumberedStep
+        (all_stated before.now) (Superposed superposition.now.form.now superposition.now.names.now
+        superposition.now.shown.now superposition.now.certs.now (script_of inner.now)) state.old
+        (step_script s) state.new) }
+{
+    let Superposition {
+        form,
+        names,
+        shown,
+        certs,
+    } = *superposition;
+    let outer = state.checkpoint();
+    let certs = match superpose(alloc, form, certs, state) {
+        Ok(certs) => certs,
+        Err(_) => return Err(AllocError),
+    };
+    let goal = Goal { made: &[], shown };
+    match number_block(alloc, before, inner, &goal, state) {
+        Ok(numbered) => {
+            let head = Head { form, names, certs };
+            superposed(alloc, head, shown, numbered, outer, state)
+        }
+        Err(_) => Err(AllocError),
     }
 }
 
@@ -179,37 +230,37 @@ fn number_close(
     before: &[Statement],
     close: &Close,
     goal: &Goal,
-    standing: &mut Standing,
+    state: &mut StepState,
 ) -> Result<Close, AllocError>
     requires { IsTrue (list_all is_small_statement (all_stated before.now)) }
-    ensures same { IfOk result (λ c. close_script c ≡ places_at (all_stated before.now) (close_script close.now) standing.old (goal_said goal.now)) }
-    ensures few { OnOk result (HaveFew (all_stated before.now) (close_script close.now) standing.old (goal_said goal.now)) }
-    ensures kept { OnOk result (KeepsFacts standing.old standing.new) }
+    ensures same { IfOk result (λ c. close_script c ≡ places_at (all_stated before.now)
+        (close_script close.now) state.old (block_goal goal.now)) }
+    ensures few { OnOk result
+        (HaveFew (all_stated before.now) (close_script close.now) state.old (block_goal goal.now)) }
+    ensures kept { OnOk result (KeepsFirstFacts state.old state.new) }
 {
-    if standing.facts.mark() >= PLACES {
+    if state.facts.len() >= PLACES {
         return Err(AllocError);
     }
     match close {
-        Close::Qed { objects, certs } => {
-            qed(alloc, objects.items(), certs.items(), goal, standing)
-        }
-        Close::Contradiction { against } => contradiction(alloc, against, &standing.facts),
+        Close::Qed { objects, certs } => { qed(alloc, objects.items(), certs.items(), goal, state) }
+        Close::Contradiction { against } => contradiction(alloc, against, &state.facts),
         Close::Cases { lit, first, second } => {
-            let outer = standing.enter();
-            standing.suppose(alloc, lit)?;
-            let one = match number_block(alloc, before, first, goal, standing) {
+            let outer = state.checkpoint();
+            state.assume(alloc, lit)?;
+            let one = match number_block(alloc, before, first, goal, state) {
                 Ok(one) => one,
                 Err(_) => return Err(AllocError),
             };
-            standing.leave(outer);
-            match standing.suppose_not(alloc, lit) {
+            state.restore(outer);
+            match state.assume_not(alloc, lit) {
                 Ok(()) => {}
                 Err(_) => {
                     mem::drop(one);
                     return Err(AllocError);
                 }
             }
-            match number_block(alloc, before, second, goal, standing) {
+            match number_block(alloc, before, second, goal, state) {
                 Ok(other) => split(alloc, lit, one, other),
                 Err(_) => {
                     mem::drop(one);
@@ -220,26 +271,28 @@ fn number_close(
     }
 }
 
-#[tactic(auto, using(crate::proofs::NumberedSteps::placing))]
-fn cite(alloc: Global, by: &By, standing: &mut Standing) -> Result<Step, AllocError>
-    ensures { IfOk result (λ s. (before : List Stated) → IsNumberedStep before (Cite by.now) standing.old (step_script s) standing.new) }
+#[tactic(auto, using(crate::proofs::placing::NumberedSteps::placing))]
+fn cite(alloc: Global, by: &By, state: &mut StepState) -> Result<Step, AllocError>
+    ensures { IfOk result (λ s. (before : List Stated)
+        → IsNumberedStep before (Cite by.now) state.old (step_script s) state.new) }
 {
-    standing.suppose(alloc, &by.lit)?;
+    state.assume(alloc, &by.lit)?;
     let by = copy_by(alloc, by)?;
     Ok(Step::Cite(by))
 }
 
-#[tactic(auto, using(crate::proofs::NumberedSteps::placing))]
+#[tactic(auto, using(crate::proofs::placing::NumberedSteps::placing))]
 fn hence(
     alloc: Global,
     lit: &Lit,
     cert: &Option<Cert>,
-    standing: &mut Standing,
+    state: &mut StepState,
 ) -> Result<Step, AllocError>
-    ensures { IfOk result (λ s. (before : List Stated) → IsNumberedStep before (Hence lit.now cert.now) standing.old (step_script s) standing.new) }
+    ensures { IfOk result (λ s. (before : List Stated)
+        → IsNumberedStep before (Hence lit.now cert.now) state.old (step_script s) state.new) }
 {
-    let cert = placed_option(alloc, &standing.facts, lit, cert)?;
-    standing.suppose(alloc, lit)?;
+    let cert = placed_option(alloc, &state.facts, lit, cert)?;
+    state.assume(alloc, lit)?;
     let lit = copy(alloc, lit)?;
     Ok(Step::Hence { lit, cert })
 }
@@ -251,7 +304,8 @@ fn placed_option(
     lit: &Lit,
     cert: &Option<Cert>,
 ) -> Result<Option<Cert>, AllocError>
-    ensures { IfOk result (λ c. c ≡ option_map (Numbered.placed_cert facts.now lit.now) cert.now) }
+    ensures { IfOk result
+        (λ c. c ≡ option_map (Numbered.cert_with_places facts.now lit.now) cert.now) }
 {
     match cert {
         Some(cert) => Ok(Some(placed_cert(alloc, facts, lit, cert)?)),
@@ -259,25 +313,26 @@ fn placed_option(
     }
 }
 
-#[tactic(auto, using(crate::proofs::NumberedSteps::placing))]
+#[tactic(auto, using(crate::proofs::placing::NumberedSteps::placing))]
 fn make(
     alloc: Global,
     form: &Construction,
     names: &[Name],
     certs: &[Cert],
-    standing: &mut Standing,
+    state: &mut StepState,
 ) -> Result<Step, AllocError>
-    ensures { IfOk result (λ s. (before : List Stated) → IsNumberedStep before (Make form.now names.now certs.now) standing.old (step_script s) standing.new) }
+    ensures { IfOk result (λ s. (before : List Stated) → IsNumberedStep before
+        (Make form.now names.now certs.now) state.old (step_script s) state.new) }
 {
-    let scope = standing.scope;
+    let scope = state.scope;
     if !has_room(scope) || !form.fits(scope) {
         return Err(AllocError);
     }
     let needs = form.needs(alloc)?;
-    let certs = placed_certs(alloc, &standing.facts, &needs, certs)?;
+    let certs = placed_certs(alloc, &state.facts, &needs, certs)?;
     let given = form.gives(alloc, scope)?;
-    standing.scope = grown(scope, form.made());
-    standing.facts.join(given)?;
+    state.scope = grown(scope, form.made());
+    state.facts.join(given)?;
     let names = Items::new(Vec::from_slice(alloc, names)?);
     let form = copy_construction(alloc, form)?;
     Ok(Step::Make { form, names, certs })
@@ -292,17 +347,19 @@ struct Application<'a> {
     certs: &'a [Cert],
 }
 
-#[tactic(auto, using(crate::proofs::NumberedSteps::placing))]
+#[tactic(auto, using(crate::proofs::placing::NumberedSteps::placing))]
 fn apply(
     alloc: Global,
     before: &[Statement],
     line: &Application,
-    standing: &mut Standing,
+    state: &mut StepState,
 ) -> Result<Step, AllocError>
     requires { IsTrue (list_all is_small_statement (all_stated before.now)) }
-    ensures { IfOk result (λ s. IsNumberedStep (all_stated before.now) (Apply line.now.theorem line.now.args.now line.now.names.now line.now.certs.now) standing.old (step_script s) standing.new) }
+    ensures { IfOk result (λ s. IsNumberedStep (all_stated before.now)
+        (Apply line.now.theorem line.now.args.now line.now.names.now line.now.certs.now) state.old
+        (step_script s) state.new) }
 {
-    let scope = standing.scope;
+    let scope = state.scope;
     let Some(statement) = before.get(line.theorem as usize) else {
         return Err(AllocError);
     };
@@ -316,9 +373,9 @@ fn apply(
         Ok(applied) => applied,
         Err(UseFault::BadArgs | UseFault::NoMemory) => return Err(AllocError),
     };
-    let certs = placed_certs(alloc, &standing.facts, applied.needs.items(), line.certs)?;
-    standing.scope = grown(scope, statement.made.items());
-    standing.suppose_all(alloc, applied.gives.items())?;
+    let certs = placed_certs(alloc, &state.facts, applied.needs.items(), line.certs)?;
+    state.scope = grown(scope, statement.made.items());
+    state.assume_all(alloc, applied.gives.items())?;
     let args = Items::new(Vec::from_slice(alloc, line.args)?);
     let names = Items::new(Vec::from_slice(alloc, line.names)?);
     Ok(Step::Apply {
@@ -329,43 +386,46 @@ fn apply(
     })
 }
 
-/// The certificates of a superposition; then the copied points are in scope, and what it gives are facts.
+/// The certificates of a superposition; then the copied points are in scope, and what it gives are
+/// facts.
 fn superpose(
     alloc: Global,
     form: &Superpose,
     certs: &[Cert],
-    standing: &mut Standing,
+    state: &mut StepState,
 ) -> Result<Items<Cert>, AllocError>
-    ensures certs { IfOk result (λ cs. cs ≡ Numbered.placed_certs standing.old.facts (superposing.needs form.now) certs.now) }
-    ensures after { OnOk result (standing.new ≡ after_superposed form.now standing.old) }
+    ensures certs { IfOk result (λ cs. cs
+        ≡ Numbered.certs_with_places state.old.facts (superposing.needs form.now) certs.now) }
+    ensures after { OnOk result (state.new ≡ state_after_superposed form.now state.old) }
 {
-    let scope = standing.scope;
+    let scope = state.scope;
     if !has_room(scope) {
         return Err(AllocError);
     }
     let needs = form.needs(alloc)?;
-    let certs = placed_certs(alloc, &standing.facts, &needs, certs)?;
+    let certs = placed_certs(alloc, &state.facts, &needs, certs)?;
     let given = form.gives(alloc, scope)?;
-    standing.scope = grown(scope, form.made());
-    standing.facts.join(given)?;
+    state.scope = grown(scope, form.made());
+    state.facts.join(given)?;
     Ok(certs)
 }
 
-#[tactic(auto, using(crate::proofs::NumberedSteps::placing))]
+#[tactic(auto, using(crate::proofs::placing::NumberedSteps::placing))]
 fn qed(
     alloc: Global,
     objects: &[Obj],
     certs: &[Cert],
     goal: &Goal,
-    standing: &Standing,
+    state: &StepState,
 ) -> Result<Close, AllocError>
-    ensures { IfOk result (λ c. (before : List Stated) → close_script c ≡ places_at before (Qed objects.now certs.now) standing.now (goal_said goal.now)) }
+    ensures { IfOk result (λ c. (before : List Stated) → close_script c
+        ≡ places_at before (Qed objects.now certs.now) state.now (block_goal goal.now)) }
 {
-    if !are_of_sorts(standing.scope, goal.made, objects) {
+    if !are_of_sorts(state.scope, goal.made, objects) {
         return Err(AllocError);
     }
     let wanted = goal_with(alloc, goal, objects)?;
-    let certs = placed_certs(alloc, &standing.facts, &wanted, certs)?;
+    let certs = placed_certs(alloc, &state.facts, &wanted, certs)?;
     let objects = Items::new(Vec::from_slice(alloc, objects)?);
     Ok(Close::Qed { objects, certs })
 }
@@ -375,7 +435,8 @@ fn contradiction(
     against: &Option<Against>,
     facts: &Facts,
 ) -> Result<Close, AllocError>
-    ensures { IfOk result (λ c. c ≡ ContradictionClose (option_map (Numbered.placed_against facts.now) against.now)) }
+    ensures { IfOk result (λ c. c
+        ≡ ContradictionClose (option_map (Numbered.against_with_places facts.now) against.now)) }
 {
     let against = match against {
         Some(against) => Some(placed_against(alloc, facts, against)?),
@@ -384,7 +445,8 @@ fn contradiction(
     Ok(Close::Contradiction { against })
 }
 
-/// Whether at most 1,000 objects of each sort are in scope, as before each line of a derivation that can be checked.
+/// Whether at most 1,000 objects of each sort are in scope, as before each line of a derivation
+/// that can be checked.
 fn has_room(scope: Scope) -> bool
     ensures { result ≡ is_small scope }
 {

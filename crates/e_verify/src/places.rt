@@ -1,4 +1,4 @@
-// Certificates with the places of the facts that they cite, in place of the literals.
+//! Certificates with the places of the facts that they cite, in place of the literals.
 
 ghost use Rattle.std.specs.Prelude.{◌≡◌, ◌<◌, ◌++◌, ◌^◌, IfOk, OnOk, false};
 ghost use Rattle.e_literal.specs.Same.{coeff_of, agree_at, one_term};
@@ -17,9 +17,10 @@ struct Placed {
     turned: bool,
 }
 
-/// The place of the fact that is the same as the literal; an error where none is, or it is past 32 bits.
+/// The place of the fact that is the same as the literal; an error where none is, or it is past 32
+/// bits.
 fn place_among(facts: &Facts, lit: &Lit) -> Result<u32, AllocError>
-    ensures { IfOk result (λ k. k ≡ Numbered.place_among facts.now lit.now) }
+    ensures { IfOk result (λ k. k ≡ Numbered.place_of_same facts.now lit.now) }
 {
     match facts.place_of(lit) {
         Some(place) if place <= u32::MAX as usize => Ok(place as u32),
@@ -29,17 +30,17 @@ fn place_among(facts: &Facts, lit: &Lit) -> Result<u32, AllocError>
 
 /// Whether the row of the literal is opposite to that of the fact at this place, which is the same.
 fn is_turned(facts: &Facts, place: u32, lit: &Lit) -> Result<bool, AllocError>
-    requires { place ≡ Numbered.place_among facts.now lit.now }
-    ensures { IfOk result (λ b. b ≡ Numbered.is_turned facts.now lit.now) }
+    requires { place ≡ Numbered.place_of_same facts.now lit.now }
+    ensures { IfOk result (λ b. b ≡ Numbered.has_opposite_row facts.now lit.now) }
 {
-    match facts.at(place) {
+    match facts.get(place) {
         Some(fact) => Ok(are_turned(&lit.atom, &fact.atom)),
         None => Err(AllocError),
     }
 }
 
 fn are_turned(a: &Atom, b: &Atom) -> bool
-    ensures { result ≡ Numbered.are_turned a.now b.now }
+    ensures { result ≡ Numbered.have_opposite_rows a.now b.now }
 {
     match (a, b) {
         (Atom::MagEq(x, y), Atom::MagEq(z, w)) => {
@@ -50,7 +51,7 @@ fn are_turned(a: &Atom, b: &Atom) -> bool
 }
 
 fn count_alike(x: &[Mono], y: &[Mono], z: &[Mono], w: &[Mono]) -> bool
-    ensures { result ≡ Numbered.count_alike x.now y.now z.now w.now }
+    ensures { result ≡ Numbered.have_one_form x.now y.now z.now w.now }
 {
     count_alike_at(x, y, z, w, x)
         && count_alike_at(x, y, z, w, y)
@@ -59,7 +60,7 @@ fn count_alike(x: &[Mono], y: &[Mono], z: &[Mono], w: &[Mono]) -> bool
 }
 
 fn count_alike_at(x: &[Mono], y: &[Mono], z: &[Mono], w: &[Mono], terms: &[Mono]) -> bool
-    ensures { result ≡ Numbered.count_alike_at x.now y.now z.now w.now terms.now }
+    ensures { result ≡ Numbered.have_one_form_at x.now y.now z.now w.now terms.now }
 {
     terms
         .iter()
@@ -94,7 +95,8 @@ fn is_one_term(a: Term, b: Term) -> bool
 
 /// The name with its place.
 fn placed_name(facts: &Facts, name: &RowName) -> Result<Placed, AllocError>
-    ensures { IfOk result (λ p. (p.name ≡ Numbered.placed_name facts.now name.now) × (p.turned ≡ Numbered.turns facts.now name.now)) }
+    ensures { IfOk result (λ p. (p.name ≡ Numbered.name_with_place facts.now name.now)
+        × (p.turned ≡ Numbered.turns facts.now name.now)) }
 {
     match name {
         RowName::Fact(lit) => {
@@ -131,7 +133,7 @@ fn placed_row(
     multiplier: i128,
     name: &RowName,
 ) -> Result<(i128, RowName), AllocError>
-    ensures { IfOk result (λ x. x ≡ Numbered.placed_row facts.now (multiplier, name.now)) }
+    ensures { IfOk result (λ x. x ≡ Numbered.row_with_place facts.now (multiplier, name.now)) }
 {
     let placed = placed_name(facts, name)?;
     if !placed.turned {
@@ -148,7 +150,7 @@ fn placed_sum(
     facts: &Facts,
     sum: &[(i128, RowName)],
 ) -> Result<Vec<(i128, RowName)>, AllocError>
-    ensures { IfOk result (λ v. v.items ≡ Numbered.placed_sum facts.now sum.now) }
+    ensures { IfOk result (λ v. v.items ≡ Numbered.sum_with_places facts.now sum.now) }
 {
     let mut rows = Vec::new(alloc);
     for row in sum {
@@ -159,7 +161,7 @@ fn placed_sum(
 
 /// The rows where the form that is said not to be 0 has changed its sign.
 fn swapped(alloc: Global, sum: Vec<(i128, RowName)>) -> Result<Vec<(i128, RowName)>, AllocError>
-    ensures { IfOk result (λ v. v.items ≡ Numbered.swapped sum.items) }
+    ensures { IfOk result (λ v. v.items ≡ Numbered.sides_swapped sum.items) }
 {
     let mut rows = Vec::new(alloc);
     for row in sum {
@@ -169,7 +171,7 @@ fn swapped(alloc: Global, sum: Vec<(i128, RowName)>) -> Result<Vec<(i128, RowNam
 }
 
 fn other_side(name: RowName) -> RowName
-    ensures { result ≡ Numbered.other_side name }
+    ensures { result ≡ Numbered.opposite_side name }
 {
     match name {
         RowName::Above => RowName::Below,
@@ -179,7 +181,7 @@ fn other_side(name: RowName) -> RowName
 }
 
 fn placed_sums(alloc: Global, facts: &Facts, sums: &Sums) -> Result<Sums, AllocError>
-    ensures { IfOk result (λ s. s ≡ Numbered.placed_sums facts.now sums.now) }
+    ensures { IfOk result (λ s. s ≡ Numbered.sums_with_places facts.now sums.now) }
 {
     match sums {
         Sums::One(sum) => Ok(Sums::One(Sum::new(placed_sum(alloc, facts, sum.rows())?))),
@@ -202,7 +204,8 @@ fn two_sums(
     above: Vec<(i128, RowName)>,
     below: Vec<(i128, RowName)>,
 ) -> Result<Sums, AllocError>
-    ensures { IfOk result (λ s. s ≡ Numbered.two_placed differs.turned differs.name above.items below.items) }
+    ensures { IfOk result
+        (λ s. s ≡ Numbered.two_placed differs.turned differs.name above.items below.items) }
 {
     let (above, below) = if differs.turned {
         (swapped(alloc, below)?, swapped(alloc, above)?)
@@ -217,7 +220,7 @@ fn two_sums(
 }
 
 fn placed_metric(alloc: Global, facts: &Facts, cert: &MetricCert) -> Result<MetricCert, AllocError>
-    ensures { IfOk result (λ c. c.sums ≡ Numbered.placed_sums facts.now cert.now.sums) }
+    ensures { IfOk result (λ c. c.sums ≡ Numbered.sums_with_places facts.now cert.now.sums) }
 {
     Ok(MetricCert {
         sums: placed_sums(alloc, facts, &cert.sums)?,
@@ -225,7 +228,7 @@ fn placed_metric(alloc: Global, facts: &Facts, cert: &MetricCert) -> Result<Metr
 }
 
 fn placed_part(alloc: Global, facts: &Facts, lit: &Lit, part: &Part) -> Result<Part, AllocError>
-    ensures { IfOk result (λ p. p ≡ Numbered.placed_part facts.now lit.now part.now) }
+    ensures { IfOk result (λ p. p ≡ Numbered.part_with_places facts.now lit.now part.now) }
 {
     match part {
         Part::Fact => Ok(Part::FactAt(place_among(facts, lit)?)),
@@ -235,7 +238,7 @@ fn placed_part(alloc: Global, facts: &Facts, lit: &Lit, part: &Part) -> Result<P
 }
 
 /// Puts the parts last, each for its literal.
-#[tactic(auto, using(crate::proofs::PairedPlaces::parts))]
+#[tactic(auto, using(crate::proofs::placing::PairedPlaces::parts))]
 fn put_parts(
     alloc: Global,
     facts: &Facts,
@@ -243,7 +246,8 @@ fn put_parts(
     parts: &[Part],
     out: &mut Vec<Part>,
 ) -> Result<(), AllocError>
-    ensures { OnOk result (out.new.items ≡ out.old.items ++ Numbered.placed_parts facts.now lits.now parts.now) }
+    ensures { OnOk result
+        (out.new.items ≡ out.old.items ++ Numbered.parts_with_places facts.now lits.now parts.now) }
 {
     match (lits, parts) {
         ([lit, lits @ ..], [part, parts @ ..]) => {
@@ -261,7 +265,7 @@ fn placed_transfer(
     lit: &Lit,
     cert: &TransferCert,
 ) -> Result<TransferCert, AllocError>
-    ensures { IfOk result (λ c. c ≡ Numbered.placed_transfer facts.now lit.now cert.now) }
+    ensures { IfOk result (λ c. c ≡ Numbered.transfer_with_places facts.now lit.now cert.now) }
 {
     let mut parts = Vec::new(alloc);
     match instance_of(alloc, cert.rule, cert.args.items())? {
@@ -281,7 +285,7 @@ fn placed_transfer(
 
 /// The certificate of a literal, with the places of facts.
 pub fn placed_cert(alloc: Global, facts: &Facts, lit: &Lit, cert: &Cert) -> Result<Cert, AllocError>
-    ensures { IfOk result (λ c. c ≡ Numbered.placed_cert facts.now lit.now cert.now) }
+    ensures { IfOk result (λ c. c ≡ Numbered.cert_with_places facts.now lit.now cert.now) }
 {
     match cert {
         Cert::Plain(part) => Ok(Cert::Plain(placed_part(alloc, facts, lit, part)?)),
@@ -298,7 +302,7 @@ pub fn placed_certs(
     lits: &[Lit],
     certs: &[Cert],
 ) -> Result<Items<Cert>, AllocError>
-    ensures { IfOk result (λ cs. cs ≡ Numbered.placed_certs facts.now lits.now certs.now) }
+    ensures { IfOk result (λ cs. cs ≡ Numbered.certs_with_places facts.now lits.now certs.now) }
 {
     let mut out = Vec::new(alloc);
     put_certs(alloc, facts, lits, certs, &mut out)?;
@@ -306,7 +310,7 @@ pub fn placed_certs(
 }
 
 /// Puts the certificates last, each for its literal.
-#[tactic(auto, using(crate::proofs::PairedPlaces::certs))]
+#[tactic(auto, using(crate::proofs::placing::PairedPlaces::certs))]
 fn put_certs(
     alloc: Global,
     facts: &Facts,
@@ -314,7 +318,8 @@ fn put_certs(
     certs: &[Cert],
     out: &mut Vec<Cert>,
 ) -> Result<(), AllocError>
-    ensures { OnOk result (out.new.items ≡ out.old.items ++ Numbered.placed_certs facts.now lits.now certs.now) }
+    ensures { OnOk result
+        (out.new.items ≡ out.old.items ++ Numbered.certs_with_places facts.now lits.now certs.now) }
 {
     match (lits, certs) {
         ([lit, lits @ ..], [cert, certs @ ..]) => {
@@ -332,7 +337,7 @@ pub fn placed_against(
     facts: &Facts,
     against: &Against,
 ) -> Result<Against, AllocError>
-    ensures { IfOk result (λ a. a ≡ Numbered.placed_against facts.now against.now) }
+    ensures { IfOk result (λ a. a ≡ Numbered.against_with_places facts.now against.now) }
 {
     match against {
         Against::Clash { lit } => Ok(Against::Clash {

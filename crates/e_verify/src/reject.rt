@@ -1,4 +1,4 @@
-// Why a derivation is refused.
+//! Why a derivation is refused.
 
 ghost use Rattle.std.specs.Prelude.{◌≡◌};
 ghost use Rattle.e_verify.specs.declared.reject.Reject.TheVariants.{NoMemory};
@@ -9,10 +9,11 @@ use thiserror::Error;
 /// Why a derivation is refused.
 #[derive(Debug, Drop, PartialEq, Eq, Error)]
 pub enum Reject {
-    /// The line with this number, counted from 1 among the step and close lines, is the first that is not certified.
+    /// The line with this number, counted from 1 among the step and close lines, is the first that
+    /// is not certified.
     #[error("line {step} is not certified")]
     Bad { step: u32 },
-    /// Want of memory.
+    /// Out of memory.
     #[error("out of memory")]
     NoMemory,
 }

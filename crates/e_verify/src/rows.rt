@@ -1,4 +1,4 @@
-// The rows that a sum names.
+//! The rows that a sum names.
 
 ghost use Rattle.std.specs.Prelude.{◌≡◌, IfSome, IsTrue, true};
 ghost use Rattle.std.specs.Option.{option_map, option_map_or, option_copied};
@@ -8,10 +8,10 @@ ghost use Rattle.e_literal.specs.Rows.{row_of_atom};
 ghost use Rattle.e_literal.specs.WellFormed.{is_good_atom, is_well_formed};
 ghost use Rattle.e_clause.specs.Sum;
 ghost use Rattle.e_clause.specs.declared.cert.RowName.TheVariants.{Least};
-ghost use Rattle.e_verify.specs.inner.Small.{is_small, is_short};
-ghost use Rattle.e_verify.specs.inner.Views.{row_said, comparison_said, says_of, place_said};
+ghost use Rattle.e_verify.specs.inner.Small.{is_small_row, is_short};
+ghost use Rattle.e_verify.specs.inner.Views.{row_view, comparison_view, says_view, row_scope_view};
 ghost use Rattle.e_clause.specs.Written.{is_good_name};
-ghost use Rattle.e_verify.specs.inner.Placed.{is_good_place};
+ghost use Rattle.e_verify.specs.inner.RowScopes.{is_good_row_scope};
 
 use crate::facts::{Facts, stands_in};
 use e_clause::RowName;
@@ -54,10 +54,10 @@ pub struct Comparison<'a> {
     pub minus: &'a [Mono],
 }
 
-/// What the names of rows are read at: the facts, the literal that is wanted, none where a contradiction is, and the rows
-/// that `above` and `below` name.
+/// What the names of rows are read at: the facts, the literal that is wanted, none where a
+/// contradiction is, and the rows that `above` and `below` name.
 #[derive(Clone, Copy)]
-pub struct Place<'a> {
+pub struct RowScope<'a> {
     pub facts: &'a Facts,
     pub wanted: Option<&'a Lit>,
     pub above: Option<Row<'a>>,
@@ -67,7 +67,7 @@ pub struct Place<'a> {
 impl<'a> Row<'a> {
     /// What it says of its form.
     pub fn says(&self) -> Says
-        ensures { says_of result ≡ (row_said self.now).says }
+        ensures { says_view result ≡ (row_view self.now).says }
     {
         match self {
             Row::Sums { says, .. } => *says,
@@ -78,29 +78,30 @@ impl<'a> Row<'a> {
 }
 
 /// The row with this name, or none where the name may not be used here.
-pub fn row_named<'a>(place: &Place<'a>, name: &'a RowName) -> Option<Row<'a>>
-    requires place { IsTrue (is_good_place place.now) }
+pub fn row_named<'a>(row_scope: &RowScope<'a>, name: &'a RowName) -> Option<Row<'a>>
+    requires row_scope { IsTrue (is_good_row_scope row_scope.now) }
     requires name { IsTrue (is_good_name name.now) }
-    ensures row { option_map row_said result ≡ Sum.row_named (place_said place.now) name.now }
-    ensures small { IfSome result (λ r. IsTrue (is_small r)) }
+    ensures row { option_map row_view result
+        ≡ Sum.row_named (row_scope_view row_scope.now) name.now }
+    ensures small { IfSome result (λ r. IsTrue (is_small_row r)) }
 {
     match name {
-        RowName::Fact(lit) => unless_not(fact_row(place.facts, lit)),
-        RowName::Goal => unless_not(goal_row(place.wanted)),
-        RowName::Pos(term) => pos_row(place, *term),
-        RowName::Top(term) => top_row(place, *term),
+        RowName::Fact(lit) => unless_not(fact_row(row_scope.facts, lit)),
+        RowName::Goal => unless_not(goal_row(row_scope.wanted)),
+        RowName::Pos(term) => pos_row(row_scope, *term),
+        RowName::Top(term) => top_row(row_scope, *term),
         RowName::Right => Some(Row::Right),
-        RowName::Least(term) => least_row(place, *term),
-        RowName::Above => place.above,
-        RowName::Below => place.below,
-        RowName::FactAt(at) => unless_not(row_at(place.facts, *at)),
+        RowName::Least(term) => least_row(row_scope, *term),
+        RowName::Above => row_scope.above,
+        RowName::Below => row_scope.below,
+        RowName::FactAt(at) => unless_not(row_at(row_scope.facts, *at)),
     }
 }
 
 /// The row of a fact, whatever it says.
 pub fn fact_row<'a>(facts: &Facts, lit: &'a Lit) -> Option<Comparison<'a>>
     requires { IsTrue (is_well_formed lit.now) }
-    ensures row { option_map comparison_said result ≡ Sum.fact_row facts.now lit.now }
+    ensures row { option_map comparison_view result ≡ Sum.fact_row facts.now lit.now }
     ensures small { IfSome result (λ c. IsTrue (is_short c)) }
 {
     if facts.has(lit) {
@@ -113,10 +114,10 @@ pub fn fact_row<'a>(facts: &Facts, lit: &'a Lit) -> Option<Comparison<'a>>
 /// The row of the fact at this place, counted from 0, whatever it says.
 pub fn row_at<'a>(facts: &'a Facts, place: u32) -> Option<Comparison<'a>>
     requires { IsTrue (list_all is_well_formed facts.now) }
-    ensures row { option_map comparison_said result ≡ Sum.row_at facts.now place }
+    ensures row { option_map comparison_view result ≡ Sum.row_at facts.now place }
     ensures small { IfSome result (λ c. IsTrue (is_short c)) }
 {
-    match facts.at(place) {
+    match facts.get(place) {
         Some(lit) => row_of(&lit.atom, lit.neg),
         None => None,
     }
@@ -125,7 +126,7 @@ pub fn row_at<'a>(facts: &'a Facts, place: u32) -> Option<Comparison<'a>>
 /// The row of the negated wanted literal, whatever it says.
 pub fn goal_row<'a>(wanted: Option<&'a Lit>) -> Option<Comparison<'a>>
     requires { IsTrue (option_map_or is_well_formed (option_copied wanted) true) }
-    ensures row { option_map comparison_said result ≡ Sum.goal_row (option_copied wanted.entry) }
+    ensures row { option_map comparison_view result ≡ Sum.goal_row (option_copied wanted.entry) }
     ensures small { IfSome result (λ c. IsTrue (is_short c)) }
 {
     match wanted {
@@ -135,10 +136,10 @@ pub fn goal_row<'a>(wanted: Option<&'a Lit>) -> Option<Comparison<'a>>
 }
 
 /// The row of an atom or of its negation; none where it does not compare magnitudes.
-#[tactic(auto, using(crate::proofs::Smallness::good_sums))]
+#[tactic(auto, using(crate::proofs::arithmetic::SmallSums::good_sums))]
 fn row_of<'a>(atom: &'a Atom, neg: bool) -> Option<Comparison<'a>>
     requires { IsTrue (is_good_atom atom.now) }
-    ensures row { option_map comparison_said result ≡ row_of_atom atom.now neg }
+    ensures row { option_map comparison_view result ≡ row_of_atom atom.now neg }
     ensures small { IfSome result (λ c. IsTrue (is_short c)) }
 {
     match atom {
@@ -167,8 +168,9 @@ fn row_of<'a>(atom: &'a Atom, neg: bool) -> Option<Comparison<'a>>
 /// No row where it says that its form is not 0.
 fn unless_not<'a>(row: Option<Comparison<'a>>) -> Option<Row<'a>>
     requires { IfSome row (λ c. IsTrue (is_short c)) }
-    ensures row { option_map row_said result ≡ Sum.unless_not (option_map comparison_said row.entry) }
-    ensures small { IfSome result (λ r. IsTrue (is_small r)) }
+    ensures row { option_map row_view result
+        ≡ Sum.unless_not (option_map comparison_view row.entry) }
+    ensures small { IfSome result (λ r. IsTrue (is_small_row r)) }
 {
     match row {
         Some(Comparison { says, plus, minus }) => {
@@ -187,12 +189,12 @@ fn unless_not<'a>(row: Option<Comparison<'a>>) -> Option<Row<'a>>
 }
 
 /// A segment of the step whose ends are apart by the facts.
-fn pos_row<'a>(place: &Place<'a>, term: Term) -> Option<Row<'a>>
-    ensures row { option_map row_said result ≡ Sum.pos_of (place_said place.now) term }
-    ensures small { IfSome result (λ r. IsTrue (is_small r)) }
+fn pos_row<'a>(row_scope: &RowScope<'a>, term: Term) -> Option<Row<'a>>
+    ensures row { option_map row_view result ≡ Sum.pos_of (row_scope_view row_scope.now) term }
+    ensures small { IfSome result (λ r. IsTrue (is_small_row r)) }
 {
     match term {
-        Term::Seg(a, b) if is_step_term(place, term) && place.facts.are_apart(a, b) => {
+        Term::Seg(a, b) if is_step_term(row_scope, term) && row_scope.facts.are_apart(a, b) => {
             Some(Row::Pos(term))
         }
         _ => None,
@@ -200,22 +202,23 @@ fn pos_row<'a>(place: &Place<'a>, term: Term) -> Option<Row<'a>>
 }
 
 /// An angle of the step.
-fn top_row<'a>(place: &Place<'a>, term: Term) -> Option<Row<'a>>
-    ensures row { option_map row_said result ≡ Sum.top_of (place_said place.now) term }
-    ensures small { IfSome result (λ r. IsTrue (is_small r)) }
+fn top_row<'a>(row_scope: &RowScope<'a>, term: Term) -> Option<Row<'a>>
+    ensures row { option_map row_view result ≡ Sum.top_of (row_scope_view row_scope.now) term }
+    ensures small { IfSome result (λ r. IsTrue (is_small_row r)) }
 {
     match term {
-        Term::Ang(_, _, _) if is_step_term(place, term) => Some(Row::Top(term)),
+        Term::Ang(_, _, _) if is_step_term(row_scope, term) => Some(Row::Top(term)),
         _ => None,
     }
 }
 
 /// A term of the step.
-fn least_row<'a>(place: &Place<'a>, term: Term) -> Option<Row<'a>>
-    ensures row { option_map row_said result ≡ Sum.row_named (place_said place.now) (Least term) }
-    ensures small { IfSome result (λ r. IsTrue (is_small r)) }
+fn least_row<'a>(row_scope: &RowScope<'a>, term: Term) -> Option<Row<'a>>
+    ensures row { option_map row_view result
+        ≡ Sum.row_named (row_scope_view row_scope.now) (Least term) }
+    ensures small { IfSome result (λ r. IsTrue (is_small_row r)) }
 {
-    if is_step_term(place, term) {
+    if is_step_term(row_scope, term) {
         Some(Row::Least(term))
     } else {
         None
@@ -223,14 +226,14 @@ fn least_row<'a>(place: &Place<'a>, term: Term) -> Option<Row<'a>>
 }
 
 /// Whether the term is one of the step, as it is written there.
-#[tactic(auto, using(crate::proofs::StepTerms::of_step))]
-fn is_step_term(place: &Place, term: Term) -> bool
-    ensures { result ≡ Sum.is_step_term (place_said place.now) term }
+#[tactic(auto, using(crate::proofs::arithmetic::StepTerms::of_step))]
+fn is_step_term(row_scope: &RowScope, term: Term) -> bool
+    ensures { result ≡ Sum.is_step_term (row_scope_view row_scope.now) term }
 {
-    if term == Term::Right || place.facts.has_term(term) {
+    if term == Term::Right || row_scope.facts.has_term(term) {
         return true;
     }
-    match place.wanted {
+    match row_scope.wanted {
         Some(lit) => stands_in(lit, term),
         None => false,
     }

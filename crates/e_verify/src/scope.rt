@@ -1,4 +1,4 @@
-// Whether the objects that a certificate names are in scope.
+//! Whether the objects that a certificate names are in scope.
 
 ghost use Rattle.std.specs.Prelude.{◌≡◌};
 ghost use Rattle.std.specs.List.{list_all};

@@ -1,4 +1,4 @@
-// Steps without a block inside: whether one is certified, and what holds after it.
+//! Steps without a block inside: whether one is certified, and what holds after it.
 
 ghost use Rattle.std.specs.Prelude.{◌≡◌, ◌&&◌, ℕ, List, IfOk, IsTrue, Some, None, if◌then◌else◌, true};
 ghost use Rattle.std.specs.List.{list_all};
@@ -14,15 +14,15 @@ ghost use Rattle.e_deriv.specs.Goal.{Goal};
 ghost use Rattle.e_deriv.specs.Script.{Script, Cite, Hence, Make, Apply, Superposed};
 ghost use Rattle.e_deriv.specs.Steps;
 ghost use Rattle.e_deriv.specs.Steps.{is_citation};
-ghost use Rattle.e_verify.specs.Checking.{IsChecked, line_at};
-ghost use Rattle.e_verify.specs.inner.Standing.{after_superposed};
+ghost use Rattle.e_verify.specs.Checking.{IsChecked, line_in_state};
+ghost use Rattle.e_verify.specs.inner.StepStates.{state_after_superposed};
 ghost use Rattle.e_clause.specs.Written.{is_good_cert};
 
 use crate::certificate::{certifies, certify_all};
 use crate::facts::Facts;
 use crate::instances::{instance_of, is_among, negated_others};
 use crate::scope::{are_over, objects_in};
-use crate::standing::Standing;
+use crate::step_state::StepState;
 use e_clause::{By, Cert};
 use e_construct::{Construction, Superpose};
 use e_literal::{Lit, Obj, Scope, grown, in_scope};
@@ -30,14 +30,15 @@ use e_theorem::{Statement, UseFault, use_of};
 use std::alloc::{AllocError, Global};
 
 /// Whether a citation is certified; then its literal is a fact.
-pub fn cite(alloc: Global, by: &By, standing: &mut Standing) -> Result<bool, AllocError>
+pub fn cite(alloc: Global, by: &By, state: &mut StepState) -> Result<bool, AllocError>
     requires { IsTrue (is_well_formed by.now.lit) }
-    ensures { IfOk result (λ b. (before : List Stated) → IsChecked before (Cite by.now) standing.old standing.new b) }
+    ensures { IfOk result (λ b. (before : List Stated)
+        → IsChecked before (Cite by.now) state.old state.new b) }
 {
-    if !is_cited(alloc, standing.scope, &standing.facts, by)? {
+    if !is_cited(alloc, state.scope, &state.facts, by)? {
         return Ok(false);
     }
-    standing.suppose(alloc, &by.lit)?;
+    state.assume(alloc, &by.lit)?;
     Ok(true)
 }
 
@@ -63,23 +64,24 @@ pub fn hence(
     alloc: Global,
     lit: &Lit,
     cert: &Option<Cert>,
-    standing: &mut Standing,
+    state: &mut StepState,
 ) -> Result<bool, AllocError>
-    requires facts { IsTrue (list_all is_well_formed standing.old.facts) }
+    requires facts { IsTrue (list_all is_well_formed state.old.facts) }
     requires lit { IsTrue (is_well_formed lit.now) }
     requires cert { IsTrue (option_map_or is_good_cert cert.now true) }
-    ensures { IfOk result (λ b. (before : List Stated) → IsChecked before (Hence lit.now cert.now) standing.old standing.new b) }
+    ensures { IfOk result (λ b. (before : List Stated)
+        → IsChecked before (Hence lit.now cert.now) state.old state.new b) }
 {
     let Some(cert) = cert else {
         return Ok(false);
     };
-    if !in_scope(lit, standing.scope) {
+    if !in_scope(lit, state.scope) {
         return Ok(false);
     }
-    if !certifies(alloc, standing.scope, &standing.facts, lit, cert)? {
+    if !certifies(alloc, state.scope, &state.facts, lit, cert)? {
         return Ok(false);
     }
-    standing.suppose(alloc, lit)?;
+    state.assume(alloc, lit)?;
     Ok(true)
 }
 
@@ -88,41 +90,44 @@ pub fn make(
     alloc: Global,
     form: &Construction,
     certs: &[Cert],
-    standing: &mut Standing,
+    state: &mut StepState,
 ) -> Result<bool, AllocError>
-    requires facts { IsTrue (list_all is_well_formed standing.old.facts) }
-    requires scope { IsTrue (is_small standing.old.scope) }
+    requires facts { IsTrue (list_all is_well_formed state.old.facts) }
+    requires scope { IsTrue (is_small state.old.scope) }
     requires certs { IsTrue (list_all is_good_cert certs.now) }
-    ensures { IfOk result (λ b. (before : List Stated) (names : List (List ℕ)) → IsChecked before (Make form.now names certs.now) standing.old standing.new b) }
+    ensures { IfOk result (λ b. (before : List Stated) (names : List (List ℕ))
+        → IsChecked before (Make form.now names certs.now) state.old state.new b) }
 {
-    let scope = standing.scope;
+    let scope = state.scope;
     if !form.fits(scope) {
         return Ok(false);
     }
     let needs = form.needs(alloc)?;
-    if !certify_all(alloc, scope, &standing.facts, &needs, certs)? {
+    if !certify_all(alloc, scope, &state.facts, &needs, certs)? {
         return Ok(false);
     }
     let given = form.gives(alloc, scope)?;
-    standing.scope = grown(scope, form.made());
-    standing.facts.join(given)?;
+    state.scope = grown(scope, form.made());
+    state.facts.join(given)?;
     Ok(true)
 }
 
-/// Whether an application is certified; then the made objects are in scope, and what the theorem shows are facts.
+/// Whether an application is certified; then the made objects are in scope, and what the theorem
+/// shows are facts.
 pub fn apply(
     alloc: Global,
     before: &[Statement],
     theorem: u32,
     args: &[Option<Obj>],
     certs: &[Cert],
-    standing: &mut Standing,
+    state: &mut StepState,
 ) -> Result<bool, AllocError>
-    requires facts { IsTrue (list_all is_well_formed standing.old.facts) }
-    requires scope { IsTrue (is_small standing.old.scope) }
+    requires facts { IsTrue (list_all is_well_formed state.old.facts) }
+    requires scope { IsTrue (is_small state.old.scope) }
     requires statements { IsTrue (list_all is_small_statement (all_stated before.now)) }
     requires certs { IsTrue (list_all is_good_cert certs.now) }
-    ensures { IfOk result (λ b. (names : List (List ℕ)) → IsChecked (all_stated before.now) (Apply theorem args.now names certs.now) standing.old standing.new b) }
+    ensures { IfOk result (λ b. (names : List (List ℕ)) → IsChecked (all_stated before.now)
+        (Apply theorem args.now names certs.now) state.old state.new b) }
 {
     let Some(statement) = before.get(theorem as usize) else {
         return Ok(false);
@@ -130,45 +135,49 @@ pub fn apply(
     let Some(objects) = all_written(alloc, args)? else {
         return Ok(false);
     };
-    let scope = standing.scope;
+    let scope = state.scope;
     let applied = match use_of(alloc, statement, &objects, scope) {
         Ok(applied) => applied,
         Err(UseFault::BadArgs) => return Ok(false),
         Err(UseFault::NoMemory) => return Err(AllocError),
     };
-    if !certify_all(alloc, scope, &standing.facts, applied.needs.items(), certs)? {
+    if !certify_all(alloc, scope, &state.facts, applied.needs.items(), certs)? {
         return Ok(false);
     }
-    standing.scope = grown(scope, statement.made.items());
-    standing.suppose_all(alloc, applied.gives.items())?;
+    state.scope = grown(scope, statement.made.items());
+    state.assume_all(alloc, applied.gives.items())?;
     Ok(true)
 }
 
-/// Whether a superposition is certified; then the copied points are in scope, and what it gives are facts.
+/// Whether a superposition is certified; then the copied points are in scope, and what it gives are
+/// facts.
 pub fn superpose(
     alloc: Global,
     form: &Superpose,
     shown: &[Lit],
     certs: &[Cert],
-    standing: &mut Standing,
+    state: &mut StepState,
 ) -> Result<bool, AllocError>
-    requires facts { IsTrue (list_all is_well_formed standing.old.facts) }
-    requires scope { IsTrue (is_small standing.old.scope) }
+    requires facts { IsTrue (list_all is_well_formed state.old.facts) }
+    requires scope { IsTrue (is_small state.old.scope) }
     requires certs { IsTrue (list_all is_good_cert certs.now) }
-    ensures test { IfOk result (λ b. (before : List Stated) (names : List (List ℕ)) (inner rest : Script) (goal : Goal) → b ≡ is_certified before (line_at (Superposed form.now names shown.now certs.now inner rest) standing.old goal)) }
-    ensures after { IfOk result (λ b. IsTrue b → standing.new ≡ after_superposed form.now standing.old) }
+    ensures test { IfOk result (λ b. (before : List Stated) (names : List (List ℕ))
+        (inner rest : Script) (goal : Goal) → b ≡ is_certified before
+        (line_in_state (Superposed form.now names shown.now certs.now inner rest) state.old goal)) }
+    ensures after { IfOk result (λ b. IsTrue b
+        → state.new ≡ state_after_superposed form.now state.old) }
 {
-    let scope = standing.scope;
+    let scope = state.scope;
     if !form.fits(scope) || !are_over(scope, shown) {
         return Ok(false);
     }
     let needs = form.needs(alloc)?;
-    if !certify_all(alloc, scope, &standing.facts, &needs, certs)? {
+    if !certify_all(alloc, scope, &state.facts, &needs, certs)? {
         return Ok(false);
     }
     let given = form.gives(alloc, scope)?;
-    standing.scope = grown(scope, form.made());
-    standing.facts.join(given)?;
+    state.scope = grown(scope, form.made());
+    state.facts.join(given)?;
     Ok(true)
 }
 
@@ -177,7 +186,8 @@ pub(crate) fn all_written(
     alloc: Global,
     args: &[Option<Obj>],
 ) -> Result<Option<Vec<Obj>>, AllocError>
-    ensures { IfOk result (λ o. option_map (λ v. v.items) o ≡ (if has_no_blank args.now then Some (written args.now) else None)) }
+    ensures { IfOk result (λ o. option_map (λ v. v.items) o
+        ≡ (if has_no_blank args.now then Some (written args.now) else None)) }
 {
     let mut objects = Vec::new(alloc);
     for arg in args {

@@ -1,25 +1,29 @@
-// Sums of rows, and when they are absurd.
+//! Sums of rows, and when they are absurd.
 
 ghost use Rattle.std.specs.Prelude.{◌≡◌, IfOk, IsTrue};
 ghost use Rattle.std.specs.List.{list_all};
 ghost use Rattle.e_literal.specs.Absurd;
 ghost use Rattle.e_clause.specs.Sum;
-ghost use Rattle.e_verify.specs.inner.Views.{says_of, place_said};
+ghost use Rattle.e_verify.specs.inner.Views.{says_view, row_scope_view};
 ghost use Rattle.e_clause.specs.Written.{is_good_sum};
-ghost use Rattle.e_verify.specs.inner.Placed.{is_good_place};
+ghost use Rattle.e_verify.specs.inner.RowScopes.{is_good_row_scope};
 
 use crate::adding::add_row;
-use crate::rows::{Place, Says, row_named};
+use crate::rows::{RowScope, Says, row_named};
 use crate::totals::Totals;
 use e_clause::RowName;
 use std::alloc::{AllocError, Global};
 
-/// Whether the sum is of good size, each of its rows may be used here, and it is absurd: all terms cancel, no row that says at
-/// least or more is taken away, and one that says more is added.
-pub fn refutes(alloc: Global, place: &Place, sum: &[(i128, RowName)]) -> Result<bool, AllocError>
-    requires place { IsTrue (is_good_place place.now) }
+/// Whether the sum is of good size, each of its rows may be used here, and it is absurd: all terms
+/// cancel, no row that says at least or more is taken away, and one that says more is added.
+pub fn refutes(
+    alloc: Global,
+    row_scope: &RowScope,
+    sum: &[(i128, RowName)],
+) -> Result<bool, AllocError>
+    requires row_scope { IsTrue (is_good_row_scope row_scope.now) }
     requires sum { IsTrue (is_good_sum sum.now) }
-    ensures { IfOk result (λ b. b ≡ Sum.refutes (place_said place.now) sum.now) }
+    ensures { IfOk result (λ b. b ≡ Sum.refutes (row_scope_view row_scope.now) sum.now) }
 {
     if !is_good_size(sum) {
         return Ok(false);
@@ -27,7 +31,7 @@ pub fn refutes(alloc: Global, place: &Place, sum: &[(i128, RowName)]) -> Result<
     let mut totals = Totals::new(alloc);
     let mut strict = false;
     for (multiplier, name) in sum {
-        let Some(row) = row_named(place, name) else {
+        let Some(row) = row_named(row_scope, name) else {
             return Ok(false);
         };
         if !is_good_sign(row.says(), *multiplier) {
@@ -61,7 +65,7 @@ fn is_good_multiplier(n: i128) -> bool
 }
 
 fn is_good_sign(says: Says, multiplier: i128) -> bool
-    ensures { result ≡ Absurd.is_good_sign (says_of says) multiplier }
+    ensures { result ≡ Absurd.is_good_sign (says_view says) multiplier }
 {
     match says {
         Says::Zero => true,
@@ -71,7 +75,7 @@ fn is_good_sign(says: Says, multiplier: i128) -> bool
 }
 
 fn is_strict(says: Says, multiplier: i128) -> bool
-    ensures { result ≡ Absurd.is_strict (says_of says) multiplier }
+    ensures { result ≡ Absurd.is_strict (says_view says) multiplier }
 {
     says == Says::More && 1 <= multiplier
 }

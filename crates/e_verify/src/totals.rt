@@ -1,4 +1,4 @@
-// Sums of forms, term by term. A term is kept as its key, so that two are compared at once.
+//! Sums of forms, term by term. A term is kept as its key, so that two are compared at once.
 
 ghost use Rattle.std.specs.Prelude.{◌≡◌, ◌≤◌, ◌<◌, ◌+◌, ◌^◌, ◌↔◌, IsTrue, OnOk, [], ◌∷◌, pos, ◌+ℤ◌, ◌*ℤ◌, unsigned_abs, length};
 ghost use Rattle.std.specs.List.{list_all};
@@ -8,8 +8,8 @@ ghost use Rattle.e_literal.specs.Rows;
 ghost use Rattle.std.specs.BTreeMap.{values, IsOrdered};
 ghost use Rattle.std.specs.Ordering.{int_eq, nat_cmp};
 ghost use Rattle.e_literal.specs.Same;
-ghost use Rattle.e_verify.specs.inner.Totals.{at};
-ghost use Rattle.e_verify.specs.inner.Small.{are_small};
+ghost use Rattle.e_verify.specs.inner.Totals.{total_at};
+ghost use Rattle.e_verify.specs.inner.Small.{are_small_monomials};
 
 use crate::key::key_of;
 use e_literal::{Term, canonical, is_degenerate};
@@ -48,15 +48,18 @@ impl Totals {
 
     /// Whether each term cancels.
     pub fn are_zero(&self) -> bool
-        ensures { IsTrue result ↔ ((t : ATerm) → at self.now t ≡ pos 0) }
+        ensures { IsTrue result ↔ ((t : ATerm) → total_at self.now t ≡ pos 0) }
     {
         are_all_zero(&self.of)
     }
 
-    /// Adds a term with its coefficient, as a row has it: in its normal order, and dropped where it is 0.
+    /// Adds a term with its coefficient, as a row has it: in its normal order, and dropped where it
+    /// is 0.
     pub fn add(&mut self, term: Term, n: i128) -> Result<(), AllocError>
-        requires { unsigned_abs (at self.old (Same.canonical term)) + unsigned_abs n < 2 ^ 127 }
-        ensures { OnOk result ((t : ATerm) → at self.new t ≡ at self.old t +ℤ coefficient (normal_summands (times n term ∷ [])) t) }
+        requires { unsigned_abs (total_at self.old (Same.canonical term)) + unsigned_abs n
+            < 2 ^ 127 }
+        ensures { OnOk result ((t : ATerm) → total_at self.new t ≡ total_at self.old t
+            +ℤ coefficient (normal_summands (times n term ∷ [])) t) }
     {
         if is_degenerate(term) {
             return Ok(());

@@ -1,4 +1,4 @@
-// What a transfer certificate certifies.
+//! What a transfer certificate certifies.
 
 ghost use Rattle.std.specs.Prelude.{◌≡◌, IfOk, IsTrue, map};
 ghost use Rattle.std.specs.List.{list_all};
@@ -23,7 +23,8 @@ pub fn transfer_certifies(
 ) -> Result<bool, AllocError>
     requires facts { IsTrue (list_all is_well_formed facts.now) }
     requires parts { IsTrue (list_all is_good_part cert.now.parts) }
-    ensures { IfOk result (λ b. b ≡ TransferCertificate.transfer_certifies facts.now lit.now cert.now) }
+    ensures { IfOk result
+        (λ b. b ≡ TransferCertificate.transfer_certifies facts.now lit.now cert.now) }
 {
     if !cert.rule.is_transfer() {
         return Ok(false);
@@ -39,7 +40,7 @@ pub fn transfer_certifies(
 }
 
 /// Whether there are as many parts as literals, and each certifies its literal.
-#[tactic(auto, using(crate::proofs::Paired::parts))]
+#[tactic(auto, using(crate::proofs::checking::PairedCertificates::parts))]
 fn parts_certify(
     alloc: Global,
     facts: &Facts,
@@ -49,7 +50,8 @@ fn parts_certify(
     requires facts { IsTrue (list_all is_well_formed facts.now) }
     requires lits { IsTrue (list_all is_well_formed lits.now) }
     requires parts { IsTrue (list_all is_good_part parts.now) }
-    ensures { IfOk result (λ b. b ≡ TransferCertificate.parts_certify facts.now (map negation lits.now) parts.now) }
+    ensures { IfOk result
+        (λ b. b ≡ TransferCertificate.parts_certify facts.now (map negation lits.now) parts.now) }
 {
     match (lits, parts) {
         ([], []) => Ok(true),

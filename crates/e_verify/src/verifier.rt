@@ -8,24 +8,26 @@ ghost use Rattle.e_deriv.specs.Proves.{IsProof};
 ghost use Rattle.e_deriv.specs.Script.{script_of};
 ghost use Rattle.e_verify.specs.Checking.{RejectIs};
 ghost use Rattle.e_verify.specs.Verdicts.{IsVerifiable};
-ghost use Rattle.e_verify.specs.inner.Standing.{start_of};
+ghost use Rattle.e_verify.specs.inner.StepStates.{state_at_start};
 
 use crate::block::verify_block;
 use crate::facts::Facts;
 use crate::reject::Reject;
-use crate::standing::{Goal, Standing};
+use crate::step_state::{Goal, StepState};
 use e_deriv::{Block, certified_proves};
 use e_literal::{Scope, grown, next_objects};
 use e_theorem::Statement;
 use std::alloc::{AllocError, Global};
 
+/// No objects.
 pub(crate) const NOTHING: Scope = Scope {
     points: 0,
     lines: 0,
     circles: 0,
 };
 
-/// Checks the derivation of a statement from those before it, certificate by certificate, in text order.
+/// Checks the derivation of a statement from those before it, certificate by certificate, in text
+/// order.
 ///
 /// It is refused exactly at the first line that is not certified. What is verified is a proof.
 pub fn verify(
@@ -35,19 +37,23 @@ pub fn verify(
     deriv: &Block,
 ) -> Result<(), Reject>
     requires { IsVerifiable (all_stated before.now) (stated statement.now) (script_of deriv.now) }
-    ensures certified { OnOk result (Certified (all_stated before.now) (stated statement.now) (script_of deriv.now)) }
-    ensures proof { OnOk result (IsProof (all_stated before.now) (stated statement.now) (script_of deriv.now)) }
-    ensures bad { IfErr result (RejectIs (verdict (all_stated before.now) (stated statement.now) (script_of deriv.now))) }
+    ensures certified { OnOk result
+        (Certified (all_stated before.now) (stated statement.now) (script_of deriv.now)) }
+    ensures proof { OnOk result
+        (IsProof (all_stated before.now) (stated statement.now) (script_of deriv.now)) }
+    ensures bad { IfErr result
+        (RejectIs (verdict (all_stated before.now) (stated statement.now) (script_of deriv.now))) }
 {
     let scope = grown(NOTHING, statement.declared.items());
     let made = next_objects(alloc, scope, statement.made.items())?;
-    let mut standing = begin(alloc, scope, statement)?;
+    let mut state = begin(alloc, scope, statement)?;
     let goal = Goal {
         made: &made,
         shown: statement.shown.items(),
     };
-    match verify_block(alloc, before, deriv, &goal, &mut standing, 1) {
+    match verify_block(alloc, before, deriv, &goal, &mut state, 1) {
         Ok(_) => {
+            // The law that what is certified is a proof.
             certified_proves();
             Ok(())
         }
@@ -55,19 +61,20 @@ pub fn verify(
     }
 }
 
-/// What holds before the first line: the declared objects are in scope, and the given literals are facts.
+/// What holds before the first line: the declared objects are in scope, and the given literals are
+/// facts.
 pub(crate) fn begin(
     alloc: Global,
     scope: Scope,
     statement: &Statement,
-) -> Result<Standing, AllocError>
+) -> Result<StepState, AllocError>
     requires { scope ≡ scope_of (stated statement.now) }
-    ensures { IfOk result (λ x. x ≡ start_of (stated statement.now)) }
+    ensures { IfOk result (λ x. x ≡ state_at_start (stated statement.now)) }
 {
-    let mut standing = Standing {
+    let mut state = StepState {
         scope,
         facts: Facts::new(alloc),
     };
-    standing.suppose_all(alloc, statement.given.items())?;
-    Ok(standing)
+    state.assume_all(alloc, statement.given.items())?;
+    Ok(state)
 }

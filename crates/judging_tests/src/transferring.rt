@@ -5,7 +5,7 @@ use e_clause::{Rule, instance};
 use e_facts::Facts;
 use e_literal::{Lit, Obj, Scope, Sort, copy, negate};
 use e_metric::are_few_facts;
-use e_transfer::{Found, are_good_facts, find, is_good_literal};
+use e_transfer::{Found, are_good_facts, find, is_good};
 use std::alloc::{AllocError, Global};
 use std::mem;
 use std::process::Abort;
@@ -33,7 +33,7 @@ fn found(
 ) -> Result<&'static str, AllocError> {
     assert!(rt; are_good_facts(SCOPE, facts));
     assert!(rt; are_few_facts(facts));
-    assert!(rt; is_good_literal(SCOPE, goal));
+    assert!(rt; is_good(SCOPE, goal));
     assert!(rt; !facts.has(goal));
     let found = find(alloc, SCOPE, facts, goal)?;
     let word = word(&found);

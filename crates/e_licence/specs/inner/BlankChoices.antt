@@ -17,21 +17,21 @@ use Rattle.e_licence.specs.Contexts.{Basis}
 -- ---- arguments
 
 -- the argument for the object: the written one, or that with the next number; where no number is left, that which comes next in a scope
-abbrev pub argument : Scope → Obj → Option Obj → List ℕ → Obj
-argument missing o (Some p) c = p
-argument missing o None [] = obj o.sort (count_of missing o.sort)
-argument missing o None (v ∷ c) = obj o.sort v
+abbrev pub argument_for : Scope → Obj → Option Obj → List ℕ → Obj
+argument_for missing o (Some p) c = p
+argument_for missing o None [] = obj o.sort (count_of missing o.sort)
+argument_for missing o None (v ∷ c) = obj o.sort v
 
 -- the numbers that are left after it
-abbrev pub left : Option Obj → List ℕ → List ℕ
-left (Some p) c = c
-left None [] = []
-left None (v ∷ c) = c
+abbrev pub numbers_left : Option Obj → List ℕ → List ℕ
+numbers_left (Some p) c = c
+numbers_left None [] = []
+numbers_left None (v ∷ c) = c
 
 -- the arguments for all the objects
-abbrev pub filled : Scope → List Obj → List (Option Obj) → List ℕ → List Obj
-filled missing (o ∷ os) (e ∷ entries) c = argument missing o e c ∷ filled missing os entries (left e c)
-filled missing _ _ c = []
+abbrev pub filled_arguments : Scope → List Obj → List (Option Obj) → List ℕ → List Obj
+filled_arguments missing (o ∷ os) (e ∷ entries) c = argument_for missing o e c ∷ filled_arguments missing os entries (numbers_left e c)
+filled_arguments missing _ _ c = []
 
 -- the numbers in scope for a blank
 abbrev pub spans_of : Scope → List Obj → List (Option Obj) → List Span
@@ -40,8 +40,8 @@ spans_of s (o ∷ os) (None ∷ entries) = record { from = 0; to = count_of s o.
 spans_of s _ _ = []
 
 -- the images of the objects
-abbrev pub images : Scope → List Obj → List (Option Obj) → List ℕ → List Entry
-images s os entries c = paired os (filled s os entries c)
+abbrev pub images_of_choice : Scope → List Obj → List (Option Obj) → List ℕ → List Entry
+images_of_choice s os entries c = paired os (filled_arguments s os entries c)
 
 -- ---- what is licensed at the first numbers of a choice
 
@@ -56,13 +56,13 @@ AllCompleted b now before first (l ∷ ls) =
     (IsTrue (is_completed b.scope now before first l) → Allowed b.scope b.facts (renamed (image_in now) l)) × AllCompleted b now before first ls
 
 -- each literal that the last number completes is allowed
-abbrev pub IsKept : Basis → List Obj → List (Option Obj) → List Lit → List ℕ → Type 0
-IsKept b os entries given part =
-    AllCompleted b (images b.scope os entries part) (images b.scope os entries (take (length part - 1) part)) (length part == 0) given
+abbrev pub IsKeptChoice : Basis → List Obj → List (Option Obj) → List Lit → List ℕ → Type 0
+IsKeptChoice b os entries given part =
+    AllCompleted b (images_of_choice b.scope os entries part) (images_of_choice b.scope os entries (take (length part - 1) part)) (length part == 0) given
 
 -- each literal is allowed
 abbrev pub IsWanted : Basis → List Obj → List (Option Obj) → List Lit → List ℕ → Type 0
-IsWanted b os entries given c = AllAllowed b.scope b.facts (map (renamed (image_in (images b.scope os entries c))) given)
+IsWanted b os entries given c = AllAllowed b.scope b.facts (map (renamed (image_in (images_of_choice b.scope os entries c))) given)
 
 -- all objects of the literal are in scope, and it is not allowed
 pub record IsRefusedAt (b : Basis) (now : List Entry) (l : Lit) : Type 0 where
@@ -70,7 +70,7 @@ pub record IsRefusedAt (b : Basis) (now : List Entry) (l : Lit) : Type 0 where
   pub not_allowed : ¬ Allowed b.scope b.facts (renamed (image_in now) l)
 
 -- all objects of the literal are in scope, and it is too wide
-pub record IsWideAt (b : Basis) (now : List Entry) (l : Lit) (w : ℕ) : Type 0 where
+pub record IsWideUnder (b : Basis) (now : List Entry) (l : Lit) (w : ℕ) : Type 0 where
   pub good : IsTrue (is_good b.scope (renamed (image_in now) l))
   pub is_wide : IsTooWideLit b.scope b.facts (renamed (image_in now) l) w
 
@@ -83,13 +83,13 @@ pub record SomeIsRefusedAt (b : Basis) (now : List Entry) (ls : List Lit) : Type
 pub record SomeIsWideAt (b : Basis) (now : List Entry) (ls : List Lit) (w : ℕ) : Type 0 where
   pub lit : Lit
   pub is_one : Contains ls lit
-  pub is_wide : IsWideAt b now lit w
+  pub is_wide : IsWideUnder b now lit w
 
 -- what is answered on one literal
 abbrev pub OneIs : Basis → List Entry → List Entry → Bool → Lit → Verdict (Unit {0}) → Type 0
 OneIs b now before first l (verdict.Yes p) = IsTrue (is_completed b.scope now before first l) → Allowed b.scope b.facts (renamed (image_in now) l)
 OneIs b now before first l verdict.No = IsRefusedAt b now l
-OneIs b now before first l (verdict.TooWide w) = IsWideAt b now l w
+OneIs b now before first l (verdict.TooWide w) = IsWideUnder b now l w
 
 -- what is answered on all
 abbrev pub AllIs : Basis → List Entry → List Entry → Bool → List Lit → Verdict (Unit {0}) → Type 0

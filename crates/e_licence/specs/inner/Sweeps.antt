@@ -1,7 +1,7 @@
 -- What a sweep over choices answers: those that are found, as lists of numbers, each from the first blank on.
 use Rattle.std.specs.Prelude.{◌≡◌, ℕ, ◌≤◌, ◌<◌, ◌⊎◌, List, [], ◌∷◌, ◌++◌, length}
 use Rattle.e_transfer.specs.declared.walk.Span.{Span}
-use Rattle.e_transfer.specs.Choice.{Fits, Starts, Below, EachKept}
+use Rattle.e_transfer.specs.Choice.{FitsSpans, Starts, ComesBefore, EachKept}
 use Rattle.e_licence.specs.declared.sweep.Swept.{Swept}
 use Rattle.e_licence.specs.declared.sweep.Swept.TheVariants as sweep
 
@@ -11,18 +11,18 @@ abbrev pub Each : (List ℕ → Type 0) → List (List ℕ) → Type 0
 Each P [] = Unit {0}
 Each P (c ∷ cs) = P c × Each P cs
 
-abbrev pub IsIn : List ℕ → List (List ℕ) → Type 0
-IsIn c [] = ⊥
-IsIn c (d ∷ ds) = (d ≡ c) ⊎ IsIn c ds
+abbrev pub IsAmongChoices : List ℕ → List (List ℕ) → Type 0
+IsAmongChoices c [] = ⊥
+IsAmongChoices c (d ∷ ds) = (d ≡ c) ⊎ IsAmongChoices c ds
 
 -- each is below all that come after it
 abbrev pub AreAscending : List (List ℕ) → Type 0
 AreAscending [] = Unit {0}
-AreAscending (c ∷ cs) = Each (Below c) cs × AreAscending cs
+AreAscending (c ∷ cs) = Each (ComesBefore c) cs × AreAscending cs
 
 -- the choice is above all these
 abbrev pub IsAbove : List (List ℕ) → List ℕ → Type 0
-IsAbove cs d = Each (λ c. Below c d) cs
+IsAbove cs d = Each (λ c. ComesBefore c d) cs
 
 -- ---- what is found
 
@@ -30,20 +30,20 @@ IsAbove cs d = Each (λ c. Below c d) cs
 pub record IsKeptWhole (kept : List ℕ → Type 0) (before : List ℕ) (spans : List Span) (c : List ℕ) : Type 0 where
   pub rest : List ℕ
   pub is : c ≡ before ++ rest
-  pub fits : Fits spans rest
+  pub fits : FitsSpans spans rest
   pub each : EachKept kept before rest
 
 -- all choices that begin with these numbers were tried: the kept ones in order, and no wanted one is missing
 pub record AreAll (kept wanted : List ℕ → Type 0) (before : List ℕ) (spans : List Span) (cs : List (List ℕ)) : Type 0 where
   pub whole : Each (IsKeptWhole kept before spans) cs
   pub ascending : AreAscending cs
-  pub none_missing : (d : List ℕ) → Fits spans d → wanted (before ++ d) → IsIn (before ++ d) cs
+  pub none_missing : (d : List ℕ) → FitsSpans spans d → wanted (before ++ d) → IsAmongChoices (before ++ d) cs
 
 -- the first of them, and there is one more; a wanted one that is missing is above them
 pub record AreFirstOf (kept wanted : List ℕ → Type 0) (before : List ℕ) (spans : List Span) (cs : List (List ℕ)) : Type 0 where
   pub whole : Each (IsKeptWhole kept before spans) cs
   pub ascending : AreAscending cs
-  pub none_missing : (d : List ℕ) → Fits spans d → wanted (before ++ d) → IsIn (before ++ d) cs ⊎ IsAbove cs (before ++ d)
+  pub none_missing : (d : List ℕ) → FitsSpans spans d → wanted (before ++ d) → IsAmongChoices (before ++ d) cs ⊎ IsAbove cs (before ++ d)
   pub next : List ℕ
   pub next_whole : IsKeptWhole kept before spans next
   pub next_above : IsAbove cs next
@@ -77,4 +77,4 @@ pub record IsKeptUnder (kept : List ℕ → Type 0) (before : List ℕ) (span : 
 pub record AreUnder (kept wanted : List ℕ → Type 0) (before : List ℕ) (span : Span) (rest : List Span) (v : ℕ) (cs : List (List ℕ)) : Type 0 where
   pub whole : Each (IsKeptUnder kept before span rest v) cs
   pub ascending : AreAscending cs
-  pub none_missing : (u : ℕ) → span.from ≤ u → u < v → (d : List ℕ) → Fits rest d → wanted ((before ++ u ∷ []) ++ d) → IsIn ((before ++ u ∷ []) ++ d) cs
+  pub none_missing : (u : ℕ) → span.from ≤ u → u < v → (d : List ℕ) → FitsSpans rest d → wanted ((before ++ u ∷ []) ++ d) → IsAmongChoices ((before ++ u ∷ []) ++ d) cs

@@ -8,3 +8,15 @@ abbrev pub at_kind : {T : Type 0} → ByKind T → Kind → T
 at_kind b Segment = b.segments
 at_kind b Angle = b.angles
 at_kind b AreaKind = b.areas
+
+-- the other two kinds, in their order
+abbrev pub other_two : Kind → Kind × Kind
+other_two Segment = (Angle, AreaKind)
+other_two Angle = (Segment, AreaKind)
+other_two AreaKind = (Segment, Angle)
+
+-- one for the kind, and those for the other two in their order
+abbrev pub arranged : {T : Type 0} → Kind → T → T → T → ByKind T
+arranged Segment own first second = record { segments = own; angles = first; areas = second }
+arranged Angle own first second = record { segments = first; angles = own; areas = second }
+arranged AreaKind own first second = record { segments = first; angles = second; areas = own }

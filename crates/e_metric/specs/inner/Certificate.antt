@@ -23,9 +23,9 @@ pub record IsWeighable (rows : List GivenRow) (weights : List ℤ) : Type 0 wher
   pub left : (t : Term) → unsigned_abs (total (weighed rows weights) t) ≤ 2 ^ 80
 
 -- the rows whose multiplier is not 0
-abbrev pub kept : List RowName → List ℤ → List (ℤ × RowName)
-kept (n ∷ ns) (m ∷ ms) = if int_eq m (pos 0) then kept ns ms else (m, n) ∷ kept ns ms
-kept _ _ = []
+abbrev pub named_multipliers : List RowName → List ℤ → List (ℤ × RowName)
+named_multipliers (n ∷ ns) (m ∷ ms) = if int_eq m (pos 0) then named_multipliers ns ms else (m, n) ∷ named_multipliers ns ms
+named_multipliers _ _ = []
 
 -- the rows whose weight is not 0
 abbrev pub used_rows : List GivenRow → List ℤ → List GivenRow
@@ -43,15 +43,15 @@ leasts left [] = []
 leasts left (t ∷ ts) = if int_lt (left (canonical t)) (pos 0) then (neg_ℤ (left (canonical t)), Least t) ∷ leasts left ts else leasts left ts
 
 -- the rows with their multipliers, and what brings each term to 0, where the terms are weighed by these weights
-abbrev pub sum_of : List RowName → List GivenRow → List ℤ → List ℤ → List Term → List (ℤ × RowName)
-sum_of names rows multipliers weights terms = kept names multipliers ++ leasts (total (weighed rows weights)) terms
+abbrev pub certificate_sum : List RowName → List GivenRow → List ℤ → List ℤ → List Term → List (ℤ × RowName)
+certificate_sum names rows multipliers weights terms = named_multipliers names multipliers ++ leasts (total (weighed rows weights)) terms
 
 -- the number at the place negated
-abbrev pub negated_at : List ℤ → ℕ → List ℤ
-negated_at ms k = set ms k (neg_ℤ (get_or ms k (pos 0)))
+abbrev pub negated_place : List ℤ → ℕ → List ℤ
+negated_place ms k = set ms k (neg_ℤ (get_or ms k (pos 0)))
 
 -- one sum; or two, in which the row that differs is named `above` and `below`, and counts the other way in the second
-abbrev pub sums_of : List RowName → List GivenRow → List Term → Absurdity → Sums
-sums_of names rows terms (One multipliers) = OneSum (sum_of names rows multipliers.items multipliers.items terms)
-sums_of names rows terms (Two row above below) =
-    TwoSums (get_or names row Goal) (sum_of (set names row Above) rows above.items above.items terms) (sum_of (set names row Below) rows below.items (negated_at below.items row) terms)
+abbrev pub certificate_sums : List RowName → List GivenRow → List Term → Absurdity → Sums
+certificate_sums names rows terms (One multipliers) = OneSum (certificate_sum names rows multipliers.items multipliers.items terms)
+certificate_sums names rows terms (Two row above below) =
+    TwoSums (get_or names row Goal) (certificate_sum (set names row Above) rows above.items above.items terms) (certificate_sum (set names row Below) rows below.items (negated_place below.items row) terms)

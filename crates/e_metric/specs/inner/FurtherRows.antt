@@ -10,37 +10,37 @@ use Rattle.e_literal.specs.Same.{canonical}
 use Rattle.e_clause.specs.declared.cert.RowName.TheVariants.{Fact, Goal}
 use Rattle.e_clause.specs.Assignment.{terms_of_lits}
 use Rattle.e_clause.specs.System.{NamedRow, of_kind, against_goal, rows_named, rows_of_term}
-use Rattle.e_metric.specs.ListedTerms.{terms_of_kind}
+use Rattle.e_metric.specs.ListedTerms.{distinct_terms}
 
 -- the terms of the literals of the kind that are none of these, each once
-abbrev pub fresh_terms : Kind → List Term → List Lit → List Term
-fresh_terms which terms lits = first_terms terms (terms_of_lits (of_kind which lits))
+abbrev pub terms_added : Kind → List Term → List Lit → List Term
+terms_added which terms lits = first_terms terms (terms_of_lits (of_kind which lits))
 
 -- ---- a goal
 
 -- the row of its negation, and those of its fresh terms
-abbrev pub rows_of_goal : Kind → List Lit → List Term → Lit → List NamedRow
-rows_of_goal which facts fresh goal = rows_named (λ l. Goal) (of_kind which (against_goal (Some goal))) ++ flat_map (rows_of_term facts) fresh
+abbrev pub rows_added_by_goal : Kind → List Lit → List Term → Lit → List NamedRow
+rows_added_by_goal which facts fresh goal = rows_named (λ l. Goal) (of_kind which (against_goal (Some goal))) ++ flat_map (rows_of_term facts) fresh
 
 -- the rows that occur in the system of the facts and the goal, and not in that of the facts
 abbrev pub further : Kind → List Lit → Lit → List NamedRow
-further which facts goal = rows_of_goal which facts (fresh_terms which (terms_of_kind which facts None) (goal ∷ [])) goal
+further which facts goal = rows_added_by_goal which facts (terms_added which (distinct_terms which facts None) (goal ∷ [])) goal
 
 -- a value that a term may have of which no fact speaks
-abbrev pub default_value : List Lit → Term → ℕ
-default_value facts (Seg a b) = if are_apart facts a b then 1 else 0
-default_value facts _ = 0
+abbrev pub value_of_fresh : List Lit → Term → ℕ
+value_of_fresh facts (Seg a b) = if are_apart facts a b then 1 else 0
+value_of_fresh facts _ = 0
 
 -- the values, and those of more terms
-abbrev pub extended : List Lit → List (Term × ℕ) → List Term → List (Term × ℕ)
-extended facts values fresh = values ++ map (λ t. (canonical t, default_value facts t)) fresh
+abbrev pub values_extended : List Lit → List (Term × ℕ) → List Term → List (Term × ℕ)
+values_extended facts values fresh = values ++ map (λ t. (canonical t, value_of_fresh facts t)) fresh
 
 -- ---- facts from a place on
 
 -- the rows of further facts, and those of their fresh terms by all facts
-abbrev pub rows_of_facts : Kind → List Lit → List Lit → List Term → List NamedRow
-rows_of_facts which facts more fresh = rows_named Fact (of_kind which more) ++ flat_map (rows_of_term facts) fresh
+abbrev pub rows_added_by_facts : Kind → List Lit → List Lit → List Term → List NamedRow
+rows_added_by_facts which facts more fresh = rows_named Fact (of_kind which more) ++ flat_map (rows_of_term facts) fresh
 
 -- the rows that the facts from a place on bring to the system of those before them
 abbrev pub joining : Kind → List Lit → ℕ → List NamedRow
-joining which facts from = rows_of_facts which facts (drop from facts) (fresh_terms which (terms_of_kind which (take from facts) None) (drop from facts))
+joining which facts from = rows_added_by_facts which facts (drop from facts) (terms_added which (distinct_terms which (take from facts) None) (drop from facts))

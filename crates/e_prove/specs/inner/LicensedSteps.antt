@@ -59,7 +59,7 @@ IsStopOfStep before step x h = (rest filled : Script) (goal : Goal) → StepStop
 
 -- where this holds the close is licensed, and the derived one certified, by certificates that name literals that are well formed;
 -- both are one without certificates
-pub record IsClosed (before : List Stated) (close : Close) (x : Basis) (goal : Goal) (derived : Close) : Type 0 where
+pub record IsLicensedClose (before : List Stated) (close : Close) (x : Basis) (goal : Goal) (derived : Close) : Type 0 where
   pub licensed : AllLicensed before (lines_at before (close_script close) (close_script derived) x goal)
   pub certified : IsTrue (list_all (is_certified before) (lines_at before (close_script derived) (close_script derived) x goal))
   pub erased : erased (close_script derived) ≡ filled_by (erased (close_script close)) (close_script derived)

@@ -35,16 +35,20 @@ pub record IsReadyFor (before : List Stated) (script : Script) (x : StepState) (
   pub scopes : IsTrue (list_all (λ y. is_small y.scope) (lines_at before script script x.context goal))
   pub statements : IsTrue (list_all is_small_statement before)
 
--- before something the step is ready, and there are numbers for the steps from this one on
-pub record IsReadyStep (before : List Stated) (step : Step) (x : StepState) (first : ℕ) : Type 0 where
+-- before something the steps are ready, and there are numbers for the steps from this one on
+pub record AreReadySteps (before : List Stated) (whole : Script → Script) (x : StepState) (first : ℕ) : Type 0 where
   pub rest : Script
   pub goal : Goal
-  pub ready : IsReadyFor before (step_script step rest) x goal
-  pub few : first + size (step_script step rest) < 2 ^ 32
+  pub ready : IsReadyFor before (whole rest) x goal
+  pub few : first + size (whole rest) < 2 ^ 32
+
+-- and so is the step
+abbrev pub IsReadyStep : List Stated → Step → StepState → ℕ → Type 0
+IsReadyStep before step x first = AreReadySteps before (step_script step) x first
 
 -- the script is licensed, with its blanks filled as in the derived one, and the derived one is certified; without certificates
 -- that is the script with its blanks filled; its certificates name literals that are well formed
-pub record IsDerived (before : List Stated) (script : Script) (x : StepState) (goal : Goal) (derived : Script) : Type 0 where
+pub record IsDerivedFrom (before : List Stated) (script : Script) (x : StepState) (goal : Goal) (derived : Script) : Type 0 where
   pub licensed : AllLicensed before (lines_at before script derived x.context goal)
   pub certified : IsTrue (list_all (is_certified before) (lines_at before derived derived x.context goal))
   pub erased : erased derived ≡ filled_by (erased script) derived
@@ -87,8 +91,8 @@ pub record ReachesWithin (before : List Stated) (script : Script) (x : StepState
   pub reached : IsReachedIn before (lines_at before script filled x.context goal) (names_lines before x.names script) first a n names
 
 -- at step n of the script this holds, with the blanks before it filled so
-abbrev pub Reaches : List Stated → Script → StepState → Goal → ℕ → ℕ → StepState → Type 0
-Reaches before script x goal first n y = ReachesWithin before script x goal first (Stands y.context.scope y.context.facts) n y.names
+abbrev pub ReachesStep : List Stated → Script → StepState → Goal → ℕ → ℕ → StepState → Type 0
+ReachesStep before script x goal first n y = ReachesWithin before script x goal first (Stands y.context.scope y.context.facts) n y.names
 
 -- licensing stops so at a step of the script, with the blanks before it filled so
 pub record StopsWithin (before : List Stated) (script : Script) (x : StepState) (goal : Goal) (first : ℕ) (s : Stop) : Type 0 where
@@ -101,26 +105,30 @@ pub record StopsWithin (before : List Stated) (script : Script) (x : StepState) 
 -- after them, what is derived from it is derived from the whole, and what is found in it, or a stop in it, is found in the whole.
 pub record IsPassed (before : List Stated) (whole : Script → Script) (x : StepState) (first : ℕ) (derived : Script → Script) (after : StepState) (next : ℕ) : Type 0 where
   pub ready : (rest : Script) (goal : Goal) → IsReadyFor before (whole rest) x goal → IsReadyFor before rest after goal
-  pub derives : (rest more : Script) (goal : Goal) → IsReadyFor before (whole rest) x goal → IsDerived before rest after goal more → IsDerived before (whole rest) x goal (derived more)
+  pub derives : (rest more : Script) (goal : Goal) → IsReadyFor before (whole rest) x goal → IsDerivedFrom before rest after goal more → IsDerivedFrom before (whole rest) x goal (derived more)
   pub stops : (rest : Script) (goal : Goal) (s : Stop) → IsReadyFor before (whole rest) x goal → StopsWithin before rest after goal next s → StopsWithin before (whole rest) x goal first s
   pub reaches : (rest : Script) (goal : Goal) (a : Arrival) (n : ℕ) (names : Names) → IsReadyFor before (whole rest) x goal
       → ReachesWithin before rest after goal next a n names → ReachesWithin before (whole rest) x goal first a n names
   pub number : (rest : Script) → first + size (whole rest) ≡ next + size rest
   pub kept : KeepsHeld x after
 
--- the step stops so, whatever comes after it, and not at what comes after it
+-- the steps stop so, whatever comes after them, and not at what comes after them
+abbrev pub StepsStop : List Stated → (Script → Script) → StepState → ℕ → Stop → Type 0
+StepsStop before whole x first s =
+    (rest : Script) (goal : Goal) → IsReadyFor before (whole rest) x goal
+    → StopsWithin before (whole rest) x goal first s × IsStopBefore (first + size (whole rest) - size rest) s
+
+-- and so does the step
 abbrev pub StepStops : List Stated → Step → StepState → ℕ → Stop → Type 0
-StepStops before step x first s =
-    (rest : Script) (goal : Goal) → IsReadyFor before (step_script step rest) x goal
-    → StopsWithin before (step_script step rest) x goal first s × IsStopBefore (first + size (step_script step rest) - size rest) s
+StepStops before step x first s = StepsStop before (step_script step) x first s
 
 -- at step n of the step's own block this holds, whatever comes after the step
 abbrev pub ReachesInStep : List Stated → Step → StepState → ℕ → ℕ → StepState → Type 0
 ReachesInStep before step x first n y =
-    (rest : Script) (goal : Goal) → IsReadyFor before (step_script step rest) x goal → Reaches before (step_script step rest) x goal first n y
+    (rest : Script) (goal : Goal) → IsReadyFor before (step_script step rest) x goal → ReachesStep before (step_script step rest) x goal first n y
 
 -- the first block of a split was licensed where its literal is a fact, and now its negation is one
 pub record IsFirstPassed (before : List Stated) (lit : Lit) (first : Script) (x : StepState) (goal : Goal) (after : StepState) : Type 0 where
   pub derived : Script
-  pub is_derived : IsDerived before first (after_literal lit x) goal derived
+  pub is_derived : IsDerivedFrom before first (after_literal lit x) goal derived
   pub is_after : after ≡ after_literal (negation lit) x

@@ -79,7 +79,7 @@ abbrev pub CanJoinLast : List Lit → StepState → Type 0
 CanJoinLast shown x = (before : List State) (last : State) → x.context.held ≡ before ++ last ∷ [] → IsTrue (are_good_facts last.scope (joined_all last.facts shown))
 
 -- two objects more of each sort have numbers of 16 bits
-pub record HasRoom (s : Scope) : Type 0 where
+pub record HasRoomForMore (s : Scope) : Type 0 where
   pub points : s.points + 2 < 2 ^ 16
   pub lines : s.lines + 2 < 2 ^ 16
   pub circles : s.circles + 2 < 2 ^ 16

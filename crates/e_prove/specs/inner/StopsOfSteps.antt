@@ -53,9 +53,9 @@ abbrev pub StepStopsApplying : Stated → Basis → List (Option Obj) → StepSt
 StepStopsApplying t x pattern h = MatchBool (has_no_blank pattern) (StepStopsAmong x (needs_of_use t (written pattern) x.scope) h) (StepStopsFilling t x pattern h)
 
 -- the stop, where what is too wide is answered as a match that is
-abbrev pub as_match : StepStop → StepStop
-as_match (TooWide wanted width) = TooWide Match width
-as_match h = h
+abbrev pub match_stop : StepStop → StepStop
+match_stop (TooWide wanted width) = TooWide Match width
+match_stop h = h
 
 -- what an answer on a contradiction makes of its close: the close with its certificate, or why it stops
 abbrev pub contradiction_by : Refuted → Result Close StepStop

@@ -12,12 +12,12 @@ binding_agrees f v (binding.Is n) = f v == n
 binding_agrees f v (binding.As w) = f v == f w
 
 -- the binding of a variable; one that has none is free
-abbrev pub binding_of : List Binding → ℕ → Binding
-binding_of bindings v = slice_index_or bindings v binding.Free
+abbrev pub binding_at : List Binding → ℕ → Binding
+binding_at bindings v = slice_index_or bindings v binding.Free
 
 -- the numbers of all variables are as the bindings say
 abbrev pub BindingsAgree : (ℕ → ℕ) → List Binding → Type 0
-BindingsAgree f bindings = (v : ℕ) → IsTrue (binding_agrees f v (binding_of bindings v))
+BindingsAgree f bindings = (v : ℕ) → IsTrue (binding_agrees f v (binding_at bindings v))
 
 -- numbers that agree with the bindings and the equation agree with the new bindings, and are not excluded
 abbrev pub TakesIn : List Binding → List Binding → Equation → Bool → Type 0

@@ -23,48 +23,48 @@ some_agree f matches = list_any (all_agree f) matches
 
 -- ---- diagram atoms
 
-abbrev pub line : Row → ℕ → ℕ
-line r l = r.points + l
+abbrev pub line_variable : Row → ℕ → ℕ
+line_variable r l = r.points + l
 
-abbrev pub circle : Row → ℕ → ℕ
-circle r c = r.points + r.lines + c
+abbrev pub circle_variable : Row → ℕ → ℕ
+circle_variable r c = r.points + r.lines + c
 
-abbrev pub both : ℕ → ℕ → ℕ → ℕ → Option (List Equation)
-both v n w m = Some (equation.Is v n ∷ equation.Is w m ∷ [])
+abbrev pub both_equations : ℕ → ℕ → ℕ → ℕ → Option (List Equation)
+both_equations v n w m = Some (equation.Is v n ∷ equation.Is w m ∷ [])
 
 abbrev pub all_three : ℕ → ℕ → ℕ → ℕ → ℕ → ℕ → Option (List Equation)
 all_three v n w m u k = Some (equation.Is v n ∷ equation.Is w m ∷ equation.Is u k ∷ [])
 
 -- the atom of a row is the goal where its variables represent the goal's objects, place by place
-abbrev pub equations_of_atom : Row → Atom → Atom → Option (List Equation)
-equations_of_atom r (On x l) (On a b) = both x a (line r l) b
-equations_of_atom r (OnC x c) (OnC a b) = both x a (circle r c) b
-equations_of_atom r (Inside x c) (Inside a b) = both x a (circle r c) b
-equations_of_atom r (Center x c) (Center a b) = both x a (circle r c) b
-equations_of_atom r (Between x y z) (Between a b c) = all_three x a y b z c
-equations_of_atom r (Same x y l) (Same a b c) = all_three x a y b (line r l) c
-equations_of_atom r (MeetLL l m) (MeetLL a b) = both (line r l) a (line r m) b
-equations_of_atom r (MeetLC l c) (MeetLC a b) = both (line r l) a (circle r c) b
-equations_of_atom r (MeetCC c d) (MeetCC a b) = both (circle r c) a (circle r d) b
-equations_of_atom r (EqP x y) (EqP a b) = both x a y b
-equations_of_atom r (EqL l m) (EqL a b) = both (line r l) a (line r m) b
-equations_of_atom r (EqC c d) (EqC a b) = both (circle r c) a (circle r d) b
-equations_of_atom r _ _ = None
+abbrev pub equations_from_atom : Row → Atom → Atom → Option (List Equation)
+equations_from_atom r (On x l) (On a b) = both_equations x a (line_variable r l) b
+equations_from_atom r (OnC x c) (OnC a b) = both_equations x a (circle_variable r c) b
+equations_from_atom r (Inside x c) (Inside a b) = both_equations x a (circle_variable r c) b
+equations_from_atom r (Center x c) (Center a b) = both_equations x a (circle_variable r c) b
+equations_from_atom r (Between x y z) (Between a b c) = all_three x a y b z c
+equations_from_atom r (Same x y l) (Same a b c) = all_three x a y b (line_variable r l) c
+equations_from_atom r (MeetLL l m) (MeetLL a b) = both_equations (line_variable r l) a (line_variable r m) b
+equations_from_atom r (MeetLC l c) (MeetLC a b) = both_equations (line_variable r l) a (circle_variable r c) b
+equations_from_atom r (MeetCC c d) (MeetCC a b) = both_equations (circle_variable r c) a (circle_variable r d) b
+equations_from_atom r (EqP x y) (EqP a b) = both_equations x a y b
+equations_from_atom r (EqL l m) (EqL a b) = both_equations (line_variable r l) a (line_variable r m) b
+equations_from_atom r (EqC c d) (EqC a b) = both_equations (circle_variable r c) a (circle_variable r d) b
+equations_from_atom r _ _ = None
 
 -- ---- terms
 
 -- the term of a row is the goal's, point by point
-abbrev pub equations_of_term : Term → Term → Option (List Equation)
-equations_of_term (Seg x y) (Seg a b) = both x a y b
-equations_of_term (Ang x y z) (Ang a b c) = all_three x a y b z c
-equations_of_term (Area x y z) (Area a b c) = all_three x a y b z c
-equations_of_term Right Right = Some []
-equations_of_term _ _ = None
+abbrev pub equations_from_term : Term → Term → Option (List Equation)
+equations_from_term (Seg x y) (Seg a b) = both_equations x a y b
+equations_from_term (Ang x y z) (Ang a b c) = all_three x a y b z c
+equations_from_term (Area x y z) (Area a b c) = all_three x a y b z c
+equations_from_term Right Right = Some []
+equations_from_term _ _ = None
 
 -- two terms of a row are one, point by point
-abbrev pub equations_of_terms : Term → Term → Option (List Equation)
-equations_of_terms (Seg x y) (Seg a b) = Some (equation.Same x a ∷ equation.Same y b ∷ [])
-equations_of_terms (Ang x y z) (Ang a b c) = Some (equation.Same x a ∷ equation.Same y b ∷ equation.Same z c ∷ [])
-equations_of_terms (Area x y z) (Area a b c) = Some (equation.Same x a ∷ equation.Same y b ∷ equation.Same z c ∷ [])
-equations_of_terms Right Right = Some []
-equations_of_terms _ _ = None
+abbrev pub equations_from_terms : Term → Term → Option (List Equation)
+equations_from_terms (Seg x y) (Seg a b) = Some (equation.Same x a ∷ equation.Same y b ∷ [])
+equations_from_terms (Ang x y z) (Ang a b c) = Some (equation.Same x a ∷ equation.Same y b ∷ equation.Same z c ∷ [])
+equations_from_terms (Area x y z) (Area a b c) = Some (equation.Same x a ∷ equation.Same y b ∷ equation.Same z c ∷ [])
+equations_from_terms Right Right = Some []
+equations_from_terms _ _ = None

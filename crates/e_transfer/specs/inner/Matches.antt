@@ -10,11 +10,11 @@ use Rattle.e_literal.specs.Same.{coeff_of, agree, same_atom, same_lit}
 use Rattle.e_literal.specs.Rename.{mono_at, atom_at}
 use Rattle.e_clause.specs.Rows.{Row}
 use Rattle.e_transfer.specs.declared.equations.Equation.{Equation}
-use Rattle.e_transfer.specs.inner.Equations.{line, circle, some_agree, equations_of_term, equations_of_terms}
+use Rattle.e_transfer.specs.inner.Equations.{line_variable, circle_variable, some_agree, equations_from_term, equations_from_terms}
 
 -- the atom, or the literal, of a row with these numbers for its variables
 abbrev pub atom_under : Row → (ℕ → ℕ) → Atom → Atom
-atom_under r f a = atom_at f (λ k. f (line r k)) (λ k. f (circle r k)) a
+atom_under r f a = atom_at f (λ k. f (line_variable r k)) (λ k. f (circle_variable r k)) a
 
 abbrev pub lit_under : Row → (ℕ → ℕ) → Lit → Lit
 lit_under r f l = record { neg = l.neg; atom = atom_under r f l.atom }
@@ -28,15 +28,15 @@ abbrev pub CoverAtom : Row → Atom → Atom → List (List Equation) → Type 0
 CoverAtom r a goal matches = (f : ℕ → ℕ) → IsTrue (same_atom (atom_under r f a) goal) → IsTrue (some_agree f matches)
 
 -- the orders in which the points of a term may be written
-abbrev pub orders : Term → List Term
-orders (Seg a b) = Seg a b ∷ Seg b a ∷ []
-orders (Ang a b c) = Ang a b c ∷ Ang c b a ∷ []
-orders (Area a b c) = Area a b c ∷ Area a c b ∷ Area b a c ∷ Area b c a ∷ Area c a b ∷ Area c b a ∷ []
-orders Right = Right ∷ []
+abbrev pub term_orders : Term → List Term
+term_orders (Seg a b) = Seg a b ∷ Seg b a ∷ []
+term_orders (Ang a b c) = Ang a b c ∷ Ang c b a ∷ []
+term_orders (Area a b c) = Area a b c ∷ Area a c b ∷ Area b a c ∷ Area b c a ∷ Area c a b ∷ Area c b a ∷ []
+term_orders Right = Right ∷ []
 
 -- the ways in which a term of a row may be one with the goal's
 abbrev pub matches_of_term : Term → Term → List (List Equation)
-matches_of_term term goal = flat_map (λ order. option_to_list (equations_of_term term order)) (orders goal)
+matches_of_term term goal = flat_map (λ order. option_to_list (equations_from_term term order)) (term_orders goal)
 
 -- the ways in which some term of a sum may be one with the goal's
 abbrev pub matches_of_sum : Term → List Mono → List (List Equation)
@@ -44,20 +44,20 @@ matches_of_sum goal x = flat_map (λ m. matches_of_term m.term goal) x
 
 -- the ways in which two terms of a row may be one
 abbrev pub cancellations_of_terms : Term → Term → List (List Equation)
-cancellations_of_terms term other = flat_map (λ order. option_to_list (equations_of_terms term order)) (orders other)
+cancellations_of_terms term other = flat_map (λ order. option_to_list (equations_from_terms term order)) (term_orders other)
 
 -- the ways in which a term may be one with a term of a sum
 abbrev pub cancellations_of_sum : Term → List Mono → List (List Equation)
 cancellations_of_sum term y = flat_map (λ m. cancellations_of_terms term m.term) y
 
 -- the ways in which two sums may cancel: the first term of the one is one of the other
-abbrev pub cancellations : List Mono → List Mono → List (List Equation)
-cancellations [] y = [] ∷ []
-cancellations (m ∷ ms) y = (if m.coeff == 0 then [] ∷ [] else cancellations_of_sum m.term y)
+abbrev pub cancelling_matches : List Mono → List Mono → List (List Equation)
+cancelling_matches [] y = [] ∷ []
+cancelling_matches (m ∷ ms) y = (if m.coeff == 0 then [] ∷ [] else cancellations_of_sum m.term y)
 
 -- one match and another, both
-abbrev pub product : List (List Equation) → List (List Equation) → List (List Equation)
-product first second = flat_map (λ a. map (λ b. a ++ b) second) first
+abbrev pub match_product : List (List Equation) → List (List Equation) → List (List Equation)
+match_product first second = flat_map (λ a. map (λ b. a ++ b) second) first
 
 -- the term does not occur in x - y
 abbrev pub cancels : List Mono → List Mono → Term → Bool

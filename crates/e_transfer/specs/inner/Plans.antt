@@ -10,9 +10,9 @@ use Rattle.e_transfer.specs.declared.plan.Plan.{Plan}
 use Rattle.e_transfer.specs.declared.unify.Binding.{Binding}
 use Rattle.e_transfer.specs.declared.unify.Binding.TheVariants as binding
 use Rattle.e_transfer.specs.declared.walk.Span.{Span}
-use Rattle.e_transfer.specs.Choice.{Fits}
-use Rattle.e_transfer.specs.inner.Bindings.{binding_of, BindingsAgree}
-use Rattle.e_transfer.specs.inner.PartsOfChoices.{sort_of, arguments, ready_at_of}
+use Rattle.e_transfer.specs.Choice.{FitsSpans}
+use Rattle.e_transfer.specs.inner.Bindings.{binding_at, BindingsAgree}
+use Rattle.e_transfer.specs.inner.PartsOfChoices.{variable_sort, chosen_arguments, ready_at_of}
 
 -- how many variables a row has
 abbrev pub total_of : Row → ℕ
@@ -25,18 +25,18 @@ pub record RepresentativesAre (bindings : List Binding) (representatives : List 
   pub hold : (f : ℕ → ℕ) → BindingsAgree f bindings → (v : ℕ) → v < length bindings → f (slice_index representatives v) ≡ f v
 
 -- the variable is in the order
-abbrev pub has : List ℕ → ℕ → Bool
-has order v = list_any (λ u. u == v) order
+abbrev pub has_variable : List ℕ → ℕ → Bool
+has_variable order v = list_any (λ u. u == v) order
 
 -- the order keeps its variables, and has only variables below the total if it had
 pub record Grows (total : ℕ) (old new : List ℕ) : Type 0 where
-  pub keeps : (v : ℕ) → IsTrue (has old v) → IsTrue (has new v)
+  pub keeps : (v : ℕ) → IsTrue (has_variable old v) → IsTrue (has_variable new v)
   pub below : IsTrue (list_all (λ v. nat_lt v total) old) → IsTrue (list_all (λ v. nat_lt v total) new)
 
 -- the order has variables below the total, and each representative
 pub record OrderIs (total : ℕ) (representatives order : List ℕ) : Type 0 where
   pub below : IsTrue (list_all (λ v. nat_lt v total) order)
-  pub all : (v : ℕ) → v < length representatives → IsTrue (has order (slice_index representatives v))
+  pub all : (v : ℕ) → v < length representatives → IsTrue (has_variable order (slice_index representatives v))
 
 -- for each variable the place of its representative in the order
 pub record PositionsAre (representatives order positions : List ℕ) : Type 0 where
@@ -45,17 +45,17 @@ pub record PositionsAre (representatives order positions : List ℕ) : Type 0 wh
   pub at : (v : ℕ) → v < length representatives → slice_index order (slice_index positions v) ≡ slice_index representatives v
 
 -- the known number alone, if there are more objects, or all numbers of objects
-abbrev pub span_for : ℕ → Binding → Span
-span_for count (binding.Is n) = (if nat_lt n count then record { from = n; to = n + 1 } else record { from = 0; to = 0 })
-span_for count _ = record { from = 0; to = count }
+abbrev pub variable_span : ℕ → Binding → Span
+variable_span count (binding.Is n) = (if nat_lt n count then record { from = n; to = n + 1 } else record { from = 0; to = 0 })
+variable_span count _ = record { from = 0; to = count }
 
-abbrev pub spans_of : Row → Scope → List Binding → List ℕ → List Span
-spans_of r scope bindings order = map (λ v. span_for (count_of scope (sort_of r v)) (binding_of bindings v)) order
+abbrev pub plan_spans : Row → Scope → List Binding → List ℕ → List Span
+plan_spans r scope bindings order = map (λ v. variable_span (count_of scope (variable_sort r v)) (binding_at bindings v)) order
 
 -- the last places are those of the literals of the clause, the places are those of the spans, and each instance over the
 -- scope whose arguments agree with the bindings is that of some choice
-pub record PlanIs (r : Row) (scope : Scope) (bindings : List Binding) (plan : Plan) : Type 0 where
+pub record IsPlanFor (r : Row) (scope : Scope) (bindings : List Binding) (plan : Plan) : Type 0 where
   pub ready_at : plan.ready_at.items ≡ ready_at_of r plan.positions.items
   pub below : IsTrue (list_all (λ p. nat_lt p (length plan.spans.items)) plan.positions.items)
   pub reaches : (args : List Obj) → IsTrue (fits r args) → IsTrue (list_all (is_in_scope scope) args) → BindingsAgree (number args) bindings
-      → (c : List ℕ) × Fits plan.spans.items c × (arguments r plan.positions.items c ≡ args)
+      → (c : List ℕ) × FitsSpans plan.spans.items c × (chosen_arguments r plan.positions.items c ≡ args)

@@ -7,14 +7,14 @@ use Rattle.e_verify.specs.declared.rows.Row.{Row}
 use Rattle.e_verify.specs.declared.rows.Row.TheVariants.{Sums}
 
 -- at most 32 monomials, with coefficients of at most 1,000,000
-abbrev pub are_small : List Mono → Bool
-are_small ms = nat_le (length ms) 32 && list_all (λ m. nat_le m.coeff 1000000) ms
+abbrev pub are_small_monomials : List Mono → Bool
+are_small_monomials ms = nat_le (length ms) 32 && list_all (λ m. nat_le m.coeff 1000000) ms
 
 -- the sums that are compared are small
 abbrev pub is_short : Comparison → Bool
-is_short c = are_small c.plus.now && are_small c.minus.now
+is_short c = are_small_monomials c.plus.now && are_small_monomials c.minus.now
 
 -- the sums of the row are small
-abbrev pub is_small : Row → Bool
-is_small (Sums says x y turned) = are_small x.now && are_small y.now
-is_small _ = true
+abbrev pub is_small_row : Row → Bool
+is_small_row (Sums says x y turned) = are_small_monomials x.now && are_small_monomials y.now
+is_small_row _ = true

@@ -10,28 +10,28 @@ use Rattle.e_verify.specs.declared.rows.Says.TheVariants.{Zero, AtLeast, More, N
 use Rattle.e_verify.specs.declared.rows.Comparison.{Comparison}
 use Rattle.e_verify.specs.declared.rows.Row.{Row as CodeRow}
 use Rattle.e_verify.specs.declared.rows.Row.TheVariants.{Sums, Pos, Top, Right, Least}
-use Rattle.e_verify.specs.declared.rows.Place.{Place as CodePlace}
+use Rattle.e_verify.specs.declared.rows.RowScope.{RowScope}
 
-abbrev pub says_of : CodeSays → Says
-says_of Zero = says.Zero
-says_of AtLeast = says.AtLeast
-says_of More = says.More
-says_of Not = says.Not
+abbrev pub says_view : CodeSays → Says
+says_view Zero = says.Zero
+says_view AtLeast = says.AtLeast
+says_view More = says.More
+says_view Not = says.Not
 
 -- the form, or minus the form
-abbrev pub turned_by : Bool → Summands → Summands
-turned_by true form = negative form
-turned_by false form = form
+abbrev pub form_turned : Bool → Summands → Summands
+form_turned true form = negative form
+form_turned false form = form
 
-abbrev pub row_said : CodeRow → Row
-row_said (Sums said x y turned) = record { says = says_of said; form = turned_by turned (normal_summands (plus x.now ++ minus y.now)) }
-row_said (Pos t) = pos_row t
-row_said (Top t) = top_row t
-row_said Right = right_row
-row_said (Least t) = least_row t
+abbrev pub row_view : CodeRow → Row
+row_view (Sums said x y turned) = record { says = says_view said; form = form_turned turned (normal_summands (plus x.now ++ minus y.now)) }
+row_view (Pos t) = pos_row t
+row_view (Top t) = top_row t
+row_view Right = right_row
+row_view (Least t) = least_row t
 
-abbrev pub comparison_said : Comparison → Row
-comparison_said c = record { says = says_of c.says; form = normal_summands (plus c.plus.now ++ minus c.minus.now) }
+abbrev pub comparison_view : Comparison → Row
+comparison_view c = record { says = says_view c.says; form = normal_summands (plus c.plus.now ++ minus c.minus.now) }
 
-abbrev pub place_said : CodePlace → Place
-place_said p = record { facts = p.facts.now; wanted = option_copied p.wanted; above = option_map row_said p.above; below = option_map row_said p.below }
+abbrev pub row_scope_view : RowScope → Place
+row_scope_view p = record { facts = p.facts.now; wanted = option_copied p.wanted; above = option_map row_view p.above; below = option_map row_view p.below }

@@ -2,7 +2,7 @@ use Rattle.std.proofs.Common.{ap, ◌∙◌, map}
 use Rattle.std.specs.Prelude.{List, option_copied}
 use Rattle.e_literal.specs.declared.object.Term.{Term}
 use Rattle.e_metric.specs.inner.AssignedValues.{step_value}
-use Rattle.e_metric.proofs.StepTerms.{lists}
+use Rattle.e_metric.proofs.terms.StepTerms.{lists}
 use Rattle.e_metric.proofs.assigning.counterexample.Goals as goal
 
 pub returns : goal.returns

@@ -1,4 +1,4 @@
-use Rattle.e_metric.proofs.TermOrder.{in_order, same_terms}
+use Rattle.e_metric.proofs.terms.TermOrder.{in_order, same_terms}
 use Rattle.e_metric.proofs.assigning.put_in_order.Goals as goal
 
 pub returns-clause-in_order : goal.returns-clause-in_order

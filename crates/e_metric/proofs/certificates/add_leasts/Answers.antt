@@ -4,8 +4,8 @@ use Rattle.e_clause.specs.declared.cert.RowName.{RowName}
 use Rattle.e_fraction.specs.declared.row.Row.{Row as GivenRow}
 use Rattle.e_fraction.specs.Views.{weighed}
 use Rattle.e_literal.specs.Absurd.{total}
-use Rattle.e_metric.specs.inner.Certificate.{IsWeighable, leasts, used_rows, used_weights}
-use Rattle.e_metric.proofs.UsedRows.{used_weighable, used_leasts}
+use Rattle.e_metric.specs.inner.Certificate.{IsWeighable, leasts, used_rows}
+use Rattle.e_metric.proofs.sums.UsedRows.{used_weighable, used_leasts}
 use Rattle.e_metric.proofs.certificates.add_leasts.Goals as goal
 
 pub add_leasts_of-requires : goal.add_leasts_of-requires

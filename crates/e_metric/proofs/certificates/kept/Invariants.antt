@@ -1,6 +1,6 @@
-use Rattle.std.proofs.Common.{◌≡◌, ◌++◌, drop}
-use Rattle.e_metric.specs.inner.Certificate.{kept}
+use Rattle.std.proofs.Common.{◌≡◌, ◌++◌, drop, length}
+use Rattle.e_metric.specs.inner.Certificate.{named_multipliers}
 use Rattle.e_metric.proofs.certificates.kept.Given as goal
 
-abbrev pub invariant-loop-i : goal.invariant-loop-i
-invariant-loop-i l = l.sum.items ++ kept (drop l.i l.names) (drop l.i l.multipliers) ≡ kept l.names l.multipliers
+abbrev pub invariant-loop-name : goal.invariant-loop-name
+invariant-loop-name l = l.sum.items ++ named_multipliers (drop (length l.yielded) l.names) (drop (length l.yielded) l.multipliers) ≡ named_multipliers l.names l.multipliers

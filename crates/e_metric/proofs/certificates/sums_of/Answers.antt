@@ -4,8 +4,8 @@ use Rattle.std.specs.Prelude.{List}
 use Rattle.e_fraction.specs.Views.{all_seen}
 use Rattle.e_simplex.specs.Answer.{Refutes, RefutesBoth, IsAbsurdity}
 use Rattle.e_simplex.specs.declared.decision.Absurdity.{Absurdity}
-use Rattle.e_metric.specs.inner.Certificate.{negated_at, IsWeighable}
-use Rattle.e_metric.proofs.Multipliers.{one_length, one_weighable, both_here, above_length, below_length, above_weighable, below_weighable}
+use Rattle.e_metric.specs.inner.Certificate.{negated_place, IsWeighable}
+use Rattle.e_metric.proofs.sums.Multipliers.{one_length, one_weighable, both_here, above_length, below_length, above_weighable, below_weighable}
 use Rattle.e_metric.proofs.certificates.sums_of.Goals as goal
 
 pub sum_of-requires-clause-names : goal.sum_of-requires-clause-names
@@ -42,5 +42,5 @@ two_sums-requires-clause-first c =
 pub two_sums-requires-clause-second : goal.two_sums-requires-clause-second
 two_sums-requires-clause-second c =
     let h : RefutesBoth (all_seen c.args.rows.now) c.in-Two.row c.in-Two.above.items c.in-Two.below.items = subst (λ (a : Absurdity). IsAbsurdity (all_seen c.args.rows.now) a) c.in-Two.is c.requires.refuted in
-    subst (λ (xs : List ℤ). IsWeighable c.args.rows.now (negated_at xs c.in-Two.row)) (sym c.deref-in-Two-2.ensures.value)
+    subst (λ (xs : List ℤ). IsWeighable c.args.rows.now (negated_place xs c.in-Two.row)) (sym c.deref-in-Two-2.ensures.value)
     (below_weighable c.args.rows.now c.requires.few c.requires.coefficients c.in-Two.row c.in-Two.above.items c.in-Two.below.items h)

@@ -2,14 +2,14 @@ use Rattle.std.proofs.Common.{◌≤◌, ◌^◌, ◌∙◌, ◌∷◌, [], ap, 
 use Rattle.e_literal.specs.Minor.{IsWide}
 use Rattle.e_literal.specs.Width.{width}
 use Rattle.e_literal.specs.declared.object.Term.TheVariants.{Right}
-use Rattle.e_metric.specs.ListedTerms.{listed, terms_of_kind}
-use Rattle.e_metric.specs.inner.Certificate.{sums_of}
+use Rattle.e_metric.specs.ListedTerms.{with_listed, distinct_terms}
+use Rattle.e_metric.specs.inner.Certificate.{certificate_sums}
 use Rattle.std.specs.Prelude.{option_copied}
 use Rattle.e_fraction.specs.Views.{all_seen}
 use Rattle.e_simplex.specs.Answer.{IsVerdict, AreValuesOf, IsRefuted, assigned}
 use Rattle.e_clause.specs.System.{system}
-use Rattle.e_metric.proofs.RowOrder.{same_order}
-use Rattle.e_metric.proofs.KindAnswers.{few_rows, small_rows, solved, too_wide, refuted, system_width}
+use Rattle.e_metric.proofs.rows.RowOrder.{same_order}
+use Rattle.e_metric.proofs.answers.KindAnswers.{few_rows, small_rows, solved, too_wide, refuted, system_width}
 use Rattle.e_metric.proofs.consequence.answer_of_kind.Goals as goal
 
 pub decide-requires-clause-few : goal.decide-requires-clause-few
@@ -43,6 +43,6 @@ returns-in_ok-certified-in-Absurd c =
     let v : IsVerdict (all_seen c.deref.result.now) c.in_ok-values.field-0 = c.in_ok-values.ensures.verdict in
     let h : IsRefuted (all_seen c.deref.result.now) c.in-Absurd.absurdity = subst (IsVerdict (all_seen c.deref.result.now)) c.in-Absurd.is v in
     refuted c.args.which c.args.facts.now (option_copied c.args.wanted) (system c.args.which c.args.facts.now (option_copied c.args.wanted)) (same_order (system c.args.which c.args.facts.now (option_copied c.args.wanted))) c.in_ok-named.named.items c.in_ok-named.ensures.rows c.in_ok-named.ensures.limited c.requires.facts c.requires.few c.requires.wanted c.deref.result.now (c.deref.ensures.value ∙ c.in_ok-names.ensures.rows)
-    c.in_ok-names.names.items (listed (terms_of_kind c.args.which c.args.facts.now (option_copied c.args.wanted)) (Right ∷ [])) c.in-Absurd.absurdity c.in_ok-certified-in-Absurd.field-0.sums
+    c.in_ok-names.names.items (with_listed (distinct_terms c.args.which c.args.facts.now (option_copied c.args.wanted)) (Right ∷ [])) c.in-Absurd.absurdity c.in_ok-certified-in-Absurd.field-0.sums
     c.in_ok-names.ensures.names refl h.refutes
-    (c.in_ok-certified-in-Absurd.ensures ∙ ap (λ rs. sums_of c.in_ok-names.names.items rs (listed (terms_of_kind c.args.which c.args.facts.now (option_copied c.args.wanted)) (Right ∷ [])) c.in-Absurd.absurdity) (c.deref-in-Absurd.ensures.value ∙ sym c.deref.ensures.value))
+    (c.in_ok-certified-in-Absurd.ensures ∙ ap (λ rs. certificate_sums c.in_ok-names.names.items rs (with_listed (distinct_terms c.args.which c.args.facts.now (option_copied c.args.wanted)) (Right ∷ [])) c.in-Absurd.absurdity) (c.deref-in-Absurd.ensures.value ∙ sym c.deref.ensures.value))

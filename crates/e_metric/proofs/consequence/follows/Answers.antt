@@ -1,4 +1,4 @@
-use Rattle.e_metric.proofs.Consequences.{each_yes_follows, each_no_follows}
+use Rattle.e_metric.proofs.answers.Consequences.{each_yes_follows, each_no_follows}
 use Rattle.e_metric.proofs.consequence.follows.Goals as goal
 
 pub returns-clause-yes : goal.returns-clause-yes

@@ -1,5 +1,5 @@
 use Rattle.e_simplex.specs.Answer.{assigned}
-use Rattle.e_metric.proofs.SolvedSystems.{one_so}
+use Rattle.e_metric.proofs.answers.SolvedSystems.{one_so}
 use Rattle.e_metric.proofs.evaluating.are_so.Goals as goal
 
 pub loop-row-preserved : goal.loop-row-preserved

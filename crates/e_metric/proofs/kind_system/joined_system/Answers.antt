@@ -5,8 +5,8 @@ use Rattle.e_literal.specs.Width.{width}
 use Rattle.e_clause.specs.System.{rows_of_term}
 use Rattle.e_fraction.specs.Views.{all_seen}
 use Rattle.e_simplex.specs.Preparing.{IsPrepared}
-use Rattle.e_metric.proofs.SolvedSystems.{few_together, small_together, width_together}
-use Rattle.e_metric.proofs.GrownSystems.{joined_solved}
+use Rattle.e_metric.proofs.answers.SolvedSystems.{few_together, small_together, width_together}
+use Rattle.e_metric.proofs.answers.GrownSystems.{joined_solved}
 use Rattle.e_metric.proofs.kind_system.joined_system.Goals as goal
 
 pub with-requires-clause-few : goal.with-requires-clause-few

@@ -9,11 +9,11 @@ use Rattle.e_simplex.specs.Answer.{IsRefuted}
 use Rattle.e_simplex.specs.Preparing.{IsPrepared}
 use Rattle.e_literal.specs.declared.object.Term.TheVariants.{Right}
 use Rattle.e_metric.specs.SolvedSystems.{AreNamed}
-use Rattle.e_metric.specs.ListedTerms.{listed, terms_of_kind}
-use Rattle.e_metric.specs.inner.Certificate.{sums_of}
-use Rattle.e_metric.proofs.SolvedSystems.{named_of, few_named, small_named, refuted_named}
-use Rattle.e_metric.proofs.RowOrder.{same_order}
-use Rattle.e_metric.proofs.KindAnswers.{system_width, has_width}
+use Rattle.e_metric.specs.ListedTerms.{with_listed, distinct_terms}
+use Rattle.e_metric.specs.inner.Certificate.{certificate_sums}
+use Rattle.e_metric.proofs.answers.SolvedSystems.{named_of, few_named, small_named, refuted_named}
+use Rattle.e_metric.proofs.rows.RowOrder.{same_order}
+use Rattle.e_metric.proofs.answers.KindAnswers.{system_width, has_width}
 use Rattle.e_metric.proofs.kind_system.solve_kind.Goals as goal
 
 pub prepare-requires-clause-few : goal.prepare-requires-clause-few
@@ -54,5 +54,5 @@ pub returns-in_ok-certified-in-Absurd : goal.returns-in_ok-certified-in-Absurd
 returns-in_ok-certified-in-Absurd c =
     let h : IsRefuted (all_seen c.in_ok-names.rows.items) c.in-Absurd.absurdity = subst (IsPrepared c.in_ok-names.rows.items) c.in-Absurd.is c.in_ok-prepare.ensures in
     refuted_named c.args.which c.args.facts.now None (system c.args.which c.args.facts.now None) (same_order (system c.args.which c.args.facts.now None)) c.in_ok-names.names.items c.in_ok-names.rows.items (named_of (system c.args.which c.args.facts.now None) c.in_ok-named.named.items c.in_ok-names.names.items c.in_ok-names.rows.items c.in_ok-named.ensures.rows c.in_ok-named.ensures.limited c.in_ok-names.ensures.names c.in_ok-names.ensures.rows) c.requires.facts c.requires.few refl
-    (listed (terms_of_kind c.args.which c.args.facts.now None) (Right ∷ [])) c.in-Absurd.absurdity c.in_ok-certified-in-Absurd.field-0.sums refl h.refutes
-    (c.in_ok-certified-in-Absurd.ensures ∙ ap (λ rs. sums_of c.in_ok-names.names.items rs (listed (terms_of_kind c.args.which c.args.facts.now None) (Right ∷ [])) c.in-Absurd.absurdity) (c.deref-in-Absurd.ensures.value ∙ c.in_ok-kept.ensures ∙ c.deref.ensures.value))
+    (with_listed (distinct_terms c.args.which c.args.facts.now None) (Right ∷ [])) c.in-Absurd.absurdity c.in_ok-certified-in-Absurd.field-0.sums refl h.refutes
+    (c.in_ok-certified-in-Absurd.ensures ∙ ap (λ rs. certificate_sums c.in_ok-names.names.items rs (with_listed (distinct_terms c.args.which c.args.facts.now None) (Right ∷ [])) c.in-Absurd.absurdity) (c.deref-in-Absurd.ensures.value ∙ c.in_ok-kept.ensures ∙ c.deref.ensures.value))

@@ -1,6 +1,6 @@
 use Rattle.std.proofs.Common.{sym, ◌∙◌}
 use Rattle.e_literal.specs.WellFormed.{is_well_formed}
-use Rattle.e_metric.proofs.GoodSums.{not_all, all_more}
+use Rattle.e_metric.proofs.terms.WellFormedSums.{not_all, all_more}
 use Rattle.e_metric.proofs.limits.are_well_formed.Goals as goal
 
 pub returns-then-not-is_well_formed : goal.returns-then-not-is_well_formed

@@ -1,5 +1,5 @@
 use Rattle.std.proofs.Common.{arith}
-use Rattle.e_metric.proofs.GoodSums.{monomials_more}
+use Rattle.e_metric.proofs.terms.WellFormedSums.{monomials_more}
 use Rattle.e_metric.proofs.limits.capped_monomials.Goals as goal
 
 pub loop-i-preserved : goal.loop-i-preserved

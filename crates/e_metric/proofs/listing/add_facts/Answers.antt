@@ -1,8 +1,8 @@
 use Rattle.std.proofs.Common.{arith, ap, ◌∙◌}
 use Rattle.e_clause.specs.Assignment.{terms_of_lits}
 use Rattle.e_clause.specs.System.{of_kind}
-use Rattle.e_metric.specs.ListedTerms.{listed}
-use Rattle.e_metric.proofs.FirstTerms.{more_terms, whole_rest}
+use Rattle.e_metric.specs.ListedTerms.{with_listed}
+use Rattle.e_metric.proofs.terms.FirstTerms.{more_terms, whole_rest}
 use Rattle.e_metric.proofs.listing.add_facts.Goals as goal
 
 pub loop-k-preserved : goal.loop-k-preserved
@@ -12,5 +12,5 @@ loop-k-preserved c =
 pub returns : goal.returns
 returns c =
     c.loop-k.invariant
-    ∙ ap (λ ls. listed c.args.terms.now.items (terms_of_lits (of_kind c.args.which ls)))
+    ∙ ap (λ ls. with_listed c.args.terms.now.items (terms_of_lits (of_kind c.args.which ls)))
     (whole_rest c.args.facts.now c.args.from c.loop-k.k (omega (arith, c.loop-k-test.false, c.len-count.ensures)))

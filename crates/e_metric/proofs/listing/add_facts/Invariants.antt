@@ -1,8 +1,8 @@
 use Rattle.std.proofs.Common.{◌≡◌, take, drop}
 use Rattle.e_clause.specs.Assignment.{terms_of_lits}
 use Rattle.e_clause.specs.System.{of_kind}
-use Rattle.e_metric.specs.ListedTerms.{listed}
+use Rattle.e_metric.specs.ListedTerms.{with_listed}
 use Rattle.e_metric.proofs.listing.add_facts.Given as goal
 
 abbrev pub invariant-loop-k : goal.invariant-loop-k
-invariant-loop-k l = l.terms.items ≡ listed l.initial.terms.items (terms_of_lits (of_kind l.which (take l.k (drop l.from l.facts))))
+invariant-loop-k l = l.terms.items ≡ with_listed l.initial.terms.items (terms_of_lits (of_kind l.which (take l.k (drop l.from l.facts))))

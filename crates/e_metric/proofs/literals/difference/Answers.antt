@@ -3,8 +3,8 @@ use Rattle.e_literal.specs.Rows.{Summands, coefficient}
 use Rattle.e_fraction.specs.Distinct.{have_distinct_terms}
 use Rattle.e_fraction.specs.Limits.{has_small_coefficients}
 use Rattle.e_metric.specs.AgreeingRows.{has_no_zero}
-use Rattle.e_metric.specs.inner.Differences.{joined}
-use Rattle.e_metric.proofs.Forms.{is_joined, joined_coefficient, joined_length, no_zero, all_small}
+use Rattle.e_metric.specs.inner.Differences.{difference_form}
+use Rattle.e_metric.proofs.rows.Forms.{is_joined, joined_coefficient, joined_length, no_zero, all_small}
 use Rattle.e_metric.proofs.literals.difference.Goals as goal
 
 pub new-requires : goal.new-requires
@@ -19,14 +19,14 @@ pub returns-clause-no_zero : goal.returns-clause-no_zero
 returns-clause-no_zero c =
     let x = c.args.x.now in
     let y = c.args.y.now in
-    subst (λ (f : Summands). has_no_zero f ≡ true) (sym (c.new.ensures ∙ c.in_ok-summands.ensures)) (no_zero x y (joined x y) (is_joined x y).are_summands)
+    subst (λ (f : Summands). has_no_zero f ≡ true) (sym (c.new.ensures ∙ c.in_ok-summands.ensures)) (no_zero x y (difference_form x y) (is_joined x y).are_summands)
 
 pub returns-clause-small : goal.returns-clause-small
 returns-clause-small c =
     let x = c.args.x.now in
     let y = c.args.y.now in
     subst (λ (f : Summands). has_small_coefficients f ≡ true) (sym (c.new.ensures ∙ c.in_ok-summands.ensures))
-    (all_small x y (joined x y) c.requires.few c.requires.left c.requires.right (is_joined x y).are_summands)
+    (all_small x y (difference_form x y) c.requires.few c.requires.left c.requires.right (is_joined x y).are_summands)
 
 pub returns-clause-short : goal.returns-clause-short
 returns-clause-short c = omega (

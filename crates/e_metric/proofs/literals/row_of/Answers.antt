@@ -1,4 +1,4 @@
-use Rattle.e_metric.proofs.Forms.{left_of_eq, right_of_eq, left_of_lt, right_of_lt}
+use Rattle.e_metric.proofs.rows.Forms.{left_of_eq, right_of_eq, left_of_lt, right_of_lt}
 use Rattle.e_metric.proofs.literals.row_of.Goals as goal
 
 pub difference-requires-clause-left : goal.difference-requires-clause-left

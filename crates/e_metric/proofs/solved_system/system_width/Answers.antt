@@ -1,6 +1,6 @@
 use Rattle.std.proofs.Common.{◌∙◌}
 use Rattle.std.specs.Prelude.{option_copied}
-use Rattle.e_metric.proofs.KindAnswers.{system_width}
+use Rattle.e_metric.proofs.answers.KindAnswers.{system_width}
 use Rattle.e_metric.proofs.solved_system.system_width.Goals as goal
 
 pub returns : goal.returns

@@ -1,6 +1,6 @@
 use Rattle.std.proofs.Common.{sym, ◌∙◌, ap}
 use Rattle.e_clause.specs.declared.cert.RowName.TheVariants.{Fact}
-use Rattle.e_metric.proofs.SystemRows.{literal_grows}
+use Rattle.e_metric.proofs.rows.SystemRows.{literal_grows}
 use Rattle.e_metric.proofs.systems.add_fact_row.Goals as goal
 
 pub returns-in_ok-push : goal.returns-in_ok-push

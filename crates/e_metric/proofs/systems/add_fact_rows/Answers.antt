@@ -3,8 +3,8 @@ use Rattle.e_clause.specs.declared.cert.RowName.TheVariants.{Fact}
 use Rattle.e_clause.specs.System.{rows_named, of_kind}
 use Rattle.e_literal.specs.WellFormed.{is_well_formed}
 use Rattle.e_metric.specs.AgreeingRows.{GrowBy}
-use Rattle.e_metric.proofs.FirstTerms.{one_from, whole_rest}
-use Rattle.e_metric.proofs.SystemRows.{all_at, facts_grow}
+use Rattle.e_metric.proofs.terms.FirstTerms.{one_from, whole_rest}
+use Rattle.e_metric.proofs.rows.SystemRows.{all_at, facts_grow}
 use Rattle.e_metric.proofs.systems.add_fact_rows.Goals as goal
 
 pub add_fact_row-requires : goal.add_fact_row-requires

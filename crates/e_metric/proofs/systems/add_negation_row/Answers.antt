@@ -1,7 +1,7 @@
 use Rattle.std.proofs.Common.{sym, ◌∙◌, refl}
 use Rattle.e_clause.specs.declared.cert.RowName.TheVariants.{Goal}
 use Rattle.e_literal.specs.Literal.{negation}
-use Rattle.e_metric.proofs.SystemRows.{literal_grows}
+use Rattle.e_metric.proofs.rows.SystemRows.{literal_grows}
 use Rattle.e_metric.proofs.systems.add_negation_row.Goals as goal
 
 pub returns-in_ok-push : goal.returns-in_ok-push

@@ -1,4 +1,4 @@
-use Rattle.e_metric.proofs.SystemRows.{right_grows}
+use Rattle.e_metric.proofs.rows.SystemRows.{right_grows}
 use Rattle.e_metric.proofs.systems.add_right_row.Goals as goal
 
 pub returns-in_ok-push-in-Angle : goal.returns-in_ok-push-in-Angle

@@ -1,5 +1,5 @@
 use Rattle.std.proofs.Common.{sym, ◌∙◌}
-use Rattle.e_metric.proofs.SystemRows.{segment_grows, angle_grows}
+use Rattle.e_metric.proofs.rows.SystemRows.{segment_grows, angle_grows}
 use Rattle.e_metric.proofs.systems.add_term_row.Goals as goal
 
 pub returns-in_ok-push-in-Seg : goal.returns-in_ok-push-in-Seg

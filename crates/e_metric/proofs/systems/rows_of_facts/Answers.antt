@@ -2,7 +2,7 @@ use Rattle.std.proofs.Common.{drop}
 use Rattle.std.specs.Prelude.{flat_map}
 use Rattle.e_clause.specs.declared.cert.RowName.TheVariants.{Fact}
 use Rattle.e_clause.specs.System.{of_kind, rows_named, rows_of_term}
-use Rattle.e_metric.proofs.SystemRows.{rows_of_two}
+use Rattle.e_metric.proofs.rows.SystemRows.{rows_of_two}
 use Rattle.e_metric.proofs.systems.rows_of_facts.Goals as goal
 
 pub returns-clause-rows : goal.returns-clause-rows

@@ -1,6 +1,6 @@
 use Rattle.std.proofs.Common.{◌∙◌}
 use Rattle.std.specs.Prelude.{option_copied}
-use Rattle.e_metric.proofs.SystemRows.{all_rows}
+use Rattle.e_metric.proofs.rows.SystemRows.{all_rows}
 use Rattle.e_metric.proofs.systems.system.Goals as goal
 
 pub returns-clause-rows : goal.returns-clause-rows

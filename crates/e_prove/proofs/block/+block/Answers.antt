@@ -1,24 +1,26 @@
-use Rattle.std.proofs.Common.{◌≡◌, ◌+◌, ◌<◌, ◌++◌, ◌∷◌, [], length, rules, arith, sym, ap, ◌∙◌, subst, true, IfOk}
+use Rattle.std.proofs.Common.{◌≡◌, ◌+◌, ◌<◌, ◌++◌, ◌∷◌, [], length, rules, arith, refl, sym, ap, List, ◌∙◌, subst, true, IfOk}
 use Rattle.e_literal.specs.Literal.{negation}
 use Rattle.e_literal.specs.Facts.{joined}
+use Rattle.e_clause.specs.declared.cert.Cert.{Cert}
 use Rattle.e_clause.specs.Certify.{certify_all}
 use Rattle.e_clause.specs.Judged.{are_good, are_good_facts}
 use Rattle.e_theorem.specs.Statements.{stated, all_stated}
 use Rattle.e_deriv.specs.declared.block.Close.TheViews.{the_lemmas}
 use Rattle.e_deriv.specs.declared.block.Step.TheVariants.{Cite, Hence, Make, Apply}
 use Rattle.e_deriv.specs.declared.block.Close.TheVariants.{Qed}
-use Rattle.e_deriv.specs.Script.{script_of, step_script, close_script, size}
+use Rattle.e_deriv.specs.Script.{Claim as ClaimScript, Superposed as SuperposedScript, script_of, step_script, close_script, size}
 use Rattle.e_deriv.specs.Goal.{goal_of, are_for, goal_with}
 use Rattle.e_construct.specs.Superposing as superposing
-use Rattle.e_prove.specs.inner.StepStates.{HasRoom, goal_view, after_literal, after_superposed}
+use Rattle.e_prove.specs.inner.StepStates.{HasRoomForMore, goal_view, after_literal, after_superposed}
 use Rattle.e_prove.specs.inner.Applications.{CanApply}
 use Rattle.e_prove.specs.inner.LicensedSteps.{IsLicensedStep, IsStopOfClose, IsStopOfStep}
-use Rattle.e_prove.specs.inner.PassedSteps.{IsReadyFor, IsReadyStep, IsDerived, IsPassed, StopsWithin}
+use Rattle.e_prove.specs.inner.PassedSteps.{IsReadyFor, IsReadyStep, IsDerivedFrom, IsPassed, StepsStop, StopsWithin}
 use Rattle.e_prove.proofs.LicensedLiterals.{ok_map, err_map}
 use Rattle.e_prove.proofs.Closes.{qed_fits}
 use Rattle.e_prove.proofs.PassedSteps.{numbered_passed, numbered_stops, numbered_close_stops, stops_for_memory, stops_as_memory}
-use Rattle.e_prove.proofs.ReadySteps.{cite_good, hence_good, one_good, make_good, make_room, claim_parts, claim_lines, claim_after, superposed_parts, superposed_lines, superposed_after, block_facts, room_of_small, apply_good, as_many, theorem_is}
-use Rattle.e_prove.proofs.Blocks.{on_ok, passed_start, step_ready, step_stops, step_passed, close_ready, close_few, close_derived, close_stops, kept_on, kept_literal, claim_passed, claim_stopped, superposed_passed, superposed_stopped, superposed_refused, split_parts, split_second_ready, split_size, split_derived, split_stops_first, split_stops_second, cite_one, hence_one, make_one, apply_one, qed_one, contradiction_one}
+use Rattle.e_prove.proofs.ReadySteps.{cite_good, hence_good, one_good, make_good, make_room, block_facts, room_of_small, apply_good, as_many, theorem_is}
+use Rattle.e_prove.proofs.Blocks.{on_ok, passed_start, step_ready, step_stops, step_passed, close_ready, close_few, close_derived, close_stops, kept_on, kept_literal, split_parts, split_second_ready, split_size, split_derived, split_stops_first, split_stops_second, cite_one, hence_one, make_one, apply_one, qed_one, contradiction_one}
+use Rattle.e_prove.proofs.StepsWithBlocks.{ready_as, all_passed_as, all_stopped_as, ok_with, err_with, claim_is, claim_begins, claim_numbers, claim_ends, claim_is_passed, claim_is_stopped, superposed_is, superposed_begins, superposed_numbers, superposed_ends, superposed_is_passed, superposed_is_stopped, superposed_is_refused}
 use Rattle.e_licence.specs.Contexts.{state_of}
 use Rattle.e_prove.proofs.HeldStates.{ready_inside, derived_outside, stops_outside, step_stops_outside, names_outside, kept_inside, some_held, left_is, good_after}
 use Rattle.e_prove.proofs.block.+block.Goals as goal
@@ -179,7 +181,7 @@ prove_close-assume_not-requires t c =
     let other =
     split_second_ready (all_stated c.args.before.now) c.args.close.now lit c.in-Cases.first c.in-Cases.second (script_of c.in-Ok.one.block) x goal c.in-Cases.is
     (derived_outside (all_stated c.args.before.now) (script_of c.in-Cases.first.value) first c.assume.new.self goal (script_of c.in-Ok.one.block) hs entered
-    (subst (λ b. IsDerived (all_stated c.args.before.now) (script_of b) c.assume.new.self goal (script_of c.in-Ok.one.block)) c.deref.ensures c.in-Ok.ensures.derived))
+    (subst (λ b. IsDerivedFrom (all_stated c.args.before.now) (script_of b) c.assume.new.self goal (script_of c.in-Ok.one.block)) c.deref.ensures c.in-Ok.ensures.derived))
     c.requires.ready
     in
     let back =
@@ -199,7 +201,7 @@ prove_close-prove_block-requires-in-Cases t c =
     let other =
     split_second_ready (all_stated c.args.before.now) c.args.close.now lit c.in-Cases.first c.in-Cases.second (script_of c.in-Ok.one.block) x goal c.in-Cases.is
     (derived_outside (all_stated c.args.before.now) (script_of c.in-Cases.first.value) first c.assume.new.self goal (script_of c.in-Ok.one.block) hs entered
-    (subst (λ b. IsDerived (all_stated c.args.before.now) (script_of b) c.assume.new.self goal (script_of c.in-Ok.one.block)) c.deref.ensures c.in-Ok.ensures.derived))
+    (subst (λ b. IsDerivedFrom (all_stated c.args.before.now) (script_of b) c.assume.new.self goal (script_of c.in-Ok.one.block)) c.deref.ensures c.in-Ok.ensures.derived))
     c.requires.ready
     in
     let count = split_size c.args.close.now lit c.in-Cases.first c.in-Cases.second c.in-Cases.is in
@@ -268,9 +270,9 @@ prove_close-returns-in-Ok-prove_block-clause-derived t c =
     let begun = c.in-Ok-assume_not.ensures ∙ ap (after_literal (negation lit)) back in
     split_derived (all_stated c.args.before.now) c.args.close.now lit c.in-Cases.first c.in-Cases.second c.in-Ok.one.block c.in-Ok-prove_block.other.block x goal c.split.result c.in-Cases.is parts
     (derived_outside (all_stated c.args.before.now) (script_of c.in-Cases.first.value) first c.assume.new.self goal (script_of c.in-Ok.one.block) hs entered
-    (subst (λ b. IsDerived (all_stated c.args.before.now) (script_of b) c.assume.new.self goal (script_of c.in-Ok.one.block)) c.deref.ensures c.in-Ok.ensures.derived))
-    (subst (λ y. IsDerived (all_stated c.args.before.now) (script_of c.in-Cases.second.value) y goal (script_of c.in-Ok-prove_block.other.block)) begun
-    (subst (λ b. IsDerived (all_stated c.args.before.now) (script_of b) c.assume_not.new.self goal (script_of c.in-Ok-prove_block.other.block)) c.deref-in-Cases.ensures c.in-Ok-prove_block.ensures.derived))
+    (subst (λ b. IsDerivedFrom (all_stated c.args.before.now) (script_of b) c.assume.new.self goal (script_of c.in-Ok.one.block)) c.deref.ensures c.in-Ok.ensures.derived))
+    (subst (λ y. IsDerivedFrom (all_stated c.args.before.now) (script_of c.in-Cases.second.value) y goal (script_of c.in-Ok-prove_block.other.block)) begun
+    (subst (λ b. IsDerivedFrom (all_stated c.args.before.now) (script_of b) c.assume_not.new.self goal (script_of c.in-Ok-prove_block.other.block)) c.deref-in-Cases.ensures c.in-Ok-prove_block.ensures.derived))
     c.split.ensures.close
 
 pub prove_close-returns-in-Ok-prove_block-clause-next : goal.prove_close-returns-in-Ok-prove_block-clause-next
@@ -310,7 +312,7 @@ prove_close-returns-in-Err-prove_block-clause-err t c =
     let same = ap (λ b. size (script_of b)) c.deref.ensures in
     split_stops_second (all_stated c.args.before.now) c.args.close.now lit c.in-Cases.first c.in-Cases.second c.in-Ok.one.block x goal c.args.number c.in-Ok.one.next c.in-Err-prove_block.stop c.in-Cases.is parts
     (derived_outside (all_stated c.args.before.now) (script_of c.in-Cases.first.value) first c.assume.new.self goal (script_of c.in-Ok.one.block) hs entered
-    (subst (λ b. IsDerived (all_stated c.args.before.now) (script_of b) c.assume.new.self goal (script_of c.in-Ok.one.block)) c.deref.ensures c.in-Ok.ensures.derived))
+    (subst (λ b. IsDerivedFrom (all_stated c.args.before.now) (script_of b) c.assume.new.self goal (script_of c.in-Ok.one.block)) c.deref.ensures c.in-Ok.ensures.derived))
     (omega (arith, same, c.in-Ok.ensures.next))
     (subst (λ y. StopsWithin (all_stated c.args.before.now) (script_of c.in-Cases.second.value) y goal c.in-Ok.one.next c.in-Err-prove_block.stop) begun
     (subst (λ b. StopsWithin (all_stated c.args.before.now) (script_of b) c.assume_not.new.self goal c.in-Ok.one.next c.in-Err-prove_block.stop) c.deref-in-Cases.ensures c.in-Err-prove_block.ensures.err))
@@ -449,176 +451,205 @@ prove_step-returns-in-Apply-clause-err t c =
 
 -- ---- a claim
 
-pub prove_step-overflow_add-number : goal.prove_step-overflow_add-number
-prove_step-overflow_add-number t c = let one = at_least (step_script c.args.step.now c.requires.rest) in omega (arith, one, c.requires.few)
+pub prove_step-prove_claim-requires : goal.prove_step-prove_claim-requires
+prove_step-prove_claim-requires t c =
+    let y = c.in-Claim in
+    ready_as (all_stated c.args.before.now) (ClaimScript c.items-in-Claim.result.now (script_of c.deref.result.now)) (step_script c.args.step.now) c.args.state.now c.args.number
+    (claim_is c.args.step.now y.shown c.items-in-Claim.result.now y.inner c.deref.result.now y.is c.items-in-Claim.ensures c.deref.ensures) c.requires
 
-pub prove_step-prove_block-requires : goal.prove_step-prove_block-requires
-prove_step-prove_block-requires t c =
+pub prove_step-returns-in-Claim-clause-ok : goal.prove_step-returns-in-Claim-clause-ok
+prove_step-returns-in-Claim-clause-ok t c =
+    let y = c.in-Claim in
+    all_passed_as (all_stated c.args.before.now) (ClaimScript c.items-in-Claim.result.now (script_of c.deref.result.now)) (step_script c.args.step.now) c.args.state.now c.prove_claim.new.state c.args.number c.prove_claim.result
+    (claim_is c.args.step.now y.shown c.items-in-Claim.result.now y.inner c.deref.result.now y.is c.items-in-Claim.ensures c.deref.ensures) c.prove_claim.ensures.ok
+
+pub prove_step-returns-in-Claim-clause-err : goal.prove_step-returns-in-Claim-clause-err
+prove_step-returns-in-Claim-clause-err t c =
+    let y = c.in-Claim in
+    all_stopped_as (all_stated c.args.before.now) (ClaimScript c.items-in-Claim.result.now (script_of c.deref.result.now)) (step_script c.args.step.now) c.args.state.now c.args.number c.prove_claim.result
+    (claim_is c.args.step.now y.shown c.items-in-Claim.result.now y.inner c.deref.result.now y.is c.items-in-Claim.ensures c.deref.ensures) c.prove_claim.ensures.err
+
+pub prove_claim-overflow_add-number : goal.prove_claim-overflow_add-number
+prove_claim-overflow_add-number t c =
+    let few = claim_numbers (all_stated c.args.before.now) c.args.shown.now (script_of c.args.inner.now) c.args.state.now c.args.number c.requires in
+    omega (arith, few)
+
+pub prove_claim-prove_block-requires : goal.prove_claim-prove_block-requires
+prove_claim-prove_block-requires t c =
+    let before = all_stated c.args.before.now in
+    let inner = script_of c.args.inner.now in
     let x = c.args.state.now in
     let hs = x.context.held ++ state_of x.context ∷ [] in
-    let ready = subst (λ s. IsReadyStep (all_stated c.args.before.now) s x c.args.number) c.in-Claim.is c.requires in
-    let parts = claim_parts (all_stated c.args.before.now) c.in-Claim.shown c.in-Claim.inner x c.args.number ready in
-    let few = claim_lines (all_stated c.args.before.now) c.in-Claim.shown c.in-Claim.inner x c.args.number ready in
-    let same = ap (λ b. size (script_of b)) c.deref.ensures in (
+    let parts = claim_begins before c.args.shown.now inner x c.args.number c.requires in (
       search (rules, the_lemmas),
-      (
-        subst (λ b. IsReadyFor (all_stated c.args.before.now) (script_of b) c.hold.new.self (goal_of c.items-in-Claim.result.now)) (sym c.deref.ensures)
-            (subst (λ ls. IsReadyFor (all_stated c.args.before.now) (script_of c.in-Claim.inner.value) c.hold.new.self (goal_of ls)) (sym c.items-in-Claim.ensures)
-            (ready_inside (all_stated c.args.before.now) (script_of c.in-Claim.inner.value) x c.hold.new.self (goal_of c.in-Claim.shown) hs c.in_ok-outer-in-Claim.ensures.held parts.block)),
-        omega (arith, same, few),
-      ),
+      (ready_inside before inner x c.hold.new.self (goal_of c.args.shown.now) hs c.in_ok-outer.ensures.held parts.block, claim_numbers before c.args.shown.now inner x c.args.number c.requires),
     )
 
-pub prove_step-claimed-requires-clause-held : goal.prove_step-claimed-requires-clause-held
-prove_step-claimed-requires-clause-held t c =
+pub prove_claim-claimed-requires-clause-held : goal.prove_claim-claimed-requires-clause-held
+prove_claim-claimed-requires-clause-held t c =
     let x = c.args.state.now in
-    some_held x c.prove_block.new.state (kept_inside x c.hold.new.self c.prove_block.new.state c.in_ok-outer-in-Claim.ensures.held c.in-Ok.ensures.kept)
+    some_held x c.prove_block.new.state (kept_inside x c.hold.new.self c.prove_block.new.state c.in_ok-outer.ensures.held c.in-Ok.ensures.kept)
 
-pub prove_step-claimed-requires-clause-good : goal.prove_step-claimed-requires-clause-good
-prove_step-claimed-requires-clause-good t c =
+pub prove_claim-claimed-requires-clause-good : goal.prove_claim-claimed-requires-clause-good
+prove_claim-claimed-requires-clause-good t c =
+    let before = all_stated c.args.before.now in
+    let shown = c.args.shown.now in
+    let inner = script_of c.args.inner.now in
     let x = c.args.state.now in
     let hs = x.context.held ++ state_of x.context ∷ [] in
-    let ready = subst (λ s. IsReadyStep (all_stated c.args.before.now) s x c.args.number) c.in-Claim.is c.requires in
-    good_after x c.prove_block.new.state c.in-Claim.shown c.items-in-Ok.result.now (kept_inside x c.hold.new.self c.prove_block.new.state c.in_ok-outer-in-Claim.ensures.held c.in-Ok.ensures.kept) c.items-in-Ok.ensures
-    (claim_after (all_stated c.args.before.now) c.in-Claim.shown c.in-Claim.inner (script_of c.in-Ok.proved.block) x c.args.number
-    (derived_outside (all_stated c.args.before.now) (script_of c.in-Claim.inner.value) x c.hold.new.self (goal_of c.in-Claim.shown) (script_of c.in-Ok.proved.block) hs c.in_ok-outer-in-Claim.ensures.held
-    (subst (λ ls. IsDerived (all_stated c.args.before.now) (script_of c.in-Claim.inner.value) c.hold.new.self (goal_of ls) (script_of c.in-Ok.proved.block)) c.items-in-Claim.ensures
-    (subst (λ b. IsDerived (all_stated c.args.before.now) (script_of b) c.hold.new.self (goal_of c.items-in-Claim.result.now) (script_of c.in-Ok.proved.block)) c.deref.ensures c.in-Ok.ensures.derived))) ready)
+    let derived = derived_outside before inner x c.hold.new.self (goal_of shown) (script_of c.in-Ok.proved.block) hs c.in_ok-outer.ensures.held c.in-Ok.ensures.derived in
+    good_after x c.prove_block.new.state shown shown (kept_inside x c.hold.new.self c.prove_block.new.state c.in_ok-outer.ensures.held c.in-Ok.ensures.kept) refl
+    (claim_ends before shown inner (script_of c.in-Ok.proved.block) x c.args.number derived c.requires)
 
-pub prove_step-returns-in-Ok-clause-ok : goal.prove_step-returns-in-Ok-clause-ok
-prove_step-returns-in-Ok-clause-ok t c =
+pub prove_claim-returns-in-Ok-clause-ok : goal.prove_claim-returns-in-Ok-clause-ok
+prove_claim-returns-in-Ok-clause-ok t c =
+    let before = all_stated c.args.before.now in
+    let shown = c.args.shown.now in
+    let inner = script_of c.args.inner.now in
     let x = c.args.state.now in
     let hs = x.context.held ++ state_of x.context ∷ [] in
-    let ready = subst (λ s. IsReadyStep (all_stated c.args.before.now) s x c.args.number) c.in-Claim.is c.requires in
-    let same = ap (λ b. size (script_of b)) c.deref.ensures in
-    claim_passed (all_stated c.args.before.now) c.args.step.now c.in-Claim.shown c.items-in-Ok.result.now c.in-Claim.inner x c.prove_block.new.state c.claimed.new.state c.args.number c.in_ok-outer-in-Claim.outer c.in-Ok.proved c.claimed.result
-    c.in-Claim.is c.items-in-Ok.ensures (claim_parts (all_stated c.args.before.now) c.in-Claim.shown c.in-Claim.inner x c.args.number ready)
-    (derived_outside (all_stated c.args.before.now) (script_of c.in-Claim.inner.value) x c.hold.new.self (goal_of c.in-Claim.shown) (script_of c.in-Ok.proved.block) hs c.in_ok-outer-in-Claim.ensures.held
-    (subst (λ ls. IsDerived (all_stated c.args.before.now) (script_of c.in-Claim.inner.value) c.hold.new.self (goal_of ls) (script_of c.in-Ok.proved.block)) c.items-in-Claim.ensures
-    (subst (λ b. IsDerived (all_stated c.args.before.now) (script_of b) c.hold.new.self (goal_of c.items-in-Claim.result.now) (script_of c.in-Ok.proved.block)) c.deref.ensures c.in-Ok.ensures.derived)))
-    (omega (arith, same, c.in-Ok.ensures.next)) c.in_ok-outer-in-Claim.ensures.names (kept_inside x c.hold.new.self c.prove_block.new.state c.in_ok-outer-in-Claim.ensures.held c.in-Ok.ensures.kept) c.claimed.ensures.step c.claimed.ensures.next c.claimed.ensures.after
+    let derived = derived_outside before inner x c.hold.new.self (goal_of shown) (script_of c.in-Ok.proved.block) hs c.in_ok-outer.ensures.held c.in-Ok.ensures.derived in
+    claim_is_passed before shown inner x c.prove_block.new.state c.claimed.new.state c.args.number c.in_ok-outer.outer c.in-Ok.proved c.claimed.result (claim_begins before shown inner x c.args.number c.requires) derived c.in-Ok.ensures.next
+    c.in_ok-outer.ensures.names (kept_inside x c.hold.new.self c.prove_block.new.state c.in_ok-outer.ensures.held c.in-Ok.ensures.kept) c.claimed.ensures.step c.claimed.ensures.next c.claimed.ensures.after
 
-pub prove_step-returns-in-Err-clause-err : goal.prove_step-returns-in-Err-clause-err
-prove_step-returns-in-Err-clause-err t c =
+pub prove_claim-returns-in-Err-clause-err : goal.prove_claim-returns-in-Err-clause-err
+prove_claim-returns-in-Err-clause-err t c =
+    let before = all_stated c.args.before.now in
+    let shown = c.args.shown.now in
+    let inner = script_of c.args.inner.now in
     let x = c.args.state.now in
     let hs = x.context.held ++ state_of x.context ∷ [] in
-    let ready = subst (λ s. IsReadyStep (all_stated c.args.before.now) s x c.args.number) c.in-Claim.is c.requires in
-    claim_stopped (all_stated c.args.before.now) c.args.step.now c.in-Claim.shown c.in-Claim.inner x c.args.number c.in-Err.stop c.in-Claim.is (claim_parts (all_stated c.args.before.now) c.in-Claim.shown c.in-Claim.inner x c.args.number ready)
-    (stops_outside (all_stated c.args.before.now) (script_of c.in-Claim.inner.value) x c.hold.new.self (goal_of c.in-Claim.shown) (c.args.number + 1) c.in-Err.stop hs c.in_ok-outer-in-Claim.ensures.held
-    (subst (λ ls. StopsWithin (all_stated c.args.before.now) (script_of c.in-Claim.inner.value) c.hold.new.self (goal_of ls) (c.args.number + 1) c.in-Err.stop) c.items-in-Claim.ensures
-    (subst (λ b. StopsWithin (all_stated c.args.before.now) (script_of b) c.hold.new.self (goal_of c.items-in-Claim.result.now) (c.args.number + 1) c.in-Err.stop) c.deref.ensures c.in-Err.ensures.err)))
+    claim_is_stopped before shown inner x c.args.number c.in-Err.stop (claim_begins before shown inner x c.args.number c.requires)
+    (stops_outside before inner x c.hold.new.self (goal_of shown) (c.args.number + 1) c.in-Err.stop hs c.in_ok-outer.ensures.held c.in-Err.ensures.err)
 
 -- ---- a superposition
 
-pub prove_step-superpose-requires-clause-room : goal.prove_step-superpose-requires-clause-room
-prove_step-superpose-requires-clause-room t c =
-    let x = c.args.state.now in
-    let y = c.in-Superposed in
-    let parts = superposed_parts (all_stated c.args.before.now) y.form y.names y.shown y.certs y.inner x c.args.number (subst (λ s. IsReadyStep (all_stated c.args.before.now) s x c.args.number) y.is c.requires) in
-    subst (λ z. HasRoom z.context.scope) (sym c.in_ok-outer-in-Superposed.ensures.held) (room_of_small x.context.scope parts.scope)
+pub prove_step-prove_superposed-requires : goal.prove_step-prove_superposed-requires
+prove_step-prove_superposed-requires t c =
+    let y = c.in-Superposed in (
+      y.certs,
+      ready_as (all_stated c.args.before.now) (SuperposedScript y.form c.items-in-Superposed.result.now c.items-in-Superposed-2.result.now y.certs (script_of c.deref-in-Superposed.result.now)) (step_script c.args.step.now) c.args.state.now c.args.number
+          (superposed_is c.args.step.now y.form y.names c.items-in-Superposed.result.now y.shown c.items-in-Superposed-2.result.now y.certs y.inner c.deref-in-Superposed.result.now y.is c.items-in-Superposed.ensures c.items-in-Superposed-2.ensures
+          c.deref-in-Superposed.ensures) c.requires,
+    )
 
-pub prove_step-superpose-requires-clause-needs : goal.prove_step-superpose-requires-clause-needs
-prove_step-superpose-requires-clause-needs t c =
-    let x = c.args.state.now in
+pub prove_step-returns-in-Superposed-clause-ok : goal.prove_step-returns-in-Superposed-clause-ok
+prove_step-returns-in-Superposed-clause-ok t c =
+    let before = all_stated c.args.before.now in
     let y = c.in-Superposed in
-    let needs =
-    (superposed_parts (all_stated c.args.before.now) y.form y.names y.shown y.certs y.inner x c.args.number (subst (λ s. IsReadyStep (all_stated c.args.before.now) s x c.args.number) y.is c.requires)).needs
-    in
-    subst (λ z. are_good z.context.scope (superposing.needs y.form) ≡ true) (sym c.in_ok-outer-in-Superposed.ensures.held) needs
+    let whole = λ (certs : List Cert). SuperposedScript y.form c.items-in-Superposed.result.now c.items-in-Superposed-2.result.now certs (script_of c.deref-in-Superposed.result.now) in
+    all_passed_as before (whole y.certs) (step_script c.args.step.now) c.args.state.now c.prove_superposed.new.state c.args.number c.prove_superposed.result
+    (superposed_is c.args.step.now y.form y.names c.items-in-Superposed.result.now y.shown c.items-in-Superposed-2.result.now y.certs y.inner c.deref-in-Superposed.result.now y.is c.items-in-Superposed.ensures c.items-in-Superposed-2.ensures
+    c.deref-in-Superposed.ensures)
+    (ok_with c.prove_superposed.result (λ p certs. IsPassed before (whole certs) c.args.state.now c.args.number (step_script p.step) c.prove_superposed.new.state p.next) y.certs c.prove_superposed.ensures.ok)
 
-pub prove_step-superpose-requires-clause-after : goal.prove_step-superpose-requires-clause-after
-prove_step-superpose-requires-clause-after t c =
-    let x = c.args.state.now in
+pub prove_step-returns-in-Superposed-clause-err : goal.prove_step-returns-in-Superposed-clause-err
+prove_step-returns-in-Superposed-clause-err t c =
+    let before = all_stated c.args.before.now in
     let y = c.in-Superposed in
-    let parts = superposed_parts (all_stated c.args.before.now) y.form y.names y.shown y.certs y.inner x c.args.number (subst (λ s. IsReadyStep (all_stated c.args.before.now) s x c.args.number) y.is c.requires) in
-    let good =
-    block_facts (all_stated c.args.before.now) (script_of y.inner.value) (after_superposed y.form y.names x) (goal_of y.shown) parts.block
-    in
-    subst (λ z. let after = after_superposed y.form c.items-in-Superposed.result.now z in are_good_facts after.context.scope after.context.facts ≡ true) (sym c.in_ok-outer-in-Superposed.ensures.held) good
+    let whole = λ (certs : List Cert). SuperposedScript y.form c.items-in-Superposed.result.now c.items-in-Superposed-2.result.now certs (script_of c.deref-in-Superposed.result.now) in
+    all_stopped_as before (whole y.certs) (step_script c.args.step.now) c.args.state.now c.args.number c.prove_superposed.result
+    (superposed_is c.args.step.now y.form y.names c.items-in-Superposed.result.now y.shown c.items-in-Superposed-2.result.now y.certs y.inner c.deref-in-Superposed.result.now y.is c.items-in-Superposed.ensures c.items-in-Superposed-2.ensures
+    c.deref-in-Superposed.ensures)
+    (err_with c.prove_superposed.result (λ s certs. StepsStop before (whole certs) c.args.state.now c.args.number s) y.certs c.prove_superposed.ensures.err)
 
-pub prove_step-returns-in-Err-superpose-clause-err : goal.prove_step-returns-in-Err-superpose-clause-err
-prove_step-returns-in-Err-superpose-clause-err t c =
+pub prove_superposed-superpose-requires-clause-room : goal.prove_superposed-superpose-requires-clause-room
+prove_superposed-superpose-requires-clause-room t c =
+    let h = c.args.superposition.now in
     let x = c.args.state.now in
-    let y = c.in-Superposed in
-    let h = c.in-Err-superpose.step_stop in
+    let parts = superposed_begins (all_stated c.args.before.now) h.form.now h.names.now h.shown.now c.requires.0 (script_of c.args.inner.now) x c.args.number c.requires.1 in
+    subst (λ z. HasRoomForMore z.context.scope) (sym c.in_ok-outer.ensures.held) (room_of_small x.context.scope parts.scope)
+
+pub prove_superposed-superpose-requires-clause-needs : goal.prove_superposed-superpose-requires-clause-needs
+prove_superposed-superpose-requires-clause-needs t c =
+    let h = c.args.superposition.now in
+    let x = c.args.state.now in
+    let parts = superposed_begins (all_stated c.args.before.now) h.form.now h.names.now h.shown.now c.requires.0 (script_of c.args.inner.now) x c.args.number c.requires.1 in
+    subst (λ z. are_good z.context.scope (superposing.needs h.form.now) ≡ true) (sym c.in_ok-outer.ensures.held) parts.needs
+
+pub prove_superposed-superpose-requires-clause-after : goal.prove_superposed-superpose-requires-clause-after
+prove_superposed-superpose-requires-clause-after t c =
+    let before = all_stated c.args.before.now in
+    let h = c.args.superposition.now in
+    let x = c.args.state.now in
+    let inner = script_of c.args.inner.now in
+    let parts = superposed_begins before h.form.now h.names.now h.shown.now c.requires.0 inner x c.args.number c.requires.1 in
+    let good = block_facts before inner (after_superposed h.form.now h.names.now x) (goal_of h.shown.now) parts.block in
+    subst (λ z. let after = after_superposed h.form.now h.names.now z in are_good_facts after.context.scope after.context.facts ≡ true) (sym c.in_ok-outer.ensures.held) good
+
+pub prove_superposed-returns-in-Err-clause-err : goal.prove_superposed-returns-in-Err-clause-err
+prove_superposed-returns-in-Err-clause-err t c =
+    let h = c.args.superposition.now in
+    let x = c.args.state.now in
+    let s = c.in-Err.step_stop in
     let hs = x.context.held ++ state_of x.context ∷ [] in
-    superposed_refused (all_stated c.args.before.now) c.args.step.now y.form y.names y.shown y.certs y.inner x c.superpose.new.state c.args.number h c.stop_at.result y.is
-    (step_stops_outside hs x c.hold-in-Superposed.new.self (superposing.needs y.form) h c.in_ok-outer-in-Superposed.ensures.held c.in-Err-superpose.ensures.err)
-    (names_outside hs x c.hold-in-Superposed.new.self c.superpose.new.state h c.in_ok-outer-in-Superposed.ensures.held c.in-Err-superpose.ensures.kept) c.stop_at.ensures
+    superposed_is_refused (all_stated c.args.before.now) h.form.now h.names.now h.shown.now (script_of c.args.inner.now) x c.superpose.new.state c.args.number s c.stop_at.result
+    (step_stops_outside hs x c.hold.new.self (superposing.needs h.form.now) s c.in_ok-outer.ensures.held c.in-Err.ensures.err)
+    (names_outside hs x c.hold.new.self c.superpose.new.state s c.in_ok-outer.ensures.held c.in-Err.ensures.kept) c.stop_at.ensures
 
-pub prove_step-overflow_add-number-in-Superposed : goal.prove_step-overflow_add-number-in-Superposed
-prove_step-overflow_add-number-in-Superposed t c = let one = at_least (step_script c.args.step.now c.requires.rest) in omega (arith, one, c.requires.few)
+pub prove_superposed-overflow_add-number : goal.prove_superposed-overflow_add-number
+prove_superposed-overflow_add-number t c =
+    let h = c.args.superposition.now in
+    let few = superposed_numbers (all_stated c.args.before.now) h.form.now h.names.now h.shown.now c.requires.0 (script_of c.args.inner.now) c.args.state.now c.args.number c.requires.1 in
+    omega (arith, few)
 
-pub prove_step-prove_block-requires-in-Superposed : goal.prove_step-prove_block-requires-in-Superposed
-prove_step-prove_block-requires-in-Superposed t c =
+pub prove_superposed-prove_block-requires : goal.prove_superposed-prove_block-requires
+prove_superposed-prove_block-requires t c =
+    let before = all_stated c.args.before.now in
+    let h = c.args.superposition.now in
     let x = c.args.state.now in
-    let y = c.in-Superposed in
-    let ready = subst (λ s. IsReadyStep (all_stated c.args.before.now) s x c.args.number) y.is c.requires in
-    let parts = superposed_parts (all_stated c.args.before.now) y.form y.names y.shown y.certs y.inner x c.args.number ready in
-    let few = superposed_lines (all_stated c.args.before.now) y.form y.names y.shown y.certs y.inner x c.args.number ready in
+    let inner = script_of c.args.inner.now in
     let hs = x.context.held ++ state_of x.context ∷ [] in
-    let inside = after_superposed y.form y.names x in
-    let begun = c.in-Ok-superpose.ensures.after ∙ ap (λ ns. after_superposed y.form ns c.hold-in-Superposed.new.self) c.items-in-Superposed.ensures ∙ ap (after_superposed y.form y.names) c.in_ok-outer-in-Superposed.ensures.held in
-    let same = ap (λ b. size (script_of b)) c.deref-in-Superposed.ensures in (
+    let parts = superposed_begins before h.form.now h.names.now h.shown.now c.requires.0 inner x c.args.number c.requires.1 in
+    let begun = c.in-Ok.ensures.after ∙ ap (after_superposed h.form.now h.names.now) c.in_ok-outer.ensures.held in (
       search (rules, the_lemmas),
       (
-        subst (λ b. IsReadyFor (all_stated c.args.before.now) (script_of b) c.superpose.new.state (goal_of c.items-in-Superposed-2.result.now)) (sym c.deref-in-Superposed.ensures)
-            (subst (λ ls. IsReadyFor (all_stated c.args.before.now) (script_of y.inner.value) c.superpose.new.state (goal_of ls)) (sym c.items-in-Superposed-2.ensures)
-            (ready_inside (all_stated c.args.before.now) (script_of y.inner.value) inside c.superpose.new.state (goal_of y.shown) hs begun parts.block)),
-        omega (arith, same, few),
+        ready_inside before inner (after_superposed h.form.now h.names.now x) c.superpose.new.state (goal_of h.shown.now) hs begun parts.block,
+        superposed_numbers before h.form.now h.names.now h.shown.now c.requires.0 inner x c.args.number c.requires.1,
       ),
     )
 
-pub prove_step-superposed-requires-clause-held : goal.prove_step-superposed-requires-clause-held
-prove_step-superposed-requires-clause-held t c =
-    let x = c.args.state.now in
-    let y = c.in-Superposed in
-    let hs = x.context.held ++ state_of x.context ∷ [] in
-    let inside = after_superposed y.form y.names x in
-    let begun = c.in-Ok-superpose.ensures.after ∙ ap (λ ns. after_superposed y.form ns c.hold-in-Superposed.new.self) c.items-in-Superposed.ensures ∙ ap (after_superposed y.form y.names) c.in_ok-outer-in-Superposed.ensures.held in
-    some_held x c.prove_block-in-Superposed.new.state (c.in-Ok-prove_block.ensures.kept ∙ ap (λ w. w.context.held) begun)
+pub prove_superposed-superposed-requires-clause-held : goal.prove_superposed-superposed-requires-clause-held
+prove_superposed-superposed-requires-clause-held t c =
+    let h = c.args.superposition.now in
+    let begun = c.in-Ok.ensures.after ∙ ap (after_superposed h.form.now h.names.now) c.in_ok-outer.ensures.held in
+    some_held c.args.state.now c.prove_block.new.state (c.in-Ok-prove_block.ensures.kept ∙ ap (λ w. w.context.held) begun)
 
-pub prove_step-superposed-requires-clause-good : goal.prove_step-superposed-requires-clause-good
-prove_step-superposed-requires-clause-good t c =
+pub prove_superposed-superposed-requires-clause-good : goal.prove_superposed-superposed-requires-clause-good
+prove_superposed-superposed-requires-clause-good t c =
+    let before = all_stated c.args.before.now in
+    let h = c.args.superposition.now in
     let x = c.args.state.now in
-    let y = c.in-Superposed in
+    let inner = script_of c.args.inner.now in
     let hs = x.context.held ++ state_of x.context ∷ [] in
-    let inside = after_superposed y.form y.names x in
-    let begun = c.in-Ok-superpose.ensures.after ∙ ap (λ ns. after_superposed y.form ns c.hold-in-Superposed.new.self) c.items-in-Superposed.ensures ∙ ap (after_superposed y.form y.names) c.in_ok-outer-in-Superposed.ensures.held in
-    good_after x c.prove_block-in-Superposed.new.state y.shown c.items-in-Ok-prove_block-2.result.now (c.in-Ok-prove_block.ensures.kept ∙ ap (λ w. w.context.held) begun) c.items-in-Ok-prove_block-2.ensures
-    (superposed_after (all_stated c.args.before.now) y.form y.names y.shown y.certs y.inner (script_of c.in-Ok-prove_block.proved.block) x c.args.number
-    (derived_outside (all_stated c.args.before.now) (script_of y.inner.value) inside c.superpose.new.state (goal_of y.shown) (script_of c.in-Ok-prove_block.proved.block) hs begun
-    (subst (λ ls. IsDerived (all_stated c.args.before.now) (script_of y.inner.value) c.superpose.new.state (goal_of ls) (script_of c.in-Ok-prove_block.proved.block)) c.items-in-Superposed-2.ensures
-    (subst (λ b. IsDerived (all_stated c.args.before.now) (script_of b) c.superpose.new.state (goal_of c.items-in-Superposed-2.result.now) (script_of c.in-Ok-prove_block.proved.block)) c.deref-in-Superposed.ensures c.in-Ok-prove_block.ensures.derived)))
-    (subst (λ s. IsReadyStep (all_stated c.args.before.now) s x c.args.number) y.is c.requires))
+    let begun = c.in-Ok.ensures.after ∙ ap (after_superposed h.form.now h.names.now) c.in_ok-outer.ensures.held in
+    let derived = derived_outside before inner (after_superposed h.form.now h.names.now x) c.superpose.new.state (goal_of h.shown.now) (script_of c.in-Ok-prove_block.proved.block) hs begun c.in-Ok-prove_block.ensures.derived in
+    good_after x c.prove_block.new.state h.shown.now h.shown.now (c.in-Ok-prove_block.ensures.kept ∙ ap (λ w. w.context.held) begun) refl
+    (superposed_ends before h.form.now h.names.now h.shown.now c.requires.0 inner (script_of c.in-Ok-prove_block.proved.block) x c.args.number derived c.requires.1)
 
-pub prove_step-returns-in-Ok-prove_block-clause-ok : goal.prove_step-returns-in-Ok-prove_block-clause-ok
-prove_step-returns-in-Ok-prove_block-clause-ok t c =
+pub prove_superposed-returns-in-Ok-prove_block-clause-ok : goal.prove_superposed-returns-in-Ok-prove_block-clause-ok
+prove_superposed-returns-in-Ok-prove_block-clause-ok t c =
+    let before = all_stated c.args.before.now in
+    let h = c.args.superposition.now in
     let x = c.args.state.now in
-    let y = c.in-Superposed in
+    let inner = script_of c.args.inner.now in
     let hs = x.context.held ++ state_of x.context ∷ [] in
-    let certified = subst (λ z. certify_all z.context.scope z.context.facts (superposing.needs y.form) c.in-Ok-superpose.certs.items ≡ true) c.in_ok-outer-in-Superposed.ensures.held c.in-Ok-superpose.ensures.certs in
-    let inside = after_superposed y.form y.names x in
-    let begun = c.in-Ok-superpose.ensures.after ∙ ap (λ ns. after_superposed y.form ns c.hold-in-Superposed.new.self) c.items-in-Superposed.ensures ∙ ap (after_superposed y.form y.names) c.in_ok-outer-in-Superposed.ensures.held in
-    let same = ap (λ b. size (script_of b)) c.deref-in-Superposed.ensures in
-    superposed_passed (all_stated c.args.before.now) c.args.step.now y.form y.names c.items-in-Ok-prove_block.result.now y.shown c.items-in-Ok-prove_block-2.result.now y.certs c.in-Ok-superpose.certs.items y.inner x c.prove_block-in-Superposed.new.state c.superposed.new.state c.args.number c.in_ok-outer-in-Superposed.outer c.in-Ok-prove_block.proved
-    c.superposed.result y.is c.items-in-Ok-prove_block.ensures c.items-in-Ok-prove_block-2.ensures (superposed_parts (all_stated c.args.before.now) y.form y.names y.shown y.certs y.inner x c.args.number (subst (λ s. IsReadyStep (all_stated c.args.before.now) s x c.args.number) y.is c.requires)) (certified, c.in-Ok-superpose.ensures.written)
-    (derived_outside (all_stated c.args.before.now) (script_of y.inner.value) inside c.superpose.new.state (goal_of y.shown) (script_of c.in-Ok-prove_block.proved.block) hs begun
-    (subst (λ ls. IsDerived (all_stated c.args.before.now) (script_of y.inner.value) c.superpose.new.state (goal_of ls) (script_of c.in-Ok-prove_block.proved.block)) c.items-in-Superposed-2.ensures
-    (subst (λ b. IsDerived (all_stated c.args.before.now) (script_of b) c.superpose.new.state (goal_of c.items-in-Superposed-2.result.now) (script_of c.in-Ok-prove_block.proved.block)) c.deref-in-Superposed.ensures c.in-Ok-prove_block.ensures.derived)))
-    (omega (arith, same, c.in-Ok-prove_block.ensures.next)) c.in_ok-outer-in-Superposed.ensures.names (c.in-Ok-prove_block.ensures.kept ∙ ap (λ w. w.context.held) begun)
-    c.superposed.ensures.step c.superposed.ensures.next c.superposed.ensures.after
+    let certified = subst (λ z. certify_all z.context.scope z.context.facts (superposing.needs h.form.now) c.in-Ok.certs.items ≡ true) c.in_ok-outer.ensures.held c.in-Ok.ensures.certs in
+    let begun = c.in-Ok.ensures.after ∙ ap (after_superposed h.form.now h.names.now) c.in_ok-outer.ensures.held in
+    let derived = derived_outside before inner (after_superposed h.form.now h.names.now x) c.superpose.new.state (goal_of h.shown.now) (script_of c.in-Ok-prove_block.proved.block) hs begun c.in-Ok-prove_block.ensures.derived in
+    superposed_is_passed before h.form.now h.names.now h.shown.now c.in-Ok.certs.items inner x c.prove_block.new.state c.superposed.new.state c.args.number c.in_ok-outer.outer c.in-Ok-prove_block.proved c.superposed.result
+    (superposed_begins before h.form.now h.names.now h.shown.now c.requires.0 inner x c.args.number c.requires.1) (certified, c.in-Ok.ensures.written) derived c.in-Ok-prove_block.ensures.next c.in_ok-outer.ensures.names
+    (c.in-Ok-prove_block.ensures.kept ∙ ap (λ w. w.context.held) begun) c.superposed.ensures.step c.superposed.ensures.next c.superposed.ensures.after
 
-pub prove_step-returns-in-Err-prove_block-clause-err : goal.prove_step-returns-in-Err-prove_block-clause-err
-prove_step-returns-in-Err-prove_block-clause-err t c =
+pub prove_superposed-returns-in-Err-prove_block-clause-err : goal.prove_superposed-returns-in-Err-prove_block-clause-err
+prove_superposed-returns-in-Err-prove_block-clause-err t c =
+    let before = all_stated c.args.before.now in
+    let h = c.args.superposition.now in
     let x = c.args.state.now in
-    let y = c.in-Superposed in
+    let inner = script_of c.args.inner.now in
     let hs = x.context.held ++ state_of x.context ∷ [] in
-    let certified = subst (λ z. certify_all z.context.scope z.context.facts (superposing.needs y.form) c.in-Ok-superpose.certs.items ≡ true) c.in_ok-outer-in-Superposed.ensures.held c.in-Ok-superpose.ensures.certs in
-    let inside = after_superposed y.form y.names x in
-    let begun = c.in-Ok-superpose.ensures.after ∙ ap (λ ns. after_superposed y.form ns c.hold-in-Superposed.new.self) c.items-in-Superposed.ensures ∙ ap (after_superposed y.form y.names) c.in_ok-outer-in-Superposed.ensures.held in
-    superposed_stopped (all_stated c.args.before.now) c.args.step.now y.form y.names y.shown y.certs c.in-Ok-superpose.certs.items y.inner x c.args.number c.in-Err-prove_block.stop y.is
-    (superposed_parts (all_stated c.args.before.now) y.form y.names y.shown y.certs y.inner x c.args.number (subst (λ s. IsReadyStep (all_stated c.args.before.now) s x c.args.number) y.is c.requires)) (certified, c.in-Ok-superpose.ensures.written)
-    (stops_outside (all_stated c.args.before.now) (script_of y.inner.value) inside c.superpose.new.state (goal_of y.shown) (c.args.number + 1) c.in-Err-prove_block.stop hs begun
-    (subst (λ ls. StopsWithin (all_stated c.args.before.now) (script_of y.inner.value) c.superpose.new.state (goal_of ls) (c.args.number + 1) c.in-Err-prove_block.stop) c.items-in-Superposed-2.ensures
-    (subst (λ b. StopsWithin (all_stated c.args.before.now) (script_of b) c.superpose.new.state (goal_of c.items-in-Superposed-2.result.now) (c.args.number + 1) c.in-Err-prove_block.stop) c.deref-in-Superposed.ensures c.in-Err-prove_block.ensures.err)))
+    let certified = subst (λ z. certify_all z.context.scope z.context.facts (superposing.needs h.form.now) c.in-Ok.certs.items ≡ true) c.in_ok-outer.ensures.held c.in-Ok.ensures.certs in
+    let begun = c.in-Ok.ensures.after ∙ ap (after_superposed h.form.now h.names.now) c.in_ok-outer.ensures.held in
+    superposed_is_stopped before h.form.now h.names.now h.shown.now c.in-Ok.certs.items inner x c.args.number c.in-Err-prove_block.stop (superposed_begins before h.form.now h.names.now h.shown.now c.requires.0 inner x c.args.number c.requires.1)
+    (certified, c.in-Ok.ensures.written)
+    (stops_outside before inner (after_superposed h.form.now h.names.now x) c.superpose.new.state (goal_of h.shown.now) (c.args.number + 1) c.in-Err-prove_block.stop hs begun c.in-Err-prove_block.ensures.err)

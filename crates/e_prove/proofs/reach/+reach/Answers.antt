@@ -6,7 +6,7 @@ use Rattle.e_deriv.specs.declared.block.Close.TheViews.{the_lemmas}
 use Rattle.e_deriv.specs.Script.{script_of, step_script, close_script, size}
 use Rattle.e_deriv.specs.Goal.{goal_of}
 use Rattle.e_prove.specs.inner.StepStates.{goal_view, after_literal, after_superposed}
-use Rattle.e_prove.specs.inner.PassedSteps.{IsReadyFor, IsReadyStep, IsDerived, IsFirstPassed, Reaches, StopsWithin}
+use Rattle.e_prove.specs.inner.PassedSteps.{IsReadyFor, IsReadyStep, IsDerivedFrom, IsFirstPassed, ReachesStep, StopsWithin}
 use Rattle.e_prove.proofs.LicensedLiterals.{err_map}
 use Rattle.e_prove.proofs.StopsInLists.{stop_before, stop_within, before_more}
 use Rattle.e_prove.proofs.PassedSteps.{stops_as_memory}
@@ -205,8 +205,8 @@ enter_step-returns-in-Claim-clause-reached t c =
     on_ok_map _ _ c.reach.result
     (λ k. claim_entered (all_stated c.args.before.now) c.args.step.now c.in-Claim.shown c.in-Claim.inner x c.reach.new.state c.args.number c.args.target c.in-Claim.is
     (claim_parts (all_stated c.args.before.now) c.in-Claim.shown c.in-Claim.inner x c.args.number ready)
-    (subst (λ ls. Reaches (all_stated c.args.before.now) (script_of c.in-Claim.inner.value) x (goal_of ls) (c.args.number + 1) c.args.target c.reach.new.state) c.items.ensures
-    (subst (λ b. Reaches (all_stated c.args.before.now) (script_of b) x (goal_of c.items.result.now) (c.args.number + 1) c.args.target c.reach.new.state) c.deref.ensures k)))
+    (subst (λ ls. ReachesStep (all_stated c.args.before.now) (script_of c.in-Claim.inner.value) x (goal_of ls) (c.args.number + 1) c.args.target c.reach.new.state) c.items.ensures
+    (subst (λ b. ReachesStep (all_stated c.args.before.now) (script_of b) x (goal_of c.items.result.now) (c.args.number + 1) c.args.target c.reach.new.state) c.deref.ensures k)))
     c.reach.ensures.reached
 
 pub enter_step-returns-in-Claim-clause-err : goal.enter_step-returns-in-Claim-clause-err
@@ -291,9 +291,9 @@ enter_step-returns-in-Ok-clause-reached t c =
     (λ k. superposed_entered (all_stated c.args.before.now) c.args.step.now y.form y.names y.shown y.certs c.in-Ok.certs.items y.inner x c.reach-in-Superposed.new.state c.args.number c.args.target y.is
     (superposed_parts (all_stated c.args.before.now) y.form y.names y.shown y.certs y.inner x c.args.number (subst (λ s. IsReadyStep (all_stated c.args.before.now) s x c.args.number) y.is c.requires.ready))
     (c.in-Ok.ensures.certs, c.in-Ok.ensures.written)
-    (subst (λ z. Reaches (all_stated c.args.before.now) (script_of y.inner.value) z (goal_of y.shown) (c.args.number + 1) c.args.target c.reach-in-Superposed.new.state) begun
-    (subst (λ ls. Reaches (all_stated c.args.before.now) (script_of y.inner.value) c.superpose.new.state (goal_of ls) (c.args.number + 1) c.args.target c.reach-in-Superposed.new.state) c.items-in-Superposed-2.ensures
-    (subst (λ b. Reaches (all_stated c.args.before.now) (script_of b) c.superpose.new.state (goal_of c.items-in-Superposed-2.result.now) (c.args.number + 1) c.args.target c.reach-in-Superposed.new.state) c.deref-in-Superposed.ensures k))))
+    (subst (λ z. ReachesStep (all_stated c.args.before.now) (script_of y.inner.value) z (goal_of y.shown) (c.args.number + 1) c.args.target c.reach-in-Superposed.new.state) begun
+    (subst (λ ls. ReachesStep (all_stated c.args.before.now) (script_of y.inner.value) c.superpose.new.state (goal_of ls) (c.args.number + 1) c.args.target c.reach-in-Superposed.new.state) c.items-in-Superposed-2.ensures
+    (subst (λ b. ReachesStep (all_stated c.args.before.now) (script_of b) c.superpose.new.state (goal_of c.items-in-Superposed-2.result.now) (c.args.number + 1) c.args.target c.reach-in-Superposed.new.state) c.deref-in-Superposed.ensures k))))
     c.reach-in-Superposed.ensures.reached
 
 pub enter_step-returns-in-Ok-clause-err : goal.enter_step-returns-in-Ok-clause-err
@@ -383,8 +383,8 @@ enter_close-returns-then-target-middle-clause-reached t c =
     let parts = split_parts (all_stated c.args.before.now) c.args.close.now c.in-Cases.lit c.in-Cases.first c.in-Cases.second x goal c.in-Cases.is c.requires.ready in
     on_ok_map _ _ c.reach.result
     (λ k. split_entered_first (all_stated c.args.before.now) c.args.close.now c.in-Cases.lit c.in-Cases.first c.in-Cases.second x c.reach.new.state goal c.args.number c.args.target c.in-Cases.is parts
-    (subst (λ y. Reaches (all_stated c.args.before.now) (script_of c.in-Cases.first.value) y goal (c.args.number + 1) c.args.target c.reach.new.state) c.in_ok-assume-in-Cases.ensures
-    (subst (λ b. Reaches (all_stated c.args.before.now) (script_of b) c.assume.new.self goal (c.args.number + 1) c.args.target c.reach.new.state) c.deref-then-target-middle.ensures k)))
+    (subst (λ y. ReachesStep (all_stated c.args.before.now) (script_of c.in-Cases.first.value) y goal (c.args.number + 1) c.args.target c.reach.new.state) c.in_ok-assume-in-Cases.ensures
+    (subst (λ b. ReachesStep (all_stated c.args.before.now) (script_of b) c.assume.new.self goal (c.args.number + 1) c.args.target c.reach.new.state) c.deref-then-target-middle.ensures k)))
     c.reach.ensures.reached
 
 pub enter_close-returns-then-target-middle-clause-err : goal.enter_close-returns-then-target-middle-clause-err
@@ -418,7 +418,7 @@ enter_close-pass_first-requires-clause-second t c = λ derived d.
     let lit = c.in-Cases.lit in
     let other =
     split_second_ready (all_stated c.args.before.now) c.args.close.now lit c.in-Cases.first c.in-Cases.second derived x goal c.in-Cases.is
-    (subst (λ b. IsDerived (all_stated c.args.before.now) (script_of b) (after_literal lit x) goal derived) c.deref-in-Cases.ensures d) c.requires.ready
+    (subst (λ b. IsDerivedFrom (all_stated c.args.before.now) (script_of b) (after_literal lit x) goal derived) c.deref-in-Cases.ensures d) c.requires.ready
     in
     block_facts (all_stated c.args.before.now) (script_of c.in-Cases.second.value) (after_literal (negation lit) x) goal other
 
@@ -457,7 +457,7 @@ enter_close-returns-in-Ok-clause-reached t c =
     on_ok_map _ _ c.reach-in-Ok.result
     (λ k. split_entered_second (all_stated c.args.before.now) c.args.close.now lit c.in-Cases.first c.in-Cases.second x c.pass_first.new.state c.reach-in-Ok.new.state goal c.args.number (c.args.number + 1 + c.size-count.result) c.args.target c.in-Cases.is parts passed
     (omega (arith, same, c.size-count.ensures))
-    (subst (λ b. Reaches (all_stated c.args.before.now) (script_of b) c.pass_first.new.state goal (c.args.number + 1 + c.size-count.result) c.args.target c.reach-in-Ok.new.state) c.deref-in-Ok.ensures k))
+    (subst (λ b. ReachesStep (all_stated c.args.before.now) (script_of b) c.pass_first.new.state goal (c.args.number + 1 + c.size-count.result) c.args.target c.reach-in-Ok.new.state) c.deref-in-Ok.ensures k))
     c.reach-in-Ok.ensures.reached
 
 pub enter_close-returns-in-Ok-clause-err : goal.enter_close-returns-in-Ok-clause-err

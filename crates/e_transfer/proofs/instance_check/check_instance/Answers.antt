@@ -6,7 +6,7 @@ use Rattle.e_literal.specs.Facts.{has}
 use Rattle.e_literal.specs.Literal.{is_in_scope, all_in_scope}
 use Rattle.e_literal.specs.WellFormed.{is_well_formed}
 use Rattle.e_clause.specs.Instance.{Inst}
-use Rattle.e_transfer.specs.GivenGoals.{diagrams_hold, needs}
+use Rattle.e_transfer.specs.GivenGoals.{all_diagrams_hold, needs_beside}
 use Rattle.e_transfer.proofs.Needs.{wide_transfer, good_cert, refused_not_one, refused_diagram, parts_kept, parts_stopped}
 use Rattle.e_transfer.proofs.GoodLiterals.{good_needs}
 use Rattle.e_transfer.proofs.instance_check.check_instance.Goals as goal
@@ -23,8 +23,8 @@ pub returns-then-not-diagrams_hold : goal.returns-then-not-diagrams_hold
 returns-then-not-diagrams_hold c =
     let s = c.args.query.now in
     let instance : Inst c.args.rule c.args.args ≡ Some c.in-Ok.lits.items = ap (λ (os : List Obj). Inst c.args.rule os) (sym c.items-2.ensures) ∙ c.in-Ok.ensures.ok in
-    let fails : diagrams_hold s.facts.now (needs c.in-Ok.lits.items s.goal.now) ≡ false =
-    ap (λ (ls : List Lit). diagrams_hold s.facts.now ls) (sym (c.deref-2.ensures.value ∙ c.in_ok-needs.ensures)) ∙ sym c.diagrams_hold.ensures ∙ c.if-not-diagrams_hold.true in
+    let fails : all_diagrams_hold s.facts.now (needs_beside c.in-Ok.lits.items s.goal.now) ≡ false =
+    ap (λ (ls : List Lit). all_diagrams_hold s.facts.now ls) (sym (c.deref-2.ensures.value ∙ c.in_ok-needs.ensures)) ∙ sym c.diagrams_hold.ensures ∙ c.if-not-diagrams_hold.true in
     refused_diagram s.strength s.scope s.facts.now s.goal.now c.args.rule c.args.args c.in-Ok.lits.items instance fails
 
 pub parts_of-requires-clause-well_formed : goal.parts_of-requires-clause-well_formed
@@ -54,7 +54,7 @@ returns-in-Yes c =
     let one : has c.in-Ok.lits.items s.goal.now ≡ true =
     ap (λ (ls : List Lit). has ls s.goal.now) (sym c.deref.ensures.value) ∙ sym c.has_goal.ensures ∙ c.if-not-has_goal.false in
     good_cert s.scope s.facts.now c.in-Ok.lits.items s.goal.now (record { rule = c.args.rule; args = c.args.args; parts = c.in-Yes.parts }) c.requires over instance one
-    (parts_kept s.strength s.scope s.facts.now (needs c.in-Ok.lits.items s.goal.now) c.deref-3.result.now c.in_ok-parts.field-0 c.in-Yes.parts
+    (parts_kept s.strength s.scope s.facts.now (needs_beside c.in-Ok.lits.items s.goal.now) c.deref-3.result.now c.in_ok-parts.field-0 c.in-Yes.parts
     (c.deref-3.ensures.value ∙ c.in_ok-needs.ensures) c.in-Yes.is c.in_ok-parts.ensures)
 
 pub returns-in-TooWide : goal.returns-in-TooWide
@@ -65,8 +65,8 @@ returns-in-TooWide c =
     ap (λ (os : List Obj). list_all (is_in_scope s.scope) os) (sym c.items.ensures) ∙ sym c.are_in_scope.ensures ∙ c.if-not-are_in_scope.false in
     let one : has c.in-Ok.lits.items s.goal.now ≡ true =
     ap (λ (ls : List Lit). has ls s.goal.now) (sym c.deref.ensures.value) ∙ sym c.has_goal.ensures ∙ c.if-not-has_goal.false in
-    let hold : diagrams_hold s.facts.now (needs c.in-Ok.lits.items s.goal.now) ≡ true =
-    ap (λ (ls : List Lit). diagrams_hold s.facts.now ls) (sym (c.deref-2.ensures.value ∙ c.in_ok-needs.ensures)) ∙ sym c.diagrams_hold.ensures ∙ c.if-not-diagrams_hold.false in
-    let stopped = parts_stopped s.strength s.scope s.facts.now (needs c.in-Ok.lits.items s.goal.now) c.deref-3.result.now c.in_ok-parts.field-0 c.in-TooWide.width
+    let hold : all_diagrams_hold s.facts.now (needs_beside c.in-Ok.lits.items s.goal.now) ≡ true =
+    ap (λ (ls : List Lit). all_diagrams_hold s.facts.now ls) (sym (c.deref-2.ensures.value ∙ c.in_ok-needs.ensures)) ∙ sym c.diagrams_hold.ensures ∙ c.if-not-diagrams_hold.false in
+    let stopped = parts_stopped s.strength s.scope s.facts.now (needs_beside c.in-Ok.lits.items s.goal.now) c.deref-3.result.now c.in_ok-parts.field-0 c.in-TooWide.width
     (c.deref-3.ensures.value ∙ c.in_ok-needs.ensures) c.in-TooWide.is c.in_ok-parts.ensures in
     (stopped.0, wide_transfer s.scope s.facts.now c.in-Ok.lits.items s.goal.now c.args.rule c.in-TooWide.width c.args.args c.requires over instance one hold stopped.1)

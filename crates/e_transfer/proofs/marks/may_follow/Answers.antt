@@ -2,7 +2,7 @@ use Rattle.std.proofs.Common.{arith, ap, ◌∙◌, sym, inr, false, get_or}
 use Rattle.std.proofs.lemmas.Bool.{not-false}
 use Rattle.e_clause.specs.Views.{atom_of}
 use Rattle.e_transfer.specs.declared.models.Filling.TheVariants.{Flat}
-use Rattle.e_transfer.specs.Marks.{mark}
+use Rattle.e_transfer.specs.Marks.{mark_number}
 use Rattle.e_transfer.specs.Models.{is_model, value_by}
 use Rattle.e_transfer.proofs.MarkedFacts.{none_unmarked, none_flat}
 use Rattle.e_transfer.proofs.ModelValues.{then}
@@ -11,7 +11,7 @@ use Rattle.e_transfer.proofs.marks.may_follow.Goals as goal
 pub returns-then-relation-lt-OF_DIAGRAMS : goal.returns-then-relation-lt-OF_DIAGRAMS
 returns-then-relation-lt-OF_DIAGRAMS c = λ e.
     let s = c.args.query.now in
-    let at = c.mark.ensures.is ∙ ap (λ r. mark r c.args.neg) c.relation_of-relation.ensures.is in
+    let at = c.mark.ensures.is ∙ ap (λ r. mark_number r c.args.neg) c.relation_of-relation.ensures.is in
     none_unmarked s.strength s.facts.now s.marks c.args.neg (atom_of c.args.shape.now)
     (inr (let low = c.if-relation-lt-OF_DIAGRAMS.true in let is = c.relation_of-relation.ensures.is in omega (arith, low, is))) s.marked (ap (λ n. get_or s.marks n false) (sym at) ∙ e)
 

@@ -2,7 +2,7 @@ use Rattle.std.proofs.Common.{◌≡◌, ◌<◌, ◌++◌, ◌∙◌, List, sym
 use Rattle.std.proofs.lemmas.Result.{IfOk-weaker}
 use Rattle.e_literal.specs.declared.object.Term.TheVariants.{Seg}
 use Rattle.e_transfer.specs.declared.equations.Equation.{Equation}
-use Rattle.e_transfer.specs.inner.Matches.{CoverSums, none_cancels, matches_of_sum, cancellations, product}
+use Rattle.e_transfer.specs.inner.Matches.{CoverSums, none_cancels, matches_of_sum, cancelling_matches, match_product}
 use Rattle.e_transfer.proofs.GoalMatches.{sums_cancel, sums_match, sums_match_both, left_at, nothing_left}
 use Rattle.e_transfer.proofs.matches.matches_of_sums.Goals as goal
 
@@ -11,7 +11,7 @@ returns-in-empty c =
     let x = c.args.x.now in let y = c.args.y.now in let z = c.args.z.now in let w = c.args.w.now in
     let none = sym c.as_slice.ensures.value ∙ nothing_left c.as_slice.result.now c.in-empty.len_below in
     let all = c.in_ok-terms.ensures.empty none in
-    IfOk-weaker c.cancellations.result (λ v. v.items ≡ cancellations x y) (λ v. CoverSums x y z w v.items)
+    IfOk-weaker c.cancellations.result (λ v. v.items ≡ cancelling_matches x y) (λ v. CoverSums x y z w v.items)
     (λ v e. subst (λ (l : List (List Equation)). CoverSums x y z w l) (sym e) (sums_cancel x y z w all.0 all.1)) c.cancellations.ensures
 
 pub returns-in-len1 : goal.returns-in-len1
@@ -35,5 +35,5 @@ returns c =
     let other = c.in_ok-other-in-len2-up.other.items in
     let a = subst (λ (l : List (List Equation)). CoverSums x y z w l) (sym c.in_ok-one-in-len2-up.ensures) (sums_match x y z w t (left_at z w c.as_slice.result.now 0 (Seg 0 0) hold first)) in
     let b = subst (λ (l : List (List Equation)). CoverSums x y z w l) (sym c.in_ok-other-in-len2-up.ensures) (sums_match x y z w u (left_at z w c.as_slice.result.now 1 (Seg 0 0) hold second)) in
-    IfOk-weaker c.product.result (λ v. v.items ≡ product one other) (λ v. CoverSums x y z w v.items)
+    IfOk-weaker c.product.result (λ v. v.items ≡ match_product one other) (λ v. CoverSums x y z w v.items)
     (λ v e. subst (λ (l : List (List Equation)). CoverSums x y z w l) (sym e) (sums_match_both x y z w one other a b)) c.product.ensures

@@ -1,7 +1,7 @@
 use Rattle.std.proofs.Common.{arith}
 use Rattle.e_literal.specs.Truth.{holds}
 use Rattle.e_clause.specs.Assignment.{terms_of_atom}
-use Rattle.e_metric.proofs.GoodSums.{all_more}
+use Rattle.e_metric.proofs.terms.WellFormedSums.{all_more}
 use Rattle.e_transfer.specs.Models.{value_by, fits_terms}
 use Rattle.e_transfer.proofs.ModelValues.{all_fit, all_true}
 use Rattle.e_transfer.proofs.models.facts_fit.Goals as goal

@@ -1,24 +1,31 @@
-use Rattle.std.proofs.Common.{◌≡◌, drop}
+use Rattle.std.proofs.Common.{◌≡◌, ◌+◌, ◌*◌, drop}
 use Rattle.e_theorem.specs.Statements.{all_stated}
 use Rattle.e_deriv.specs.Script.{script_of, steps_script, close_script}
-use Rattle.e_verify.specs.inner.Standing.{goal_said}
-use Rattle.e_verify.specs.Checking.{verdict_at, IsReadyFor, KeepsFacts}
+use Rattle.e_verify.specs.inner.StepStates.{block_goal}
+use Rattle.e_verify.specs.Checking.{verdict_at, IsCheckable, KeepsFirstFacts}
 use Rattle.e_verify.proofs.block.+block.Given as goal
 
+-- by depth; a claim and a superposition are above their blocks and below their steps
 abbrev pub decreases-verify_block : goal.decreases-verify_block
-decreases-verify_block l = goal.size-verify_block l
+decreases-verify_block l = 2 * goal.size-verify_block l
 
 abbrev pub decreases-verify_close : goal.decreases-verify_close
-decreases-verify_close l = goal.size-verify_close l
+decreases-verify_close l = 2 * goal.size-verify_close l
 
 abbrev pub decreases-verify_step : goal.decreases-verify_step
-decreases-verify_step l = goal.size-verify_step l
+decreases-verify_step l = 2 * goal.size-verify_step l
+
+abbrev pub decreases-verify_claim : goal.decreases-verify_claim
+decreases-verify_claim l = 2 * goal.size-verify_claim l + 1
+
+abbrev pub decreases-verify_superposed : goal.decreases-verify_superposed
+decreases-verify_superposed l = 2 * goal.size-verify_superposed l + 1
 
 abbrev pub invariant-verify_block-loop-step : goal.invariant-verify_block-loop-step
 invariant-verify_block-loop-step l =
     record {
-      same : verdict_at (all_stated l.before) (steps_script (drop l.step-index l.block.steps.items) (close_script l.block.close)) l.standing (goal_said l.goal) l.number
-          ≡ verdict_at (all_stated l.before) (script_of l.block) l.initial.standing (goal_said l.goal) l.first;
-      ready : IsReadyFor (all_stated l.before) (steps_script (drop l.step-index l.block.steps.items) (close_script l.block.close)) l.standing (goal_said l.goal) l.number;
-      kept : KeepsFacts l.initial.standing l.standing;
+      same : verdict_at (all_stated l.before) (steps_script (drop l.step-index l.block.steps.items) (close_script l.block.close)) l.state (block_goal l.goal) l.number
+          ≡ verdict_at (all_stated l.before) (script_of l.block) l.initial.state (block_goal l.goal) l.first;
+      ready : IsCheckable (all_stated l.before) (steps_script (drop l.step-index l.block.steps.items) (close_script l.block.close)) l.state (block_goal l.goal) l.number;
+      kept : KeepsFirstFacts l.initial.state l.state;
     }

@@ -1,5 +1,5 @@
 use Rattle.std.proofs.Common.{rules}
-use Rattle.e_verify.proofs.Keys.{narrow_two, narrow_angle, narrow_area}
+use Rattle.e_verify.proofs.arithmetic.TermKeys.{narrow_two, narrow_angle, narrow_area}
 use Rattle.e_verify.proofs.key.key_of.Goals as goal
 
 pub returns-in-Seg-clause-narrow : goal.returns-in-Seg-clause-narrow

@@ -10,64 +10,64 @@ use Rattle.e_theorem.specs.Statements.{stated, all_stated}
 use Rattle.e_deriv.specs.declared.block.Step.TheVariants.{Apply as ApplyStep}
 use Rattle.e_deriv.specs.Lines.{no_statement}
 use Rattle.e_deriv.specs.Parts.{has_no_blank, written}
-use Rattle.e_verify.specs.declared.standing.Standing.{Standing}
-use Rattle.e_verify.specs.Numbered.{placed_certs}
-use Rattle.e_verify.proofs.FirstLines.{after_apply}
-use Rattle.e_verify.proofs.Certified.{fits_of, all_are_written, few_new_of, theorem_there}
-use Rattle.e_verify.proofs.NumberedSteps.{apply_numbered}
+use Rattle.e_verify.specs.declared.step_state.StepState.{StepState}
+use Rattle.e_verify.specs.Numbered.{certs_with_places}
+use Rattle.e_verify.proofs.checking.FirstLines.{after_apply}
+use Rattle.e_verify.proofs.checking.CertifiedLines.{fits_of, all_are_written, few_new_of, theorem_there}
+use Rattle.e_verify.proofs.placing.NumberedSteps.{apply_numbered}
 use Rattle.e_verify.proofs.numbering.apply.Goals as goal
 
-abbrev as_standing : Scope → List Lit → Standing
-as_standing s facts = record { scope = s; facts = facts }
+abbrev as_state : Scope → List Lit → StepState
+as_state s facts = record { scope = s; facts = facts }
 
 pub use_of-requires-clause-few : goal.use_of-requires-clause-few
 use_of-requires-clause-few c =
     let y = c.args.line.now in
     let e = sym (ap (option_map (λ v. v.items)) c.in-Some-2.is) ∙ c.in_ok-objects.ensures in
     let f = fits_of c.args.before.now y.theorem y.args.now c.in-Some.statement.now c.in-Some-2.objects.items c.requires c.in-Some.ensures.lookup.3.0 c.in-Some.ensures.lookup.1 e in
-    (few_new_of c.args.standing.now.scope (stated c.in-Some.statement.now) (sym c.has_room.ensures ∙ c.if-not-has_room.false) f.small).0
+    (few_new_of c.args.state.now.scope (stated c.in-Some.statement.now) (sym c.has_room.ensures ∙ c.if-not-has_room.false) f.small).0
 
 pub use_of-requires-clause-points : goal.use_of-requires-clause-points
 use_of-requires-clause-points c =
     let y = c.args.line.now in
     let e = sym (ap (option_map (λ v. v.items)) c.in-Some-2.is) ∙ c.in_ok-objects.ensures in
     let f = fits_of c.args.before.now y.theorem y.args.now c.in-Some.statement.now c.in-Some-2.objects.items c.requires c.in-Some.ensures.lookup.3.0 c.in-Some.ensures.lookup.1 e in
-    (few_new_of c.args.standing.now.scope (stated c.in-Some.statement.now) (sym c.has_room.ensures ∙ c.if-not-has_room.false) f.small).1
+    (few_new_of c.args.state.now.scope (stated c.in-Some.statement.now) (sym c.has_room.ensures ∙ c.if-not-has_room.false) f.small).1
 
 pub use_of-requires-clause-lines : goal.use_of-requires-clause-lines
 use_of-requires-clause-lines c =
     let y = c.args.line.now in
     let e = sym (ap (option_map (λ v. v.items)) c.in-Some-2.is) ∙ c.in_ok-objects.ensures in
     let f = fits_of c.args.before.now y.theorem y.args.now c.in-Some.statement.now c.in-Some-2.objects.items c.requires c.in-Some.ensures.lookup.3.0 c.in-Some.ensures.lookup.1 e in
-    (few_new_of c.args.standing.now.scope (stated c.in-Some.statement.now) (sym c.has_room.ensures ∙ c.if-not-has_room.false) f.small).2
+    (few_new_of c.args.state.now.scope (stated c.in-Some.statement.now) (sym c.has_room.ensures ∙ c.if-not-has_room.false) f.small).2
 
 pub use_of-requires-clause-circles : goal.use_of-requires-clause-circles
 use_of-requires-clause-circles c =
     let y = c.args.line.now in
     let e = sym (ap (option_map (λ v. v.items)) c.in-Some-2.is) ∙ c.in_ok-objects.ensures in
     let f = fits_of c.args.before.now y.theorem y.args.now c.in-Some.statement.now c.in-Some-2.objects.items c.requires c.in-Some.ensures.lookup.3.0 c.in-Some.ensures.lookup.1 e in
-    (few_new_of c.args.standing.now.scope (stated c.in-Some.statement.now) (sym c.has_room.ensures ∙ c.if-not-has_room.false) f.small).3
+    (few_new_of c.args.state.now.scope (stated c.in-Some.statement.now) (sym c.has_room.ensures ∙ c.if-not-has_room.false) f.small).3
 
-pub grown-standing-requires-clause-points : goal.grown-standing-requires-clause-points
-grown-standing-requires-clause-points c =
+pub grown-state-requires-clause-points : goal.grown-state-requires-clause-points
+grown-state-requires-clause-points c =
     let y = c.args.line.now in
-    let s = c.args.standing.now.scope in
+    let s = c.args.state.now.scope in
     let e = sym (ap (option_map (λ v. v.items)) c.in-Some-2.is) ∙ c.in_ok-objects.ensures in
     let f = fits_of c.args.before.now y.theorem y.args.now c.in-Some.statement.now c.in-Some-2.objects.items c.requires c.in-Some.ensures.lookup.3.0 c.in-Some.ensures.lookup.1 e in
     subst (λ n. s.points + n < 2 ^ 16) (sym (ap length c.items-2.ensures)) (few_new_of s (stated c.in-Some.statement.now) (sym c.has_room.ensures ∙ c.if-not-has_room.false) f.small).1
 
-pub grown-standing-requires-clause-lines : goal.grown-standing-requires-clause-lines
-grown-standing-requires-clause-lines c =
+pub grown-state-requires-clause-lines : goal.grown-state-requires-clause-lines
+grown-state-requires-clause-lines c =
     let y = c.args.line.now in
-    let s = c.args.standing.now.scope in
+    let s = c.args.state.now.scope in
     let e = sym (ap (option_map (λ v. v.items)) c.in-Some-2.is) ∙ c.in_ok-objects.ensures in
     let f = fits_of c.args.before.now y.theorem y.args.now c.in-Some.statement.now c.in-Some-2.objects.items c.requires c.in-Some.ensures.lookup.3.0 c.in-Some.ensures.lookup.1 e in
     subst (λ n. s.lines + n < 2 ^ 16) (sym (ap length c.items-2.ensures)) (few_new_of s (stated c.in-Some.statement.now) (sym c.has_room.ensures ∙ c.if-not-has_room.false) f.small).2
 
-pub grown-standing-requires-clause-circles : goal.grown-standing-requires-clause-circles
-grown-standing-requires-clause-circles c =
+pub grown-state-requires-clause-circles : goal.grown-state-requires-clause-circles
+grown-state-requires-clause-circles c =
     let y = c.args.line.now in
-    let s = c.args.standing.now.scope in
+    let s = c.args.state.now.scope in
     let e = sym (ap (option_map (λ v. v.items)) c.in-Some-2.is) ∙ c.in_ok-objects.ensures in
     let f = fits_of c.args.before.now y.theorem y.args.now c.in-Some.statement.now c.in-Some-2.objects.items c.requires c.in-Some.ensures.lookup.3.0 c.in-Some.ensures.lookup.1 e in
     subst (λ n. s.circles + n < 2 ^ 16) (sym (ap length c.items-2.ensures)) (few_new_of s (stated c.in-Some.statement.now) (sym c.has_room.ensures ∙ c.if-not-has_room.false) f.small).3
@@ -77,7 +77,7 @@ returns c =
     let y = c.args.line.now in
     let before = all_stated c.args.before.now in
     let t = stated c.in-Some.statement.now in
-    let x = c.args.standing.now in
+    let x = c.args.state.now in
     let args = y.args.now in
     let names = y.names.now in
     let e = sym (ap (option_map (λ v. v.items)) c.in-Some-2.is) ∙ c.in_ok-objects.ensures in
@@ -86,11 +86,11 @@ returns c =
     let there = ap (λ o. unwrap_or o no_statement) (theorem_there c.args.before.now y.theorem c.in-Some.statement.now c.in-Some.ensures.lookup.3.0 c.in-Some.ensures.lookup.1) in
     let needs = c.items.ensures ∙ c.in-Ok.ensures.needs ∙ ap (λ os. needs_of_use t os x.scope) os ∙ ap (λ u. needs_of_use u (written args) x.scope) (sym there) in
     let gives = c.items-3.ensures ∙ c.in-Ok.ensures.gives ∙ ap (λ os. gives_of_use t os x.scope) os in
-    let scope = c.grown-standing.ensures ∙ ap (grown x.scope) c.items-2.ensures in
+    let scope = c.grown-state.ensures ∙ ap (grown x.scope) c.items-2.ensures in
     let placed = c.in_ok-certs.certs in
-    apply_numbered before y.theorem args names y.certs.now x c.suppose_all.new.self _
+    apply_numbered before y.theorem args names y.certs.now x c.assume_all.new.self _
     (ap (λ as1. ApplyStep y.theorem as1 c.new-names.result placed) (c.new-args.ensures ∙ c.in_ok-from_slice.ensures.items)
     ∙ ap (λ ns. ApplyStep y.theorem args ns placed) (c.new-names.ensures ∙ c.in_ok-from_slice-2.ensures.items)
-    ∙ ap (ApplyStep y.theorem args names) (c.in_ok-certs.ensures ∙ ap (λ ls. placed_certs x.facts ls y.certs.now) needs))
-    (c.in_ok-suppose_all.ensures ∙ ap (λ (s : Scope). as_standing s (joined_all x.facts c.items-3.result.now)) scope ∙ ap (λ ls. as_standing (grown x.scope t.made) (joined_all x.facts ls)) gives
+    ∙ ap (ApplyStep y.theorem args names) (c.in_ok-certs.ensures ∙ ap (λ ls. certs_with_places x.facts ls y.certs.now) needs))
+    (c.in_ok-assume_all.ensures ∙ ap (λ (s : Scope). as_state s (joined_all x.facts c.items-3.result.now)) scope ∙ ap (λ ls. as_state (grown x.scope t.made) (joined_all x.facts ls)) gives
     ∙ ap (λ u. after_apply u (written args) x) (sym there))

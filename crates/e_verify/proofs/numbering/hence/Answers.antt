@@ -1,10 +1,10 @@
 use Rattle.std.proofs.Common.{ap, ◌∙◌}
 use Rattle.e_deriv.specs.declared.block.Step.TheVariants.{Hence as HenceStep}
-use Rattle.e_verify.proofs.NumberedSteps.{hence_numbered}
+use Rattle.e_verify.proofs.placing.NumberedSteps.{hence_numbered}
 use Rattle.e_verify.proofs.numbering.hence.Goals as goal
 
 pub returns : goal.returns
 returns c before =
     let cert = c.in_ok-cert.cert in
-    hence_numbered before c.args.lit.now c.args.cert.now c.args.standing.now c.suppose.new.self _
-    (ap (λ l. HenceStep l cert) c.in_ok-lit.ensures ∙ ap (HenceStep c.args.lit.now) c.in_ok-cert.ensures) c.in_ok-suppose.ensures
+    hence_numbered before c.args.lit.now c.args.cert.now c.args.state.now c.assume.new.self _
+    (ap (λ l. HenceStep l cert) c.in_ok-lit.ensures ∙ ap (HenceStep c.args.lit.now) c.in_ok-cert.ensures) c.in_ok-assume.ensures

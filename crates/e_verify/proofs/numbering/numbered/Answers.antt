@@ -13,12 +13,12 @@ use Rattle.e_deriv.specs.Script.{Script, script_of, erased}
 use Rattle.e_deriv.specs.Goal.{Goal, goal_of_statement, facts_of_statement}
 use Rattle.e_deriv.specs.Certified.{Certified}
 use Rattle.e_deriv.specs.Versions.{has_certs_of}
-use Rattle.e_verify.specs.declared.standing.Standing.{Standing}
+use Rattle.e_verify.specs.declared.step_state.StepState.{StepState}
 use Rattle.e_verify.specs.Numbered.{derivation_with_places}
-use Rattle.e_verify.specs.inner.Standing.{start_of}
+use Rattle.e_verify.specs.inner.StepStates.{state_at_start}
 use Rattle.e_verify.specs.inner.Numbering.{HaveFew, places_at}
-use Rattle.e_verify.proofs.Verified.{few_declared, few_more}
-use Rattle.e_verify.proofs.NumberedLines.{numbered_certified, numbered_erased, numbered_of_second}
+use Rattle.e_verify.proofs.checking.WholeDerivations.{few_declared, few_more}
+use Rattle.e_verify.proofs.placing.NumberedLines.{numbered_certified, numbered_erased, numbered_of_second}
 use Rattle.e_verify.proofs.numbering.numbered.Goals as goal
 
 abbrev as_goal : List Obj → List Lit → Goal
@@ -60,8 +60,8 @@ goal_is : (t : Stated) (made : List Obj) (shown : List Lit) → made ≡ next_ob
 goal_is t made shown m e = ap (λ ms. as_goal ms shown) m ∙ ap (as_goal (next_objects (scope_of t) t.made)) e
 
 -- with places from the start of the statement
-whole : (before : List Stated) (t : Stated) (d p : Script) (x : Standing) (g : Goal) → x ≡ start_of t → g ≡ goal_of_statement t → p ≡ places_at before d x g → p ≡ derivation_with_places before t d
-whole before t d p x g is same e = e ∙ ap (λ y. places_at before d y g) is ∙ ap (places_at before d (start_of t)) same
+whole : (before : List Stated) (t : Stated) (d p : Script) (x : StepState) (g : Goal) → x ≡ state_at_start t → g ≡ goal_of_statement t → p ≡ places_at before d x g → p ≡ derivation_with_places before t d
+whole before t d p x g is same e = e ∙ ap (λ y. places_at before d y g) is ∙ ap (places_at before d (state_at_start t)) same
 
 if_ok : {X E : Type 0} {P Q : X → Type 0} (r : Result X E) → IfOk r P → ((x : X) → P x → Q x) → IfOk r Q
 if_ok (Ok x) h f = f x h
@@ -76,48 +76,48 @@ returns-clause-numbered c =
     let before = all_stated c.args.before.now in
     let t = stated c.args.statement.now in
     let d = script_of c.args.deriv.now in
-    let x = c.in_ok-standing.standing in
+    let x = c.in_ok-state.state in
     let g = as_goal c.deref.result.now c.items-3.result.now in
     let made = made_is t c.grown-scope.result c.items.result.now c.items-2.result.now c.deref.result.now c.in_ok-made.made.items c.grown-scope.ensures c.items.ensures c.items-2.ensures c.in_ok-made.ensures c.deref.ensures.value in
     let same = goal_is t c.deref.result.now c.items-3.result.now made c.items-3.ensures in
-    if_ok c.number_block.result c.number_block.ensures.same (λ (b : Block) e. whole before t d (script_of b) x g c.in_ok-standing.ensures same e)
+    if_ok c.number_block.result c.number_block.ensures.same (λ (b : Block) e. whole before t d (script_of b) x g c.in_ok-state.ensures same e)
 
 pub returns-clause-script : goal.returns-clause-script
 returns-clause-script c =
     let before = all_stated c.args.before.now in
     let t = stated c.args.statement.now in
     let d = script_of c.args.deriv.now in
-    let x = c.in_ok-standing.standing in
+    let x = c.in_ok-state.state in
     let g = as_goal c.deref.result.now c.items-3.result.now in
     let made = made_is t c.grown-scope.result c.items.result.now c.items-2.result.now c.deref.result.now c.in_ok-made.made.items c.grown-scope.ensures c.items.ensures c.items-2.ensures c.in_ok-made.ensures c.deref.ensures.value in
     let same = goal_is t c.deref.result.now c.items-3.result.now made c.items-3.ensures in
-    if_ok c.number_block.result c.number_block.ensures.same (λ (b : Block) e. ap erased (whole before t d (script_of b) x g c.in_ok-standing.ensures same e) ∙ numbered_erased before d (scope_of t) (facts_of_statement t) (goal_of_statement t))
+    if_ok c.number_block.result c.number_block.ensures.same (λ (b : Block) e. ap erased (whole before t d (script_of b) x g c.in_ok-state.ensures same e) ∙ numbered_erased before d (scope_of t) (facts_of_statement t) (goal_of_statement t))
 
 pub returns-clause-certified : goal.returns-clause-certified
 returns-clause-certified c =
     let before = all_stated c.args.before.now in
     let t = stated c.args.statement.now in
     let d = script_of c.args.deriv.now in
-    let x = c.in_ok-standing.standing in
+    let x = c.in_ok-state.state in
     let g = as_goal c.deref.result.now c.items-3.result.now in
     let made = made_is t c.grown-scope.result c.items.result.now c.items-2.result.now c.deref.result.now c.in_ok-made.made.items c.grown-scope.ensures c.items.ensures c.items-2.ensures c.in_ok-made.ensures c.deref.ensures.value in
     let same = goal_is t c.deref.result.now c.items-3.result.now made c.items-3.ensures in
     if_ok c.number_block.result c.number_block.ensures.same
-    (λ (b : Block) e. subst (Certified before t) (sym (whole before t d (script_of b) x g c.in_ok-standing.ensures same e)) (numbered_certified before d (scope_of t) (facts_of_statement t) (goal_of_statement t) c.requires.certified))
+    (λ (b : Block) e. subst (Certified before t) (sym (whole before t d (script_of b) x g c.in_ok-state.ensures same e)) (numbered_certified before d (scope_of t) (facts_of_statement t) (goal_of_statement t) c.requires.certified))
 
 pub returns-clause-version : goal.returns-clause-version
 returns-clause-version c =
     let before = all_stated c.args.before.now in
     let t = stated c.args.statement.now in
     let d = script_of c.args.deriv.now in
-    let x = c.in_ok-standing.standing in
+    let x = c.in_ok-state.state in
     let g = as_goal c.deref.result.now c.items-3.result.now in
     let made = made_is t c.grown-scope.result c.items.result.now c.items-2.result.now c.deref.result.now c.in_ok-made.made.items c.grown-scope.ensures c.items.ensures c.items-2.ensures c.in_ok-made.ensures c.deref.ensures.value in
     let same = goal_is t c.deref.result.now c.items-3.result.now made c.items-3.ensures in
     both_ok c.number_block.result c.number_block.ensures.same c.number_block.ensures.few
-    (λ (b : Block) e few. ap (has_certs_of version.Two) (whole before t d (script_of b) x g c.in_ok-standing.ensures same e)
+    (λ (b : Block) e few. ap (has_certs_of version.Two) (whole before t d (script_of b) x g c.in_ok-state.ensures same e)
     ∙ numbered_of_second before d (scope_of t) (facts_of_statement t) (goal_of_statement t) c.requires.verifiable.written
-    (subst (λ h. HaveFew before d (start_of t) h) same (subst (λ y. HaveFew before d y g) c.in_ok-standing.ensures few)))
+    (subst (λ h. HaveFew before d (state_at_start t) h) same (subst (λ y. HaveFew before d y g) c.in_ok-state.ensures few)))
 
 pub number_block-requires : goal.number_block-requires
 number_block-requires c = c.requires.verifiable.statements

@@ -4,7 +4,7 @@ use Rattle.std.specs.List.{list_all}
 use Rattle.e_literal.specs.Literal.{is_in_scope}
 use Rattle.e_literal.specs.Facts.{has, has_all}
 use Rattle.e_clause.specs.Instance.{Inst}
-use Rattle.e_verify.proofs.Certified.{cited_is}
+use Rattle.e_verify.proofs.checking.CertifiedLines.{cited_is}
 use Rattle.e_verify.proofs.steps.is_cited.Goals as goal
 
 pub returns : goal.returns

@@ -2,29 +2,29 @@ use Rattle.std.proofs.Common.{◌≡◌, ap, sym, ◌∙◌, ◌&&◌, ◌||◌,
 use Rattle.std.specs.Option.{option_map}
 use mir.Syntax.{w128}
 use Rattle.e_literal.specs.Absurd.{is_good_sign, is_strict}
-use Rattle.e_verify.specs.inner.Views.{place_said, row_said}
-use Rattle.e_verify.proofs.Summing.{not_named, bad_sign, one_added, good_multiplier, whole, all_taken}
+use Rattle.e_verify.specs.inner.Views.{row_scope_view, row_view}
+use Rattle.e_verify.proofs.arithmetic.AddedRows.{not_named, bad_sign, one_added, good_multiplier, whole, all_taken}
 use Rattle.e_verify.proofs.sums.refutes.Goals as goal
 use Rattle.e_verify.proofs.sums.refutes.Goals.{then-strict, else-strict, then-strict-2, else-strict-2}
 
 pub returns-in_default : goal.returns-in_default
 returns-in_default c =
-    let p = place_said c.args.place.now in
+    let p = row_scope_view c.args.row_scope.now in
     sym (not_named p c.args.sum.now c.loop-multiplier.multiplier-index c.loop-multiplier-item.result c.loop-multiplier-test.true c.loop-multiplier-item.is
-    (sym c.row_named.ensures.row ∙ ap (option_map row_said) c.in_default.is))
+    (sym c.row_named.ensures.row ∙ ap (option_map row_view) c.in_default.is))
 
 pub returns-then-not-is_good_sign : goal.returns-then-not-is_good_sign
 returns-then-not-is_good_sign c =
-    let p = place_said c.args.place.now in
+    let p = row_scope_view c.args.row_scope.now in
     let m : SFits w128 c.loop-multiplier-item.result.0 = search rules in
     let sign = simp to_z-of_z at c.is_good_sign.ensures in
-    sym (bad_sign p c.args.sum.now c.loop-multiplier.multiplier-index c.loop-multiplier-item.result (row_said c.in-Some.row) c.loop-multiplier-test.true c.loop-multiplier-item.is
-    (sym c.row_named.ensures.row ∙ ap (option_map row_said) c.in-Some.is)
+    sym (bad_sign p c.args.sum.now c.loop-multiplier.multiplier-index c.loop-multiplier-item.result (row_view c.in-Some.row) c.loop-multiplier-test.true c.loop-multiplier-item.is
+    (sym c.row_named.ensures.row ∙ ap (option_map row_view) c.in-Some.is)
     (ap (λ s. is_good_sign s c.loop-multiplier-item.result.0) (sym c.says.ensures) ∙ sym sign ∙ c.if-not-is_good_sign.true))
 
 pub loop-multiplier-preserved : goal.loop-multiplier-preserved
 loop-multiplier-preserved c =
-    let p = place_said c.args.place.now in
+    let p = row_scope_view c.args.row_scope.now in
     let x = c.loop-multiplier-item.result in
     let m : SFits w128 c.loop-multiplier-item.result.0 = search rules in
     let sign = simp to_z-of_z at c.is_good_sign.ensures in
@@ -33,13 +33,13 @@ loop-multiplier-preserved c =
     let new : c.if-strict.strict ≡ (c.loop-multiplier.strict || c.is_strict-is_strict.result)
     = elim c.if-strict.branch [ then-strict w ↦ w.strict-is ∙ w.if-strict.true ∙ ap (λ b. b || c.is_strict-is_strict.result) (sym w.if-strict.true) | else-strict w ↦ w.strict-is ∙ ap (λ b. b || c.is_strict-is_strict.result) (sym w.if-strict.false) ] in
     one_added p c.args.sum.now c.loop-multiplier.multiplier-index x c.loop-multiplier.totals c.add_row.new.totals c.loop-multiplier.strict c.is_strict-is_strict.result c.if-strict.strict c.in-Some.row
-    c.loop-multiplier-test.true c.loop-multiplier-item.is c.loop-multiplier.invariant (sym c.row_named.ensures.row ∙ ap (option_map row_said) c.in-Some.is) more
+    c.loop-multiplier-test.true c.loop-multiplier-item.is c.loop-multiplier.invariant (sym c.row_named.ensures.row ∙ ap (option_map row_view) c.in-Some.is) more
     (ap (λ s. is_good_sign s x.0) (sym c.says.ensures) ∙ sym sign ∙ c.if-not-is_good_sign.false) (strict ∙ ap (λ s. is_strict s x.0) c.says-in-loop-multiplier.ensures) new c.in-Some.ensures.small
     (good_multiplier c.args.sum.now c.loop-multiplier.multiplier-index x (sym c.is_good_size.ensures ∙ c.if-not-is_good_size.false) c.loop-multiplier-test.true c.loop-multiplier-item.is)
 
 pub returns : goal.returns
 returns c =
-    let p = place_said c.args.place.now in
+    let p = row_scope_view c.args.row_scope.now in
     let e : c.if-strict-2.result ≡ (c.loop-multiplier.strict && c.are_zero-are_zero.result)
     = elim c.if-strict-2.branch [ then-strict-2 w ↦ w.result-is ∙ ap (λ b. b && c.are_zero-are_zero.result) (sym w.if-strict-2.true) | else-strict-2 w ↦ w.result-is ∙ w.if-strict-2.false ∙ ap (λ b. b && c.are_zero-are_zero.result) (sym w.if-strict-2.false) ] in
     e ∙ whole p c.args.sum.now _ c.loop-multiplier.multiplier-index c.loop-multiplier.totals c.loop-multiplier.strict c.are_zero-are_zero.result (sym c.is_good_size.ensures ∙ c.if-not-is_good_size.false) (all_taken c.args.sum.now c.loop-multiplier.multiplier-index c.loop-multiplier-test.false)

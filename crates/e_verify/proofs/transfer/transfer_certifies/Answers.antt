@@ -6,8 +6,8 @@ use Rattle.e_literal.specs.Literal.{negation}
 use Rattle.e_literal.specs.Facts.{has}
 use Rattle.e_clause.specs.Instance.{Inst}
 use Rattle.e_clause.specs.TransferCertificate.{parts_certify, transfer_certifies}
-use Rattle.e_verify.proofs.Formed.{instance_formed, needs_formed}
-use Rattle.e_verify.proofs.Paired.{transfer_is, ok_as}
+use Rattle.e_verify.proofs.checking.FormedInstances.{instance_formed, needs_formed}
+use Rattle.e_verify.proofs.checking.PairedCertificates.{transfer_is, ok_as}
 use Rattle.e_verify.proofs.transfer.transfer_certifies.Goals as goal
 
 pub parts_certify-requires-clause-lits : goal.parts_certify-requires-clause-lits

@@ -10,7 +10,7 @@ use Rattle.e_theorem.specs.Statements.{stated, all_stated}
 use Rattle.e_deriv.specs.Script.{script_of}
 use Rattle.e_deriv.specs.Goal.{Goal, goal_of_statement}
 use Rattle.e_verify.specs.Checking.{verdict_at}
-use Rattle.e_verify.proofs.Verified.{same_verdict, start_ready, certified_of, few_declared, few_more}
+use Rattle.e_verify.proofs.checking.WholeDerivations.{same_verdict, start_ready, certified_of, few_declared, few_more}
 use Rattle.e_verify.proofs.verifier.verify.Goals as goal
 
 abbrev as_goal : List Obj → List Lit → Goal
@@ -55,7 +55,7 @@ pub verify_block-requires-clause-ready : goal.verify_block-requires-clause-ready
 verify_block-requires-clause-ready c =
     let t = stated c.args.statement.now in
     let made = made_is t c.grown-scope.result c.items.result.now c.items-2.result.now c.deref.result.now c.in_ok-made.made.items c.grown-scope.ensures c.items.ensures c.items-2.ensures c.in_ok-made.ensures c.deref.ensures.value in
-    start_ready (all_stated c.args.before.now) t (script_of c.args.deriv.now) c.in_ok-standing.standing (as_goal c.deref.result.now c.items-3.result.now) c.requires c.in_ok-standing.ensures
+    start_ready (all_stated c.args.before.now) t (script_of c.args.deriv.now) c.in_ok-state.state (as_goal c.deref.result.now c.items-3.result.now) c.requires c.in_ok-state.ensures
     (goal_is t c.deref.result.now c.items-3.result.now made c.items-3.ensures)
 
 pub returns-in-Ok-clause-certified : goal.returns-in-Ok-clause-certified
@@ -65,8 +65,8 @@ returns-in-Ok-clause-certified c =
     let d = script_of c.args.deriv.now in
     let g = as_goal c.deref.result.now c.items-3.result.now in
     let made = made_is t c.grown-scope.result c.items.result.now c.items-2.result.now c.deref.result.now c.in_ok-made.made.items c.grown-scope.ensures c.items.ensures c.items-2.ensures c.in_ok-made.ensures c.deref.ensures.value in
-    certified_of before t d (verdict_at before d c.in_ok-standing.standing g 1) c.in-Ok.field-0
-    (same_verdict before t d c.in_ok-standing.standing g c.in_ok-standing.ensures (goal_is t c.deref.result.now c.items-3.result.now made c.items-3.ensures)) c.in-Ok.ensures.ok
+    certified_of before t d (verdict_at before d c.in_ok-state.state g 1) c.in-Ok.field-0
+    (same_verdict before t d c.in_ok-state.state g c.in_ok-state.ensures (goal_is t c.deref.result.now c.items-3.result.now made c.items-3.ensures)) c.in-Ok.ensures.ok
 
 pub returns-in-Ok-clause-proof : goal.returns-in-Ok-clause-proof
 returns-in-Ok-clause-proof c =
@@ -76,5 +76,5 @@ returns-in-Ok-clause-proof c =
     let g = as_goal c.deref.result.now c.items-3.result.now in
     let made = made_is t c.grown-scope.result c.items.result.now c.items-2.result.now c.deref.result.now c.in_ok-made.made.items c.grown-scope.ensures c.items.ensures c.items-2.ensures c.in_ok-made.ensures c.deref.ensures.value in
     c.certified_proves.ensures before t d
-    (certified_of before t d (verdict_at before d c.in_ok-standing.standing g 1) c.in-Ok.field-0
-    (same_verdict before t d c.in_ok-standing.standing g c.in_ok-standing.ensures (goal_is t c.deref.result.now c.items-3.result.now made c.items-3.ensures)) c.in-Ok.ensures.ok)
+    (certified_of before t d (verdict_at before d c.in_ok-state.state g 1) c.in-Ok.field-0
+    (same_verdict before t d c.in_ok-state.state g c.in_ok-state.ensures (goal_is t c.deref.result.now c.items-3.result.now made c.items-3.ensures)) c.in-Ok.ensures.ok)

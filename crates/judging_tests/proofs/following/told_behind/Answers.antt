@@ -1,4 +1,4 @@
-use Rattle.e_metric.proofs.Fronts.{fronts_joined_at}
+use Rattle.e_metric.proofs.answers.Fronts.{fronts_joined_at}
 use Rattle.judging_tests.proofs.following.told_behind.Goals as goal
 
 pub loop-i-preserved : goal.loop-i-preserved

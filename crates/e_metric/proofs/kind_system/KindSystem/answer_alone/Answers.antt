@@ -2,7 +2,7 @@ use Rattle.std.proofs.Common.{subst, sym}
 use Rattle.e_metric.specs.SolvedSystems.{IsAnswerAlone}
 use Rattle.e_metric.specs.declared.kind_system.KindSystem.TheVariants as kind_system
 use Rattle.e_metric.specs.declared.consequence.Metric.TheVariants.{Yes, No, TooWide}
-use Rattle.e_metric.proofs.OtherKinds.{solved_alone, absurd_alone, wide_alone}
+use Rattle.e_metric.proofs.answers.OtherKinds.{solved_alone, absurd_alone, wide_alone}
 use Rattle.e_metric.proofs.kind_system.KindSystem.answer_alone.Goals as goal
 
 pub returns-in_ok-values-in-Solved : goal.returns-in_ok-values-in-Solved

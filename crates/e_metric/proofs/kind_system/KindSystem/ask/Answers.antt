@@ -1,7 +1,7 @@
 use Rattle.std.proofs.Common.{subst, sym, Some}
 use Rattle.e_metric.specs.SolvedSystems.{IsKindSystem}
 use Rattle.e_metric.specs.MetricAnswers.{IsCertified}
-use Rattle.e_metric.proofs.CertificatesOfFronts.{certified_wider}
+use Rattle.e_metric.proofs.answers.CertificatesOfFronts.{certified_wider}
 use Rattle.e_metric.proofs.kind_system.KindSystem.ask.Goals as goal
 
 pub returns-in_ok-cert-in-Absurd : goal.returns-in_ok-cert-in-Absurd

@@ -1,7 +1,7 @@
 use Rattle.std.proofs.Common.{subst, sym, None}
 use Rattle.e_metric.specs.SolvedSystems.{IsKindSystem}
 use Rattle.e_metric.specs.MetricAnswers.{IsCertified}
-use Rattle.e_metric.proofs.GrownSystems.{same_solved}
+use Rattle.e_metric.proofs.answers.GrownSystems.{same_solved}
 use Rattle.e_metric.proofs.kind_system.KindSystem.copied.Goals as goal
 
 pub returns-in_ok-solved_system-in-Solved : goal.returns-in_ok-solved_system-in-Solved

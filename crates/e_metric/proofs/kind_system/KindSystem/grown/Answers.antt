@@ -1,7 +1,7 @@
 use Rattle.std.proofs.Common.{subst, sym, take, IfOk}
 use Rattle.std.specs.Prelude.{MatchOption}
 use Rattle.e_metric.specs.SolvedSystems.{IsKindSystem}
-use Rattle.e_metric.proofs.CertificatesOfFronts.{absurd_stays}
+use Rattle.e_metric.proofs.answers.CertificatesOfFronts.{absurd_stays}
 use Rattle.e_metric.proofs.kind_system.KindSystem.grown.Goals as goal
 
 pub grown-requires-clause-solved_system : goal.grown-requires-clause-solved_system

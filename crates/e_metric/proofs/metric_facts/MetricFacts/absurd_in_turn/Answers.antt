@@ -1,4 +1,4 @@
-use Rattle.e_metric.proofs.Consequences.{each_yes_contradicts, each_no_contradicts}
+use Rattle.e_metric.proofs.answers.Consequences.{each_yes_contradicts, each_no_contradicts}
 use Rattle.e_metric.proofs.metric_facts.MetricFacts.absurd_in_turn.Goals as goal
 
 pub returns-clause-yes : goal.returns-clause-yes

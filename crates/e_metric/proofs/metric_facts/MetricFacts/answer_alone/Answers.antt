@@ -1,6 +1,6 @@
 use Rattle.std.proofs.Common.{subst, sym}
 use Rattle.e_metric.specs.Fronts.{IsFront}
-use Rattle.e_metric.proofs.Fronts.{front_at}
+use Rattle.e_metric.proofs.answers.Fronts.{front_at}
 use Rattle.e_metric.proofs.metric_facts.MetricFacts.answer_alone.Goals as goal
 
 pub answer_alone-requires-clause-front : goal.answer_alone-requires-clause-front

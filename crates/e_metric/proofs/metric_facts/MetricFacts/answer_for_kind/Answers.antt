@@ -1,6 +1,6 @@
 use Rattle.std.proofs.Common.{subst, sym}
 use Rattle.e_metric.specs.Fronts.{IsFront}
-use Rattle.e_metric.proofs.Fronts.{front_at}
+use Rattle.e_metric.proofs.answers.Fronts.{front_at}
 use Rattle.e_metric.proofs.metric_facts.MetricFacts.answer_for_kind.Goals as goal
 
 pub ask-requires-clause-front : goal.ask-requires-clause-front

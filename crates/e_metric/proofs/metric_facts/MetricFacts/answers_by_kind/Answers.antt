@@ -1,22 +1,30 @@
+use Rattle.std.proofs.Common.{ap, ◌∙◌, Some}
 use Rattle.e_literal.specs.declared.object.Kind.TheVariants.{Segment, Angle, Area}
-use Rattle.std.proofs.Common.{◌∙◌, ap, Some, refl}
-use Rattle.e_metric.proofs.OtherKinds.{other_kind}
+use Rattle.e_literal.specs.WellFormed.{same_kind}
+use Rattle.e_metric.specs.MetricAnswers.{IsKindAnswer}
+use Rattle.e_metric.proofs.answers.EachKind.{each_arranged, first_differs, second_differs}
+use Rattle.e_metric.proofs.answers.OtherKinds.{other_kind}
 use Rattle.e_metric.proofs.metric_facts.MetricFacts.answers_by_kind.Goals as goal
 
 pub both_alone-requires-clause-one : goal.both_alone-requires-clause-one
-both_alone-requires-clause-one c = other_kind Angle Segment c.args.goal.now (c.requires.kind ∙ ap Some c.in-Segment.is) refl
+both_alone-requires-clause-one c =
+    other_kind c.other_kinds-second.result.0 c.args.which c.args.goal.now c.requires.kind (ap (λ ks. same_kind ks.0 c.args.which) c.other_kinds-second.ensures ∙ first_differs c.args.which)
 
 pub both_alone-requires-clause-other : goal.both_alone-requires-clause-other
-both_alone-requires-clause-other c = other_kind Area Segment c.args.goal.now (c.requires.kind ∙ ap Some c.in-Segment.is) refl
+both_alone-requires-clause-other c =
+    other_kind c.other_kinds-second.result.1 c.args.which c.args.goal.now c.requires.kind (ap (λ ks. same_kind ks.1 c.args.which) c.other_kinds-second.ensures ∙ second_differs c.args.which)
 
-pub both_alone-requires-in-Angle-clause-one : goal.both_alone-requires-in-Angle-clause-one
-both_alone-requires-in-Angle-clause-one c = other_kind Segment Angle c.args.goal.now (c.requires.kind ∙ ap Some c.in-Angle.is) refl
+pub returns-in-Ok-clause-segments : goal.returns-in-Ok-clause-segments
+returns-in-Ok-clause-segments c =
+    each_arranged (λ k m. IsKindAnswer k c.args.facts.now (Some c.args.goal.now) m) c.args.which c.other_kinds-second.result c.arrange.result c.args.own_answer c.in-Ok.field-0.0 c.in-Ok.field-0.1
+    c.other_kinds-second.ensures c.arrange.ensures c.requires.own_answer c.in-Ok.ensures.one c.in-Ok.ensures.other Segment
 
-pub both_alone-requires-in-Angle-clause-other : goal.both_alone-requires-in-Angle-clause-other
-both_alone-requires-in-Angle-clause-other c = other_kind Area Angle c.args.goal.now (c.requires.kind ∙ ap Some c.in-Angle.is) refl
+pub returns-in-Ok-clause-angles : goal.returns-in-Ok-clause-angles
+returns-in-Ok-clause-angles c =
+    each_arranged (λ k m. IsKindAnswer k c.args.facts.now (Some c.args.goal.now) m) c.args.which c.other_kinds-second.result c.arrange.result c.args.own_answer c.in-Ok.field-0.0 c.in-Ok.field-0.1
+    c.other_kinds-second.ensures c.arrange.ensures c.requires.own_answer c.in-Ok.ensures.one c.in-Ok.ensures.other Angle
 
-pub both_alone-requires-in-Area-clause-one : goal.both_alone-requires-in-Area-clause-one
-both_alone-requires-in-Area-clause-one c = other_kind Segment Area c.args.goal.now (c.requires.kind ∙ ap Some c.in-Area.is) refl
-
-pub both_alone-requires-in-Area-clause-other : goal.both_alone-requires-in-Area-clause-other
-both_alone-requires-in-Area-clause-other c = other_kind Angle Area c.args.goal.now (c.requires.kind ∙ ap Some c.in-Area.is) refl
+pub returns-in-Ok-clause-areas : goal.returns-in-Ok-clause-areas
+returns-in-Ok-clause-areas c =
+    each_arranged (λ k m. IsKindAnswer k c.args.facts.now (Some c.args.goal.now) m) c.args.which c.other_kinds-second.result c.arrange.result c.args.own_answer c.in-Ok.field-0.0 c.in-Ok.field-0.1
+    c.other_kinds-second.ensures c.arrange.ensures c.requires.own_answer c.in-Ok.ensures.one c.in-Ok.ensures.other Area

@@ -1,6 +1,6 @@
 use Rattle.std.proofs.Common.{subst, sym}
 use Rattle.e_metric.specs.Fronts.{IsFront}
-use Rattle.e_metric.proofs.Fronts.{front_at}
+use Rattle.e_metric.proofs.answers.Fronts.{front_at}
 use Rattle.e_metric.proofs.metric_facts.MetricFacts.contradiction_of.Goals as goal
 
 pub contradiction-requires : goal.contradiction-requires

@@ -1,5 +1,5 @@
 use Rattle.e_literal.specs.declared.object.Kind.TheVariants.{Segment, Angle, Area}
-use Rattle.e_metric.proofs.Fronts.{none_front}
+use Rattle.e_metric.proofs.answers.Fronts.{none_front}
 use Rattle.e_metric.proofs.metric_facts.MetricFacts.new.Goals as goal
 
 pub returns : goal.returns

@@ -1,5 +1,5 @@
 use Rattle.std.specs.Prelude.{option_copied}
-use Rattle.e_metric.proofs.Fronts.{whole_system, alone_answered}
+use Rattle.e_metric.proofs.answers.Fronts.{whole_system, alone_answered}
 use Rattle.e_metric.proofs.metric_facts.Slot.answer_alone.Goals as goal
 
 pub returns-in-Some : goal.returns-in-Some

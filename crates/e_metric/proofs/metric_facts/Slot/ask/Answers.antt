@@ -1,4 +1,4 @@
-use Rattle.e_metric.proofs.Fronts.{whole_system}
+use Rattle.e_metric.proofs.answers.Fronts.{whole_system}
 use Rattle.e_metric.proofs.metric_facts.Slot.ask.Goals as goal
 
 pub ask-requires-clause-kind_system : goal.ask-requires-clause-kind_system

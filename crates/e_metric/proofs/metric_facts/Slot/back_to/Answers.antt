@@ -1,5 +1,5 @@
 use Rattle.std.proofs.Common.{refl, rules, take}
-use Rattle.e_metric.proofs.Fronts.{none_front, cut_front}
+use Rattle.e_metric.proofs.answers.Fronts.{none_front, cut_front}
 use Rattle.e_metric.proofs.metric_facts.Slot.back_to.Goals as goal
 
 pub returns-then-is_within : goal.returns-then-is_within

@@ -1,7 +1,7 @@
 use Rattle.std.proofs.Common.{subst, sym, IfOk}
 use Rattle.std.specs.Prelude.{IfSome, MatchOption}
 use Rattle.e_metric.specs.SolvedSystems.{IsKindSystem}
-use Rattle.e_metric.proofs.Fronts.{first_system}
+use Rattle.e_metric.proofs.answers.Fronts.{first_system}
 use Rattle.e_metric.proofs.metric_facts.Slot.brought.Goals as goal
 
 pub grown-requires-clause-kind_system : goal.grown-requires-clause-kind_system

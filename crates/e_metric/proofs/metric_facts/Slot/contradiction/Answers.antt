@@ -1,4 +1,4 @@
-use Rattle.e_metric.proofs.Fronts.{whole_system, at_system}
+use Rattle.e_metric.proofs.answers.Fronts.{whole_system, at_system}
 use Rattle.e_metric.proofs.metric_facts.Slot.contradiction.Goals as goal
 
 pub returns-in-Some : goal.returns-in-Some

@@ -1,4 +1,4 @@
-use Rattle.e_metric.proofs.Fronts.{front_copied, none_left}
+use Rattle.e_metric.proofs.answers.Fronts.{front_copied, none_left}
 use Rattle.e_metric.proofs.metric_facts.Slot.copied.Goals as goal
 
 pub returns-in_ok-kind_system-in-Some : goal.returns-in_ok-kind_system-in-Some

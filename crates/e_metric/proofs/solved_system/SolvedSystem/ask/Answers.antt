@@ -4,8 +4,8 @@ use Rattle.e_literal.specs.Solution.{Satisfy}
 use Rattle.e_fraction.specs.Views.{all_seen}
 use Rattle.e_simplex.specs.Answer.{assigned}
 use Rattle.e_metric.specs.AgreeingRows.{AreRows}
-use Rattle.e_metric.specs.inner.FurtherRows.{fresh_terms, further, default_value, extended}
-use Rattle.e_metric.proofs.SolvedSystems.{named_of, asked, goal_together, false_already}
+use Rattle.e_metric.specs.inner.FurtherRows.{terms_added, further, value_of_fresh, values_extended}
+use Rattle.e_metric.proofs.answers.SolvedSystems.{named_of, asked, goal_together, false_already}
 use Rattle.e_metric.proofs.solved_system.SolvedSystem.ask.Goals as goal
 
 pub returns-then-are_so : goal.returns-then-are_so
@@ -13,15 +13,15 @@ returns-then-are_so c =
     let facts = c.args.facts.now in
     let l = c.args.goal.now in
     let g = c.args.self.now in
-    let rows_are = asked c.args.which facts l g c.deref-2.result.now c.requires.solved_system (c.deref-2.ensures.value ∙ c.in_ok-fresh.ensures ∙ ap (λ ts. fresh_terms c.args.which ts (l ∷ [])) c.deref.ensures.value) in
+    let rows_are = asked c.args.which facts l g c.deref-2.result.now c.requires.solved_system (c.deref-2.ensures.value ∙ c.in_ok-fresh.ensures ∙ ap (λ ts. terms_added c.args.which ts (l ∷ [])) c.deref.ensures.value) in
     false_already c.args.which facts (Some l) g c.in_ok-names.names.items c.deref-4.result.now
     (goal_together c.args.which facts l g c.in_ok-names.names.items c.deref-4.result.now c.requires.solved_system
     (named_of (further c.args.which facts l) c.in_ok-named.named.items c.in_ok-names.names.items c.deref-4.result.now
     (subst (λ ns. AreRows ns c.in_ok-named.named.items) rows_are c.in_ok-named.ensures.rows) c.in_ok-named.ensures.limited
     c.in_ok-names.ensures.names (c.deref-4.ensures.value ∙ c.in_ok-names.ensures.rows)))
     c.requires.facts c.requires.few c.requires.goal
-    c.values.result.now (map (λ t. (canonical t, default_value facts t)) c.deref-3.result.now) c.in_ok-values.values
-    (c.in_ok-values.ensures ∙ ap (λ vs. extended facts vs c.deref-3.result.now) c.items.ensures)
+    c.values.result.now (map (λ t. (canonical t, value_of_fresh facts t)) c.deref-3.result.now) c.in_ok-values.values
+    (c.in_ok-values.ensures ∙ ap (λ vs. values_extended facts vs c.deref-3.result.now) c.items.ensures)
     c.values.ensures
     (subst (λ vs. Satisfy (assigned vs) (all_seen c.deref-4.result.now)) c.items-2.ensures (c.are_so.ensures c.if-are_so.true))
 
@@ -30,7 +30,7 @@ decided-requires-clause-together c =
     let facts = c.args.facts.now in
     let l = c.args.goal.now in
     let g = c.args.self.now in
-    let rows_are = asked c.args.which facts l g c.deref-2.result.now c.requires.solved_system (c.deref-2.ensures.value ∙ c.in_ok-fresh.ensures ∙ ap (λ ts. fresh_terms c.args.which ts (l ∷ [])) c.deref.ensures.value) in
+    let rows_are = asked c.args.which facts l g c.deref-2.result.now c.requires.solved_system (c.deref-2.ensures.value ∙ c.in_ok-fresh.ensures ∙ ap (λ ts. terms_added c.args.which ts (l ∷ [])) c.deref.ensures.value) in
     goal_together c.args.which facts l g c.deref-5.result.now c.deref-6.result.now c.requires.solved_system
     (named_of (further c.args.which facts l) c.in_ok-named.named.items c.deref-5.result.now c.deref-6.result.now
     (subst (λ ns. AreRows ns c.in_ok-named.named.items) rows_are c.in_ok-named.ensures.rows) c.in_ok-named.ensures.limited

@@ -6,8 +6,8 @@ use Rattle.e_fraction.specs.declared.row.Row.{Row as GivenRow}
 use Rattle.e_fraction.specs.Limits.{all_small}
 use Rattle.e_fraction.specs.Views.{all_seen}
 use Rattle.e_simplex.specs.Answer.{IsAbsurdity}
-use Rattle.e_metric.specs.ListedTerms.{listed, terms_of_kind}
-use Rattle.e_metric.proofs.SolvedSystems.{few_together, small_together, same_rows, as_many, refuted_together}
+use Rattle.e_metric.specs.ListedTerms.{with_listed, distinct_terms}
+use Rattle.e_metric.proofs.answers.SolvedSystems.{few_together, small_together, same_rows, as_many, refuted_together}
 use Rattle.e_metric.proofs.solved_system.SolvedSystem.certified.Goals as goal
 
 pub certificate_of-requires-clause-names : goal.certificate_of-requires-clause-names
@@ -28,5 +28,5 @@ certificate_of-requires-clause-coefficients c =
 
 pub returns : goal.returns
 returns c =
-    refuted_together c.args.which c.args.facts.now (option_copied c.args.wanted) c.args.self.now c.args.names.now c.args.rows.now c.requires.together c.requires.facts c.requires.few c.requires.wanted c.in_ok-names.names.items c.deref.result.now (listed (terms_of_kind c.args.which c.args.facts.now (option_copied c.args.wanted)) (Right ∷ [])) c.args.absurdity.now c.in_ok-cert.cert.sums
+    refuted_together c.args.which c.args.facts.now (option_copied c.args.wanted) c.args.self.now c.args.names.now c.args.rows.now c.requires.together c.requires.facts c.requires.few c.requires.wanted c.in_ok-names.names.items c.deref.result.now (with_listed (distinct_terms c.args.which c.args.facts.now (option_copied c.args.wanted)) (Right ∷ [])) c.args.absurdity.now c.in_ok-cert.cert.sums
     c.in_ok-names.ensures (c.deref.ensures.value ∙ c.in_ok-rows.ensures) refl c.requires.refuted.refutes c.in_ok-cert.ensures

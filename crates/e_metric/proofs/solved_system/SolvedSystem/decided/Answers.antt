@@ -3,7 +3,7 @@ use Rattle.e_literal.specs.Minor.{IsWide}
 use Rattle.e_literal.specs.Width.{width}
 use Rattle.e_fraction.specs.Views.{all_seen}
 use Rattle.e_simplex.specs.Answer.{IsVerdict, AreValuesOf, assigned}
-use Rattle.e_metric.proofs.SolvedSystems.{few_together, small_together, solved_together, wide_together}
+use Rattle.e_metric.proofs.answers.SolvedSystems.{few_together, small_together, solved_together, wide_together}
 use Rattle.e_metric.proofs.solved_system.SolvedSystem.decided.Goals as goal
 
 pub decide_with-requires-clause-few : goal.decide_with-requires-clause-few

@@ -1,5 +1,5 @@
-use Rattle.e_verify.proofs.Fingerprints.{told_apart}
+use Rattle.e_verify.proofs.comparing.Fingerprints.{apart_by_number}
 use Rattle.e_verify.proofs.facts.Fact.is_same.Goals as goal
 
 pub returns-else-self-fingerprint : goal.returns-else-self-fingerprint
-returns-else-self-fingerprint c = told_apart _ _ _ _ _ c.self.view_is c.self.invariant c.requires c.if-self-fingerprint.false
+returns-else-self-fingerprint c = apart_by_number _ _ _ _ _ c.self.view_is c.self.invariant c.requires c.if-self-fingerprint.false

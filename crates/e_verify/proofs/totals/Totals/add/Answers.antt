@@ -1,6 +1,6 @@
 use Rattle.std.proofs.Common.{SFits, ◌+ℤ◌, to_z-of_z, rules, sym, ◌∙◌}
 use mir.Syntax.{w128}
-use Rattle.e_verify.proofs.Totalling.{IsKeyFor, first_for, added_for, dropped, fits_for, keys_and, same_entries}
+use Rattle.e_verify.proofs.arithmetic.KeyedTotals.{IsKeyFor, first_for, added_for, dropped, fits_for, keys_and, same_entries}
 use Rattle.e_verify.proofs.totals.Totals.add.Goals as goal
 use Rattle.e_verify.proofs.totals.Totals.add.Goals.{After-insert}
 

@@ -1,4 +1,4 @@
-use Rattle.e_verify.proofs.Totalling.{no_entries}
+use Rattle.e_verify.proofs.arithmetic.KeyedTotals.{no_entries}
 use Rattle.e_verify.proofs.totals.Totals.new.Goals as goal
 
 pub invariant_of-result : goal.invariant_of-result

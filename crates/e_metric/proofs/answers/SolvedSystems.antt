@@ -1,0 +1,197 @@
+-- What is kept of facts, and the answer from there.
+use Rattle.std.proofs.Common.{◌≡◌, ℕ, zero, suc, ◌+◌, ◌<◌, ◌≤◌, List, [], ◌∷◌, ◌++◌, map, drop, get_or, length, refl, sym, ap, ap₂, ◌∙◌, subst, arith, cond, Bool, true, false, Option, Some, None}
+use Rattle.std.specs.List.{list_all}
+use Rattle.std.proofs.lemmas.List.{map-append, length-map}
+use lib.IntN.{ℤ, pos, ◌+ℤ◌, ◌*ℤ◌}
+use Rattle.e_literal.specs.declared.object.Kind.{Kind}
+use Rattle.e_literal.specs.declared.object.Term.{Term}
+use Rattle.e_literal.specs.declared.object.Term.TheVariants.{Right}
+use Rattle.e_literal.specs.declared.literal.Lit.{Lit}
+use Rattle.e_literal.specs.Minor.{IsWide}
+use Rattle.e_literal.specs.Width.{width}
+use Rattle.e_literal.specs.Rows.{Row, Summands}
+use Rattle.e_literal.specs.Same.{term_eq}
+use Rattle.e_literal.specs.Solution.{form_value, IsSo, Satisfy}
+use Rattle.e_literal.specs.WellFormed.{is_well_formed}
+use Rattle.e_clause.specs.declared.cert.RowName.{RowName}
+use Rattle.e_clause.specs.declared.cert.Sums.{Sums}
+use Rattle.e_clause.specs.Assignment.{terms_of_lits}
+use Rattle.e_clause.specs.Laws.{is_good_wanted}
+use Rattle.e_clause.specs.System.{NamedRow, system, rows_of_system}
+use Rattle.e_clause.specs.Wide.{HasWidth}
+use Rattle.e_fraction.specs.declared.row.Row.{Row as GivenRow}
+use Rattle.e_fraction.specs.Limits.{all_small}
+use Rattle.e_fraction.specs.Views.{seen, all_seen}
+use Rattle.e_simplex.specs.declared.decision.Absurdity.{Absurdity}
+use Rattle.e_simplex.specs.Answer.{assigned, AreValuesOf, IsAbsurdity}
+use Rattle.e_simplex.specs.Naming.{place_of, IsIn, FormNamed, AllNamed}
+use Rattle.e_metric.specs.declared.solved_system.SolvedSystem.{SolvedSystem}
+use Rattle.e_metric.specs.AgreeingRows.{AreRows, AllLimited}
+use Rattle.e_metric.specs.inner.Certificate.{certificate_sums}
+use Rattle.e_metric.specs.inner.FurtherRows.{terms_added, rows_added_by_goal, further}
+use Rattle.e_metric.specs.SolvedSystems.{AreNamed, IsSolvedSystem, AreTogether}
+use Rattle.e_metric.specs.ListedTerms.{with_listed, distinct_terms}
+use Rattle.e_metric.specs.MetricAnswers.{IsCertified, IsTooWideSystem}
+use Rattle.e_metric.proofs.rows.GoalRows.{with_further}
+use Rattle.e_metric.proofs.rows.RowOrder.{one_order, reordered_more}
+use Rattle.e_metric.specs.RowOrder.{AreReordered}
+use Rattle.e_metric.proofs.answers.KindAnswers
+
+-- ---- rows with their names, one list after the other
+
+rows_append : (ns ms : List NamedRow) (ps qs : List (RowName × GivenRow)) → AreRows ns ps → AreRows ms qs → AreRows (ns ++ ms) (ps ++ qs)
+rows_append [] ms [] qs h k = k
+rows_append [] ms (p ∷ ps) qs h k = absurd h
+rows_append (n ∷ ns) ms [] qs h k = absurd h
+rows_append (n ∷ ns) ms (p ∷ ps) qs h k = (h.0, h.1, rows_append ns ms ps qs h.2 k)
+
+limited_append : (ps qs : List (RowName × GivenRow)) → AllLimited ps → AllLimited qs → AllLimited (ps ++ qs)
+limited_append [] qs h k = k
+limited_append (p ∷ ps) qs h k = (h.0, limited_append ps qs h.1 k)
+
+abbrev name_in : RowName × GivenRow → RowName
+name_in p = p.0
+
+abbrev row_in : RowName × GivenRow → GivenRow
+row_in p = p.1
+
+pub named_append : (ns ms : List NamedRow) (names more : List RowName) (rows others : List GivenRow) → AreNamed ns names rows → AreNamed ms more others → AreNamed (ns ++ ms) (names ++ more) (rows ++ others)
+named_append ns ms names more rows others h k = record {
+  pairs = h.pairs ++ k.pairs;
+  are = rows_append ns ms h.pairs k.pairs h.are k.are;
+  limited = limited_append h.pairs k.pairs h.limited k.limited;
+  names_are = ap₂ {A = List RowName} {B = List RowName} (λ x y. x ++ y) h.names_are k.names_are ∙ sym (map-append name_in h.pairs k.pairs);
+  rows_are = ap₂ {A = List GivenRow} {B = List GivenRow} (λ x y. x ++ y) h.rows_are k.rows_are ∙ sym (map-append row_in h.pairs k.pairs);
+}
+
+pub named_of : (ns : List NamedRow) (ps : List (RowName × GivenRow)) (names : List RowName) (rows : List GivenRow) → AreRows ns ps → AllLimited ps → names ≡ map name_in ps → rows ≡ map row_in ps → AreNamed ns names rows
+named_of ns ps names rows a l n r = record { pairs = ps; are = a; limited = l; names_are = n; rows_are = r }
+
+-- ---- what is solved of such rows
+
+module _ (which : Kind) (facts : List Lit) (wanted : Option Lit) (ns : List NamedRow) (order : AreReordered ns (system which facts wanted)) (names : List RowName) (rows : List GivenRow) (named : AreNamed ns names rows)
+    (good : list_all is_well_formed facts ≡ true) (few : length (terms_of_lits facts) ≤ 1100) (good_wanted : is_good_wanted wanted ≡ true) where
+  pub few_named : length rows ≤ 4096
+  few_named = KindAnswers.few_rows which facts wanted ns order named.pairs named.are named.limited good few good_wanted rows named.rows_are
+
+  pub small_named : all_small rows ≡ true
+  small_named = KindAnswers.small_rows which facts wanted ns order named.pairs named.are named.limited good few good_wanted rows named.rows_are
+
+  pub solved_named : (v : Term → ℕ) → Satisfy v (all_seen rows) → Satisfy v (rows_of_system which facts wanted)
+  solved_named = KindAnswers.solved which facts wanted ns order named.pairs named.are named.limited good few good_wanted rows named.rows_are
+
+  pub wide_named : (w : ℕ) → w ≡ width (rows_of_system which facts wanted) → IsWide (all_seen rows) → IsTooWideSystem facts wanted w
+  wide_named = KindAnswers.too_wide which facts wanted ns order named.pairs named.are named.limited good few good_wanted rows named.rows_are
+
+  pub refuted_named : (terms : List Term) (a : Absurdity) (sums : Sums) → terms ≡ with_listed (distinct_terms which facts wanted) (Right ∷ [])
+      → IsAbsurdity (all_seen rows) a → sums ≡ certificate_sums names rows terms a → IsCertified facts wanted (record { sums = sums })
+  refuted_named terms a sums t h e = KindAnswers.refuted which facts wanted ns order named.pairs named.are named.limited good few good_wanted rows named.rows_are names terms a sums named.names_are t h e
+
+-- ---- values, and those of more terms
+
+assigned_more : (ps qs : List (Term × ℕ)) (t : Term) → IsIn (map (λ (p : Term × ℕ). p.0) ps) t → assigned (ps ++ qs) t ≡ assigned ps t
+assigned_more [] qs t h = absurd (omega (arith, h))
+assigned_more (p ∷ ps) qs t h = by (term_eq t p.0) h (λ k. assigned_more ps qs t k)
+  where
+    ts : List Term
+    ts = map (λ (q : Term × ℕ). q.0) ps
+
+    by : (b : Bool) → cond b 0 (suc (place_of (map (λ (q : Term × ℕ). q.0) ps) t)) < suc (length (map (λ (q : Term × ℕ). q.0) ps)) → (IsIn (map (λ (q : Term × ℕ). q.0) ps) t → assigned (ps ++ qs) t ≡ assigned ps t)
+        → cond b p.1 (assigned (ps ++ qs) t) ≡ cond b p.1 (assigned ps t)
+    by true k ih = refl
+    by false k ih = ih (omega (arith, k))
+
+form_more : (ps qs : List (Term × ℕ)) (form : Summands) → FormNamed (map (λ (p : Term × ℕ). p.0) ps) form → form_value form (assigned (ps ++ qs)) ≡ form_value form (assigned ps)
+form_more ps qs [] h = refl
+form_more ps qs (f ∷ fs) h = ap₂ {A = ℕ} {B = ℤ} (λ n z. f.0 *ℤ pos n +ℤ z) (assigned_more ps qs f.1 h.0) (form_more ps qs fs h.1)
+
+satisfy_more : (ps qs : List (Term × ℕ)) (rs : List Row) → AllNamed (map (λ (p : Term × ℕ). p.0) ps) rs → Satisfy (assigned ps) rs → Satisfy (assigned (ps ++ qs)) rs
+satisfy_more ps qs [] h s = tt
+satisfy_more ps qs (r ∷ rs) h s = (subst (IsSo r.says) (sym (form_more ps qs r.form h.0)) s.0, satisfy_more ps qs rs h.1 s.1)
+
+satisfy_append : (v : Term → ℕ) (rs ss : List Row) → Satisfy v rs → Satisfy v ss → Satisfy v (rs ++ ss)
+satisfy_append v [] ss h k = k
+satisfy_append v (r ∷ rs) ss h k = (h.0, satisfy_append v rs ss h.1 k)
+
+-- one row more of those that are left
+pub one_so : (v : Term → ℕ) (rows : List GivenRow) (i : ℕ) (r : GivenRow) → i < length rows → r ≡ get_or rows i r → IsSo (seen r).says (form_value (seen r).form v) → Satisfy v (all_seen (drop (i + 1) rows)) → Satisfy v (all_seen (drop i rows))
+one_so v rows i r l e h s = subst (λ rs. Satisfy v (all_seen rs)) (sym (at rows i r r l e ∙ ap (λ n. r ∷ drop n rows) (one_more i))) (h, s)
+  where
+    one_more : (n : ℕ) → suc n ≡ n + 1
+    one_more n = omega arith
+
+    at : (rs : List GivenRow) (k : ℕ) (x d : GivenRow) → k < length rs → x ≡ get_or rs k d → drop k rs ≡ x ∷ drop (suc k) rs
+    at [] k x d l h = absurd (omega (arith, l))
+    at (y ∷ ys) zero x d l h = ap (λ z. z ∷ ys) (sym h)
+    at (y ∷ ys) (suc k) x d l h = at ys k x d (omega (arith, l)) h
+
+-- ---- the answer where more rows come after those that are kept
+
+module _ (which : Kind) (facts : List Lit) (wanted : Option Lit) (g : SolvedSystem) (names : List RowName) (rows : List GivenRow) (t : AreTogether which facts wanted g names rows)
+    (good : list_all is_well_formed facts ≡ true) (few : length (terms_of_lits facts) ≤ 1100) (good_wanted : is_good_wanted wanted ≡ true) where
+  abbrev both : List GivenRow
+  both = g.settled ++ rows
+
+  same_both : both ≡ g.rows.items ++ rows
+  same_both = ap (λ v. v ++ rows) t.settled
+
+  named_both : AreNamed t.all (g.names.items ++ names) both
+  named_both = subst (AreNamed t.all (g.names.items ++ names)) (sym same_both) t.named
+
+  pub few_together : length both ≤ 4096
+  few_together = few_named which facts wanted t.all t.order (g.names.items ++ names) both named_both good few good_wanted
+
+  pub small_together : all_small both ≡ true
+  small_together = small_named which facts wanted t.all t.order (g.names.items ++ names) both named_both good few good_wanted
+
+  pub solved_together : (v : Term → ℕ) → Satisfy v (all_seen both) → Satisfy v (rows_of_system which facts wanted)
+  solved_together = solved_named which facts wanted t.all t.order (g.names.items ++ names) both named_both good few good_wanted
+
+  pub width_together : (w : ℕ) → w ≡ width (rows_of_system which facts wanted) → IsWide (all_seen both) → HasWidth (rows_of_system which facts wanted) w
+  width_together = KindAnswers.has_width which facts wanted t.all t.order named_both.pairs named_both.are named_both.limited good few good_wanted both named_both.rows_are
+
+  pub wide_together : (w : ℕ) → w ≡ width (rows_of_system which facts wanted) → IsWide (all_seen both) → IsTooWideSystem facts wanted w
+  wide_together = wide_named which facts wanted t.all t.order (g.names.items ++ names) both named_both good few good_wanted
+
+  -- the copies that the certificate is made of
+  pub same_rows : (rs : List GivenRow) → rs ≡ g.rows.items ++ rows → rs ≡ both
+  same_rows rs e = e ∙ sym same_both
+
+  -- each row has a name
+  pub as_many : length (g.names.items ++ names) ≡ length (g.rows.items ++ rows)
+  as_many = omega (
+    arith,
+    ap (λ (ns : List RowName). length ns) t.named.names_are,
+    ap (λ (rs : List GivenRow). length rs) t.named.rows_are,
+    length-map t.named.pairs name_in,
+    length-map t.named.pairs row_in,
+  )
+
+  pub refuted_together : (all : List RowName) (rs : List GivenRow) (terms : List Term) (a : Absurdity) (sums : Sums) → all ≡ g.names.items ++ names → rs ≡ g.rows.items ++ rows
+      → terms ≡ with_listed (distinct_terms which facts wanted) (Right ∷ []) → IsAbsurdity (all_seen both) a → sums ≡ certificate_sums all rs terms a → IsCertified facts wanted (record { sums = sums })
+  refuted_together all rs terms a sums n r same h e =
+      refuted_named which facts wanted t.all t.order (g.names.items ++ names) both named_both good few good_wanted terms a sums same h
+      (e ∙ ap₂ {A = List RowName} {B = List GivenRow} (λ x y. certificate_sums x y terms a) n (same_rows rs r))
+
+  -- the values of the kept rows, and those of more terms, solve the system where they solve the rows after them
+  pub false_already : (values fresh : List (Term × ℕ)) (vs : List (Term × ℕ)) → vs ≡ values ++ fresh → AreValuesOf (all_seen g.settled) values → Satisfy (assigned vs) (all_seen rows)
+      → Satisfy (assigned vs) (rows_of_system which facts wanted)
+  false_already values fresh vs e h s =
+      solved_together (assigned vs)
+      (subst (Satisfy (assigned vs)) (sym (map-append seen g.settled rows))
+      (satisfy_append (assigned vs) (all_seen g.settled) (all_seen rows) (subst (λ v. Satisfy (assigned v) (all_seen g.settled)) (sym e) (satisfy_more values fresh (all_seen g.settled) h.all h.satisfy)) s))
+
+-- ---- the rows of a goal
+
+-- where its terms are set beside those that are kept
+pub asked : (which : Kind) (facts : List Lit) (l : Lit) (g : SolvedSystem) (fresh : List Term) → IsSolvedSystem which facts g → fresh ≡ terms_added which g.terms.items (l ∷ []) → rows_added_by_goal which facts fresh l ≡ further which facts l
+asked which facts l g fresh solved_system e = ap (λ ts. rows_added_by_goal which facts ts l) (e ∙ ap (λ ts. terms_added which ts (l ∷ [])) solved_system.terms)
+
+pub goal_together : (which : Kind) (facts : List Lit) (l : Lit) (g : SolvedSystem) (names : List RowName) (rows : List GivenRow) → IsSolvedSystem which facts g → AreNamed (further which facts l) names rows → AreTogether which facts (Some l) g names rows
+goal_together which facts l g names rows solved_system more = record {
+  all = solved_system.rows ++ further which facts l;
+  order = one_order (solved_system.rows ++ further which facts l) (system which facts None ++ further which facts l) (system which facts (Some l))
+      (reordered_more solved_system.rows (system which facts None) (further which facts l) solved_system.order) (with_further which facts l);
+  named = named_append solved_system.rows (further which facts l) g.names.items names g.rows.items rows solved_system.named more;
+  settled = solved_system.settled;
+}

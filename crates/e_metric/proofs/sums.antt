@@ -1,0 +1,9 @@
+-- Certificates, as sums of rows.
+pub mod RefutingSums
+pub mod SystemCertificates
+pub mod Multipliers
+pub mod RowNames
+pub mod ScopeOfSums
+pub mod WrittenSums
+pub mod UsedRows
+pub mod ZippedRows

@@ -1,0 +1,35 @@
+-- What holds before a line, and where an inner block is entered.
+use Rattle.std.specs.Prelude.{List, length, take}
+use Rattle.e_literal.specs.declared.literal.Lit.{Lit}
+use Rattle.e_literal.specs.Facts.{joined_all}
+use Rattle.e_literal.specs.Scopes.{grown}
+use Rattle.e_literal.specs.Use.{Stated, scope_of}
+use Rattle.e_construct.specs.declared.superpose.Superpose.{Superpose}
+use Rattle.e_construct.specs.Superposing as superposing
+use Rattle.e_deriv.specs.Goal.{Goal, facts_of_statement}
+use Rattle.e_verify.specs.declared.step_state.StepState.{StepState}
+use Rattle.e_verify.specs.declared.step_state.Checkpoint.{Checkpoint}
+use Rattle.e_verify.specs.declared.step_state.Goal.{Goal as CodeGoal}
+
+-- before the first line of a statement's proof
+abbrev pub state_at_start : Stated → StepState
+state_at_start t = record { scope = scope_of t; facts = facts_of_statement t }
+
+-- with these facts in the place of its own
+abbrev pub with_facts : List Lit → StepState → StepState
+with_facts facts x = record x { facts = facts }
+
+-- what the block of a superposition begins with
+abbrev pub state_after_superposed : Superpose → StepState → StepState
+state_after_superposed form x = record { scope = grown x.scope superposing.made; facts = joined_all x.facts (superposing.gives form x.scope) }
+
+abbrev pub checkpoint_of : StepState → Checkpoint
+checkpoint_of x = record { scope = x.scope; facts = length x.facts }
+
+-- where a block was entered
+abbrev pub restored : Checkpoint → StepState → StepState
+restored outer x = record { scope = outer.scope; facts = take outer.facts x.facts }
+
+-- the goal that the code writes
+abbrev pub block_goal : CodeGoal → Goal
+block_goal g = record { made = g.made.now; shown = g.shown.now }

@@ -1,0 +1,83 @@
+//! What holds before a line, and after it.
+
+ghost use Rattle.std.specs.Prelude.{◌≡◌, OnOk};
+ghost use Rattle.e_literal.specs.Literal.{negation};
+ghost use Rattle.e_literal.specs.Facts.{joined, joined_all};
+ghost use Rattle.e_verify.specs.inner.StepStates.{checkpoint_of, restored, with_facts};
+
+use crate::facts::Facts;
+use e_literal::{Lit, Obj, Scope, copy, negate};
+use std::alloc::{AllocError, Global};
+
+/// The objects in scope and the facts before a line.
+#[derive(Drop)]
+pub struct StepState {
+    pub scope: Scope,
+    pub facts: Facts,
+}
+
+/// Where an inner block is entered: the objects in scope, and how many facts there are.
+#[derive(Clone, Copy)]
+pub struct Checkpoint {
+    pub scope: Scope,
+    pub facts: usize,
+}
+
+/// What a block has to show: literals, and the made objects in them.
+#[derive(Clone, Copy)]
+pub struct Goal<'a> {
+    pub made: &'a [Obj],
+    pub shown: &'a [Lit],
+}
+
+impl StepState {
+    /// Where an inner block is entered, for [`StepState::restore`] after it.
+    pub fn checkpoint(&self) -> Checkpoint
+        ensures { result ≡ checkpoint_of self.now }
+    {
+        Checkpoint {
+            scope: self.scope,
+            facts: self.facts.len(),
+        }
+    }
+
+    /// What held where an inner block was entered holds again: its objects and facts are gone.
+    pub fn restore(&mut self, outer: Checkpoint)
+        ensures { self.new ≡ restored outer self.old }
+    {
+        self.scope = outer.scope;
+        self.facts.back_to(outer.facts);
+    }
+
+    /// The literal is a fact.
+    pub fn assume(&mut self, alloc: Global, lit: &Lit) -> Result<(), AllocError>
+        ensures { OnOk result (self.new ≡ with_facts (joined self.old.facts lit.now) self.old) }
+    {
+        self.facts.add(copy(alloc, lit)?)
+    }
+
+    /// The negation of the literal is a fact.
+    pub fn assume_not(&mut self, alloc: Global, lit: &Lit) -> Result<(), AllocError>
+        ensures { OnOk result
+            (self.new ≡ with_facts (joined self.old.facts (negation lit.now)) self.old) }
+    {
+        self.facts.add(negate(copy(alloc, lit)?))
+    }
+
+    /// The literals are facts.
+    pub fn assume_all(&mut self, alloc: Global, lits: &[Lit]) -> Result<(), AllocError>
+        ensures { OnOk result
+            (self.new ≡ with_facts (joined_all self.old.facts lits.now) self.old) }
+    {
+        join_copies(alloc, &mut self.facts, lits)
+    }
+}
+
+fn join_copies(alloc: Global, facts: &mut Facts, lits: &[Lit]) -> Result<(), AllocError>
+    ensures { OnOk result (facts.new ≡ joined_all facts.old lits.now) }
+{
+    for lit in lits {
+        facts.add(copy(alloc, lit)?)?;
+    }
+    Ok(())
+}
