@@ -1,4 +1,5 @@
--- What follows from the definitions of metric and transfer consequence, of systems and of certificates.
+-- What follows from the definitions of metric and transfer consequence, of systems and of
+-- certificates.
 use Rattle.std.specs.Prelude.{ℕ, List, ◌&&◌, Bool, true, IsTrue, Option, Some, None}
 use Rattle.std.specs.List.{list_all}
 use Rattle.e_literal.specs.declared.object.Kind.{Kind}
@@ -58,7 +59,8 @@ abbrev pub is_good_wanted : Option Lit → Bool
 is_good_wanted (Some l) = is_metric l && is_well_formed l
 is_good_wanted None = true
 
--- solutions of the three metric systems, carried to the terms as they are written, are a counterexample
+-- solutions of the three metric systems, carried to the terms as they are written, are a
+-- counterexample
 abbrev pub SolutionsRefute : Type 0
 SolutionsRefute =
     (facts : List Lit) (wanted : Option Lit) (values : Kind → Term → ℕ) →

@@ -1,4 +1,4 @@
-// The lines of the twenty constructions.
+//! The lines of the twenty constructions.
 
 #![allow(non_upper_case_globals)]
 
@@ -12,7 +12,8 @@ use crate::pattern::Avoids;
 use crate::shapes::row;
 use e_literal::Obj;
 
-/// A piece of a line behind the word `let`: the name of a new object, the name of the next argument, or a word.
+/// A piece of a line behind the word `let`: the name of a new object, the name of the next
+/// argument, or a word.
 #[derive(Clone, Copy)]
 pub enum Piece {
     New,

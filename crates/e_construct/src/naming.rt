@@ -1,4 +1,4 @@
-// The objects for the variables of a shape.
+//! The objects for the variables of a shape.
 
 ghost use Rattle.std.specs.Prelude.{◌≡◌, ◌<◌, ◌+◌, ◌^◌, ◌++◌, length, IfOk, false};
 ghost use Rattle.e_literal.specs.Literal.{is_in_scope};
@@ -109,6 +109,7 @@ pub fn image(letters: &[Obj], objects: &[Obj], letter: Obj) -> Option<Obj>
     }
 }
 
+/// Whether two sorts are the same.
 pub fn same_sort(x: Sort, y: Sort) -> bool
     ensures { result ≡ Rattle.e_literal.specs.Scopes.same_sort x y }
 {
@@ -141,6 +142,7 @@ pub fn next_objects(alloc: Global, scope: Scope, letters: &[Obj]) -> Result<Vec<
     Ok(objects)
 }
 
+/// Whether the object is in scope.
 pub fn is_in_scope(scope: Scope, object: Obj) -> bool
     ensures { result ≡ Rattle.e_literal.specs.Literal.is_in_scope scope object }
 {

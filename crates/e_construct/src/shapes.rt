@@ -1,4 +1,4 @@
-// The table of the twenty shapes.
+//! The table of the twenty shapes.
 
 #![allow(non_upper_case_globals)]
 

@@ -1,4 +1,4 @@
-// Superposition: a triangle is put onto a point, along a line.
+//! Superposition: a triangle is put onto a point, along a line.
 
 ghost use Rattle.std.specs.Prelude.{◌≡◌, ◌∷◌, [], ◌<◌, ◌+◌, ◌^◌, ◌++◌, map, IfOk, OnOk, false, true};
 ghost use Rattle.std.specs.Prelude.{nat_lt};
@@ -9,8 +9,8 @@ ghost use Rattle.e_construct.specs.Superposing;
 use e_literal::{Atom, Form, Lit, Mono, Scope, Sort, Term};
 use std::alloc::{AllocError, Global};
 
-/// A superposition: the points `a b c d g h`, and the lines `K L`. The triangle `a b c`, whose side `a b` is on `K`, is put
-/// onto `d`, along `L` towards `g`, and on the side of `L` on which `h` is.
+/// A superposition: the points `a b c d g h`, and the lines `K L`. The triangle `a b c`, whose side
+/// `a b` is on `K`, is put onto `d`, along `L` towards `g`, and on the side of `L` on which `h` is.
 #[derive(Clone, Copy, PartialEq, Eq, Debug)]
 pub struct Superpose {
     pub points: [u16; 6],

@@ -26,7 +26,8 @@ abbrev pub is_strict : Says → ℤ → Bool
 is_strict More n = int_le (pos 1) n
 is_strict _ n = false
 
--- all terms cancel, no row that says at least or more is taken away, and one that says more is added
+-- all terms cancel, no row that says at least or more is taken away, and one that says more is
+-- added
 abbrev pub is_absurd : List Weighed → Bool
 is_absurd ws =
     list_all (λ t. int_eq (total ws t) (pos 0)) (terms_of_rows (map (λ w. w.row) ws))

@@ -1,4 +1,4 @@
-// Normal forms of literals.
+//! Normal forms of literals.
 
 ghost use Rattle.std.specs.Prelude.{◌≡◌, IfOk, OnOk};
 ghost use Rattle.std.specs.List.{fold};
@@ -12,7 +12,7 @@ use crate::object::{Mono, Term};
 use std::alloc::{AllocError, Global};
 use std::collections::BTreeMap;
 
-/// The normal form of a literal. It fails only for want of memory.
+/// The normal form of a literal. It fails only when out of memory.
 pub fn normal(alloc: Global, lit: &Lit) -> Result<Normal, AllocError>
     ensures { IfOk result (λ n. form_of n ≡ normal_form lit.now) }
 {

@@ -1,4 +1,4 @@
-// Images of objects.
+//! Images of objects.
 
 ghost use Rattle.std.specs.Prelude.{◌≡◌, [], ◌∷◌, OnOk, OnErr, IfOk, is_some, map};
 ghost use Rattle.e_literal.specs.Literal.{obj};
@@ -18,7 +18,8 @@ pub struct Entry {
 
 /// A finite map from objects to objects of their sorts.
 ///
-/// Contracts see the list of what was set, the last first; the image of an object is that of the first entry with it.
+/// Contracts see the list of what was set, the last first; the image of an object is that of the
+/// first entry with it.
 #[derive(Drop)]
 pub struct Map {
     entries: Vec<Entry>,
@@ -43,9 +44,10 @@ impl Map {
         }
     }
 
-    /// The map that sends each object to the one in its place, and an object that stands twice to that of its first place.
+    /// The map that sends each object to the one in its place, and an object that stands twice to
+    /// that of its first place.
     ///
-    /// It fails only for want of memory.
+    /// It fails only when out of memory.
     pub fn paired(alloc: Global, from: &[Obj], to: &[Obj]) -> Result<Self, AllocError>
         requires one_sort { map (λ o. o.sort) from.now ≡ map (λ o. o.sort) to.now }
         ensures { IfOk result (λ m. m ≡ paired from.now to.now) }
@@ -62,7 +64,7 @@ impl Map {
 
     /// From now on `to` is the image of `from`, and each other object keeps its image.
     ///
-    /// It fails only for want of memory, and then the map is as before.
+    /// It fails only when out of memory, and then the map is as before.
     pub fn set(&mut self, from: Obj, to: Obj) -> Result<(), AllocError>
         requires one_sort { from.sort ≡ to.sort }
         ensures ok { OnOk result (self.new ≡ record { source = from; target = to } ∷ self.old) }

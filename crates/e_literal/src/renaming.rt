@@ -1,4 +1,4 @@
-// Literals with the images of their objects.
+//! Literals with the images of their objects.
 
 ghost use Rattle.std.specs.Prelude.{◌≡◌, IfOk, List, is_some, map as map_list};
 ghost use Rattle.std.specs.List.{list_all};
@@ -12,9 +12,10 @@ use crate::map::Map;
 use crate::object::{Mono, Sort, Term};
 use std::alloc::{AllocError, Global};
 
-/// The literal with the image of each object for it; none exactly where an object of it has no image.
+/// The literal with the image of each object for it; none exactly where an object of it has no
+/// image.
 ///
-/// It fails only for want of memory.
+/// It fails only when out of memory.
 pub fn rename(alloc: Global, lit: &Lit, map: &Map) -> Result<Option<Lit>, AllocError>
     ensures { IfOk result (λ r. r ≡ Rattle.e_literal.specs.Rename.rename (image_in map.now) lit.now) }
 {
@@ -27,7 +28,7 @@ pub fn rename(alloc: Global, lit: &Lit, map: &Map) -> Result<Option<Lit>, AllocE
 
 /// The literal with the image of each object for it, where an object without image stays.
 ///
-/// It fails only for want of memory.
+/// It fails only when out of memory.
 pub fn renamed(alloc: Global, lit: &Lit, map: &Map) -> Result<Lit, AllocError>
     ensures { IfOk result (λ r. r ≡ Rattle.e_literal.specs.Rename.renamed (image_in map.now) lit.now) }
 {

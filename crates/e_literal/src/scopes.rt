@@ -1,4 +1,4 @@
-// Scopes that grow: new objects take the next numbers of their sort.
+//! Scopes that grow: new objects take the next numbers of their sort.
 
 ghost use Rattle.std.specs.Prelude.{◌≡◌, ◌<◌, ◌+◌, ◌^◌, length, IfOk};
 ghost use Rattle.e_literal.specs.Literal.{count_of};
@@ -56,7 +56,7 @@ pub fn grown(scope: Scope, sorts: &[Sort]) -> Scope
 
 /// The objects that come next, one for each sort of the list.
 ///
-/// It fails only for want of memory.
+/// It fails only when out of memory.
 #[tactic(auto, using(crate::proofs::Growing::growing))]
 pub fn next_objects(alloc: Global, scope: Scope, sorts: &[Sort]) -> Result<Vec<Obj>, AllocError>
     requires points { scope.points + length sorts.now < 2 ^ 16 }

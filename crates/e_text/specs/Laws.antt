@@ -17,8 +17,8 @@ WrittenLinesAreRead = (w : Bounds) (at : Spot) (lines : List (List ℕ)) → Are
 abbrev pub OneByteMoreIsEnough : Type 0
 OneByteMoreIsEnough = (w : Bounds) (at : Spot) (text : List ℕ) → at.before ≤ w.most → lines_of w at (take (w.most + 1 - at.before) text) ≡ lines_of w at text
 
--- The lines of a text whose front is closed are those of the front and, where none of these has a fault, those of the rest: so they are
--- known before the rest is.
+-- The lines of a text whose front is closed are those of the front and, where none of these has a
+-- fault, those of the rest: so they are known before the rest is.
 abbrev pub FrontsAreRead : Type 0
 FrontsAreRead = (w : Bounds) (at : Spot) (front more : List ℕ) → IsClosed front
     → lines_of w at (front ++ more) ≡ then_more (lines_of w at front) (lines_of w (spot_after w at front) more)

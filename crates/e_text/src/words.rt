@@ -3,7 +3,8 @@ ghost use Rattle.std.specs.Prelude.{◌≡◌, IsTrue};
 ghost use Rattle.std.specs.Str.{bytes_eq};
 ghost use Rattle.e_text.specs.Names.{is_reserved, is_statement_word, is_steps_word, is_relations_word, is_shapes_word, is_others_word, has_small_second};
 
-/// Whether a token is this word. Their last bytes are looked at first, since most words of one length differ there.
+/// Whether a token is this word. Their last bytes are looked at first, since most words of one
+/// length differ there.
 pub fn is(token: &[u8], word: &[u8]) -> bool
     ensures { result ≡ bytes_eq token.now word.now }
 {
@@ -20,7 +21,8 @@ fn end_alike(a: &[u8], b: &[u8]) -> bool
     a.len() == b.len() && (a.is_empty() || a[a.len() - 1] == b[b.len() - 1])
 }
 
-/// Whether the second byte is a small letter, as that of every word of the language; most names have none there.
+/// Whether the second byte is a small letter, as that of every word of the language; most names
+/// have none there.
 fn has_small_second(token: &[u8]) -> bool
     ensures { result ≡ has_small_second token.now }
 {

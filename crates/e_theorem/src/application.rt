@@ -1,4 +1,5 @@
-//! The use of a statement: its literals at arguments for the declared objects and new objects for the made ones.
+//! The use of a statement: its literals at arguments for the declared objects and new objects for
+//! the made ones.
 
 ghost use Rattle.std.specs.Prelude.{◌≡◌, ◌<◌, ◌+◌, ◌^◌, ◌++◌, IsTrue, IfOk, IfErr, length, take, map as map_list};
 ghost use Rattle.e_literal.specs.declared.object.Obj.{Obj as Object};
@@ -29,7 +30,7 @@ pub enum UseFault {
     /// They are not one object in scope for each declared object, of its sort.
     #[error("the arguments do not fit the declared objects")]
     BadArgs,
-    /// Want of memory.
+    /// Out of memory.
     #[error("out of memory")]
     NoMemory,
 }
@@ -42,10 +43,12 @@ impl From<AllocError> for UseFault {
     }
 }
 
-/// The use of the statement at these arguments: its given literals with the arguments for the declared objects, and
-/// its shown literals with the next objects of the scope for the made ones too.
+/// The use of the statement at these arguments: its given literals with the arguments for the
+/// declared objects, and its shown literals with the next objects of the scope for the made ones
+/// too.
 ///
-/// `BadArgs` exactly where the arguments are not one object in scope for each declared object, of its sort.
+/// `BadArgs` exactly where the arguments are not one object in scope for each declared object, of
+/// its sort.
 pub fn use_of(
     alloc: Global,
     statement: &Statement,
@@ -71,9 +74,11 @@ pub fn use_of(
     })
 }
 
-/// What a notion says of these arguments: its literals with the arguments for its declared objects, in order.
+/// What a notion says of these arguments: its literals with the arguments for its declared objects,
+/// in order.
 ///
-/// `BadArgs` exactly where the arguments are not one object in scope for each declared object, of its sort.
+/// `BadArgs` exactly where the arguments are not one object in scope for each declared object, of
+/// its sort.
 pub fn expand(
     alloc: Global,
     notion: &Notion,
@@ -88,7 +93,8 @@ pub fn expand(
     expand_first(alloc, notion, args, scope, notion.means.len())
 }
 
-/// The first n literals of what a notion says of these arguments, or all where there are fewer; `BadArgs` as `expand`.
+/// The first n literals of what a notion says of these arguments, or all where there are fewer;
+/// `BadArgs` as `expand`.
 pub fn expand_first(
     alloc: Global,
     notion: &Notion,
@@ -172,7 +178,7 @@ fn at(alloc: Global, lits: &[Lit], images: &Map) -> Result<Items<Lit>, AllocErro
     Ok(Items::new(at))
 }
 
-/// The literals with the images of their objects, in their order. It fails only for want of memory.
+/// The literals with the images of their objects, in their order. It fails only when out of memory.
 pub fn all_renamed(alloc: Global, lits: &[Lit], images: &Map) -> Result<Vec<Lit>, AllocError>
     ensures { IfOk result (λ ls. ls.items ≡ map_list (at_images (image_in images.now)) lits.now) }
 {
