@@ -1,11 +1,13 @@
--- A token without a small letter in the second place is no reserved word.
-use Rattle.std.proofs.Common.{◌≡◌, ℕ, Bool, true, false, ◌||◌, List, [], ◌∷◌, refl, sym, ◌∙◌, subst, true≢false}
-use Rattle.std.specs.Prelude.{codes}
+-- What all reserved words have, and how a token is looked up among them.
+use Rattle.std.proofs.Common.{◌≡◌, ℕ, Bool, true, false, ◌||◌, List, [], ◌∷◌, map, refl, sym, ap, ◌∙◌, subst, true≢false}
 use Rattle.std.specs.List.{list_all, list_any}
 use Rattle.std.specs.Str.{bytes_eq}
 use Rattle.std.proofs.lemmas.Slice.Eq.{bytes_eq-Decides}
 use Rattle.std.proofs.lemmas.Bool.{and_parts}
-use Rattle.e_text.specs.Names.{is_statement_word, is_steps_word, is_relations_word, is_shapes_word, is_others_word, is_reserved, has_small_second}
+use Rattle.e_text.specs.Names.{reserved_words, is_reserved}
+use Rattle.e_text.specs.inner.Words.{has_small_second}
+
+-- ---- the second byte
 
 either : (a b small : Bool) → (a ≡ true → small ≡ true) → (b ≡ true → small ≡ true) → (a || b) ≡ true → small ≡ true
 either true b small f g h = f refl
@@ -19,33 +21,20 @@ one_of token (word ∷ words) all h =
     either (bytes_eq token word) (list_any (bytes_eq token) words) (has_small_second token)
     (λ k. subst (λ w. has_small_second w ≡ true) (sym ((bytes_eq-Decides token word).0 k)) p.0) (one_of token words p.1) h
 
-statement : (token : List ℕ) → is_statement_word token ≡ true → has_small_second token ≡ true
-unfolding is_statement_word
-statement token = one_of token (codes "theorem" ∷ codes "points" ∷ codes "lines" ∷ codes "circles" ∷ codes "given" ∷ codes "made" ∷ codes "show" ∷ codes "proof" ∷ codes "end" ∷ []) refl
-
-steps : (token : List ℕ) → is_steps_word token ≡ true → has_small_second token ≡ true
-unfolding is_steps_word
-steps token = one_of token (codes "by" ∷ codes "hence" ∷ codes "let" ∷ codes "apply" ∷ codes "as" ∷ codes "claim" ∷ codes "superpose" ∷ codes "onto" ∷ codes "qed" ∷ []) refl
-
-relations : (token : List ℕ) → is_relations_word token ≡ true → has_small_second token ≡ true
-unfolding is_relations_word
-relations token = one_of token (codes "contradiction" ∷ codes "cases" ∷ codes "else" ∷ codes "not" ∷ codes "on" ∷ codes "inside" ∷ codes "center" ∷ codes "between" ∷ codes "meets" ∷ []) refl
-
-shapes : (token : List ℕ) → is_shapes_word token ≡ true → has_small_second token ≡ true
-unfolding is_shapes_word
-shapes token = one_of token (codes "seg" ∷ codes "ang" ∷ codes "area" ∷ codes "right" ∷ codes "point" ∷ codes "line" ∷ codes "circle" ∷ codes "side" ∷ codes "opposite" ∷ []) refl
-
-others : (token : List ℕ) → is_others_word token ≡ true → has_small_second token ≡ true
-unfolding is_others_word
-others token = one_of token (codes "of" ∷ codes "beyond" ∷ codes "from" ∷ codes "outside" ∷ codes "meet" ∷ codes "centers" ∷ codes "avoid" ∷ codes "define" ∷ codes "figure" ∷ []) refl
-
-reserved_small : (token : List ℕ) → is_reserved token ≡ true → has_small_second token ≡ true
-reserved_small token =
-    either _ _ _ (statement token) (either _ _ _ (steps token) (either _ _ _ (relations token) (either _ _ _ (shapes token) (others token))))
+all_small : list_all has_small_second reserved_words ≡ true
+unfolding reserved_words
+all_small = refl
 
 pub not_reserved : (token : List ℕ) → has_small_second token ≡ false → is_reserved token ≡ false
 not_reserved token h = by (is_reserved token) refl
   where
     by : (reserved : Bool) → is_reserved token ≡ reserved → reserved ≡ false
-    by true e = absurd (true≢false (sym (reserved_small token e) ∙ h))
+    by true e = absurd (true≢false (sym (one_of token reserved_words all_small e) ∙ h))
     by false e = refl
+
+-- ---- looked up
+
+-- a test of words, where they are kept as something else
+pub any_of_map : {W : Type 0} (p : List ℕ → Bool) (of : W → List ℕ) (ws : List W) → list_any (λ w. p (of w)) ws ≡ list_any p (map of ws)
+any_of_map p of [] = refl
+any_of_map p of (w ∷ ws) = ap (λ b. p (of w) || b) (any_of_map p of ws)
