@@ -65,12 +65,7 @@ fn has_images(map: &Map, atom: &Atom) -> bool
 fn sum_has_images(map: &Map, sum: &[Mono]) -> bool
     ensures { result ≡ list_all (λ o. is_some (image_in map.now o)) (objects_of_sum sum.now) }
 {
-    for m in sum {
-        if !term_has_images(map, m.term) {
-            return false;
-        }
-    }
-    true
+    sum.iter().all(|m| term_has_images(map, m.term))
 }
 
 fn term_has_images(map: &Map, term: Term) -> bool
