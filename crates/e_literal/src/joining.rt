@@ -2,7 +2,8 @@
 
 ghost use Rattle.std.specs.Prelude.{◌≡◌, IfOk, OnOk};
 ghost use Rattle.std.specs.List.{fold};
-ghost use Rattle.e_literal.specs.NormalForm.{put_term, normal_form};
+ghost use Rattle.e_literal.specs.NormalForm.{normal_form};
+ghost use Rattle.e_literal.specs.inner.Joining.{put_term};
 ghost use Rattle.e_literal.specs.Normal.{atom_of, form_of};
 
 use crate::compare::{canonical, coefficient};
@@ -64,6 +65,7 @@ fn normal_up_to_sign(
 }
 
 // The terms of x - y with their coefficients, but for those with 0.
+#[tactic(auto, using(crate::proofs::NormalForms::grown_is_normal))]
 fn normal_sum(alloc: Global, x: &[Mono], y: &[Mono]) -> Result<BTreeMap<Term, i128>, AllocError>
     ensures { IfOk result (λ m. m.entries ≡ Rattle.e_literal.specs.NormalForm.normal_sum x.now y.now) }
 {
