@@ -6,7 +6,7 @@ ghost use Rattle.e_literal.specs.NormalForm.{normal_form};
 ghost use Rattle.e_literal.specs.inner.Joining.{put_term};
 ghost use Rattle.e_literal.specs.Normal.{atom_of, form_of};
 
-use crate::compare::{canonical, coefficient};
+use crate::compare::{canonical, coefficient_in};
 use crate::literal::{Atom, Lit};
 use crate::normals::{Normal, NormalAtom};
 use crate::object::{Mono, Term};
@@ -110,5 +110,5 @@ fn put_mono(
 fn difference(x: &[Mono], y: &[Mono], term: Term) -> i128
     ensures { result ≡ Rattle.e_literal.specs.NormalForm.difference x.now y.now term }
 {
-    coefficient(x, term) as i128 - coefficient(y, term) as i128
+    coefficient_in(x, term) as i128 - coefficient_in(y, term) as i128
 }
