@@ -1,7 +1,6 @@
 // Values of all terms, with which a metric literal that does not follow is mostly seen to be false, at no great cost.
 
 ghost use Rattle.std.specs.Prelude.{◌≡◌, map, IfSome, IsTrue, true, false};
-ghost use Rattle.e_literal.specs.Facts.{are_apart};
 ghost use Rattle.e_literal.specs.Truth.{holds, all_hold, value_of};
 ghost use Rattle.e_clause.specs.Assignment.{terms_of_atom, terms_of_lits};
 ghost use Rattle.e_clause.specs.Metric.{MetricConsequence};
@@ -141,27 +140,12 @@ fn is_false(filling: Filling, values: &[(Term, u128)], lit: &Lit) -> bool
     }
 }
 
-/// Whether the facts say that the points differ.
-fn apart(facts: &Facts, a: u16, b: u16) -> bool
-    ensures { result ≡ are_apart facts.now a b }
-{
-    let first = Lit {
-        neg: true,
-        atom: Atom::EqP(a, b),
-    };
-    let second = Lit {
-        neg: true,
-        atom: Atom::EqP(b, a),
-    };
-    facts.has(&first) || facts.has(&second)
-}
-
 /// Whether a term of a step may have its value.
 fn may_have(facts: &Facts, filling: Filling, values: &[(Term, u128)], term: Term) -> bool
     ensures { result ≡ true → IsTrue (fits_term facts.now (value_by filling values.now) term) }
 {
     match term {
-        Term::Seg(a, b) => value(filling, values, term) >= 1 || !apart(facts, a, b),
+        Term::Seg(a, b) => value(filling, values, term) >= 1 || !facts.tell_apart(a, b),
         Term::Ang(_, _, _) => match value(filling, values, Term::Right).checked_mul(2) {
             Some(most) => value(filling, values, term) <= most,
             None => false,
