@@ -94,7 +94,7 @@ static ROWS: [Row; 20] = [
 pub fn row(shape: Shape) -> &'static Row
     ensures row { row_said result.now ≡ shape_row shape }
     ensures sorts { result.now.sorts.now ≡ sorts_of (shape_row shape).made }
-    ensures few { length result.now.made.now ≤ 2 }
+    ensures few { length result.now.sorts.now ≤ 2 }
 {
     match shape {
         Shape::Free => &ROWS[0],

@@ -10,7 +10,7 @@ ghost use Rattle.e_figure.specs.Law.{true_at, are_in_figure, LawFaultIs};
 use crate::figure::Figure;
 use crate::truth::holds;
 use e_clause::{InstanceFault, Rule, instance};
-use e_literal::{Lit, Obj, Scope, count};
+use e_literal::{Lit, Obj, Scope, object_in_scope};
 use std::alloc::Global;
 use thiserror::Error;
 
@@ -70,11 +70,5 @@ fn instance_in(
 fn are_in_scope(scope: Scope, objects: &[Obj]) -> bool
     ensures { result ≡ list_all (Literal.is_in_scope scope) objects.now }
 {
-    objects.iter().all(|o| is_in_scope(scope, *o))
-}
-
-fn is_in_scope(scope: Scope, object: Obj) -> bool
-    ensures { result ≡ Literal.is_in_scope scope object }
-{
-    object.num < count(scope, object.sort)
+    objects.iter().all(|o| object_in_scope(scope, *o))
 }

@@ -2,7 +2,6 @@
 
 ghost use Rattle.std.specs.Prelude.{◌≡◌, [], ◌∷◌, OnOk, OnErr, IfOk, is_some, map};
 ghost use Rattle.e_literal.specs.Literal.{obj};
-ghost use Rattle.e_literal.specs.Scopes.{same_sort};
 ghost use Rattle.e_literal.specs.Rename.{image_in, number_at, paired, same_obj};
 
 use crate::object::{Obj, Sort};
@@ -107,26 +106,16 @@ fn image_among(entries: &[Entry], object: Obj) -> Option<Obj>
     ensures { result ≡ image_in entries.now object }
 {
     for entry in entries {
-        if is_same(entry.source, object) {
+        if is_same_object(entry.source, object) {
             return Some(entry.target);
         }
     }
     None
 }
 
-fn is_same(a: Obj, b: Obj) -> bool
+/// Whether two objects are the same.
+pub fn is_same_object(a: Obj, b: Obj) -> bool
     ensures { result ≡ same_obj a b }
 {
-    is_same_sort(a.sort, b.sort) && a.num == b.num
-}
-
-fn is_same_sort(a: Sort, b: Sort) -> bool
-    ensures { result ≡ same_sort a b }
-{
-    match (a, b) {
-        (Sort::Point, Sort::Point) | (Sort::Line, Sort::Line) | (Sort::Circle, Sort::Circle) => {
-            true
-        }
-        _ => false,
-    }
+    a == b
 }

@@ -1,8 +1,9 @@
 //! Scopes that grow: new objects take the next numbers of their sort.
 
 ghost use Rattle.std.specs.Prelude.{◌≡◌, ◌<◌, ◌+◌, ◌^◌, length, IfOk};
-ghost use Rattle.e_literal.specs.Literal.{count_of};
+ghost use Rattle.e_literal.specs.Literal.{count_of, is_in_scope};
 ghost use Rattle.e_literal.specs.Scopes;
+ghost use Rattle.e_literal.specs.Scopes.{same_sort};
 
 use crate::object::{Obj, Scope, Sort};
 use std::alloc::{AllocError, Global};
@@ -16,6 +17,20 @@ pub fn count(scope: Scope, sort: Sort) -> u16
         Sort::Line => scope.lines,
         Sort::Circle => scope.circles,
     }
+}
+
+/// Whether the object is in scope: its number is below the count of its sort.
+pub fn object_in_scope(scope: Scope, object: Obj) -> bool
+    ensures { result ≡ is_in_scope scope object }
+{
+    object.num < count(scope, object.sort)
+}
+
+/// Whether two sorts are the same.
+pub fn is_same_sort(a: Sort, b: Sort) -> bool
+    ensures { result ≡ same_sort a b }
+{
+    a == b
 }
 
 /// The scope with one more object of the sort.
