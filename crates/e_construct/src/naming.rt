@@ -3,6 +3,7 @@
 ghost use Rattle.std.specs.Prelude.{◌≡◌, false};
 ghost use Rattle.e_literal.specs.Rename.{image_in, paired, number_at, renamed};
 ghost use Rattle.e_literal.specs.declared.object.Sort.TheVariants.{Point, Line, Circle};
+ghost use Rattle.e_literal.specs.Scopes;
 ghost use Rattle.e_construct.specs.Construct.{sorts_of};
 ghost use Rattle.e_construct.specs.Views.{atom_of, lit_of, image_of};
 
@@ -109,7 +110,7 @@ pub fn image(letters: &[Obj], objects: &[Obj], letter: Obj) -> Option<Obj>
 /// Whether the objects are as many as the variables, of their sorts, and in scope.
 #[tactic(auto, using(crate::proofs::Images::empties))]
 pub fn are_of_sorts(scope: Scope, letters: &[Obj], objects: &[Obj]) -> bool
-    ensures { result ≡ Rattle.e_literal.specs.Scopes.are_of_sorts scope (sorts_of letters.now) objects.now }
+    ensures { result ≡ Scopes.are_of_sorts scope (sorts_of letters.now) objects.now }
 {
     match (letters, objects) {
         ([], []) => true,

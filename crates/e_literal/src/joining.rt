@@ -2,6 +2,7 @@
 
 ghost use Rattle.std.specs.Prelude.{◌≡◌, IfOk, OnOk};
 ghost use Rattle.std.specs.List.{fold};
+ghost use Rattle.e_literal.specs.NormalForm;
 ghost use Rattle.e_literal.specs.NormalForm.{normal_form};
 ghost use Rattle.e_literal.specs.inner.Joining.{put_term};
 ghost use Rattle.e_literal.specs.Normal.{atom_of, form_of};
@@ -25,7 +26,7 @@ pub fn normal(alloc: Global, lit: &Lit) -> Result<Normal, AllocError>
 }
 
 fn normal_atom(alloc: Global, atom: &Atom) -> Result<NormalAtom, AllocError>
-    ensures { IfOk result (λ a. atom_of a ≡ Rattle.e_literal.specs.NormalForm.normal_atom atom.now) }
+    ensures { IfOk result (λ a. atom_of a ≡ NormalForm.normal_atom atom.now) }
 {
     match atom {
         Atom::On(a, b) => Ok(NormalAtom::On(*a, *b)),
@@ -57,7 +58,7 @@ fn normal_up_to_sign(
     x: &[Mono],
     y: &[Mono],
 ) -> Result<BTreeMap<Term, i128>, AllocError>
-    ensures { IfOk result (λ m. m.entries ≡ Rattle.e_literal.specs.NormalForm.normal_up_to_sign x.now y.now) }
+    ensures { IfOk result (λ m. m.entries ≡ NormalForm.normal_up_to_sign x.now y.now) }
 {
     let form = normal_sum(alloc, x, y)?;
     let negative = normal_sum(alloc, y, x)?;
@@ -67,7 +68,7 @@ fn normal_up_to_sign(
 // The terms of x - y with their coefficients, but for those with 0.
 #[tactic(auto, using(crate::proofs::NormalForms::grown_is_normal))]
 fn normal_sum(alloc: Global, x: &[Mono], y: &[Mono]) -> Result<BTreeMap<Term, i128>, AllocError>
-    ensures { IfOk result (λ m. m.entries ≡ Rattle.e_literal.specs.NormalForm.normal_sum x.now y.now) }
+    ensures { IfOk result (λ m. m.entries ≡ NormalForm.normal_sum x.now y.now) }
 {
     let mut form = BTreeMap::new(alloc);
     put_terms(&mut form, x, y, x)?;
@@ -108,7 +109,7 @@ fn put_mono(
 
 // The coefficient of a term in x - y.
 fn difference(x: &[Mono], y: &[Mono], term: Term) -> i128
-    ensures { result ≡ Rattle.e_literal.specs.NormalForm.difference x.now y.now term }
+    ensures { result ≡ NormalForm.difference x.now y.now term }
 {
     coefficient_in(x, term) as i128 - coefficient_in(y, term) as i128
 }

@@ -4,6 +4,7 @@ ghost use Rattle.std.specs.Prelude.{◌≡◌, IfOk, List, is_some, map as map_l
 ghost use Rattle.std.specs.List.{list_all};
 ghost use Rattle.e_literal.specs.declared.object.Sort.TheVariants.{Point, Line, Circle};
 ghost use Rattle.e_literal.specs.Literal.{objects_of_atom, objects_of_sum, objects_of_term};
+ghost use Rattle.e_literal.specs.Rename;
 ghost use Rattle.e_literal.specs.Rename.{image_in, number_at, term_at, mono_at, atom_at};
 
 use crate::form::Form;
@@ -17,7 +18,7 @@ use std::alloc::{AllocError, Global};
 ///
 /// It fails only when out of memory.
 pub fn rename(alloc: Global, lit: &Lit, map: &Map) -> Result<Option<Lit>, AllocError>
-    ensures { IfOk result (λ r. r ≡ Rattle.e_literal.specs.Rename.rename (image_in map.now) lit.now) }
+    ensures { IfOk result (λ r. r ≡ Rename.rename (image_in map.now) lit.now) }
 {
     if !has_images(map, &lit.atom) {
         return Ok(None);
@@ -30,7 +31,7 @@ pub fn rename(alloc: Global, lit: &Lit, map: &Map) -> Result<Option<Lit>, AllocE
 ///
 /// It fails only when out of memory.
 pub fn renamed(alloc: Global, lit: &Lit, map: &Map) -> Result<Lit, AllocError>
-    ensures { IfOk result (λ r. r ≡ Rattle.e_literal.specs.Rename.renamed (image_in map.now) lit.now) }
+    ensures { IfOk result (λ r. r ≡ Rename.renamed (image_in map.now) lit.now) }
 {
     let atom = renamed_atom(alloc, &lit.atom, map)?;
     Ok(Lit { neg: lit.neg, atom })
