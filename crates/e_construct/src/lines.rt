@@ -115,28 +115,7 @@ pub fn all_shapes() -> &'static [Shape]
 pub fn pieces(shape: Shape) -> &'static [Piece]
     ensures { map piece_said result.now ≡ Lines.pieces shape }
 {
-    match shape {
-        Shape::Free => LINES[0],
-        Shape::OnLine => LINES[1],
-        Shape::Within => LINES[2],
-        Shape::Beyond => LINES[3],
-        Shape::SideOf => LINES[4],
-        Shape::Opposite => LINES[5],
-        Shape::OnCircle => LINES[6],
-        Shape::Inside => LINES[7],
-        Shape::Outside => LINES[8],
-        Shape::LineThrough => LINES[9],
-        Shape::CircleAt => LINES[10],
-        Shape::MeetLines => LINES[11],
-        Shape::MeetOne => LINES[12],
-        Shape::MeetBoth => LINES[13],
-        Shape::MeetWithin => LINES[14],
-        Shape::MeetBeyond => LINES[15],
-        Shape::CirclesOne => LINES[16],
-        Shape::CirclesBoth => LINES[17],
-        Shape::CirclesSide => LINES[18],
-        Shape::CirclesOpposite => LINES[19],
-    }
+    LINES[shape as usize]
 }
 
 /// Whether the line of a shape may end with the word `avoid` and objects.

@@ -96,26 +96,5 @@ pub fn row(shape: Shape) -> &'static Row
     ensures sorts { result.now.sorts.now ≡ sorts_of (shape_row shape).made }
     ensures few { length result.now.sorts.now ≤ 2 }
 {
-    match shape {
-        Shape::Free => &ROWS[0],
-        Shape::OnLine => &ROWS[1],
-        Shape::Within => &ROWS[2],
-        Shape::Beyond => &ROWS[3],
-        Shape::SideOf => &ROWS[4],
-        Shape::Opposite => &ROWS[5],
-        Shape::OnCircle => &ROWS[6],
-        Shape::Inside => &ROWS[7],
-        Shape::Outside => &ROWS[8],
-        Shape::LineThrough => &ROWS[9],
-        Shape::CircleAt => &ROWS[10],
-        Shape::MeetLines => &ROWS[11],
-        Shape::MeetOne => &ROWS[12],
-        Shape::MeetBoth => &ROWS[13],
-        Shape::MeetWithin => &ROWS[14],
-        Shape::MeetBeyond => &ROWS[15],
-        Shape::CirclesOne => &ROWS[16],
-        Shape::CirclesBoth => &ROWS[17],
-        Shape::CirclesSide => &ROWS[18],
-        Shape::CirclesOpposite => &ROWS[19],
-    }
+    &ROWS[shape as usize]
 }
