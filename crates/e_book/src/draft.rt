@@ -23,7 +23,7 @@ use crate::theorem::Theorem;
 use crate::theorems::Theorems;
 use e_construct::Construction;
 use e_deriv::{Names, Step};
-use e_literal::{Items, Lit, Scope, Sort, grown};
+use e_literal::{Items, Lit, NOTHING, Scope, Sort, grown};
 use e_text::{Name, Title};
 use e_theorem::Statement;
 use std::alloc::{AllocError, Global};
@@ -334,12 +334,7 @@ impl Draft {
         ensures value { Moves result self.new (proof_begun self.old) }
         ensures fits { OnOk result (FitsScope self.new) }
     {
-        let nothing = Scope {
-            points: 0,
-            lines: 0,
-            circles: 0,
-        };
-        let scope = grown(nothing, self.declared.items());
+        let scope = grown(NOTHING, self.declared.items());
         let first = self.names.first(alloc, scope)?;
         mem::drop(mem::replace(&mut self.in_scope, first));
         self.place = Place::Proving;

@@ -15,7 +15,7 @@ ghost use Rattle.e_licence.specs.FilledBlanks.{FilledIs};
 use crate::context::Context;
 use crate::licensing::{Licensed, licence_by};
 use crate::limits::is_good;
-use e_literal::{Items, Lit, Map, Obj, Scope, count, next_objects, renamed};
+use e_literal::{Items, Lit, Map, NOTHING, Obj, Scope, count, next_objects, renamed};
 use e_metric::{MetricFacts, StepFacts};
 use e_theorem::Statement;
 use e_transfer::{Prepared, Span, Task, Verdict, prepare, search};
@@ -140,12 +140,6 @@ fn matched_by(
         Verdict::TooWide(width) => Ok(Filled::TooWide(width)),
     }
 }
-
-pub const NOTHING: Scope = Scope {
-    points: 0,
-    lines: 0,
-    circles: 0,
-};
 
 /// For each blank the numbers in scope.
 #[tactic(auto, using(crate::proofs::BlankChoices::ending))]

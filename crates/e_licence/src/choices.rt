@@ -10,10 +10,10 @@ ghost use Rattle.e_licence.specs.ChoicesInOrder.{FirstAre};
 ghost use Rattle.e_licence.specs.declared.choices.FirstChoices.TheVariants.{Found};
 ghost use Rattle.e_licence.specs.inner.BlankChoices.{filled};
 
-use crate::blanks::{Blanks, NOTHING, arguments, has_empty, spans};
+use crate::blanks::{Blanks, arguments, has_empty, spans};
 use crate::context::Context;
 use crate::sweep::{Swept, sweep};
-use e_literal::{Items, Obj, Scope, next_objects};
+use e_literal::{Items, NOTHING, Obj, Scope, next_objects};
 use e_metric::{MetricFacts, StepFacts};
 use e_theorem::Statement;
 use e_transfer::{Prepared, prepare};

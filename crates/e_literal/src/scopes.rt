@@ -8,6 +8,13 @@ ghost use Rattle.e_literal.specs.Scopes.{same_sort};
 use crate::object::{Obj, Scope, Sort};
 use std::alloc::{AllocError, Global};
 
+/// The scope with no object.
+pub const NOTHING: Scope = Scope {
+    points: 0,
+    lines: 0,
+    circles: 0,
+};
+
 /// How many objects of the sort are in scope.
 pub fn count(scope: Scope, sort: Sort) -> u16
     ensures { result ≡ count_of scope sort }

@@ -13,7 +13,7 @@ ghost use Rattle.e_prove.specs.inner.StepStates.{start_of, held_at, IsLeft, IsLe
 use e_deriv::Names;
 use e_facts::Facts;
 use e_licence::Context;
-use e_literal::{Lit, Scope, Sort, copy, grown, negate};
+use e_literal::{Lit, NOTHING, Sort, copy, grown, negate};
 use e_text::Name;
 use e_theorem::Statement;
 use std::alloc::{AllocError, Global};
@@ -37,12 +37,7 @@ impl StepState {
         requires good { IsTrue (are_good_facts (scope_of (stated statement.now)) (facts_of_statement (stated statement.now))) }
         ensures { IfOk result (λ x. x ≡ start_of (stated statement.now) names.now) }
     {
-        let nothing = Scope {
-            points: 0,
-            lines: 0,
-            circles: 0,
-        };
-        let scope = grown(nothing, statement.declared.items());
+        let scope = grown(NOTHING, statement.declared.items());
         let names = names.first(alloc, scope)?;
         let facts = facts_of(alloc, statement.given.items())?;
         match Context::new(alloc, scope, facts) {

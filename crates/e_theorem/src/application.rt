@@ -13,7 +13,7 @@ ghost use Rattle.e_theorem.specs.declared.application.UseFault.TheVariants.{NoMe
 
 use crate::notion::Notion;
 use crate::statement::Statement;
-use e_literal::{Items, Lit, Map, Obj, Scope, Sort, count, grown, next_objects, renamed};
+use e_literal::{Items, Lit, Map, NOTHING, Obj, Scope, Sort, count, grown, next_objects, renamed};
 use std::alloc::{AllocError, Global};
 use thiserror::Error;
 
@@ -130,12 +130,6 @@ fn images_declared(
     let images = Map::paired(alloc, &sources, args)?;
     Ok(images)
 }
-
-const NOTHING: Scope = Scope {
-    points: 0,
-    lines: 0,
-    circles: 0,
-};
 
 // The images of the statement's objects: the arguments, and the next objects of the scope.
 fn images(
