@@ -1,7 +1,7 @@
 //! The keys by which diagram literals are looked up.
 
 ghost use Rattle.std.specs.Prelude.{◌≡◌};
-ghost use Rattle.e_facts.specs.Key.{key_of_lit, parts_of_atom};
+ghost use Rattle.e_facts.specs.inner.Key.{key_of_lit, parts_of_atom};
 
 use e_literal::{Atom, Lit};
 
