@@ -5,7 +5,7 @@ ghost use Rattle.e_literal.specs.Rename.{image_in, paired, number_at, renamed};
 ghost use Rattle.e_literal.specs.declared.object.Sort.TheVariants.{Point, Line, Circle};
 ghost use Rattle.e_literal.specs.Scopes;
 ghost use Rattle.e_construct.specs.Construct.{sorts_of};
-ghost use Rattle.e_construct.specs.Views.{atom_of, lit_of, image_of};
+ghost use Rattle.e_construct.specs.inner.Views.{atom_of, lit_of, image_of};
 
 use crate::pattern::{Pattern, Relation};
 use e_literal::{Atom, Lit, Obj, Scope, Sort, is_same_object, object_in_scope};

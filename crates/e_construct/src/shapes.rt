@@ -5,7 +5,7 @@
 ghost use Rattle.std.specs.Prelude.{◌≡◌, ◌≤◌, length};
 ghost use Rattle.e_construct.specs.Shapes.{shape_row};
 ghost use Rattle.e_construct.specs.Construct.{sorts_of};
-ghost use Rattle.e_construct.specs.Views.{row_said};
+ghost use Rattle.e_construct.specs.inner.Views.{row_said};
 
 use crate::construction::Shape;
 use crate::pattern::Avoids::{AnyApartFrom, AnyObject, NoObject};

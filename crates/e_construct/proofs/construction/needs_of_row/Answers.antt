@@ -1,4 +1,4 @@
-use Rattle.e_construct.specs.Views.{row_said}
+use Rattle.e_construct.specs.inner.Views.{row_said}
 use Rattle.e_construct.proofs.Images.{needs_of}
 use Rattle.e_construct.proofs.construction.needs_of_row.Goals as goal
 
