@@ -3,12 +3,10 @@
 ghost use Rattle.std.specs.Prelude.{◌≡◌, false};
 ghost use Rattle.e_literal.specs.Rename.{image_in, paired, number_at, renamed};
 ghost use Rattle.e_literal.specs.declared.object.Sort.TheVariants.{Point, Line, Circle};
-ghost use Rattle.e_literal.specs.Scopes;
-ghost use Rattle.e_construct.specs.Construct.{sorts_of};
 ghost use Rattle.e_construct.specs.inner.Views.{atom_of, lit_of, image_of};
 
 use crate::pattern::{Pattern, Relation};
-use e_literal::{Atom, Lit, Obj, Scope, Sort, is_same_object, object_in_scope};
+use e_literal::{Atom, Lit, Obj, Sort, is_same_object};
 
 /// The arguments in the places of their variables, and the new objects in the places of theirs.
 #[derive(Clone, Copy)]
@@ -104,22 +102,5 @@ pub fn image(letters: &[Obj], objects: &[Obj], letter: Obj) -> Option<Obj>
         }
         ([], _) => None,
         ([_, ..], []) => None,
-    }
-}
-
-/// Whether the objects are as many as the variables, of their sorts, and in scope.
-#[tactic(auto, using(crate::proofs::Images::empties))]
-pub fn are_of_sorts(scope: Scope, letters: &[Obj], objects: &[Obj]) -> bool
-    ensures { result ≡ Scopes.are_of_sorts scope (sorts_of letters.now) objects.now }
-{
-    match (letters, objects) {
-        ([], []) => true,
-        ([letter, letters @ ..], [object, objects @ ..]) => {
-            letter.sort == object.sort
-                && object_in_scope(scope, *object)
-                && are_of_sorts(scope, letters, objects)
-        }
-        ([], [_, ..]) => false,
-        ([_, ..], []) => false,
     }
 }

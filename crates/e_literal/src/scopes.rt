@@ -1,6 +1,6 @@
 //! Scopes that grow: new objects take the next numbers of their sort.
 
-ghost use Rattle.std.specs.Prelude.{◌≡◌, ◌<◌, ◌+◌, ◌^◌, length, IfOk};
+ghost use Rattle.std.specs.Prelude.{◌≡◌, ◌<◌, ◌+◌, ◌^◌, length, map, IfOk};
 ghost use Rattle.e_literal.specs.Literal.{count_of, is_in_scope};
 ghost use Rattle.e_literal.specs.Scopes;
 ghost use Rattle.e_literal.specs.Scopes.{same_sort};
@@ -38,6 +38,23 @@ pub fn is_same_sort(a: Sort, b: Sort) -> bool
     ensures { result ≡ same_sort a b }
 {
     a == b
+}
+
+/// Whether the objects are one for each of these, of its sort, and in scope.
+#[tactic(auto, using(crate::proofs::MatchedSorts::matching))]
+pub fn have_sorts_of(scope: Scope, models: &[Obj], objects: &[Obj]) -> bool
+    ensures { result ≡ Scopes.are_of_sorts scope (map (λ o. o.sort) models.now) objects.now }
+{
+    match (models, objects) {
+        ([], []) => true,
+        ([model, models @ ..], [object, objects @ ..]) => {
+            model.sort == object.sort
+                && object_in_scope(scope, *object)
+                && have_sorts_of(scope, models, objects)
+        }
+        ([], [_, ..]) => false,
+        ([_, ..], []) => false,
+    }
 }
 
 /// The scope with one more object of the sort.

@@ -3,7 +3,6 @@
 ghost use Rattle.std.specs.Prelude.{◌≡◌, List, IfOk, IsTrue, map, true};
 ghost use Rattle.std.specs.List.{list_all};
 ghost use Rattle.std.specs.Option.{option_map_or};
-ghost use Rattle.e_literal.specs.Scopes;
 ghost use Rattle.e_literal.specs.Use.{Stated};
 ghost use Rattle.e_literal.specs.WellFormed.{is_well_formed};
 ghost use Rattle.e_deriv.specs.Certified.{is_certified};
@@ -16,7 +15,7 @@ ghost use Rattle.e_clause.specs.Written.{is_good_cert, is_good_against};
 use crate::certificate::{certifies_against, certify_all};
 use crate::standing::{Goal, Standing};
 use e_clause::{Against, Cert};
-use e_literal::{Lit, Map, Obj, Scope, count};
+use e_literal::{Lit, Map, Obj, have_sorts_of};
 use e_theorem::all_renamed;
 use std::alloc::{AllocError, Global};
 
@@ -33,7 +32,7 @@ pub fn qed(
     requires certs { IsTrue (list_all is_good_cert certs.now) }
     ensures { IfOk result (λ b. (before : List Stated) → b ≡ is_certified before (line_at (Qed objects.now certs.now) standing.now (goal_said goal.now))) }
 {
-    if !are_of_sorts(standing.scope, goal.made, objects) {
+    if !have_sorts_of(standing.scope, goal.made, objects) {
         return Ok(false);
     }
     let wanted = goal_with(alloc, goal, objects)?;
@@ -53,23 +52,6 @@ pub fn contradiction(
     match against {
         Some(against) => certifies_against(alloc, standing.scope, &standing.facts, against),
         None => Ok(false),
-    }
-}
-
-/// Whether the objects are one for each of the made ones, of its sort, and in scope.
-#[tactic(auto, using(crate::proofs::Closing::objects))]
-pub(crate) fn are_of_sorts(scope: Scope, made: &[Obj], objects: &[Obj]) -> bool
-    ensures { result ≡ Scopes.are_of_sorts scope (map (λ o. o.sort) made.now) objects.now }
-{
-    match (made, objects) {
-        ([], []) => true,
-        ([first, made @ ..], [object, objects @ ..]) => {
-            first.sort == object.sort
-                && object.num < count(scope, object.sort)
-                && are_of_sorts(scope, made, objects)
-        }
-        ([], [_, ..]) => false,
-        ([_, ..], []) => false,
     }
 }
 

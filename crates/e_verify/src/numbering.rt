@@ -19,7 +19,7 @@ ghost use Rattle.e_verify.specs.Checking.{KeepsFacts};
 ghost use Rattle.e_verify.specs.inner.Numbering.{HaveFew, IsNumberedStep, places_at};
 ghost use Rattle.e_verify.specs.inner.Standing.{after_superposed, goal_said};
 
-use crate::closes::{are_of_sorts, goal_with};
+use crate::closes::goal_with;
 use crate::ending::{Head, claimed, split, superposed};
 use crate::facts::Facts;
 use crate::places::{placed_against, placed_cert, placed_certs};
@@ -29,7 +29,7 @@ use crate::verifier::begin;
 use e_clause::{Against, By, Cert};
 use e_construct::{Construction, Superpose};
 use e_deriv::{Block, Close, Step, copy_by, copy_construction};
-use e_literal::{Items, Lit, NOTHING, Obj, Scope, copy, grown, next_objects};
+use e_literal::{Items, Lit, NOTHING, Obj, Scope, copy, grown, have_sorts_of, next_objects};
 use e_text::Name;
 use e_theorem::{Statement, UseFault, use_of};
 use std::alloc::{AllocError, Global};
@@ -361,7 +361,7 @@ fn qed(
 ) -> Result<Close, AllocError>
     ensures { IfOk result (λ c. (before : List Stated) → close_script c ≡ places_at before (Qed objects.now certs.now) standing.now (goal_said goal.now)) }
 {
-    if !are_of_sorts(standing.scope, goal.made, objects) {
+    if !have_sorts_of(standing.scope, goal.made, objects) {
         return Err(AllocError);
     }
     let wanted = goal_with(alloc, goal, objects)?;
