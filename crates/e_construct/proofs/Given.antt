@@ -23,7 +23,7 @@ use Rattle.e_construct.specs.Shapes.{ShapeRow, Avoids, NoObject, AnyObject, AnyA
 use Rattle.e_construct.specs.Construct.{row_of, sorts_of, avoids_well, fits, equation, unequal, argument, of_sort, needs_of_avoided, needs, made, meeting, avoiding, gives_of_avoided, gives}
 use Rattle.e_construct.specs.declared.superpose.Superpose.{Superpose}
 use Rattle.e_construct.specs.Superposing as superposing
-use Rattle.e_literal.specs.WellFormed.{is_good_atom, is_well_formed}
+use Rattle.e_literal.specs.WellFormed.{is_well_formed_atom, is_well_formed}
 use Rattle.e_literal.specs.declared.literal.Atom.{Atom}
 use Rattle.e_literal.specs.declared.literal.Atom.TheVariants as atoms
 use Rattle.e_literal.proofs.WithImages.{is_moved_in}
@@ -253,7 +253,7 @@ gives_plain form s h =
 abbrev pub is_good : Scope → Lit → Bool
 is_good s l = all_in_scope s l && is_well_formed l
 
-plain_atom_good : (n : Bool) (a : Atom) → is_plain (record { neg = n; atom = a }) ≡ true → is_good_atom a ≡ true
+plain_atom_good : (n : Bool) (a : Atom) → is_plain (record { neg = n; atom = a }) ≡ true → is_well_formed_atom a ≡ true
 plain_atom_good n (atoms.MagEq x y) h = absurd cc
 plain_atom_good n (atoms.MagLt x y) h = absurd cc
 plain_atom_good n a h = refl

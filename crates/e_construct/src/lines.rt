@@ -5,7 +5,7 @@
 ghost use Rattle.std.specs.Prelude.{◌≡◌, map};
 ghost use Rattle.e_construct.specs.Construct.{sorts_of};
 ghost use Rattle.e_construct.specs.Lines;
-ghost use Rattle.e_construct.specs.Views.{piece_said};
+ghost use Rattle.e_construct.specs.Views.{piece_view};
 
 use crate::construction::Shape;
 use crate::pattern::Avoids;
@@ -113,7 +113,7 @@ pub fn all_shapes() -> &'static [Shape]
 /// The line of a shape, behind the word `let`.
 #[tactic(auto, unfolding(crate::specs::Lines::pieces))]
 pub fn pieces(shape: Shape) -> &'static [Piece]
-    ensures { map piece_said result.now ≡ Lines.pieces shape }
+    ensures { map piece_view result.now ≡ Lines.pieces shape }
 {
     LINES[shape as usize]
 }

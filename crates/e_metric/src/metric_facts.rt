@@ -7,7 +7,7 @@ ghost use Rattle.e_literal.specs.declared.literal.Lit.{Lit};
 ghost use Rattle.e_literal.specs.Literal.{kind_of_atom};
 ghost use Rattle.e_literal.specs.WellFormed.{is_well_formed};
 ghost use Rattle.e_clause.specs.Assignment.{terms_of_lits};
-ghost use Rattle.e_clause.specs.Laws.{is_good_wanted};
+ghost use Rattle.e_clause.specs.Laws.{is_well_formed_metric};
 ghost use Rattle.e_clause.specs.Metric.{MetricConsequence, Unsatisfiable};
 ghost use Rattle.e_clause.specs.System.{of_kind, against_goal};
 ghost use Rattle.e_metric.specs.Fronts.{IsFront, IsFrontAs, AreFronts};
@@ -105,7 +105,7 @@ impl Slot {
         requires front { IsFront which facts.now self.now }
         requires facts { IsTrue (list_all is_well_formed facts.now) }
         requires few { length (terms_of_lits facts.now) ≤ 1100 }
-        requires goal { IsTrue (is_good_wanted (Some goal.now)) }
+        requires goal { IsTrue (is_well_formed_metric (Some goal.now)) }
         ensures { IfOk result (IsKindAnswer which facts.now (Some goal.now)) }
     {
         if self.is_whole(facts) {
@@ -127,7 +127,7 @@ impl Slot {
         requires front { IsFront which facts.now self.now }
         requires facts { IsTrue (list_all is_well_formed facts.now) }
         requires few { length (terms_of_lits facts.now) ≤ 1100 }
-        requires wanted { IsTrue (is_good_wanted (option_copied wanted)) }
+        requires wanted { IsTrue (is_well_formed_metric (option_copied wanted)) }
         requires other { of_kind which (against_goal (option_copied wanted)) ≡ [] }
         ensures { IfOk result (IsKindAnswer which facts.now (option_copied wanted.entry)) }
     {
@@ -309,7 +309,7 @@ impl MetricFacts {
         requires fronts { AreFronts facts.now self.now }
         requires facts { IsTrue (list_all is_well_formed facts.now) }
         requires few { length (terms_of_lits facts.now) ≤ 1100 }
-        requires goal { IsTrue (is_good_wanted (Some goal.now)) }
+        requires goal { IsTrue (is_well_formed_metric (Some goal.now)) }
         ensures { IfOk result (IsKindAnswer which facts.now (Some goal.now)) }
     {
         self.systems.get(which).ask(alloc, which, facts, goal)
@@ -326,7 +326,7 @@ impl MetricFacts {
         requires fronts { AreFronts facts.now self.now }
         requires facts { IsTrue (list_all is_well_formed facts.now) }
         requires few { length (terms_of_lits facts.now) ≤ 1100 }
-        requires wanted { IsTrue (is_good_wanted (option_copied wanted)) }
+        requires wanted { IsTrue (is_well_formed_metric (option_copied wanted)) }
         requires other { of_kind which (against_goal (option_copied wanted)) ≡ [] }
         ensures { IfOk result (IsKindAnswer which facts.now (option_copied wanted.entry)) }
     {
@@ -347,7 +347,7 @@ impl MetricFacts {
         requires fronts { AreFronts facts.now self.now }
         requires facts { IsTrue (list_all is_well_formed facts.now) }
         requires few { length (terms_of_lits facts.now) ≤ 1100 }
-        requires wanted { IsTrue (is_good_wanted (option_copied wanted)) }
+        requires wanted { IsTrue (is_well_formed_metric (option_copied wanted)) }
         requires one { of_kind one (against_goal (option_copied wanted)) ≡ [] }
         requires other { of_kind other (against_goal (option_copied wanted)) ≡ [] }
         ensures one { IfOk result (λ p. IsKindAnswer one facts.now (option_copied wanted.entry) p.0) }
@@ -375,7 +375,7 @@ impl MetricFacts {
         requires fronts { AreFronts facts.now self.now }
         requires facts { IsTrue (list_all is_well_formed facts.now) }
         requires few { length (terms_of_lits facts.now) ≤ 1100 }
-        requires goal { IsTrue (is_good_wanted (Some goal.now)) }
+        requires goal { IsTrue (is_well_formed_metric (Some goal.now)) }
         requires kind { kind_of_atom goal.now.atom ≡ Some which }
         requires own_answer { IsKindAnswer which facts.now (Some goal.now) own_answer }
         ensures segments { IfOk result (λ b. IsKindAnswer Kind.Segment facts.now (Some goal.now) b.segments) }
@@ -432,7 +432,7 @@ impl MetricFacts {
         requires fronts { AreFronts facts.now self.now }
         requires facts { IsTrue (list_all is_well_formed facts.now) }
         requires few { length (terms_of_lits facts.now) ≤ 1100 }
-        requires goal { IsTrue (is_good_wanted (Some goal.now)) }
+        requires goal { IsTrue (is_well_formed_metric (Some goal.now)) }
         requires kind { kind_of_atom goal.now.atom ≡ Some which }
         requires own_answer { IsKindAnswer which facts.now (Some goal.now) own_answer }
         ensures { IfOk result (IsMetricAnswer facts.now (Some goal.now)) }
@@ -452,7 +452,7 @@ impl MetricFacts {
         requires fronts { AreFronts facts.now self.now }
         requires facts { IsTrue (list_all is_well_formed facts.now) }
         requires few { length (terms_of_lits facts.now) ≤ 1100 }
-        requires goal { IsTrue (is_good_wanted (Some goal.now)) }
+        requires goal { IsTrue (is_well_formed_metric (Some goal.now)) }
         requires kind { kind_of_atom goal.now.atom ≡ Some which }
         ensures { IfOk result (IsMetricAnswer facts.now (Some goal.now)) }
     {
@@ -471,7 +471,7 @@ impl MetricFacts {
         requires fronts { AreFronts facts.now self.now }
         requires facts { IsTrue (list_all is_well_formed facts.now) }
         requires few { length (terms_of_lits facts.now) ≤ 1100 }
-        requires goal { IsTrue (is_good_wanted (Some goal.now)) }
+        requires goal { IsTrue (is_well_formed_metric (Some goal.now)) }
         ensures answer { IfOk result (IsMetricAnswer facts.now (Some goal.now)) }
         ensures yes { IfOk result (λ m. IfYes m (MetricConsequence facts.now goal.now)) }
         ensures no { IfOk result (λ m. IfNo m (¬ MetricConsequence facts.now goal.now)) }
@@ -491,7 +491,7 @@ impl MetricFacts {
         requires fronts { AreFronts facts.now self.old }
         requires facts { IsTrue (list_all is_well_formed facts.now) }
         requires few { length (terms_of_lits facts.now) ≤ 1100 }
-        requires goal { IsTrue (is_good_wanted (Some goal.now)) }
+        requires goal { IsTrue (is_well_formed_metric (Some goal.now)) }
         requires kind { kind_of_atom goal.now.atom ≡ Some which }
         ensures answer { IfOk result (IsMetricAnswer facts.now (Some goal.now)) }
         ensures fronts { AreFronts facts.now self.new }
@@ -520,7 +520,7 @@ impl MetricFacts {
         requires fronts { AreFronts facts.now self.old }
         requires facts { IsTrue (list_all is_well_formed facts.now) }
         requires few { length (terms_of_lits facts.now) ≤ 1100 }
-        requires goal { IsTrue (is_good_wanted (Some goal.now)) }
+        requires goal { IsTrue (is_well_formed_metric (Some goal.now)) }
         ensures answer { IfOk result (IsMetricAnswer facts.now (Some goal.now)) }
         ensures yes { IfOk result (λ m. IfYes m (MetricConsequence facts.now goal.now)) }
         ensures no { IfOk result (λ m. IfNo m (¬ MetricConsequence facts.now goal.now)) }
@@ -541,7 +541,7 @@ impl MetricFacts {
         requires fronts { AreFronts facts.now self.old }
         requires facts { IsTrue (list_all is_well_formed facts.now) }
         requires few { length (terms_of_lits facts.now) ≤ 1100 }
-        requires goal { IsTrue (is_good_wanted (Some goal.now)) }
+        requires goal { IsTrue (is_well_formed_metric (Some goal.now)) }
         ensures cert { IfOk result (λ o. IfSome o (IsCertified facts.now (Some goal.now))) }
         ensures fronts { AreFronts facts.now self.new }
     {

@@ -11,7 +11,7 @@ use Rattle.e_literal.specs.Use.{Stated}
 use Rattle.e_literal.proofs.Booleans.{and_left, and_right, all_left, all_right}
 use Rattle.e_clause.specs.declared.cert.Cert.{Cert}
 use Rattle.e_clause.specs.Certify.{certify_all}
-use Rattle.e_clause.specs.Judged.{are_good}
+use Rattle.e_clause.specs.Judged.{are_well_formed_in}
 use Rattle.e_clause.proofs.Sound.{all_allowed_of_certified}
 use Rattle.e_clause.specs.declared.cert.Version.TheVariants as version
 use Rattle.e_clause.specs.Versions.{is_cert_of}
@@ -175,7 +175,7 @@ passed_claim before shown inner derived x n next over d count =
 pub record SuperposedReady (before : List Stated) (form : Superpose) (names : List (List ℕ)) (shown : List Lit) (inner : Script) (x : StepState) : Type 0 where
   pub fits : superposing.fits form x.context.scope ≡ true
   pub over : are_over x.context.scope shown ≡ true
-  pub needs : are_good x.context.scope (superposing.needs form) ≡ true
+  pub needs : are_well_formed_in x.context.scope (superposing.needs form) ≡ true
   pub block : IsReadyFor before inner (after_superposed form names x) (goal_of shown)
   pub scope : is_small x.context.scope ≡ true
 

@@ -16,7 +16,7 @@ use Rattle.e_theorem.specs.declared.statement.Statement.{Statement}
 use Rattle.e_theorem.specs.Statements.{stated, all_stated}
 use Rattle.e_clause.specs.declared.cert.By.{By}
 use Rattle.e_clause.specs.declared.cert.Cert.{Cert}
-use Rattle.e_clause.specs.Judged.{is_good, are_good, are_good_facts}
+use Rattle.e_clause.specs.Judged.{is_well_formed_in, are_well_formed_in, are_limited_facts}
 use Rattle.e_construct.specs.declared.construction.Construction.{Construction}
 use Rattle.e_construct.specs.declared.superpose.Superpose.{Superpose}
 use Rattle.e_construct.specs.Construct.{made, gives, needs as needs_of_form}
@@ -39,7 +39,7 @@ use Rattle.e_prove.proofs.PassedSteps.{lines_begin, first_is}
 use Rattle.e_prove.proofs.InnerBlocks.{ClaimReady, claim_ready, claim_rest, SuperposedReady, superposed_ready, superposed_rest}
 
 -- the facts that a script begins with are good
-pub first_facts : (before : List Stated) (here f : Script) (s : Scope) (facts : List Lit) (goal : Goal) → LitsFit before (lines before here f s facts goal) → are_good_facts s facts ≡ true
+pub first_facts : (before : List Stated) (here f : Script) (s : Scope) (facts : List Lit) (goal : Goal) → LitsFit before (lines before here f s facts goal) → are_limited_facts s facts ≡ true
 first_facts before here f s facts goal h =
     let begun = lines_begin before here f s facts goal in
     (subst (LitsFit before) begun.1 h).0
@@ -58,8 +58,8 @@ room_of_small s h =
 -- ---- steps that have no block inside
 
 pub record LineReady (s : Scope) (needed : List Lit) (next : StepState) : Type 0 where
-  pub needs : are_good s needed ≡ true
-  pub after : are_good_facts next.context.scope next.context.facts ≡ true
+  pub needs : are_well_formed_in s needed ≡ true
+  pub after : are_limited_facts next.context.scope next.context.facts ≡ true
 
 -- the first step of a script that is ready has its form
 form_first : (before : List Stated) (here : Script) (x : StepState) (goal : Goal) → IsReadyFor before here x goal → has_form before (line_at here here x.context goal) ≡ true
@@ -67,13 +67,13 @@ form_first before here x goal r =
     let begun = lines_begin before here here x.context.scope x.context.facts goal in
     first_is (has_form before) (line_at here here x.context goal) begun.0 (lines_at before here here x.context goal) begun.1 r.forms
 
-cite_lits : (before : List Stated) (by : By) (rest : Script) (x : StepState) (goal : Goal) → IsReadyFor before (Cite by rest) x goal → are_good_facts x.context.scope (joined x.context.facts by.lit) ≡ true
+cite_lits : (before : List Stated) (by : By) (rest : Script) (x : StepState) (goal : Goal) → IsReadyFor before (Cite by rest) x goal → are_limited_facts x.context.scope (joined x.context.facts by.lit) ≡ true
 unfolding lines
 cite_lits before by rest x goal r =
     let here = Cite by rest in
     first_facts before rest rest x.context.scope (joined x.context.facts by.lit) goal ((r.lits here).1 (form_first before here x goal r)).1
 
-pub cite_good : (before : List Stated) (by : By) (x : StepState) (n : ℕ) → IsReadyStep before (CiteStep by) x n → are_good_facts x.context.scope (joined x.context.facts by.lit) ≡ true
+pub cite_good : (before : List Stated) (by : By) (x : StepState) (n : ℕ) → IsReadyStep before (CiteStep by) x n → are_limited_facts x.context.scope (joined x.context.facts by.lit) ≡ true
 unfolding step_script
 cite_good before by x n r = cite_lits before by r.rest x r.goal r.ready
 
@@ -88,8 +88,8 @@ pub hence_good : (before : List Stated) (lit : Lit) (cert : Option Cert) (x : St
 unfolding step_script
 hence_good before lit cert x n r = hence_lits before lit cert r.rest x r.goal r.ready
 
-pub one_good : (s : Scope) (lit : Lit) → are_good s (lit ∷ []) ≡ true → is_good s lit ≡ true
-one_good s lit h = and_left (is_good s lit) true h
+pub one_good : (s : Scope) (lit : Lit) → are_well_formed_in s (lit ∷ []) ≡ true → is_well_formed_in s lit ≡ true
+one_good s lit h = and_left (is_well_formed_in s lit) true h
 
 make_lits : (before : List Stated) (form : Construction) (names : List (List ℕ)) (certs : List Cert) (rest : Script) (x : StepState) (goal : Goal) → IsReadyFor before (Make form names certs rest) x goal →
     LineReady x.context.scope (needs_of_form form) (after_make form names x)
@@ -171,7 +171,7 @@ theorem_is (s ∷ ss) (suc k) t lt e = theorem_is ss k t (omega (arith, lt)) e
 -- ---- steps with a block inside
 
 -- a block that is ready begins with good facts
-pub block_facts : (before : List Stated) (d : Script) (x : StepState) (goal : Goal) → IsReadyFor before d x goal → are_good_facts x.context.scope x.context.facts ≡ true
+pub block_facts : (before : List Stated) (d : Script) (x : StepState) (goal : Goal) → IsReadyFor before d x goal → are_limited_facts x.context.scope x.context.facts ≡ true
 block_facts before d x goal r = first_facts before d d x.context.scope x.context.facts goal (r.lits d)
 
 claim_few : (shown : List Lit) (inner rest : Script) (n : ℕ) → n + size (Claim shown inner rest) < 2 ^ 32 → n + 1 + size inner < 2 ^ 32
@@ -186,7 +186,7 @@ pub claim_lines : (before : List Stated) (shown : List Lit) (inner : Box Block G
 claim_lines before shown inner x n r = claim_few shown (script_of inner.value) r.rest n (subst (λ d. n + size d < 2 ^ 32) (step_script-Claim shown inner r.rest) r.few)
 
 pub claim_after : (before : List Stated) (shown : List Lit) (inner : Box Block Global) (derived : Script) (x : StepState) (n : ℕ) → IsDerived before (script_of inner.value) x (goal_of shown) derived →
-    IsReadyStep before (ClaimStep shown inner) x n → are_good_facts x.context.scope (joined_all x.context.facts shown) ≡ true
+    IsReadyStep before (ClaimStep shown inner) x n → are_limited_facts x.context.scope (joined_all x.context.facts shown) ≡ true
 claim_after before shown inner derived x n d r =
     let ready = subst (λ w. IsReadyFor before w x r.goal) (step_script-Claim shown inner r.rest) r.ready in
     block_facts before r.rest (after_block shown x) r.goal (claim_rest before shown (script_of inner.value) derived r.rest x r.goal d ready)
@@ -207,7 +207,7 @@ superposed_lines before form names shown certs inner x n r =
 
 pub superposed_after : (before : List Stated) (form : Superpose) (names : List (List ℕ)) (shown : List Lit) (certs : List Cert) (inner : Box Block Global) (derived : Script) (x : StepState) (n : ℕ) →
     IsDerived before (script_of inner.value) (after_superposed form names x) (goal_of shown) derived → IsReadyStep before (SuperposedStep form names shown certs inner) x n →
-    are_good_facts x.context.scope (joined_all x.context.facts shown) ≡ true
+    are_limited_facts x.context.scope (joined_all x.context.facts shown) ≡ true
 superposed_after before form names shown certs inner derived x n d r =
     let ready = subst (λ w. IsReadyFor before w x r.goal) (step_script-Superposed form names shown certs inner r.rest) r.ready in
     block_facts before r.rest (after_block shown x) r.goal (superposed_rest before form names shown certs (script_of inner.value) derived r.rest x r.goal d ready)

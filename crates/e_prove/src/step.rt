@@ -4,7 +4,7 @@ ghost use Rattle.std.specs.List.{list_all};
 ghost use Rattle.e_literal.specs.Use.{Stated};
 ghost use Rattle.e_literal.specs.Facts.{joined};
 ghost use Rattle.e_clause.specs.declared.cert.Cert.{Cert as Certificate};
-ghost use Rattle.e_clause.specs.Judged.{is_good, are_good, are_good_facts};
+ghost use Rattle.e_clause.specs.Judged.{is_well_formed_in, are_well_formed_in, are_limited_facts};
 ghost use Rattle.e_construct.specs.Construct;
 ghost use Rattle.e_deriv.specs.declared.block.Step.TheVariants.{Cite, Hence, Make};
 ghost use Rattle.e_construct.specs.Superposing;
@@ -29,7 +29,7 @@ use std::mem;
 /// A citation: its literal is one of the instance, and the negation of each other is a fact.
 #[tactic(auto, unfolding(e_deriv::specs::Script::step_script))]
 pub fn cite(alloc: Global, by: &By, state: &mut StepState) -> Result<Step, StepStop>
-    requires { IsTrue (are_good_facts state.old.context.scope (joined state.old.context.facts by.now.lit)) }
+    requires { IsTrue (are_limited_facts state.old.context.scope (joined state.old.context.facts by.now.lit)) }
     ensures ok { IfOk result (λ d. (before : List Stated) → IsLicensedStep before (Cite by.now) state.old d state.new) }
     ensures err { IfErr result (λ h. (before : List Stated) → IsStopOfStep before (Cite by.now) state.old h) }
     ensures kept { IfErr result (UnlessNoMemory (state.new ≡ state.old)) }
@@ -48,8 +48,8 @@ pub fn cite(alloc: Global, by: &By, state: &mut StepState) -> Result<Step, StepS
 /// A hence: its literal is allowed.
 #[tactic(auto, unfolding(e_deriv::specs::Script::step_script))]
 pub fn hence(alloc: Global, lit: &Lit, state: &mut StepState) -> Result<Step, StepStop>
-    requires lit { IsTrue (is_good state.old.context.scope lit.now) }
-    requires after { IsTrue (are_good_facts state.old.context.scope (joined state.old.context.facts lit.now)) }
+    requires lit { IsTrue (is_well_formed_in state.old.context.scope lit.now) }
+    requires after { IsTrue (are_limited_facts state.old.context.scope (joined state.old.context.facts lit.now)) }
     ensures ok { IfOk result (λ d. (before : List Stated) (cert : Option Certificate) → IsLicensedStep before (Hence lit.now cert) state.old d state.new) }
     ensures err { IfErr result (λ h. (before : List Stated) (cert : Option Certificate) → IsStopOfStep before (Hence lit.now cert) state.old h) }
     ensures kept { IfErr result (UnlessNoMemory (state.new ≡ state.old)) }
@@ -69,7 +69,7 @@ pub fn hence(alloc: Global, lit: &Lit, state: &mut StepState) -> Result<Step, St
 
 /// The literal is a fact; hands out an equal one. It fails only out of memory; no clause says what holds then.
 fn assumed(alloc: Global, lit: &Lit, state: &mut StepState) -> Result<Lit, AllocError>
-    requires { IsTrue (are_good_facts state.old.context.scope (joined state.old.context.facts lit.now)) }
+    requires { IsTrue (are_limited_facts state.old.context.scope (joined state.old.context.facts lit.now)) }
     ensures lit { IfOk result (λ l. l ≡ lit.now) }
     ensures after { OnOk result (state.new ≡ after_literal lit.now state.old) }
 {
@@ -86,8 +86,8 @@ pub fn make(
     state: &mut StepState,
 ) -> Result<Step, StepStop>
     requires room { HasRoom state.old.context.scope }
-    requires needs { IsTrue (are_good state.old.context.scope (Construct.needs form.now)) }
-    requires after { let after = after_make form.now names.now state.old in IsTrue (are_good_facts after.context.scope after.context.facts) }
+    requires needs { IsTrue (are_well_formed_in state.old.context.scope (Construct.needs form.now)) }
+    requires after { let after = after_make form.now names.now state.old in IsTrue (are_limited_facts after.context.scope after.context.facts) }
     ensures ok { IfOk result (λ d. (before : List Stated) (certs : List Certificate) → IsLicensedStep before (Make form.now names.now certs) state.old d state.new) }
     ensures err { IfErr result (λ h. (before : List Stated) (certs : List Certificate) → IsStopOfStep before (Make form.now names.now certs) state.old h) }
     ensures kept { IfErr result (UnlessNoMemory (state.new ≡ state.old)) }
@@ -115,8 +115,8 @@ pub fn superpose(
     state: &mut StepState,
 ) -> Result<Vec<Cert>, StepStop>
     requires room { HasRoom state.old.context.scope }
-    requires needs { IsTrue (are_good state.old.context.scope (Superposing.needs form.now)) }
-    requires after { let after = after_superposed form.now names.now state.old in IsTrue (are_good_facts after.context.scope after.context.facts) }
+    requires needs { IsTrue (are_well_formed_in state.old.context.scope (Superposing.needs form.now)) }
+    requires after { let after = after_superposed form.now names.now state.old in IsTrue (are_limited_facts after.context.scope after.context.facts) }
     ensures certs { IfOk result (λ cs. IsTrue (certify_all state.old.context.scope state.old.context.facts (Superposing.needs form.now) cs.items)) }
     ensures written { IfOk result (λ cs. IsTrue (list_all (is_cert_of version.One) cs.items)) }
     ensures after { OnOk result (state.new ≡ after_superposed form.now names.now state.old) }

@@ -49,7 +49,7 @@ use Rattle.e_read.specs.declared.kept.Kept.TheVariants as kept
 use Rattle.e_read.specs.Marks.{mark_of, mark_line, row_is_of, mark_is_of}
 use Rattle.e_read.specs.Strict.{is_strict_mark, strict_mark}
 use Rattle.e_read.specs.Owed.{most_rows, fact_in, row_in, with_row, row_put, sum_begun, differs_put, sums_ended, has_more, certificate, transfer_put, part_put, metric_put, takes_metric, clash_put, transfer_rule, count_others, transfer_at, transfer_in, transfer_begun, ended, sums_behind, due_behind, marked, kept_of, settled}
-use Rattle.e_clause.specs.Written.{is_good_name}
+use Rattle.e_clause.specs.Written.{is_writable_name}
 use Rattle.e_clause.specs.declared.cert.Version.{Version}
 use Rattle.e_clause.specs.Versions.{by_literals, by_places, is_name_of, is_sum_of, are_sums_of, is_part_of, is_cert_of, is_against_of}
 use Rattle.e_read.proofs.GoodCerts.{AreGood}
@@ -87,7 +87,7 @@ good_fact ns raw l said e =
     subst (λ (y : Lit). is_well_formed y ≡ true) (ok_is x.0 l f.2) (and_parts (is_well_formed x.0) true good).0
 
 abbrev pub GoodName : RowName → Type 0
-GoodName r = is_good_name r ≡ true
+GoodName r = is_writable_name r ≡ true
 
 pub good_row : (ns : Names) (raw : RawRow) (r : RowName) → RowSaid raw → row_in ns raw ≡ Ok r → GoodName r
 unfolding row_in

@@ -1,12 +1,12 @@
 -- What holds of lines, tokens, names and numerals, whatever the code does.
 use Rattle.std.specs.Prelude.{◌≡◌, ℕ, ◌+◌, ◌-◌, ◌^◌, ◌<◌, ◌≤◌, List, ◌++◌, length, take, Some, decimal}
-use Rattle.e_text.specs.Lines.{Bounds, Spot, AreGood, AreShort, lines_of, text_of_lines, lf_text, numbered, IsClosed, then_more, spot_after}
+use Rattle.e_text.specs.Lines.{Bounds, Spot, HaveNoFault, AreShort, lines_of, text_of_lines, lf_text, numbered, IsClosed, then_more, spot_after}
 use Rattle.e_text.specs.Tokens.{AreTokens, tokens_of, joined}
 use Rattle.e_text.specs.Numerals.{number_of}
 
 -- where no line has a fault, the lines with their ends, put together, are the text
 abbrev pub LinesMakeTheText : Type 0
-LinesMakeTheText = (w : Bounds) (at : Spot) (text : List ℕ) → AreGood (lines_of w at text) → text_of_lines (lines_of w at text) ≡ text
+LinesMakeTheText = (w : Bounds) (at : Spot) (text : List ℕ) → HaveNoFault (lines_of w at text) → text_of_lines (lines_of w at text) ≡ text
 
 -- lines that are written with a line feed behind each are read as these lines
 abbrev pub WrittenLinesAreRead : Type 0

@@ -2,7 +2,7 @@
 
 ghost use Rattle.std.specs.Prelude.{IfOk, IsTrue, IsFalse};
 ghost use Rattle.e_literal.specs.Facts.{has};
-ghost use Rattle.e_clause.specs.Judged.{are_good_facts, is_good};
+ghost use Rattle.e_clause.specs.Judged.{are_limited_facts, is_well_formed_in};
 ghost use Rattle.e_clause.specs.Wide.{TransferFromFacts};
 ghost use Rattle.e_metric.specs.Fronts.{AreFronts};
 ghost use Rattle.e_transfer.specs.FoundTransfers.{IsFound, IsFoundByFacts};
@@ -38,8 +38,8 @@ pub enum Found {
 /// alone give it, nor metric literals that follow from the facts by narrow systems, and an instance whose diagram
 /// literals hold needs a metric literal with a wide system, of this width. It fails only out of memory.
 pub fn find(alloc: Global, scope: Scope, facts: &Facts, goal: &Lit) -> Result<Found, AllocError>
-    requires facts { IsTrue (are_good_facts scope facts.now) }
-    requires goal { IsTrue (is_good scope goal.now) }
+    requires facts { IsTrue (are_limited_facts scope facts.now) }
+    requires goal { IsTrue (is_well_formed_in scope goal.now) }
     requires not_fact { IsFalse (has facts.now goal.now) }
     ensures { IfOk result (IsFound scope facts.now goal.now) }
 {
@@ -61,8 +61,8 @@ pub fn find_by_facts<'a>(
     facts: &'a Facts,
     goal: &'a Lit,
 ) -> Result<Option<TransferCert>, AllocError>
-    requires facts { IsTrue (are_good_facts scope facts.now) }
-    requires goal { IsTrue (is_good scope goal.now) }
+    requires facts { IsTrue (are_limited_facts scope facts.now) }
+    requires goal { IsTrue (is_well_formed_in scope goal.now) }
     requires not_fact { IsFalse (has facts.now goal.now) }
     ensures { IfOk result (IsFoundByFacts scope facts.now goal.now) }
 {
@@ -94,9 +94,9 @@ pub fn find_by_sums(
     metric_facts: &MetricFacts,
     goal: &Lit,
 ) -> Result<Found, AllocError>
-    requires facts { IsTrue (are_good_facts scope facts.now) }
+    requires facts { IsTrue (are_limited_facts scope facts.now) }
     requires metric_facts { AreFronts facts.now metric_facts.now }
-    requires goal { IsTrue (is_good scope goal.now) }
+    requires goal { IsTrue (is_well_formed_in scope goal.now) }
     requires not_fact { IsFalse (has facts.now goal.now) }
     ensures { IfOk result (IsFound scope facts.now goal.now) }
 {
@@ -117,10 +117,10 @@ pub fn find_prepared<'a>(
     prepared: &'a Prepared,
     goal: &'a Lit,
 ) -> Result<Found, AllocError>
-    requires facts { IsTrue (are_good_facts scope facts.now) }
+    requires facts { IsTrue (are_limited_facts scope facts.now) }
     requires metric_facts { AreFronts facts.now metric_facts.now }
     requires prepared { IsPrepared facts.now prepared.now }
-    requires goal { IsTrue (is_good scope goal.now) }
+    requires goal { IsTrue (is_well_formed_in scope goal.now) }
     requires not_fact { IsFalse (has facts.now goal.now) }
     ensures { IfOk result (IsFound scope facts.now goal.now) }
 {
@@ -148,7 +148,7 @@ pub fn find_prepared<'a>(
 /// The same, where a literal that an instance needs has a wide system, of this width: facts alone may give the goal.
 fn find_where_wide(alloc: Global, query: &Query, width: u128) -> Result<Found, AllocError>
     requires wide { IsWideTransfer query.now.scope query.now.facts.now query.now.goal.now width }
-    requires goal { IsTrue (is_good query.now.scope query.now.goal.now) }
+    requires goal { IsTrue (is_well_formed_in query.now.scope query.now.goal.now) }
     requires not_fact { IsFalse (has query.now.facts.now query.now.goal.now) }
     ensures { IfOk result (IsFound query.now.scope query.now.facts.now query.now.goal.now) }
 {

@@ -32,7 +32,7 @@ use Rattle.e_verify.specs.declared.reject.Reject.TheVariants.{Bad}
 use Rattle.e_verify.specs.declared.standing.Standing.{Standing}
 use Rattle.e_verify.specs.declared.standing.Outer.{Outer}
 use Rattle.e_verify.specs.inner.Standing.{with_facts, after_superposed, outer_of, left_for}
-use Rattle.e_clause.specs.Written.{is_good_cert, is_good_against}
+use Rattle.e_clause.specs.Written.{is_writable_cert, is_writable_against}
 use Rattle.e_verify.specs.Checking.{line_at, verdict_at, RejectIs, IsReadyFor, IsReadyStep, KeepsFacts, IsPassed, StepRejects}
 use Rattle.e_verify.proofs.FirstLines.{some_lines, qed_lines, contradiction_lines}
 use Rattle.e_deriv.proofs.Keeping.{stay_on, stay_joined, stay_all}
@@ -114,18 +114,18 @@ formed_step before s x n r = r.ready.facts
 pub cite_parts : (before : List Stated) (s : Step) (by : By) (x : Standing) (n : ℕ) → s ≡ CiteStep by → IsReadyStep before s x n → is_well_formed by.lit ≡ true
 cite_parts before s by x n is r = (cite_written by r.rest (subst (λ d. IsReadyFor before d x r.goal n) (cite_is s by is r.rest) r.ready).written).0
 
-pub hence_parts : (before : List Stated) (s : Step) (lit : Lit) (cert : Option Cert) (x : Standing) (n : ℕ) → s ≡ HenceStep lit cert → IsReadyStep before s x n → (is_well_formed lit ≡ true) × (option_map_or is_good_cert cert true ≡ true)
+pub hence_parts : (before : List Stated) (s : Step) (lit : Lit) (cert : Option Cert) (x : Standing) (n : ℕ) → s ≡ HenceStep lit cert → IsReadyStep before s x n → (is_well_formed lit ≡ true) × (option_map_or is_writable_cert cert true ≡ true)
 hence_parts before s lit cert x n is r =
     let w = hence_written lit cert r.rest (subst (λ d. IsReadyFor before d x r.goal n) (hence_is s lit cert is r.rest) r.ready).written in (w.0, w.1)
 
-pub make_parts : (before : List Stated) (s : Step) (form : Construction) (names : List (List ℕ)) (certs seen : List Cert) (x : Standing) (n : ℕ) → s ≡ MakeStep form names certs → seen ≡ certs → IsReadyStep before s x n → list_all is_good_cert seen ≡ true
+pub make_parts : (before : List Stated) (s : Step) (form : Construction) (names : List (List ℕ)) (certs seen : List Cert) (x : Standing) (n : ℕ) → s ≡ MakeStep form names certs → seen ≡ certs → IsReadyStep before s x n → list_all is_writable_cert seen ≡ true
 make_parts before s form names certs seen x n is same r =
-    ap (list_all is_good_cert) same ∙ (make_written form names certs r.rest (subst (λ d. IsReadyFor before d x r.goal n) (make_is s form names certs is r.rest) r.ready).written).0
+    ap (list_all is_writable_cert) same ∙ (make_written form names certs r.rest (subst (λ d. IsReadyFor before d x r.goal n) (make_is s form names certs is r.rest) r.ready).written).0
 
 pub apply_parts : (before : List Stated) (s : Step) (theorem : ℕ) (args : List (Option Obj)) (names : List (List ℕ)) (certs seen : List Cert) (x : Standing) (n : ℕ) → s ≡ ApplyStep theorem args names certs → seen ≡ certs → IsReadyStep before s x n
-    → list_all is_good_cert seen ≡ true
+    → list_all is_writable_cert seen ≡ true
 apply_parts before s theorem args names certs seen x n is same r =
-    ap (list_all is_good_cert) same ∙ (apply_written theorem args names certs r.rest (subst (λ d. IsReadyFor before d x r.goal n) (apply_is s theorem args names certs is r.rest) r.ready).written).0
+    ap (list_all is_writable_cert) same ∙ (apply_written theorem args names certs r.rest (subst (λ d. IsReadyFor before d x r.goal n) (apply_is s theorem args names certs is r.rest) r.ready).written).0
 
 -- ---- blocks that are left
 
@@ -178,9 +178,9 @@ superposed_is : (s : Step) (form : Superpose) (names : List (List ℕ)) (shown :
 superposed_is s form names shown certs inner is rest = ap (λ t. step_script t rest) is ∙ step_script-Superposed form names shown certs inner rest
 
 pub superposed_parts : (before : List Stated) (s : Step) (form : Superpose) (names : List (List ℕ)) (shown : List Lit) (certs seen : List Cert) (inner : Box Block Global) (x : Standing) (n : ℕ) → s ≡ SuperposedStep form names shown certs inner → seen ≡ certs
-    → IsReadyStep before s x n → list_all is_good_cert seen ≡ true
+    → IsReadyStep before s x n → list_all is_writable_cert seen ≡ true
 superposed_parts before s form names shown certs seen inner x n is same r =
-    ap (list_all is_good_cert) same
+    ap (list_all is_writable_cert) same
     ∙ (superposed_written form names shown certs (script_of inner.value) r.rest (subst (λ d. IsReadyFor before d x r.goal n) (superposed_is s form names shown certs inner is r.rest) r.ready).written).1
 
 pub superposed_ready : (before : List Stated) (s : Step) (form : Superpose) (names : List (List ℕ)) (shown seen : List Lit) (certs : List Cert) (inner : Box Block Global) (block : Block) (x z : Standing) (n : ℕ)
@@ -240,12 +240,12 @@ contradiction_is : (c : Close) (against : Option Against) → c ≡ Contradictio
 contradiction_is c against is = ap close_script is ∙ close_script-Contradiction against
 
 pub qed_parts : (before : List Stated) (c : Close) (objects : List Obj) (certs seen : List Cert) (x : Standing) (goal : Goal) (n : ℕ) → c ≡ QedClose objects certs → seen ≡ certs → IsReadyFor before (close_script c) x goal n
-    → list_all is_good_cert seen ≡ true
+    → list_all is_writable_cert seen ≡ true
 qed_parts before c objects certs seen x goal n is same r =
-    ap (list_all is_good_cert) same ∙ qed_written objects certs (subst (λ d. IsReadyFor before d x goal n) (qed_is c objects certs is) r).written
+    ap (list_all is_writable_cert) same ∙ qed_written objects certs (subst (λ d. IsReadyFor before d x goal n) (qed_is c objects certs is) r).written
 
 pub contradiction_parts : (before : List Stated) (c : Close) (against : Option Against) (x : Standing) (goal : Goal) (n : ℕ) → c ≡ ContradictionClose against → IsReadyFor before (close_script c) x goal n
-    → option_map_or is_good_against against true ≡ true
+    → option_map_or is_writable_against against true ≡ true
 contradiction_parts before c against x goal n is r = contradiction_written against (subst (λ d. IsReadyFor before d x goal n) (contradiction_is c against is) r).written
 
 pub qed_ok : (before : List Stated) (c : Close) (objects os : List Obj) (certs cs : List Cert) (x : Standing) (goal : Goal) (n : ℕ) (b : Bool) (r : Result ℕ Reject) → c ≡ QedClose objects certs → os ≡ objects → cs ≡ certs

@@ -24,7 +24,7 @@ use Rattle.e_clause.specs.declared.cert.Against.{Against}
 use Rattle.e_clause.specs.declared.cert.Against.TheVariants.{Clash, Metric as MetricAgainst}
 use Rattle.e_clause.specs.Instance.{Inst}
 use Rattle.e_clause.specs.Versions.{is_name_of, is_sum_of, are_sums_of, is_part_of, is_cert_of, is_against_of}
-use Rattle.e_clause.specs.Written.{is_good_name, is_good_sum, is_good_sums, is_good_part, is_good_cert, is_good_against}
+use Rattle.e_clause.specs.Written.{is_writable_name, is_writable_sum, are_writable_sums, is_writable_part, is_writable_cert, is_writable_against}
 use Rattle.e_construct.specs.Construct.{fits as fits_form, made, gives}
 use Rattle.e_construct.specs.Superposing as superposing
 use Rattle.e_deriv.specs.Script.{Script, Cite, Hence, Make, Apply, Claim, Superposed, Qed, Contradiction, Cases, erased}
@@ -157,7 +157,7 @@ module _ (facts : List Lit) (few : length facts < 2 ^ 32) where
   small : (l : Lit) → nat_lt (place_among facts l) (2 ^ 32) ≡ true
   small l = lt-ltb (place_among facts l) (2 ^ 32) (omega (arith, few, place_within facts l))
 
-  name_of_second : (name : RowName) → is_good_name name ≡ true → is_name_of version.Two (placed_name facts name) ≡ true
+  name_of_second : (name : RowName) → is_writable_name name ≡ true → is_name_of version.Two (placed_name facts name) ≡ true
   name_of_second (Fact l) h = small l
   name_of_second GoalRow h = refl
   name_of_second (Pos t) h = refl
@@ -168,9 +168,9 @@ module _ (facts : List Lit) (few : length facts < 2 ^ 32) where
   name_of_second Below h = refl
   name_of_second (FactAt k) h = h
 
-  sum_of_second : (xs : List (ℤ × RowName)) → is_good_sum xs ≡ true → is_sum_of version.Two (placed_sum facts xs) ≡ true
+  sum_of_second : (xs : List (ℤ × RowName)) → is_writable_sum xs ≡ true → is_sum_of version.Two (placed_sum facts xs) ≡ true
   sum_of_second [] h = refl
-  sum_of_second (x ∷ xs) h = both_true _ _ (name_of_second x.1 (and_left (is_good_name x.1) (is_good_sum xs) h)) (sum_of_second xs (and_right (is_good_name x.1) (is_good_sum xs) h))
+  sum_of_second (x ∷ xs) h = both_true _ _ (name_of_second x.1 (and_left (is_writable_name x.1) (is_writable_sum xs) h)) (sum_of_second xs (and_right (is_writable_name x.1) (is_writable_sum xs) h))
 
   other_of_second : (name : RowName) → is_name_of version.Two name ≡ true → is_name_of version.Two (other_side name) ≡ true
   other_of_second (Fact l) h = h
@@ -188,50 +188,50 @@ module _ (facts : List Lit) (few : length facts < 2 ^ 32) where
   swapped_of_second (x ∷ xs) h =
       both_true _ _ (other_of_second x.1 (and_left (is_name_of version.Two x.1) (is_sum_of version.Two xs) h)) (swapped_of_second xs (and_right (is_name_of version.Two x.1) (is_sum_of version.Two xs) h))
 
-  sums_of_second : (m : Sums) → is_good_sums m ≡ true → are_sums_of version.Two (placed_sums facts m) ≡ true
+  sums_of_second : (m : Sums) → are_writable_sums m ≡ true → are_sums_of version.Two (placed_sums facts m) ≡ true
   sums_of_second (One sum) h = sum_of_second sum h
   sums_of_second (Two differs first second) h = by (turns facts differs)
     where
-      both : (is_good_sum first && is_good_sum second) ≡ true
-      both = and_right (is_good_name differs) (is_good_sum first && is_good_sum second) h
+      both : (is_writable_sum first && is_writable_sum second) ≡ true
+      both = and_right (is_writable_name differs) (is_writable_sum first && is_writable_sum second) h
 
       one : is_sum_of version.Two (placed_sum facts first) ≡ true
-      one = sum_of_second first (and_left (is_good_sum first) (is_good_sum second) both)
+      one = sum_of_second first (and_left (is_writable_sum first) (is_writable_sum second) both)
 
       two : is_sum_of version.Two (placed_sum facts second) ≡ true
-      two = sum_of_second second (and_right (is_good_sum first) (is_good_sum second) both)
+      two = sum_of_second second (and_right (is_writable_sum first) (is_writable_sum second) both)
 
       name : is_name_of version.Two (placed_name facts differs) ≡ true
-      name = name_of_second differs (and_left (is_good_name differs) (is_good_sum first && is_good_sum second) h)
+      name = name_of_second differs (and_left (is_writable_name differs) (is_writable_sum first && is_writable_sum second) h)
 
       by : (b : Bool) → are_sums_of version.Two (two_placed b (placed_name facts differs) (placed_sum facts first) (placed_sum facts second)) ≡ true
       by true = both_true _ _ name (both_true _ _ (swapped_of_second (placed_sum facts second) two) (swapped_of_second (placed_sum facts first) one))
       by false = both_true _ _ name (both_true _ _ one two)
 
-  part_of_second : (l : Lit) (p : Part) → is_good_part p ≡ true → is_part_of version.Two (placed_part facts l p) ≡ true
+  part_of_second : (l : Lit) (p : Part) → is_writable_part p ≡ true → is_part_of version.Two (placed_part facts l p) ≡ true
   part_of_second l FactPart h = small l
   part_of_second l (Metric m) h = sums_of_second m.sums h
   part_of_second l (FactPartAt k) h = h
 
-  parts_of_second : (ls : List Lit) (ps : List Part) → list_all is_good_part ps ≡ true → list_all (is_part_of version.Two) (placed_parts facts ls ps) ≡ true
+  parts_of_second : (ls : List Lit) (ps : List Part) → list_all is_writable_part ps ≡ true → list_all (is_part_of version.Two) (placed_parts facts ls ps) ≡ true
   parts_of_second [] ps h = refl
   parts_of_second (l ∷ ls) [] h = refl
-  parts_of_second (l ∷ ls) (p ∷ ps) h = both_true _ _ (part_of_second l p (and_left (is_good_part p) (list_all is_good_part ps) h)) (parts_of_second ls ps (and_right (is_good_part p) (list_all is_good_part ps) h))
+  parts_of_second (l ∷ ls) (p ∷ ps) h = both_true _ _ (part_of_second l p (and_left (is_writable_part p) (list_all is_writable_part ps) h)) (parts_of_second ls ps (and_right (is_writable_part p) (list_all is_writable_part ps) h))
 
-  for_of_second : (l : Lit) (ps : List Part) (o : Option (List Lit)) → list_all is_good_part ps ≡ true → list_all (is_part_of version.Two) (placed_for facts l ps o) ≡ true
+  for_of_second : (l : Lit) (ps : List Part) (o : Option (List Lit)) → list_all is_writable_part ps ≡ true → list_all (is_part_of version.Two) (placed_for facts l ps o) ≡ true
   for_of_second l ps (Some lits) h = parts_of_second (map negation (others lits l)) ps h
   for_of_second l ps None h = refl
 
-  cert_of_second : (l : Lit) (c : Cert) → is_good_cert c ≡ true → is_cert_of version.Two (placed_cert facts l c) ≡ true
+  cert_of_second : (l : Lit) (c : Cert) → is_writable_cert c ≡ true → is_cert_of version.Two (placed_cert facts l c) ≡ true
   cert_of_second l (Plain p) h = part_of_second l p h
   cert_of_second l (Transfer t) h = for_of_second l t.parts (Inst t.rule t.args) h
 
-  certs_of_second : (ls : List Lit) (cs : List Cert) → list_all is_good_cert cs ≡ true → list_all (is_cert_of version.Two) (placed_certs facts ls cs) ≡ true
+  certs_of_second : (ls : List Lit) (cs : List Cert) → list_all is_writable_cert cs ≡ true → list_all (is_cert_of version.Two) (placed_certs facts ls cs) ≡ true
   certs_of_second [] cs h = refl
   certs_of_second (l ∷ ls) [] h = refl
-  certs_of_second (l ∷ ls) (c ∷ cs) h = both_true _ _ (cert_of_second l c (and_left (is_good_cert c) (list_all is_good_cert cs) h)) (certs_of_second ls cs (and_right (is_good_cert c) (list_all is_good_cert cs) h))
+  certs_of_second (l ∷ ls) (c ∷ cs) h = both_true _ _ (cert_of_second l c (and_left (is_writable_cert c) (list_all is_writable_cert cs) h)) (certs_of_second ls cs (and_right (is_writable_cert c) (list_all is_writable_cert cs) h))
 
-  against_of_second : (a : Against) → is_good_against a ≡ true → is_against_of version.Two (placed_against facts a) ≡ true
+  against_of_second : (a : Against) → is_writable_against a ≡ true → is_against_of version.Two (placed_against facts a) ≡ true
   against_of_second (Clash l) h = refl
   against_of_second (MetricAgainst m) h = sums_of_second m.sums h
 
@@ -246,7 +246,7 @@ numbered_of_second before (Hence lit cert rest) s facts goal w h =
     let k = hence_written lit cert rest w in
     both_true _ _ (by cert k.1) (numbered_of_second before rest s (joined facts lit) goal k.2 (and_right _ _ h))
   where
-    by : (c : Option Cert) → option_map_or is_good_cert c true ≡ true → option_map_or (is_cert_of version.Two) (option_map (placed_cert facts lit) c) true ≡ true
+    by : (c : Option Cert) → option_map_or is_writable_cert c true ≡ true → option_map_or (is_cert_of version.Two) (option_map (placed_cert facts lit) c) true ≡ true
     by None k = refl
     by (Some c) k = cert_of_second facts (few_of facts _ h) lit c k
 numbered_of_second before (Make form names certs rest) s facts goal w h =

@@ -10,7 +10,7 @@ ghost use Rattle.e_deriv.specs.Goal.{Goal as BlockGoal};
 ghost use Rattle.e_deriv.specs.Script.{Qed, Contradiction};
 ghost use Rattle.e_verify.specs.Checking.{line_at};
 ghost use Rattle.e_verify.specs.inner.Standing.{goal_said};
-ghost use Rattle.e_clause.specs.Written.{is_good_cert, is_good_against};
+ghost use Rattle.e_clause.specs.Written.{is_writable_cert, is_writable_against};
 
 use crate::certificate::{certifies_against, certify_all};
 use crate::standing::{Goal, Standing};
@@ -29,7 +29,7 @@ pub fn qed(
 ) -> Result<bool, AllocError>
     requires facts { IsTrue (list_all is_well_formed standing.now.facts) }
     requires shown { IsTrue (list_all is_well_formed goal.now.shown.now) }
-    requires certs { IsTrue (list_all is_good_cert certs.now) }
+    requires certs { IsTrue (list_all is_writable_cert certs.now) }
     ensures { IfOk result (λ b. (before : List Stated) → b ≡ is_certified before (line_at (Qed objects.now certs.now) standing.now (goal_said goal.now))) }
 {
     if !have_sorts_of(standing.scope, goal.made, objects) {
@@ -46,7 +46,7 @@ pub fn contradiction(
     standing: &Standing,
 ) -> Result<bool, AllocError>
     requires facts { IsTrue (list_all is_well_formed standing.now.facts) }
-    requires against { IsTrue (option_map_or is_good_against against.now true) }
+    requires against { IsTrue (option_map_or is_writable_against against.now true) }
     ensures { IfOk result (λ b. (before : List Stated) (goal : BlockGoal) → b ≡ is_certified before (line_at (Contradiction against.now) standing.now goal)) }
 {
     match against {

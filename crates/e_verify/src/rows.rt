@@ -5,12 +5,12 @@ ghost use Rattle.std.specs.Option.{option_map, option_map_or, option_copied};
 ghost use Rattle.std.specs.List.{list_all};
 ghost use Rattle.e_literal.specs.Rows;
 ghost use Rattle.e_literal.specs.Rows.{row_of_atom};
-ghost use Rattle.e_literal.specs.WellFormed.{is_good_atom, is_well_formed};
+ghost use Rattle.e_literal.specs.WellFormed.{is_well_formed_atom, is_well_formed};
 ghost use Rattle.e_clause.specs.Sum;
 ghost use Rattle.e_clause.specs.declared.cert.RowName.TheVariants.{Least};
 ghost use Rattle.e_verify.specs.inner.Small.{is_small, is_short};
 ghost use Rattle.e_verify.specs.inner.Views.{row_said, comparison_said, says_of, place_said};
-ghost use Rattle.e_clause.specs.Written.{is_good_name};
+ghost use Rattle.e_clause.specs.Written.{is_writable_name};
 ghost use Rattle.e_verify.specs.inner.Placed.{is_good_place};
 
 use crate::facts::{Facts, stands_in};
@@ -80,7 +80,7 @@ impl<'a> Row<'a> {
 /// The row with this name, or none where the name may not be used here.
 pub fn row_named<'a>(place: &Place<'a>, name: &'a RowName) -> Option<Row<'a>>
     requires place { IsTrue (is_good_place place.now) }
-    requires name { IsTrue (is_good_name name.now) }
+    requires name { IsTrue (is_writable_name name.now) }
     ensures row { option_map row_said result ≡ Sum.row_named (place_said place.now) name.now }
     ensures small { IfSome result (λ r. IsTrue (is_small r)) }
 {
@@ -137,7 +137,7 @@ pub fn goal_row<'a>(wanted: Option<&'a Lit>) -> Option<Comparison<'a>>
 /// The row of an atom or of its negation; none where it does not compare magnitudes.
 #[tactic(auto, using(crate::proofs::Smallness::good_sums))]
 fn row_of<'a>(atom: &'a Atom, neg: bool) -> Option<Comparison<'a>>
-    requires { IsTrue (is_good_atom atom.now) }
+    requires { IsTrue (is_well_formed_atom atom.now) }
     ensures row { option_map comparison_said result ≡ row_of_atom atom.now neg }
     ensures small { IfSome result (λ c. IsTrue (is_short c)) }
 {

@@ -16,7 +16,7 @@ ghost use Rattle.e_deriv.specs.Steps;
 ghost use Rattle.e_deriv.specs.Steps.{is_citation};
 ghost use Rattle.e_verify.specs.Checking.{IsChecked, line_at};
 ghost use Rattle.e_verify.specs.inner.Standing.{after_superposed};
-ghost use Rattle.e_clause.specs.Written.{is_good_cert};
+ghost use Rattle.e_clause.specs.Written.{is_writable_cert};
 
 use crate::certificate::{certifies, certify_all};
 use crate::facts::Facts;
@@ -67,7 +67,7 @@ pub fn hence(
 ) -> Result<bool, AllocError>
     requires facts { IsTrue (list_all is_well_formed standing.old.facts) }
     requires lit { IsTrue (is_well_formed lit.now) }
-    requires cert { IsTrue (option_map_or is_good_cert cert.now true) }
+    requires cert { IsTrue (option_map_or is_writable_cert cert.now true) }
     ensures { IfOk result (λ b. (before : List Stated) → IsChecked before (Hence lit.now cert.now) standing.old standing.new b) }
 {
     let Some(cert) = cert else {
@@ -92,7 +92,7 @@ pub fn make(
 ) -> Result<bool, AllocError>
     requires facts { IsTrue (list_all is_well_formed standing.old.facts) }
     requires scope { IsTrue (is_small standing.old.scope) }
-    requires certs { IsTrue (list_all is_good_cert certs.now) }
+    requires certs { IsTrue (list_all is_writable_cert certs.now) }
     ensures { IfOk result (λ b. (before : List Stated) (names : List (List ℕ)) → IsChecked before (Make form.now names certs.now) standing.old standing.new b) }
 {
     let scope = standing.scope;
@@ -121,7 +121,7 @@ pub fn apply(
     requires facts { IsTrue (list_all is_well_formed standing.old.facts) }
     requires scope { IsTrue (is_small standing.old.scope) }
     requires statements { IsTrue (list_all is_small_statement (all_stated before.now)) }
-    requires certs { IsTrue (list_all is_good_cert certs.now) }
+    requires certs { IsTrue (list_all is_writable_cert certs.now) }
     ensures { IfOk result (λ b. (names : List (List ℕ)) → IsChecked (all_stated before.now) (Apply theorem args.now names certs.now) standing.old standing.new b) }
 {
     let Some(statement) = before.get(theorem as usize) else {
@@ -154,7 +154,7 @@ pub fn superpose(
 ) -> Result<bool, AllocError>
     requires facts { IsTrue (list_all is_well_formed standing.old.facts) }
     requires scope { IsTrue (is_small standing.old.scope) }
-    requires certs { IsTrue (list_all is_good_cert certs.now) }
+    requires certs { IsTrue (list_all is_writable_cert certs.now) }
     ensures test { IfOk result (λ b. (before : List Stated) (names : List (List ℕ)) (inner rest : Script) (goal : Goal) → b ≡ is_certified before (line_at (Superposed form.now names shown.now certs.now inner rest) standing.old goal)) }
     ensures after { IfOk result (λ b. IsTrue b → standing.new ≡ after_superposed form.now standing.old) }
 {

@@ -36,8 +36,8 @@ avoids_of avoids.NoObject = NoObject
 avoids_of avoids.AnyObject = AnyObject
 avoids_of (avoids.AnyApartFrom o) = AnyApartFrom o
 
-abbrev pub row_said : Row → ShapeRow
-row_said r =
+abbrev pub row_view : Row → ShapeRow
+row_view r =
     record { args = r.args.now; needs = map lit_of r.needs.now; made = r.made.now; gives = map lit_of r.gives.now; avoids = avoids_of r.avoids }
 
 -- the objects for the variables: the arguments, and the new objects

@@ -6,7 +6,7 @@ use Rattle.e_literal.specs.declared.literal.Lit.{Lit}
 use Rattle.e_literal.specs.Facts.{joined, joined_all}
 use Rattle.e_literal.specs.Scopes.{grown}
 use Rattle.e_literal.specs.Use.{Stated, scope_of, gives_of_use}
-use Rattle.e_clause.specs.Judged.{are_good_facts}
+use Rattle.e_clause.specs.Judged.{are_limited_facts}
 use Rattle.e_construct.specs.declared.construction.Construction.{Construction}
 use Rattle.e_construct.specs.Construct.{made, gives}
 use Rattle.e_construct.specs.declared.superpose.Superpose.{Superpose}
@@ -76,7 +76,7 @@ IsLeftWith names shown x after =
 
 -- they may join the facts of the last held state
 abbrev pub CanJoinLast : List Lit → StepState → Type 0
-CanJoinLast shown x = (before : List State) (last : State) → x.context.held ≡ before ++ last ∷ [] → IsTrue (are_good_facts last.scope (joined_all last.facts shown))
+CanJoinLast shown x = (before : List State) (last : State) → x.context.held ≡ before ++ last ∷ [] → IsTrue (are_limited_facts last.scope (joined_all last.facts shown))
 
 -- two objects more of each sort have numbers of 16 bits
 pub record HasRoom (s : Scope) : Type 0 where

@@ -2,7 +2,7 @@ use Rattle.std.proofs.Common.{◌≡◌, ◌+◌, ◌<◌, ◌++◌, ◌∷◌, 
 use Rattle.e_literal.specs.Literal.{negation}
 use Rattle.e_literal.specs.Facts.{joined}
 use Rattle.e_clause.specs.Certify.{certify_all}
-use Rattle.e_clause.specs.Judged.{are_good, are_good_facts}
+use Rattle.e_clause.specs.Judged.{are_well_formed_in, are_limited_facts}
 use Rattle.e_theorem.specs.Statements.{stated, all_stated}
 use Rattle.e_deriv.specs.declared.block.Close.TheViews.{the_lemmas}
 use Rattle.e_deriv.specs.declared.block.Step.TheVariants.{Cite, Hence, Make, Apply}
@@ -113,7 +113,7 @@ prove_close-qed-answered-requires-clause-lits t c =
     let x = c.args.state.now in
     let goal = goal_view c.args.goal.now in
     let fit = qed_fits (all_stated c.args.before.now) c.in-Qed.objects c.in-Qed.certs x goal (subst (λ close. IsReadyFor (all_stated c.args.before.now) (close_script close) x goal) c.in-Qed.is c.requires.ready) in
-    subst (λ os. are_good x.context.scope (goal_with goal os) ≡ true) (sym c.items.ensures) fit.lits
+    subst (λ os. are_well_formed_in x.context.scope (goal_with goal os) ≡ true) (sym c.items.ensures) fit.lits
 
 pub prove_close-close_with_number-requires : goal.prove_close-close_with_number-requires
 prove_close-close_with_number-requires t c = let one = at_least (close_script c.args.close.now) in omega (arith, one, c.requires.few)
@@ -127,7 +127,7 @@ prove_close-assume-requires t c =
     let goal = goal_view c.args.goal.now in
     let parts = split_parts (all_stated c.args.before.now) c.args.close.now c.in-Cases.lit c.in-Cases.first c.in-Cases.second x goal c.in-Cases.is c.requires.ready in
     let good = block_facts (all_stated c.args.before.now) (script_of c.in-Cases.first.value) (after_literal c.in-Cases.lit x) goal parts.one in
-    subst (λ y. are_good_facts y.context.scope (joined y.context.facts c.in-Cases.lit) ≡ true) (sym c.in_ok-outer-in-Cases.ensures.held) good
+    subst (λ y. are_limited_facts y.context.scope (joined y.context.facts c.in-Cases.lit) ≡ true) (sym c.in_ok-outer-in-Cases.ensures.held) good
 
 pub prove_close-overflow_add-number : goal.prove_close-overflow_add-number
 prove_close-overflow_add-number t c = let one = at_least (close_script c.args.close.now) in omega (arith, one, c.requires.few)
@@ -186,7 +186,7 @@ prove_close-assume_not-requires t c =
     left_is c.in_ok-outer-in-Cases.outer x c.prove_block.new.state c.release.new.self c.in_ok-outer-in-Cases.ensures.names
     (c.in-Ok.ensures.kept ∙ ap (λ w. w.context.held) entered) c.release.ensures
     in
-    subst (λ y. are_good_facts y.context.scope (joined y.context.facts (negation lit)) ≡ true) (sym back) (block_facts (all_stated c.args.before.now) (script_of c.in-Cases.second.value) (after_literal (negation lit) x) goal other)
+    subst (λ y. are_limited_facts y.context.scope (joined y.context.facts (negation lit)) ≡ true) (sym back) (block_facts (all_stated c.args.before.now) (script_of c.in-Cases.second.value) (after_literal (negation lit) x) goal other)
 
 pub prove_close-prove_block-requires-in-Cases : goal.prove_close-prove_block-requires-in-Cases
 prove_close-prove_block-requires-in-Cases t c =
@@ -524,7 +524,7 @@ prove_step-superpose-requires-clause-needs t c =
     let needs =
     (superposed_parts (all_stated c.args.before.now) y.form y.names y.shown y.certs y.inner x c.args.number (subst (λ s. IsReadyStep (all_stated c.args.before.now) s x c.args.number) y.is c.requires)).needs
     in
-    subst (λ z. are_good z.context.scope (superposing.needs y.form) ≡ true) (sym c.in_ok-outer-in-Superposed.ensures.held) needs
+    subst (λ z. are_well_formed_in z.context.scope (superposing.needs y.form) ≡ true) (sym c.in_ok-outer-in-Superposed.ensures.held) needs
 
 pub prove_step-superpose-requires-clause-after : goal.prove_step-superpose-requires-clause-after
 prove_step-superpose-requires-clause-after t c =
@@ -534,7 +534,7 @@ prove_step-superpose-requires-clause-after t c =
     let good =
     block_facts (all_stated c.args.before.now) (script_of y.inner.value) (after_superposed y.form y.names x) (goal_of y.shown) parts.block
     in
-    subst (λ z. let after = after_superposed y.form c.items-in-Superposed.result.now z in are_good_facts after.context.scope after.context.facts ≡ true) (sym c.in_ok-outer-in-Superposed.ensures.held) good
+    subst (λ z. let after = after_superposed y.form c.items-in-Superposed.result.now z in are_limited_facts after.context.scope after.context.facts ≡ true) (sym c.in_ok-outer-in-Superposed.ensures.held) good
 
 pub prove_step-returns-in-Err-superpose-clause-err : goal.prove_step-returns-in-Err-superpose-clause-err
 prove_step-returns-in-Err-superpose-clause-err t c =
