@@ -30,7 +30,7 @@ use Rattle.e_clause.specs.Instance.{Inst}
 use Rattle.e_clause.specs.RuleKinds.{is_diagram_rule}
 use Rattle.e_clause.specs.Assignment.{terms_of_atom, terms_of_lits}
 use Rattle.e_clause.specs.Judged.{is_well_formed_in, are_well_formed_in, are_limited_facts}
-use Rattle.e_construct.specs.Construct.{made, gives, fits as fits_form}
+use Rattle.e_construct.specs.Construct.{sorts_made, gives_of_construction, fits_construction as fits_form}
 use Rattle.e_construct.specs.Superposing as superposing
 use Rattle.e_construct.proofs.Moving.{is_plain, moved_lit, Within, in_more, every, grows}
 use Rattle.e_construct.proofs.Given.{needs_good, gives_good, gives_plain, superposition_needs_good, superposition_gives}
@@ -220,17 +220,17 @@ lines_good bs states before sorts shown goal (Hence lit cert rest) g f s other f
       ),
     )
 lines_good bs states before sorts shown goal (Make form names certs rest) g f s other facts n good w le few h fit =
-    let t = grown s (made form) in
-    let more = joined_all facts (gives form s) in
-    let p = and_parts (fits_form form s) (list_all (line_fits bs) (lines bs rest (rest_of g) t (joined_all other (gives form s)) (goal_for before sorts shown))) fit in
-    let larger : Within s t = grows s (made form) in
+    let t = grown s (sorts_made form) in
+    let more = joined_all facts (gives_of_construction form s) in
+    let p = and_parts (fits_form form s) (list_all (line_fits bs) (lines bs rest (rest_of g) t (joined_all other (gives_of_construction form s)) (goal_for before sorts shown))) fit in
+    let larger : Within s t = grows s (sorts_made form) in
     let start : GoodFacts t facts n = record { good = good_more s t larger facts good.good; few = good.few } in
-    let next = all_joined t facts (gives form s) n start (gives_good form s p.0) in
-    let same : GoodFacts t more n = record { good = next.good; few = omega (arith, next.few, plain_count (gives form s) (gives_plain form s p.0)) } in (
+    let next = all_joined t facts (gives_of_construction form s) n start (gives_good form s p.0) in
+    let same : GoodFacts t more n = record { good = next.good; few = omega (arith, next.few, plain_count (gives_of_construction form s) (gives_plain form s p.0)) } in (
       facts_fit s facts n good le,
       λ is. (
         needs_good form s p.0,
-        lines_good bs states before sorts shown goal rest (rest_of g) (rest_of f) t (joined_all other (gives form s)) more n same (λ sort. omega (arith, w sort, larger sort)) le few h p.1,
+        lines_good bs states before sorts shown goal rest (rest_of g) (rest_of f) t (joined_all other (gives_of_construction form s)) more n same (λ sort. omega (arith, w sort, larger sort)) le few h p.1,
       ),
     )
 lines_good bs states before sorts shown goal (Apply theorem pattern names certs rest) g f s other facts n good w le few h fit =
@@ -271,21 +271,21 @@ lines_good bs states before sorts shown goal (Claim claimed inner rest) g f s ot
       ),
     )
 lines_good bs states before sorts shown goal (Superposed form names copied certs inner rest) g f s other facts n good w le few h fit =
-    let t = grown s superposing.made in
-    let given = superposing.gives form s in
+    let t = grown s superposing.sorts_copied in
+    let given = superposing.gives_of_superposition form s in
     let i = n + count_monomials given in
     let m = n + count_monomials copied in
     let inside = lines bs inner (inner_of g) t (joined_all other given) (goal_for s [] copied) in
     let behind = lines bs rest (rest_of g) s (joined_all other copied) (goal_for before sorts shown) in
-    let p = and_parts (superposing.fits form s && are_over s copied) (list_all (line_fits bs) (inside ++ behind)) fit in
-    let o = and_parts (superposing.fits form s) (are_over s copied) p.0 in
+    let p = and_parts (superposing.fits_superposition form s && are_over s copied) (list_all (line_fits bs) (inside ++ behind)) fit in
+    let o = and_parts (superposing.fits_superposition form s) (are_over s copied) p.0 in
     let q = parted (line_fits bs) inside behind p.1 in
     let l = and_parts (list_all is_well_formed copied) (has_good_literals inner && has_good_literals rest) h in
     let k = and_parts (has_good_literals inner) (has_good_literals rest) l.1 in
     let a = room i (few_terms bs i t inner && (leb m most_terms && few_terms bs m s rest)) few in
     let r = and_parts (few_terms bs i t inner) (leb m most_terms && few_terms bs m s rest) a.1 in
     let v = room m (few_terms bs m s rest) r.1 in
-    let larger : Within s t = grows s superposing.made in
+    let larger : Within s t = grows s superposing.sorts_copied in
     let start : GoodFacts t facts n = record { good = good_more s t larger facts good.good; few = good.few } in
     let first = all_joined t facts given n start (superposition_gives form s o.0) in
     let next = all_joined s facts copied n good (two_good s copied o.1 l.0) in

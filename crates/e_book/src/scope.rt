@@ -279,7 +279,7 @@ pub(crate) fn fresh(names: &Names, new: &[Name]) -> Result<(), Trouble>
 
 /// The rule of diagrams and equality with this name.
 fn known_rule(name: Title) -> Result<Rule, Trouble>
-    ensures { Gives (λ r. r) result (known_rule (Instance.place_of name)) }
+    ensures { Gives (λ r. r) result (known_rule (Instance.number_of_rule name)) }
 {
     let Some(rule) = Rule::named(name.bytes()) else {
         return Err(Trouble::Fault(Kind::UnknownName));

@@ -19,7 +19,7 @@ use Rattle.e_clause.specs.declared.cert.Cert.{Cert}
 use Rattle.e_clause.specs.Judged.{is_well_formed_in, are_well_formed_in, are_limited_facts}
 use Rattle.e_construct.specs.declared.construction.Construction.{Construction}
 use Rattle.e_construct.specs.declared.superpose.Superpose.{Superpose}
-use Rattle.e_construct.specs.Construct.{made, gives, needs as needs_of_form}
+use Rattle.e_construct.specs.Construct.{sorts_made, gives_of_construction, needs_of_construction as needs_of_form}
 use Rattle.e_deriv.specs.declared.block.Block.{Block}
 use Rattle.e_deriv.specs.declared.block.Step.TheVariants.{Cite as CiteStep, Hence as HenceStep, Make as MakeStep, Apply as ApplyStep, Claim as ClaimStep, Superposed as SuperposedStep}
 use Rattle.e_deriv.specs.Script.{Script, Cite, Hence, Make, Apply, Claim, Superposed, script_of, step_script, size}
@@ -98,7 +98,7 @@ make_lits before form names certs rest x goal r =
     let s = x.context.scope in
     let here = Make form names certs rest in
     let both = (r.lits here).1 (form_first before here x goal r) in
-    record { needs = both.0; after = first_facts before rest rest (grown s (made form)) (joined_all x.context.facts (gives form s)) goal both.1 }
+    record { needs = both.0; after = first_facts before rest rest (grown s (sorts_made form)) (joined_all x.context.facts (gives_of_construction form s)) goal both.1 }
 
 pub make_good : (before : List Stated) (form : Construction) (names : List (List ℕ)) (certs : List Cert) (x : StepState) (n : ℕ) → IsReadyStep before (MakeStep form names certs) x n →
     LineReady x.context.scope (needs_of_form form) (after_make form names x)

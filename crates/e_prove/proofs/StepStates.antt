@@ -19,7 +19,7 @@ use Rattle.e_literal.proofs.Growing.{grown_bounds}
 use Rattle.e_clause.specs.Assignment.{terms_of_atom, terms_of_lits}
 use Rattle.e_clause.specs.Judged.{is_well_formed_in, are_well_formed_in, are_few, most_terms, are_limited_facts}
 use Rattle.e_construct.specs.declared.construction.Construction.{Construction}
-use Rattle.e_construct.specs.Construct.{made, gives}
+use Rattle.e_construct.specs.Construct.{sorts_made, gives_of_construction}
 use Rattle.e_construct.specs.declared.superpose.Superpose.{Superpose}
 use Rattle.e_construct.specs.Superposing as superposing
 use Rattle.e_deriv.specs.declared.names.Names.{Names}
@@ -41,13 +41,13 @@ all_named now before sorts new i done h =
     sym (none_named now (drop i sorts) (drop i new) none) ∙ h
 
 -- new objects come into scope, and then what is given joins the facts
-pub made_after : (form : Construction) (names : List (List ℕ)) (x mid after : StepState) (sorts : List Sort) (given : List Lit) → sorts ≡ made form →
-    given ≡ gives form x.context.scope → mid.context ≡ record x.context { scope = grown x.context.scope sorts } → mid.names ≡ named x.names sorts names →
+pub made_after : (form : Construction) (names : List (List ℕ)) (x mid after : StepState) (sorts : List Sort) (given : List Lit) → sorts ≡ sorts_made form →
+    given ≡ gives_of_construction form x.context.scope → mid.context ≡ record x.context { scope = grown x.context.scope sorts } → mid.names ≡ named x.names sorts names →
     after ≡ record mid { context = record mid.context { facts = joined_all mid.context.facts given } } → after ≡ after_make form names x
 made_after form names x mid after sorts given a b c d e = rw (e, c, d, b, a) refl
 
-pub superposed_after : (form : Superpose) (names : List (List ℕ)) (x mid after : StepState) (sorts : List Sort) (given : List Lit) → sorts ≡ superposing.made →
-    given ≡ superposing.gives form x.context.scope → mid.context ≡ record x.context { scope = grown x.context.scope sorts } → mid.names ≡ named x.names sorts names →
+pub superposed_after : (form : Superpose) (names : List (List ℕ)) (x mid after : StepState) (sorts : List Sort) (given : List Lit) → sorts ≡ superposing.sorts_copied →
+    given ≡ superposing.gives_of_superposition form x.context.scope → mid.context ≡ record x.context { scope = grown x.context.scope sorts } → mid.names ≡ named x.names sorts names →
     after ≡ record mid { context = record mid.context { facts = joined_all mid.context.facts given } } → after ≡ after_superposed form names x
 superposed_after form names x mid after sorts given a b c d e = rw (e, c, d, b, a) refl
 
@@ -118,14 +118,14 @@ good_left before x all left l rest same whole split h =
     (subst (λ facts. are_limited_facts before.scope facts ≡ true) (sym whole) h)))
 
 -- what a construction gives may join the facts once its objects are in scope
-pub good_given : (form : Construction) (x wider : Basis) (sorts : List Sort) (given : List Lit) → sorts ≡ made form → given ≡ gives form x.scope →
-    wider ≡ record x { scope = grown x.scope sorts } → are_limited_facts (grown x.scope (made form)) (joined_all x.facts (gives form x.scope)) ≡ true →
+pub good_given : (form : Construction) (x wider : Basis) (sorts : List Sort) (given : List Lit) → sorts ≡ sorts_made form → given ≡ gives_of_construction form x.scope →
+    wider ≡ record x { scope = grown x.scope sorts } → are_limited_facts (grown x.scope (sorts_made form)) (joined_all x.facts (gives_of_construction form x.scope)) ≡ true →
     are_limited_facts wider.scope (joined_all wider.facts given) ≡ true
 good_given form x wider sorts given a b c h = rw (c, b, a) h
 
 -- and what a superposition gives
-pub good_superposed : (form : Superpose) (x wider : Basis) (sorts : List Sort) (given : List Lit) → sorts ≡ superposing.made → given ≡ superposing.gives form x.scope →
-    wider ≡ record x { scope = grown x.scope sorts } → are_limited_facts (grown x.scope superposing.made) (joined_all x.facts (superposing.gives form x.scope)) ≡ true →
+pub good_superposed : (form : Superpose) (x wider : Basis) (sorts : List Sort) (given : List Lit) → sorts ≡ superposing.sorts_copied → given ≡ superposing.gives_of_superposition form x.scope →
+    wider ≡ record x { scope = grown x.scope sorts } → are_limited_facts (grown x.scope superposing.sorts_copied) (joined_all x.facts (superposing.gives_of_superposition form x.scope)) ≡ true →
     are_limited_facts wider.scope (joined_all wider.facts given) ≡ true
 good_superposed form x wider sorts given a b c h = rw (c, b, a) h
 

@@ -86,7 +86,7 @@ pub fn make(
     state: &mut StepState,
 ) -> Result<Step, StepStop>
     requires room { HasRoom state.old.context.scope }
-    requires needs { IsTrue (are_well_formed_in state.old.context.scope (Construct.needs form.now)) }
+    requires needs { IsTrue (are_well_formed_in state.old.context.scope (Construct.needs_of_construction form.now)) }
     requires after { let after = after_make form.now names.now state.old in IsTrue (are_limited_facts after.context.scope after.context.facts) }
     ensures ok { IfOk result (λ d. (before : List Stated) (certs : List Certificate) → IsLicensedStep before (Make form.now names.now certs) state.old d state.new) }
     ensures err { IfErr result (λ h. (before : List Stated) (certs : List Certificate) → IsStopOfStep before (Make form.now names.now certs) state.old h) }
@@ -115,12 +115,12 @@ pub fn superpose(
     state: &mut StepState,
 ) -> Result<Vec<Cert>, StepStop>
     requires room { HasRoom state.old.context.scope }
-    requires needs { IsTrue (are_well_formed_in state.old.context.scope (Superposing.needs form.now)) }
+    requires needs { IsTrue (are_well_formed_in state.old.context.scope (Superposing.needs_of_superposition form.now)) }
     requires after { let after = after_superposed form.now names.now state.old in IsTrue (are_limited_facts after.context.scope after.context.facts) }
-    ensures certs { IfOk result (λ cs. IsTrue (certify_all state.old.context.scope state.old.context.facts (Superposing.needs form.now) cs.items)) }
+    ensures certs { IfOk result (λ cs. IsTrue (certify_all state.old.context.scope state.old.context.facts (Superposing.needs_of_superposition form.now) cs.items)) }
     ensures written { IfOk result (λ cs. IsTrue (list_all (is_cert_of version.One) cs.items)) }
     ensures after { OnOk result (state.new ≡ after_superposed form.now names.now state.old) }
-    ensures err { IfErr result (StepStopsAmong state.old.context (Superposing.needs form.now)) }
+    ensures err { IfErr result (StepStopsAmong state.old.context (Superposing.needs_of_superposition form.now)) }
     ensures kept { IfErr result (UnlessNoMemory (state.new ≡ state.old)) }
 {
     let needs = form.needs(alloc)?;

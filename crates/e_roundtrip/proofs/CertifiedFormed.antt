@@ -30,7 +30,7 @@ use Rattle.e_clause.specs.TransferCertificate.{parts_certify, instance_certifies
 use Rattle.e_clause.specs.Certify.{certifies, certify_all, against_holds, certifies_against}
 use Rattle.e_clause.specs.Written.{is_writable_name, is_writable_sum, are_writable_sums, is_writable_part, is_writable_cert, is_writable_against}
 use Rattle.e_clause.proofs.Refuted.{found}
-use Rattle.e_construct.specs.Construct.{made, gives}
+use Rattle.e_construct.specs.Construct.{sorts_made, gives_of_construction}
 use Rattle.e_construct.specs.Superposing as superposing
 use Rattle.e_deriv.specs.Script.{Script, Cite, Hence, Make, Apply, Claim, Superposed, Qed, Contradiction, Cases}
 use Rattle.e_deriv.specs.Goal.{Goal, goal_of, goal_of_statement, facts_of_statement}
@@ -171,10 +171,10 @@ formed_lines before (Hence lit (Some c) rest) s facts goal h w =
     then_lines before x after (line_is before x (one_certified before x p.0) (rw g.1 refl) refl) (formed_lines before rest s (joined facts lit) goal p.1 g.2)
 formed_lines before (Make form names certs rest) s facts goal h w =
     let x = line (Make form names certs rest) (Make form names certs rest) s facts goal in
-    let after = lines before rest rest (grown s (made form)) (joined_all facts (gives form s)) goal in
+    let after = lines before rest rest (grown s (sorts_made form)) (joined_all facts (gives_of_construction form s)) goal in
     let p = first_of (is_certified before) x after h in
     let g = make_written form names certs rest w in
-    then_lines before x after (line_is before x (one_certified before x p.0) g.0 refl) (formed_lines before rest (grown s (made form)) (joined_all facts (gives form s)) goal p.1 g.1)
+    then_lines before x after (line_is before x (one_certified before x p.0) g.0 refl) (formed_lines before rest (grown s (sorts_made form)) (joined_all facts (gives_of_construction form s)) goal p.1 g.1)
 formed_lines before (Apply theorem args names certs rest) s facts goal h w =
     let x = line (Apply theorem args names certs rest) (Apply theorem args names certs rest) s facts goal in
     let t = theorem_at before theorem in
@@ -195,14 +195,14 @@ formed_lines before (Claim shown inner rest) s facts goal h w =
     (all_both (is_formed before) inside after (formed_lines before inner s facts (goal_of shown) q.0 g.1) (formed_lines before rest s (joined_all facts shown) goal q.1 g.2))
 formed_lines before (Superposed form names shown certs inner rest) s facts goal h w =
     let x = line (Superposed form names shown certs inner rest) (Superposed form names shown certs inner rest) s facts goal in
-    let given = joined_all facts (superposing.gives form s) in
-    let inside = lines before inner inner (grown s superposing.made) given (goal_of shown) in
+    let given = joined_all facts (superposing.gives_of_superposition form s) in
+    let inside = lines before inner inner (grown s superposing.sorts_copied) given (goal_of shown) in
     let after = lines before rest rest s (joined_all facts shown) goal in
     let p = first_of (is_certified before) x (inside ++ after) h in
     let q = both_of (is_certified before) inside after p.1 in
     let g = superposed_written form names shown certs inner rest w in
     then_lines before x (inside ++ after) (line_is before x (one_certified before x p.0) g.1 refl)
-    (all_both (is_formed before) inside after (formed_lines before inner (grown s superposing.made) given (goal_of shown) q.0 g.2) (formed_lines before rest s (joined_all facts shown) goal q.1 g.3))
+    (all_both (is_formed before) inside after (formed_lines before inner (grown s superposing.sorts_copied) given (goal_of shown) q.0 g.2) (formed_lines before rest s (joined_all facts shown) goal q.1 g.3))
 formed_lines before (Qed objects certs) s facts goal h w =
     let x = line (Qed objects certs) (Qed objects certs) s facts goal in
     let p = first_of (is_certified before) x [] h in

@@ -20,7 +20,7 @@ use Rattle.e_clause.specs.declared.cert.Part.TheVariants as parts
 use Rattle.e_clause.specs.declared.cert.Cert.{Cert}
 use Rattle.e_clause.specs.declared.cert.Cert.TheVariants.{Plain}
 use Rattle.e_clause.specs.declared.cert.Against.TheVariants as against
-use Rattle.e_clause.specs.Instance.{Inst, place_of}
+use Rattle.e_clause.specs.Instance.{Inst, number_of_rule}
 use Rattle.e_clause.specs.Sigs.{sig_of}
 use Rattle.e_clause.specs.RuleKinds.{is_transfer}
 use Rattle.e_clause.specs.Sum.{is_nonzero_bounded}
@@ -201,14 +201,14 @@ begun_formed ns l title raws t e =
     let last : ℕ → List Obj → Result OpenTransfer Kind = λ r args. transfer_at l r args in
     let third : ℕ → Sig → Result OpenTransfer Kind = λ r s. args_in ns s raws >>= λ args. last r args in
     let second : ℕ → Sig → Result OpenTransfer Kind = λ r s. right_count (length raws == s.points + s.lines + s.circles) >>= λ right. third r s in
-    let r = bind_ok (transfer_rule (place_of title)) (λ r. variables_of (sig_of r) >>= λ s. second r s) t e in
+    let r = bind_ok (transfer_rule (number_of_rule title)) (λ r. variables_of (sig_of r) >>= λ s. second r s) t e in
     let s = bind_ok (variables_of (sig_of r.0)) (λ s. second r.0 s) t r.2 in
     let right = bind_ok (right_count (length raws == s.0.points + s.0.lines + s.0.circles)) (λ right. third r.0 s.0) t s.2 in
     let args = bind_ok (args_in ns s.0 raws) (λ args. last r.0 args) t right.2 in
     let lits = bind_ok (or_malformed (Inst r.0 args.0)) (λ lits. read_ok (then r.0 args.0 lits)) t args.2 in
     let count = eqb-true (length raws) (s.0.points + s.0.lines + s.0.circles) (counted_right (length raws == s.0.points + s.0.lines + s.0.circles) right.0 right.1) in
     subst (λ (x : OpenTransfer). TransferFormed (scope_of_names ns) l x) (ok_is (then r.0 args.0 lits.0) t lits.2) (record {
-      rule = rule_is (place_of title) r.0 r.1;
+      rule = rule_is (number_of_rule title) r.0 r.1;
       lits = lits.0;
       instance = some_is (Inst r.0 args.0) lits.0 lits.1;
       owed = refl;

@@ -7,7 +7,7 @@ ghost use Rattle.e_literal.specs.Rename.{image_in, renamed as at_images};
 ghost use Rattle.e_literal.specs.Scopes;
 ghost use Rattle.e_literal.specs.Use.{are_arguments, image, needs_of_use, gives_of_use, scope_of};
 ghost use Rattle.e_theorem.specs.Statements.{stated};
-ghost use Rattle.e_theorem.specs.Faults.{FaultIs};
+ghost use Rattle.e_theorem.specs.Faults.{UseFaultIs};
 ghost use Rattle.e_theorem.specs.Notions.{as_stated, expanded};
 ghost use Rattle.e_theorem.specs.declared.application.UseFault.TheVariants.{NoMemory};
 
@@ -62,7 +62,7 @@ pub fn use_of(
     ensures fit { IfOk result (λ _. IsTrue (are_arguments (stated statement.now) scope args.now)) }
     ensures needs { IfOk result (λ a. a.needs ≡ needs_of_use (stated statement.now) args.now scope) }
     ensures gives { IfOk result (λ a. a.gives ≡ gives_of_use (stated statement.now) args.now scope) }
-    ensures err { IfErr result (FaultIs (stated statement.now) args.now scope) }
+    ensures err { IfErr result (UseFaultIs (stated statement.now) args.now scope) }
 {
     if !are_of_sorts(scope, statement.declared.items(), args) {
         return Err(UseFault::BadArgs);
@@ -88,7 +88,7 @@ pub fn expand(
     requires few { length notion.now.declared < 2 ^ 16 }
     ensures fit { IfOk result (λ _. IsTrue (are_arguments (as_stated notion.now) scope args.now)) }
     ensures lits { IfOk result (λ ls. ls ≡ expanded notion.now args.now scope) }
-    ensures err { IfErr result (FaultIs (as_stated notion.now) args.now scope) }
+    ensures err { IfErr result (UseFaultIs (as_stated notion.now) args.now scope) }
 {
     expand_first(alloc, notion, args, scope, notion.means.len())
 }
@@ -105,7 +105,7 @@ pub fn expand_first(
     requires few { length notion.now.declared < 2 ^ 16 }
     ensures fit { IfOk result (λ _. IsTrue (are_arguments (as_stated notion.now) scope args.now)) }
     ensures lits { IfOk result (λ ls. ls ≡ take most (expanded notion.now args.now scope)) }
-    ensures err { IfErr result (FaultIs (as_stated notion.now) args.now scope) }
+    ensures err { IfErr result (UseFaultIs (as_stated notion.now) args.now scope) }
 {
     if !are_of_sorts(scope, notion.declared.items(), args) {
         return Err(UseFault::BadArgs);

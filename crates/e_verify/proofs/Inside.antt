@@ -184,7 +184,7 @@ superposed_parts before s form names shown certs seen inner x n is same r =
     ∙ (superposed_written form names shown certs (script_of inner.value) r.rest (subst (λ d. IsReadyFor before d x r.goal n) (superposed_is s form names shown certs inner is r.rest) r.ready).written).1
 
 pub superposed_ready : (before : List Stated) (s : Step) (form : Superpose) (names : List (List ℕ)) (shown seen : List Lit) (certs : List Cert) (inner : Box Block Global) (block : Block) (x z : Standing) (n : ℕ)
-    → s ≡ SuperposedStep form names shown certs inner → seen ≡ shown → block ≡ inner.value → z ≡ after_superposed form x → superposing.fits form x.scope ≡ true → IsReadyStep before s x n → IsReadyFor before (script_of block) z (goal_of seen) (n + 1)
+    → s ≡ SuperposedStep form names shown certs inner → seen ≡ shown → block ≡ inner.value → z ≡ after_superposed form x → superposing.fits_superposition form x.scope ≡ true → IsReadyStep before s x n → IsReadyFor before (script_of block) z (goal_of seen) (n + 1)
 superposed_ready before s form names shown seen certs inner block x z n is same at begun fit r =
     let q = superposed_inner before form names shown certs (script_of inner.value) r.rest x r.goal n fit (subst (λ d. IsReadyFor before d x r.goal n) (superposed_is s form names shown certs inner is r.rest) r.ready) in
     subst (λ b. IsReadyFor before (script_of b) z (goal_of seen) (n + 1)) (sym at)
@@ -200,7 +200,7 @@ head_as before form names shown over certs seen x b c like same is h inner rest 
     ∙ ap (λ cs. is_certified before (line_at (Superposed form names shown cs inner rest) x goal)) same
 
 -- what is tested and certified fits
-pub tested_fits : (before : List Stated) (form : Superpose) (shown : List Lit) (certs : List Cert) (x : Standing) (b : Bool) → b ≡ true → IsTested before form shown certs x b → superposing.fits form x.scope ≡ true
+pub tested_fits : (before : List Stated) (form : Superpose) (shown : List Lit) (certs : List Cert) (x : Standing) (b : Bool) → b ≡ true → IsTested before form shown certs x b → superposing.fits_superposition form x.scope ≡ true
 tested_fits before form shown certs x b is h =
     superposed_fits before form [] shown certs (Qed [] []) (Qed [] []) x (goal_of []) (sym is ∙ h [] (Qed [] []) (Qed [] []) (goal_of []))
 
@@ -227,7 +227,7 @@ superposed_done before s form names shown over seen again certs given inner bloc
     let S = script_of inner.value in
     let v' = ap (λ q. verdict_at before S q (goal_of shown) (n + 1)) (sym begun) ∙ ap (λ ls. verdict_at before S z (goal_of ls) (n + 1)) (sym same) ∙ ap (λ q. verdict_at before (script_of q) z (goal_of seen) (n + 1)) (sym at) ∙ v in
     let p = passed_superposed before form names shown certs S x n m (head_as before form names shown over certs given x b true like cs t h) v' in
-    let kept = kept_on x z w (subst (KeepsFacts x) (sym begun) (stay_all x.facts (superposing.gives form x.scope))) k in
+    let kept = kept_on x z w (subst (KeepsFacts x) (sym begun) (stay_all x.facts (superposing.gives_of_superposition form x.scope))) k in
     let back = end ∙ ap (λ q. with_facts (joined_all q.facts again) q) (left_is o x w y e kept left) ∙ ap (λ ls. with_facts (joined_all x.facts ls) x) twice in
     passed_as before (Superposed form names shown certs S) (step_script s) x after n m (superposed_is s form names shown certs inner is) (subst (λ q. IsPassed before (Superposed form names shown certs S) x n q m) (sym back) p)
 

@@ -25,7 +25,7 @@ use Rattle.e_clause.specs.declared.cert.Against.TheVariants.{Clash, Metric as Me
 use Rattle.e_clause.specs.Instance.{Inst}
 use Rattle.e_clause.specs.Versions.{is_name_of, is_sum_of, are_sums_of, is_part_of, is_cert_of, is_against_of}
 use Rattle.e_clause.specs.Written.{is_writable_name, is_writable_sum, are_writable_sums, is_writable_part, is_writable_cert, is_writable_against}
-use Rattle.e_construct.specs.Construct.{fits as fits_form, made, gives}
+use Rattle.e_construct.specs.Construct.{fits_construction as fits_form, sorts_made, gives_of_construction}
 use Rattle.e_construct.specs.Superposing as superposing
 use Rattle.e_deriv.specs.Script.{Script, Cite, Hence, Make, Apply, Claim, Superposed, Qed, Contradiction, Cases, erased}
 use Rattle.e_deriv.specs.Goal.{Goal, goal_of, are_for}
@@ -78,9 +78,9 @@ numbered_certified before (Hence lit cert rest) s facts goal h =
     by (Some c) k = with_certs (all_in_scope s lit) _ _ true (certs_certified s facts (lit ∷ []) (c ∷ [])) k
 numbered_certified before (Make form names certs rest) s facts goal h =
     let first : Bool = is_certified before (line (Make form names certs rest) (Make form names certs rest) s facts goal) in
-    let next : List Line = lines before rest rest (grown s (made form)) (joined_all facts (gives form s)) goal in
+    let next : List Line = lines before rest rest (grown s (sorts_made form)) (joined_all facts (gives_of_construction form s)) goal in
     both_true _ _ (with_certs (fits_form form s) _ _ true (certs_certified s facts (needs before (line (Make form names certs rest) (Make form names certs rest) s facts goal)) certs) (and_left first (are_certified before next) h))
-    (numbered_certified before rest (grown s (made form)) (joined_all facts (gives form s)) goal (and_right first (are_certified before next) h))
+    (numbered_certified before rest (grown s (sorts_made form)) (joined_all facts (gives_of_construction form s)) goal (and_right first (are_certified before next) h))
 numbered_certified before (Apply theorem args names certs rest) s facts goal h =
     let t : Stated = theorem_at before theorem in
     let first : Bool = is_certified before (line (Apply theorem args names certs rest) (Apply theorem args names certs rest) s facts goal) in
@@ -98,13 +98,13 @@ numbered_certified before (Claim shown inner rest) s facts goal h =
     (numbered_certified before rest s (joined_all facts shown) goal (all_right (is_certified before) within next behind)))
 numbered_certified before (Superposed form names shown certs inner rest) s facts goal h =
     let first : Bool = is_certified before (line (Superposed form names shown certs inner rest) (Superposed form names shown certs inner rest) s facts goal) in
-    let within : List Line = lines before inner inner (grown s superposing.made) (joined_all facts (superposing.gives form s)) (goal_of shown) in
+    let within : List Line = lines before inner inner (grown s superposing.sorts_copied) (joined_all facts (superposing.gives_of_superposition form s)) (goal_of shown) in
     let next : List Line = lines before rest rest s (joined_all facts shown) goal in
     let behind = and_right first (are_certified before (within ++ next)) h in
-    both_true _ _ (with_certs (superposing.fits form s && are_over s shown) _ _ true (certs_certified s facts (superposing.needs form) certs) (and_left first (are_certified before (within ++ next)) h))
-    (all_both (is_certified before) (lines_of before (with_places before inner (grown s superposing.made) (joined_all facts (superposing.gives form s)) (goal_of shown)) (grown s superposing.made) (joined_all facts (superposing.gives form s)) (goal_of shown))
+    both_true _ _ (with_certs (superposing.fits_superposition form s && are_over s shown) _ _ true (certs_certified s facts (superposing.needs_of_superposition form) certs) (and_left first (are_certified before (within ++ next)) h))
+    (all_both (is_certified before) (lines_of before (with_places before inner (grown s superposing.sorts_copied) (joined_all facts (superposing.gives_of_superposition form s)) (goal_of shown)) (grown s superposing.sorts_copied) (joined_all facts (superposing.gives_of_superposition form s)) (goal_of shown))
     (lines_of before (with_places before rest s (joined_all facts shown) goal) s (joined_all facts shown) goal)
-    (numbered_certified before inner (grown s superposing.made) (joined_all facts (superposing.gives form s)) (goal_of shown) (all_left (is_certified before) within next behind))
+    (numbered_certified before inner (grown s superposing.sorts_copied) (joined_all facts (superposing.gives_of_superposition form s)) (goal_of shown) (all_left (is_certified before) within next behind))
     (numbered_certified before rest s (joined_all facts shown) goal (all_right (is_certified before) within next behind)))
 numbered_certified before (Qed objects certs) s facts goal h =
     let first : Bool = is_certified before (line (Qed objects certs) (Qed objects certs) s facts goal) in
@@ -129,14 +129,14 @@ pub numbered_erased : (before : List Stated) (d : Script) (s : Scope) (facts : L
 unfolding erased with_places
 numbered_erased before (Cite by rest) s facts goal = ap (Cite by) (numbered_erased before rest s (joined facts by.lit) goal)
 numbered_erased before (Hence lit cert rest) s facts goal = ap (Hence lit None) (numbered_erased before rest s (joined facts lit) goal)
-numbered_erased before (Make form names certs rest) s facts goal = ap (Make form names []) (numbered_erased before rest (grown s (made form)) (joined_all facts (gives form s)) goal)
+numbered_erased before (Make form names certs rest) s facts goal = ap (Make form names []) (numbered_erased before rest (grown s (sorts_made form)) (joined_all facts (gives_of_construction form s)) goal)
 numbered_erased before (Apply theorem args names certs rest) s facts goal =
     ap (Apply theorem args names []) (numbered_erased before rest (grown s (theorem_at before theorem).made) (joined_all facts (gives_of_use (theorem_at before theorem) (written args) s)) goal)
 numbered_erased before (Claim shown inner rest) s facts goal =
     ap₂ {A = Script} {B = Script} (Claim shown) (numbered_erased before inner s facts (goal_of shown)) (numbered_erased before rest s (joined_all facts shown) goal)
 numbered_erased before (Superposed form names shown certs inner rest) s facts goal =
     ap₂ {A = Script} {B = Script} (Superposed form names shown [])
-    (numbered_erased before inner (grown s superposing.made) (joined_all facts (superposing.gives form s)) (goal_of shown)) (numbered_erased before rest s (joined_all facts shown) goal)
+    (numbered_erased before inner (grown s superposing.sorts_copied) (joined_all facts (superposing.gives_of_superposition form s)) (goal_of shown)) (numbered_erased before rest s (joined_all facts shown) goal)
 numbered_erased before (Qed objects certs) s facts goal = refl
 numbered_erased before (Contradiction against) s facts goal = refl
 numbered_erased before (Cases lit one two) s facts goal =
@@ -252,7 +252,7 @@ numbered_of_second before (Hence lit cert rest) s facts goal w h =
 numbered_of_second before (Make form names certs rest) s facts goal w h =
     let k = make_written form names certs rest w in
     both_true _ _ (certs_of_second facts (few_of facts _ h) (needs before (line (Make form names certs rest) (Make form names certs rest) s facts goal)) certs k.0)
-    (numbered_of_second before rest (grown s (made form)) (joined_all facts (gives form s)) goal k.1 (and_right _ _ h))
+    (numbered_of_second before rest (grown s (sorts_made form)) (joined_all facts (gives_of_construction form s)) goal k.1 (and_right _ _ h))
 numbered_of_second before (Apply theorem args names certs rest) s facts goal w h =
     let k = apply_written theorem args names certs rest w in
     both_true _ _ (certs_of_second facts (few_of facts _ h) (needs before (line (Apply theorem args names certs rest) (Apply theorem args names certs rest) s facts goal)) certs k.0)
@@ -265,12 +265,12 @@ numbered_of_second before (Claim shown inner rest) s facts goal w h =
     both_true _ _ (numbered_of_second before inner s facts (goal_of shown) k.1 (all_left has_few within next behind))
     (numbered_of_second before rest s (joined_all facts shown) goal k.2 (all_right has_few within next behind))
 numbered_of_second before (Superposed form names shown certs inner rest) s facts goal w h =
-    let within : List Line = lines before inner inner (grown s superposing.made) (joined_all facts (superposing.gives form s)) (goal_of shown) in
+    let within : List Line = lines before inner inner (grown s superposing.sorts_copied) (joined_all facts (superposing.gives_of_superposition form s)) (goal_of shown) in
     let next : List Line = lines before rest rest s (joined_all facts shown) goal in
     let behind = and_right (nat_lt (length facts) (2 ^ 32)) (list_all has_few (within ++ next)) h in
     let k = superposed_written form names shown certs inner rest w in
-    both_true _ _ (certs_of_second facts (few_of facts _ h) (superposing.needs form) certs k.1)
-    (both_true _ _ (numbered_of_second before inner (grown s superposing.made) (joined_all facts (superposing.gives form s)) (goal_of shown) k.2 (all_left has_few within next behind))
+    both_true _ _ (certs_of_second facts (few_of facts _ h) (superposing.needs_of_superposition form) certs k.1)
+    (both_true _ _ (numbered_of_second before inner (grown s superposing.sorts_copied) (joined_all facts (superposing.gives_of_superposition form s)) (goal_of shown) k.2 (all_left has_few within next behind))
     (numbered_of_second before rest s (joined_all facts shown) goal k.3 (all_right has_few within next behind)))
 numbered_of_second before (Qed objects certs) s facts goal w h =
     certs_of_second facts (few_of facts _ h) (needs before (line (Qed objects certs) (Qed objects certs) s facts goal)) certs (qed_written objects certs w)

@@ -49,7 +49,7 @@ unfolding with_places
 hence_places before lit cert x rest goal = refl
 
 make_places : (before : List Stated) (form : Construction) (names : List (List ℕ)) (certs : List Cert) (x : Standing) (rest : Script) (goal : Goal)
-    → places_at before (Make form names certs rest) x goal ≡ Make form names (placed_certs x.facts (construct.needs form) certs) (places_at before rest (after_make form x) goal)
+    → places_at before (Make form names certs rest) x goal ≡ Make form names (placed_certs x.facts (construct.needs_of_construction form) certs) (places_at before rest (after_make form x) goal)
 unfolding with_places
 make_places before form names certs x rest goal = refl
 
@@ -66,7 +66,7 @@ claim_places before shown inner x rest goal = refl
 
 superposed_places : (before : List Stated) (form : Superpose) (names : List (List ℕ)) (shown : List Lit) (certs : List Cert) (inner : Script) (x : Standing) (rest : Script) (goal : Goal)
     → places_at before (Superposed form names shown certs inner rest) x goal
-    ≡ Superposed form names shown (placed_certs x.facts (superposing.needs form) certs) (places_at before inner (after_superposed form x) (goal_of shown)) (places_at before rest (with_facts (joined_all x.facts shown) x) goal)
+    ≡ Superposed form names shown (placed_certs x.facts (superposing.needs_of_superposition form) certs) (places_at before inner (after_superposed form x) (goal_of shown)) (places_at before rest (with_facts (joined_all x.facts shown) x) goal)
 unfolding with_places
 superposed_places before form names shown certs inner x rest goal = refl
 
@@ -116,15 +116,15 @@ hence_numbered before lit cert x after s is end =
       kept = stay_joined x.facts lit;
     })
 
-pub make_numbered : (before : List Stated) (form : Construction) (names : List (List ℕ)) (certs : List Cert) (x after : Standing) (s : Step) → s ≡ MakeStep form names (placed_certs x.facts (construct.needs form) certs) → after ≡ after_make form x
+pub make_numbered : (before : List Stated) (form : Construction) (names : List (List ℕ)) (certs : List Cert) (x after : Standing) (s : Step) → s ≡ MakeStep form names (placed_certs x.facts (construct.needs_of_construction form) certs) → after ≡ after_make form x
     → IsNumberedStep before (Make form names certs) x (step_script s) after
 make_numbered before form names certs x after s is end =
     subst (λ (y : Standing). IsNumberedStep before (Make form names certs) x (step_script s) y) (sym end)
     (record {
       same = λ rest goal. make_places before form names certs x rest goal
-          ∙ sym (ap (λ t. step_script t (places_at before rest (after_make form x) goal)) is ∙ step_script-Make form names (placed_certs x.facts (construct.needs form) certs) _);
+          ∙ sym (ap (λ t. step_script t (places_at before rest (after_make form x) goal)) is ∙ step_script-Make form names (placed_certs x.facts (construct.needs_of_construction form) certs) _);
       few = λ few rest goal h. few_line before (Make form names certs rest) x goal rest (after_make form x) few (make_lines before form names certs x rest goal) h;
-      kept = stay_all x.facts (construct.gives form x.scope);
+      kept = stay_all x.facts (construct.gives_of_construction form x.scope);
     })
 
 pub apply_numbered : (before : List Stated) (theorem : ℕ) (args : List (Option Obj)) (names : List (List ℕ)) (certs : List Cert) (x after : Standing) (s : Step)
@@ -180,12 +180,12 @@ claim_numbered before step shown seen again inner block numbered x z after o s i
 
 pub superposed_numbered : (before : List Stated) (step : Step) (form : Superpose) (names copies : List (List ℕ)) (shown seen again : List Lit) (certs given placed : List Cert) (inner : Box Block Global) (block numbered : Block) (x z w after : Standing) (o : Outer) (s : Step)
     → step ≡ SuperposedStep form names shown certs inner → seen ≡ shown → again ≡ shown → copies ≡ names → given ≡ certs → block ≡ inner.value
-    → placed ≡ placed_certs x.facts (superposing.needs form) given → z ≡ after_superposed form x
+    → placed ≡ placed_certs x.facts (superposing.needs_of_superposition form) given → z ≡ after_superposed form x
     → script_of numbered ≡ places_at before (script_of block) z (goal_of seen) → HaveFew before (script_of block) z (goal_of seen) → o ≡ outer_of x → KeepsFacts z w
     → ((rest : Script) → step_script s rest ≡ Superposed form copies again placed (script_of numbered) rest) → after ≡ with_facts (joined_all (left_for o w).facts again) (left_for o w)
     → IsNumberedStep before (step_script step) x (step_script s) after
 superposed_numbered before step form names copies shown seen again certs given placed inner block numbered x z w after o s is same twice named cs at put begun block_is few e k made end =
-    let kept = kept_on x z w (subst (KeepsFacts x) (sym begun) (stay_all x.facts (superposing.gives form x.scope))) k in
+    let kept = kept_on x z w (subst (KeepsFacts x) (sym begun) (stay_all x.facts (superposing.gives_of_superposition form x.scope))) k in
     let inside : Script = script_of inner.value in
     let begin : Standing = after_superposed form x in
     let behind : Standing = with_facts (joined_all x.facts shown) x in
@@ -193,7 +193,7 @@ superposed_numbered before step form names copies shown seen again certs given p
     block_is ∙ ap (λ q. places_at before (script_of block) q (goal_of seen)) begun ∙ ap (λ b. places_at before (script_of b) begin (goal_of seen)) at ∙ ap (λ ls. places_at before inside begin (goal_of ls)) same in
     let block_few : HaveFew before inside begin (goal_of shown) =
     subst (λ ls. HaveFew before inside begin (goal_of ls)) same (subst (λ b. HaveFew before (script_of b) begin (goal_of seen)) at (subst (λ q. HaveFew before (script_of block) q (goal_of seen)) begun few)) in
-    let certs_placed : placed ≡ placed_certs x.facts (superposing.needs form) certs = put ∙ ap (placed_certs x.facts (superposing.needs form)) cs in
+    let certs_placed : placed ≡ placed_certs x.facts (superposing.needs_of_superposition form) certs = put ∙ ap (placed_certs x.facts (superposing.needs_of_superposition form)) cs in
     subst (λ (q : Standing). IsNumberedStep before (step_script step) x (step_script s) q) (sym (back_is o x w after again shown e kept twice end))
     (record {
       same = λ rest goal.

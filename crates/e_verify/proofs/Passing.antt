@@ -300,7 +300,7 @@ claim_bad before shown inner rest x goal n h = bad_line before (Claim shown inne
 -- ---- a superposition
 
 pub superposed_inner : (before : List Stated) (form : Superpose) (names : List (List ℕ)) (shown : List Lit) (certs : List Cert) (inner rest : Script) (x : Standing) (goal : Goal) (n : ℕ)
-    → superposing.fits form x.scope ≡ true → IsReadyFor before (Superposed form names shown certs inner rest) x goal n → IsReadyFor before inner (after_superposed form x) (goal_of shown) (n + 1)
+    → superposing.fits_superposition form x.scope ≡ true → IsReadyFor before (Superposed form names shown certs inner rest) x goal n → IsReadyFor before inner (after_superposed form x) (goal_of shown) (n + 1)
 superposed_inner before form names shown certs inner rest x goal n fit r =
     let w = superposed_written form names shown certs inner rest r.written in
     let d = Superposed form names shown certs inner rest in
@@ -308,7 +308,7 @@ superposed_inner before form names shown certs inner rest x goal n fit r =
     record {
       written = w.2;
       scopes = left_small (lines_at before inner (after_superposed form x) (goal_of shown)) (lines_at before rest (with_facts (joined_all x.facts shown) x) goal) s;
-      facts = all_joined_formed x.facts (superposing.gives form x.scope) r.facts (superposed_gives_formed form x.scope fit);
+      facts = all_joined_formed x.facts (superposing.gives_of_superposition form x.scope) r.facts (superposed_gives_formed form x.scope fit);
       shown = w.0;
       few = omega (arith, r.few, size-Superposed form names shown certs inner rest);
     }

@@ -336,7 +336,7 @@ fn superpose(
     certs: &[Cert],
     standing: &mut Standing,
 ) -> Result<Items<Cert>, AllocError>
-    ensures certs { IfOk result (λ cs. cs ≡ Numbered.placed_certs standing.old.facts (superposing.needs form.now) certs.now) }
+    ensures certs { IfOk result (λ cs. cs ≡ Numbered.placed_certs standing.old.facts (superposing.needs_of_superposition form.now) certs.now) }
     ensures after { OnOk result (standing.new ≡ after_superposed form.now standing.old) }
 {
     let scope = standing.scope;

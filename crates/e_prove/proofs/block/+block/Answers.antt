@@ -524,7 +524,7 @@ prove_step-superpose-requires-clause-needs t c =
     let needs =
     (superposed_parts (all_stated c.args.before.now) y.form y.names y.shown y.certs y.inner x c.args.number (subst (λ s. IsReadyStep (all_stated c.args.before.now) s x c.args.number) y.is c.requires)).needs
     in
-    subst (λ z. are_well_formed_in z.context.scope (superposing.needs y.form) ≡ true) (sym c.in_ok-outer-in-Superposed.ensures.held) needs
+    subst (λ z. are_well_formed_in z.context.scope (superposing.needs_of_superposition y.form) ≡ true) (sym c.in_ok-outer-in-Superposed.ensures.held) needs
 
 pub prove_step-superpose-requires-clause-after : goal.prove_step-superpose-requires-clause-after
 prove_step-superpose-requires-clause-after t c =
@@ -543,7 +543,7 @@ prove_step-returns-in-Err-superpose-clause-err t c =
     let h = c.in-Err-superpose.step_stop in
     let hs = x.context.held ++ state_of x.context ∷ [] in
     superposed_refused (all_stated c.args.before.now) c.args.step.now y.form y.names y.shown y.certs y.inner x c.superpose.new.state c.args.number h c.stop_at.result y.is
-    (step_stops_outside hs x c.hold-in-Superposed.new.self (superposing.needs y.form) h c.in_ok-outer-in-Superposed.ensures.held c.in-Err-superpose.ensures.err)
+    (step_stops_outside hs x c.hold-in-Superposed.new.self (superposing.needs_of_superposition y.form) h c.in_ok-outer-in-Superposed.ensures.held c.in-Err-superpose.ensures.err)
     (names_outside hs x c.hold-in-Superposed.new.self c.superpose.new.state h c.in_ok-outer-in-Superposed.ensures.held c.in-Err-superpose.ensures.kept) c.stop_at.ensures
 
 pub prove_step-overflow_add-number-in-Superposed : goal.prove_step-overflow_add-number-in-Superposed
@@ -597,7 +597,7 @@ prove_step-returns-in-Ok-prove_block-clause-ok t c =
     let x = c.args.state.now in
     let y = c.in-Superposed in
     let hs = x.context.held ++ state_of x.context ∷ [] in
-    let certified = subst (λ z. certify_all z.context.scope z.context.facts (superposing.needs y.form) c.in-Ok-superpose.certs.items ≡ true) c.in_ok-outer-in-Superposed.ensures.held c.in-Ok-superpose.ensures.certs in
+    let certified = subst (λ z. certify_all z.context.scope z.context.facts (superposing.needs_of_superposition y.form) c.in-Ok-superpose.certs.items ≡ true) c.in_ok-outer-in-Superposed.ensures.held c.in-Ok-superpose.ensures.certs in
     let inside = after_superposed y.form y.names x in
     let begun = c.in-Ok-superpose.ensures.after ∙ ap (λ ns. after_superposed y.form ns c.hold-in-Superposed.new.self) c.items-in-Superposed.ensures ∙ ap (after_superposed y.form y.names) c.in_ok-outer-in-Superposed.ensures.held in
     let same = ap (λ b. size (script_of b)) c.deref-in-Superposed.ensures in
@@ -614,7 +614,7 @@ prove_step-returns-in-Err-prove_block-clause-err t c =
     let x = c.args.state.now in
     let y = c.in-Superposed in
     let hs = x.context.held ++ state_of x.context ∷ [] in
-    let certified = subst (λ z. certify_all z.context.scope z.context.facts (superposing.needs y.form) c.in-Ok-superpose.certs.items ≡ true) c.in_ok-outer-in-Superposed.ensures.held c.in-Ok-superpose.ensures.certs in
+    let certified = subst (λ z. certify_all z.context.scope z.context.facts (superposing.needs_of_superposition y.form) c.in-Ok-superpose.certs.items ≡ true) c.in_ok-outer-in-Superposed.ensures.held c.in-Ok-superpose.ensures.certs in
     let inside = after_superposed y.form y.names x in
     let begun = c.in-Ok-superpose.ensures.after ∙ ap (λ ns. after_superposed y.form ns c.hold-in-Superposed.new.self) c.items-in-Superposed.ensures ∙ ap (after_superposed y.form y.names) c.in_ok-outer-in-Superposed.ensures.held in
     superposed_stopped (all_stated c.args.before.now) c.args.step.now y.form y.names y.shown y.certs c.in-Ok-superpose.certs.items y.inner x c.args.number c.in-Err-prove_block.stop y.is
